@@ -1,0 +1,133 @@
+ghost use Rattle.std.specs.Prelude.{◌≡◌, ◌≤◌, ◌+◌, ℕ, min, Some, None, nat_le, if◌then◌else◌};
+ghost use Rattle.rail_time.specs.Moments.{moment_of, last_second};
+
+use jiff::Timestamp;
+use std::alloc::Global;
+use std::marker::Model;
+
+const LAST: u64 = 4_102_444_799;
+
+const NANOSECONDS: i128 = 1_000_000_000;
+
+/// A whole second from 1970-01-01T00:00:00Z to 2099-12-31T23:59:59Z. Contracts see its number.
+#[derive(Debug, Clone, Copy, PartialEq, Eq, PartialOrd, Ord)]
+pub struct Moment {
+    seconds: u64,
+}
+
+impl Model for Moment {
+    ghost Value = { ℕ };
+
+    ghost view = { λ m. m.seconds };
+
+    ghost invariant = { λ m. m.seconds ≤ 4_102_444_799 };
+
+    ghost inverse = { λ n. record { seconds = n } };
+}
+
+/// Why a text is no moment.
+#[derive(Debug, Clone, Copy, PartialEq, Eq)]
+pub enum MomentFault {
+    /// It is no instant of RFC 3339 with an offset, as `jiff` reads one.
+    NotAMoment,
+    /// It is an instant before 1970 or after 2099.
+    OutOfYears,
+    /// Want of memory. `read_moment` takes none, so it never answers this.
+    NoMemory,
+}
+
+impl Moment {
+    /// The moment of this many seconds since 1970-01-01T00:00:00Z: `None` exactly where that is after 2099.
+    pub fn of(seconds: u64) -> Option<Moment>
+        ensures { result ≡ (if nat_le seconds last_second then Some seconds else None) }
+    {
+        if seconds <= LAST {
+            Some(Moment { seconds })
+        } else {
+            None
+        }
+    }
+
+    /// The seconds since 1970-01-01T00:00:00Z.
+    pub fn seconds(self) -> u64
+        ensures value { result ≡ self }
+        ensures in_years { result ≤ last_second }
+    {
+        self.seconds
+    }
+
+    /// The moment this many seconds later, or the last moment of 2099 where that is before it.
+    pub fn later(self, by: u32) -> Moment
+        ensures { result ≡ min (self + by) last_second }
+    {
+        Moment {
+            seconds: (self.seconds + u64::from(by)).min(LAST),
+        }
+    }
+}
+
+/// The moment of a text of RFC 3339 with any offset, as the instant reader of `jiff` reads it. A fraction of a second is
+/// cut off downwards.
+///
+/// `NotAMoment` comes exactly where that reader refuses the text, and `OutOfYears` exactly where the whole seconds are not
+/// those of a moment. No memory is taken.
+pub fn read_moment(_alloc: Global, text: &str) -> Result<Moment, MomentFault>
+    ensures { result ≡ moment_of text.now }
+{
+    let Ok(instant) = text.parse::<Timestamp>() else {
+        return Err(MomentFault::NotAMoment);
+    };
+    let nanoseconds = instant.as_nanosecond();
+    if nanoseconds < 0 {
+        return Err(MomentFault::OutOfYears);
+    }
+    Moment::of((nanoseconds / NANOSECONDS) as u64).ok_or(MomentFault::OutOfYears)
+}
+
+#[cfg(test)]
+mod tests {
+    use super::*;
+
+    const T0600: u64 = 1_780_293_600;
+
+    #[test]
+    fn reads_moments(rt: HostRuntime) {
+        for (text, want) in [
+            ("2026-06-01T08:00:00.9+02:00", Ok(T0600)),
+            ("2026-06-01T06:00:00Z", Ok(T0600)),
+            ("2026-05-31T20:30:00-09:30", Ok(T0600)),
+            ("2026-06-01 06:00:00z", Ok(T0600)),
+            ("2026-06-01t06:00Z", Ok(T0600)),
+            ("2026-06-01T06:00:00,5Z", Ok(T0600)),
+            ("2026-06-01T08:00:10+02:00:10", Ok(T0600)),
+            ("2026-06-01T05:59:60Z", Ok(T0600 - 1)),
+            ("2026-06-01T08:00:00+02:00[Europe/Zurich]", Ok(T0600)),
+            ("1970-01-01T00:00:00Z", Ok(0)),
+            ("2099-12-31T23:59:59.999Z", Ok(4_102_444_799)),
+            ("2100-01-01T00:00:00Z", Err(MomentFault::OutOfYears)),
+            ("1969-12-31T23:59:59Z", Err(MomentFault::OutOfYears)),
+            ("1969-12-31T23:59:59.5Z", Err(MomentFault::OutOfYears)),
+            ("2026-06-01", Err(MomentFault::NotAMoment)),
+            ("2026-06-01T06:00:00", Err(MomentFault::NotAMoment)),
+            ("2026-02-29T06:00:00Z", Err(MomentFault::NotAMoment)),
+            ("", Err(MomentFault::NotAMoment)),
+        ] {
+            let read = read_moment(rt.alloc(), text).map(|m| m.seconds());
+            assert_eq!(rt; read, want, "{text}");
+        }
+    }
+
+    #[test]
+    fn stays_in_years(rt: HostRuntime) {
+        for (seconds, by, want) in [
+            (T0600, 900, T0600 + 900),
+            (4_102_444_799, 1, 4_102_444_799),
+            (4_102_444_000, 4_294_967_295, 4_102_444_799),
+        ] {
+            let later = Moment::of(seconds).map(|m| m.later(by).seconds());
+            assert_eq!(rt; later, Some(want), "{seconds} and {by}");
+        }
+        assert_eq!(rt; Moment::of(4_102_444_800), None);
+        assert!(rt; Moment::of(1) < Moment::of(2));
+    }
+}
