@@ -1,0 +1,25 @@
+-- Which places a wish may have.
+use Rattle.std.specs.Prelude.{ℕ, ◌+◌, ◌==◌, ◌&&◌, Bool, true, false, List, [], ◌∷◌, if◌then◌else◌, bit_and}
+use Rattle.place_map.specs.declared.coach.Class.{Class}
+use Rattle.place_map.specs.declared.coach.Class.TheVariants.{First, Second}
+use Rattle.place_map.specs.declared.coach.Place.{Place}
+use Rattle.rail_ids.specs.declared.PlaceNo.{PlaceNo}
+
+abbrev pub is_class : Class → Class → Bool
+is_class First First = true
+is_class First Second = false
+is_class Second First = false
+is_class Second Second = true
+
+-- a place of the run and the class that has all wanted traits
+abbrev pub is_candidate : ℕ → Class → ℕ → Place → Bool
+is_candidate run class wanted p = p.run.0 == run && (is_class p.class class && bit_and p.traits wanted == wanted)
+
+-- the numbers of the places that pass, where the first place has the number k
+abbrev pub numbers_of : (Place → Bool) → ℕ → List Place → List PlaceNo
+numbers_of passes k [] = []
+numbers_of passes k (p ∷ rest) =
+    if passes p then (record { 0 = k }) ∷ numbers_of passes (k + 1) rest else numbers_of passes (k + 1) rest
+
+abbrev pub candidates_of : ℕ → Class → ℕ → List Place → List PlaceNo
+candidates_of run class wanted places = numbers_of (is_candidate run class wanted) 0 places

@@ -1,0 +1,6 @@
+use Rattle.std.proofs.Common.{◌≡◌, ◌-◌, length}
+use Rattle.train_runs.specs.Stops.{least_from, is_unrisen, first_unrisen}
+use Rattle.train_runs.proofs.run.first_unrisen.Given as goal
+
+abbrev pub invariant-loop-n : goal.invariant-loop-n
+invariant-loop-n l = least_from (is_unrisen l.stops) l.n (length l.stops - l.n) ≡ first_unrisen l.stops

@@ -1,0 +1,26 @@
+use Rattle.std.proofs.Common.{rules, ◌≡◌, ◌<◌, ◌++◌, ◌∷◌, [], ℕ, List, ◌∙◌, sym, ap, subst, Some, None, length, string_bytes}
+use Rattle.std.specs.Prelude.{cond}
+use Rattle.std.specs.Str.{bytes_eq}
+use Rattle.std.specs.BTreeMap.{get_by_text}
+use Rattle.std.proofs.lemmas.Map.Text.{btree_map_updates_text}
+use Rattle.train_runs.specs.Stations.{StationView, station_with}
+use Rattle.train_runs.specs.Runs.{RunsView, AreSound}
+use Rattle.train_runs.proofs.Coding.{finds, grows}
+use Rattle.train_runs.proofs.runs.Runs.insert_station.Goals as goal
+
+pub invariant_of-self-in-Ok : goal.invariant_of-self-in-Ok
+invariant_of-self-in-Ok c =
+    let last : StationView = record { code = c.args.code.now; change = c.args.change } in
+    let was : c.self.inside.stations.items ≡ c.args.self.now.stations = ap (λ (r : RunsView). r.stations) c.self.view_is in
+    let made : c.new.result ≡ last = c.new.ensures ∙ ap (λ (code : List ℕ). record { code = code; change = c.args.change }) c.in_ok-from_str.ensures.ok in
+    let stations : c.push.new.self.items ≡ c.self.inside.stations.items ++ last ∷ [] = c.in_ok-push.ensures.items ∙ ap (λ (s : StationView). c.self.inside.stations.items ++ s ∷ []) made in
+    let count : c.len.result ≡ length c.self.inside.stations.items = search rules in
+    let fresh : station_with c.args.code.now c.self.inside.stations.items ≡ None = ap (station_with c.args.code.now) was ∙ c.requires.fresh in (
+      subst (λ (ss : List StationView). AreSound (record { stations = ss; runs = c.self.inside.runs.items })) (sym stations)
+          (grows (record { stations = c.self.inside.stations.items; runs = c.self.inside.runs.items }) last c.self.invariant.0 (subst (λ (ss : List StationView). length ss < 65536) (sym was) c.requires.room) c.requires.code),
+      λ code. subst (λ (ss : List StationView). get_by_text c.insert.new.self code ≡ station_with code ss) (sym stations)
+          (finds code c.self.inside.stations.items last (get_by_text c.self.inside.numbers code) (get_by_text c.insert.new.self code) fresh (c.self.invariant.1 code)
+          (subst (λ (bs : List ℕ). get_by_text c.insert.new.self code ≡ cond (bytes_eq bs code) (Some (record { 0 = length c.self.inside.stations.items })) (get_by_text c.self.inside.numbers code)) c.in_ok-key.ensures.ok
+          (subst (λ (n : ℕ). get_by_text c.insert.new.self code ≡ cond (bytes_eq (string_bytes c.in_ok-key.key) code) (Some (record { 0 = n })) (get_by_text c.self.inside.numbers code)) count
+          (btree_map_updates_text (string_bytes c.in_ok-key.key) c.self.inside.numbers c.insert.new.self (Some (record { 0 = c.len.result })) c.in-Ok.ensures.updates code)))),
+    )

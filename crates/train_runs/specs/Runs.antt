@@ -1,0 +1,38 @@
+-- All stations and runs, and what adding a run answers.
+use Rattle.std.specs.Prelude.{◌≡◌, true, ℕ, ◌≤◌, nat_le, nat_lt, List, length, All, if◌then◌else◌, Option, Some, option_map, option_and_then, slice_get}
+use Rattle.std.specs.List.{list_all}
+use Rattle.std.specs.Option.{option_or}
+use Rattle.leg_masks.specs.Interval.{Interval}
+use Rattle.rail_ids.specs.declared.StationNo.{StationNo}
+use Rattle.rail_ids.specs.declared.RunNo.{RunNo}
+use Rattle.train_runs.specs.declared.run.RunFault.{RunFault}
+use Rattle.train_runs.specs.declared.run.RunFault.TheVariants.{TooFewStops, TooManyStops, TimesNotRising, TooManyRuns, StationRepeated}
+use Rattle.train_runs.specs.Stations.{StationView, is_code}
+use Rattle.train_runs.specs.Stops.{RunView, IsRun, first_unrisen, first_repeated, stop_of, legs_between}
+
+-- the stations and the runs, each in the order of their numbers
+pub record RunsView : Type 0 where
+  pub stations : List StationView
+  pub runs : List RunView
+
+abbrev pub most_runs : ℕ
+most_runs = 4_096
+
+-- the first fault of a further run, in the order of the listing
+abbrev pub run_fault : List RunView → RunView → Option RunFault
+run_fault runs run =
+    if nat_lt (length run.stops) 2 then Some TooFewStops
+    else (if nat_lt 64 (length run.stops) then Some TooManyStops
+    else (option_or (option_map TimesNotRising (first_unrisen run.stops))
+    (if nat_le most_runs (length runs) then Some TooManyRuns else option_map StationRepeated (first_repeated run.stops))))
+
+-- the legs of the run between two stations; none where it doesn't stop at the one and later at the other
+abbrev pub span_of : RunsView → RunNo → StationNo → StationNo → Option Interval
+span_of r run from to = option_and_then (λ it. legs_between (stop_of from it.stops) (stop_of to it.stops)) (slice_get r.runs run.0)
+
+-- what holds of all stations and runs that were taken
+pub record AreSound (r : RunsView) : Type 0 where
+  pub stations : length r.stations ≤ 65_536
+  pub runs : length r.runs ≤ most_runs
+  pub codes : list_all (λ s. is_code s.code) r.stations ≡ true
+  pub each : All (IsRun (length r.stations)) r.runs

@@ -1,0 +1,16 @@
+//! Stations, and the runs of trains between them.
+//!
+//! A run stops at two to 64 stations, each once, and its times rise from stop to stop; between two neighbouring stops lies
+//! a leg. `Runs` takes stations and runs one after the other, with the first fault of each named, and is as before after a
+//! refusal. Then it is only asked: for a station by its code, for a run, and for the legs between two stations.
+#![tactic(auto)]
+
+mod run;
+mod runs;
+mod station;
+#[cfg(test)]
+mod tests;
+
+pub use run::{MOST_STOPS, Run, RunFault, Stop};
+pub use runs::{MOST_RUNS, Runs};
+pub use station::{MOST_STATIONS, StationFault};

@@ -1,0 +1,219 @@
+ghost use Rattle.std.specs.Prelude.{◌≡◌, ◌<◌, ◌≤◌, ◌++◌, [], ◌∷◌, List, ℕ, length, All, IfOk, IfErr, OnErr, OnOk, Ok, Err, Some, None, true, IfSome, option_map, slice_get, string_bytes};
+ghost use Rattle.std.specs.BTreeMap.{get_by_text};
+ghost use Rattle.train_runs.specs.declared.station.StationFault.TheVariants as station_fault;
+ghost use Rattle.train_runs.specs.declared.run.RunFault.TheVariants as run_fault;
+ghost use Rattle.train_runs.specs.Stations.{with_station, station_with, is_code as is_code_of, most_stations};
+ghost use Rattle.train_runs.specs.Stops.{IsRun};
+ghost use Rattle.train_runs.specs.Runs.{AreSound, most_runs, run_fault as run_fault_of, span_of};
+
+use crate::run::{MOST_STOPS, Run, RunFault, Stop, first_repeated, first_unrisen, stop_of};
+use crate::station::{MOST_STATIONS, Station, StationFault, is_code};
+use leg_masks::Span;
+use rail_ids::{RunNo, StationNo};
+use std::alloc::{AllocError, Global};
+use std::collections::BTreeMap;
+use std::marker::Model;
+use std::str;
+
+/// How many runs there may be.
+pub const MOST_RUNS: usize = 4_096;
+
+/// All stations and runs, each numbered from 0 in the order in which they were added.
+#[derive(Drop)]
+pub struct Runs {
+    stations: Vec<Station>,
+    numbers: BTreeMap<String, StationNo>,
+    runs: Vec<Run>,
+}
+
+impl Model for Runs {
+    ghost use Rattle.std.specs.Prelude.{◌≡◌, ℕ, List};
+    ghost use Rattle.std.specs.BTreeMap.{get_by_text};
+    ghost use Rattle.train_runs.specs.Stations.{station_with};
+    ghost use Rattle.train_runs.specs.Runs.{RunsView, AreSound};
+
+    ghost Value = { RunsView };
+
+    ghost view = { λ r. record { stations = r.stations.items; runs = r.runs.items } };
+
+    ghost invariant = { λ r. AreSound (record { stations = r.stations.items; runs = r.runs.items })
+        × ((code : List ℕ) → get_by_text r.numbers code ≡ station_with code r.stations.items) };
+}
+
+impl Runs {
+    /// No station and no run. Takes no memory.
+    pub fn new(alloc: Global) -> Runs
+        ensures empty { result ≡ record { stations = []; runs = [] } }
+    {
+        Runs {
+            stations: Vec::new(alloc),
+            numbers: BTreeMap::new(alloc),
+            runs: Vec::new(alloc),
+        }
+    }
+
+    /// Adds a station with its code, and the seconds that a change of trains takes there at least. After a refusal all is
+    /// as before.
+    pub fn add_station(&mut self, code: &[u8], change: u32) -> Result<StationNo, StationFault>
+        ensures ok { IfOk result (λ n. (n.0 ≡ length self.old.stations) × (with_station self.old.stations code.now change ≡ Ok self.new.stations)) }
+        ensures runs { self.new.runs ≡ self.old.runs }
+        ensures err { IfErr result (λ e. ¬ (e ≡ station_fault.NoMemory) → with_station self.old.stations code.now change ≡ Err e) }
+        ensures kept { OnErr result (self.new ≡ self.old) }
+    {
+        if !is_code(code) {
+            return Err(StationFault::BadCode);
+        }
+        let Ok(text) = str::from_utf8(code) else {
+            return Err(StationFault::BadCode);
+        };
+        if self.numbers.get(text).is_some() {
+            return Err(StationFault::DoubleCode);
+        }
+        if self.stations.len() >= MOST_STATIONS {
+            return Err(StationFault::TooManyStations);
+        }
+        let number = StationNo(self.stations.len() as u32);
+        match self.insert_station(text, change) {
+            Ok(()) => Ok(number),
+            Err(_) => Err(StationFault::NoMemory),
+        }
+    }
+
+    // Adds a station whose code is one that no other has.
+    fn insert_station(&mut self, code: &str, change: u32) -> Result<(), AllocError>
+        requires code { is_code_of code.now ≡ true }
+        requires fresh { station_with code.now self.old.stations ≡ None }
+        requires room { length self.old.stations < most_stations }
+        ensures ok { OnOk result (self.new ≡ record self.old { stations = self.old.stations ++ (record { code = code.now; change = change }) ∷ [] }) }
+        ensures kept { OnErr result (self.new ≡ self.old) }
+    {
+        let alloc = *self.stations.allocator();
+        let number = StationNo(self.stations.len() as u32);
+        let key = String::from_str(alloc, code)?;
+        self.stations
+            .push(Station::new(String::from_str(alloc, code)?, change))?;
+        match self.numbers.insert(key, number) {
+            Ok(_) => Ok(()),
+            Err(error) => {
+                self.stations.pop();
+                Err(error.into())
+            }
+        }
+    }
+
+    /// Adds a run, whose stations are known. After a refusal all is as before.
+    pub fn add(&mut self, run: Run) -> Result<RunNo, RunFault>
+        requires known { All (λ s. s.station.0 < length self.old.stations) run.stops }
+        ensures ok { IfOk result (λ n. (n.0 ≡ length self.old.runs) × (run_fault_of self.old.runs run ≡ None)
+            × (self.new ≡ record self.old { runs = self.old.runs ++ run ∷ [] })) }
+        ensures err { IfErr result (λ e. ¬ (e ≡ run_fault.NoMemory) → run_fault_of self.old.runs run ≡ Some e) }
+        ensures kept { OnErr result (self.new ≡ self.old) }
+    {
+        if let Some(fault) = fault_of(self.runs.as_slice(), &run) {
+            return Err(fault);
+        }
+        let number = RunNo(self.runs.len() as u32);
+        match self.runs.push(run) {
+            Ok(()) => Ok(number),
+            Err(_) => Err(RunFault::NoMemory),
+        }
+    }
+
+    /// The station with the code.
+    pub fn station_of(&self, code: &[u8]) -> Option<StationNo>
+        ensures value { result ≡ station_with code.now self.now.stations }
+        ensures known { IfSome result (λ n. n.0 < length self.now.stations) }
+    {
+        let numbers = &self.numbers;
+        let Ok(text) = str::from_utf8(code) else {
+            return None;
+        };
+        numbers.get(text).copied()
+    }
+
+    /// The run with the number.
+    pub fn run(&self, run: RunNo) -> Option<&Run>
+        ensures value { option_map (λ r. r.now) result ≡ slice_get self.now.runs run.0 }
+        ensures sound { IfSome result (λ r. IsRun (length self.now.stations) r.now) }
+    {
+        self.runs.get(run.0 as usize)
+    }
+
+    /// How many stations there are.
+    pub fn station_count(&self) -> u32
+        ensures value { result ≡ length self.now.stations }
+        ensures most { result ≤ most_stations }
+    {
+        self.stations.len() as u32
+    }
+
+    /// How many runs there are.
+    pub fn count(&self) -> u32
+        ensures value { result ≡ length self.now.runs }
+        ensures most { result ≤ most_runs }
+    {
+        self.runs.len() as u32
+    }
+
+    /// The code of the station with the number.
+    pub fn code(&self, station: StationNo) -> Option<&[u8]>
+        ensures value { option_map (λ c. c.now) result ≡ option_map (λ s. s.code) (slice_get self.now.stations station.0) }
+    {
+        match self.stations.get(station.0 as usize) {
+            Some(found) => Some(found.code().as_bytes()),
+            None => None,
+        }
+    }
+
+    /// The code of the station with the number, as text.
+    pub fn code_text(&self, station: StationNo) -> Option<&str>
+        ensures value { option_map (λ c. c.now) result ≡ option_map (λ s. s.code) (slice_get self.now.stations station.0) }
+    {
+        match self.stations.get(station.0 as usize) {
+            Some(found) => Some(found.code()),
+            None => None,
+        }
+    }
+
+    /// How many seconds a change of trains takes at the station at least.
+    pub fn change(&self, station: StationNo) -> Option<u32>
+        ensures value { result ≡ option_map (λ s. s.change) (slice_get self.now.stations station.0) }
+    {
+        match self.stations.get(station.0 as usize) {
+            Some(found) => Some(found.change()),
+            None => None,
+        }
+    }
+
+    /// The legs of the run between the two stations: `None` exactly where there is no such run, or it doesn't stop at the
+    /// one and later at the other.
+    pub fn span_between(&self, run: RunNo, from: StationNo, to: StationNo) -> Option<Span>
+        ensures value { result ≡ span_of self.now run from to }
+    {
+        let stops = self.run(run)?.stops();
+        let first = stop_of(stops, from)?;
+        let last = stop_of(stops, to)?;
+        Span::new(first, last)
+    }
+}
+
+// The first fault of a further run.
+fn fault_of(runs: &[Run], run: &Run) -> Option<RunFault>
+    ensures { result ≡ run_fault_of runs.now run.now }
+{
+    let stops = run.stops();
+    if stops.len() < 2 {
+        return Some(RunFault::TooFewStops);
+    }
+    if stops.len() > MOST_STOPS {
+        return Some(RunFault::TooManyStops);
+    }
+    if let Some(stop) = first_unrisen(stops) {
+        return Some(RunFault::TimesNotRising { stop });
+    }
+    if runs.len() >= MOST_RUNS {
+        return Some(RunFault::TooManyRuns);
+    }
+    let stop = first_repeated(stops)?;
+    Some(RunFault::StationRepeated { stop })
+}
