@@ -1,0 +1,3 @@
+pub mod JsonFacts
+pub mod Indexes
+pub mod Stationing

@@ -1,0 +1,6 @@
+use Rattle.std.proofs.Common.{◌≡◌, map, take}
+use Rattle.rail_catalogue.specs.Contents.{place_legs}
+use Rattle.rail_catalogue.proofs.catalogue.legs_of_places.Given as goal
+
+abbrev pub invariant-loop-place : goal.invariant-loop-place
+invariant-loop-place l = l.legs.items ≡ map (place_legs l.runs) (take l.place-index l.places)

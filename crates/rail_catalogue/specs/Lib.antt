@@ -1,0 +1,12 @@
+pub mod Json
+pub mod Faults
+pub mod Retailers
+pub mod Stations
+pub mod Steps
+pub mod Stops
+pub mod TimeViews
+pub mod Coaches
+pub mod CoachViews
+pub mod Contents
+pub mod Format
+pub mod Networks

@@ -1,0 +1,159 @@
+ghost use Rattle.std.specs.Prelude.{◌≡◌, ◌≤◌, [], Ok, Err, IfOk, IfErr, IfSome, OnOk, map, option_map, option_and_then};
+ghost use Rattle.serde_json.specs.View.{view};
+ghost use Rattle.place_map.specs.Places.{EndsWithRun, with_places, coach_places};
+ghost use Rattle.rail_catalogue.specs.Faults.{fault_of};
+ghost use Rattle.rail_catalogue.specs.Json.{text_of};
+ghost use Rattle.rail_catalogue.specs.CoachViews.{coach_view};
+ghost use Rattle.rail_catalogue.specs.Coaches.{class_named, trait_named, traits_from, traits_of, group_at, groups_from, coach_at, coaches_from, placed};
+
+use crate::fault::{CatalogueFault, GroupSpot, group_fault, run_item_fault, trait_fault};
+use crate::json::{list_in, list_of, whole_in};
+use place_map::{Class, Coach, Group, PlaceFault, PlaceMap};
+use rail_ids::RunNo;
+use serde_json::Value;
+use std::alloc::Global;
+
+// Adds the coaches of a run to the places.
+pub fn read_coaches(
+    alloc: Global,
+    items: &[Value],
+    run: u32,
+    places: &mut PlaceMap,
+) -> Result<(), CatalogueFault>
+    requires no_later_run { EndsWithRun run places.old }
+    ensures ok { OnOk result (coaches_from run 0 places.old (map view items.now) ≡ Ok places.new) }
+    ensures no_later_run { OnOk result (EndsWithRun run places.new) }
+    ensures err { IfErr result (λ e. IfSome (fault_of e) (λ f. coaches_from run 0 places.old (map view items.now) ≡ Err f)) }
+{
+    for (n, item) in items.iter().enumerate() {
+        let coach = read_coach(alloc, item, run as usize, n)?;
+        add_coach(places, run, &coach)?;
+    }
+    Ok(())
+}
+
+fn add_coach(places: &mut PlaceMap, run: u32, coach: &Coach) -> Result<(), CatalogueFault>
+    requires no_later_run { EndsWithRun run places.old }
+    ensures ok { OnOk result (placed (with_places run places.old
+        (coach_places run coach.now.number coach.now.class coach.now.groups.items)) ≡ Ok places.new) }
+    ensures no_later_run { OnOk result (EndsWithRun run places.new) }
+    ensures err { IfErr result (λ e. IfSome (fault_of e) (λ f. placed (with_places run places.old
+        (coach_places run coach.now.number coach.now.class coach.now.groups.items)) ≡ Err f)) }
+{
+    match places.add_coach(RunNo(run), coach) {
+        Ok(()) => Ok(()),
+        Err(PlaceFault::NoMemory) => Err(CatalogueFault::NoMemory),
+        Err(fault) => Err(CatalogueFault::Place(fault)),
+    }
+}
+
+fn read_coach(alloc: Global, item: &Value, run: usize, n: usize) -> Result<Coach, CatalogueFault>
+    ensures ok { IfOk result (λ c. coach_at run n (view item.now) ≡ Ok (coach_view c)) }
+    ensures err { IfErr result (λ e. IfSome (fault_of e) (λ f. coach_at run n (view item.now) ≡ Err f)) }
+{
+    if !item.is_object() {
+        return Err(run_item_fault(alloc, run, "coaches", n, ""));
+    }
+    let Some(number) = whole_in(item.get("coach"), 1, 999) else {
+        return Err(run_item_fault(alloc, run, "coaches", n, ".coach"));
+    };
+    let Some(class) = read_class(item.get("class")) else {
+        return Err(run_item_fault(alloc, run, "coaches", n, ".class"));
+    };
+    let Some(items) = list_in(item.get("places"), 1, 9_223_372_036_854_775_807) else {
+        return Err(run_item_fault(alloc, run, "coaches", n, ".places"));
+    };
+    Ok(Coach {
+        number: number as u16,
+        class,
+        groups: read_groups(alloc, items, run, n)?,
+    })
+}
+
+fn read_class(value: Option<&Value>) -> Option<Class>
+    ensures { result ≡ option_and_then class_named (text_of (option_map (λ v. view v.now) value.entry)) }
+{
+    match value.and_then(Value::as_str)? {
+        "FIRST" => Some(Class::First),
+        "SECOND" => Some(Class::Second),
+        _ => None,
+    }
+}
+
+fn read_groups(
+    alloc: Global,
+    items: &[Value],
+    run: usize,
+    coach: usize,
+) -> Result<Vec<Group>, CatalogueFault>
+    ensures ok { IfOk result (λ v. groups_from run coach [] (map view items.now) ≡ Ok v.items) }
+    ensures err { IfErr result (λ e. IfSome (fault_of e) (λ f. groups_from run coach [] (map view items.now) ≡ Err f)) }
+{
+    let mut groups = Vec::new(alloc);
+    for item in items {
+        let at = GroupSpot {
+            run,
+            coach,
+            group: groups.len(),
+        };
+        groups.push(read_group(alloc, item, at)?)?;
+    }
+    Ok(groups)
+}
+
+fn read_group(alloc: Global, item: &Value, at: GroupSpot) -> Result<Group, CatalogueFault>
+    ensures ok { IfOk result (λ g. group_at at.run at.coach at.group (view item.now) ≡ Ok g) }
+    ensures err { IfErr result (λ e. IfSome (fault_of e) (λ f. group_at at.run at.coach at.group (view item.now) ≡ Err f)) }
+{
+    if !item.is_object() {
+        return Err(group_fault(alloc, at, ""));
+    }
+    let Some(first) = whole_in(item.get("first"), 1, 9_999) else {
+        return Err(group_fault(alloc, at, ".first"));
+    };
+    let Some(last) = whole_in(item.get("last"), first, 9_999) else {
+        return Err(group_fault(alloc, at, ".last"));
+    };
+    let traits = read_traits(alloc, item.get("traits"), at)?;
+    Ok(Group::new(first as u16, last as u16, traits))
+}
+
+fn read_traits(alloc: Global, value: Option<&Value>, at: GroupSpot) -> Result<u8, CatalogueFault>
+    ensures ok { IfOk result (λ t. traits_of at.run at.coach at.group (option_map (λ v. view v.now) value.entry) ≡ Ok t) }
+    ensures err { IfErr result (λ e. IfSome (fault_of e) (λ f. traits_of at.run at.coach at.group (option_map (λ v. view v.now) value.entry) ≡ Err f)) }
+{
+    if value.is_none() {
+        return Ok(0);
+    }
+    let Some(items) = list_of(value) else {
+        return Err(group_fault(alloc, at, ".traits"));
+    };
+    read_trait_items(alloc, items, at)
+}
+
+fn read_trait_items(alloc: Global, items: &[Value], at: GroupSpot) -> Result<u8, CatalogueFault>
+    ensures ok { IfOk result (λ t. traits_from at.run at.coach at.group 0 0 (map view items.now) ≡ Ok t) }
+    ensures err { IfErr result (λ e. IfSome (fault_of e) (λ f. traits_from at.run at.coach at.group 0 0 (map view items.now) ≡ Err f)) }
+{
+    let mut found = 0u8;
+    for (n, item) in items.iter().enumerate() {
+        let Some(bit) = item.as_str().and_then(trait_bit) else {
+            return Err(trait_fault(alloc, at, n));
+        };
+        found |= bit;
+    }
+    Ok(found)
+}
+
+fn trait_bit(name: &str) -> Option<u8>
+    ensures { result ≡ trait_named name.now }
+{
+    match name {
+        "WINDOW" => Some(1),
+        "AISLE" => Some(2),
+        "TABLE" => Some(4),
+        "QUIET" => Some(8),
+        "POWER" => Some(16),
+        _ => None,
+    }
+}

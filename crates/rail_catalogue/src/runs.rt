@@ -1,0 +1,162 @@
+ghost use Rattle.std.specs.Prelude.{◌≡◌, ◌<◌, ◌≤◌, ◌+◌, ◌++◌, [], ◌∷◌, All, Ok, Err, IfOk, IfErr, IfSome, OnOk, length, map, option_map};
+ghost use Rattle.serde_json.specs.View.{view};
+ghost use Rattle.place_map.specs.Places.{EndsWithRun, run_number};
+ghost use Rattle.rail_catalogue.specs.Faults.{fault_of};
+ghost use Rattle.rail_catalogue.specs.Stops.{timetable_of, fares_of, amount_at, with_run};
+ghost use Rattle.rail_catalogue.specs.Contents.{IsWhole};
+ghost use Rattle.rail_catalogue.specs.Format.{places_of, with_item, network_of};
+ghost use Rattle.rail_catalogue.specs.Networks.{network_view};
+
+use crate::catalogue::Fares;
+use crate::coaches::read_coaches;
+use crate::fault::{CatalogueFault, field_fault, item_fault};
+use crate::json::{list_in, list_of, whole_in};
+use crate::stops::read_stops;
+use place_map::PlaceMap;
+use rail_ids::RunNo;
+use serde_json::Value;
+use std::alloc::Global;
+use tariff::Fare;
+use train_runs::{Run, RunFault, Runs};
+
+// Runs with their fares and places, as far as they are read.
+#[derive(Drop)]
+pub struct Network {
+    pub runs: Runs,
+    pub fares: Vec<Fares>,
+    pub places: PlaceMap,
+}
+
+// The runs of the member, over these stations.
+pub fn read_network(
+    alloc: Global,
+    value: Option<&Value>,
+    runs: Runs,
+) -> Result<Network, CatalogueFault>
+    requires { runs.runs ≡ [] }
+    ensures ok { IfOk result (λ n. network_of runs.stations (option_map (λ v. view v.now) value.entry) ≡ Ok (network_view n)) }
+    ensures whole { IfOk result (λ n. IsWhole n.runs n.fares.items n.places) }
+    ensures err { IfErr result (λ e. IfSome (fault_of e) (λ f. network_of runs.stations (option_map (λ v. view v.now) value.entry) ≡ Err f)) }
+{
+    let Some(items) = list_in(value, 1, 9_223_372_036_854_775_807) else {
+        return Err(field_fault(alloc, "runs"));
+    };
+    let mut network = Network {
+        runs,
+        fares: Vec::new(alloc),
+        places: PlaceMap::new(alloc),
+    };
+    for (n, item) in items.iter().enumerate() {
+        read_run(alloc, item, n, &mut network)?;
+    }
+    Ok(network)
+}
+
+// Adds the next item of the list, which has this index.
+fn read_run(
+    alloc: Global,
+    item: &Value,
+    n: usize,
+    network: &mut Network,
+) -> Result<(), CatalogueFault>
+    requires number { n ≡ length network.old.runs.runs }
+    requires whole { IsWhole network.old.runs network.old.fares.items network.old.places }
+    ensures ok { OnOk result (with_item (network_view network.old) n (view item.now) ≡ Ok (network_view network.new)) }
+    ensures number { OnOk result (length network.new.runs.runs ≡ n + 1) }
+    ensures whole { OnOk result (IsWhole network.new.runs network.new.fares.items network.new.places) }
+    ensures err { IfErr result (λ e. IfSome (fault_of e) (λ f. with_item (network_view network.old) n (view item.now) ≡ Err f)) }
+{
+    let run = read_timetable(alloc, item, n, &mut network.runs)?;
+    let fares = read_fares(alloc, item, n)?;
+    read_places(alloc, item, run, &mut network.places)?;
+    network.fares.push(fares)?;
+    Ok(())
+}
+
+// Adds the train and the stops of an item.
+fn read_timetable(
+    alloc: Global,
+    item: &Value,
+    n: usize,
+    runs: &mut Runs,
+) -> Result<RunNo, CatalogueFault>
+    requires { n ≡ length runs.old.runs }
+    ensures ok { OnOk result (timetable_of runs.old n (view item.now) ≡ Ok runs.new) }
+    ensures number { IfOk result (λ r. r.0 ≡ n) }
+    ensures count { OnOk result (length runs.new.runs ≡ n + 1) }
+    ensures err { IfErr result (λ e. IfSome (fault_of e) (λ f. timetable_of runs.old n (view item.now) ≡ Err f)) }
+{
+    if !item.is_object() {
+        return Err(item_fault(alloc, "runs", n, ""));
+    }
+    let Some(train) = whole_in(item.get("train"), 1, 99_999) else {
+        return Err(item_fault(alloc, "runs", n, ".train"));
+    };
+    let Some(items) = list_of(item.get("stops")) else {
+        return Err(item_fault(alloc, "runs", n, ".stops"));
+    };
+    let stops = read_stops(alloc, items, n, runs)?;
+    add_run(runs, Run::new(train, stops))
+}
+
+fn add_run(runs: &mut Runs, run: Run) -> Result<RunNo, CatalogueFault>
+    requires known { All (λ s. s.station.0 < length runs.old.stations) run.stops }
+    ensures ok { OnOk result (with_run runs.old run ≡ Ok runs.new) }
+    ensures number { IfOk result (λ r. r.0 ≡ length runs.old.runs) }
+    ensures count { OnOk result (length runs.new.runs ≡ length runs.old.runs + 1) }
+    ensures err { IfErr result (λ e. IfSome (fault_of e) (λ f. with_run runs.old run ≡ Err f)) }
+{
+    match runs.add(run) {
+        Ok(number) => Ok(number),
+        Err(RunFault::NoMemory) => Err(CatalogueFault::NoMemory),
+        Err(fault) => Err(CatalogueFault::Run(fault)),
+    }
+}
+
+fn read_fares(alloc: Global, item: &Value, n: usize) -> Result<Fares, CatalogueFault>
+    ensures ok { IfOk result (λ f. fares_of n (view item.now) ≡ Ok f) }
+    ensures err { IfErr result (λ e. IfSome (fault_of e) (λ f. fares_of n (view item.now) ≡ Err f)) }
+{
+    let Some(first_base) = amount_in(item, "first", "base") else {
+        return Err(item_fault(alloc, "runs", n, ".fares.first.base"));
+    };
+    let Some(first_leg) = amount_in(item, "first", "perLeg") else {
+        return Err(item_fault(alloc, "runs", n, ".fares.first.perLeg"));
+    };
+    let Some(second_base) = amount_in(item, "second", "base") else {
+        return Err(item_fault(alloc, "runs", n, ".fares.second.base"));
+    };
+    let Some(second_leg) = amount_in(item, "second", "perLeg") else {
+        return Err(item_fault(alloc, "runs", n, ".fares.second.perLeg"));
+    };
+    Ok(Fares::new(
+        Fare::new(first_base, first_leg),
+        Fare::new(second_base, second_leg),
+    ))
+}
+
+fn amount_in(item: &Value, class: &str, name: &str) -> Option<u32>
+    ensures value { result ≡ amount_at class.now name.now (view item.now) }
+    ensures most { IfSome result (λ n. n ≤ 10_000_000) }
+{
+    let amount = item.get("fares")?.get(class)?.get(name);
+    whole_in(amount, 0, 10_000_000)
+}
+
+// Adds the coaches of an item to the places.
+fn read_places(
+    alloc: Global,
+    item: &Value,
+    run: RunNo,
+    places: &mut PlaceMap,
+) -> Result<(), CatalogueFault>
+    requires no_later_run { EndsWithRun run.0 places.old }
+    ensures ok { OnOk result (places_of run.0 places.old (view item.now) ≡ Ok places.new) }
+    ensures no_later_run { OnOk result (EndsWithRun run.0 places.new) }
+    ensures err { IfErr result (λ e. IfSome (fault_of e) (λ f. places_of run.0 places.old (view item.now) ≡ Err f)) }
+{
+    let Some(items) = list_in(item.get("coaches"), 1, 9_223_372_036_854_775_807) else {
+        return Err(item_fault(alloc, "runs", run.0 as usize, ".coaches"));
+    };
+    read_coaches(alloc, items, run.0, places)
+}

@@ -1,0 +1,162 @@
+ghost use Rattle.std.specs.Prelude.{◌≡◌, ◌<◌, ◌+◌, ◌==◌, ◌&&◌, not, [], ℕ, All, Ok, Err, IfOk, IfErr, IfSome, length, map, option_map, codes};
+ghost use Rattle.serde_json.specs.View.{view};
+ghost use Rattle.rail_catalogue.specs.Faults.{fault_of, field, run_item_path};
+ghost use Rattle.rail_catalogue.specs.Stops.{times_of as times_of_members, time_of, times_at, stop_at, stops_from};
+ghost use Rattle.rail_catalogue.specs.TimeViews.{time_view, side_name};
+
+use crate::fault::{CatalogueFault, run_item_fault};
+use rail_time::{Moment, MomentFault, read_moment};
+use serde_json::Value;
+use std::alloc::{AllocError, Global};
+use train_runs::{Runs, Stop};
+
+// A member that is to be a moment.
+#[derive(Clone, Copy)]
+enum Time {
+    Missing,
+    Bad,
+    Given(Moment),
+}
+
+#[derive(Clone, Copy)]
+struct Times {
+    arrive: Moment,
+    depart: Moment,
+}
+
+#[derive(Clone, Copy)]
+enum Side {
+    Arrive,
+    Depart,
+}
+
+// The stops of a run, at stations that are known.
+pub fn read_stops(
+    alloc: Global,
+    items: &[Value],
+    run: usize,
+    runs: &Runs,
+) -> Result<Vec<Stop>, CatalogueFault>
+    ensures ok { IfOk result (λ v. stops_from runs.now.stations run (length items.now) [] (map view items.now) ≡ Ok v.items) }
+    ensures known { IfOk result (λ v. All (λ s. s.station.0 < length runs.now.stations) v.items) }
+    ensures err { IfErr result (λ e. IfSome (fault_of e) (λ f. stops_from runs.now.stations run (length items.now) [] (map view items.now) ≡ Err f)) }
+{
+    let mut found = Vec::new(alloc);
+    for item in items {
+        found.push(read_stop(alloc, item, run, found.len(), items.len(), runs)?)?;
+    }
+    Ok(found)
+}
+
+fn read_stop(
+    alloc: Global,
+    item: &Value,
+    run: usize,
+    j: usize,
+    n: usize,
+    runs: &Runs,
+) -> Result<Stop, CatalogueFault>
+    requires { j < n }
+    ensures ok { IfOk result (λ s. stop_at runs.now.stations run j n (view item.now) ≡ Ok s) }
+    ensures known { IfOk result (λ s. s.station.0 < length runs.now.stations) }
+    ensures err { IfErr result (λ e. IfSome (fault_of e) (λ f. stop_at runs.now.stations run j n (view item.now) ≡ Err f)) }
+{
+    if !item.is_object() {
+        return Err(run_item_fault(alloc, run, "stops", j, ""));
+    }
+    let Some(code) = item.get("station").and_then(Value::as_str) else {
+        return Err(run_item_fault(alloc, run, "stops", j, ".station"));
+    };
+    let Some(station) = runs.station_of(code.as_bytes()) else {
+        return Err(CatalogueFault::UnknownStation {
+            code: String::from_str(alloc, code)?,
+        });
+    };
+    let times = read_times(alloc, item, run, j, n)?;
+    Ok(Stop {
+        station,
+        arrive: times.arrive,
+        depart: times.depart,
+    })
+}
+
+fn read_times(
+    alloc: Global,
+    item: &Value,
+    run: usize,
+    j: usize,
+    n: usize,
+) -> Result<Times, CatalogueFault>
+    requires { j < n }
+    ensures ok { IfOk result (λ t. times_at run j n (view item.now) ≡ Ok (record { arrive = t.arrive; depart = t.depart })) }
+    ensures err { IfErr result (λ e. IfSome (fault_of e) (λ f. times_at run j n (view item.now) ≡ Err f)) }
+{
+    let arrives = time_member(alloc, item.get("arrive"))?;
+    let departs = time_member(alloc, item.get("depart"))?;
+    let only = n == 1;
+    match times_of(arrives, departs, j == 0 && !only, j + 1 == n && !only) {
+        Ok(times) => Ok(times),
+        Err(side) => Err(side_fault(alloc, run, j, side)),
+    }
+}
+
+fn side_fault(alloc: Global, run: usize, j: usize, side: Side) -> CatalogueFault
+    ensures { IfSome (fault_of result) (λ f. f ≡ field (run_item_path run (codes "stops") j (side_name side))) }
+{
+    match side {
+        Side::Arrive => run_item_fault(alloc, run, "stops", j, ".arrive"),
+        Side::Depart => run_item_fault(alloc, run, "stops", j, ".depart"),
+    }
+}
+
+// The times of a stop, or the member at fault.
+fn times_of(arrives: Time, departs: Time, first: bool, last: bool) -> Result<Times, Side>
+    ensures ok { IfOk result (λ t. times_of_members first last (time_view arrives) (time_view departs) ≡ Ok (record { arrive = t.arrive; depart = t.depart })) }
+    ensures err { IfErr result (λ e. times_of_members first last (time_view arrives) (time_view departs) ≡ Err (side_name e)) }
+{
+    match arrives {
+        Time::Bad => Err(Side::Arrive),
+        Time::Given(arrive) => match departs {
+            Time::Bad => Err(Side::Depart),
+            Time::Given(depart) => Ok(Times { arrive, depart }),
+            Time::Missing => {
+                if last {
+                    Ok(Times {
+                        arrive,
+                        depart: arrive,
+                    })
+                } else {
+                    Err(Side::Depart)
+                }
+            }
+        },
+        Time::Missing => {
+            if !first {
+                return Err(Side::Arrive);
+            }
+            match departs {
+                Time::Given(depart) => Ok(Times {
+                    arrive: depart,
+                    depart,
+                }),
+                Time::Bad | Time::Missing => Err(Side::Depart),
+            }
+        }
+    }
+}
+
+fn time_member(alloc: Global, value: Option<&Value>) -> Result<Time, AllocError>
+    ensures { IfOk result (λ t. time_view t ≡ time_of (option_map (λ v. view v.now) value.entry)) }
+{
+    let Some(value) = value else {
+        return Ok(Time::Missing);
+    };
+    let Some(text) = value.as_str() else {
+        return Ok(Time::Bad);
+    };
+    match read_moment(alloc, text) {
+        Ok(moment) => Ok(Time::Given(moment)),
+        Err(MomentFault::NoMemory) => Err(AllocError),
+        Err(_) => Ok(Time::Bad),
+    }
+}
