@@ -1,0 +1,5 @@
+pub mod Marked
+pub mod Found
+pub mod Offers
+pub mod Refunds
+pub mod Exchanges

@@ -1,0 +1,73 @@
+use arrayvec::ArrayVec;
+use leg_masks::Span;
+use place_map::Class;
+use rail_ids::{RowNo, RunNo};
+use rail_time::Moment;
+
+/// A stretch of one run that a trip travels.
+#[derive(Debug, Clone, Copy, PartialEq, Eq)]
+pub struct Segment {
+    pub run: RunNo,
+    pub span: Span,
+}
+
+impl Default for Segment {
+    fn default() -> Self {
+        Segment {
+            run: RunNo(0),
+            span: Span::default(),
+        }
+    }
+}
+
+/// What an offer's id spells: who travels, in which class, with which traits of a place, and the trip.
+#[derive(Drop)]
+pub struct OfferCode {
+    /// When the offer was made.
+    pub made: Moment,
+    pub adults: u8,
+    pub children: u8,
+    pub class: Class,
+    /// The sum of the bits of the traits that each place has to have.
+    pub wanted: u8,
+    /// One to three segments, in the order of travel.
+    pub segments: ArrayVec<Segment, 3>,
+}
+
+/// What a refund offer's id spells.
+#[derive(Debug, Clone, Copy, PartialEq, Eq)]
+pub struct RefundCode {
+    /// The row of the booking that is to be refunded.
+    pub row: RowNo,
+    /// When the quote was made.
+    pub made: Moment,
+    /// Whether the ticket had been collected then.
+    pub fulfilled: bool,
+    /// The amount to be paid back, in minor units.
+    pub amount: u64,
+}
+
+/// What an exchange offer's id spells.
+#[derive(Drop)]
+pub struct ExchangeCode {
+    /// The row of the booking that is to be given in exchange.
+    pub row: RowNo,
+    /// When the quote was made.
+    pub made: Moment,
+    /// Whether the ticket had been collected then.
+    pub fulfilled: bool,
+    /// What the customer has to pay on top, in minor units; less than 0 where money goes back.
+    pub difference: i64,
+    /// The offer that is to be booked.
+    pub offer: OfferCode,
+}
+
+/// An offer with its price and what is free.
+#[derive(Drop)]
+pub struct Offer {
+    pub code: OfferCode,
+    /// The price for all passengers over all segments, in minor units.
+    pub price: u64,
+    /// For each segment how many of its wanted places were free on it.
+    pub free: ArrayVec<u32, 3>,
+}

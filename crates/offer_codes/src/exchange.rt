@@ -1,0 +1,105 @@
+ghost use Rattle.std.specs.Prelude.{◌≡◌, ◌≤◌, ◌+◌, ◌++◌, [], ◌∷◌, Some, true, IfSome, option_map};
+ghost use Rattle.arrayvec.specs.ArrayVec.{array_vec_len};
+ghost use Rattle.offer_codes.specs.Marked.{marked};
+ghost use Rattle.offer_codes.specs.Refunds.{phase_mark};
+ghost use Rattle.offer_codes.specs.Exchanges.{ExchangeView, exchange_view, exchange_text, is_exchange, magnitude, is_less, sign_mark};
+ghost use Rattle.offer_codes.specs.Found.{exchange_from, signed as signed_of};
+
+use crate::code::ExchangeCode;
+use crate::numbers::{numbers, push_number};
+use crate::offer::{offer_of, push_offer};
+use crate::refund::{has_letter, mark_of};
+use arrayvec::ArrayVec;
+use rail_ids::RowNo;
+use rail_time::Moment;
+
+const MOST_AMOUNT: u64 = 99_999_999_999;
+
+const LAST_ROW: u64 = 262_143;
+
+/// The exchange offer's id.
+pub fn write_exchange(code: &ExchangeCode) -> ArrayVec<u8, 128>
+    requires ranges { is_exchange (exchange_view code.now) ≡ true }
+    ensures spelling { result.items ≡ exchange_text (exchange_view code.now) }
+{
+    let mut text = ArrayVec::new();
+    push_number(&mut text, b"X".as_slice(), code.row.0);
+    push_number(&mut text, b"-".as_slice(), code.made.seconds() as u32);
+    push_difference(&mut text, code.fulfilled, code.difference);
+    push_offer(&mut text, b"-O".as_slice(), &code.offer);
+    text
+}
+
+fn push_difference(text: &mut ArrayVec<u8, 128>, fulfilled: bool, difference: i64)
+    requires room { array_vec_len text.old ≤ 22 }
+    ensures spelling { text.new.items ≡ text.old.items ++ marked ((phase_mark fulfilled ++ sign_mark (is_less difference), magnitude difference) ∷ []) }
+    ensures len { array_vec_len text.new ≤ array_vec_len text.old + 24 }
+{
+    push_number(
+        text,
+        sign_of(fulfilled, difference < 0),
+        difference.unsigned_abs(),
+    );
+}
+
+fn sign_of(fulfilled: bool, less: bool) -> &'static [u8]
+    ensures { result.now ≡ phase_mark fulfilled ++ sign_mark less }
+{
+    match (fulfilled, less) {
+        (false, false) => b"-C-p".as_slice(),
+        (false, true) => b"-C-m".as_slice(),
+        (true, false) => b"-F-p".as_slice(),
+        (true, true) => b"-F-m".as_slice(),
+    }
+}
+
+/// The exchange offer that has this id; `None` exactly where none has.
+pub fn read_exchange(text: &[u8]) -> Option<ExchangeCode>
+    ensures some { IfSome result (λ c. (is_exchange (exchange_view c) ≡ true) × (text.now ≡ exchange_text (exchange_view c))) }
+    ensures spelled { (x : ExchangeView) → is_exchange x ≡ true → text.now ≡ exchange_text x → option_map exchange_view result ≡ Some x }
+{
+    let numbers = numbers(text)?;
+    let code = exchange_of(
+        numbers.as_slice(),
+        has_letter(text, b'F'),
+        has_letter(text, b'm'),
+    )?;
+    if write_exchange(&code).as_slice() == text {
+        Some(code)
+    } else {
+        None
+    }
+}
+
+fn exchange_of(numbers: &[u64], fulfilled: bool, less: bool) -> Option<ExchangeCode>
+    ensures value { option_map exchange_view result ≡ exchange_from fulfilled less numbers.now }
+    ensures ranges { IfSome result (λ c. is_exchange (exchange_view c) ≡ true) }
+{
+    let [row, made, amount, rest @ ..] = numbers else {
+        return None;
+    };
+    let offer = offer_of(rest)?;
+    let made = Moment::of(*made)?;
+    if *row <= LAST_ROW && *amount <= MOST_AMOUNT {
+        Some(ExchangeCode {
+            row: RowNo(*row as u32),
+            made,
+            fulfilled,
+            difference: signed(less, *amount),
+            offer,
+        })
+    } else {
+        None
+    }
+}
+
+fn signed(less: bool, amount: u64) -> i64
+    requires { amount ≤ 99_999_999_999 }
+    ensures { result ≡ signed_of less amount }
+{
+    if less {
+        -(amount as i64)
+    } else {
+        amount as i64
+    }
+}
