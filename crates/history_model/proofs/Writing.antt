@@ -1,0 +1,232 @@
+-- What each kind of change does to the words.
+use Rattle.std.proofs.Common.{◌≡◌, ℕ, zero, suc, ◌-◌, ◌<◌, ◌≤◌, Bool, true, false, not, ◌&&◌, ◌||◌, cond, eqb, min, max, bit_or, bit_and, w64, List, [], ◌∷◌, ◌++◌, get_or, set, replicate, slice_get, Option, Some, None, refl, sym, ap, ◌∙◌, subst, ⊎_elim, ne_eqb, eq-eqb, arith, lit<, lt_of_le_of_lt, get_or-set_same, get_or-set_other}
+use Rattle.std.specs.Int.{bit_at, bit_not}
+use Rattle.std.specs.Option.{option_or, option_map_or}
+use Rattle.std.proofs.lemmas.Bool.{cases_eq}
+use Rattle.std.proofs.lemmas.Nat.{or_lt, and_le_l}
+use Rattle.std.proofs.lemmas.Nat.Bits.{bit_at_or, bit_at_and, bit_at_not, bit_at-zero}
+use Rattle.leg_masks.specs.Interval.{Interval, has_leg, mask}
+use Rattle.leg_masks.proofs.Masks.{bit, bit_at-mask, mask-lt, mask-small}
+use Rattle.history_model.specs.declared.phase.Phase.{Phase}
+use Rattle.history_model.specs.declared.phase.Phase.TheVariants.{Free, Making, Prebooked, Confirmed, Fulfilled, Ending, Ended}
+use Rattle.history_model.specs.declared.phase.EndKind.TheVariants.{Release, Expire, Refund, Exchange}
+use Rattle.history_model.specs.declared.booking.BookedItem.{BookedItem}
+use Rattle.history_model.specs.declared.booking.End.{End}
+use Rattle.history_model.specs.declared.word.Word.{Word}
+use Rattle.history_model.specs.declared.word.Word.TheVariants.{Place, Row}
+use Rattle.history_model.specs.Phase.{word_of_phase, said_phase}
+use Rattle.history_model.specs.Booking.{Booking, Layout, State, stands_in, present, change, word_at, occupies, is_occupied, row_words}
+use Rattle.history_model.specs.Words.{value, place_word, row_word, Writes}
+use Rattle.history_model.specs.Allowed.{MayGive}
+use Rattle.history_model.specs.Apply.{started, taken, given, noted, turned}
+use Rattle.history_model.specs.Laws.{IsSound, IsWellFormed}
+use Rattle.history_model.proofs.ListLemmas.{All-found, find-push}
+use Rattle.history_model.proofs.Keeping.{turned-row, turned-items}
+use Rattle.history_model.proofs.Going.{present-changed, present-changed_other, turned-phase, turned-words}
+use Rattle.history_model.proofs.Changes.{occupied_kept, occupied-start, occupied-take, occupied-give}
+use Rattle.history_model.proofs.Bits.{place_word-lt, bit_at-place_word, is_place_word, place_word-same, max_bits}
+
+-- an item that isn't given back
+abbrev pub left_item : ℕ → Interval → BookedItem
+left_item place span = record { place = place; span = span; given_back = false }
+
+-- a word of a row, by its booking
+abbrev pub word_in : ℕ → Option Booking → ℕ
+word_in w o = cond (eqb w 0) (word_of_phase (option_map_or (λ b. b.phase) o Free)) (option_map_or (λ b. word_at b w) o 0)
+
+-- words of other rows, and words that a change keeps
+row_kept : (s : State) (row : ℕ) (f : Booking → Booking) (b : Booking) → present s row ≡ Some b → ((x : Booking) → (f x).row ≡ x.row) → (q w : ℕ) → (q ≡ row → word_in w (Some (f b)) ≡ word_in w (Some b)) → row_word (change s row f) q w ≡ row_word s q w
+row_kept s row f b at same q w keeps = ⊎_elim
+    (λ (here : q ≡ row). subst (λ (k : ℕ). row_word (change s row f) k w ≡ row_word s k w) (sym here) (ap (word_in w) (present-changed s row f b same at) ∙ (keeps here ∙ sym (ap (word_in w) at))))
+    (λ (other : q ≡ row → ⊥). ap (word_in w) (present-changed_other s row q f same other))
+    (cases_eq q row)
+
+-- takes
+
+occupies_here : (p l : ℕ) (span : Interval) → occupies p l (left_item p span) ≡ has_leg span l
+occupies_here p l span = ap (λ (t : Bool). t && has_leg span l) (eq-eqb p p refl)
+
+occupies_else : (p q l : ℕ) (span : Interval) → (q ≡ p → ⊥) → occupies q l (left_item p span) ≡ false
+occupies_else p q l span other = ap (λ (t : Bool). t && has_leg span l) (ne_eqb p q (λ e. other (sym e)))
+
+or_false : (a b : Bool) → b ≡ false → (a || b) ≡ a
+or_false true b e = refl
+or_false false b e = e
+
+-- a take sets the bits of its span in its place's word, and changes no other
+pub take_writes : (s : State) (r p : ℕ) (span : Interval) (b : Booking) → present s r ≡ Some b → span.from < span.to → span.to ≤ 63
+    → Writes s (change s r (taken p span)) (Place p) (bit_or (place_word s p) (mask span))
+take_writes s r p span b at some fits = record { here = here; rest = rest }
+  where
+    here : value (change s r (taken p span)) (Place p) ≡ bit_or (place_word s p) (mask span)
+    here = is_place_word (change s r (taken p span)) p (bit_or (place_word s p) (mask span)) (or_lt 63 (place_word s p) (mask span) (place_word-lt s p) (mask-lt span some fits))
+        (λ i h. bit_at_or (place_word s p) (mask span) i ∙ (ap (λ (x : ℕ). max x (bit_at (mask span) i)) (bit_at-place_word s p i h) ∙ (ap (λ (x : ℕ). max (bit (is_occupied s p i)) x) (bit_at-mask span i)
+        ∙ (max_bits (is_occupied s p i) (has_leg span i) ∙ ap bit (sym (occupied-take s r b p span at p i ∙ ap (λ (t : Bool). is_occupied s p i || t) (occupies_here p i span)))))))
+
+    rest : (a : Word) → (a ≡ Place p → ⊥) → value (change s r (taken p span)) a ≡ value s a
+    rest (Place q) other = place_word-same s (change s r (taken p span)) q (λ i. occupied-take s r b p span at q i ∙ or_false (is_occupied s q i) (occupies q i (left_item p span)) (occupies_else p q i span (λ e. other (ap Place e))))
+    rest (Row q w) other = row_kept s r (taken p span) b at (λ _. refl) q w (λ _. refl)
+
+-- starts
+
+abbrev pub zeros : ℕ → List ℕ
+zeros n = replicate n 0
+
+pub no_word : (n w : ℕ) → get_or (zeros n) w 0 ≡ 0
+no_word zero w = refl
+no_word (suc n) zero = refl
+no_word (suc n) (suc w) = no_word n w
+
+pub present-started : (s : State) (r d : ℕ) → present s r ≡ None → present (s ++ started r d ∷ []) r ≡ Some (started r d)
+present-started s r d free = find-push (stands_in s r) s (started r d) ∙ (ap (λ (o : Option Booking). option_or o (cond (eqb r r) (Some (started r d)) None)) free ∙ ap (λ (c : Bool). cond c (Some (started r d)) None) (eq-eqb r r refl))
+
+or_none : {X : Type 0} (o : Option X) → option_or o None ≡ o
+or_none None = refl
+or_none (Some x) = refl
+
+present-started_other : (s : State) (r d q : ℕ) → (q ≡ r → ⊥) → present (s ++ started r d ∷ []) q ≡ present s q
+present-started_other s r d q n = find-push (stands_in s q) s (started r d) ∙ (ap (λ (c : Bool). option_or (present s q) (cond c (Some (started r d)) None)) (ne_eqb r q (λ e. n (sym e))) ∙ or_none (present s q))
+
+-- a start writes 1 to word 0 of its row, and changes no other
+pub start_writes : (s : State) (r d : ℕ) → present s r ≡ None → Writes s (s ++ started r d ∷ []) (Row r 0) 1
+start_writes s r d free = record { here = ap (word_in 0) its; rest = rest }
+  where
+    its : present (s ++ started r d ∷ []) r ≡ Some (started r d)
+    its = present-started s r d free
+
+    later : (w : ℕ) → (w ≡ 0 → ⊥) → word_in w (present (s ++ started r d ∷ []) r) ≡ word_in w (present s r)
+    later w n = ap (word_in w) its ∙ (ap (λ (c : Bool). cond c 1 (get_or (replicate row_words 0) w 0)) (ne_eqb w 0 n) ∙ (no_word row_words w ∙ sym (ap (word_in w) free ∙ ap (λ (c : Bool). cond c (word_of_phase Free) 0) (ne_eqb w 0 n))))
+
+    rest : (a : Word) → (a ≡ Row r 0 → ⊥) → value (s ++ started r d ∷ []) a ≡ value s a
+    rest (Place q) other = place_word-same s (s ++ started r d ∷ []) q (λ i. occupied-start s r d q i)
+    rest (Row q w) other = ⊎_elim
+        (λ (same : q ≡ r). subst (λ (k : ℕ). word_in w (present (s ++ started r d ∷ []) k) ≡ word_in w (present s k)) (sym same) (later w (λ z. other (λ i. Row (same i) (z i)))))
+        (λ (n : q ≡ r → ⊥). ap (word_in w) (present-started_other s r d q n))
+        (cases_eq q r)
+
+-- all words of no bookings are 0
+pub empty_value : (a : Word) → value [] a ≡ 0
+empty_value (Place p) = is_place_word [] p 0 (lit< tt) (λ i h. bit_at-zero i)
+empty_value (Row r w) = both (eqb w 0)
+  where
+    both : (c : Bool) → cond c (word_of_phase Free) 0 ≡ word_of_phase Free
+    both true = refl
+    both false = refl
+
+-- gives
+
+and_not_bits : (a b : Bool) → min (bit a) (1 - bit b) ≡ bit (a && not b)
+and_not_bits true true = refl
+and_not_bits true false = refl
+and_not_bits false true = refl
+and_not_bits false false = refl
+
+and_true : (a : Bool) → (a && true) ≡ a
+and_true true = refl
+and_true false = refl
+
+-- a give clears the bits of its item in its place's word, and changes no other
+pub give_writes : (g : Layout) (s : State) (d r k : ℕ) (b : Booking) (p : ℕ) (span : Interval) → IsWellFormed g s → present s r ≡ Some b → MayGive d k b → slice_get b.items k ≡ Some (left_item p span) → span.to ≤ 63
+    → Writes s (change s r (given k)) (Place p) (bit_and (place_word s p) (bit_not w64 (mask span)))
+give_writes g s d r k b p span good at may its fits = record { here = here; rest = rest }
+  where
+    i : BookedItem
+    i = left_item p span
+
+    read : (is : List BookedItem) (k : ℕ) → slice_get is k ≡ Some i → get_or is k i ≡ i
+    read [] k e = refl
+    read (x ∷ xs) zero e = ap (λ (o : Option BookedItem). item_in o) e
+      where
+        item_in : Option BookedItem → BookedItem
+        item_in None = x
+        item_in (Some y) = y
+    read (x ∷ xs) (suc k) e = read xs k e
+
+    now : (q l : ℕ) → is_occupied (change s r (given k)) q l ≡ (is_occupied s q l && not (occupies q l i))
+    now q l = occupied-give g s d r k b i good at may q l ∙ ap (λ (x : BookedItem). is_occupied s q l && not (occupies q l x)) (read b.items k its)
+
+    here : value (change s r (given k)) (Place p) ≡ bit_and (place_word s p) (bit_not w64 (mask span))
+    here = is_place_word (change s r (given k)) p (bit_and (place_word s p) (bit_not w64 (mask span))) (lt_of_le_of_lt (and_le_l (place_word s p) (bit_not w64 (mask span))) (place_word-lt s p))
+        (λ l h. bit_at_and (place_word s p) (bit_not w64 (mask span)) l
+        ∙ (ap (λ (x : ℕ). min x (bit_at (bit_not w64 (mask span)) l)) (bit_at-place_word s p l h)
+        ∙ (ap (λ (x : ℕ). min (bit (is_occupied s p l)) x) (bit_at_not w64 (mask span) l (mask-small span fits) (omega arith) ∙ ap (λ (x : ℕ). 1 - x) (bit_at-mask span l))
+        ∙ (and_not_bits (is_occupied s p l) (has_leg span l) ∙ ap bit (sym (now p l ∙ ap (λ (t : Bool). is_occupied s p l && not t) (occupies_here p l span)))))))
+
+    rest : (a : Word) → (a ≡ Place p → ⊥) → value (change s r (given k)) a ≡ value s a
+    rest (Place q) other = place_word-same s (change s r (given k)) q (λ l. now q l ∙ (ap (λ (t : Bool). is_occupied s q l && not t) (occupies_else p q l span (λ e. other (ap Place e))) ∙ and_true (is_occupied s q l)))
+    rest (Row q w) other = row_kept s r (given k) b at (λ _. refl) q w (λ _. refl)
+
+-- what holds of a row's booking in a well-formed state
+pub sound_of : (g : Layout) (s : State) (r : ℕ) (b : Booking) → IsWellFormed g s → present s r ≡ Some b → IsSound g b
+sound_of g s r b good at = All-found (IsSound g) (stands_in s r) s b at good.each
+
+-- a row whose word 0 is 0 stands in no booking
+pub free_of_word : (g : Layout) (s : State) (r : ℕ) → IsWellFormed g s → value s (Row r 0) ≡ 0 → present s r ≡ None
+free_of_word g s r good e = step (present s r) refl
+  where
+    phase_free : (ph : Phase) → word_of_phase ph ≡ 0 → ph ≡ Free
+    phase_free Free e = refl
+    phase_free Making e = absurd (omega (arith, e))
+    phase_free Prebooked e = absurd (omega (arith, e))
+    phase_free Confirmed e = absurd (omega (arith, e))
+    phase_free Fulfilled e = absurd (omega (arith, e))
+    phase_free (Ending Release) e = absurd (omega (arith, e))
+    phase_free (Ending Expire) e = absurd (omega (arith, e))
+    phase_free (Ending Refund) e = absurd (omega (arith, e))
+    phase_free (Ending Exchange) e = absurd (omega (arith, e))
+    phase_free (Ended Release) e = absurd (omega (arith, e))
+    phase_free (Ended Expire) e = absurd (omega (arith, e))
+    phase_free (Ended Refund) e = absurd (omega (arith, e))
+    phase_free (Ended Exchange) e = absurd (omega (arith, e))
+
+    step : (o : Option Booking) → present s r ≡ o → present s r ≡ None
+    step None o = o
+    step (Some b) o = absurd ((sound_of g s r b good o).started (phase_free b.phase (sym (ap (word_in 0) o) ∙ e)))
+
+-- notes
+
+pub note_writes : (g : Layout) (s : State) (r w n : ℕ) (b : Booking) → IsWellFormed g s → present s r ≡ Some b → w < row_words → (w ≡ 0 → ⊥) → Writes s (change s r (noted w n)) (Row r w) n
+note_writes g s r w n b good at below some = record { here = here; rest = rest }
+  where
+    here : value (change s r (noted w n)) (Row r w) ≡ n
+    here = ap (word_in w) (present-changed s r (noted w n) b (λ _. refl) at) ∙ (ap (λ (c : Bool). cond c (word_of_phase b.phase) (get_or (set b.words w n) w 0)) (ne_eqb w 0 some)
+        ∙ get_or-set_same b.words w n 0 (subst (λ (k : ℕ). w < k) (sym (sound_of g s r b good at).words) below))
+
+    rest : (a : Word) → (a ≡ Row r w → ⊥) → value (change s r (noted w n)) a ≡ value s a
+    rest (Place q) other = place_word-same s (change s r (noted w n)) q (λ i. occupied_kept s r (noted w n) (λ _. refl) q i)
+    rest (Row q x) other = row_kept s r (noted w n) b at (λ _. refl) q x (λ here. ap (λ (k : ℕ). cond (eqb x 0) (word_of_phase b.phase) k) (get_or-set_other b.words w x n 0 (λ e. other (λ i. Row (here i) (e i)))))
+
+-- a change of phase writes word 0
+pub phase_writes : (f : Booking → Booking) → ((b : Booking) → (f b).row ≡ b.row) → ((b : Booking) → (f b).items ≡ b.items) → ((b : Booking) → (f b).words ≡ b.words) → (s : State) (r : ℕ) (b : Booking) → present s r ≡ Some b
+    → Writes s (change s r f) (Row r 0) (word_of_phase (f b).phase)
+phase_writes f row items words s r b at = record { here = ap (word_in 0) (present-changed s r f b row at); rest = rest }
+  where
+    rest : (a : Word) → (a ≡ Row r 0 → ⊥) → value (change s r f) a ≡ value s a
+    rest (Place q) other = place_word-same s (change s r f) q (λ i. occupied_kept s r f items q i)
+    rest (Row q x) other = row_kept s r f b at row q x (λ here. let n : x ≡ 0 → ⊥ = λ e. other (λ i. Row (here i) (e i)) in
+        ap (λ (c : Bool). cond c (word_of_phase (f b).phase) (get_or (f b).words x 0)) (ne_eqb x 0 n) ∙ (ap (λ (l : List ℕ). get_or l x 0) (words b)
+        ∙ sym (ap (λ (c : Bool). cond c (word_of_phase b.phase) (get_or b.words x 0)) (ne_eqb x 0 n))))
+
+pub turn_writes : (s : State) (r d : ℕ) (to : Phase) (e : End) (b : Booking) → present s r ≡ Some b → Writes s (change s r (turned d to e)) (Row r 0) (word_of_phase to)
+turn_writes s r d to e b at = subst (λ (ph : Phase). Writes s (change s r (turned d to e)) (Row r 0) (word_of_phase ph)) (turned-phase d to e b)
+    (phase_writes (turned d to e) (turned-row d to e) (turned-items d to e) (turned-words d to e) s r b at)
+
+-- phases and their words
+
+pub phase_back : (ph : Phase) → said_phase (word_of_phase ph) ≡ ph
+phase_back Free = refl
+phase_back Making = refl
+phase_back Prebooked = refl
+phase_back Confirmed = refl
+phase_back Fulfilled = refl
+phase_back (Ending Release) = refl
+phase_back (Ending Expire) = refl
+phase_back (Ending Refund) = refl
+phase_back (Ending Exchange) = refl
+phase_back (Ended Release) = refl
+phase_back (Ended Expire) = refl
+phase_back (Ended Refund) = refl
+phase_back (Ended Exchange) = refl
+
+pub word_phase : (b from : Phase) → word_of_phase b ≡ word_of_phase from → b ≡ from
+word_phase b from e = sym (phase_back b) ∙ (ap said_phase e ∙ phase_back from)

@@ -1,0 +1,126 @@
+-- Which entries are allowed in a state.
+use Rattle.std.specs.Prelude.{◌≡◌, ◌≢◌, ℕ, ◌+◌, ◌-◌, ◌<◌, ◌≤◌, ℤ, pos, ◌≤ℤ◌, true, false, ◌⊎◌, length, map, take, drop, None, slice_index, slice_get, IsSomeAnd}
+use Rattle.std.specs.List.{AllByRecursion, Any}
+use Rattle.leg_masks.specs.Interval.{Interval, Meet, item_word}
+use Rattle.history_model.specs.declared.phase.Phase.{Phase}
+use Rattle.history_model.specs.declared.phase.Phase.TheVariants.{Making, Prebooked, Confirmed, Fulfilled, Ending, Ended}
+use Rattle.history_model.specs.declared.phase.EndKind.{EndKind}
+use Rattle.history_model.specs.declared.phase.EndKind.TheVariants.{Release, Expire, Refund, Exchange}
+use Rattle.history_model.specs.declared.booking.BookedItem.{BookedItem}
+use Rattle.history_model.specs.declared.entry.Entry.{Entry}
+use Rattle.history_model.specs.declared.entry.Step.{Step}
+use Rattle.history_model.specs.declared.entry.Step.TheVariants.{Look, Take, Give, Start, SawRow, Note, Seal, Turn, LostTurn, Close, Met}
+use Rattle.history_model.specs.Phase.{is_turn}
+use Rattle.history_model.specs.Booking.{Booking, Layout, State, row_words, most_items, first_item_word, last_moment, greatest_retailer, greatest_amount, least_difference, greatest_difference, word_at, limit_of, present, phase_of_row, all_items, amount_word}
+use Rattle.history_model.specs.Words.{place_word, row_word}
+
+abbrev pub IsPlace : Layout → ℕ → Type 0
+IsPlace g place = place < length g.legs
+
+abbrev pub IsRow : Layout → ℕ → Type 0
+IsRow g row = row < g.rows
+
+-- a booking stands in the row, and this holds of it
+abbrev pub OnRow : State → ℕ → (Booking → Type 0) → Type 0
+OnRow s row P = IsSomeAnd (present s row) P
+
+-- the booking is in the making, and the desk's
+abbrev pub IsMadeBy : ℕ → Booking → Type 0
+IsMadeBy desk b = (b.phase ≡ Making) × (b.owner ≡ desk)
+
+-- the booking is ending in this way, and the desk's
+abbrev pub IsEndedBy : ℕ → EndKind → Booking → Type 0
+IsEndedBy desk kind b = (b.phase ≡ Ending kind) × (b.owner ≡ desk)
+
+-- the booking is ending in some way, and the desk's
+abbrev pub IsBeingEndedBy : ℕ → Booking → Type 0
+IsBeingEndedBy desk b = (kind : EndKind) × IsEndedBy desk kind b
+
+-- the item isn't given back, is at the place, and meets the span
+abbrev pub Blocks : ℕ → Interval → BookedItem → Type 0
+Blocks place span i = (i.given_back ≡ false) × (i.place ≡ place) × Meet i.span span
+
+abbrev pub IsOpen : State → ℕ → Interval → Type 0
+IsOpen s place span = AllByRecursion (λ i. ¬ Blocks place span i) (all_items s)
+
+-- the item at this place of the list is there, and isn't given back
+abbrev pub IsLeft : Booking → ℕ → Type 0
+IsLeft b item = IsSomeAnd (slice_get b.items item) (λ i. i.given_back ≡ false)
+
+abbrev pub AllGiven : Booking → Type 0
+AllGiven b = AllByRecursion (λ i. i.given_back ≡ true) b.items
+
+-- words that a maker notes, and those that the owner of an ending notes
+abbrev pub IsMakerWord : ℕ → Type 0
+IsMakerWord w = ((1 ≤ w) × (w ≤ 4)) ⊎ ((first_item_word ≤ w) × (w < first_item_word + most_items))
+
+abbrev pub IsEndWord : ℕ → Type 0
+IsEndWord w = (5 ≤ w) × (w ≤ 7)
+
+abbrev pub MayGive : ℕ → ℕ → Booking → Type 0
+MayGive desk item b = (IsMadeBy desk b × (item + 1 ≡ length b.items)) ⊎ (IsBeingEndedBy desk b × IsLeft b item)
+
+abbrev pub MayNote : ℕ → ℕ → Booking → Type 0
+MayNote desk word b = (IsMadeBy desk b × IsMakerWord word) ⊎ (IsBeingEndedBy desk b × IsEndWord word)
+
+-- the words that a sealed booking has
+pub record IsSealable (b : Booking) : Type 0 where
+  pub some : 1 ≤ length b.items
+  pub retailer : word_at b 1 ≤ greatest_retailer
+  pub limit : word_at b 2 ≤ last_moment
+  pub total : word_at b 3 ≤ greatest_amount
+  pub count : word_at b 4 ≡ length b.items
+  pub items : take (length b.items) (drop first_item_word b.words) ≡ map (λ i. item_word i.place i.span) b.items
+
+-- the words 5 to 7 of an ended booking
+pub record HasEndWords (kind : EndKind) (b : Booking) : Type 0 where
+  pub successor : word_at b 5 ≡ b.end.successor
+  pub amount : word_at b 6 ≡ amount_word kind b.end.amount
+  pub moment : word_at b 7 ≡ b.end.moment
+
+abbrev pub MayClose : ℕ → Booking → Type 0
+MayClose desk b = (kind : EndKind) × IsEndedBy desk kind b × AllGiven b × HasEndWords kind b
+
+-- the booking was turned to an exchange by the desk, for this row
+abbrev pub IsExchangedFor : ℕ → ℕ → Booking → Type 0
+IsExchangedFor desk row b = (b.owner ≡ desk) × (b.end.successor ≡ row + 1) × ((b.phase ≡ Ending Exchange) ⊎ (b.phase ≡ Ended Exchange))
+
+-- in which phase a row may be sealed
+abbrev pub MaySealAs : State → ℕ → ℕ → Phase → Type 0
+MaySealAs s desk row phase = (phase ≡ Prebooked) ⊎ ((phase ≡ Confirmed) × Any (IsExchangedFor desk row) s)
+
+-- what a turn to a phase asks of its moment, amount and successor, where the booking has this limit
+abbrev pub TurnsWith : State → ℕ → ℕ → Phase → ℕ → ℤ → ℕ → Type 0
+TurnsWith s desk limit Confirmed moment amount successor = (moment ≤ limit) × (amount ≡ pos 0) × (successor ≡ 0)
+TurnsWith s desk limit Fulfilled moment amount successor = (moment ≡ 0) × (amount ≡ pos 0) × (successor ≡ 0)
+TurnsWith s desk limit (Ending Release) moment amount successor = (amount ≡ pos 0) × (successor ≡ 0)
+TurnsWith s desk limit (Ending Expire) moment amount successor = (limit < moment) × (amount ≡ pos 0) × (successor ≡ 0)
+TurnsWith s desk limit (Ending Refund) moment amount successor = (pos 0 ≤ℤ amount) × (amount ≤ℤ pos greatest_amount) × (successor ≡ 0)
+TurnsWith s desk limit (Ending Exchange) moment amount successor =
+    (least_difference ≤ℤ amount) × (amount ≤ℤ greatest_difference) × (0 < successor) × OnRow s (successor - 1) (IsMadeBy desk)
+TurnsWith s desk limit _ moment amount successor = ⊥
+
+-- whether the desk's step is allowed
+abbrev pub IsAllowedStep : Layout → State → ℕ → Step → Type 0
+IsAllowedStep g s desk (Look place shown) = IsPlace g place × (shown ≡ place_word s place)
+IsAllowedStep g s desk (SawRow row word value) = IsRow g row × (word < row_words) × (value ≡ row_word s row word)
+IsAllowedStep g s desk (Start row) = IsRow g row × (present s row ≡ None)
+IsAllowedStep g s desk (Take row place span) =
+    IsRow g row × IsPlace g place × OnRow s row (λ b. IsMadeBy desk b × (length b.items < most_items))
+    × (span.from < span.to) × (span.to ≤ slice_index g.legs place) × IsOpen s place span
+IsAllowedStep g s desk (Give row item) =
+    IsRow g row × OnRow s row (MayGive desk item)
+IsAllowedStep g s desk (Note row word value) =
+    IsRow g row × OnRow s row (MayNote desk word)
+IsAllowedStep g s desk (Seal row phase) =
+    IsRow g row × OnRow s row (λ b. IsMadeBy desk b × IsSealable b) × MaySealAs s desk row phase
+IsAllowedStep g s desk (Turn row from to moment amount successor) =
+    IsRow g row × (is_turn from to ≡ true) × (moment ≤ last_moment)
+    × OnRow s row (λ b. (b.phase ≡ from) × TurnsWith s desk (limit_of b) to moment amount successor)
+IsAllowedStep g s desk (LostTurn row wanted shown) = IsRow g row × (shown ≡ phase_of_row s row) × (shown ≢ wanted)
+IsAllowedStep g s desk (Close row) =
+    IsRow g row × OnRow s row (MayClose desk)
+IsAllowedStep g s desk Met = Unit {0}
+
+abbrev pub IsAllowed : Layout → State → Entry → Type 0
+IsAllowed g s e = IsAllowedStep g s e.desk e.step

@@ -1,0 +1,112 @@
+-- Bookings, the state that is a list of them, and what is occupied in it.
+use Rattle.std.specs.Prelude.{ℕ, ℤ, pos, negsuc, ◌+◌, ◌*◌, ◌==◌, ◌&&◌, Bool, not, List, [], Option, find, slice_index, replicate}
+use Rattle.std.specs.List.{list_any, flat_map}
+use Rattle.std.specs.Option.{option_map_or}
+use Rattle.history_model.specs.declared.phase.Phase.{Phase}
+use Rattle.history_model.specs.declared.phase.Phase.TheVariants.{Free}
+use Rattle.history_model.specs.declared.phase.EndKind.{EndKind}
+use Rattle.history_model.specs.declared.phase.EndKind.TheVariants.{Release, Expire, Refund, Exchange}
+use Rattle.history_model.specs.declared.booking.BookedItem.{BookedItem}
+use Rattle.history_model.specs.declared.booking.End.{End}
+use Rattle.leg_masks.specs.Interval.{most_legs, has_leg}
+use Rattle.history_model.specs.Lists.{change_first}
+
+-- the sizes of the format: words of a row, items of a booking, and the number of the first item's word
+abbrev pub row_words : ℕ
+row_words = 32
+
+abbrev pub most_items : ℕ
+most_items = 24
+
+abbrev pub first_item_word : ℕ
+first_item_word = 8
+
+-- how many rows there may be
+abbrev pub most_rows : ℕ
+most_rows = 262144
+
+-- the last moment in seconds, 2099-12-31T23:59:59Z
+abbrev pub last_moment : ℕ
+last_moment = 4102444799
+
+-- the greatest number of a retailer
+abbrev pub greatest_retailer : ℕ
+greatest_retailer = 4294967295
+
+-- the greatest total, and the greatest amount paid back, in minor units
+abbrev pub greatest_amount : ℕ
+greatest_amount = 99999999999
+
+-- the difference of an exchange lies between these two
+abbrev pub least_difference : ℤ
+least_difference = negsuc 99999999998
+
+abbrev pub greatest_difference : ℤ
+greatest_difference = pos 100009999999
+
+-- a booking. Its words are those of its row; word 0 is not used here, since the phase stands for it
+pub record Booking : Type 0 where
+  pub row : ℕ
+  pub owner : ℕ
+  pub phase : Phase
+  pub items : List BookedItem
+  pub words : List ℕ
+  pub end : End
+
+abbrev pub State : Type 0
+State = List Booking
+
+-- the places, with the number of legs of each, the number of rows, and the bookings at the beginning
+pub record Layout : Type 0 where
+  pub legs : List ℕ
+  pub rows : ℕ
+  pub opening : State
+
+-- what a list host holds: each of its places has 63 legs
+pub record Host : Type 0 where
+  pub layout : Layout
+  pub bookings : State
+
+abbrev pub layout_of : ℕ → ℕ → Layout
+layout_of places rows = record { legs = replicate places most_legs; rows = rows; opening = [] }
+
+-- word w of the booking's row, for w from 1
+abbrev pub word_at : Booking → ℕ → ℕ
+word_at b w = slice_index b.words w
+
+abbrev pub limit_of : Booking → ℕ
+limit_of b = word_at b 2
+
+-- whether the booking is the one that stands in a row of the state
+abbrev pub stands_in : State → ℕ → Booking → Bool
+stands_in s row b = b.row == row
+
+abbrev pub present : State → ℕ → Option Booking
+present s row = find (stands_in s row) s
+
+abbrev pub phase_of_row : State → ℕ → Phase
+phase_of_row s row = option_map_or (λ b. b.phase) (present s row) Free
+
+-- the state with the row's booking changed
+abbrev pub change : State → ℕ → (Booking → Booking) → State
+change s row f = change_first (stands_in s row) f s
+
+-- the items of all bookings
+abbrev pub all_items : State → List BookedItem
+all_items s = flat_map (λ b. b.items) s
+
+-- the item is at the place, isn't given back, and has the leg
+abbrev pub occupies : ℕ → ℕ → BookedItem → Bool
+occupies place leg i = i.place == place && (not i.given_back && (has_leg i.span leg))
+
+abbrev pub is_occupied : State → ℕ → ℕ → Bool
+is_occupied s place leg = list_any (occupies place leg) (all_items s)
+
+-- the amount of an end as word 6
+abbrev pub amount_word : EndKind → ℤ → ℕ
+amount_word Release _ = 0
+amount_word Expire _ = 0
+amount_word Refund (pos n) = n
+amount_word Refund (negsuc _) = 0
+amount_word Exchange (pos n) = 2 * n
+amount_word Exchange (negsuc n) = 2 * n + 1

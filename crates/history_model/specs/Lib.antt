@@ -1,0 +1,11 @@
+pub mod Phase
+pub mod Lists
+pub mod Booking
+pub mod Words
+pub mod Allowed
+pub mod Apply
+pub mod History
+pub mod Laws
+pub mod Life
+pub mod Quiet
+pub mod Work

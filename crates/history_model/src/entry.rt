@@ -1,0 +1,74 @@
+use crate::phase::Phase;
+use leg_masks::Span;
+
+/// One atomic operation on one word of the table, by one desk.
+#[derive(Clone, Copy, Debug, PartialEq, Eq)]
+pub struct Entry {
+    /// The desk's number. The definitions know no greatest one.
+    pub desk: u32,
+    pub step: Step,
+}
+
+/// What an operation did, or what it showed.
+#[derive(Clone, Copy, Debug, PartialEq, Eq)]
+pub enum Step {
+    /// A look at a place's word. A take that found another word than it expected is one too.
+    Look {
+        place: u32,
+        shown: u64,
+    },
+    /// The legs were taken for the booking in the row.
+    Take {
+        row: u32,
+        place: u32,
+        span: Span,
+    },
+    /// The item at this place of the booking's list was given back. A booking in the making drops it.
+    Give {
+        row: u32,
+        item: u8,
+    },
+    /// A free row was started.
+    Start {
+        row: u32,
+    },
+    /// A look at a row's word. A start that found the row taken is one too.
+    SawRow {
+        row: u32,
+        word: u8,
+        value: u64,
+    },
+    /// A word of the row was written.
+    Note {
+        row: u32,
+        word: u8,
+        value: u64,
+    },
+    /// The booking in the making was sealed.
+    Seal {
+        row: u32,
+        phase: Phase,
+    },
+    /// The phase was turned. Moment, amount and successor are 0 where the turn has none; a successor is its row's number
+    /// plus 1.
+    Turn {
+        row: u32,
+        from: Phase,
+        to: Phase,
+        moment: u64,
+        amount: i64,
+        successor: u32,
+    },
+    /// A turn that wanted one phase and found another.
+    LostTurn {
+        row: u32,
+        wanted: Phase,
+        shown: Phase,
+    },
+    /// The ending was closed.
+    Close {
+        row: u32,
+    },
+    /// The desk parted another, or took one in.
+    Met,
+}

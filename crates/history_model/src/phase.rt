@@ -1,0 +1,109 @@
+ghost use Rattle.std.specs.Prelude.{◌≡◌, ◌≢◌, IfSome, IfNone};
+ghost use Rattle.history_model.specs.Phase.{word_of_phase, is_turn as spec_is_turn};
+ghost use Rattle.history_model.specs.Booking.{amount_word};
+ghost use Rattle.history_model.specs.declared.phase.Phase.{Phase};
+
+/// How a booking ends: released or expired before it was confirmed, refunded or exchanged after.
+#[derive(Clone, Copy, Debug, PartialEq, Eq)]
+pub enum EndKind {
+    Release,
+    Expire,
+    Refund,
+    Exchange,
+}
+
+/// How far a row has come. It goes forward only, from free to ended, and may leave out phases.
+#[derive(Clone, Copy, Debug, PartialEq, Eq)]
+pub enum Phase {
+    Free,
+    Making,
+    Prebooked,
+    Confirmed,
+    Fulfilled,
+    Ending(EndKind),
+    Ended(EndKind),
+}
+
+/// The word of a phase, which is word 0 of its row.
+pub fn phase_word(phase: Phase) -> u64
+    ensures { result ≡ word_of_phase phase }
+{
+    match phase {
+        Phase::Free => 0,
+        Phase::Making => 1,
+        Phase::Prebooked => 2,
+        Phase::Confirmed => 3,
+        Phase::Fulfilled => 4,
+        Phase::Ending(EndKind::Release) => 5,
+        Phase::Ending(EndKind::Expire) => 6,
+        Phase::Ending(EndKind::Refund) => 7,
+        Phase::Ending(EndKind::Exchange) => 8,
+        Phase::Ended(EndKind::Release) => 9,
+        Phase::Ended(EndKind::Expire) => 10,
+        Phase::Ended(EndKind::Refund) => 11,
+        Phase::Ended(EndKind::Exchange) => 12,
+    }
+}
+
+/// The phase of a word: `None` exactly where it is no phase's.
+pub fn phase_of(word: u64) -> Option<Phase>
+    ensures found { IfSome result (λ phase. word_of_phase phase ≡ word) }
+    ensures none { IfNone result ((phase : Phase) → word_of_phase phase ≢ word) }
+{
+    match word {
+        0 => Some(Phase::Free),
+        1 => Some(Phase::Making),
+        2 => Some(Phase::Prebooked),
+        3 => Some(Phase::Confirmed),
+        4 => Some(Phase::Fulfilled),
+        5 => Some(Phase::Ending(EndKind::Release)),
+        6 => Some(Phase::Ending(EndKind::Expire)),
+        7 => Some(Phase::Ending(EndKind::Refund)),
+        8 => Some(Phase::Ending(EndKind::Exchange)),
+        9 => Some(Phase::Ended(EndKind::Release)),
+        10 => Some(Phase::Ended(EndKind::Expire)),
+        11 => Some(Phase::Ended(EndKind::Refund)),
+        12 => Some(Phase::Ended(EndKind::Exchange)),
+        _ => None,
+    }
+}
+
+/// Whether there is a turn from the one phase to the other: confirm, fulfil, release, expire, refund or exchange.
+pub fn is_turn(from: Phase, to: Phase) -> bool
+    ensures { result ≡ spec_is_turn from to }
+{
+    match from {
+        Phase::Prebooked => matches!(
+            to,
+            Phase::Confirmed | Phase::Ending(EndKind::Release) | Phase::Ending(EndKind::Expire)
+        ),
+        Phase::Confirmed => matches!(
+            to,
+            Phase::Fulfilled | Phase::Ending(EndKind::Refund) | Phase::Ending(EndKind::Exchange)
+        ),
+        Phase::Fulfilled => matches!(
+            to,
+            Phase::Ending(EndKind::Refund) | Phase::Ending(EndKind::Exchange)
+        ),
+        _ => false,
+    }
+}
+
+/// The amount of an end as word 6 of a row: of a refund what is paid back, of an exchange twice the difference, or
+/// twice its size less 1 where it is negative, and else 0.
+pub fn amount_word_of(kind: EndKind, amount: i64) -> u64
+    ensures { result ≡ amount_word kind amount }
+{
+    match kind {
+        EndKind::Release => 0,
+        EndKind::Expire => 0,
+        EndKind::Refund => { if amount >= 0 { amount as u64 } else { 0 } }
+        EndKind::Exchange => {
+            if amount >= 0 {
+                2 * (amount as u64)
+            } else {
+                2 * ((-(amount + 1)) as u64) + 1
+            }
+        }
+    }
+}
