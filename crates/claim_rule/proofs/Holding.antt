@@ -1,0 +1,308 @@
+-- What a desk's step does to the rows that it owns.
+use Rattle.std.proofs.Common.{eqb, append_assoc, ◌≤◌, ◌≡◌, inl, ℕ, ◌+◌, ◌-◌, ◌<◌, length-append, List, [], ◌∷◌, ◌++◌, map, take, length, ℤ, true, false, not, Option, Some, None, IfSome, refl, sym, ap, ◌∙◌, subst, append-nil, arith, slice_get, ne_eqb}
+use Rattle.std.proofs.lemmas.List.{length-map}
+use mathlib.Core.List.{IsPrefix, map-append, append_cancel_left}
+use Rattle.atomic_table.specs.declared.shared.Seat.{Seat}
+use Rattle.claim_rule.specs.declared.rule.View.{View}
+use Rattle.claim_rule.specs.Rule.{DeskView, BooksView, Each}
+use Rattle.claim_rule.specs.Seats.{Stepped, HasMet, IsOf, CanTurn, CanTake, CanGive, CanNote, desk_view}
+use Rattle.claim_rule.specs.Holds.{HoldView, StandsFor, IsItem, with_one, held, empty_hold}
+use Rattle.claim_rule.proofs.Meeting.{each_append, each_front}
+use Rattle.history_model.specs.Laws.{stage}
+use Rattle.history_model.specs.Booking.{phase_of_row}
+use Rattle.history_model.specs.History.{state_after}
+use Rattle.history_model.proofs.Forward.{stages-history}
+use Rattle.claim_rule.proofs.Moves.{own_row}
+use Rattle.history_model.proofs.Going.{present-changed}
+use Rattle.history_model.proofs.Keeping.{found, given_making}
+use Rattle.history_model.proofs.Owners.{firm_making, on_row, quiet_stays, quiet_step}
+use Rattle.history_model.proofs.Seen.{legal-front, legal-rest, own-append, state_of-append}
+use Rattle.history_model.proofs.Writing.{present-started}
+use Rattle.history_model.specs.Allowed.{IsAllowedStep, IsMadeBy, IsMakerWord, MayGive, MayNote, OnRow, TurnsWith}
+use Rattle.history_model.specs.Apply.{apply_step, given, noted, started, taken}
+use Rattle.history_model.specs.Booking.{Booking, Layout, State, change, limit_of, most_items, present}
+use Rattle.history_model.specs.History.{IsLegal, entry, own, state_of}
+use Rattle.history_model.specs.Laws.{is_owners}
+use Rattle.history_model.specs.Work.{AreInRange}
+use Rattle.history_model.specs.Phase.{is_sealed}
+use Rattle.history_model.specs.Quiet.{AllQuiet, is_quiet}
+use Rattle.history_model.specs.declared.booking.BookedItem.{BookedItem}
+use Rattle.history_model.specs.declared.entry.Entry.{Entry}
+use Rattle.history_model.specs.declared.entry.Step.{Step}
+use Rattle.history_model.specs.declared.entry.Step.TheVariants.{Give, Met, Note, Start, Take, Turn}
+use Rattle.history_model.specs.declared.phase.Phase.{Phase}
+use Rattle.history_model.specs.declared.phase.Phase.TheVariants.{Making}
+use Rattle.leg_masks.specs.Interval.{PlacedSpan as Item}
+
+-- the state before the step, and after it
+pub legal_before : (st : Step) (old new : DeskView) (did : Stepped st old new) → IsLegal old.layout ((old.seen ++ did.between) ++ entry old.number st ∷ [])
+legal_before st old new did = subst (λ (l : Layout). IsLegal l ((old.seen ++ did.between) ++ entry old.number st ∷ [])) did.same.1 (subst (IsLegal new.layout) did.seen did.legal)
+
+pub own_before : (st : Step) (old new : DeskView) (did : Stepped st old new) (r : ℕ) (b : Booking) → present (state_of old.layout old.seen) r ≡ Some b → b.owner ≡ old.number → is_owners b.phase ≡ true → present (state_of old.layout (old.seen ++ did.between)) r ≡ Some b
+own_before st old new did r b at mine firm =
+    own_row old.layout old.seen old.number (old.seen ++ did.between) r b (legal-front old.layout (old.seen ++ did.between) (entry old.number st ∷ []) (legal_before st old new did)) (did.between, refl)
+    (sym (own-append old.seen did.between old.number ∙ (ap (λ l. own old.seen old.number ++ l) did.others ∙ append-nil (own old.seen old.number)))) at mine firm
+
+pub state_then : (st : Step) (old new : DeskView) (did : Stepped st old new) → state_of new.layout new.seen ≡ apply_step (state_of old.layout (old.seen ++ did.between)) old.number st
+state_then st old new did = ap (λ (l : Layout). state_of l new.seen) did.same.1 ∙ (ap (state_of old.layout) did.seen ∙ state_of-append old.layout (old.seen ++ did.between) (entry old.number st ∷ []))
+
+-- a row of the desk's own, after a step that leaves it
+pub own_stays : (st : Step) (old new : DeskView) (did : Stepped st old new) (r : ℕ) (b : Booking) → is_quiet r st ≡ true → present (state_of old.layout old.seen) r ≡ Some b → b.owner ≡ old.number → is_owners b.phase ≡ true → present (state_of new.layout new.seen) r ≡ Some b
+own_stays st old new did r b quiet at mine firm = ap (λ (s : State). present s r) (state_then st old new did) ∙ quiet_step (state_of old.layout (old.seen ++ did.between)) r b old.number st (own_before st old new did r b at mine firm) quiet
+
+-- and after one that changes it
+pub own_changes : (st : Step) (old new : DeskView) (did : Stepped st old new) (r : ℕ) (b : Booking) (f : Booking → Booking) → ((s : State) → apply_step s old.number st ≡ change s r f) → ((x : Booking) → (f x).row ≡ x.row) → present (state_of old.layout old.seen) r ≡ Some b → b.owner ≡ old.number → is_owners b.phase ≡ true
+    → present (state_of new.layout new.seen) r ≡ Some (f b)
+own_changes st old new did r b f is row at mine firm =
+    ap (λ (s : State). present s r) (state_then st old new did ∙ is (state_of old.layout (old.seen ++ did.between)))
+    ∙ present-changed (state_of old.layout (old.seen ++ did.between)) r f b row (own_before st old new did r b at mine firm)
+
+-- the same hold, after a step that leaves its row
+abbrev pub hold_stays : (st : Step) (old new : DeskView) (hold : HoldView) → is_quiet hold.row st ≡ true → Stepped st old new → StandsFor old hold → StandsFor new hold
+hold_stays st old new hold quiet did is = record {
+  booking = is.booking;
+  found = own_stays st old new did hold.row is.booking quiet is.found is.owner (firm_making is.booking.phase is.making);
+  owner = is.owner ∙ sym did.same.2;
+  making = is.making;
+  items = is.items;
+  row = subst (λ (l : Layout). hold.row < l.rows) (sym did.same.1) is.row;
+  within = subst (λ (l : Layout). Each (IsItem l) hold.items) (sym did.same.1) is.within;
+}
+
+kept_on : (st : Step) (old new : DeskView) (o : Option ℕ) → ((r : ℕ) → o ≡ Some r → is_quiet r st ≡ true) → Stepped st old new → IfSome o (λ r. StandsFor old (empty_hold r)) → IfSome o (λ r. StandsFor new (empty_hold r))
+kept_on st old new None quiet did is = tt
+kept_on st old new (Some r) quiet did is = hold_stays st old new (empty_hold r) (quiet r refl) did is
+
+-- a row that isn't free stays so
+stage_since : (g : Layout) (seen now : List Entry) (r : ℕ) → IsPrefix seen now → IsLegal g now → 1 ≤ stage (phase_of_row (state_of g seen) r) → 1 ≤ stage (phase_of_row (state_of g now) r)
+stage_since g seen now r (rest, e) legal some =
+    let whole : IsLegal g (seen ++ rest) = subst (IsLegal g) (sym e) legal in
+    let up = stages-history g (state_of g seen) rest r (legal-rest g seen rest whole) in
+    subst (λ (l : List Entry). 1 ≤ stage (phase_of_row (state_of g l) r)) e (subst (λ (s : State). 1 ≤ stage (phase_of_row s r)) (sym (state_of-append g seen rest))
+    (le_le (stage (phase_of_row (state_of g seen) r)) (stage (phase_of_row (state_after (state_of g seen) rest) r)) some up))
+  where
+    le_le : (x y : ℕ) → 1 ≤ x → x ≤ y → 1 ≤ y
+    le_le x y a b = omega arith
+
+-- so does each row below `past`
+past_on : (old new : DeskView) → IsPrefix old.seen new.seen → IsLegal new.layout new.seen → new.layout ≡ old.layout → new.past ≡ old.past → ((r : ℕ) → r < old.past → 1 ≤ stage (phase_of_row (state_of old.layout old.seen) r)) → (r : ℕ) → r < new.past → 1 ≤ stage (phase_of_row (state_of new.layout new.seen) r)
+past_on old new pre legal layout past taken r l =
+    stage_since new.layout old.seen new.seen r pre legal (subst (λ (g : Layout). 1 ≤ stage (phase_of_row (state_of g old.seen) r)) (sym layout) (taken r (subst (λ (n : ℕ). r < n) past l)))
+
+within_on : (old new : DeskView) → new.layout ≡ old.layout → new.past ≡ old.past → old.past ≤ old.layout.rows → new.past ≤ new.layout.rows
+within_on old new layout past l = subst (λ (n : ℕ). n ≤ new.layout.rows) (sym past) (subst (λ (g : Layout). old.past ≤ g.rows) (sym layout) l)
+
+opening_on : (old new : DeskView) → new.layout ≡ old.layout → AreInRange old.layout old.layout.opening → AreInRange new.layout new.layout.opening
+opening_on old new layout all = subst (λ (g : Layout). AreInRange g g.opening) (sym layout) all
+
+-- the desk is still of the books, and a row that it keeps is as it was
+pub still_of : (st : Step) (books : BooksView) (old new : DeskView) → ((r : ℕ) → old.kept ≡ Some r → is_quiet r st ≡ true) → Stepped st old new → IsOf books old → IsOf books new
+still_of st books old new quiet did of = record {
+  table = did.same.0 ∙ of.table;
+  layout = did.same.1 ∙ of.layout;
+  legal = did.legal;
+  kept = subst (λ (o : Option ℕ). IfSome o (λ r. StandsFor new (empty_hold r))) (sym did.same.5) (kept_on st old new old.kept quiet did of.kept);
+  past = past_on old new (did.between ++ entry old.number st ∷ [], sym (append_assoc old.seen did.between (entry old.number st ∷ [])) ∙ sym did.seen) did.legal did.same.1 did.same.6 of.past;
+  within = within_on old new did.same.1 did.same.6 of.within;
+  opening = opening_on old new did.same.1 of.opening;
+}
+
+none_kept : (o : Option ℕ) (r : ℕ) (P : Type 0) → o ≡ None → o ≡ Some r → P
+none_kept o r P n e = absurd (let no : ◌≡◌ {A = Option ℕ} None (Some r) = sym n ∙ e in cc)
+
+-- the same for a desk that keeps no row
+pub still_alone : (st : Step) (books : BooksView) (old new : DeskView) → old.kept ≡ None → Stepped st old new → IsOf books old → IsOf books new
+still_alone st books old new alone did of = still_of st books old new (λ r e. none_kept old.kept r (is_quiet r st ≡ true) alone e) did of
+
+-- a kept row is no row that was sealed
+pub kept_apart : (books : BooksView) (desk : DeskView) (r q : ℕ) (P : Booking → Type 0) → ((b : Booking) → P b → b.phase ≡ Making → ⊥) → IsOf books desk → OnRow (state_of desk.layout desk.seen) q P → desk.kept ≡ Some r → not (eqb q r) ≡ true
+kept_apart books desk r q P unlike of on kept =
+    let is : StandsFor desk (empty_hold r) = subst (λ (o : Option ℕ). IfSome o (λ r. StandsFor desk (empty_hold r))) kept of.kept in
+    let f = found (present (state_of desk.layout desk.seen) q) P on in
+    let apart : q ≡ r → ⊥ = λ e. unlike f.0 f.2 (phase_of_same f.0 is.booking (sym f.1 ∙ (ap (present (state_of desk.layout desk.seen)) e ∙ is.found)) ∙ is.making) in
+    ap not (ne_eqb q r apart)
+  where
+    phase_of_same : (x y : Booking) → Some x ≡ Some y → x.phase ≡ y.phase
+    phase_of_same x y e = let same : x ≡ y = cc in ap (λ (b : Booking). b.phase) same
+
+-- the hold with one more item, after a take
+abbrev pub hold_takes : (i : Item) (old new : DeskView) (hold : HoldView) → IsItem old.layout i → Stepped (Take hold.row i.place i.span) old new → StandsFor old hold → StandsFor new (with_one hold i)
+hold_takes i old new hold fits did is = record {
+  booking = taken i.place i.span is.booking;
+  found = own_changes (Take hold.row i.place i.span) old new did hold.row is.booking (taken i.place i.span) (λ s. refl) (λ _. refl) is.found is.owner (firm_making is.booking.phase is.making);
+  owner = is.owner ∙ sym did.same.2;
+  making = is.making;
+  items = ap (λ l. l ++ held i ∷ []) is.items ∙ sym (map-append held hold.items (i ∷ []));
+  row = subst (λ (l : Layout). hold.row < l.rows) (sym did.same.1) is.row;
+  within = subst (λ (l : Layout). Each (IsItem l) (hold.items ++ i ∷ [])) (sym did.same.1) (each_append (IsItem old.layout) hold.items (i ∷ []) is.within (fits, tt));
+}
+
+pub take_front : {X : Type 0} (xs : List X) (x : X) → take (length (xs ++ x ∷ []) - 1) (xs ++ x ∷ []) ≡ xs
+take_front xs x = ap (λ (n : ℕ). take (n - 1) (xs ++ x ∷ [])) (length-append xs (x ∷ [])) ∙ (ap (λ (n : ℕ). take n (xs ++ x ∷ [])) (less (length xs)) ∙ go xs x)
+  where
+    less : (n : ℕ) → n + 1 - 1 ≡ n
+    less n = omega arith
+
+    go : {X : Type 0} (xs : List X) (x : X) → take (length xs) (xs ++ x ∷ []) ≡ xs
+    go [] x = refl
+    go (y ∷ ys) x = ap (λ l. y ∷ l) (go ys x)
+
+last_at : {X : Type 0} (xs : List X) (x : X) → slice_get (xs ++ x ∷ []) (length xs) ≡ Some x
+last_at [] x = refl
+last_at (y ∷ ys) x = last_at ys x
+
+-- the hold without its last item, after a give
+abbrev pub hold_gives : (i : Item) (k : ℕ) (old new : DeskView) (hold less : HoldView) → hold ≡ with_one less i → Stepped (Give hold.row k) old new → StandsFor old hold → StandsFor new less
+hold_gives i k old new hold less one did is =
+    let row : hold.row ≡ less.row = ap (λ (h : HoldView). h.row) one in
+    let items : hold.items ≡ less.items ++ i ∷ [] = ap (λ (h : HoldView). h.items) one in
+    let its : is.booking.items ≡ map held less.items ++ held i ∷ [] = is.items ∙ (ap (map held) items ∙ map-append held less.items (i ∷ [])) in
+    let parts = each_front (IsItem old.layout) less.items (i ∷ []) (subst (λ (l : List Item). Each (IsItem old.layout) l) items is.within) in
+    record {
+      booking = given k is.booking;
+      found = subst (λ (r : ℕ). present (state_of new.layout new.seen) r ≡ Some (given k is.booking)) row
+          (own_changes (Give hold.row k) old new did hold.row is.booking (given k) (λ s. refl) (λ _. refl) is.found is.owner (firm_making is.booking.phase is.making));
+      owner = is.owner ∙ sym did.same.2;
+      making = is.making;
+      items = ap (λ (b : Booking). b.items) (given_making k is.booking is.making) ∙ (ap (λ (l : List BookedItem). take (length l - 1) l) its ∙ take_front (map held less.items) (held i));
+      row = subst (λ (l : Layout). less.row < l.rows) (sym did.same.1) (subst (λ (r : ℕ). r < old.layout.rows) row is.row);
+      within = subst (λ (l : Layout). Each (IsItem l) less.items) (sym did.same.1) parts.0;
+    }
+
+-- a new hold, after a start
+abbrev pub hold_starts : (r : ℕ) (old new : DeskView) → r < old.layout.rows → Stepped (Start r) old new → StandsFor new (empty_hold r)
+hold_starts r old new l did =
+    let h : List Entry = old.seen ++ did.between in
+    let may : IsAllowedStep old.layout (state_of old.layout h) old.number (Start r) = (legal-rest old.layout h (entry old.number (Start r) ∷ []) (legal_before (Start r) old new did)).0 in
+    record {
+      booking = started r old.number;
+      found = ap (λ (s : State). present s r) (state_then (Start r) old new did) ∙ present-started (state_of old.layout h) r old.number may.1;
+      owner = sym did.same.2;
+      making = refl;
+      items = refl;
+      row = subst (λ (g : Layout). r < g.rows) (sym did.same.1) l;
+      within = tt;
+    }
+
+-- what the rule asks of a hold's row
+
+module _ (a : Seat ℕ View) (kept : Option ℕ) (past : ℕ) (lay : Layout) (desk : DeskView) (hold : HoldView) (view : desk_view a kept past ≡ desk) (layout : desk.layout ≡ lay) (is : StandsFor desk hold) where
+  row_below : hold.row < lay.rows
+  row_below = subst (λ (l : Layout). hold.row < l.rows) layout is.row
+
+  here : present (state_of lay a.me.0.seen) hold.row ≡ Some is.booking
+  here = subst (λ (g : Layout). present (state_of g a.me.0.seen) hold.row ≡ Some is.booking) layout (ap (λ (d : DeskView). present (state_of desk.layout d.seen) hold.row) view ∙ is.found)
+
+  mine : IsMadeBy a.me.0.number is.booking
+  mine = (is.making, is.owner ∙ sym (ap (λ (d : DeskView). d.number) view))
+
+  pub can_take : length hold.items < most_items → CanTake lay a hold.row
+  can_take room = (
+    row_below,
+    on_row (state_of lay a.me.0.seen) hold.row is.booking (λ b. IsMadeBy a.me.0.number b × (length b.items < most_items)) here
+        (mine, subst (λ (n : ℕ). n < most_items) (sym (ap length is.items ∙ length-map hold.items held)) room),
+  )
+
+  pub can_note : (w : ℕ) → IsMakerWord w → CanNote lay a hold.row w
+  can_note w word = (row_below, on_row (state_of lay a.me.0.seen) hold.row is.booking (MayNote a.me.0.number w) here (inl (mine, word)))
+
+-- the last item of a hold can be given back
+pub can_give : (a : Seat ℕ View) (kept : Option ℕ) (past : ℕ) (lay : Layout) (desk : DeskView) (hold less : HoldView) (i : Item) (k : ℕ) → desk_view a kept past ≡ desk → desk.layout ≡ lay → StandsFor desk hold → hold ≡ with_one less i → k ≡ length less.items → CanGive lay a less.row k i
+can_give a kept past lay desk hold less i k view layout is one count =
+    let row : hold.row ≡ less.row = ap (λ (h : HoldView). h.row) one in
+    let items : hold.items ≡ less.items ++ i ∷ [] = ap (λ (h : HoldView). h.items) one in
+    let its : is.booking.items ≡ map held less.items ++ held i ∷ [] = is.items ∙ (ap (map held) items ∙ map-append held less.items (i ∷ [])) in
+    let fits = (each_front (IsItem desk.layout) less.items (i ∷ []) (subst (λ (l : List Item). Each (IsItem desk.layout) l) items is.within)).1.0 in
+    let k_is : k ≡ length (map held less.items) = count ∙ sym (length-map less.items held) in
+    let many : k + 1 ≡ length is.booking.items = ap (λ (n : ℕ). n + 1) k_is ∙ sym (ap length its ∙ length-append (map held less.items) (held i ∷ [])) in
+    let at : slice_get is.booking.items k ≡ Some (held i) = ap (λ (n : ℕ). slice_get is.booking.items n) k_is ∙ (ap (λ (l : List BookedItem). slice_get l (length (map held less.items))) its ∙ last_at (map held less.items) (held i)) in
+    let P : Booking → Type 0 = λ b. MayGive a.me.0.number k b × (slice_get b.items k ≡ Some (held i)) in (
+      subst (λ (n : ℕ). n < lay.rows) row (row_below a kept past lay desk hold view layout is),
+      subst (λ (l : Layout). i.place < length l.legs) layout fits.place,
+      fits.fits,
+      subst (λ (n : ℕ). OnRow (state_of lay a.me.0.seen) n P) row
+          (on_row (state_of lay a.me.0.seen) hold.row is.booking P (here a kept past lay desk hold view layout is) (inl (mine a kept past lay desk hold view layout is, many), at)),
+    )
+
+-- the same hold, after a note
+abbrev pub hold_notes : (w n : ℕ) (old new : DeskView) (hold : HoldView) → Stepped (Note hold.row w n) old new → StandsFor old hold → StandsFor new hold
+hold_notes w n old new hold did is = record {
+  booking = noted w n is.booking;
+  found = own_changes (Note hold.row w n) old new did hold.row is.booking (noted w n) (λ s. refl) (λ _. refl) is.found is.owner (firm_making is.booking.phase is.making);
+  owner = is.owner ∙ sym did.same.2;
+  making = is.making;
+  items = is.items;
+  row = subst (λ (l : Layout). hold.row < l.rows) (sym did.same.1) is.row;
+  within = subst (λ (l : Layout). Each (IsItem l) hold.items) (sym did.same.1) is.within;
+}
+
+-- a row of one's own stays as it is where its owner's further entries leave it
+pub through : (lay : Layout) (seen now : List Entry) (d : ℕ) (es : List Step) (r : ℕ) (b : Booking) → IsPrefix seen now → IsLegal lay now → own now d ≡ own seen d ++ map (entry d) es → AllQuiet r es → present (state_of lay seen) r ≡ Some b → b.owner ≡ d → is_owners b.phase ≡ true
+    → present (state_of lay now) r ≡ Some b
+through lay seen now d es r b (rest, e) legal mine quiet at its firm =
+    let whole : IsLegal lay (seen ++ rest) = subst (IsLegal lay) (sym e) legal in
+    let owned : own rest d ≡ map (entry d) es = append_cancel_left (own seen d) (own rest d) (map (entry d) es) (sym (own-append seen rest d) ∙ (ap (λ (l : List Entry). own l d) e ∙ mine)) in
+    subst (λ (l : List Entry). present (state_of lay l) r ≡ Some b) e
+    (ap (λ (s : State). present s r) (state_of-append lay seen rest)
+    ∙ quiet_stays lay (state_of lay seen) r b rest es at firm (subst (λ (k : ℕ). own rest k ≡ map (entry k) es) (sym its) owned) quiet (legal-rest lay seen rest whole))
+
+-- a kept row, after a meeting
+met_kept : (books : BooksView) (old other new : DeskView) (o : Option ℕ) → HasMet old other new → IfSome o (λ r. StandsFor old (empty_hold r)) → IfSome o (λ r. StandsFor new (empty_hold r))
+met_kept books old other new None met is = tt
+met_kept books old other new (Some r) met is =
+    let s = met.same in
+    let legal : IsLegal old.layout new.seen = subst (λ (l : Layout). IsLegal l new.seen) s.1 met.legal in
+    let at = through old.layout old.seen new.seen old.number (Met ∷ []) r is.booking met.front legal met.mine (refl, tt) is.found is.owner (firm_making is.booking.phase is.making) in
+    record {
+      booking = is.booking;
+      found = ap (λ (l : Layout). present (state_of l new.seen) r) s.1 ∙ at;
+      owner = is.owner ∙ sym s.2;
+      making = is.making;
+      items = is.items;
+      row = subst (λ (l : Layout). r < l.rows) (sym s.1) is.row;
+      within = tt;
+    }
+
+pub still_met : (books : BooksView) (old other new : DeskView) → HasMet old other new → IsOf books old → IsOf books new
+still_met books old other new met of = record {
+  table = met.same.0 ∙ of.table;
+  layout = met.same.1 ∙ of.layout;
+  legal = met.legal;
+  kept = subst (λ (o : Option ℕ). IfSome o (λ r. StandsFor new (empty_hold r))) (sym met.same.4) (met_kept books old other new old.kept met of.kept);
+  past = past_on old new met.front met.legal met.same.1 met.same.5 of.past;
+  within = within_on old new met.same.1 met.same.5 of.within;
+  opening = opening_on old new met.same.1 of.opening;
+}
+
+-- how many desks a desk has parted is nothing to its rows
+made_kept : (desk : DeskView) (m : ℕ) (o : Option ℕ) → IfSome o (λ r. StandsFor (record desk { made = m }) (empty_hold r)) → IfSome o (λ r. StandsFor desk (empty_hold r))
+made_kept desk m None is = tt
+made_kept desk m (Some r) is = record { booking = is.booking; found = is.found; owner = is.owner; making = is.making; items = is.items; row = is.row; within = is.within }
+
+pub still_parted : (books : BooksView) (old new : DeskView) → Stepped Met old (record new { made = old.made }) → IsOf books old → IsOf books new
+still_parted books old new did of =
+    let is = still_of Met books old (record new { made = old.made }) (λ r e. refl) did of in
+    record { table = is.table; layout = is.layout; legal = is.legal; kept = made_kept new old.made new.kept is.kept; past = is.past; within = is.within; opening = is.opening }
+
+pub newly_of : (books : BooksView) (old : DeskView) (new : DeskView) → IsOf books old → new.table ≡ old.table → new.layout ≡ old.layout → new.seen ≡ old.seen → new.kept ≡ None → new.past ≡ old.past → IsOf books new
+newly_of books old new of table layout seen kept past = record {
+  table = table ∙ of.table;
+  layout = layout ∙ of.layout;
+  legal = subst (λ (x : Layout × List Entry). IsLegal x.0 x.1) (λ i. (sym layout i, sym seen i)) of.legal;
+  kept = subst (λ (o : Option ℕ). IfSome o (λ r. StandsFor new (empty_hold r))) (sym kept) tt;
+  past = λ r l. subst (λ (x : Layout × List Entry). 1 ≤ stage (phase_of_row (state_of x.0 x.1) r)) (λ i. (sym layout i, sym seen i)) (of.past r (subst (λ (n : ℕ). r < n) past l));
+  within = within_on old new layout past of.within;
+  opening = opening_on old new layout of.opening;
+}
+
+-- a turn of a row that was sealed leaves a kept row
+turn_quiet : (books : BooksView) (desk : DeskView) (q : ℕ) (from to : Phase) (m : ℕ) (x : ℤ) (n : ℕ) → IsOf books desk → CanTurn books.layout desk.seen desk.number q from to m x n → (r : ℕ) → desk.kept ≡ Some r → not (eqb q r) ≡ true
+turn_quiet books desk q from to m x n of can r kept =
+    kept_apart books desk r q (λ b. (is_sealed b.phase ≡ true) × TurnsWith (state_of desk.layout desk.seen) desk.number (limit_of b) to m x n) (λ b p making. unsealed b.phase making p.0) of
+    (subst (λ (l : Layout). OnRow (state_of l desk.seen) q (λ b. (is_sealed b.phase ≡ true) × TurnsWith (state_of l desk.seen) desk.number (limit_of b) to m x n)) (sym of.layout) can.3) kept
+  where
+    unsealed : (ph : Phase) → ph ≡ Making → is_sealed ph ≡ true → ⊥
+    unsealed ph e t = let no : false ≡ true = sym (ap is_sealed e) ∙ t in cc
+
+pub still_turned : (books : BooksView) (old new : DeskView) (q : ℕ) (from to : Phase) (m : ℕ) (x : ℤ) (n : ℕ) → IsOf books old → CanTurn books.layout old.seen old.number q from to m x n → Stepped (Turn q from to m x n) old new → IsOf books new
+still_turned books old new q from to m x n of can did = still_of (Turn q from to m x n) books old new (turn_quiet books old q from to m x n of can) did of

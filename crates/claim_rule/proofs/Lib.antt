@@ -1,0 +1,12 @@
+pub mod Views
+pub mod Adds
+pub mod Moves
+pub mod Desks
+pub mod Holding
+pub mod Meeting
+pub mod Finishing
+pub mod Shapes
+pub mod EndingLemmas
+pub mod Reading
+pub mod Out
+pub mod Noting

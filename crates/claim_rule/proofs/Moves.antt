@@ -1,0 +1,242 @@
+-- Each kind of step is allowed, and writes what it says.
+use Rattle.std.proofs.Common.{◌≡◌, ◌⊎◌, ℕ, ◌+◌, ◌-◌, ◌<◌, ◌≤◌, Bool, true, false, cond, eqb, bit_or, bit_and, w64, lit<, lit≤, ℤ, List, [], ◌++◌, length, arith, Option, Some, None, refl, sym, ap, ◌∙◌, subst, ⊎_elim, inl, inr, eq-eqb, ne_eqb, slice_get}
+use Rattle.std.proofs.lemmas.Bool.{cases_eq}
+use Rattle.std.specs.Int.{bit_at, bit_not}
+use Rattle.std.specs.List.{Any}
+use Rattle.std.specs.Option.{option_map_or}
+use mathlib.Core.List.{IsPrefix}
+use prog.Atomic.{either}
+use Rattle.atomic_table.specs.declared.shared.Seat.{Seat}
+use Rattle.claim_rule.specs.declared.rule.View.{View}
+use Rattle.claim_rule.specs.Rule.{Steps, HasAll}
+use Rattle.claim_rule.specs.Seats.{seeing, either_step, CanTake, CanGive, CanNote, CanTurn, turn_step}
+use Rattle.claim_rule.specs.Holds.{IsItem, held}
+use Rattle.history_model.proofs.Bits.{bit_at-place_word}
+use Rattle.history_model.proofs.Changes.{open_from_legs}
+use Rattle.history_model.proofs.Forward.{stays-history}
+use Rattle.history_model.proofs.Keeping.{found}
+use Rattle.history_model.proofs.Legal.{WellFormed-history}
+use Rattle.history_model.proofs.Owners.{firm_ending, firm_making, firm_stays, on_row}
+use Rattle.history_model.proofs.Seen.{legal-rest, own_rest, state_of-append}
+use Rattle.history_model.proofs.Successors.{exchanged_stays}
+use Rattle.history_model.proofs.Writing.{free_of_word, give_writes, note_writes, phase_back, phase_writes, start_writes, take_writes, turn_writes, word_in, word_phase}
+use Rattle.history_model.specs.Allowed.{AllGiven, HasEndWords, IsAllowedStep, IsBeingEndedBy, IsEndedBy, IsExchangedFor, IsMadeBy, IsOpen, IsSealable, MayClose, MayGive, MayNote, MaySealAs, OnRow, TurnsWith}
+use Rattle.history_model.specs.Apply.{apply_step, closed, ended_phase, in_phase}
+use Rattle.history_model.specs.Booking.{Booking, Layout, State, change, is_occupied, limit_of, most_items, present, row_words}
+use Rattle.history_model.specs.History.{IsLegal, own, state_after, state_of}
+use Rattle.history_model.specs.Laws.{IsWellFormed, Stays, is_owners}
+use Rattle.history_model.specs.Phase.{is_sealed, said_phase, word_of_phase}
+use Rattle.history_model.specs.Words.{IsWord, Writes, place_word, value}
+use Rattle.history_model.specs.declared.entry.Entry.{Entry}
+use Rattle.history_model.specs.declared.entry.Step.{Step}
+use Rattle.history_model.specs.declared.entry.Step.TheVariants.{Close, Give, LostTurn, Met, Note, Seal, Start, Take, Turn}
+use Rattle.history_model.specs.declared.phase.EndKind.{EndKind}
+use Rattle.history_model.specs.declared.phase.EndKind.TheVariants.{Exchange, Expire, Refund, Release}
+use Rattle.history_model.specs.declared.phase.Phase.{Phase}
+use Rattle.history_model.specs.declared.phase.Phase.TheVariants.{Confirmed, Ended, Ending, Free, Fulfilled, Making, Prebooked}
+use Rattle.history_model.specs.declared.word.Word.{Word}
+use Rattle.history_model.specs.declared.word.Word.TheVariants.{Place, Row}
+use Rattle.leg_masks.proofs.Masks.{bit}
+use Rattle.leg_masks.specs.Interval.{Interval, IsClear, mask, most_legs}
+use Rattle.leg_masks.specs.Interval.{PlacedSpan as Item}
+
+pub looks : (lay : Layout) (v : View) (a : Word) → IsWord lay a → Steps lay v a (λ n. n) (seeing a)
+looks lay v (Place p) is h legal pre own = ((is, refl), record { here = refl; rest = λ b _. refl })
+looks lay v (Row r w) is h legal pre own = ((is.0, is.1, refl), record { here = refl; rest = λ b _. refl })
+
+pub meets : (lay : Layout) (v : View) (a : Word) → Steps lay v a (λ n. n) (λ _. Met)
+meets lay v a h legal pre own = (tt, record { here = refl; rest = λ b _. refl })
+
+-- an exchange is allowed where its step is, at the word expected, and else as its miss
+pub exchanges_or : (lay : Layout) (v : View) (a : Word) (old new : ℕ) (hit : Step) (miss : ℕ → Step)
+    → ((h : List Entry) → IsLegal lay h → IsPrefix v.seen h → HasAll h v.seen v.number → value (state_of lay h) a ≡ old → IsAllowedStep lay (state_of lay h) v.number hit × Writes (state_of lay h) (apply_step (state_of lay h) v.number hit) a new)
+    → ((h : List Entry) → IsLegal lay h → (value (state_of lay h) a ≡ old → ⊥) → IsAllowedStep lay (state_of lay h) v.number (miss (value (state_of lay h) a)) × (apply_step (state_of lay h) v.number (miss (value (state_of lay h) a)) ≡ state_of lay h))
+    → Steps lay v a (λ n. either (eqb n old) new n) (λ n. cond (eqb n old) hit (miss n))
+exchanges_or lay v a old new hit miss go off h legal pre mine =
+    let s : State = state_of lay h in
+    let n : ℕ = value s a in
+    let P : Bool → Type 0 = λ c. IsAllowedStep lay s v.number (cond c hit (miss n)) × Writes s (apply_step s v.number (cond c hit (miss n))) a (either c new n) in
+    ⊎_elim (λ (e : n ≡ old). subst P (sym (eq-eqb n old e)) (go h legal pre mine e))
+    (λ (e : n ≡ old → ⊥). subst P (sym (ne_eqb n old e)) (let m = off h legal e in (m.0, subst (λ (t : State). Writes s t a n) (sym m.1) record { here = refl; rest = λ b _. refl })))
+    (cases_eq n old)
+
+-- the same, where a miss looks
+pub exchanges : (lay : Layout) (v : View) (a : Word) (old new : ℕ) (hit : Step) → IsWord lay a
+    → ((h : List Entry) → IsLegal lay h → IsPrefix v.seen h → HasAll h v.seen v.number → value (state_of lay h) a ≡ old → IsAllowedStep lay (state_of lay h) v.number hit × Writes (state_of lay h) (apply_step (state_of lay h) v.number hit) a new)
+    → Steps lay v a (λ n. either (eqb n old) new n) (either_step old hit a)
+exchanges lay v a old new hit is go h legal pre own =
+    let s : State = state_of lay h in
+    let n : ℕ = value s a in
+    let P : Bool → Type 0 = λ c. IsAllowedStep lay s v.number (cond c hit (seeing a n)) × Writes s (apply_step s v.number (cond c hit (seeing a n))) a (either c new n) in
+    ⊎_elim (λ (e : n ≡ old). subst P (sym (eq-eqb n old e)) (go h legal pre own e)) (λ (e : n ≡ old → ⊥). subst P (sym (ne_eqb n old e)) (looks lay v a is h legal pre own)) (cases_eq n old)
+
+-- a row of one's own in the making or ending is as it was, whatever others did
+pub own_row : (lay : Layout) (seen : List Entry) (d : ℕ) (h : List Entry) (r : ℕ) (b : Booking) → IsLegal lay h → IsPrefix seen h → own seen d ≡ own h d → present (state_of lay seen) r ≡ Some b → b.owner ≡ d → is_owners b.phase ≡ true
+    → present (state_of lay h) r ≡ Some b
+own_row lay seen d h r b legal (es, e) same at mine firm =
+    let whole : IsLegal lay (seen ++ es) = subst (IsLegal lay) (sym e) legal in
+    let none = own_rest d seen es h e same in
+    subst (λ (l : List Entry). present (state_of lay l) r ≡ Some b) e
+    (ap (λ (s : State). present s r) (state_of-append lay seen es)
+    ∙ firm_stays lay (state_of lay seen) r b es at firm (subst (λ (d : ℕ). own es d ≡ []) (sym mine) none) (legal-rest lay seen es whole))
+
+-- what holds of such a row
+pub own_on : (lay : Layout) (seen : List Entry) (d : ℕ) (h : List Entry) (r : ℕ) (P : Booking → Type 0) → ((b : Booking) → P b → (b.owner ≡ d) × (is_owners b.phase ≡ true)) → IsLegal lay h → IsPrefix seen h → own seen d ≡ own h d → OnRow (state_of lay seen) r P
+    → (b : Booking) × (present (state_of lay h) r ≡ Some b) × P b
+own_on lay seen d h r P firm legal pre mine on =
+    let f = found (present (state_of lay seen) r) P on in
+    let o = firm f.0 f.2 in
+    (f.0, own_row lay seen d h r f.0 legal pre mine f.1 o.0 o.1, f.2)
+
+maker : (d : ℕ) (b : Booking) → IsMadeBy d b → (b.owner ≡ d) × (is_owners b.phase ≡ true)
+maker d b m = (m.1, firm_making b.phase m.0)
+
+ender : (d : ℕ) (b : Booking) → IsBeingEndedBy d b → (b.owner ≡ d) × (is_owners b.phase ≡ true)
+ender d b m = (m.1.1, firm_ending b.phase m.0 m.1.0)
+
+-- every history's state is well-formed
+pub is_sound : (lay : Layout) (h : List Entry) → IsLegal lay h → IsWellFormed lay (state_of lay h)
+is_sound lay h legal = WellFormed-history lay lay.opening h legal.0.well_formed legal.1
+
+bit_zero : (b : Bool) → bit b ≡ 0 → b ≡ false
+bit_zero true e = absurd (omega (arith, e))
+bit_zero false e = refl
+
+-- a place whose word is clear on the span is open there
+pub open_of_clear : (s : State) (p n : ℕ) (span : Interval) → span.to ≤ most_legs → place_word s p ≡ n → IsClear n span → IsOpen s p span
+open_of_clear s p n span fits is clear = open_from_legs s p span (λ leg holds. bit_zero (is_occupied s p leg)
+    (sym (bit_at-place_word s p leg (below leg span.to holds.1 fits)) ∙ (ap (λ (x : ℕ). bit_at x leg) is ∙ clear leg holds.0 holds.1)))
+  where
+    below : (l t : ℕ) → l < t → t ≤ 63 → l < 63
+    below l t a b = omega arith
+
+pub takes : (lay : Layout) (a : Seat ℕ View) (r : ℕ) (i : Item) (old : ℕ) → CanTake lay a r → IsItem lay i → IsClear old i.span
+    → Steps lay a.me.0 (Place i.place) (λ n. either (eqb n old) (bit_or old (mask i.span)) n) (either_step old (Take r i.place i.span) (Place i.place))
+takes lay a r i old can item clear = exchanges lay a.me.0 (Place i.place) old (bit_or old (mask i.span)) (Take r i.place i.span) item.place
+    (λ h legal pre mine e.
+    let s : State = state_of lay h in
+    let P : Booking → Type 0 = λ b. IsMadeBy a.me.0.number b × (length b.items < most_items) in
+    let b = own_on lay a.me.0.seen a.me.0.number h r P (λ b m. maker a.me.0.number b m.0) legal pre mine can.1 in
+    let w = take_writes s r i.place i.span b.0 b.1 item.some item.fits in (
+      (can.0, item.place, on_row s r b.0 P b.1 b.2, item.some, item.within, open_of_clear s i.place old i.span item.fits e clear),
+      record { here = w.here ∙ ap (λ (x : ℕ). bit_or x (mask i.span)) e; rest = w.rest },
+    ))
+
+may_give : (d k : ℕ) (b : Booking) → MayGive d k b → (b.owner ≡ d) × (is_owners b.phase ≡ true)
+may_give d k b may = ⊎_elim (λ m. maker d b m.0) (λ m. ender d b m.0) may
+
+may_note : (d w : ℕ) (b : Booking) → MayNote d w b → (b.owner ≡ d) × (is_owners b.phase ≡ true)
+may_note d w b may = ⊎_elim (λ m. maker d b m.0) (λ m. ender d b m.0) may
+
+pub gives : (lay : Layout) (a : Seat ℕ View) (r k : ℕ) (i : Item) → CanGive lay a r k i → Steps lay a.me.0 (Place i.place) (λ n. bit_and n (bit_not w64 (mask i.span))) (λ _. Give r k)
+gives lay a r k i can h legal pre mine =
+    let s : State = state_of lay h in
+    let d : ℕ = a.me.0.number in
+    let P : Booking → Type 0 = λ b. MayGive d k b × (slice_get b.items k ≡ Some (held i)) in
+    let b = own_on lay a.me.0.seen d h r P (λ b m. may_give d k b m.0) legal pre mine can.3 in
+    ((can.0, on_row s r b.0 (MayGive d k) b.1 b.2.0), give_writes lay s d r k b.0 i.place i.span (is_sound lay h legal) b.1 b.2.0 b.2.1 can.2)
+
+pub starts : (lay : Layout) (v : View) (r : ℕ) → r < lay.rows → Steps lay v (Row r 0) (λ n. either (eqb n 0) 1 n) (either_step 0 (Start r) (Row r 0))
+starts lay v r l = exchanges lay v (Row r 0) 0 1 (Start r) (l, lit< tt)
+    (λ h legal pre mine e. let free = free_of_word lay (state_of lay h) r (is_sound lay h legal) e in ((l, free), start_writes (state_of lay h) r v.number free))
+
+note_range : (d w : ℕ) (b : Booking) → MayNote d w b → (w < row_words) × (w ≡ 0 → ⊥)
+note_range d w b may = ⊎_elim (λ m. maker_range w m.1) (λ m. (under w m.1, (λ e. zero_not w e m.1))) may
+  where
+    under : (w : ℕ) → (5 ≤ w) × (w ≤ 7) → w < 32
+    under w x = omega (arith, x)
+
+    zero_not : (w : ℕ) → w ≡ 0 → (5 ≤ w) × (w ≤ 7) → ⊥
+    zero_not w e x = omega (arith, x, e)
+
+    maker_range : (w : ℕ) → ((1 ≤ w) × (w ≤ 4)) ⊎ ((8 ≤ w) × (w < 8 + 24)) → (w < 32) × (w ≡ 0 → ⊥)
+    maker_range w (inl x) = (omega (arith, x), (λ e. omega (arith, x, e)))
+    maker_range w (inr x) = (omega (arith, x), (λ e. omega (arith, x, e)))
+
+pub notes : (lay : Layout) (a : Seat ℕ View) (r w n : ℕ) → CanNote lay a r w → Steps lay a.me.0 (Row r w) (λ _. n) (λ _. Note r w n)
+notes lay a r w n can h legal pre mine =
+    let s : State = state_of lay h in
+    let d : ℕ = a.me.0.number in
+    let b = own_on lay a.me.0.seen d h r (MayNote d w) (may_note d w) legal pre mine can.1 in
+    let range = note_range d w b.0 b.2 in
+    ((can.0, on_row s r b.0 (MayNote d w) b.1 b.2), note_writes lay s r w n b.0 (is_sound lay h legal) b.1 range.0 range.1)
+
+-- turns
+
+turns_with : (s t : State) (d lim lim' : ℕ) (to : Phase) (m : ℕ) (x : ℤ) (q : ℕ) → lim' ≡ lim → (OnRow s (q - 1) (IsMadeBy d) → OnRow t (q - 1) (IsMadeBy d)) → TurnsWith s d lim to m x q → TurnsWith t d lim' to m x q
+turns_with s t d lim lim' Confirmed m x q same stays w = (subst (λ (l : ℕ). m ≤ l) (sym same) w.0, w.1, w.2)
+turns_with s t d lim lim' Fulfilled m x q same stays w = w
+turns_with s t d lim lim' (Ending Release) m x q same stays w = w
+turns_with s t d lim lim' (Ending Expire) m x q same stays w = (subst (λ (l : ℕ). l < m) (sym same) w.0, w.1, w.2)
+turns_with s t d lim lim' (Ending Refund) m x q same stays w = w
+turns_with s t d lim lim' (Ending Exchange) m x q same stays w = (w.0, w.1, w.2, stays w.3)
+turns_with s t d lim lim' Free m x q same stays w = w
+turns_with s t d lim lim' Making m x q same stays w = w
+turns_with s t d lim lim' Prebooked m x q same stays w = w
+turns_with s t d lim lim' (Ended k) m x q same stays w = w
+
+-- what a sealed booking is now, whoever acted
+pub sealed_row : (lay : Layout) (seen h : List Entry) (r : ℕ) (b : Booking) → IsLegal lay h → IsPrefix seen h → present (state_of lay seen) r ≡ Some b → is_sealed b.phase ≡ true → (c : Booking) × (present (state_of lay h) r ≡ Some c) × Stays b c
+sealed_row lay seen h r b legal (es, e) at sealed =
+    let whole : IsLegal lay (seen ++ es) = subst (IsLegal lay) (sym e) legal in
+    let same : state_after (state_of lay seen) es ≡ state_of lay h = sym (state_of-append lay seen es) ∙ ap (state_of lay) e in
+    found (present (state_of lay h) r) (Stays b) (subst (λ (s : State). OnRow s r (Stays b)) same (stays-history lay (state_of lay seen) es r b (legal-rest lay seen es whole) at sealed))
+
+word_says : (o : Option Booking) → said_phase (word_in 0 o) ≡ option_map_or (λ b. b.phase) o Free
+word_says None = refl
+word_says (Some b) = phase_back b.phase
+
+pub turns : (lay : Layout) (a : Seat ℕ View) (r : ℕ) (from to : Phase) (m : ℕ) (x : ℤ) (q : ℕ) → CanTurn lay a.me.0.seen a.me.0.number r from to m x q
+    → Steps lay a.me.0 (Row r 0) (λ n. either (eqb n (word_of_phase from)) (word_of_phase to) n) (turn_step (word_of_phase from) (Turn r from to m x q))
+turns lay a r from to m x q can = exchanges_or lay a.me.0 (Row r 0) (word_of_phase from) (word_of_phase to) (Turn r from to m x q) (λ n. LostTurn r from (said_phase n))
+    (λ h legal pre mine e.
+    let s : State = state_of lay h in
+    let d : ℕ = a.me.0.number in
+    let s0 : State = state_of lay a.me.0.seen in
+    let f = found (present s0 r) (λ b. (is_sealed b.phase ≡ true) × TurnsWith s0 d (limit_of b) to m x q) can.3 in
+    let k = sealed_row lay a.me.0.seen h r f.0 legal pre f.1 f.2.0 in
+    let c = k.0 in
+    let ph : c.phase ≡ from = word_phase c.phase from (sym (ap (word_in 0) k.1) ∙ e) in
+    let lim : limit_of c ≡ limit_of f.0 = k.2.sealed.words 2 (inl (lit≤ tt, lit≤ tt)) in
+    let with = turns_with s0 s d (limit_of f.0) (limit_of c) to m x q lim
+    (λ on. let o = own_on lay a.me.0.seen d h (q - 1) (IsMadeBy d) (maker d) legal pre mine on in on_row s (q - 1) o.0 (IsMadeBy d) o.1 o.2) f.2.1 in (
+      (can.0, can.1, can.2, on_row s r c (λ b. (b.phase ≡ from) × TurnsWith s d (limit_of b) to m x q) k.1 (ph, with)),
+      turn_writes s r d to (record { moment = m; amount = x; successor = q }) c k.1,
+    ))
+    (λ h legal e.
+    let o = present (state_of lay h) r in
+    ((can.0, word_says o, (λ i. e (sym (ap word_of_phase (word_says o)) ∙ ap word_of_phase i))), refl))
+
+-- seals
+
+pub seals : (lay : Layout) (a : Seat ℕ View) (r : ℕ) (ph : Phase) → IsAllowedStep lay (state_of lay a.me.0.seen) a.me.0.number (Seal r ph) → Steps lay a.me.0 (Row r 0) (λ n. either (eqb n 1) (word_of_phase ph) n) (λ _. Seal r ph)
+seals lay a r ph can h legal pre mine =
+    let s : State = state_of lay h in
+    let d : ℕ = a.me.0.number in
+    let P : Booking → Type 0 = λ b. IsMadeBy d b × IsSealable b in
+    let b = own_on lay a.me.0.seen d h r P (λ b m. maker d b m.0) legal pre mine can.1 in
+    let one : value s (Row r 0) ≡ 1 = ap (word_in 0) b.1 ∙ ap word_of_phase b.2.0.0 in
+    let whole : IsLegal lay (a.me.0.seen ++ pre.0) = subst (IsLegal lay) (sym pre.1) legal in
+    let same : state_after (state_of lay a.me.0.seen) pre.0 ≡ s = sym (state_of-append lay a.me.0.seen pre.0) ∙ ap (state_of lay) pre.1 in
+    let still : MaySealAs s d r ph = ⊎_elim inl (λ x. inr (x.0, subst (λ (t : State). Any (IsExchangedFor d r) t) same (exchanged_stays lay d r (state_of lay a.me.0.seen) pre.0 (legal-rest lay a.me.0.seen pre.0 whole) x.1))) can.2 in (
+      (can.0, on_row s r b.0 P b.1 b.2, still),
+      subst (λ (n : ℕ). Writes s (change s r (in_phase ph)) (Row r 0) (either (eqb n 1) (word_of_phase ph) n)) (sym one) (phase_writes (in_phase ph) (λ _. refl) (λ _. refl) (λ _. refl) s r b.0 b.1),
+    )
+
+-- closes
+
+pub closes : (lay : Layout) (a : Seat ℕ View) (r : ℕ) (kind : EndKind) → r < lay.rows → OnRow (state_of lay a.me.0.seen) r (λ b. IsEndedBy a.me.0.number kind b × AllGiven b × HasEndWords kind b)
+    → Steps lay a.me.0 (Row r 0) (λ n. either (eqb n (word_of_phase (Ending kind))) (word_of_phase (Ended kind)) n) (λ _. Close r)
+closes lay a r kind row can h legal pre mine =
+    let s : State = state_of lay h in
+    let d : ℕ = a.me.0.number in
+    let P : Booking → Type 0 = λ b. IsEndedBy d kind b × AllGiven b × HasEndWords kind b in
+    let b = own_on lay a.me.0.seen d h r P (λ b m. ender d b (kind, m.0)) legal pre mine can in
+    let word : value s (Row r 0) ≡ word_of_phase (Ending kind) = ap (word_in 0) b.1 ∙ ap word_of_phase b.2.0.0 in
+    let now : word_of_phase (ended_phase b.0.phase) ≡ word_of_phase (Ended kind) = ap (λ (x : Phase). word_of_phase (ended_phase x)) b.2.0.0 in
+    let wrote = phase_writes closed (λ _. refl) (λ _. refl) (λ _. refl) s r b.0 b.1 in (
+      (row, on_row s r b.0 (MayClose d) b.1 (kind, b.2.0, b.2.1, b.2.2)),
+      subst (λ (n : ℕ). Writes s (change s r closed) (Row r 0) (either (eqb n (word_of_phase (Ending kind))) (word_of_phase (Ended kind)) n)) (sym word)
+          (subst (λ (c : Bool). Writes s (change s r closed) (Row r 0) (either c (word_of_phase (Ended kind)) (word_of_phase (Ending kind)))) (sym (eq-eqb (word_of_phase (Ending kind)) (word_of_phase (Ending kind)) refl))
+          (subst (Writes s (change s r closed) (Row r 0)) now wrote)),
+    )

@@ -1,0 +1,315 @@
+-- What a desk has out stays so through calls that leave its rows alone.
+use Rattle.std.proofs.Common.{◌≡◌, ◌⊎◌, inl, inr, ⊎_elim, ℕ, ◌-◌, true, false, not, eqb, ne_eqb, List, [], ◌∷◌, ◌++◌, map, take, drop, length, ℤ, Option, Some, None, IsSomeAnd, refl, sym, ap, ◌∙◌, subst}
+use Rattle.std.proofs.lemmas.Bool.{eqb-true}
+use mathlib.Core.List.{append_cancel_left}
+use Rattle.leg_masks.specs.Interval.{item_word}
+use Rattle.leg_masks.specs.Interval.{PlacedSpan as Item}
+use Rattle.history_model.specs.declared.entry.Entry.{Entry}
+use Rattle.history_model.specs.declared.entry.Step.{Step}
+use Rattle.history_model.specs.declared.entry.Step.TheVariants.{Look, Take, Give, Start, SawRow, Note, Seal, Turn, LostTurn, Close, Met}
+use Rattle.history_model.specs.declared.phase.Phase.{Phase}
+use Rattle.history_model.specs.declared.phase.Phase.TheVariants.{Making, Prebooked, Confirmed, Ending, Ended}
+use Rattle.history_model.specs.declared.phase.EndKind.{EndKind}
+use Rattle.history_model.specs.Booking.{Booking, Layout, State, present}
+use Rattle.history_model.specs.Allowed.{IsAllowedStep, IsMadeBy, IsBeingEndedBy, OnRow, IsSealable}
+use Rattle.history_model.specs.Apply.{apply_step, in_phase, closed, ended_phase}
+use Rattle.history_model.specs.History.{IsLegal, IsLegalFrom, entry, own, state_of, state_after}
+use Rattle.history_model.specs.Laws.{is_owners}
+use Rattle.history_model.specs.Quiet.{AllQuiet, is_quiet}
+use Rattle.history_model.specs.Work.{IsIn, NoStep, starts_row, ends_row}
+use Rattle.history_model.proofs.Keeping.{found}
+use Rattle.history_model.proofs.Owners.{on_row, firm_making, firm_ending}
+use Rattle.history_model.proofs.Ranges.{all_found}
+use Rattle.history_model.proofs.Seen.{legal-front, legal-rest, own-append, state_of-append}
+use Rattle.history_model.proofs.Work.{made_since, ended_since, made_step, ended_step}
+use Rattle.claim_rule.specs.Rule.{DeskView, state_seen}
+use Rattle.claim_rule.specs.Holds.{HoldView, StandsFor}
+use Rattle.claim_rule.specs.Endings.{EndingView, IsEndingOf}
+use Rattle.claim_rule.specs.Seats.{Stepped, HasMet, Shape}
+use Rattle.claim_rule.specs.Out.{Makes, EndsRow, IsHolding, HoldsNone, IsEnding, EndsNone, IsIdle, KeepsHolds, KeepsEndings, AreSettled, IsTidy, exchanges, successor_of, is_look, AllLooks, Has}
+use Rattle.claim_rule.proofs.Shapes.{shape_rest, step_shape, own_through, stands_through}
+use Rattle.claim_rule.proofs.EndingLemmas.{ending_through}
+use Rattle.claim_rule.proofs.Holding.{legal_before, state_then, own_changes}
+
+-- rows that a desk makes or ends come by its own start or turn alone
+
+pub makes_before : (old new : DeskView) (es : List Step) (r : ℕ) → Shape old new es → NoStep (starts_row r) es → Makes new r → Makes old r
+makes_before old new es r did calm on =
+    let x = shape_rest old new es did in
+    made_since old.layout (state_seen old) did.front.0 es old.number r x.0 x.1 calm
+    (subst (λ (s : State). OnRow s r (IsMadeBy old.number)) x.2 (subst (λ (n : ℕ). OnRow (state_seen new) r (IsMadeBy n)) did.same.2 on))
+
+ends_as : (s : State) (r d : ℕ) → OnRow s r (IsBeingEndedBy d) → (kind : EndKind) × OnRow s r (IsIn (Ending kind) d)
+ends_as s r d on = let n = found (present s r) (IsBeingEndedBy d) on in (n.2.0, on_row s r n.0 (IsIn (Ending n.2.0) d) n.1 n.2.1)
+
+ends_so : (s : State) (r d : ℕ) (kind : EndKind) → OnRow s r (IsIn (Ending kind) d) → OnRow s r (IsBeingEndedBy d)
+ends_so s r d kind on = let n = found (present s r) (IsIn (Ending kind) d) on in on_row s r n.0 (IsBeingEndedBy d) n.1 (kind, n.2)
+
+pub ends_before : (old new : DeskView) (es : List Step) (r : ℕ) → Shape old new es → NoStep (ends_row r) es → EndsRow new r → EndsRow old r
+ends_before old new es r did calm on =
+    let x = shape_rest old new es did in
+    let k = ends_as (state_seen old) r old.number in
+    let e = ends_as (state_after (state_seen old) did.front.0) r old.number (subst (λ (s : State). OnRow s r (IsBeingEndedBy old.number)) x.2 (subst (λ (n : ℕ). OnRow (state_seen new) r (IsBeingEndedBy n)) did.same.2 on)) in
+    ends_so (state_seen old) r old.number e.0 (ended_since old.layout (state_seen old) did.front.0 es e.0 old.number r x.0 x.1 calm e.1)
+
+-- the same for one step, which may be the start or the turn
+pub step_makes : (st : Step) (old new : DeskView) (r : ℕ) → Stepped st old new → Makes new r → Makes old r ⊎ (starts_row r st ≡ true)
+step_makes st old new r did on =
+    let d = old.number in
+    let h : List Entry = old.seen ++ did.between in
+    let whole = legal_before st old new did in
+    let front = legal-front old.layout h (entry d st ∷ []) whole in
+    let may : IsAllowedStep old.layout (state_of old.layout h) d st = (legal-rest old.layout h (entry d st ∷ []) whole).0 in
+    let now : OnRow (apply_step (state_of old.layout h) d st) r (IsMadeBy d) = subst (λ (s : State). OnRow s r (IsMadeBy d)) (state_then st old new did) (subst (λ (n : ℕ). OnRow (state_seen new) r (IsMadeBy n)) did.same.2 on) in
+    ⊎_elim
+    (λ (o : OnRow (state_of old.layout h) r (IsMadeBy d)). inl (made_since old.layout (state_seen old) did.between [] d r (legal-rest old.layout old.seen did.between front) did.others tt
+    (subst (λ (s : State). OnRow s r (IsMadeBy d)) (state_of-append old.layout old.seen did.between) o)))
+    (λ (x : (d ≡ d) × (starts_row r st ≡ true)). inr x.1)
+    (made_step old.layout (state_of old.layout h) d st d r may now)
+
+pub step_ends : (st : Step) (old new : DeskView) (r : ℕ) → Stepped st old new → EndsRow new r → EndsRow old r ⊎ (ends_row r st ≡ true)
+step_ends st old new r did on =
+    let d = old.number in
+    let h : List Entry = old.seen ++ did.between in
+    let whole = legal_before st old new did in
+    let front = legal-front old.layout h (entry d st ∷ []) whole in
+    let may : IsAllowedStep old.layout (state_of old.layout h) d st = (legal-rest old.layout h (entry d st ∷ []) whole).0 in
+    let e = ends_as (apply_step (state_of old.layout h) d st) r d (subst (λ (s : State). OnRow s r (IsBeingEndedBy d)) (state_then st old new did) (subst (λ (n : ℕ). OnRow (state_seen new) r (IsBeingEndedBy n)) did.same.2 on)) in
+    ⊎_elim
+    (λ (o : OnRow (state_of old.layout h) r (IsIn (Ending e.0) d)). inl (ends_so (state_seen old) r d e.0 (ended_since old.layout (state_seen old) did.between [] e.0 d r (legal-rest old.layout old.seen did.between front) did.others tt
+    (subst (λ (s : State). OnRow s r (IsIn (Ending e.0) d)) (state_of-append old.layout old.seen did.between) o))))
+    (λ (x : (d ≡ d) × (ends_row r st ≡ true)). inr x.1)
+    (ended_step old.layout (state_of old.layout h) d st e.0 d r may e.1)
+
+-- rows made, and rows ended
+
+pub makes_of : (desk : DeskView) (hold : HoldView) → StandsFor desk hold → Makes desk hold.row
+makes_of desk hold is = on_row (state_seen desk) hold.row is.booking (IsMadeBy desk.number) is.found (is.making, is.owner)
+
+pub ends_of : (desk : DeskView) (e : EndingView) → IsEndingOf desk e → EndsRow desk e.row
+ends_of desk e is = on_row (state_seen desk) e.row is.booking (IsBeingEndedBy desk.number) is.found (e.kind, (is.phase, is.owner))
+
+some_same : (x y : Booking) → Some x ≡ Some y → x ≡ y
+some_same x y e = cc
+
+-- no row is both
+pub not_both : (desk : DeskView) (q r : ℕ) → Makes desk q → EndsRow desk r → q ≡ r → ⊥
+not_both desk q r m e same =
+    let a = found (present (state_seen desk) q) (IsMadeBy desk.number) m in
+    let b = found (present (state_seen desk) r) (IsBeingEndedBy desk.number) e in
+    let is : a.0 ≡ b.0 = some_same a.0 b.0 (sym a.1 ∙ (ap (present (state_seen desk)) same ∙ b.1)) in
+    let clash : Making ≡ Ending b.2.0 = sym a.2.0 ∙ (ap (λ (x : Booking). x.phase) is ∙ b.2.1.0) in
+    cc
+
+-- what is so of a row that the desk makes stays so
+pub made_row : (old new : DeskView) (es : List Step) (r : ℕ) (P : Booking → Type 0) → Shape old new es → AllQuiet r es → Makes old r → OnRow (state_seen old) r P → OnRow (state_seen new) r P
+made_row old new es r P did quiet m on =
+    let a = found (present (state_seen old) r) (IsMadeBy old.number) m in
+    let now = own_through old new es r a.0 did quiet a.1 a.2.1 (firm_making a.0.phase a.2.0) in
+    subst (λ (o : Option Booking). IsSomeAnd o P) (a.1 ∙ sym now) on
+
+pub keeps_holds : (old new : DeskView) (es : List Step) → Shape old new es → new.kept ≡ old.kept → ((r : ℕ) → Makes old r → AllQuiet r es) → ((r : ℕ) → NoStep (starts_row r) es) → KeepsHolds old new
+keeps_holds old new es did kept quiet calm = record {
+  hold = λ hold is. record {
+    of = (stands_through old new es hold did (quiet hold.row (makes_of old hold is.of.0)) is.of.0, kept ∙ is.of.1);
+    only = λ r m. is.only r (makes_before old new es r did (calm r) m);
+  };
+  noted = λ hold items is on. made_row old new es hold.row (λ b. take (length items) (drop 8 b.words) ≡ map (λ (i : Item). item_word i.place i.span) items) did (quiet hold.row (makes_of old hold is.of.0)) (makes_of old hold is.of.0) on;
+  ready = λ hold is on. made_row old new es hold.row IsSealable did (quiet hold.row (makes_of old hold is.of.0)) (makes_of old hold is.of.0) on;
+  none = λ h r m. kept ∙ h r (makes_before old new es r did (calm r) m);
+}
+
+pub keeps_endings : (old new : DeskView) (es : List Step) → Shape old new es → ((r : ℕ) → EndsRow old r → AllQuiet r es) → ((r : ℕ) → NoStep (ends_row r) es) → KeepsEndings old new
+keeps_endings old new es did quiet calm = record {
+  ending = λ e is. record {
+    of = ending_through old new es e did (quiet e.row (ends_of old e is.of)) is.of;
+    only = λ r m. is.only r (ends_before old new es r did (calm r) m);
+  };
+  none = λ h r m. h r (ends_before old new es r did (calm r) m);
+}
+
+-- calls after each other
+
+pub holds_then : (a b c : DeskView) → KeepsHolds a b → KeepsHolds b c → KeepsHolds a c
+holds_then a b c p q = record {
+  hold = λ hold is. q.hold hold (p.hold hold is);
+  noted = λ hold items is on. q.noted hold items (p.hold hold is) (p.noted hold items is on);
+  ready = λ hold is on. q.ready hold (p.hold hold is) (p.ready hold is on);
+  none = λ h. q.none (p.none h);
+}
+
+pub endings_then : (a b c : DeskView) → KeepsEndings a b → KeepsEndings b c → KeepsEndings a c
+endings_then a b c p q = record { ending = λ e is. q.ending e (p.ending e is); none = λ h. q.none (p.none h) }
+
+pub holds_same : (a : DeskView) → KeepsHolds a a
+holds_same a = record { hold = λ hold is. is; noted = λ hold items is on. on; ready = λ hold is on. on; none = λ h. h }
+
+pub endings_same : (a : DeskView) → KeepsEndings a a
+endings_same a = record { ending = λ e is. is; none = λ h. h }
+
+pub still_idle : (a b : DeskView) → KeepsHolds a b → KeepsEndings a b → IsIdle a → IsIdle b
+still_idle a b p q is = (p.none is.0, q.none is.1)
+
+-- looks alone touch no row
+
+look_quiet : (st : Step) (r : ℕ) → is_look st ≡ true → (is_quiet r st ≡ true) × (starts_row r st ≡ false) × (ends_row r st ≡ false)
+look_quiet (Look p n) r is = (refl, refl, refl)
+look_quiet (Take q p span) r is = absurd (let no : false ≡ true = is in cc)
+look_quiet (Give q k) r is = absurd (let no : false ≡ true = is in cc)
+look_quiet (Start q) r is = absurd (let no : false ≡ true = is in cc)
+look_quiet (SawRow q w n) r is = (refl, refl, refl)
+look_quiet (Note q w n) r is = absurd (let no : false ≡ true = is in cc)
+look_quiet (Seal q ph) r is = absurd (let no : false ≡ true = is in cc)
+look_quiet (Turn q from to m a x) r is = absurd (let no : false ≡ true = is in cc)
+look_quiet (LostTurn q wanted shown) r is = (refl, refl, refl)
+look_quiet (Close q) r is = absurd (let no : false ≡ true = is in cc)
+look_quiet Met r is = (refl, refl, refl)
+
+pub looks_quiet : (es : List Step) (r : ℕ) → AllLooks es → AllQuiet r es × NoStep (starts_row r) es × NoStep (ends_row r) es
+looks_quiet [] r all = (tt, tt, tt)
+looks_quiet (st ∷ es) r all = let h = look_quiet st r all.0 in let t = looks_quiet es r all.1 in ((h.0, t.0), (h.1, t.1), (h.2, t.2))
+
+pub looks_holds : (old new : DeskView) (es : List Step) → Shape old new es → new.kept ≡ old.kept → AllLooks es → KeepsHolds old new
+looks_holds old new es did kept all = keeps_holds old new es did kept (λ r m. (looks_quiet es r all).0) (λ r. (looks_quiet es r all).1)
+
+pub looks_endings : (old new : DeskView) (es : List Step) → Shape old new es → AllLooks es → KeepsEndings old new
+looks_endings old new es did all = keeps_endings old new es did (λ r m. (looks_quiet es r all).0) (λ r. (looks_quiet es r all).2)
+
+-- the steps of a hold leave an ending, and those of an ending leave a hold
+
+apart : (q r : ℕ) → (q ≡ r → ⊥) → not (eqb q r) ≡ true
+apart q r other = ap not (ne_eqb q r other)
+
+pub hold_endings : (old new : DeskView) (es : List Step) (hold : HoldView) → Shape old new es → StandsFor old hold → ((r : ℕ) → not (eqb hold.row r) ≡ true → AllQuiet r es) → ((r : ℕ) → NoStep (ends_row r) es) → KeepsEndings old new
+hold_endings old new es hold did is quiet calm = keeps_endings old new es did (λ r e. quiet r (apart hold.row r (not_both old hold.row r (makes_of old hold is) e))) calm
+
+pub ending_holds : (old new : DeskView) (es : List Step) (e : EndingView) → Shape old new es → new.kept ≡ old.kept → IsEndingOf old e → ((r : ℕ) → not (eqb e.row r) ≡ true → AllQuiet r es) → ((r : ℕ) → NoStep (starts_row r) es) → KeepsHolds old new
+ending_holds old new es e did kept is quiet calm = keeps_holds old new es did kept (λ r m. quiet r (apart e.row r (λ same. not_both old r e.row m (ends_of old e is) (sym same)))) calm
+
+-- a step on the hold's row leaves no other row with the desk
+pub hold_only : (st : Step) (old new : DeskView) (hold : HoldView) → Stepped st old new → ((r : ℕ) → starts_row r st ≡ false) → IsHolding old hold → (r : ℕ) → Makes new r → r ≡ hold.row
+hold_only st old new hold did calm is r m = ⊎_elim (λ (o : Makes old r). is.only r o) (λ (t : starts_row r st ≡ true). absurd (let no : false ≡ true = sym (calm r) ∙ t in cc)) (step_makes st old new r did m)
+
+pub ending_only : (st : Step) (old new : DeskView) (e : EndingView) → Stepped st old new → ((r : ℕ) → ends_row r st ≡ false) → IsEnding old e → (r : ℕ) → EndsRow new r → r ≡ e.row
+ending_only st old new e did calm is r m = ⊎_elim (λ (o : EndsRow old r). is.only r o) (λ (t : ends_row r st ≡ true). absurd (let no : false ≡ true = sym (calm r) ∙ t in cc)) (step_ends st old new r did m)
+
+-- a start leaves the desk that row alone, and a turn that ending alone
+pub started_only : (q : ℕ) (old new : DeskView) → old.kept ≡ None → HoldsNone old → Stepped (Start q) old new → (r : ℕ) → Makes new r → r ≡ q
+started_only q old new kept none did r m = ⊎_elim (λ (o : Makes old r). absurd (let no : ◌≡◌ {A = Option ℕ} None (Some r) = sym kept ∙ none r o in cc)) (λ (t : eqb q r ≡ true). sym (eqb-true q r t)) (step_makes (Start q) old new r did m)
+
+pub turned_only : (q : ℕ) (from : Phase) (kind : EndKind) (m : ℕ) (x : ℤ) (n : ℕ) (old new : DeskView) → EndsNone old → Stepped (Turn q from (Ending kind) m x n) old new → (r : ℕ) → EndsRow new r → r ≡ q
+turned_only q from kind m x n old new none did r on = ⊎_elim (λ (o : EndsRow old r). absurd (none r o)) (λ (t : eqb q r ≡ true). sym (eqb-true q r t)) (step_ends (Turn q from (Ending kind) m x n) old new r did on)
+
+-- a sealed row is no longer made, and a closed one no longer ended
+pub sealed_none : (ph : Phase) (old new : DeskView) (hold : HoldView) → IsHolding old hold → Stepped (Seal hold.row ph) old new → HoldsNone new
+sealed_none ph old new hold is did r m =
+    let at : r ≡ hold.row = hold_only (Seal hold.row ph) old new hold did (λ _. refl) is r m in
+    let st = is.of.0 in
+    let now : present (state_seen new) hold.row ≡ Some (in_phase ph st.booking) =
+    own_changes (Seal hold.row ph) old new did hold.row st.booking (in_phase ph) (λ s. refl) (λ _. refl) st.found st.owner (firm_making st.booking.phase st.making) in
+    let b = found (present (state_seen new) r) (IsMadeBy new.number) m in
+    let same : b.0 ≡ in_phase ph st.booking = some_same b.0 (in_phase ph st.booking) (sym b.1 ∙ (ap (present (state_seen new)) at ∙ now)) in
+    let h : List Entry = old.seen ++ did.between in
+    let may : IsAllowedStep old.layout (state_of old.layout h) old.number (Seal hold.row ph) = (legal-rest old.layout h (entry old.number (Seal hold.row ph) ∷ []) (legal_before (Seal hold.row ph) old new did)).0 in
+    let making : ph ≡ Making = sym (ap (λ (x : Booking). x.phase) same) ∙ b.2.0 in
+    absurd (⊎_elim (λ (e : ph ≡ Prebooked). let no : Prebooked ≡ Making = sym e ∙ making in cc) (λ e. let no : Confirmed ≡ Making = sym e.0 ∙ making in cc) may.2)
+
+pub closed_none : (old new : DeskView) (e : EndingView) → IsEnding old e → Stepped (Close e.row) old new → EndsNone new
+closed_none old new e is did r m =
+    let at : r ≡ e.row = ending_only (Close e.row) old new e did (λ _. refl) is r m in
+    let st = is.of in
+    let now : present (state_seen new) e.row ≡ Some (closed st.booking) =
+    own_changes (Close e.row) old new did e.row st.booking closed (λ s. refl) (λ _. refl) st.found st.owner (firm_ending st.booking.phase e.kind st.phase) in
+    let b = found (present (state_seen new) r) (IsBeingEndedBy new.number) m in
+    let same : b.0 ≡ closed st.booking = some_same b.0 (closed st.booking) (sym b.1 ∙ (ap (present (state_seen new)) at ∙ now)) in
+    let clash : Ended e.kind ≡ Ending b.2.0 = sym (ap ended_phase st.phase) ∙ (sym (ap (λ (x : Booking). x.phase) same) ∙ b.2.1.0) in
+    cc
+
+-- a desk of which there is no entry makes and ends nothing
+pub new_idle : (lay : Layout) (seen : List Entry) (d r : ℕ) → IsLegal lay seen → own seen d ≡ [] → (OnRow (state_of lay seen) r (IsMadeBy d) → ⊥) × (OnRow (state_of lay seen) r (IsBeingEndedBy d) → ⊥)
+new_idle lay seen d r legal none = (
+  λ on. settled Making refl (made_since lay lay.opening seen [] d r legal.1 none tt on),
+  λ on. let e = ends_as (state_of lay seen) r d on in settled (Ending e.0) refl (ended_since lay lay.opening seen [] e.0 d r legal.1 none tt e.1),
+)
+  where
+    settled : (ph : Phase) → is_owners ph ≡ true → OnRow lay.opening r (IsIn ph d) → ⊥
+    settled ph owners on =
+        let b = found (present lay.opening r) (IsIn ph d) on in
+        let free : is_owners b.0.phase ≡ false = all_found (λ b. is_owners b.phase ≡ false) lay.opening r b.0 legal.0.settled b.1 in
+        let no : true ≡ false = sym owners ∙ (sym (ap is_owners b.2.0) ∙ free) in
+        cc
+
+-- exchanges that are settled
+
+has_more : (st : Step) (xs ys : List Entry) → Has st xs → Has st (xs ++ ys)
+has_more st [] ys on = absurd on
+has_more st (x ∷ xs) ys (inl p) = inl p
+has_more st (x ∷ xs) ys (inr more) = inr (has_more st xs ys more)
+
+pub settled_append : (xs ys : List Entry) → AreSettled xs → AreSettled ys → AreSettled (xs ++ ys)
+settled_append [] ys p q = q
+settled_append (x ∷ xs) ys p q = (λ t. has_more (Seal (successor_of x.step - 1) Confirmed) xs ys (p.0 t), settled_append xs ys p.1 q)
+
+pub settled_calm : (d : ℕ) (es : List Step) → NoStep exchanges es → AreSettled (map (entry d) es)
+settled_calm d [] calm = tt
+settled_calm d (st ∷ es) calm = (λ t. absurd (let no : false ≡ true = sym calm.0 ∙ t in cc), settled_calm d es calm.1)
+
+-- a tidy desk stays tidy through a call whose exchanges are settled and which leaves nothing out
+pub tidy_through : (old new : DeskView) (es : List Step) → Shape old new es → AreSettled (map (entry old.number) es) → IsTidy old → IsIdle new → IsTidy new
+tidy_through old new es did settled is idle =
+    (idle, subst (λ (n : ℕ). AreSettled (own new.seen n)) (sym did.same.2) (subst AreSettled (sym did.mine) (settled_append (own old.seen old.number) (map (entry old.number) es) is.1 settled)))
+
+-- meeting
+
+met_rest : (old other new : DeskView) (met : HasMet old other new) → IsLegalFrom old.layout (state_seen old) met.front.0 × (own met.front.0 old.number ≡ map (entry old.number) (Met ∷ [])) × (state_seen new ≡ state_after (state_seen old) met.front.0)
+met_rest old other new met =
+    let d = old.number in
+    let rest = met.front.0 in
+    let e = met.front.1 in
+    let lay = met.same.1 in
+    let whole : IsLegal old.layout (old.seen ++ rest) = subst (λ (l : Layout). IsLegal l (old.seen ++ rest)) lay (subst (IsLegal new.layout) (sym e) met.legal) in (
+      legal-rest old.layout old.seen rest whole,
+      append_cancel_left (own old.seen d) (own rest d) (entry d Met ∷ []) (sym (own-append old.seen rest d) ∙ (ap (λ (l : List Entry). own l d) e ∙ met.mine)),
+      ap (λ (l : Layout). state_of l new.seen) lay ∙ (ap (state_of old.layout) (sym e) ∙ state_of-append old.layout old.seen rest),
+    )
+
+pub met_idle : (old other new : DeskView) → HasMet old other new → IsIdle old → IsIdle new
+met_idle old other new met is =
+    let x = met_rest old other new met in
+    let d = old.number in (
+      λ r m. met.same.4 ∙ is.0 r (made_since old.layout (state_seen old) met.front.0 (Met ∷ []) d r x.0 x.1 (refl, tt)
+          (subst (λ (s : State). OnRow s r (IsMadeBy d)) x.2 (subst (λ (n : ℕ). OnRow (state_seen new) r (IsMadeBy n)) met.same.2 m))),
+      λ r m. let e = ends_as (state_after (state_seen old) met.front.0) r d (subst (λ (s : State). OnRow s r (IsBeingEndedBy d)) x.2 (subst (λ (n : ℕ). OnRow (state_seen new) r (IsBeingEndedBy n)) met.same.2 m)) in
+          is.1 r (ends_so (state_seen old) r d e.0 (ended_since old.layout (state_seen old) met.front.0 (Met ∷ []) e.0 d r x.0 x.1 (refl, tt) e.1)),
+    )
+
+pub met_tidy : (old other new : DeskView) → HasMet old other new → IsTidy old → IsTidy new
+met_tidy old other new met is = (
+  met_idle old other new met is.0,
+  subst (λ (n : ℕ). AreSettled (own new.seen n)) (sym met.same.2)
+      (subst AreSettled (sym met.mine) (settled_append (own old.seen old.number) (entry old.number Met ∷ []) is.1 (settled_calm old.number (Met ∷ []) (refl, tt)))),
+)
+
+-- parting
+
+pub part_idle : (old new : DeskView) → Stepped Met old (record new { made = old.made }) → IsIdle old → IsIdle new
+part_idle old new did is =
+    let now = record new { made = old.made } in
+    let shape = step_shape Met old now did in (
+      λ r m. did.same.5 ∙ is.0 r (makes_before old now (Met ∷ []) r shape (refl, tt) m),
+      λ r m. is.1 r (ends_before old now (Met ∷ []) r shape (refl, tt) m),
+    )
+
+pub part_tidy : (old new : DeskView) → Stepped Met old (record new { made = old.made }) → IsTidy old → IsTidy new
+part_tidy old new did is =
+    let now = record new { made = old.made } in (
+      part_idle old new did is.0,
+      subst (λ (n : ℕ). AreSettled (own new.seen n)) (sym did.same.2)
+          (subst AreSettled (sym (step_shape Met old now did).mine) (settled_append (own old.seen old.number) (entry old.number Met ∷ []) is.1 (settled_calm old.number (Met ∷ []) (refl, tt)))),
+    )
+
+pub new_tidy : (desk : DeskView) → IsLegal desk.layout desk.seen → own desk.seen desk.number ≡ [] → IsTidy desk
+new_tidy desk legal none = (
+  (λ r m. absurd ((new_idle desk.layout desk.seen desk.number r legal none).0 m), λ r m. (new_idle desk.layout desk.seen desk.number r legal none).1 m),
+  subst AreSettled (sym none) tt,
+)

@@ -1,0 +1,63 @@
+use Rattle.std.proofs.Common.{◌≡◌, ℕ, ◌+◌, ◌*◌, ◌<◌, List, length, sym, ap, ◌∙◌, subst, arith, None, refl}
+use Rattle.claim_rule.specs.declared.rule.View.{View}
+use Rattle.claim_rule.specs.Rule.{DeskView, BooksView}
+use Rattle.claim_rule.proofs.Meeting.{splits}
+use Rattle.claim_rule.specs.Seats.{desk_view}
+use Rattle.claim_rule.proofs.Holding.{still_parted, newly_of}
+use Rattle.claim_rule.proofs.Desks.{steps_as, part_met}
+use Rattle.claim_rule.proofs.Out.{new_tidy, part_idle, part_tidy}
+use Rattle.history_model.specs.History.{own as own_of}
+use Rattle.claim_rule.proofs.books.Books.part.Goals as goal
+use Rattle.history_model.specs.declared.entry.Step.TheVariants.{Met}
+
+some_words : (w n r : ℕ) → w ≡ n + 32 * r → 0 < n → 0 < w
+some_words w n r e l = omega arith
+
+pub load_as-requires-clause-word : goal.load_as-requires-clause-word
+load_as-requires-clause-word c = subst (λ (b : BooksView). 0 < length b.layout.legs) c.self.view_is c.self.invariant.3
+
+pub split_seat-seat-requires : goal.split_seat-seat-requires
+split_seat-seat-requires c =
+    let t = c.self.inside.table.shared in
+    let m = c.load_as.ensures in
+    let s = m.3.same in (
+      m.0 ∙ (ap (λ (d : DeskView). d.table) c.desk.view_is ∙ (c.requires.own.table ∙ sym (ap (λ (b : BooksView). b.table) c.self.view_is))),
+      some_words t.table_id.words (length t.key.legs) t.key.rows c.self.invariant.2 c.self.invariant.3,
+      splits t.key c.load_as.new.seat.id c.load_as.new.seat.me.0 (s.1 ∙ c.desk.invariant.fresh) (s.2 ∙ (ap (λ (d : DeskView). d.number) c.desk.view_is ∙ c.requires.first)),
+    )
+
+pub returns-clause-met : goal.returns-clause-met
+returns-clause-met c =
+    let p = c.split_seat-seat.ensures in
+    part_met Met c.args.desk.now c.load_as.new.seat c.split_seat-seat.new.seat c.desk.inside.kept c.desk.inside.past
+    (steps_as c.args.self.now.layout Met c.desk.inside.seat c.load_as.new.seat c.desk.inside.kept c.desk.inside.past c.args.desk.now c.desk.view_is (ap (λ (d : DeskView). d.layout) c.desk.view_is ∙ c.requires.own.layout) c.load_as.ensures)
+    p.0 (ap (λ (m : View × List (ℕ × ℕ)). m.0) p.2)
+
+pub returns-clause-own : goal.returns-clause-own
+returns-clause-own c =
+    let p = c.split_seat-seat.ensures in
+    let did = returns-clause-met c in
+    let now = still_parted c.args.self.now c.args.desk.now (desk_view c.split_seat-seat.new.seat c.desk.inside.kept c.desk.inside.past) did c.requires.own in
+    let v = ap (λ (m : View × List (ℕ × ℕ)). m.0) p.2 in
+    let w = ap (λ (m : View × List (ℕ × ℕ)). m.0) p.4 in (
+      now,
+      newly_of c.args.self.now (desk_view c.split_seat-seat.new.seat c.desk.inside.kept c.desk.inside.past) (desk_view c.split_seat-seat.result None c.desk.inside.past) now (p.3 ∙ sym p.0)
+          (ap (λ (x : View). x.plan) w ∙ sym (ap (λ (x : View). x.plan) v)) (ap (λ (x : View). x.seen) w ∙ sym (ap (λ (x : View). x.seen) v)) refl refl,
+    )
+
+made_less : (old new : ℕ) → new ≡ old → old < new + 1
+made_less old new e = omega arith
+
+pub returns-clause-tidy : goal.returns-clause-tidy
+returns-clause-tidy c =
+    let v = c.load_as.new.seat.me.0 in
+    let m = c.load_as.ensures.3 in
+    let w = ap (λ (m : View × List (ℕ × ℕ)). m.0) c.split_seat-seat.ensures.4 in
+    let none = m.later (ap (λ (d : DeskView). d.number) c.desk.view_is ∙ c.requires.first) (v.made + 1) (made_less c.desk.inside.seat.me.0.made v.made m.same.4) in
+    new_tidy (desk_view c.split_seat-seat.result None c.desk.inside.past) (returns-clause-own c).1.legal (ap (λ (x : View). own_of x.seen x.number) w ∙ none)
+
+pub returns-clause-still : goal.returns-clause-still
+returns-clause-still c =
+    let did = returns-clause-met c in
+    let now = desk_view c.split_seat-seat.new.seat c.desk.inside.kept c.desk.inside.past in
+    (part_idle c.args.desk.now now did, part_tidy c.args.desk.now now did)

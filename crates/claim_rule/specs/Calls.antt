@@ -1,0 +1,24 @@
+-- The lists of steps that a call of a desk may have.
+use Rattle.std.specs.Prelude.{◌≡◌, ◌⊎◌, List, ◌++◌}
+use Rattle.history_model.specs.declared.entry.Step.{Step}
+use Rattle.claim_rule.specs.Rule.{DeskView}
+use Rattle.claim_rule.specs.Seats.{Shape}
+
+-- which lists of steps a call may have
+abbrev pub Calls : Type 1
+Calls = List Step → Type 0
+
+-- just these steps
+abbrev pub Exactly : List Step → Calls
+Exactly steps = λ es. es ≡ steps
+
+-- steps of the one, and then of the other
+abbrev pub Then : Calls → Calls → Calls
+Then P Q = λ es. (first : List Step) × (second : List Step) × P first × Q second × (es ≡ first ++ second)
+
+abbrev pub OneOf : Calls → Calls → Calls
+OneOf P Q = λ es. P es ⊎ Q es
+
+-- the desk's own steps of the call are of these
+abbrev pub ShapeBy : Calls → DeskView → DeskView → Type 0
+ShapeBy P old new = (steps : List Step) × P steps × Shape old new steps

@@ -1,0 +1,21 @@
+-- The steps that end a row.
+use Rattle.std.specs.Prelude.{ℕ, zero, suc, List, [], ◌∷◌, ◌++◌, length}
+use Rattle.leg_masks.specs.Interval.{PlacedSpan as Item}
+use Rattle.history_model.specs.declared.booking.End.{End}
+use Rattle.history_model.specs.declared.entry.Step.{Step}
+use Rattle.history_model.specs.declared.entry.Step.TheVariants.{Give, Note, Close}
+use Rattle.history_model.specs.declared.phase.EndKind.{EndKind}
+use Rattle.history_model.specs.Booking.{amount_word}
+
+-- so many gives of a row's items, from the item of this number on
+abbrev pub gives_from : ℕ → ℕ → ℕ → List Step
+gives_from row k zero = []
+gives_from row k (suc n) = Give row k ∷ gives_from row (suc k) n
+
+-- the notes of the end's words, and the close
+abbrev pub closing : ℕ → EndKind → End → List Step
+closing row kind end = Note row 5 end.successor ∷ Note row 6 (amount_word kind end.amount) ∷ Note row 7 end.moment ∷ Close row ∷ []
+
+-- all items are given back, the end is noted, and the row closed
+abbrev pub ending_steps : ℕ → EndKind → End → List Item → List Step
+ending_steps row kind end items = gives_from row 0 (length items) ++ closing row kind end

@@ -1,0 +1,60 @@
+-- What an ending stands for, and what a turn answers.
+use Rattle.std.specs.Prelude.{◌≡◌, ℕ, zero, suc, ◌<◌, ◌≤◌, ◌==◌, if◌then◌else◌, Bool, true, false, List, [], ◌∷◌, map, length, Some}
+use Rattle.std.specs.List.{AllByRecursion}
+use Rattle.leg_masks.specs.Interval.{item_word}
+use Rattle.leg_masks.specs.Interval.{PlacedSpan as Item}
+use Rattle.history_model.specs.declared.booking.BookedItem.{BookedItem}
+use Rattle.history_model.specs.declared.booking.End.{End}
+use Rattle.history_model.specs.declared.entry.Step.{Step}
+use Rattle.history_model.specs.declared.entry.Step.TheVariants.{SawRow}
+use Rattle.history_model.specs.declared.phase.EndKind.{EndKind}
+use Rattle.history_model.specs.declared.phase.Phase.TheVariants.{Ending}
+use Rattle.history_model.specs.Booking.{Booking, present, amount_word, first_item_word}
+use Rattle.history_model.specs.History.{state_of}
+use Rattle.claim_rule.specs.Rule.{DeskView, Each}
+use Rattle.claim_rule.specs.Holds.{held, IsItem}
+
+-- `given` of the items are given back, from the front. Where the items aren't read yet there are none here
+pub record EndingView : Type 0 where
+  pub row : ℕ
+  pub kind : EndKind
+  pub end : End
+  pub items : List Item
+  pub given : ℕ
+  pub read : Bool
+
+-- the items with so many from the front given back
+abbrev pub given_front : ℕ → List BookedItem → List BookedItem
+given_front zero is = is
+given_front (suc n) [] = []
+given_front (suc n) (i ∷ is) = record i { given_back = true } ∷ given_front n is
+
+-- the row is the desk's, ending in this way, with these items
+pub record IsEndingOf (desk : DeskView) (e : EndingView) : Type 0 where
+  pub booking : Booking
+  pub found : present (state_of desk.layout desk.seen) e.row ≡ Some booking
+  pub owner : booking.owner ≡ desk.number
+  pub phase : booking.phase ≡ Ending e.kind
+  pub end : booking.end ≡ e.end
+  pub row : e.row < desk.layout.rows
+  pub few : e.given ≤ length e.items
+  pub fresh : e.read ≡ false → AllByRecursion (λ i. i.given_back ≡ false) booking.items × (e.items ≡ [])
+  pub items : e.read ≡ true → booking.items ≡ given_front e.given (map held e.items)
+  pub within : Each (IsItem desk.layout) e.items
+
+-- an ending as a turn leaves it
+abbrev pub unread : ℕ → EndKind → End → EndingView
+unread row kind end = record { row = row; kind = kind; end = end; items = []; given = 0; read = false }
+
+-- the end words, 5 to 7
+abbrev pub end_word : EndKind → End → ℕ → ℕ
+end_word kind end w = if w == 5 then end.successor else if w == 6 then amount_word kind end.amount else end.moment
+
+-- the looks at the words of items, from one on
+abbrev pub item_looks : ℕ → ℕ → List Item → List Step
+item_looks row w [] = []
+item_looks row w (i ∷ is) = SawRow row w (item_word i.place i.span) ∷ item_looks row (suc w) is
+
+-- the looks that read the items of a row
+abbrev pub items_read : ℕ → List Item → List Step
+items_read row is = SawRow row 4 (length is) ∷ item_looks row first_item_word is

@@ -1,0 +1,44 @@
+-- What a hold stands for.
+use Rattle.std.specs.Prelude.{◌≡◌, ℕ, ◌<◌, ◌≤◌, List, [], ◌∷◌, ◌++◌, map, length, slice_index, Some, None, false}
+use Rattle.leg_masks.specs.Interval.{most_legs}
+use Rattle.leg_masks.specs.Interval.{PlacedSpan as Item}
+use Rattle.history_model.specs.declared.booking.BookedItem.{BookedItem}
+use Rattle.history_model.specs.declared.phase.Phase.TheVariants.{Making}
+use Rattle.history_model.specs.Booking.{Layout, Booking, present}
+use Rattle.history_model.specs.History.{state_of}
+use Rattle.claim_rule.specs.Rule.{DeskView, Each}
+
+pub record HoldView : Type 0 where
+  pub row : ℕ
+  pub items : List Item
+
+-- an item as its holder has it
+abbrev pub held : Item → BookedItem
+held i = record { place = i.place; span = i.span; given_back = false }
+
+-- the item lies within its place
+pub record IsItem (layout : Layout) (i : Item) : Type 0 where
+  pub place : i.place < length layout.legs
+  pub some : i.span.from < i.span.to
+  pub within : i.span.to ≤ slice_index layout.legs i.place
+  pub fits : i.span.to ≤ most_legs
+
+-- the row is the desk's, in the making, with just these items
+pub record StandsFor (desk : DeskView) (hold : HoldView) : Type 0 where
+  pub booking : Booking
+  pub found : present (state_of desk.layout desk.seen) hold.row ≡ Some booking
+  pub owner : booking.owner ≡ desk.number
+  pub making : booking.phase ≡ Making
+  pub items : booking.items ≡ map held hold.items
+  pub row : hold.row < desk.layout.rows
+  pub within : Each (IsItem desk.layout) hold.items
+
+-- the hold is this desk's, and is out: the desk keeps no other row
+abbrev pub IsHoldOf : DeskView → HoldView → Type 0
+IsHoldOf desk hold = StandsFor desk hold × (desk.kept ≡ None)
+
+abbrev pub empty_hold : ℕ → HoldView
+empty_hold row = record { row = row; items = [] }
+
+abbrev pub with_one : HoldView → Item → HoldView
+with_one hold i = record { row = hold.row; items = hold.items ++ i ∷ [] }

@@ -1,0 +1,10 @@
+pub mod Rule
+pub mod Holds
+pub mod Seats
+pub mod Walls
+pub mod Starts
+pub mod Endings
+pub mod Turns
+pub mod Out
+pub mod Calls
+pub mod EndSteps

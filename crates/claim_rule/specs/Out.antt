@@ -1,0 +1,114 @@
+-- What a desk has out: a hold, an ending, or none.
+use Rattle.std.specs.Prelude.{◌≡◌, ◌⊎◌, ℕ, ◌-◌, Bool, true, false, List, [], ◌∷◌, ◌++◌, map, take, drop, length, Some}
+use Rattle.std.specs.List.{AllByRecursion}
+use Rattle.leg_masks.specs.Interval.{item_word}
+use Rattle.leg_masks.specs.Interval.{PlacedSpan as Item}
+use Rattle.history_model.specs.declared.entry.Entry.{Entry}
+use Rattle.history_model.specs.declared.entry.Step.{Step}
+use Rattle.history_model.specs.declared.entry.Step.TheVariants.{Look, SawRow, Seal, Turn, LostTurn, Met}
+use Rattle.history_model.specs.declared.phase.Phase.{Phase}
+use Rattle.history_model.specs.declared.phase.Phase.TheVariants.{Confirmed, Ending}
+use Rattle.history_model.specs.declared.phase.EndKind.TheVariants.{Exchange}
+use Rattle.history_model.specs.Booking.{first_item_word}
+use Rattle.history_model.specs.Allowed.{IsMadeBy, IsBeingEndedBy, IsSealable, OnRow}
+use Rattle.history_model.specs.History.{entry, own, state_of}
+use Rattle.claim_rule.specs.Rule.{DeskView, state_seen}
+use Rattle.claim_rule.specs.Holds.{HoldView, IsHoldOf, held}
+use Rattle.claim_rule.specs.Endings.{EndingView, IsEndingOf}
+
+-- the row is in the making, and the desk's; it is ending, and the desk's
+abbrev pub Makes : DeskView → ℕ → Type 0
+Makes desk row = OnRow (state_seen desk) row (IsMadeBy desk.number)
+
+abbrev pub EndsRow : DeskView → ℕ → Type 0
+EndsRow desk row = OnRow (state_seen desk) row (IsBeingEndedBy desk.number)
+
+-- the hold is this desk's and out, and its row is the only one that the desk makes
+pub record IsHolding (desk : DeskView) (hold : HoldView) : Type 0 where
+  pub of : IsHoldOf desk hold
+  pub only : (row : ℕ) → Makes desk row → row ≡ hold.row
+
+-- no hold is out: the desk makes no row but one that it keeps
+abbrev pub HoldsNone : DeskView → Type 0
+HoldsNone desk = (row : ℕ) → Makes desk row → desk.kept ≡ Some row
+
+-- the ending is this desk's and out, and its row is the only one that the desk ends
+pub record IsEnding (desk : DeskView) (e : EndingView) : Type 0 where
+  pub of : IsEndingOf desk e
+  pub only : (row : ℕ) → EndsRow desk row → row ≡ e.row
+
+-- no ending is out
+abbrev pub EndsNone : DeskView → Type 0
+EndsNone desk = (row : ℕ) → EndsRow desk row → ⊥
+
+-- neither is out
+abbrev pub IsIdle : DeskView → Type 0
+IsIdle desk = HoldsNone desk × EndsNone desk
+
+-- the first item words of the row are those of these items
+abbrev pub HasNoted : DeskView → ℕ → List Item → Type 0
+HasNoted desk row items =
+    OnRow (state_seen desk) row (λ b. take (length items) (drop first_item_word b.words) ≡ map (λ i. item_word i.place i.span) items)
+
+-- the hold's items are noted in its row; all of them but the last; and all that a seal asks is noted
+abbrev pub HasNotedItems : DeskView → HoldView → Type 0
+HasNotedItems desk hold = HasNoted desk hold.row hold.items
+
+abbrev pub HasNotedButLast : DeskView → HoldView → Type 0
+HasNotedButLast desk hold = (front : List Item) × (last : Item) × (hold.items ≡ front ++ last ∷ []) × HasNoted desk hold.row front
+
+abbrev pub IsToBeSealed : DeskView → HoldView → Type 0
+IsToBeSealed desk hold = OnRow (state_seen desk) hold.row IsSealable
+
+-- what the call does not touch of the desk's hold: it stays out with what is noted, or none is out as before
+pub record KeepsHolds (old new : DeskView) : Type 0 where
+  pub hold : (hold : HoldView) → IsHolding old hold → IsHolding new hold
+  pub noted : (hold : HoldView) (items : List Item) → IsHolding old hold → HasNoted old hold.row items → HasNoted new hold.row items
+  pub ready : (hold : HoldView) → IsHolding old hold → IsToBeSealed old hold → IsToBeSealed new hold
+  pub none : HoldsNone old → HoldsNone new
+
+-- and of its ending
+pub record KeepsEndings (old new : DeskView) : Type 0 where
+  pub ending : (e : EndingView) → IsEnding old e → IsEnding new e
+  pub none : EndsNone old → EndsNone new
+
+-- the booking that the desk's seal of this row left has just these items
+abbrev pub SealsItems : DeskView → DeskView → ℕ → List Item → Type 0
+SealsItems old new row items =
+    (before : List Entry) × (phase : Phase) × (after : List Entry)
+    × (new.seen ≡ before ++ entry old.number (Seal row phase) ∷ after)
+    × OnRow (state_of old.layout (before ++ entry old.number (Seal row phase) ∷ [])) row (λ b. (b.owner ≡ old.number) × (b.items ≡ map held items))
+
+-- a turn to an exchange, and its successor as it is written there
+abbrev pub exchanges : Step → Bool
+exchanges (Turn row from (Ending Exchange) moment amount successor) = true
+exchanges _ = false
+
+abbrev pub successor_of : Step → ℕ
+successor_of (Turn row from to moment amount successor) = successor
+successor_of _ = 0
+
+-- the step stands among the entries
+abbrev pub Has : Step → List Entry → Type 0
+Has st [] = ⊥
+Has st (e ∷ es) = (e.step ≡ st) ⊎ Has st es
+
+-- each turn to an exchange is followed by the seal of its successor
+abbrev pub AreSettled : List Entry → Type 0
+AreSettled [] = Unit {0}
+AreSettled (e ∷ es) = (exchanges e.step ≡ true → Has (Seal (successor_of e.step - 1) Confirmed) es) × AreSettled es
+
+-- a desk between two calls of the service: nothing is out, and each of its exchanges has its new booking
+abbrev pub IsTidy : DeskView → Type 0
+IsTidy desk = IsIdle desk × AreSettled (own desk.seen desk.number)
+
+-- a step that only looks
+abbrev pub is_look : Step → Bool
+is_look (Look place shown) = true
+is_look (SawRow row word value) = true
+is_look (LostTurn row wanted shown) = true
+is_look Met = true
+is_look _ = false
+
+abbrev pub AllLooks : List Step → Type 0
+AllLooks es = AllByRecursion (λ st. is_look st ≡ true) es

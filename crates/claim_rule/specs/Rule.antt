@@ -1,0 +1,116 @@
+-- One legal history for all desks.
+use Rattle.std.specs.Prelude.{◌≡◌, ◌⊎◌, ℕ, ◌+◌, ◌≤◌, ◌<◌, true, false, cond, leb, List, [], ◌∷◌, ◌++◌, length, Option}
+use mathlib.Core.Option.{some}
+use mathlib.Core.List.{IsPrefix}
+use lib.ListN.{get_elem?}
+use Rattle.atomic_table.specs.Table.{State as Table}
+use Rattle.atomic_table.specs.Seated.{TableId}
+use Rattle.claim_rule.specs.declared.rule.Old.{Old}
+use Rattle.claim_rule.specs.declared.rule.View.{View}
+use Rattle.history_model.specs.Allowed.{IsAllowedStep}
+use Rattle.history_model.specs.Apply.{apply_step}
+use Rattle.history_model.specs.Booking.{Layout, State}
+use Rattle.history_model.specs.History.{IsLegal, entry, own, state_of}
+use Rattle.history_model.specs.Words.{AreWordsOf, Writes, value}
+use Rattle.history_model.specs.declared.entry.Entry.{Entry}
+use Rattle.history_model.specs.declared.entry.Step.{Step}
+use Rattle.history_model.specs.declared.word.Word.{Word}
+
+-- what contracts see of the books, and of a desk
+pub record BooksView : Type 0 where
+  pub table : TableId
+  pub layout : Layout
+
+pub record DeskView : Type 0 where
+  pub table : TableId
+  pub layout : Layout
+  pub number : ℕ
+  pub seen : List Entry
+  pub taken : List ℕ
+  pub made : ℕ
+  pub kept : Option ℕ
+  pub past : ℕ
+
+-- the state of what the desk has seen
+abbrev pub state_seen : DeskView → State
+state_seen desk = state_of desk.layout desk.seen
+
+abbrev pub newcomer : Layout → ℕ → List Entry → View
+newcomer lay d h = record { plan = lay; spent = false; number = d; seen = h; taken = []; made = 0; olds = [] }
+
+abbrev pub Each : {A : Type 0} → (A → Type 0) → List A → Type 0
+Each P [] = Unit {0}
+Each P (x ∷ xs) = P x × Each P xs
+
+abbrev pub In : ℕ → List ℕ → Type 0
+In j [] = ⊥
+In j (k ∷ ks) = (j ≡ k) ⊎ In j ks
+
+abbrev pub IsSpent : List View → ℕ → Type 0
+IsSpent views j = (v : View) × (get_elem? views j ≡ some v) × (v.spent ≡ true)
+
+-- h has all of the entries of j that the history has
+abbrev pub HasAll : List Entry → List Entry → ℕ → Type 0
+HasAll history h j = own h j ≡ own history j
+
+-- a former history is a beginning, and has all of the desks beside it
+pub record IsOld (history : List Entry) (v : View) (o : Old) : Type 0 where
+  pub front : IsPrefix o.seen history
+  pub whole : Each (λ j. HasAll history o.seen j × ((j ≡ v.number) ⊎ In j v.taken)) o.whole
+
+-- what is so of the view of seat k
+pub record Fits (history : List Entry) (views : List View) (k : ℕ) (v : View) : Type 0 where
+  pub number : v.number ≡ k
+  pub front : IsPrefix v.seen history
+  pub own_all : HasAll history v.seen k
+  pub taken : Each (λ j. IsSpent views j × HasAll history v.seen j) v.taken
+  pub olds : Each (IsOld history v) v.olds
+
+pub record Kept (layout : Layout) (s : Table ℕ View) : Type 0 where
+  pub history : List Entry
+  pub legal : IsLegal layout history
+  pub words : AreWordsOf layout (state_of layout history) s.words
+  pub seats : (k : ℕ) (v : View) → get_elem? s.views k ≡ some v → v.spent ≡ false → Fits history s.views k v
+  pub later : (k : ℕ) → length s.views ≤ k → own history k ≡ []
+  pub first : (v : View) × (get_elem? s.views 0 ≡ some v) × (v.spent ≡ false) × (length s.views ≡ v.made + 1)
+
+-- desk 0 which has taken in every desk that it parted: it has all entries there are
+abbrev pub IsWhole : ℕ → ℕ → List ℕ → Type 0
+IsWhole number made taken = (number ≡ 0) × ((j : ℕ) → 1 ≤ j → j ≤ made → In j taken)
+
+-- a desk's step was added behind all that the desk has seen, and no other step of it
+pub record Added (layout : Layout) (st : Step) (v w : View) : Type 0 where
+  pub between : List Entry
+  pub seen : w.seen ≡ (v.seen ++ between) ++ entry v.number st ∷ []
+  pub others : own between v.number ≡ []
+  pub none : IsWhole v.number v.made v.taken → between ≡ []
+  pub legal : IsLegal layout w.seen
+  pub same : (w.plan ≡ v.plan) × (w.spent ≡ v.spent) × (w.number ≡ v.number) × (w.taken ≡ v.taken) × (w.made ≡ v.made) × (w.olds ≡ [])
+  pub apart : Each (λ j. j ≡ v.number → ⊥) v.taken
+  pub later : v.number ≡ 0 → (k : ℕ) → v.made < k → own w.seen k ≡ []
+  pub olds : Each (λ (o : Old). IsPrefix o.seen w.seen × Each (λ j. own w.seen j ≡ own o.seen j ++ own (entry v.number st ∷ []) j) o.whole) v.olds
+
+-- whatever the history is, the step is allowed, and makes the word a become f of what it was
+abbrev pub Steps : Layout → View → Word → (ℕ → ℕ) → (ℕ → Step) → Type 0
+Steps layout v a f st = (h : List Entry) → IsLegal layout h → IsPrefix v.seen h → HasAll h v.seen v.number
+    → IsAllowedStep layout (state_of layout h) v.number (st (value (state_of layout h) a)) × Writes (state_of layout h) (apply_step (state_of layout h) v.number (st (value (state_of layout h) a))) a (f (value (state_of layout h) a))
+
+-- a view that parts another has made one more, and the other has seen as much
+abbrev pub parting : View → View
+parting v = record { plan = v.plan; spent = v.spent; number = v.number; seen = v.seen; taken = v.taken; made = v.made + 1; olds = v.olds }
+
+abbrev pub parted : View → View
+parted v = newcomer v.plan (v.made + 1) v.seen
+
+abbrev pub longer : List Entry → List Entry → List Entry
+longer a b = cond (leb (length a) (length b)) b a
+
+abbrev pub old_of : View → Old
+old_of v = record { seen = v.seen; whole = v.number ∷ v.taken }
+
+-- a view that takes in another
+abbrev pub joined : View → View → View
+joined v w = record { plan = v.plan; spent = v.spent; number = v.number; seen = longer v.seen w.seen; taken = v.taken ++ w.number ∷ w.taken; made = v.made; olds = old_of v ∷ old_of w ∷ [] }
+
+abbrev pub nobody : View
+nobody = record { plan = record { legs = []; rows = 0; opening = [] }; spent = true; number = 0; seen = []; taken = []; made = 0; olds = [] }

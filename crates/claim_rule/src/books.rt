@@ -1,0 +1,183 @@
+//! The books: the shared table, and one step of each kind of atomic operation on it.
+ghost use Rattle.std.specs.Prelude.{◌≡◌, ◌<◌, length, ◌==◌, ◌≤◌, bit_and, All, [], IfOk};
+ghost use prog.Atomic.{either};
+ghost use Rattle.leg_masks.specs.Interval.{most_legs, most_places};
+ghost use Rattle.history_model.specs.Words.{IsWord, index};
+ghost use Rattle.claim_rule.specs.Rule.{Steps};
+ghost use Rattle.claim_rule.specs.Seats.{IsNew, IsSeatOf, HasMade, IsOf};
+ghost use Rattle.claim_rule.specs.Out.{IsTidy};
+
+use crate::desk::Desk;
+use crate::rule::{Adds, OneHistory, Plan, Says, View};
+use atomic_table::{Seat, Table};
+use history_model::entry::Step;
+use history_model::word::Word;
+use leg_masks::{Item, Span};
+use rail_ids::PlaceNo;
+use std::alloc::{AllocError, Global};
+use std::marker::Model;
+
+/// The table under the rule.
+pub type Board = Table<u64, View, Plan, OneHistory, Global>;
+
+/// The shared table of a service: one word for each place, and 32 for each booking row. Threads share it.
+#[derive(Drop)]
+pub struct Books {
+    pub(crate) table: Board,
+    pub(crate) places: u32,
+    pub(crate) rows: u32,
+}
+
+impl Model for Books {
+    ghost use Rattle.std.specs.Prelude.{◌≡◌, ◌<◌, ◌≤◌, ◌^◌, length, All};
+    ghost use Rattle.history_model.specs.Words.{word_count};
+    ghost use Rattle.claim_rule.specs.Rule.{BooksView};
+    ghost use Rattle.leg_masks.specs.Interval.{most_legs, most_places};
+
+    ghost Value = { BooksView };
+
+    ghost view = { λ b. record { table = b.table.shared.table_id; layout = b.table.shared.key } };
+
+    ghost invariant = { λ b. (b.places ≡ length b.table.shared.key.legs) × (b.rows ≡ b.table.shared.key.rows) × (b.table.shared.table_id.words ≡ word_count b.table.shared.key) × (0 < length b.table.shared.key.legs) × (b.table.shared.table_id.slots ≡ 0) × (length b.table.shared.key.legs ≤ most_places) × All (λ n. n ≤ most_legs) b.table.shared.key.legs };
+}
+
+/// New books with a place for each number of legs, and their first desk. All words are 0, and the history is empty.
+///
+/// Want of memory is the one error.
+pub fn start_books(alloc: Global, legs: &[u8], rows: u32) -> Result<(Books, Desk), AllocError>
+    requires places { (0 < length legs.now) × (length legs.now ≤ most_places) }
+    requires legs { All (λ n. (0 < n) × (n ≤ most_legs)) legs.now }
+    requires rows { (0 < rows) × (rows ≤ 262144) }
+    ensures layout { IfOk result (λ t. t.0.layout ≡ record { legs = legs.now; rows = rows; opening = [] }) }
+    ensures own { IfOk result (λ t. IsOf t.0 t.1) }
+    ensures desk { IfOk result (λ t. IsNew t.1 0 []) }
+    ensures tidy { IfOk result (λ t. IsTidy t.1) }
+{
+    let copy = Vec::from_slice(alloc, legs)?;
+    let plan = Plan {
+        legs: copy,
+        rows,
+        opening: Vec::new(alloc),
+    };
+    let count = legs.len() + 32 * rows as usize;
+    let words = Vec::from_elem(alloc, 0u64, count)?;
+    let (table, seat): (Board, Seat<u64, View>) = Table::of_words(alloc, words.as_slice(), &plan)?;
+    let books = Books {
+        table,
+        places: legs.len() as u32,
+        rows,
+    };
+    Ok((
+        books,
+        Desk {
+            seat,
+            kept: None,
+            past: 0,
+        },
+    ))
+}
+
+impl Books {
+    /// How many places there are: at most 4,194,304, each of at most 63 legs.
+    pub fn places(&self) -> u32
+        ensures count { result ≡ length self.now.layout.legs }
+        ensures most { length self.now.layout.legs ≤ most_places }
+        ensures legs { All (λ n. n ≤ most_legs) self.now.layout.legs }
+    {
+        let _ = &self.table;
+        self.places
+    }
+
+    /// How many booking rows there are.
+    pub fn rows(&self) -> u32
+        ensures count { result ≡ self.now.layout.rows }
+        ensures most { result ≤ 4294967295 }
+    {
+        self.rows
+    }
+
+    /// The item of these legs at a place of the books.
+    pub fn item_at(&self, place: PlaceNo, span: Span) -> Item
+        requires place { place.0 < length self.now.layout.legs }
+        ensures item { result ≡ record { place = place.0; span = span } }
+    {
+        let _ = &self.table;
+        Item {
+            place: place.0,
+            span,
+        }
+    }
+
+    // The number of a word.
+    fn number_of(&self, at: Word) -> usize
+        requires { IsWord self.now.layout at }
+        ensures { result ≡ index self.now.layout at }
+    {
+        match at {
+            Word::Place(place) => place as usize,
+            Word::Row(row, word) => self.places as usize + (32 * row as usize + word as usize),
+        }
+    }
+
+    // One step of each kind of operation. The caller picks the word and the entry's step.
+    pub(crate) fn load_as<N: Says>(&self, seat: &mut Seat<u64, View>, at: Word) -> u64
+        requires own { IsSeatOf self.now N.layout seat.old }
+        requires word { IsWord N.layout at }
+        requires step { Steps N.layout seat.old.me.0 at (λ n. n) N.step }
+        ensures { HasMade N.layout (N.step result) seat.old seat.new }
+    {
+        let word = self.number_of(at);
+        self.table.shared.load::<Adds<N>>(seat, word)
+    }
+
+    pub(crate) fn exchange_as<N: Says>(
+        &self,
+        seat: &mut Seat<u64, View>,
+        at: Word,
+        old: u64,
+        new: u64,
+        _hit: Step,
+    ) -> u64
+        requires own { IsSeatOf self.now N.layout seat.old }
+        requires word { IsWord N.layout at }
+        requires step { Steps N.layout seat.old.me.0 at (λ n. either (n == old) new n) N.step }
+        ensures { HasMade N.layout (N.step result) seat.old seat.new }
+    {
+        let word = self.number_of(at);
+        self.table
+            .shared
+            .compare_exchange::<Adds<N>>(seat, word, old, new)
+    }
+
+    pub(crate) fn and_as<N: Says>(
+        &self,
+        seat: &mut Seat<u64, View>,
+        at: Word,
+        kept: u64,
+        _step: Step,
+    ) -> u64
+        requires own { IsSeatOf self.now N.layout seat.old }
+        requires word { IsWord N.layout at }
+        requires step { Steps N.layout seat.old.me.0 at (λ n. bit_and n kept) N.step }
+        ensures { HasMade N.layout (N.step result) seat.old seat.new }
+    {
+        let word = self.number_of(at);
+        self.table.shared.fetch_and::<Adds<N>>(seat, word, kept)
+    }
+
+    pub(crate) fn store_as<N: Says>(
+        &self,
+        seat: &mut Seat<u64, View>,
+        at: Word,
+        new: u64,
+        _step: Step,
+    )
+        requires own { IsSeatOf self.now N.layout seat.old }
+        requires word { IsWord N.layout at }
+        requires step { Steps N.layout seat.old.me.0 at (λ _. new) (λ _. N.step new) }
+        ensures { HasMade N.layout (N.step new) seat.old seat.new }
+    {
+        let word = self.number_of(at);
+        self.table.shared.store::<Adds<N>>(seat, word, new);
+    }
+}

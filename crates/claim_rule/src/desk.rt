@@ -1,0 +1,82 @@
+//! A desk, the empty row that it keeps, and how far it knows the rows to be taken.
+ghost use Rattle.std.specs.Prelude.{◌≡◌, ℕ, ◌<◌, ◌≤◌, [], Some, None, IfNone, IfSome};
+ghost use Rattle.history_model.specs.Booking.{phase_of_row};
+ghost use Rattle.history_model.specs.Laws.{stage};
+ghost use Rattle.history_model.specs.History.{state_of};
+ghost use Rattle.claim_rule.specs.Rule.{BooksView};
+ghost use Rattle.claim_rule.specs.Holds.{IsHoldOf, empty_hold};
+ghost use Rattle.claim_rule.specs.Seats.{IsOf};
+ghost use Rattle.claim_rule.specs.Out.{IsHolding, HoldsNone};
+
+use crate::hold::Hold;
+use crate::rule::View;
+use arrayvec::ArrayVec;
+use atomic_table::Seat;
+use rail_ids::RowNo;
+use std::marker::Model;
+
+/// A caller's token on the one table. Contracts see its number, what it has seen, and which desks it parted and took in.
+#[derive(Drop)]
+pub struct Desk {
+    pub(crate) seat: Seat<u64, View>,
+    pub(crate) kept: Option<u32>,
+    pub(crate) past: u32,
+}
+
+impl Model for Desk {
+    ghost use Rattle.claim_rule.specs.Rule.{DeskView};
+    ghost use Rattle.claim_rule.specs.Seats.{desk_view, IsSound};
+
+    ghost Value = { DeskView };
+
+    ghost view = { λ d. desk_view d.seat d.kept d.past };
+
+    ghost invariant = { λ d. IsSound d.seat };
+}
+
+impl Desk {
+    /// The first row that the desk has not seen taken yet.
+    pub fn past(&self) -> RowNo
+        ensures { result.0 ≡ self.now.past }
+    {
+        RowNo(self.past)
+    }
+
+    /// Remembers that no row below this one is free.
+    pub fn pass(&mut self, row: RowNo)
+        requires taken { (r : ℕ) → r < row.0 → 1 ≤ stage (phase_of_row (state_of self.old.layout self.old.seen) r) }
+        requires within { row.0 ≤ self.old.layout.rows }
+        ensures past { self.new ≡ record self.old { past = row.0 } }
+        ensures own { (books : BooksView) → IsOf books self.old → IsOf books self.new }
+    {
+        self.past = row.0;
+    }
+
+    /// Puts an empty row by.
+    pub fn keep(&mut self, hold: Hold)
+        requires hold { IsHoldOf self.old hold }
+        requires empty { hold.items ≡ [] }
+        ensures kept { self.new ≡ record self.old { kept = Some hold.row } }
+        ensures own { (books : BooksView) → IsOf books self.old → IsOf books self.new }
+    {
+        let Hold { row, items: _ } = hold;
+        self.kept = Some(row);
+    }
+
+    /// Takes the empty row back, where one is kept.
+    pub fn kept(&mut self) -> Option<Hold>
+        requires own { (books : BooksView) × IsOf books self.old }
+        requires none { HoldsNone self.old }
+        ensures kept { self.new ≡ record self.old { kept = None } }
+        ensures own { (books : BooksView) → IsOf books self.old → IsOf books self.new }
+        ensures none { IfNone result (self.old.kept ≡ None) }
+        ensures some { IfSome result (λ hold. (self.old.kept ≡ Some hold.row) × (hold ≡ empty_hold hold.row) × IsHolding self.new hold) }
+    {
+        let row = self.kept?;
+        self.kept = None;
+        Some(Hold {
+            row,
+            items: ArrayVec::new(),
+        })
+    }
+}

@@ -1,0 +1,286 @@
+//! A turn of a row's phase, and the steps of an ending's owner: read the items, give them back, note the end, close.
+ghost use Rattle.std.specs.Prelude.{◌≡◌, ◌≢◌, ℕ, ◌<◌, length, ◌≤◌, ◌+◌, true, false, IfNone, IfSome};
+ghost use Rattle.leg_masks.specs.Interval.{Interval, IsItemOf};
+ghost use Rattle.history_model.specs.Booking.{most_items};
+ghost use Rattle.history_model.specs.Phase.{word_of_phase, said_phase};
+ghost use Rattle.history_model.specs.declared.phase.EndKind.{EndKind};
+ghost use Rattle.history_model.specs.declared.phase.Phase.TheVariants.{Ending as IsEndingPhase};
+ghost use Rattle.history_model.specs.declared.entry.Step.TheVariants.{Give, Note, Turn, LostTurn, Close};
+ghost use Rattle.history_model.specs.Allowed.{IsAllowedStep, IsEndWord, OnRow, IsEndedBy, AllGiven, HasEndWords};
+ghost use Rattle.history_model.specs.History.{state_of};
+ghost use Rattle.claim_rule.specs.Endings.{IsEndingOf, items_read, end_word as end_word_of};
+ghost use Rattle.claim_rule.specs.Turns.{HasTurned, IsTurnedTo};
+ghost use Rattle.claim_rule.specs.Seats.{CanTurn, IsTurning, turn_step, IsSeatOf, HasMade, IsOf, Stepped, Shape};
+ghost use Rattle.claim_rule.specs.Out.{EndsNone};
+
+use crate::books::Books;
+use crate::desk::Desk;
+use crate::rule::View;
+use arrayvec::ArrayVec;
+use atomic_table::Seat;
+use history_model::booking::End;
+use history_model::entry::Step;
+use history_model::phase::{EndKind, Phase, amount_word_of, phase_word};
+use history_model::word::Word;
+use leg_masks::{Item, read_item};
+use rail_ids::RowNo;
+use std::marker::{Brand, Model};
+
+/// A row that a desk is ending, with the items that it gives back once they are read. It must be spent, by a close.
+pub struct Ending {
+    pub(crate) row: u32,
+    pub(crate) kind: EndKind,
+    pub(crate) end: End,
+    pub(crate) items: ArrayVec<Item, 24>,
+    pub(crate) given: u8,
+    pub(crate) read: bool,
+}
+
+impl Model for Ending {
+    ghost use Rattle.claim_rule.specs.Endings.{EndingView};
+
+    ghost Value = { EndingView };
+
+    ghost view = { λ e. record { row = e.row; kind = e.kind; end = e.end; items = e.items.items; given = e.given; read = e.read } };
+}
+
+/// What a turn answers: it is made, and leaves an ending where it is one to an ending; or the word shown was not that of `from`.
+pub enum StepTurned {
+    Won,
+    Ending(Ending),
+    Missed { shown: u64 },
+}
+
+// The item of a word that is one.
+fn item_of(word: u64) -> Item
+    requires { (place : ℕ) × (span : Interval) × IsItemOf place span word }
+    ensures { IsItemOf result.place result.span word }
+{
+    match read_item(word) {
+        Some(item) => item,
+        None => unreachable!(),
+    }
+}
+
+// What a turn that was made answers.
+fn turned_to(row: u32, to: Phase, end: End) -> StepTurned
+    ensures { IsTurnedTo row to end result }
+{
+    match to {
+        Phase::Ending(kind) => StepTurned::Ending(Ending {
+            row,
+            kind,
+            end,
+            items: ArrayVec::new(),
+            given: 0,
+            read: false,
+        }),
+        _ => StepTurned::Won,
+    }
+}
+
+impl Ending {
+    /// The row that is ending.
+    pub fn row(&self) -> RowNo
+        ensures { result.0 ≡ self.now.row }
+    {
+        RowNo(self.row)
+    }
+
+    /// How many items are not given back yet.
+    pub fn left(&self) -> u8
+        requires { self.now.given ≤ length self.now.items }
+        ensures { result + self.now.given ≡ length self.now.items }
+    {
+        self.items.len() as u8 - self.given
+    }
+
+    /// The end word of this number.
+    pub fn end_word(&self, word: u8) -> u64
+        requires { IsEndWord word }
+        ensures { result ≡ end_word_of self.now.kind self.now.end word }
+    {
+        if word == 5 {
+            return u64::from(self.end.successor);
+        }
+        if word == 6 {
+            return amount_word_of(self.kind, self.end.amount);
+        }
+        self.end.moment
+    }
+}
+
+impl Books {
+    /// Turns the phase of a row, or is shown another.
+    pub fn step_turn(
+        &self,
+        desk: &mut Desk,
+        row: RowNo,
+        from: Phase,
+        to: Phase,
+        moment: u64,
+        amount: i64,
+        successor: u32,
+    ) -> StepTurned
+        requires own { IsOf self.now desk.old }
+        requires turn { CanTurn self.now.layout desk.old.seen desk.old.number row.0 from to moment amount successor }
+        requires none { (kind : EndKind) → to ≡ IsEndingPhase kind → EndsNone desk.old }
+        ensures own { IsOf self.now desk.new }
+        ensures turned { HasTurned row.0 from to moment amount successor desk.old desk.new result }
+    {
+        let end = End {
+            moment,
+            amount,
+            successor,
+        };
+        match self.turn_row(desk, row.0, from, to, moment, amount, successor) {
+            Some(shown) => StepTurned::Missed { shown },
+            None => turned_to(row.0, to, end),
+        }
+    }
+
+    // None where the turn is made, else the word shown.
+    fn turn_row(
+        &self,
+        desk: &mut Desk,
+        row: u32,
+        from: Phase,
+        to: Phase,
+        moment: u64,
+        amount: i64,
+        successor: u32,
+    ) -> Option<u64>
+        requires own { IsOf self.now desk.old }
+        requires turn { CanTurn self.now.layout desk.old.seen desk.old.number row from to moment amount successor }
+        ensures own { IsOf self.now desk.new }
+        ensures turned { IfNone result (Stepped (Turn row from to moment amount successor) desk.old desk.new) }
+        ensures lost { IfSome result (λ n. (n ≢ word_of_phase from) × Stepped (LostTurn row from (said_phase n)) desk.old desk.new) }
+    {
+        let old = phase_word(from);
+        let hit = Step::Turn {
+            row,
+            from,
+            to,
+            moment,
+            amount,
+            successor,
+        };
+        let found = self.turn_at(&mut desk.seat, row, from, to, hit);
+        if found != old {
+            return Some(found);
+        }
+        None
+    }
+
+    fn turn_at(
+        &self,
+        seat: &mut Seat<u64, View>,
+        row: u32,
+        from: Phase,
+        to: Phase,
+        hit: Step,
+    ) -> u64
+        requires own { IsSeatOf self.now self.now.layout seat.old }
+        requires turn { IsTurning self.now.layout seat.old.me.0.seen seat.old.me.0.number row from to hit }
+        ensures { HasMade self.now.layout (turn_step (word_of_phase from) hit result) seat.old seat.new }
+    {
+        let old = phase_word(from);
+        let new = phase_word(to);
+        self.exchange_as::<Brand>(seat, Word::Row(row, 0), old, new, hit)
+    }
+
+    /// Reads the items that the ending is to give back.
+    pub fn step_items(&self, desk: &mut Desk, ending: &mut Ending)
+        requires own { IsOf self.now desk.old }
+        requires ending { IsEndingOf desk.old ending.old }
+        requires unread { (ending.old.read ≡ false) × (ending.old.given ≡ 0) }
+        ensures own { IsOf self.now desk.new }
+        ensures ending { IsEndingOf desk.new ending.new }
+        ensures read { ending.new ≡ record ending.old { items = ending.new.items; read = true } }
+        ensures seen { Shape desk.old desk.new (items_read ending.old.row ending.new.items) }
+        ensures few { length ending.new.items ≤ most_items }
+        ensures kept { desk.new.kept ≡ desk.old.kept }
+    {
+        ending.items = self.read_items(desk, ending);
+        ending.read = true;
+    }
+
+    fn read_items(&self, desk: &mut Desk, ending: &Ending) -> ArrayVec<Item, 24>
+        requires own { IsOf self.now desk.old }
+        requires ending { IsEndingOf desk.old ending.now }
+        requires unread { (ending.now.read ≡ false) × (ending.now.given ≡ 0) }
+        ensures own { IsOf self.now desk.new }
+        ensures ending { IsEndingOf desk.new record ending.now { items = result.items; read = true } }
+        ensures seen { Shape desk.old desk.new (items_read ending.now.row result.items) }
+        ensures few { length result.items ≤ most_items }
+        ensures kept { desk.new.kept ≡ desk.old.kept }
+    {
+        let _ = &self.table;
+        let row = RowNo(ending.row);
+        let count = self.step_read(desk, row, 4) as u8;
+        let mut items = ArrayVec::new();
+        for i in 0..count {
+            let word = self.step_read(desk, row, 8 + i);
+            items.push(item_of(word));
+        }
+        items
+    }
+
+    /// Gives the first item left back.
+    pub fn step_give(&self, desk: &mut Desk, ending: &mut Ending)
+        requires own { IsOf self.now desk.old }
+        requires ending { IsEndingOf desk.old ending.old }
+        requires read { ending.old.read ≡ true }
+        requires left { ending.old.given < length ending.old.items }
+        ensures own { IsOf self.now desk.new }
+        ensures ending { IsEndingOf desk.new ending.new }
+        ensures one { ending.new ≡ record ending.old { given = ending.old.given + 1 } }
+        ensures given { Stepped (Give ending.old.row ending.old.given) desk.old desk.new }
+    {
+        let item = ending.items[ending.given as usize];
+        self.undo_at(&mut desk.seat, ending.row, ending.given, item);
+        ending.given += 1;
+    }
+
+    /// Notes an end word of the ending's row.
+    pub fn step_end(&self, desk: &mut Desk, ending: &mut Ending, word: u8, value: u64)
+        requires own { IsOf self.now desk.old }
+        requires ending { IsEndingOf desk.old ending.old }
+        requires word { IsEndWord word }
+        ensures own { IsOf self.now desk.new }
+        ensures ending { IsEndingOf desk.new ending.new × (ending.new ≡ ending.old) }
+        ensures noted { Stepped (Note ending.old.row word value) desk.old desk.new }
+    {
+        self.note_at(&mut desk.seat, ending.row, word, value);
+    }
+
+    /// Closes the ending's row.
+    pub fn step_close(&self, desk: &mut Desk, ending: Ending)
+        requires own { IsOf self.now desk.old }
+        requires ending { IsEndingOf desk.old ending }
+        requires ready { IsAllowedStep self.now.layout (state_of self.now.layout desk.old.seen) desk.old.number (Close ending.row) }
+        ensures own { IsOf self.now desk.new }
+        ensures closed { Stepped (Close ending.row) desk.old desk.new }
+    {
+        let Ending {
+            row,
+            kind,
+            end: _,
+            items: _,
+            given: _,
+            read: _,
+        } = ending;
+        self.close_at(&mut desk.seat, row, kind);
+    }
+
+    fn close_at(&self, seat: &mut Seat<u64, View>, row: u32, kind: EndKind)
+        requires own { IsSeatOf self.now self.now.layout seat.old }
+        requires row { row < self.now.layout.rows }
+        requires ready { OnRow (state_of self.now.layout seat.old.me.0.seen) row (λ b. IsEndedBy seat.old.me.0.number kind b × AllGiven b × HasEndWords kind b) }
+        ensures { HasMade self.now.layout (Close row) seat.old seat.new }
+    {
+        let old = phase_word(Phase::Ending(kind));
+        let new = phase_word(Phase::Ended(kind));
+        self.exchange_as::<Brand>(seat, Word::Row(row, 0), old, new, Step::Close { row });
+    }
+}

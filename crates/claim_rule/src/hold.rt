@@ -1,0 +1,208 @@
+//! A hold, and the steps of its maker: start, take, give back the last item, note and seal.
+ghost use Rattle.std.specs.Prelude.{◌≡◌, ◌≢◌, ◌<◌, ◌≤◌, length, ◌+◌, bit_and, None, IfNone, IfSome};
+ghost use Rattle.leg_masks.specs.Interval.{IsClear};
+ghost use Rattle.leg_masks.specs.Interval.{PlacedSpan as Item};
+ghost use Rattle.history_model.specs.Booking.{most_items};
+ghost use Rattle.history_model.specs.declared.entry.Step.TheVariants.{Look, Take, Give, Start, Note, Seal};
+ghost use Rattle.history_model.specs.declared.word.Word.TheVariants.{Place, Row};
+ghost use Rattle.history_model.specs.Allowed.{IsAllowedStep, IsMakerWord};
+ghost use Rattle.history_model.specs.History.{state_of};
+ghost use Rattle.claim_rule.specs.Holds.{IsHoldOf, IsItem, with_one};
+ghost use Rattle.claim_rule.specs.Seats.{CanTake, CanGive, CanNote, either_step, IsSeatOf, HasMade, IsOf, Stepped};
+ghost use Rattle.claim_rule.specs.Out.{HoldsNone};
+ghost use Rattle.claim_rule.specs.Starts.{HasStarted};
+
+use crate::books::Books;
+use crate::desk::Desk;
+use crate::rule::View;
+use arrayvec::ArrayVec;
+use atomic_table::Seat;
+use history_model::entry::Step;
+use history_model::phase::{Phase, phase_word};
+use history_model::word::Word;
+use leg_masks::{Item, mask_of};
+use rail_ids::RowNo;
+use std::marker::{Brand, Model};
+
+/// A row of a desk in the making, with the items that it has taken. It must be spent: by `keep`, or by a seal.
+pub struct Hold {
+    pub(crate) row: u32,
+    pub(crate) items: ArrayVec<Item, 24>,
+}
+
+impl Model for Hold {
+    ghost use Rattle.claim_rule.specs.Holds.{HoldView};
+
+    ghost Value = { HoldView };
+
+    ghost view = { λ h. record { row = h.row; items = h.items.items } };
+}
+
+/// What a start answers: the hold of the row, or the word other than 0 that was shown.
+pub enum Started {
+    Won(Hold),
+    Missed { shown: u64 },
+}
+
+impl Hold {
+    /// The row in the making.
+    pub fn row(&self) -> RowNo
+        ensures { result.0 ≡ self.now.row }
+    {
+        RowNo(self.row)
+    }
+
+    /// The items held.
+    pub fn items(&self) -> &[Item]
+        ensures items { result.now ≡ self.now.items }
+        ensures few { length result.now ≤ most_items }
+    {
+        self.items.as_slice()
+    }
+}
+
+impl Books {
+    // A step that takes legs of a place, or looks where the word is another.
+    pub fn step_take(
+        &self,
+        desk: &mut Desk,
+        hold: &mut Hold,
+        item: Item,
+        expected: u64,
+    ) -> Option<u64>
+        requires own { IsOf self.now desk.old }
+        requires hold { IsHoldOf desk.old hold.old }
+        requires room { length hold.old.items < most_items }
+        requires item { IsItem self.now.layout item }
+        requires free { IsClear expected item.span }
+        ensures own { IsOf self.now desk.new }
+        ensures hold { IsHoldOf desk.new hold.new }
+        ensures won { IfNone result (Stepped (Take hold.old.row item.place item.span) desk.old desk.new × (hold.new ≡ with_one hold.old item)) }
+        ensures missed { IfSome result (λ n. (n ≢ expected) × Stepped (Look item.place n) desk.old desk.new × (hold.new ≡ hold.old)) }
+    {
+        let found = self.take_at(&mut desk.seat, hold.row, &item, expected);
+        if found != expected {
+            return Some(found);
+        }
+        hold.items.push(item);
+        None
+    }
+
+    fn take_at(&self, seat: &mut Seat<u64, View>, row: u32, item: &Item, expected: u64) -> u64
+        requires own { IsSeatOf self.now self.now.layout seat.old }
+        requires row { CanTake self.now.layout seat.old row }
+        requires item { IsItem self.now.layout item.now }
+        requires free { IsClear expected item.now.span }
+        ensures { HasMade self.now.layout (either_step expected (Take row item.now.place item.now.span) (Place item.now.place) result) seat.old seat.new }
+    {
+        let taken = Step::Take {
+            row,
+            place: item.place,
+            span: item.span,
+        };
+        let new = expected | mask_of(item.span);
+        self.exchange_as::<Brand>(seat, Word::Place(item.place), expected, new, taken)
+    }
+
+    /// Gives the hold's last item back.
+    pub fn step_undo(&self, desk: &mut Desk, hold: &mut Hold)
+        requires own { IsOf self.now desk.old }
+        requires hold { IsHoldOf desk.old hold.old }
+        requires some { 0 < length hold.old.items }
+        ensures own { IsOf self.now desk.new }
+        ensures hold { IsHoldOf desk.new hold.new }
+        ensures given { Stepped (Give hold.old.row (length hold.new.items)) desk.old desk.new }
+        ensures last { (i : Item) × (hold.old ≡ with_one hold.new i) }
+    {
+        let Some(item) = hold.items.pop() else {
+            unreachable!()
+        };
+        let left = hold.items.len() as u8;
+        self.undo_at(&mut desk.seat, hold.row, left, item);
+    }
+
+    pub(crate) fn undo_at(&self, seat: &mut Seat<u64, View>, row: u32, left: u8, item: Item)
+        requires own { IsSeatOf self.now self.now.layout seat.old }
+        requires row { CanGive self.now.layout seat.old row left item }
+        ensures { HasMade self.now.layout (Give row left) seat.old seat.new }
+    {
+        let kept = !mask_of(item.span);
+        self.and_as::<Brand>(
+            seat,
+            Word::Place(item.place),
+            kept,
+            Step::Give { row, item: left },
+        );
+    }
+
+    /// Starts a row, or looks at its phase where it isn't free.
+    pub fn step_start(&self, desk: &mut Desk, row: RowNo) -> Started
+        requires own { IsOf self.now desk.old }
+        requires kept { desk.old.kept ≡ None }
+        requires none { HoldsNone desk.old }
+        requires row { row.0 < self.now.layout.rows }
+        ensures own { IsOf self.now desk.new }
+        ensures started { HasStarted row.0 desk.old desk.new result }
+    {
+        let found = self.start_at(&mut desk.seat, row.0);
+        if found != 0 {
+            return Started::Missed { shown: found };
+        }
+        Started::Won(Hold {
+            row: row.0,
+            items: ArrayVec::new(),
+        })
+    }
+
+    fn start_at(&self, seat: &mut Seat<u64, View>, row: u32) -> u64
+        requires own { IsSeatOf self.now self.now.layout seat.old }
+        requires row { row < self.now.layout.rows }
+        ensures { HasMade self.now.layout (either_step 0 (Start row) (Row row 0) result) seat.old seat.new }
+    {
+        self.exchange_as::<Brand>(seat, Word::Row(row, 0), 0, 1, Step::Start { row })
+    }
+
+    /// Notes a word of the hold's row.
+    pub fn step_note(&self, desk: &mut Desk, hold: &mut Hold, word: u8, value: u64)
+        requires own { IsOf self.now desk.old }
+        requires hold { IsHoldOf desk.old hold.old }
+        requires word { IsMakerWord word }
+        ensures own { IsOf self.now desk.new }
+        ensures hold { IsHoldOf desk.new hold.new × (hold.new ≡ hold.old) }
+        ensures noted { Stepped (Note hold.old.row word value) desk.old desk.new }
+    {
+        self.note_at(&mut desk.seat, hold.row, word, value);
+    }
+
+    pub(crate) fn note_at(&self, seat: &mut Seat<u64, View>, row: u32, word: u8, value: u64)
+        requires own { IsSeatOf self.now self.now.layout seat.old }
+        requires row { CanNote self.now.layout seat.old row word }
+        ensures { HasMade self.now.layout (Note row word value) seat.old seat.new }
+    {
+        let step = Step::Note { row, word, value };
+        self.store_as::<Brand>(seat, Word::Row(row, word), value, step);
+    }
+
+    /// Seals the hold's row.
+    pub fn step_seal(&self, desk: &mut Desk, hold: Hold, phase: Phase) -> RowNo
+        requires own { IsOf self.now desk.old }
+        requires hold { IsHoldOf desk.old hold }
+        requires ready { IsAllowedStep self.now.layout (state_of self.now.layout desk.old.seen) desk.old.number (Seal hold.row phase) }
+        ensures own { IsOf self.now desk.new }
+        ensures sealed { Stepped (Seal hold.row phase) desk.old desk.new }
+        ensures row { result.0 ≡ hold.row }
+    {
+        let Hold { row, items: _ } = hold;
+        self.seal_at(&mut desk.seat, row, phase);
+        RowNo(row)
+    }
+
+    fn seal_at(&self, seat: &mut Seat<u64, View>, row: u32, phase: Phase)
+        requires own { IsSeatOf self.now self.now.layout seat.old }
+        requires ready { IsAllowedStep self.now.layout (state_of self.now.layout seat.old.me.0.seen) seat.old.me.0.number (Seal row phase) }
+        ensures { HasMade self.now.layout (Seal row phase) seat.old seat.new }
+    {
+        let new = phase_word(phase);
+        self.exchange_as::<Brand>(seat, Word::Row(row, 0), 1, new, Step::Seal { row, phase });
+    }
+}

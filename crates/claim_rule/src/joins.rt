@@ -1,0 +1,88 @@
+//! Parting a desk, taking one in, and closing the table.
+ghost use Rattle.std.specs.Prelude.{◌≡◌, ◌≢◌, ◌+◌, []};
+ghost use Rattle.history_model.specs.declared.entry.Step.TheVariants.{Met};
+ghost use Rattle.history_model.specs.History.{own};
+ghost use Rattle.claim_rule.specs.Seats.{IsNew, HasMet, IsOf, Stepped};
+ghost use Rattle.claim_rule.specs.Out.{IsIdle, IsTidy};
+ghost use Rattle.claim_rule.specs.Walls.{Ends};
+
+use crate::books::Books;
+use crate::chronicle::{blank, recall};
+use crate::desk::Desk;
+use crate::rule::{Joins, Parts};
+use crate::wall::Wall;
+use history_model::word::Word;
+use std::marker::Brand;
+use std::snapshot::Snapshot;
+
+impl Books {
+    /// A further desk, which has seen what the first desk has now seen.
+    pub fn part(&self, desk: &mut Desk) -> Desk
+        requires own { IsOf self.now desk.old }
+        requires first { desk.old.number ≡ 0 }
+        ensures own { IsOf self.now desk.new × IsOf self.now result }
+        ensures met { Stepped Met desk.old record desk.new { made = desk.old.made } }
+        ensures made { desk.new.made ≡ desk.old.made + 1 }
+        ensures new { IsNew result desk.new.made desk.new.seen × (own desk.new.seen desk.new.made ≡ []) }
+        ensures tidy { IsTidy result }
+        ensures still { (IsIdle desk.old → IsIdle desk.new) × (IsTidy desk.old → IsTidy desk.new) }
+    {
+        let _ = &self.table;
+        self.load_as::<Brand>(&mut desk.seat, Word::Place(0));
+        let seat = self.table.shared.split_seat::<Parts>(&mut desk.seat);
+        Desk {
+            seat,
+            kept: None,
+            past: desk.past,
+        }
+    }
+
+    /// Takes in another desk, and all that it had taken in. An empty row that the other desk kept stays unused.
+    pub fn meet(&self, desk: &mut Desk, other: Desk)
+        requires own { IsOf self.now desk.old × IsOf self.now other }
+        requires other { other.number ≢ 0 }
+        requires idle { IsIdle desk.old × IsIdle other }
+        ensures own { IsOf self.now desk.new }
+        ensures met { HasMet desk.old other desk.new }
+        ensures idle { IsIdle desk.new }
+        ensures tidy { IsTidy desk.old → IsTidy desk.new }
+    {
+        let Desk {
+            seat,
+            kept: _,
+            past: _,
+        } = other;
+        self.table.shared.join_seat::<Joins>(&mut desk.seat, seat);
+        self.load_as::<Brand>(&mut desk.seat, Word::Place(0));
+    }
+
+    /// Closes the table. The words are those of one legal history.
+    pub fn finish(self, desk: Desk) -> Wall
+        requires own { IsOf self desk }
+        requires idle { IsIdle desk }
+        ensures layout { result.layout ≡ self.layout }
+        ensures history { Ends self.layout desk result.words result.history }
+    {
+        let was = Snapshot::of(&self);
+        let knew = Snapshot::of(&desk);
+        let Books {
+            table,
+            places,
+            rows,
+        } = self;
+        let Desk {
+            seat,
+            kept: _,
+            past: _,
+        } = desk;
+        let (shelf, mut chronicle) = blank(&seat);
+        let closed = table.close_with(seat);
+        recall::<Brand>(&shelf, &mut chronicle, &was, &knew, &closed);
+        Wall {
+            closed,
+            places,
+            rows,
+            chronicle,
+        }
+    }
+}

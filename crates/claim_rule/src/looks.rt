@@ -1,0 +1,33 @@
+//! Looks at words.
+ghost use Rattle.std.specs.Prelude.{◌<◌, length};
+ghost use Rattle.history_model.specs.Booking.{row_words};
+ghost use Rattle.history_model.specs.declared.entry.Step.TheVariants.{Look, SawRow};
+ghost use Rattle.claim_rule.specs.Seats.{IsOf, Stepped};
+
+use crate::books::Books;
+use crate::desk::Desk;
+use history_model::word::Word;
+use rail_ids::{PlaceNo, RowNo};
+use std::marker::Brand;
+
+impl Books {
+    /// Looks at a place's word.
+    pub fn step_look(&self, desk: &mut Desk, place: PlaceNo) -> u64
+        requires own { IsOf self.now desk.old }
+        requires place { place.0 < length self.now.layout.legs }
+        ensures own { IsOf self.now desk.new }
+        ensures look { Stepped (Look place.0 result) desk.old desk.new }
+    {
+        self.load_as::<Brand>(&mut desk.seat, Word::Place(place.0))
+    }
+
+    /// Looks at a word of a row.
+    pub fn step_read(&self, desk: &mut Desk, row: RowNo, word: u8) -> u64
+        requires own { IsOf self.now desk.old }
+        requires row { (row.0 < self.now.layout.rows) × (word < row_words) }
+        ensures own { IsOf self.now desk.new }
+        ensures look { Stepped (SawRow row.0 word result) desk.old desk.new }
+    {
+        self.load_as::<Brand>(&mut desk.seat, Word::Row(row.0, word))
+    }
+}

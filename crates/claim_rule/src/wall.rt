@@ -1,0 +1,71 @@
+//! The table when it is closed.
+ghost use Rattle.std.specs.Prelude.{◌≡◌, ◌<◌, length, slice_get, IfSome, IsSome, ◌↔◌};
+ghost use Rattle.history_model.specs.Booking.{row_words};
+ghost use Rattle.history_model.specs.Words.{place_number, row_number};
+
+use crate::chronicle::Chronicle;
+use atomic_table::Closed;
+use rail_ids::{PlaceNo, RowNo};
+use std::alloc::Global;
+use std::marker::Model;
+
+/// The words at the end, and for contracts the history of which they are.
+pub struct Wall {
+    pub(crate) closed: Closed<u64, Global>,
+    pub(crate) places: u32,
+    pub(crate) rows: u32,
+    pub(crate) chronicle: Chronicle,
+}
+
+impl Model for Wall {
+    ghost use Rattle.std.specs.Prelude.{◌≡◌, ◌+◌, ◌*◌, length};
+    ghost use Rattle.std.specs.Mem.Slots.{slots_items, slots_len, IsFull};
+    ghost use Rattle.claim_rule.specs.Walls.{WallView};
+
+    ghost Value = { WallView };
+
+    ghost view = { λ w. record { layout = w.chronicle.view.plan; words = slots_items w.closed.words; history = w.chronicle.view.history } };
+
+    ghost invariant = { λ w. (w.places ≡ length w.chronicle.view.plan.legs) × (w.rows ≡ w.chronicle.view.plan.rows) × IsFull w.closed.words × (slots_len w.closed.words ≡ w.places + 32 * w.rows) × (slots_len w.closed.slots ≡ 0) };
+}
+
+impl Wall {
+    /// The word of a place: bit l is set where leg l is taken.
+    pub fn place_word(&self, place: PlaceNo) -> Option<u64>
+        ensures there { IsSome result ↔ (place.0 < length self.now.layout.legs) }
+        ensures word { IfSome result (λ n. slice_get self.now.words (place_number place.0) ≡ Some n) }
+    {
+        if place.0 < self.places {
+            Some(self.closed.word(place.0 as usize))
+        } else {
+            None
+        }
+    }
+
+    /// A word of a row.
+    pub fn row_word(&self, row: RowNo, word: u8) -> Option<u64>
+        ensures there { IsSome result ↔ ((row.0 < self.now.layout.rows) × (word < row_words)) }
+        ensures word { IfSome result (λ n. slice_get self.now.words (row_number self.now.layout row.0 word) ≡ Some n) }
+    {
+        if row.0 >= self.rows {
+            return None;
+        }
+        if word >= 32 {
+            return None;
+        }
+        let at = self.places as usize + (32 * row.0 as usize + word as usize);
+        Some(self.closed.word(at))
+    }
+}
+
+impl Drop for Wall {
+    fn drop(self) {
+        let Self {
+            closed,
+            places: _,
+            rows: _,
+            chronicle: _,
+        } = self;
+        closed.free();
+    }
+}
