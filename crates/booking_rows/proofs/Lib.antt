@@ -1,0 +1,5 @@
+pub mod StartLemmas
+pub mod NoteLemmas
+pub mod CloseLemmas
+pub mod TurnLemmas
+pub mod ViewLemmas

@@ -1,0 +1,71 @@
+use Rattle.std.proofs.Common.{◌≡◌, ℕ, ◌+◌, ◌<◌, ◌≤◌, [], ◌∷◌, ◌++◌, Some, ap, sym, ◌∙◌, subst, arith}
+use Rattle.history_model.specs.declared.entry.Step.TheVariants.{Start}
+use Rattle.claim_rule.specs.Rule.{DeskView}
+use Rattle.claim_rule.specs.Seats.{Shape}
+use Rattle.claim_rule.specs.Holds.{HoldView, empty_hold}
+use Rattle.claim_rule.specs.Out.{KeepsEndings}
+use Rattle.claim_rule.proofs.Shapes.{step_shape, shape_then, shape_past, shape_none}
+use Rattle.claim_rule.proofs.Out.{endings_same, endings_then}
+use Rattle.booking_rows.specs.Starts.{row_looks, Finds}
+use Rattle.booking_rows.proofs.StartLemmas.{SeenTaken, taken_none, taken_more, started_taken, holding_past, endings_beside}
+use Rattle.booking_rows.proofs.holds.start_free.Goals as goal
+
+pub loop-row-init : goal.loop-row-init
+loop-row-init c = record {
+  own = c.requires.own;
+  alone = c.requires.alone;
+  none = c.requires.none;
+  endings = endings_same c.args.desk.now;
+  taken = subst (SeenTaken c.args.desk.now c.args.desk.now) (sym c.past-first.ensures) (taken_none c.args.desk.now (shape_none c.args.desk.now c.requires.own.legal) c.requires.own.past);
+}
+
+pub loop-row-preserved : goal.loop-row-preserved
+loop-row-preserved c =
+    let n = c.in_default.ensures.none in record {
+      own = c.start_row.ensures.own;
+      alone = n.2.same.5 ∙ c.loop-row.invariant.alone;
+      none = n.3;
+      endings = endings_then c.args.desk.now c.loop-row.desk c.start_row.new.desk c.loop-row.invariant.endings c.start_row.ensures.endings;
+      taken = taken_more c.args.desk.now c.loop-row.desk c.start_row.new.desk c.loop-row.row n.0 c.loop-row.invariant.taken n.1 n.2;
+    }
+
+pub pass-requires : goal.pass-requires
+pass-requires c =
+    let e = c.in-Some.ensures.some in
+    record {
+      taken = started_taken c.args.desk.now c.loop-row.desk c.start_row.new.desk c.loop-row.row c.loop-row.invariant.taken e.0 c.in-Some.hold e.2 e.1.of.0;
+      within = subst (λ (h : HoldView). h.row + 1 ≤ c.start_row.new.desk.layout.rows) e.2 (next c.in-Some.hold.row c.start_row.new.desk.layout.rows e.1.of.0.row);
+    }
+  where
+    next : (n m : ℕ) → n < m → n + 1 ≤ m
+    next n m l = omega arith
+
+pub returns-in-Some-clause-own : goal.returns-in-Some-clause-own
+returns-in-Some-clause-own c = c.pass.ensures.own c.args.books.now c.start_row.ensures.own
+
+pub returns-in-Some-clause-endings : goal.returns-in-Some-clause-endings
+returns-in-Some-clause-endings c =
+    let new = c.start_row.new.desk in
+    subst (KeepsEndings c.args.desk.now) (sym c.pass.ensures.past)
+    (endings_beside c.args.desk.now new new.kept (c.loop-row.row + 1) (endings_then c.args.desk.now c.loop-row.desk new c.loop-row.invariant.endings c.start_row.ensures.endings))
+
+pub returns-in-Some-clause-found : goal.returns-in-Some-clause-found
+returns-in-Some-clause-found c =
+    let e = c.in-Some.ensures.some in
+    let so = c.loop-row.invariant.taken in
+    let hold = c.in-Some.hold in
+    let first = c.args.desk.now.past in
+    let row_is : hold.row ≡ c.loop-row.row = ap (λ (h : HoldView). h.row) e.2 in
+    let did = subst (λ (r : ℕ). Shape c.args.desk.now c.start_row.new.desk (row_looks first so.shown ++ Start r ∷ [])) (sym row_is)
+    (shape_then c.args.desk.now c.loop-row.desk c.start_row.new.desk (row_looks first so.shown) (Start c.loop-row.row ∷ []) so.seen (step_shape (Start c.loop-row.row) c.loop-row.desk c.start_row.new.desk e.0)) in
+    subst (λ (d : DeskView). Finds c.args.desk.now d (Some hold)) (sym c.pass.ensures.past) (
+      holding_past c.start_row.new.desk hold (c.loop-row.row + 1) e.1,
+      e.2 ∙ ap empty_hold (sym row_is),
+      ap (λ (n : ℕ). n + 1) (sym row_is),
+      (so.shown, so.many ∙ sym row_is, so.some, shape_past c.args.desk.now c.start_row.new.desk (row_looks first so.shown ++ Start hold.row ∷ []) (c.loop-row.row + 1) did),
+    )
+
+pub returns-clause-endings : goal.returns-clause-endings
+returns-clause-endings c =
+    let d = c.loop-row.desk in
+    subst (KeepsEndings c.args.desk.now) (sym c.pass-2.ensures.past) (endings_beside c.args.desk.now d d.kept c.rows.result c.loop-row.invariant.endings)

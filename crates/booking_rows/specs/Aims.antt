@@ -1,0 +1,63 @@
+-- Turns by what they aim at, and what they answer.
+use Rattle.std.specs.Prelude.{◌≡◌, ◌≢◌, ℕ, ℤ, pos, ◌+◌, true, List, [], ◌∷◌}
+use Rattle.history_model.specs.declared.entry.Step.{Step}
+use Rattle.history_model.specs.declared.entry.Step.TheVariants.{Turn, LostTurn}
+use Rattle.history_model.specs.declared.phase.Phase.{Phase}
+use Rattle.history_model.specs.declared.phase.Phase.TheVariants as phase
+use Rattle.history_model.specs.declared.phase.EndKind.{EndKind}
+use Rattle.history_model.specs.declared.phase.EndKind.TheVariants as kind
+use Rattle.history_model.specs.declared.booking.End.{End}
+use Rattle.claim_rule.specs.Rule.{DeskView}
+use Rattle.claim_rule.specs.Endings.{EndingView, items_read}
+use Rattle.claim_rule.specs.Out.{IsEnding, KeepsEndings}
+use Rattle.booking_rows.specs.declared.turns.Aim.{Aim}
+use Rattle.booking_rows.specs.declared.turns.Aim.TheVariants.{Confirm, Fulfil, Release, Expire, Refund, Exchange}
+use Rattle.booking_rows.specs.declared.turns.Turned.{Turned}
+use Rattle.booking_rows.specs.declared.turns.Turned.TheVariants.{Won, Ending, Lost}
+
+abbrev pub end_at : ℕ → ℤ → ℕ → End
+end_at moment amount successor = record { moment = moment; amount = amount; successor = successor }
+
+-- the phase and the end that a turn aims at
+abbrev pub aimed : Aim → Phase
+aimed (Confirm now) = phase.Confirmed
+aimed Fulfil = phase.Fulfilled
+aimed (Release now) = phase.Ending kind.Release
+aimed (Expire now) = phase.Ending kind.Expire
+aimed (Refund now amount) = phase.Ending kind.Refund
+aimed (Exchange now difference successor) = phase.Ending kind.Exchange
+
+abbrev pub end_of : Aim → End
+end_of (Confirm now) = end_at now (pos 0) 0
+end_of Fulfil = end_at 0 (pos 0) 0
+end_of (Release now) = end_at now (pos 0) 0
+end_of (Expire now) = end_at now (pos 0) 0
+end_of (Refund now amount) = end_at now (pos amount) 0
+end_of (Exchange now difference successor) = end_at now difference (successor.0 + 1)
+
+abbrev pub turn_step : ℕ → Phase → Phase → End → Step
+turn_step row from to end = Turn row from to end.moment end.amount end.successor
+
+-- the turn of the row, from this phase
+abbrev pub turn_of : ℕ → Phase → Aim → Step
+turn_of row from aim = turn_step row from (aimed aim) (end_of aim)
+
+-- the turn was lost to another phase than the one wanted
+abbrev pub LosesTurn : ℕ → Phase → Phase → List Step → Type 0
+LosesTurn row wanted shown es = (shown ≢ wanted) × (es ≡ LostTurn row wanted shown ∷ [])
+
+-- an ending whose items are read and not given back
+abbrev pub fresh_ending : ℕ → EndKind → End → EndingView → EndingView
+fresh_ending row kind end e = record { row = row; kind = kind; end = end; items = e.items; given = 0; read = true }
+
+-- the steps of a turn, by what it answers
+abbrev pub Turns : ℕ → Phase → Aim → Turned → List Step → Type 0
+Turns row from aim Won es = es ≡ turn_of row from aim ∷ []
+Turns row from aim (Ending e) es = es ≡ turn_of row from aim ∷ items_read row e.items
+Turns row from aim (Lost shown) es = LosesTurn row from shown es
+
+-- won where it aims at no ending; else the ending is the desk's and out
+abbrev pub LeavesTurned : ℕ → Aim → DeskView → DeskView → Turned → Type 0
+LeavesTurned row aim old new Won = ((k : EndKind) → aimed aim ≢ phase.Ending k) × KeepsEndings old new
+LeavesTurned row aim old new (Ending e) = (aimed aim ≡ phase.Ending e.kind) × (e ≡ fresh_ending row e.kind (end_of aim) e) × IsEnding new e
+LeavesTurned row aim old new (Lost shown) = KeepsEndings old new

@@ -1,0 +1,6 @@
+pub mod Starts
+pub mod Notes
+pub mod Aims
+pub mod Views
+pub mod Ends
+pub mod SealedRows

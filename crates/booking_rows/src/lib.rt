@@ -1,0 +1,20 @@
+//! Booking rows as a desk's calls see them: started, noted, sealed, kept, turned, read and closed.
+//!
+//! Each call says which entries of its own it adds to what its desk has seen, by its answer, and in which state it leaves the desk's
+//! hold and ending. A row is started and turned by one compare and exchange on its phase word, so of all turns from one phase the
+//! first decides.
+//!
+//! No call takes memory, and none waits.
+#![tactic(auto)]
+
+mod holds;
+mod notes;
+#[cfg(test)]
+mod tests;
+mod turns;
+mod views;
+
+pub use holds::{keep_row, start_hold};
+pub use notes::{Detail, Sealed, note_detail, note_item, seal};
+pub use turns::{Aim, Turned, close_end, turn};
+pub use views::{EndView, RowView, look_row};

@@ -1,0 +1,194 @@
+//! Turns of a row's phase, and the close of an ending.
+ghost use Rattle.std.specs.Prelude.{ℕ, ◌≡◌, ◌≤◌, true, false, length};
+ghost use Rattle.history_model.specs.declared.phase.EndKind.{EndKind};
+ghost use Rattle.history_model.specs.declared.phase.Phase.TheVariants.{Ending as IsEndingPhase};
+ghost use Rattle.history_model.specs.Phase.{said_phase};
+ghost use Rattle.claim_rule.specs.Seats.{IsOf, Shape, CanTurn, AddsAtMost};
+ghost use Rattle.claim_rule.specs.Calls.{ShapeBy};
+ghost use Rattle.claim_rule.specs.EndSteps.{closing};
+ghost use Rattle.claim_rule.specs.Out.{IsEnding, EndsNone, KeepsHolds};
+ghost use Rattle.history_model.specs.Booking.{most_items};
+ghost use Rattle.claim_rule.specs.Endings.{items_read};
+ghost use Rattle.booking_rows.specs.Aims.{aimed, end_of, Turns, LeavesTurned};
+
+use claim_rule::{Books, Desk, Ending, StepTurned};
+use history_model::phase::{EndKind, Phase};
+use rail_ids::RowNo;
+use rail_time::Moment;
+
+/// What a turn aims at. Amounts are in minor units; a difference is what the new booking costs more.
+#[derive(Clone, Copy, Debug, PartialEq, Eq)]
+pub enum Aim {
+    Confirm {
+        now: Moment,
+    },
+    Fulfil,
+    Release {
+        now: Moment,
+    },
+    Expire {
+        now: Moment,
+    },
+    Refund {
+        now: Moment,
+        amount: u64,
+    },
+    Exchange {
+        now: Moment,
+        difference: i64,
+        successor: RowNo,
+    },
+}
+
+/// What a turn answers.
+pub enum Turned {
+    /// The row is confirmed, or fulfilled.
+    Won,
+    /// The row is ending, and its items are read.
+    Ending(Ending),
+    /// The phase word showed another phase than the one that the turn was to start from.
+    Lost { shown: Phase },
+}
+
+impl Aim {
+    /// The phase that it leads to.
+    pub fn phase(&self) -> Phase
+        ensures phase { result ≡ aimed self.now }
+    {
+        match self {
+            Aim::Confirm { .. } => Phase::Confirmed,
+            Aim::Fulfil => Phase::Fulfilled,
+            Aim::Release { .. } => Phase::Ending(EndKind::Release),
+            Aim::Expire { .. } => Phase::Ending(EndKind::Expire),
+            Aim::Refund { .. } => Phase::Ending(EndKind::Refund),
+            Aim::Exchange { .. } => Phase::Ending(EndKind::Exchange),
+        }
+    }
+}
+
+impl Aim {
+    ghost use Rattle.std.specs.Prelude.{◌≤◌};
+    ghost use Rattle.history_model.specs.Booking.{amount_word};
+    ghost use Rattle.history_model.specs.declared.phase.EndKind.TheVariants.{Refund};
+
+    // The moment of the end that it gives.
+    fn moment(&self) -> u64
+        ensures moment { result ≡ (end_of self.now).moment }
+    {
+        match self {
+            Aim::Confirm { now } => now.seconds(),
+            Aim::Fulfil => 0,
+            Aim::Release { now } => now.seconds(),
+            Aim::Expire { now } => now.seconds(),
+            Aim::Refund { now, .. } => now.seconds(),
+            Aim::Exchange { now, .. } => now.seconds(),
+        }
+    }
+
+    // The amount of the end that it gives.
+    fn amount(&self) -> i64
+        requires amount { amount_word Refund (end_of self.now).amount ≤ 100009999999 }
+        ensures amount { result ≡ (end_of self.now).amount }
+    {
+        match self {
+            Aim::Refund { amount, .. } => *amount as i64,
+            Aim::Exchange { difference, .. } => *difference,
+            _ => 0,
+        }
+    }
+
+    // The successor of the end that it gives, as a row's number plus 1, or 0.
+    fn successor(&self) -> u32
+        requires successor { (end_of self.now).successor ≤ 4294967295 }
+        ensures successor { result ≡ (end_of self.now).successor }
+    {
+        match self {
+            Aim::Exchange { successor, .. } => successor.0 + 1,
+            _ => 0,
+        }
+    }
+}
+
+/// Turns a row from this phase. In what the desk has seen the row is sealed, and the turn is one that may be; for an ending the desk has
+/// none out, and a successor is the row of its hold.
+///
+/// `Won` for a confirmation and a fulfilment, `Ending` for the rest; `Lost` exactly where the phase word showed another phase.
+pub fn turn(books: &Books, desk: &mut Desk, row: RowNo, from: Phase, to: Aim) -> Turned
+    requires own { IsOf books.now desk.old }
+    requires turn { CanTurn books.now.layout desk.old.seen desk.old.number row.0 from (aimed to) (end_of to).moment (end_of to).amount (end_of to).successor }
+    requires none { (kind : EndKind) → aimed to ≡ IsEndingPhase kind → EndsNone desk.old }
+    ensures own { IsOf books.now desk.new }
+    ensures entries { ShapeBy (Turns row.0 from to result) desk.old desk.new }
+    ensures leaves { LeavesTurned row.0 to desk.old desk.new result }
+    ensures holds { KeepsHolds desk.old desk.new }
+    ensures bound { AddsAtMost 26 desk.old desk.new }
+{
+    let _ = books.rows();
+    let moment = to.moment();
+    let amount = to.amount();
+    let successor = to.successor();
+    match books.step_turn(desk, row, from, to.phase(), moment, amount, successor) {
+        StepTurned::Won => Turned::Won,
+        StepTurned::Missed { shown } => Turned::Lost {
+            shown: phase_said(shown),
+        },
+        StepTurned::Ending(ending) => Turned::Ending(with_items(books, desk, ending)),
+    }
+}
+
+// The ending with its items read.
+fn with_items(books: &Books, desk: &mut Desk, mut ending: Ending) -> Ending
+    requires own { IsOf books.now desk.old }
+    requires ending { IsEnding desk.old ending }
+    requires unread { (ending.read ≡ false) × (ending.given ≡ 0) }
+    ensures own { IsOf books.now desk.new }
+    ensures ending { IsEnding desk.new result }
+    ensures read { result ≡ record ending { items = result.items; read = true } }
+    ensures few { length result.items ≤ most_items }
+    ensures entries { Shape desk.old desk.new (items_read ending.row result.items) }
+    ensures holds { KeepsHolds desk.old desk.new }
+{
+    books.step_items(desk, &mut ending);
+    ending
+}
+
+// The phase that a word shows.
+pub(crate) fn phase_said(word: u64) -> Phase
+    ensures phase { result ≡ said_phase word }
+{
+    match word {
+        0 => Phase::Free,
+        1 => Phase::Making,
+        2 => Phase::Prebooked,
+        3 => Phase::Confirmed,
+        4 => Phase::Fulfilled,
+        5 => Phase::Ending(EndKind::Release),
+        6 => Phase::Ending(EndKind::Expire),
+        7 => Phase::Ending(EndKind::Refund),
+        8 => Phase::Ending(EndKind::Exchange),
+        9 => Phase::Ended(EndKind::Release),
+        10 => Phase::Ended(EndKind::Expire),
+        11 => Phase::Ended(EndKind::Refund),
+        _ => Phase::Ended(EndKind::Exchange),
+    }
+}
+
+/// Notes the end words, and closes the ending's row, where all its items are given back.
+pub fn close_end(books: &Books, desk: &mut Desk, mut ending: Ending)
+    requires own { IsOf books.now desk.old }
+    requires ending { IsEnding desk.old ending }
+    requires read { ending.read ≡ true }
+    requires all { ending.given ≡ length ending.items }
+    ensures own { IsOf books.now desk.new }
+    ensures entries { Shape desk.old desk.new (closing ending.row ending.kind ending.end) }
+    ensures none { EndsNone desk.new }
+    ensures holds { KeepsHolds desk.old desk.new }
+{
+    let successor = ending.end_word(5);
+    books.step_end(desk, &mut ending, 5, successor);
+    let amount = ending.end_word(6);
+    books.step_end(desk, &mut ending, 6, amount);
+    let moment = ending.end_word(7);
+    books.step_end(desk, &mut ending, 7, moment);
+    books.step_close(desk, ending);
+}

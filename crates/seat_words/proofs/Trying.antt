@@ -1,0 +1,56 @@
+-- A desk's hold after a try, and after its last item was given back.
+use Rattle.std.proofs.Common.{◌≡◌, ◌≢◌, ℕ, ◌<◌, Bool, true, false, List, [], ◌∷◌, ◌++◌, length, Option, Some, None, refl, sym, ap, ◌∙◌, subst}
+use Rattle.leg_masks.specs.Interval.{Interval, IsClear, PlacedSpan as Item}
+use Rattle.history_model.specs.declared.entry.Step.{Step}
+use Rattle.history_model.specs.declared.entry.Step.TheVariants.{Look, Take, Give}
+use Rattle.claim_rule.specs.Rule.{DeskView}
+use Rattle.claim_rule.specs.Holds.{HoldView, IsHoldOf, StandsFor, with_one}
+use Rattle.claim_rule.specs.Seats.{Stepped, Shape}
+use Rattle.claim_rule.specs.Out.{IsHolding, HasNoted, HasNotedItems, KeepsHolds, KeepsEndings}
+use Rattle.claim_rule.proofs.Shapes.{step_shape}
+use Rattle.claim_rule.proofs.Noting.{noted_takes, noted_gives, noted_front}
+use Rattle.claim_rule.proofs.Out.{hold_only, hold_endings, looks_holds, looks_endings}
+
+pub looked_holds : (p n : ℕ) (old new : DeskView) → Stepped (Look p n) old new → KeepsHolds old new
+looked_holds p n old new did = looks_holds old new (Look p n ∷ []) (step_shape (Look p n) old new did) did.same.5 (refl, tt)
+
+pub looked_endings : (p n : ℕ) (old new : DeskView) → Stepped (Look p n) old new → KeepsEndings old new
+looked_endings p n old new did = looks_endings old new (Look p n ∷ []) (step_shape (Look p n) old new did) (refl, tt)
+
+-- won
+
+pub won_hold : (old new : DeskView) (hold now : HoldView) (i : Item) → Stepped (Take hold.row i.place i.span) old new → now ≡ with_one hold i → IsHolding old hold → IsHoldOf new now → IsHolding new now
+won_hold old new hold now i did is was of = record {
+  of = of;
+  only = λ r m. hold_only (Take hold.row i.place i.span) old new hold did (λ _. refl) was r m ∙ sym (ap (λ (h : HoldView). h.row) is);
+}
+
+pub won_noted : (old new : DeskView) (hold now : HoldView) (i : Item) → Stepped (Take hold.row i.place i.span) old new → now ≡ with_one hold i → IsHolding old hold → HasNotedItems old hold → HasNoted new now.row hold.items
+won_noted old new hold now i did is was on = subst (λ (r : ℕ). HasNoted new r hold.items) (sym (ap (λ (h : HoldView). h.row) is)) (noted_takes old new hold 0 i hold.items did was.of.0 on)
+
+pub won_endings : (old new : DeskView) (hold : HoldView) (i : Item) → Stepped (Take hold.row i.place i.span) old new → IsHolding old hold → KeepsEndings old new
+won_endings old new hold i did was = hold_endings old new (Take hold.row i.place i.span ∷ []) hold (step_shape (Take hold.row i.place i.span) old new did) was.of.0 (λ r q. (q, tt)) (λ r. (refl, tt))
+
+-- missed
+
+pub missed_hold : (old new : DeskView) (hold now : HoldView) (p n : ℕ) → Stepped (Look p n) old new → now ≡ hold → IsHolding old hold → IsHolding new now
+missed_hold old new hold now p n did is was = subst (IsHolding new) (sym is) ((looked_holds p n old new did).hold hold was)
+
+pub missed_noted : (old new : DeskView) (hold now : HoldView) (p n : ℕ) → Stepped (Look p n) old new → now ≡ hold → IsHolding old hold → HasNotedItems old hold → HasNoted new now.row hold.items
+missed_noted old new hold now p n did is was on = subst (λ (h : HoldView). HasNoted new h.row hold.items) (sym is) ((looked_holds p n old new did).noted hold hold.items was on)
+
+-- given back
+
+pub undone_hold : (old new : DeskView) (hold less : HoldView) (i : Item) (k : ℕ) → hold ≡ with_one less i → Stepped (Give hold.row k) old new → IsHolding old hold → IsHoldOf new less → IsHolding new less
+undone_hold old new hold less i k one did was of = record {
+  of = of;
+  only = λ r m. hold_only (Give hold.row k) old new hold did (λ _. refl) was r m ∙ ap (λ (h : HoldView). h.row) one;
+}
+
+pub undone_noted : (old new : DeskView) (hold less : HoldView) (i : Item) (k : ℕ) → hold ≡ with_one less i → Stepped (Give hold.row k) old new → IsHolding old hold → HasNotedItems old hold → HasNotedItems new less
+undone_noted old new hold less i k one did was on =
+    let all = noted_gives old new hold k hold.items did was.of.0 on in
+    noted_front new less.row less.items (i ∷ []) (subst (λ (h : HoldView). HasNoted new h.row h.items) one all)
+
+pub undone_endings : (old new : DeskView) (hold : HoldView) (k : ℕ) → Stepped (Give hold.row k) old new → IsHolding old hold → KeepsEndings old new
+undone_endings old new hold k did was = hold_endings old new (Give hold.row k ∷ []) hold (step_shape (Give hold.row k) old new did) was.of.0 (λ r q. (q, tt)) (λ r. (refl, tt))

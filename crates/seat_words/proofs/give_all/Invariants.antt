@@ -1,0 +1,17 @@
+use Rattle.std.proofs.Common.{◌≡◌, ◌+◌, true, length}
+use Rattle.claim_rule.specs.Seats.{IsOf, Shape}
+use Rattle.claim_rule.specs.EndSteps.{gives_from}
+use Rattle.claim_rule.specs.Out.{IsEnding, KeepsHolds}
+use Rattle.seat_words.proofs.Giving.{so_far}
+use Rattle.seat_words.proofs.give_all.Given as goal
+
+abbrev pub invariant-loop : goal.invariant-loop
+invariant-loop l = record {
+  own : IsOf l.books l.desk;
+  ending : IsEnding l.desk l.ending;
+  holds : KeepsHolds l.initial.desk l.desk;
+  is : l.ending ≡ so_far l.initial.ending l.counter;
+  read : l.ending.read ≡ true;
+  all : l.end + l.initial.ending.given ≡ length l.initial.ending.items;
+  seen : Shape l.initial.desk l.desk (gives_from l.initial.ending.row l.initial.ending.given l.counter);
+}
