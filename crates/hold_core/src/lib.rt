@@ -1,0 +1,17 @@
+//! Places for a hold: all that a booking asks for, or none.
+//!
+//! `add_places` goes through candidates in order and takes those that are free on all legs of a span, until as many are won as were
+//! asked for. What it answers has its cause in looks and takes of this very call. `abandon` gives every place of a hold back.
+//!
+//! No call takes memory, and none waits.
+#![tactic(auto)]
+
+mod abandons;
+mod adds;
+#[cfg(test)]
+mod tests;
+mod tries;
+
+pub use abandons::abandon;
+pub use adds::{Added, add_places};
+pub use tries::Outcome;
