@@ -1,0 +1,2 @@
+pub mod ConfirmSteps
+pub mod FulfilSteps

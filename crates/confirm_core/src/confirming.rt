@@ -1,0 +1,90 @@
+//! Confirming a booking (OSDM's confirmation of a prebooked offer).
+ghost use Rattle.std.specs.Prelude.{IfSome};
+ghost use Rattle.claim_rule.specs.Seats.{IsOf, AddsAtMost};
+ghost use Rattle.claim_rule.specs.Calls.{ShapeBy};
+ghost use Rattle.claim_rule.specs.Out.{KeepsHolds, KeepsEndings};
+ghost use Rattle.row_decisions.specs.Looks.{HasLimit};
+ghost use Rattle.confirm_core.specs.Confirming.{Confirms, FindsTerms};
+
+use booking_rows::{Aim, Turned, turn};
+use claim_rule::{Books, Desk};
+use history_model::phase::Phase;
+use rail_ids::{RetailerNo, RowNo};
+use rail_time::Moment;
+use row_decisions::{is_sealed, look_limit, look_phase, look_retailer};
+
+/// What came of confirming.
+#[derive(Clone, Copy, Debug, PartialEq, Eq)]
+pub enum Confirmed {
+    /// The booking is confirmed by this call.
+    Done,
+    /// The row is past the last, or its look shows it free, in the making, or another retailer's.
+    Unknown,
+    /// The look shows the booking prebooked, and now is after its limit.
+    TooLate { limit: Moment },
+    /// The look, or the lost turn of this call, shows another phase than prebooked.
+    WrongState { shown: Phase },
+}
+
+/// Confirms a prebooked booking of this retailer, where now is not after its limit. At most 6 entries are added.
+pub fn confirm(
+    books: &Books,
+    desk: &mut Desk,
+    row: RowNo,
+    retailer: RetailerNo,
+    now: Moment,
+) -> Confirmed
+    requires own { IsOf books.now desk.old }
+    ensures own { IsOf books.now desk.new }
+    ensures entries { ShapeBy (Confirms books.now.layout.rows row.0 retailer.0 now result) desk.old desk.new }
+    ensures holds { KeepsHolds desk.old desk.new }
+    ensures endings { KeepsEndings desk.old desk.new }
+    ensures bound { AddsAtMost 6 desk.old desk.new }
+{
+    let Some(terms) = find_terms(books, desk, row, retailer) else {
+        return Confirmed::Unknown;
+    };
+    let Terms { shown, limit } = terms;
+    let Phase::Prebooked = shown else {
+        return Confirmed::WrongState { shown };
+    };
+    if limit.seconds() < now.seconds() {
+        return Confirmed::TooLate { limit };
+    }
+    match turn(books, desk, row, Phase::Prebooked, Aim::Confirm { now }) {
+        Turned::Won => Confirmed::Done,
+        Turned::Lost { shown } => Confirmed::WrongState { shown },
+        Turned::Ending(_ending) => unreachable!(),
+    }
+}
+
+// What looks at a booking showed.
+#[derive(Clone, Copy, Debug, PartialEq, Eq)]
+struct Terms {
+    shown: Phase,
+    limit: Moment,
+}
+
+// The phase and the limit of this retailer's booking.
+fn find_terms(books: &Books, desk: &mut Desk, row: RowNo, retailer: RetailerNo) -> Option<Terms>
+    requires own { IsOf books.now desk.old }
+    ensures own { IsOf books.now desk.new }
+    ensures entries { ShapeBy (FindsTerms books.now.layout.rows row.0 retailer.0 result) desk.old desk.new }
+    ensures limit { IfSome result (λ terms. HasLimit desk.new row.0 terms.limit) }
+    ensures holds { KeepsHolds desk.old desk.new }
+    ensures endings { KeepsEndings desk.old desk.new }
+{
+    if row.0 >= books.rows() {
+        return None;
+    }
+    let shown = look_phase(books, desk, row);
+    if !is_sealed(shown) {
+        return None;
+    }
+    let owner = look_retailer(books, desk, row);
+    let limit = look_limit(books, desk, row);
+    if owner.0 != retailer.0 {
+        return None;
+    }
+    Some(Terms { shown, limit })
+}

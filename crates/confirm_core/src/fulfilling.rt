@@ -1,0 +1,44 @@
+//! Collecting the ticket of a confirmed booking (OSDM's fulfilment).
+ghost use Rattle.claim_rule.specs.Seats.{IsOf, AddsAtMost};
+ghost use Rattle.claim_rule.specs.Calls.{ShapeBy};
+ghost use Rattle.claim_rule.specs.Out.{KeepsHolds, KeepsEndings};
+ghost use Rattle.confirm_core.specs.Fulfilling.{Fulfils};
+
+use booking_rows::{Aim, Turned, turn};
+use claim_rule::{Books, Desk};
+use history_model::phase::Phase;
+use rail_ids::{RetailerNo, RowNo};
+use row_decisions::find_owned;
+
+/// What came of fulfilling.
+#[derive(Clone, Copy, Debug, PartialEq, Eq)]
+pub enum Fulfilment {
+    /// The ticket is collected by this call.
+    Done,
+    /// The row is past the last, or its look shows it free, in the making, or another retailer's.
+    Unknown,
+    /// The look, or the lost turn of this call, shows another phase than confirmed.
+    WrongState { shown: Phase },
+}
+
+/// Fulfils a confirmed booking of this retailer. At most 6 entries are added.
+pub fn fulfil(books: &Books, desk: &mut Desk, row: RowNo, retailer: RetailerNo) -> Fulfilment
+    requires own { IsOf books.now desk.old }
+    ensures own { IsOf books.now desk.new }
+    ensures entries { ShapeBy (Fulfils books.now.layout.rows row.0 retailer.0 result) desk.old desk.new }
+    ensures holds { KeepsHolds desk.old desk.new }
+    ensures endings { KeepsEndings desk.old desk.new }
+    ensures bound { AddsAtMost 6 desk.old desk.new }
+{
+    let Some(shown) = find_owned(books, desk, row, retailer) else {
+        return Fulfilment::Unknown;
+    };
+    let Phase::Confirmed = shown else {
+        return Fulfilment::WrongState { shown };
+    };
+    match turn(books, desk, row, Phase::Confirmed, Aim::Fulfil) {
+        Turned::Won => Fulfilment::Done,
+        Turned::Lost { shown } => Fulfilment::WrongState { shown },
+        Turned::Ending(_ending) => unreachable!(),
+    }
+}

@@ -1,0 +1,94 @@
+-- What a sweep has counted, and seen, up to a row.
+use Rattle.std.proofs.Common.{◌≡◌, ℕ, suc, ◌+◌, ◌*◌, ◌≤◌, ◌<◌, List, [], ◌∷◌, ◌++◌, length, refl, sym, ap, ◌∙◌, subst, arith, length-append}
+use Rattle.std.specs.List.{AllByRecursion}
+use Rattle.history_model.specs.History.{IsLegal}
+use Rattle.claim_rule.specs.Rule.{DeskView}
+use Rattle.claim_rule.specs.Seats.{Shape, AddsAtMost}
+use Rattle.claim_rule.specs.Calls.{ShapeBy}
+use Rattle.claim_rule.specs.Out.{KeepsHolds, EndsNone, IsTidy}
+use Rattle.claim_rule.proofs.Shapes.{shape_then, shape_none, adds_length}
+use Rattle.claim_rule.proofs.Out.{settled_calm, tidy_through}
+use Rattle.expiry_sweeper.specs.declared.rows.RowSwept.{RowSwept}
+use Rattle.expiry_sweeper.specs.declared.rows.RowSwept.TheVariants as came
+use Rattle.expiry_sweeper.specs.declared.sweeps.Swept.{Swept}
+use Rattle.expiry_sweeper.specs.OneRow.{RowSweep, IsRowSweep, SweepsRow, outcome_of, row_sweep_steps}
+use Rattle.expiry_sweeper.specs.AllRows.{Sweeps, sweeps_steps, counted, counts_of}
+use Rattle.expiry_sweeper.proofs.Sweeping.{steps_more, sweeps_length, calm_sweeps}
+
+all_more : {X : Type 0} (P : X → Type 0) (xs : List X) (x : X) → AllByRecursion P xs → P x → AllByRecursion P (xs ++ x ∷ [])
+all_more P [] x all p = (p, tt)
+all_more P (y ∷ ys) x all p = (all.0, all_more P ys x all.1 p)
+
+-- in whatever order two rows are counted
+
+swapped : (a b : RowSwept) (n : Swept) → counted a (counted b n) ≡ counted b (counted a n)
+swapped came.Passed b n = refl
+swapped came.Waiting came.Passed n = refl
+swapped came.Waiting came.Waiting n = refl
+swapped came.Waiting came.Expired n = refl
+swapped came.Waiting came.Lost n = refl
+swapped came.Expired came.Passed n = refl
+swapped came.Expired came.Waiting n = refl
+swapped came.Expired came.Expired n = refl
+swapped came.Expired came.Lost n = refl
+swapped came.Lost came.Passed n = refl
+swapped came.Lost came.Waiting n = refl
+swapped came.Lost came.Expired n = refl
+swapped came.Lost came.Lost n = refl
+
+counts_more : (ss : List RowSweep) (s : RowSweep) → counts_of (ss ++ s ∷ []) ≡ counted (outcome_of s) (counts_of ss)
+counts_more [] s = refl
+counts_more (x ∷ ss) s = ap (counted (outcome_of x)) (counts_more ss s) ∙ swapped (outcome_of x) (outcome_of s) (counts_of ss)
+
+-- no count is greater than the number of rows
+
+abbrev pub AreSmall : Swept → ℕ → Type 0
+AreSmall n k = (n.expired ≤ k) × (n.lost ≤ k) × (n.waiting ≤ k)
+
+one_more : (o : RowSwept) (n : Swept) (k : ℕ) → AreSmall n k → AreSmall (counted o n) (suc k)
+one_more came.Passed n k (a, b, c) = (omega arith, omega arith, omega arith)
+one_more came.Waiting n k (a, b, c) = (omega arith, omega arith, omega arith)
+one_more came.Expired n k (a, b, c) = (omega arith, omega arith, omega arith)
+one_more came.Lost n k (a, b, c) = (omega arith, omega arith, omega arith)
+
+are_small : (ss : List RowSweep) → AreSmall (counts_of ss) (length ss)
+are_small [] = (omega arith, omega arith, omega arith)
+are_small (s ∷ ss) = one_more (outcome_of s) (counts_of ss) (length ss) (are_small ss)
+
+-- the rows below this one are swept
+pub record SweptTo (start now_at : DeskView) (now row : ℕ) (swept : Swept) : Type 0 where
+  pub sweeps : List RowSweep
+  pub every : length sweeps ≡ row
+  pub each : AllByRecursion (IsRowSweep now) sweeps
+  pub seen : Shape start now_at (sweeps_steps now 0 sweeps)
+  pub counts : swept ≡ counts_of sweeps
+
+pub swept_none : (start : DeskView) (now : ℕ) → IsLegal start.layout start.seen → SweptTo start start now 0 (record { expired = 0; lost = 0; waiting = 0 })
+swept_none start now legal = record { sweeps = []; every = refl; each = tt; seen = shape_none start legal; counts = refl }
+
+pub swept_more : (a b c : DeskView) (now row : ℕ) (n : Swept) (o : RowSwept) → SweptTo a b now row n → SweepsRow now row b c o → SweptTo a c now (row + 1) (counted o n)
+swept_more a b c now row n o so (s, is, came_to, did) = record {
+  sweeps = so.sweeps ++ s ∷ [];
+  every = length-append so.sweeps (s ∷ []) ∙ ap (λ (k : ℕ). k + 1) so.every;
+  each = all_more (IsRowSweep now) so.sweeps s so.each is;
+  seen = subst (Shape a c) (sym (steps_more now 0 so.sweeps s)) (shape_then a b c (sweeps_steps now 0 so.sweeps) (row_sweep_steps now (0 + length so.sweeps) s) so.seen (subst (λ (r : ℕ). Shape b c (row_sweep_steps now r s)) (first row (length so.sweeps) so.every) did));
+  counts = ap (counted o) so.counts ∙ (ap (λ (x : RowSwept). counted x (counts_of so.sweeps)) (sym came_to) ∙ sym (counts_more so.sweeps s));
+}
+  where
+    first : (r n : ℕ) → n ≡ r → r ≡ 0 + n
+    first r n e = omega arith
+
+pub small_counts : (a b : DeskView) (now row : ℕ) (n : Swept) → SweptTo a b now row n → AreSmall n row
+small_counts a b now row n so = subst (AreSmall n) so.every (subst (λ (x : Swept). AreSmall x (length so.sweeps)) (sym so.counts) (are_small so.sweeps))
+
+pub swept_all : (a b : DeskView) (now row rows : ℕ) (n : Swept) → row ≡ rows → SweptTo a b now row n → ShapeBy (Sweeps rows now n) a b
+swept_all a b now row rows n whole so = (sweeps_steps now 0 so.sweeps, record { sweeps = so.sweeps; every = so.every ∙ whole; each = so.each; steps = refl; counts = so.counts }, so.seen)
+
+pub swept_bound : (a b : DeskView) (now row rows : ℕ) (n : Swept) → row ≡ rows → SweptTo a b now row n → AddsAtMost (56 * rows) a b
+swept_bound a b now row rows n whole so =
+    adds_length a b (sweeps_steps now 0 so.sweeps) (56 * rows) so.seen
+    (subst (λ (k : ℕ). length (sweeps_steps now 0 so.sweeps) ≤ 56 * k) (so.every ∙ whole) (sweeps_length now 0 so.sweeps so.each))
+
+pub swept_tidy : (a b : DeskView) (now row : ℕ) (n : Swept) → SweptTo a b now row n → KeepsHolds a b → EndsNone b → IsTidy a → IsTidy b
+swept_tidy a b now row n so holds none tidy =
+    tidy_through a b (sweeps_steps now 0 so.sweeps) so.seen (settled_calm a.number (sweeps_steps now 0 so.sweeps) (calm_sweeps now 0 so.sweeps)) tidy (holds.none tidy.0.0, none)

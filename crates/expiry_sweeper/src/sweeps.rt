@@ -1,0 +1,68 @@
+//! The sweep of all rows.
+ghost use Rattle.std.specs.Prelude.{◌≡◌, ◌+◌, ◌*◌, ◌^◌, ◌<◌};
+ghost use Rattle.claim_rule.specs.Seats.{IsOf, AddsAtMost};
+ghost use Rattle.claim_rule.specs.Calls.{ShapeBy};
+ghost use Rattle.claim_rule.specs.Out.{EndsNone, KeepsHolds, IsTidy};
+ghost use Rattle.expiry_sweeper.specs.AllRows.{Sweeps, counted as counted_of};
+
+use crate::rows::{RowSwept, sweep_row};
+use claim_rule::{Books, Desk};
+use rail_ids::RowNo;
+use rail_time::Moment;
+
+/// What a sweep did, in rows.
+#[derive(Clone, Copy, Debug, PartialEq, Eq)]
+pub struct Swept {
+    /// Seen prebooked with a limit before now, and expired by this sweep: all legs are given back.
+    pub expired: u32,
+    /// Seen so, and decided by another turn first.
+    pub lost: u32,
+    /// Seen prebooked, with a limit not before now.
+    pub waiting: u32,
+}
+
+/// Looks at every row once, in rising number, and expires those seen prebooked with a limit before now. The desk has no ending out. At
+/// most 56 entries are added for each row.
+pub fn sweep(books: &Books, desk: &mut Desk, now: Moment) -> Swept
+    requires own { IsOf books.now desk.old }
+    requires none { EndsNone desk.old }
+    ensures own { IsOf books.now desk.new }
+    ensures entries { ShapeBy (Sweeps books.now.layout.rows now result) desk.old desk.new }
+    ensures none { EndsNone desk.new }
+    ensures holds { KeepsHolds desk.old desk.new }
+    ensures tidy { IsTidy desk.old → IsTidy desk.new }
+    ensures bound { AddsAtMost (56 * books.now.layout.rows) desk.old desk.new }
+{
+    let mut swept = Swept {
+        expired: 0,
+        lost: 0,
+        waiting: 0,
+    };
+    for row in 0..books.rows() {
+        let came = sweep_row(books, desk, RowNo(row), now);
+        swept = counted(came, swept);
+    }
+    swept
+}
+
+// One row more.
+fn counted(came: RowSwept, swept: Swept) -> Swept
+    requires room { (swept.expired + 1 < 2 ^ 32) × (swept.lost + 1 < 2 ^ 32) × (swept.waiting + 1 < 2 ^ 32) }
+    ensures counted { result ≡ counted_of came swept }
+{
+    match came {
+        RowSwept::Passed => swept,
+        RowSwept::Waiting => Swept {
+            waiting: swept.waiting + 1,
+            ..swept
+        },
+        RowSwept::Expired => Swept {
+            expired: swept.expired + 1,
+            ..swept
+        },
+        RowSwept::Lost => Swept {
+            lost: swept.lost + 1,
+            ..swept
+        },
+    }
+}

@@ -1,0 +1,51 @@
+//! Releasing a booking (OSDM's release of a prebooked offer).
+ghost use Rattle.claim_rule.specs.Seats.{IsOf, AddsAtMost};
+ghost use Rattle.claim_rule.specs.Calls.{ShapeBy};
+ghost use Rattle.claim_rule.specs.Out.{EndsNone, KeepsHolds};
+ghost use Rattle.refund_core.specs.Releasing.{Releases};
+
+use booking_rows::Aim;
+use claim_rule::{Books, Desk};
+use history_model::phase::Phase;
+use rail_ids::{RetailerNo, RowNo};
+use rail_time::Moment;
+use row_decisions::{end_row, find_owned};
+
+/// What came of releasing.
+#[derive(Clone, Copy, Debug, PartialEq, Eq)]
+pub enum Released {
+    /// The booking is released by this call, and all its items are given back.
+    Done,
+    /// The row is past the last, or its look shows it free, in the making, or another retailer's.
+    Unknown,
+    /// The look, or the lost turn of this call, shows another phase than prebooked.
+    WrongState { shown: Phase },
+}
+
+/// Releases a prebooked booking of this retailer, also after its limit. The desk has no ending out. At most 56 entries are added.
+pub fn release(
+    books: &Books,
+    desk: &mut Desk,
+    row: RowNo,
+    retailer: RetailerNo,
+    now: Moment,
+) -> Released
+    requires own { IsOf books.now desk.old }
+    requires none { EndsNone desk.old }
+    ensures own { IsOf books.now desk.new }
+    ensures entries { ShapeBy (Releases books.now.layout.rows row.0 retailer.0 now result) desk.old desk.new }
+    ensures none { EndsNone desk.new }
+    ensures holds { KeepsHolds desk.old desk.new }
+    ensures bound { AddsAtMost 56 desk.old desk.new }
+{
+    let Some(shown) = find_owned(books, desk, row, retailer) else {
+        return Released::Unknown;
+    };
+    let Phase::Prebooked = shown else {
+        return Released::WrongState { shown };
+    };
+    match end_row(books, desk, row, Phase::Prebooked, Aim::Release { now }) {
+        None => Released::Done,
+        Some(shown) => Released::WrongState { shown },
+    }
+}

@@ -1,0 +1,54 @@
+//! A turn to an end, and what its owner does after it.
+ghost use Rattle.std.specs.Prelude.{◌≡◌, true};
+ghost use Rattle.history_model.specs.Booking.{most_items};
+ghost use Rattle.history_model.specs.declared.phase.EndKind.{EndKind};
+ghost use Rattle.history_model.specs.declared.phase.Phase.TheVariants.{Ending as IsEndingPhase};
+ghost use Rattle.claim_rule.specs.Seats.{IsOf, Shape, CanTurn};
+ghost use Rattle.claim_rule.specs.Calls.{ShapeBy};
+ghost use Rattle.claim_rule.specs.EndSteps.{ending_steps};
+ghost use Rattle.claim_rule.specs.Out.{IsEnding, EndsNone, KeepsHolds};
+ghost use Rattle.booking_rows.specs.Aims.{aimed, end_of};
+ghost use Rattle.row_decisions.specs.Ends.{EndsRow};
+
+use booking_rows::{Aim, Turned, close_end, turn};
+use claim_rule::{Books, Desk, Ending};
+use history_model::phase::Phase;
+use rail_ids::RowNo;
+use seat_words::give_all;
+
+/// Gives all items of an ending back, notes its end, and closes its row. None is given back yet.
+pub fn finish_end(books: &Books, desk: &mut Desk, mut ending: Ending)
+    requires own { IsOf books.now desk.old }
+    requires ending { IsEnding desk.old ending }
+    requires read { ending.read ≡ true }
+    requires fresh { ending.given ≡ 0 }
+    ensures own { IsOf books.now desk.new }
+    ensures entries { Shape desk.old desk.new (ending_steps ending.row ending.kind ending.end ending.items) }
+    ensures none { EndsNone desk.new }
+    ensures holds { KeepsHolds desk.old desk.new }
+{
+    give_all(books, desk, &mut ending);
+    close_end(books, desk, ending);
+}
+
+/// Turns a row from this phase to an end, gives all of its items back, and closes it. `Some` is the phase shown exactly where it was
+/// another than this one: then nothing else is done.
+pub fn end_row(books: &Books, desk: &mut Desk, row: RowNo, from: Phase, to: Aim) -> Option<Phase>
+    requires own { IsOf books.now desk.old }
+    requires turn { CanTurn books.now.layout desk.old.seen desk.old.number row.0 from (aimed to) (end_of to).moment (end_of to).amount (end_of to).successor }
+    requires ends { (kind : EndKind) × (aimed to ≡ IsEndingPhase kind) }
+    requires none { EndsNone desk.old }
+    ensures own { IsOf books.now desk.new }
+    ensures entries { (kind : EndKind) → aimed to ≡ IsEndingPhase kind → ShapeBy (EndsRow row.0 from kind to result) desk.old desk.new }
+    ensures none { EndsNone desk.new }
+    ensures holds { KeepsHolds desk.old desk.new }
+{
+    match turn(books, desk, row, from, to) {
+        Turned::Won => unreachable!(),
+        Turned::Lost { shown } => Some(shown),
+        Turned::Ending(ending) => {
+            finish_end(books, desk, ending);
+            None
+        }
+    }
+}

@@ -1,0 +1,11 @@
+//! What the calls that decide a booking's fate share: looks at a row's phase, retailer and limit, and a turn to an end with all that follows
+//! it.
+//!
+//! No call takes memory, and none waits.
+#![tactic(auto)]
+
+mod ends;
+mod looks;
+
+pub use ends::{end_row, finish_end};
+pub use looks::{find_owned, is_sealed, look_limit, look_phase, look_retailer};
