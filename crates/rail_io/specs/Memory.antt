@@ -1,0 +1,66 @@
+-- What the memory forms hold, and how often the adapters failed.
+use Rattle.std.specs.Prelude.{◌≡◌, ℕ, List, drop, ◌+◌, ◌-◌, ◌^◌, min, Option, option_map}
+use Rattle.std.specs.BTreeMap.{get_by_text}
+use Rattle.rail_io.specs.declared.memory_source.BytesSource.{BytesSource}
+use Rattle.rail_io.specs.declared.memory_sink.VecSink.{VecSink}
+use Rattle.rail_io.specs.declared.memory_shelf.MapShelf.{MapShelf}
+use Rattle.rail_io.specs.declared.standard.ReaderSource.{ReaderSource}
+use Rattle.rail_io.specs.declared.standard.WriterSink.{WriterSink}
+
+-- one call more, of a count that stands still at its last value
+abbrev pub IsOneCallMore : ℕ → ℕ → Type 0
+IsOneCallMore old new = new ≡ min (old + 1) (2 ^ 64 - 1)
+
+-- the bytes still to come
+abbrev pub source_left : BytesSource → List ℕ
+source_left s = drop s.given s.bytes.items
+
+abbrev pub source_faults : BytesSource → ℕ
+source_faults s = s.faults
+
+-- the reads made
+abbrev pub source_calls : BytesSource → ℕ
+source_calls s = s.calls
+
+-- the numbers of the reads that fail
+abbrev pub source_fails : BytesSource → List ℕ
+source_fails s = s.fails.items
+
+-- all bytes taken
+abbrev pub sink_taken : VecSink → List ℕ
+sink_taken s = s.bytes.items
+
+abbrev pub sink_faults : VecSink → ℕ
+sink_faults s = s.faults
+
+-- the writes made
+abbrev pub sink_calls : VecSink → ℕ
+sink_calls s = s.calls
+
+-- the numbers of the writes that fail
+abbrev pub sink_fails : VecSink → List ℕ
+sink_fails s = s.fails.items
+
+-- the content of the file with the name
+abbrev pub shelf_file : MapShelf → List ℕ → Option (List ℕ)
+shelf_file s name = option_map (λ content. content.items) (get_by_text s.files name)
+
+abbrev pub shelf_faults : MapShelf → ℕ
+shelf_faults s = s.faults
+
+abbrev pub shelf_misses : MapShelf → ℕ
+shelf_misses s = s.misses
+
+-- the fetches made
+abbrev pub shelf_calls : MapShelf → ℕ
+shelf_calls s = s.calls
+
+-- the numbers of the fetches that fail
+abbrev pub shelf_fails : MapShelf → List ℕ
+shelf_fails s = s.fails.items
+
+abbrev pub reader_faults : {R : Type 0} → ReaderSource R → ℕ
+reader_faults s = s.faults
+
+abbrev pub writer_faults : {W : Type 0} → WriterSink W → ℕ
+writer_faults s = s.faults

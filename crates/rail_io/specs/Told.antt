@@ -1,0 +1,25 @@
+-- What a source has left and what a sink has taken, where the object tells it.
+use Rattle.std.specs.Prelude.{◌≡◌, ◌≤◌, ◌<◌, ℕ, List, [], ◌++◌, length, take, Option, option_map, IfSome}
+use Rattle.rail_io.specs.declared.source.Pulled.{Pulled}
+use Rattle.rail_io.specs.declared.source.Pulled.TheVariants.{Got, End, Failed}
+use Rattle.rail_io.specs.declared.sink.Pushed.{Pushed}
+use Rattle.rail_io.specs.declared.sink.Pushed.TheVariants.{Took, Failed as SinkFailed}
+
+-- these bytes, and then those told
+abbrev pub with_front : List ℕ → Option (List ℕ) → Option (List ℕ)
+with_front front told = option_map (λ rest. front ++ rest) told
+
+-- the bytes told, and then these
+abbrev pub with_end : Option (List ℕ) → List ℕ → Option (List ℕ)
+with_end told end = option_map (λ front. front ++ end) told
+
+-- What a read gives: the first of the bytes still to come, or nothing.
+abbrev pub Pulls : Option (List ℕ) → Option (List ℕ) → List ℕ → Pulled → Type 0
+Pulls before after room (Got n) = (0 < n) × (n ≤ length room) × (before ≡ with_front (take n room) after)
+Pulls before after room End = (after ≡ before) × IfSome before (λ left. left ≡ [])
+Pulls before after room Failed = after ≡ before
+
+-- What a write takes: the first of the piece, or nothing.
+abbrev pub Pushes : Option (List ℕ) → Option (List ℕ) → List ℕ → Pushed → Type 0
+Pushes before after piece (Took n) = (0 < n) × (n ≤ length piece) × (after ≡ with_end before (take n piece))
+Pushes before after piece SinkFailed = after ≡ before

@@ -1,0 +1,32 @@
+// Where bytes go.
+ghost use Rattle.std.specs.Prelude.{◌≡◌, ◌≤◌, ◌<◌, ℕ, List, Option, length};
+ghost use Rattle.rail_io.specs.declared.sink.Pushed.TheVariants.{Failed};
+ghost use Rattle.rail_io.specs.Faults.{Rose};
+ghost use Rattle.rail_io.specs.Told.{Pushes};
+
+/// What a write answers.
+#[derive(Clone, Copy, Debug, PartialEq, Eq)]
+pub enum Pushed {
+    /// So many bytes of the piece were taken, at least one.
+    Took(usize),
+    /// The write failed, and nothing was taken. A write that takes nothing counts as failed.
+    Failed,
+}
+
+/// Takes bytes one after another.
+pub trait Sink {
+    /// All bytes taken, where the sink tells them.
+    ghost told: { Self → Option (List ℕ) };
+
+    /// How often it has failed. The count stands still at the last value of 64 bits, and at every
+    /// call that doesn't fail.
+    ghost faults: { Self → ℕ };
+
+    /// Takes some of the bytes at the front of `piece`, which isn't empty.
+    fn write(&mut self, piece: &[u8]) -> Pushed
+        requires { 0 < length piece.now }
+        ensures pushes { Pushes (told self.old) (told self.new) piece.now result }
+        ensures never_falls { faults self.old ≤ faults self.new }
+        ensures cause { result ≡ Failed → Rose (faults self.old) (faults self.new) }
+        ensures steady { (result ≡ Failed → ⊥) → faults self.new ≡ faults self.old };
+}

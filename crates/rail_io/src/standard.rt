@@ -1,0 +1,104 @@
+// A reader and a writer of std as source and sink. They tell no content.
+ghost use Rattle.std.specs.Prelude.{None, IfOk, ◌≤◌, length};
+
+use crate::{Pulled, Pushed, Sink, Source};
+use std::io;
+use std::io::{ErrorKind, Read, Write};
+
+/// How often an interrupted call is made once more before it counts as failed.
+const RETRIES: u32 = 1_000;
+
+/// Standard input, or another reader, as a source.
+#[derive(Drop)]
+pub struct ReaderSource<R: Read> {
+    reader: R,
+    faults: u64,
+}
+
+fn read_some<R: Read>(reader: &mut R, room: &mut [u8]) -> io::Result<usize>
+    ensures { IfOk result (λ count. count ≤ length room.new) }
+{
+    for _ in 0..RETRIES {
+        match reader.read(room) {
+            Err(error) if error.kind() == ErrorKind::Interrupted => {}
+            outcome => return outcome,
+        }
+    }
+    reader.read(room)
+}
+
+impl<R: Read> ReaderSource<R> {
+    ghost use Rattle.std.specs.Prelude.{◌≡◌};
+    ghost use Rattle.rail_io.specs.Memory.{reader_faults};
+
+    /// A source of what the reader reads, which hasn't failed.
+    pub fn new(reader: R) -> Self
+        ensures faults { reader_faults result ≡ 0 }
+    {
+        ReaderSource { reader, faults: 0 }
+    }
+}
+
+impl<R: Read> Source for ReaderSource<R> {
+    ghost told = { λ _. None };
+
+    ghost faults = { λ s. s.faults };
+
+    fn read(&mut self, room: &mut [u8]) -> Pulled {
+        match read_some(&mut self.reader, room) {
+            Ok(0) => Pulled::End,
+            Ok(count) => Pulled::Got(count),
+            Err(_) => {
+                self.faults = self.faults.saturating_add(1);
+                Pulled::Failed
+            }
+        }
+    }
+}
+
+/// Standard output or error, or another writer, as a sink.
+#[derive(Drop)]
+pub struct WriterSink<W: Write> {
+    writer: W,
+    faults: u64,
+}
+
+fn write_some<W: Write>(writer: &mut W, piece: &[u8]) -> io::Result<usize>
+    ensures { IfOk result (λ count. count ≤ length piece.now) }
+{
+    for _ in 0..RETRIES {
+        match writer.write(piece) {
+            Err(error) if error.kind() == ErrorKind::Interrupted => {}
+            outcome => return outcome,
+        }
+    }
+    writer.write(piece)
+}
+
+impl<W: Write> WriterSink<W> {
+    ghost use Rattle.std.specs.Prelude.{◌≡◌};
+    ghost use Rattle.rail_io.specs.Memory.{writer_faults};
+
+    /// A sink that writes to the writer, and that hasn't failed.
+    pub fn new(writer: W) -> Self
+        ensures faults { writer_faults result ≡ 0 }
+    {
+        WriterSink { writer, faults: 0 }
+    }
+}
+
+impl<W: Write> Sink for WriterSink<W> {
+    ghost told = { λ _. None };
+
+    ghost faults = { λ s. s.faults };
+
+    fn write(&mut self, piece: &[u8]) -> Pushed {
+        match write_some(&mut self.writer, piece) {
+            Ok(0) => {}
+            Ok(count) => return Pushed::Took(count),
+            Err(_) => {}
+        }
+        self.faults = self.faults.saturating_add(1);
+        Pushed::Failed
+    }
+}
