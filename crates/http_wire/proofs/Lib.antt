@@ -1,0 +1,10 @@
+pub mod Fronts
+pub mod NamedLemmas
+pub mod RequestHeads
+pub mod Scanning
+pub mod StreamLemmas
+pub mod WholeLemmas
+pub mod ServedLemmas
+pub mod WordLemmas
+pub mod OnceLemmas
+pub mod SomeReading

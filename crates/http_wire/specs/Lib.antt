@@ -1,0 +1,11 @@
+pub mod Answers
+pub mod Heads
+pub mod Named
+pub mod Next
+pub mod Pieces
+pub mod HeadLines
+pub mod HeadRead
+pub mod Requests
+pub mod Scan
+pub mod ServedLines
+pub mod View

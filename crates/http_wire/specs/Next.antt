@@ -1,0 +1,44 @@
+-- What the next request is, of some bytes.
+use Rattle.std.specs.Prelude.{◌≡◌, ◌⊎◌, ℕ, ◌+◌, ◌<◌, ◌≤◌, List, [], ◌++◌, length, take, Option, IfSome, ⊤}
+use Rattle.rail_io.specs.Told.{with_front}
+use Rattle.rail_io.specs.declared.source.Pulled.{Pulled}
+use Rattle.rail_io.specs.declared.source.Pulled.TheVariants.{Got, End as SourceEnd, Failed}
+use Rattle.http_wire.specs.declared.request.Next.{Next}
+use Rattle.http_wire.specs.declared.request.Next.TheVariants.{Request, End, Cut, ReadFault, Bad}
+use Rattle.http_wire.specs.Pieces.{request_text, ArePiecesWithin}
+use Rattle.http_wire.specs.Requests.{IsRequest, IsFault, IsBlank, IsUnfinished}
+use Rattle.http_wire.specs.View.{IntakeView}
+
+-- the source has nothing left, where it tells that
+abbrev pub AtEnd : Option (List ℕ) → Type 0
+AtEnd told = IfSome told (λ left. left ≡ [])
+
+-- what was held and pulled is still held, and no request was given
+pub record IsKept (number : ℕ) (bytes : List ℕ) (after : IntakeView) : Type 0 where
+  pub unread : after.unread ≡ bytes
+  pub given : after.given + 1 ≡ number
+
+-- The answer, where these are the bytes that were held and pulled. After a read fault they hold no
+-- whole request and no fault.
+abbrev pub IsNext : ℕ → List ℕ → IntakeView → Option (List ℕ) → Next → Type 0
+IsNext number bytes after told (Request request) =
+    (after.given ≡ number) × ArePiecesWithin (length after.taken) request
+    × IsRequest number bytes (request_text after.taken request) after.unread
+IsNext number bytes after told End = AtEnd told × IsBlank bytes × IsKept number bytes after
+IsNext number bytes after told Cut = AtEnd told × IsUnfinished bytes × IsKept number bytes after
+IsNext number bytes after told ReadFault = (IsBlank bytes ⊎ IsUnfinished bytes) × IsKept number bytes after
+IsNext number bytes after told (Bad fault) = IsFault fault bytes × IsKept number bytes after
+
+-- What a read behind the first bytes of a memory does.
+abbrev pub PullsBehind : Option (List ℕ) → Option (List ℕ) → List ℕ → List ℕ → ℕ → Pulled → Type 0
+PullsBehind before after old new filled (Got n) =
+    (pulled : List ℕ) × (0 < n) × (filled + n ≤ length new)
+    × (before ≡ with_front pulled after) × (take (filled + n) new ≡ take filled old ++ pulled)
+PullsBehind before after old new filled SourceEnd = (after ≡ before) × AtEnd before × (take filled new ≡ take filled old)
+PullsBehind before after old new filled Failed = (after ≡ before) × (take filled new ≡ take filled old)
+
+-- The count of faults of a read is as before, unless the read failed.
+abbrev pub Stays : Pulled → ℕ → ℕ → Type 0
+Stays (Got n) before after = after ≡ before
+Stays SourceEnd before after = after ≡ before
+Stays Failed before after = ⊤

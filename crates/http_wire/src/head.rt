@@ -1,0 +1,151 @@
+// Where a head ends, and the readers of its lines.
+ghost use Rattle.std.specs.Prelude.{◌≡◌, ◌<◌, ◌≤◌, ◌+◌, ◌^◌, ℕ, true, false, All, length, map, option_map, IfSome, IfNone, ◌==◌, if◌then◌else◌};
+ghost use Rattle.std.specs.List.{position_or_len};
+ghost use Rattle.httparse.specs.Grammar.{RequestHead};
+ghost use Rattle.httparse.specs.Spans.{IsWithin, IsHeaderWithin, header_bytes, span_bytes};
+ghost use Rattle.http_wire.specs.Heads.{IsHead};
+ghost use Rattle.http_wire.specs.Named.{with_value, IsNamed, IsNamedWithin};
+ghost use Rattle.http_wire.specs.HeadLines.{same_name, values_named, IsNumeral};
+ghost use Rattle.http_wire.specs.Scan.{search_head};
+
+use httparse::Status;
+use httparse::spans::{EMPTY_HEADER_SPAN, HeaderSpan, Span, parse_request};
+
+/// The most bytes of a head.
+pub const HEAD_ROOM: usize = 16_384;
+
+/// The most lines after the request line.
+pub const HEAD_LINES: usize = 64;
+
+/// What the search for a head's end finds.
+#[derive(Clone, Copy, Debug, PartialEq, Eq)]
+pub enum HeadSearch {
+    Nothing,
+    Ended(usize),
+    Many,
+}
+
+/// One line more, where it has ended.
+fn count_line(count: usize, ended: bool) -> usize
+    requires { count < 2 ^ 32 }
+    ensures { result ≡ (if ended then count + 1 else count) }
+{
+    if ended { count + 1 } else { count }
+}
+
+/// The place after the first empty line that stands after a line that isn't empty, unless the 66th line comes before.
+pub fn head_end(text: &[u8]) -> HeadSearch
+    ensures { result ≡ search_head 0 false true false text.now }
+{
+    let mut count = 0;
+    let mut begun = false;
+    let mut line_empty = true;
+    let mut carriage = false;
+    for (i, byte) in text.iter().enumerate() {
+        let feed = *byte == b'\n';
+        if feed && line_empty && begun {
+            return HeadSearch::Ended(i + 1);
+        }
+        if feed && !line_empty && count == 65 {
+            return HeadSearch::Many;
+        }
+        count = count_line(count, feed && !line_empty);
+        begun = begun || (feed && !line_empty);
+        line_empty = feed || (line_empty && !carriage && *byte == b'\r');
+        carriage = *byte == b'\r';
+    }
+    HeadSearch::Nothing
+}
+
+/// What the named header lines hold.
+#[derive(Clone, Copy)]
+pub enum Named {
+    None,
+    First(Span),
+    Several(Span),
+}
+
+impl Named {
+    /// With one more value, where it has the name.
+    fn with_if(self, named: bool, value: Span) -> Named
+        ensures value { result ≡ (if named then with_value self value else self) }
+        ensures within { (n : ℕ) → IsNamedWithin n self → IsWithin n value → IsNamedWithin n result }
+    {
+        if !named {
+            return self;
+        }
+        match self {
+            Named::None => Named::First(value),
+            Named::First(first) | Named::Several(first) => Named::Several(first),
+        }
+    }
+}
+
+/// Whether the names are the same, without regard to ASCII case.
+pub fn same_name(a: &[u8], b: &[u8]) -> bool
+    ensures { result ≡ same_name a.now b.now }
+{
+    a.eq_ignore_ascii_case(b)
+}
+
+/// The values of the header lines with the name.
+pub fn values_named(head: &[u8], lines: &[HeaderSpan], name: &[u8]) -> Named
+    requires { All (IsHeaderWithin (length head.now)) lines.now }
+    ensures named { IsNamed head.now result (values_named name.now (map (header_bytes head.now) lines.now)) }
+    ensures within { IsNamedWithin (length head.now) result }
+{
+    let mut found = Named::None;
+    for line in lines {
+        found = found.with_if(same_name(line.name.of(head), name), line.value);
+    }
+    found
+}
+
+/// The number that 1 to 10 digits spell.
+pub fn long_number(digits: &[u8]) -> Option<u64>
+    ensures some { IfSome result (λ n. IsNumeral digits.now n) }
+    ensures none { IfNone result ((n : ℕ) → IsNumeral digits.now n → ⊥) }
+{
+    if digits.is_empty() || digits.len() > 10 {
+        return None;
+    }
+    let mut number: u64 = 0;
+    for digit in digits {
+        if !digit.is_ascii_digit() {
+            return None;
+        }
+        number = number * 10 + u64::from(*digit - b'0');
+    }
+    Some(number)
+}
+
+/// How many bytes stand before the first question mark.
+pub fn path_length(target: &[u8]) -> usize
+    ensures place { result ≡ position_or_len (λ b. b == 63) target.now }
+    ensures within { result ≤ length target.now }
+{
+    for (i, byte) in target.iter().enumerate() {
+        if *byte == b'?' {
+            return i;
+        }
+    }
+    target.len()
+}
+
+/// What a head's lines say.
+#[derive(Clone, Copy)]
+pub struct ServedLines {
+    pub length: u32,
+    pub key: Option<Span>,
+    pub close: bool,
+}
+
+/// What the head of a request says.
+#[derive(Clone, Copy)]
+pub struct ServedHead {
+    pub method: Span,
+    pub path: Span,
+    pub key: Option<Span>,
+    pub length: u32,
+    pub last: bool,
+}

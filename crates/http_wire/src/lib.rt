@@ -1,0 +1,36 @@
+//! Requests of HTTP/1.1 out of a source, and heads of answers, after the message form of RFC 9112.
+//!
+//! Any stream of bytes spells one list of requests and one rest (`one_reading`), whatever pieces the
+//! source hands out. `Intake::next_request` answers the requests in order, each once and whole, or
+//! says what stands in the next one's place: the end, a cut, one of five faults, or a failed read.
+//! All memory of the wire is the intake's, and is taken at its start.
+//!
+//! The profile: heads are read by `httparse` with its default settings, bodies are counted by
+//! `Content-Length` alone, and a request is the last of its connection where it is HTTP/1.0, where it
+//! says `Connection: close`, or where it is number 65,536.
+#![tactic(auto)]
+
+mod answer;
+mod head;
+mod intake;
+mod request;
+mod served;
+
+ghost use Rattle.std.specs.Prelude.{◌≡◌, ℕ, List};
+ghost use Rattle.http_wire.specs.Requests.{RequestText, Rest, Spells};
+
+pub use answer::{Answer, Body, append, append_number, write_head};
+pub use intake::Intake;
+pub use request::{Next, Piece, Request, WireFault};
+
+/// A stream spells one list of requests, and ends in one way: there is no second reading, and none
+/// without any.
+pub fn one_reading()
+    ensures unique { (xs ys : List RequestText) (number : ℕ) (stream : List ℕ) (a b : Rest)
+        → Spells number stream xs a → Spells number stream ys b → (xs ≡ ys) × (a ≡ b) }
+    ensures some { (number : ℕ) (stream : List ℕ)
+        → ((xs : List RequestText) (rest : Rest) → Spells number stream xs rest → ⊥) → ⊥ }
+{}
+
+#[cfg(test)]
+mod tests;

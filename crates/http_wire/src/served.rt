@@ -1,0 +1,226 @@
+// What the head of a request says.
+ghost use Rattle.std.specs.Prelude.{◌≡◌, ◌<◌, ◌≤◌, ◌↔◌, ◌&&◌, ◌||◌, ◌==◌, ◌∷◌, ℕ, List, All, length, map, IfOk, IfErr, IfSome, IsTrue, option_map, codes, reverse, true};
+ghost use Rattle.std.specs.List.{AllByRecursion, position_or_len};
+ghost use Rattle.httparse.specs.Grammar.{trim_ows, skip_ows};
+ghost use Rattle.httparse.specs.Spans.{IsWithin, IsHeaderWithin, header_bytes, span_bytes};
+ghost use Rattle.http_wire.specs.Heads.{IsHead, HasLines};
+ghost use Rattle.http_wire.specs.HeadLines.{same_name, values_named, IsNumeral, IsLength, lengths_in, closes_in, says_close, first_key};
+ghost use Rattle.http_wire.specs.HeadRead.{IsServedRead, IsServedWithin, IsHeadFault};
+ghost use Rattle.http_wire.specs.ServedLines.{AreServedLines, IsLengthFault, IsLinesFault, Agrees, line_closes};
+
+use crate::head::{
+    HEAD_LINES, Named, ServedHead, ServedLines, long_number, path_length, same_name, values_named,
+};
+use crate::request::WireFault;
+use httparse::Status;
+use httparse::spans::{EMPTY_HEADER_SPAN, HeaderSpan, Span, parse_request};
+
+fn skip_front(text: &[u8]) -> &[u8]
+    ensures { result.now ≡ skip_ows text.now }
+{
+    let mut rest = text;
+    while let [b' ' | b'\t', after @ ..] = rest {
+        rest = after;
+    }
+    rest
+}
+
+fn skip_back(text: &[u8]) -> &[u8]
+    ensures { result.now ≡ reverse (skip_ows (reverse text.now)) }
+{
+    let mut rest = text;
+    while let [before @ .., b' ' | b'\t'] = rest {
+        rest = before;
+    }
+    rest
+}
+
+/// Whether the word is `close`, without regard to case and blanks around it.
+#[tactic(auto, unfolding(httparse::specs::Grammar::trim_ows))]
+fn word_closes(word: &[u8]) -> bool
+    ensures { result ≡ same_name (trim_ows word.now) (codes "close") }
+{
+    same_name(skip_back(skip_front(word)), b"close")
+}
+
+/// How many bytes stand before the first comma.
+fn word_length(text: &[u8]) -> usize
+    ensures place { result ≡ position_or_len (λ b. b == 44) text.now }
+    ensures within { result ≤ length text.now }
+{
+    for (i, byte) in text.iter().enumerate() {
+        if *byte == b',' {
+            return i;
+        }
+    }
+    text.len()
+}
+
+/// Whether the value has the word `close`.
+fn says_close(value: &[u8]) -> bool
+    ensures { result ≡ says_close value.now }
+{
+    let mut rest = value;
+    'words: loop {
+        let at = word_length(rest);
+        let (word, more) = rest.split_at(at);
+        let Some((_, after)) = more.split_first() else {
+            return word_closes(word);
+        };
+        if word_closes(word) {
+            return true;
+        }
+        rest = after;
+    }
+}
+
+fn line_closes(head: &[u8], line: HeaderSpan) -> bool
+    requires { IsHeaderWithin (length head.now) line }
+    ensures { result ≡ line_closes head.now line }
+{
+    same_name(line.name.of(head), b"connection") && says_close(line.value.of(head))
+}
+
+fn closes(head: &[u8], lines: &[HeaderSpan]) -> bool
+    requires { All (IsHeaderWithin (length head.now)) lines.now }
+    ensures { result ≡ closes_in (map (header_bytes head.now) lines.now) }
+{
+    for line in lines {
+        if line_closes(head, *line) {
+            return true;
+        }
+    }
+    false
+}
+
+fn spells(digits: &[u8], number: u64) -> bool
+    ensures { IsTrue result ↔ IsNumeral digits.now number }
+{
+    match long_number(digits) {
+        Some(other) => other == number,
+        None => false,
+    }
+}
+
+fn agrees(head: &[u8], line: HeaderSpan, number: u64) -> bool
+    requires { IsHeaderWithin (length head.now) line }
+    ensures { IsTrue result ↔ Agrees head.now number line }
+{
+    if !same_name(line.name.of(head), b"content-length") {
+        return true;
+    }
+    spells(line.value.of(head), number)
+}
+
+fn all_agree(head: &[u8], lines: &[HeaderSpan], number: u64) -> bool
+    requires { All (IsHeaderWithin (length head.now)) lines.now }
+    ensures { IsTrue result ↔ AllByRecursion (λ d. IsNumeral d number) (lengths_in (map (header_bytes head.now) lines.now)) }
+{
+    for line in lines {
+        if !agrees(head, *line, number) {
+            return false;
+        }
+    }
+    true
+}
+
+/// The body's length, where the first line that gives one is there.
+fn length_of(head: &[u8], lines: &[HeaderSpan], first: Span) -> Result<u32, WireFault>
+    requires lines { All (IsHeaderWithin (length head.now)) lines.now }
+    requires within { IsWithin (length head.now) first }
+    requires first { (more : List (List ℕ)) × (lengths_in (map (header_bytes head.now) lines.now) ≡ span_bytes head.now first ∷ more) }
+    ensures ok { IfOk result (IsLength (lengths_in (map (header_bytes head.now) lines.now))) }
+    ensures fits { IfOk result (λ n. n ≤ 262144) }
+    ensures err { IfErr result (IsLengthFault (map (header_bytes head.now) lines.now)) }
+{
+    let Some(number) = long_number(first.of(head)) else {
+        return Err(WireFault::BadLength);
+    };
+    if !all_agree(head, lines, number) {
+        return Err(WireFault::BadLength);
+    }
+    if number > 262_144 {
+        return Err(WireFault::BodyTooLarge);
+    }
+    Ok(number as u32)
+}
+
+/// The body's length.
+fn body_length(head: &[u8], lines: &[HeaderSpan]) -> Result<u32, WireFault>
+    requires { All (IsHeaderWithin (length head.now)) lines.now }
+    ensures ok { IfOk result (IsLength (lengths_in (map (header_bytes head.now) lines.now))) }
+    ensures fits { IfOk result (λ n. n ≤ 262144) }
+    ensures err { IfErr result (IsLengthFault (map (header_bytes head.now) lines.now)) }
+{
+    match values_named(head, lines, b"content-length") {
+        Named::None => Ok(0),
+        Named::First(first) => length_of(head, lines, first),
+        Named::Several(first) => length_of(head, lines, first),
+    }
+}
+
+fn is_last(version: u8, close: bool, number: u32) -> bool
+    ensures { result ≡ ((version == 0) || close || (number == 65536)) }
+{
+    version == 0 || close || number == 65_536
+}
+
+fn first_key(head: &[u8], lines: &[HeaderSpan]) -> Option<Span>
+    requires { All (IsHeaderWithin (length head.now)) lines.now }
+    ensures key { option_map (span_bytes head.now) result ≡ first_key (map (header_bytes head.now) lines.now) }
+    ensures within { IfSome result (IsWithin (length head.now)) }
+{
+    match values_named(head, lines, b"retailer-key") {
+        Named::None => None,
+        Named::First(value) | Named::Several(value) => Some(value),
+    }
+}
+
+/// What the lines say.
+fn read_lines(head: &[u8], lines: &[HeaderSpan]) -> Result<ServedLines, WireFault>
+    requires { All (IsHeaderWithin (length head.now)) lines.now }
+    ensures ok { IfOk result (AreServedLines head.now (map (header_bytes head.now) lines.now)) }
+    ensures err { IfErr result (IsLinesFault (map (header_bytes head.now) lines.now)) }
+{
+    let Named::None = values_named(head, lines, b"transfer-encoding") else {
+        return Err(WireFault::Coding);
+    };
+    match body_length(head, lines) {
+        Ok(length) => Ok(ServedLines {
+            length,
+            key: first_key(head, lines),
+            close: closes(head, lines),
+        }),
+        Err(fault) => Err(fault),
+    }
+}
+
+/// What the head says where it is one of a request.
+pub fn served_head(head: &[u8], number: u32) -> Result<ServedHead, WireFault>
+    requires head { IsHead head.now }
+    requires few { HasLines 66 head.now → ⊥ }
+    ensures ok { IfOk result (IsServedRead number head.now) }
+    ensures within { IfOk result (IsServedWithin (length head.now)) }
+    ensures err { IfErr result (IsHeadFault head.now) }
+{
+    let mut lines = [EMPTY_HEADER_SPAN; HEAD_LINES];
+    let Ok(Status::Complete(spans)) = parse_request(head, &mut lines) else {
+        return Err(WireFault::BadHead);
+    };
+    let read = match read_lines(head, &lines[..spans.headers]) {
+        Ok(read) => read,
+        Err(fault) => return Err(fault),
+    };
+    let target = spans.path;
+    let path = Span {
+        start: target.start,
+        end: target.start + path_length(target.of(head)),
+    };
+    Ok(ServedHead {
+        method: spans.method,
+        path,
+        key: read.key,
+        length: read.length,
+        last: is_last(spans.version, read.close, number),
+    })
+}

@@ -1,0 +1,63 @@
+use Rattle.std.proofs.Common.{ℕ, List, ◌++◌, refl, ◌∙◌, ap, subst, inl, inr, append-nil}
+use Rattle.http_wire.specs.Pieces.{request_text}
+use Rattle.session_loop.proofs.session.step.Goals as goal
+
+pub returns-then-not-write_answer-clause-step : goal.returns-then-not-write_answer-clause-step
+returns-then-not-write_answer-clause-step g c =
+    let next = c.in-Request.ensures.next in
+    let w = c.if-not-write_answer.ensures.writes in
+    let request = request_text c.next_request.new.self.taken c.in-Request.request in (
+      next.0,
+      w.written,
+      next.1,
+      w.told,
+      (
+        w.left,
+        inl (
+          request,
+          record {
+            reads = next.2.2;
+            replies = subst (λ (a : List ℕ). g.R.Responder.answers c.args.responder.now request a c.answer-answer.new.self) w.is c.answer-answer.ensures.answers;
+          },
+        ),
+      ),
+    )
+
+pub returns-then-request-clause-step : goal.returns-then-request-clause-step
+returns-then-request-clause-step g c =
+    let next = c.in-Request.ensures.next in
+    let w = c.if-not-write_answer.ensures.writes in
+    let request = request_text c.next_request.new.self.taken c.in-Request.request in
+    let all = w.is ∙ ap (λ (l : List ℕ). w.written ++ l) (w.whole refl) ∙ append-nil w.written in (
+      next.0,
+      w.written,
+      next.1,
+      w.told,
+      inr (
+        request,
+        record {
+          reads = next.2.2;
+          replies = subst (λ (a : List ℕ). g.R.Responder.answers c.args.responder.now request a c.answer-answer.new.self) all c.answer-answer.ensures.answers;
+        },
+        c.if-request.true,
+      ),
+    )
+
+pub returns-then-not-write_answer-2-clause-step : goal.returns-then-not-write_answer-2-clause-step
+returns-then-not-write_answer-2-clause-step g c =
+    let next = c.in-Bad.ensures.next in
+    let w = c.if-not-write_answer-2.ensures.writes in (
+      next.0,
+      w.written,
+      next.1,
+      w.told,
+      (
+        w.left,
+        inr (
+          c.in-Bad.fault,
+          next.2.0,
+          subst (λ (a : List ℕ). g.R.Responder.refuses c.args.responder.now c.in-Bad.fault a) w.is c.refuse-answer.ensures.refuses,
+          c.refuse-answer.ensures.same,
+        ),
+      ),
+    )

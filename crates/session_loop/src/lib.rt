@@ -1,0 +1,20 @@
+//! One connection: its requests are read, answered and written in turn, until an end.
+//!
+//! `run_session` is told by a `Responder` how a request is answered. It promises that the bytes
+//! written are the answers of the requests that the connection's bytes spell, each request answered
+//! once, in order, and last the answer to a wire fault where one stands behind them. Each end has its
+//! cause in the bytes, or in a count of faults that rose. It takes no memory.
+#![tactic(auto)]
+
+mod end;
+mod responder;
+mod session;
+mod writing;
+
+pub use end::ConnEnd;
+pub use responder::Responder;
+pub use session::run_session;
+pub use writing::write_all;
+
+#[cfg(test)]
+mod tests;

@@ -1,0 +1,28 @@
+// Who answers requests.
+ghost use Rattle.std.specs.Prelude.{◌≡◌, ℕ, List, length};
+ghost use Rattle.http_wire.specs.Pieces.{request_text, ArePiecesWithin};
+ghost use Rattle.http_wire.specs.Requests.{RequestText};
+ghost use Rattle.http_wire.specs.declared.request.WireFault.{WireFault};
+ghost use Rattle.session_loop.specs.Answered.{answer_bytes};
+
+use http_wire::{Answer, Intake, Request, WireFault};
+
+/// Answers the requests of one connection.
+pub trait Responder {
+    /// The responder before, the request, the bytes of its answer, the responder after.
+    ghost answers: { Self → RequestText → List ℕ → Self → Type 0 };
+
+    /// The bytes that answer what stands in a request's place.
+    ghost refuses: { Self → WireFault → List ℕ → Type 0 };
+
+    /// Answers the request that the intake gave last. `last` is the request's own mark.
+    fn answer(&mut self, intake: &Intake, request: &Request, last: bool) -> Answer
+        requires given { ArePiecesWithin (length intake.now.taken) request.now }
+        requires last { last ≡ request.now.last }
+        ensures answers { answers self.old (request_text intake.now.taken request.now) (answer_bytes result) self.new };
+
+    /// Answers what stands in a request's place, and stays as it was.
+    fn refuse(&mut self, fault: WireFault) -> Answer
+        ensures refuses { refuses self.old fault (answer_bytes result) }
+        ensures same { self.new ≡ self.old };
+}

@@ -1,0 +1,86 @@
+// One connection, request by request.
+ghost use Rattle.std.specs.Prelude.{◌≡◌, ◌≤◌, ◌<◌, ◌++◌, ◌+◌, ℕ, List, Some, [], IfNone};
+ghost use Rattle.rail_io.specs.Faults.{Rose};
+ghost use Rattle.rail_io.specs.Told.{with_front, with_end};
+ghost use Rattle.session_loop.specs.declared.end.ConnEnd.TheVariants.{ReadFault, WriteFault};
+ghost use Rattle.session_loop.specs.Session.{IsStep, IsEnd};
+
+use crate::end::ConnEnd;
+use crate::responder::Responder;
+use crate::writing::write_answer;
+use http_wire::{Intake, Next};
+use rail_io::{Sink, Source};
+
+/// Reads, answers and writes one request, or ends.
+fn step<S: Source, K: Sink, R: Responder>(
+    intake: &mut Intake,
+    source: &mut S,
+    sink: &mut K,
+    responder: &mut R,
+) -> Option<ConnEnd>
+    requires { intake.old.given < 65536 }
+    ensures step { (pulled written : List ℕ)
+        × (S.told source.old ≡ with_front pulled (S.told source.new))
+        × (K.told sink.new ≡ with_end (K.told sink.old) written)
+        × IsStep R.answers R.refuses (intake.old.given + 1) (intake.old.unread ++ pulled) intake.new.unread
+        responder.old responder.new (S.told source.new) written result }
+    ensures given { IfNone result (intake.new.given ≡ intake.old.given + 1) }
+    ensures source_faults { S.faults source.old ≤ S.faults source.new }
+    ensures sink_faults { K.faults sink.old ≤ K.faults sink.new }
+    ensures read_cause { result ≡ Some ReadFault → Rose (S.faults source.old) (S.faults source.new) }
+    ensures write_cause { result ≡ Some WriteFault → Rose (K.faults sink.old) (K.faults sink.new) }
+    ensures source_steady { (result ≡ Some ReadFault → ⊥) → S.faults source.new ≡ S.faults source.old }
+    ensures sink_steady { (result ≡ Some WriteFault → ⊥) → K.faults sink.new ≡ K.faults sink.old }
+{
+    match intake.next_request(source) {
+        Next::Request(request) => {
+            let answer = responder.answer(intake, &request, request.last);
+            if !write_answer(sink, &answer) {
+                return Some(ConnEnd::WriteFault);
+            }
+            if request.last {
+                return Some(ConnEnd::Done);
+            }
+            None
+        }
+        Next::End => Some(ConnEnd::Done),
+        Next::Cut => Some(ConnEnd::Cut),
+        Next::ReadFault => Some(ConnEnd::ReadFault),
+        Next::Bad(fault) => {
+            let answer = responder.refuse(fault);
+            if !write_answer(sink, &answer) {
+                return Some(ConnEnd::WriteFault);
+            }
+            Some(ConnEnd::Refused(fault))
+        }
+    }
+}
+
+/// Reads, answers and writes in turn until an end. The intake is as its start gave it. Bytes behind a
+/// last request are left unread in the source or unused.
+pub fn run_session<S: Source, K: Sink, R: Responder>(
+    intake: &mut Intake,
+    source: &mut S,
+    sink: &mut K,
+    responder: &mut R,
+) -> ConnEnd
+    requires fresh { intake.old.given ≡ 0 }
+    requires empty { intake.old.unread ≡ [] }
+    ensures answers { (taken written : List ℕ)
+        × (S.told source.old ≡ with_front taken (S.told source.new))
+        × (K.told sink.new ≡ with_end (K.told sink.old) written)
+        × IsEnd R.answers R.refuses responder.old responder.new taken (S.told source.new) written result }
+    ensures source_faults { S.faults source.old ≤ S.faults source.new }
+    ensures sink_faults { K.faults sink.old ≤ K.faults sink.new }
+    ensures read_cause { result ≡ ReadFault → Rose (S.faults source.old) (S.faults source.new) }
+    ensures write_cause { result ≡ WriteFault → Rose (K.faults sink.old) (K.faults sink.new) }
+    // A call that failed ends the session: at any other end the count is as it was.
+    ensures source_steady { (result ≡ ReadFault → ⊥) → S.faults source.new ≡ S.faults source.old }
+    ensures sink_steady { (result ≡ WriteFault → ⊥) → K.faults sink.new ≡ K.faults sink.old }
+{
+    'requests: loop {
+        if let Some(end) = step(intake, source, sink, responder) {
+            return end;
+        }
+    }
+}

@@ -1,0 +1,56 @@
+// Whole pieces into a sink.
+ghost use Rattle.std.specs.Prelude.{◌≡◌, ◌≤◌, ◌++◌, true, false};
+ghost use Rattle.rail_io.specs.Faults.{Rose};
+ghost use Rattle.session_loop.specs.Answered.{answer_bytes, body_bytes};
+ghost use Rattle.session_loop.specs.Writes.{Writes};
+
+use http_wire::{Answer, Body};
+use rail_io::{Pushed, Sink};
+
+/// Writes all of the piece, and answers true, or a front of it, where the sink fails.
+pub fn write_all<K: Sink>(sink: &mut K, piece: &[u8]) -> bool
+    ensures writes { Writes (K.told sink.old) (K.told sink.new) piece.now result }
+    ensures never_falls { K.faults sink.old ≤ K.faults sink.new }
+    ensures cause { result ≡ false → Rose (K.faults sink.old) (K.faults sink.new) }
+    ensures steady { result ≡ true → K.faults sink.new ≡ K.faults sink.old }
+{
+    let mut rest = piece;
+    while !rest.is_empty() {
+        match sink.write(rest) {
+            Pushed::Took(count) => rest = &rest[count..],
+            Pushed::Failed => return false,
+        }
+    }
+    true
+}
+
+fn write_two<K: Sink>(sink: &mut K, first: &[u8], second: &[u8]) -> bool
+    ensures writes { Writes (K.told sink.old) (K.told sink.new) (first.now ++ second.now) result }
+    ensures never_falls { K.faults sink.old ≤ K.faults sink.new }
+    ensures cause { result ≡ false → Rose (K.faults sink.old) (K.faults sink.new) }
+    ensures steady { result ≡ true → K.faults sink.new ≡ K.faults sink.old }
+{
+    if !write_all(sink, first) {
+        return false;
+    }
+    write_all(sink, second)
+}
+
+fn body(answer: &Answer) -> &[u8]
+    ensures { result.now ≡ body_bytes answer.now.body }
+{
+    match &answer.body {
+        Body::Small(text) => text.as_slice(),
+        Body::Large(text) => text.as_slice(),
+    }
+}
+
+/// Writes head and body one after the other, without joining them.
+pub fn write_answer<K: Sink>(sink: &mut K, answer: &Answer) -> bool
+    ensures writes { Writes (K.told sink.old) (K.told sink.new) (answer_bytes answer.now) result }
+    ensures never_falls { K.faults sink.old ≤ K.faults sink.new }
+    ensures cause { result ≡ false → Rose (K.faults sink.old) (K.faults sink.new) }
+    ensures steady { result ≡ true → K.faults sink.new ≡ K.faults sink.old }
+{
+    write_two(sink, answer.head.as_slice(), body(answer))
+}
