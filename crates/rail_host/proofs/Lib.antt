@@ -1,0 +1,3 @@
+pub mod Hosting
+pub mod JsonFacts
+mod WorkedBodies

@@ -1,0 +1,15 @@
+-- How the run with its reservations answers.
+use Rattle.std.specs.Prelude.{◌≡◌, ℕ, List}
+use Rattle.http_wire.specs.declared.request.WireFault.{WireFault}
+use Rattle.http_wire.specs.Requests.{RequestText}
+use Rattle.rail_host.specs.declared.responder.Tiny.{Tiny}
+use Rattle.rail_host.specs.Tiny.{Answers, Refuses}
+
+-- a request is answered so, and the run stays the same
+pub record Responds (before : Tiny) (request : RequestText) (text : List ℕ) (after : Tiny) : Type 0 where
+  pub answer : Answers before.legs before.places before.held.items request text after.held.items
+  pub legs : after.legs ≡ before.legs
+  pub places : after.places ≡ before.places
+
+abbrev pub Declines : Tiny → WireFault → List ℕ → Type 0
+Declines tiny fault text = Refuses tiny.held.items fault text
