@@ -6,7 +6,7 @@ use Rattle.history_model.specs.declared.booking.BookedItem.{BookedItem}
 use Rattle.history_model.specs.declared.entry.Entry.{Entry}
 use Rattle.history_model.specs.declared.entry.Step.TheVariants.{Note, Seal}
 use Rattle.history_model.specs.declared.phase.Phase.{Phase}
-use Rattle.history_model.specs.Booking.{Layout, present}
+use Rattle.history_model.specs.Booking.{Layout, greatest_retailer, last_moment, greatest_amount, present}
 use Rattle.history_model.specs.Allowed.{IsAllowedStep, IsMadeBy, IsSealable, MaySealAs}
 use Rattle.history_model.specs.Apply.{in_phase}
 use Rattle.history_model.specs.History.{IsLegal, entry, state_of}
@@ -99,7 +99,7 @@ low_words ws r l t c = drop_low 8 4 c (set (set (set ws 1 r) 2 l) 3 t) (omega ar
 
 -- with its detail noted, the row of a hold whose items are noted may be sealed
 pub sealable : (a b c d e : DeskView) (hold : HoldView) (r l t n : ℕ) → IsLegal a.layout a.seen → StandsFor a hold → Stepped (Note hold.row 1 r) a b → Stepped (Note hold.row 2 l) b c → Stepped (Note hold.row 3 t) c d → Stepped (Note hold.row 4 n) d e
-    → HasNotedItems a hold → 1 ≤ length hold.items → r ≤ 4294967295 → l ≤ 4102444799 → t ≤ 99999999999 → n ≡ length hold.items → IsToBeSealed e hold
+    → HasNotedItems a hold → 1 ≤ length hold.items → r ≤ greatest_retailer → l ≤ last_moment → t ≤ greatest_amount → n ≡ length hold.items → IsToBeSealed e hold
 sealable a b c d e hold r l t n legal is n1 n2 n3 n4 noted some fr fl ft count =
     let s1 = hold_notes 1 r a b hold n1 is in
     let s2 = hold_notes 2 l b c hold n2 s1 in
@@ -112,9 +112,9 @@ sealable a b c d e hold r l t n legal is n1 n2 n3 n4 noted some fr fl ft count =
     stands_on a hold (λ x. take (length hold.items) (drop 8 x.words) ≡ map (λ (i : Item). item_word i.place i.span) hold.items) is noted in
     on_row (state_seen e) hold.row s4.booking IsSealable s4.found (record {
       some = subst (λ (k : ℕ). 1 ≤ k) (sym len) some;
-      retailer = subst (λ (k : ℕ). k ≤ 4294967295) (sym (one ws r l t n many)) fr;
-      limit = subst (λ (k : ℕ). k ≤ 4102444799) (sym (two ws r l t n many)) fl;
-      total = subst (λ (k : ℕ). k ≤ 99999999999) (sym (three ws r l t n many)) ft;
+      retailer = subst (λ (k : ℕ). k ≤ greatest_retailer) (sym (one ws r l t n many)) fr;
+      limit = subst (λ (k : ℕ). k ≤ last_moment) (sym (two ws r l t n many)) fl;
+      total = subst (λ (k : ℕ). k ≤ greatest_amount) (sym (three ws r l t n many)) ft;
       count = four ws r l t n many ∙ (count ∙ sym len);
       items = (λ i. take (len i) (low_words ws r l t n i)) ∙ (was ∙ sym (ap (map (λ (i : BookedItem). item_word i.place i.span)) is.items ∙ map_held hold.items));
     })

@@ -8,14 +8,15 @@ use Rattle.history_model.specs.declared.phase.EndKind.{EndKind}
 use Rattle.history_model.specs.declared.phase.EndKind.TheVariants as kind
 use Rattle.history_model.specs.declared.phase.Phase.{Phase}
 use Rattle.history_model.specs.declared.phase.Phase.TheVariants as phase
-use Rattle.history_model.specs.Booking.{Booking, Layout, State, present, limit_of, amount_word}
+use Rattle.history_model.specs.Booking.{Booking, Layout, State, least_difference, greatest_difference, present, limit_of}
 use Rattle.history_model.specs.Phase.{is_live, is_sealed, said_phase}
-use Rattle.history_model.specs.Allowed.{IsAllowedStep, IsMadeBy, IsBeingEndedBy, OnRow, TurnsWith}
+use Rattle.history_model.specs.Allowed.{IsAllowedStep, IsAmountOf, IsMadeBy, IsBeingEndedBy, OnRow, TurnsWith}
 use Rattle.history_model.specs.History.{IsLegal, entry, state_of}
-use Rattle.history_model.specs.Work.{AreInRange, ends_row}
+use Rattle.history_model.specs.Work.{ends_row}
+use Rattle.history_model.specs.Laws.{AreInRange}
 use Rattle.history_model.proofs.Keeping.{found, turn_from}
 use Rattle.history_model.proofs.Owners.{firm_ending}
-use Rattle.history_model.proofs.Ranges.{turn_fits, ranges-history}
+use Rattle.history_model.proofs.Ranges.{turn_fits, ranges_all}
 use Rattle.history_model.proofs.Seen.{legal-rest}
 use Rattle.claim_rule.specs.Rule.{DeskView, BooksView, state_seen}
 use Rattle.claim_rule.specs.Seats.{Stepped, Shape, IsOf, CanTurn, AddsAtMost}
@@ -35,22 +36,32 @@ use Rattle.booking_rows.specs.Aims.{aimed, end_of, turn_of, Turns}
 
 -- the end that a turn aims at is in range
 
-aim_fits : (g : Layout) (s : State) (d limit : ℕ) (aim : Aim) → AreInRange g s → TurnsWith s d limit (aimed aim) (end_of aim).moment (end_of aim).amount (end_of aim).successor → (amount_word kind.Refund (end_of aim).amount ≤ 100009999999) × ((end_of aim).successor ≤ g.rows)
-aim_fits g s d limit (Confirm now) all may = (omega arith, omega arith)
-aim_fits g s d limit Fulfil all may = (omega arith, omega arith)
-aim_fits g s d limit (Release now) all may = (omega arith, omega arith)
-aim_fits g s d limit (Expire now) all may = (omega arith, omega arith)
-aim_fits g s d limit (Refund now amount) all may = turn_fits g s d limit kind.Refund now (pos amount) 0 all may
-aim_fits g s d limit (Exchange now difference successor) all may = turn_fits g s d limit kind.Exchange now difference (successor.0 + 1) all may
+at_most : (kind : EndKind) (a : ℤ) → IsAmountOf kind a → (least_difference ≤ℤ a) × (a ≤ℤ greatest_difference)
+at_most kind.Release a is = subst (λ (z : ℤ). (least_difference ≤ℤ z) × (z ≤ℤ greatest_difference)) (sym is) (omega (arith, ints), omega (arith, ints))
+at_most kind.Expire a is = subst (λ (z : ℤ). (least_difference ≤ℤ z) × (z ≤ℤ greatest_difference)) (sym is) (omega (arith, ints), omega (arith, ints))
+at_most kind.Refund a is = let l : pos 0 ≤ℤ a = is.0 in let m : a ≤ℤ pos 99999999999 = is.1 in (omega (arith, ints), omega (arith, ints))
+at_most kind.Exchange a is = is
+
+aim_fits : (g : Layout) (s : State) (d limit : ℕ) (aim : Aim) → AreInRange g s → TurnsWith s d limit (aimed aim) (end_of aim).moment (end_of aim).amount (end_of aim).successor
+    → (least_difference ≤ℤ (end_of aim).amount) × ((end_of aim).amount ≤ℤ greatest_difference) × ((end_of aim).successor ≤ g.rows)
+aim_fits g s d limit (Confirm now) all may = (omega (arith, ints), omega (arith, ints), omega arith)
+aim_fits g s d limit Fulfil all may = (omega (arith, ints), omega (arith, ints), omega arith)
+aim_fits g s d limit (Release now) all may = (omega (arith, ints), omega (arith, ints), omega arith)
+aim_fits g s d limit (Expire now) all may = (omega (arith, ints), omega (arith, ints), omega arith)
+aim_fits g s d limit (Refund now amount) all may =
+    let f = turn_fits g s d limit kind.Refund now (pos amount) 0 all may in
+    let l = at_most kind.Refund (pos amount) f.0 in (l.0, l.1, f.1)
+aim_fits g s d limit (Exchange now difference successor) all may =
+    let f = turn_fits g s d limit kind.Exchange now difference (successor.0 + 1) all may in
+    let l = at_most kind.Exchange difference f.0 in (l.0, l.1, f.1)
 
 pub turn_in_range : (books : BooksView) (desk : DeskView) (row : ℕ) (from : Phase) (aim : Aim) → IsOf books desk → CanTurn books.layout desk.seen desk.number row from (aimed aim) (end_of aim).moment (end_of aim).amount (end_of aim).successor
-    → (amount_word kind.Refund (end_of aim).amount ≤ 100009999999) × ((end_of aim).successor ≤ books.layout.rows)
+    → (least_difference ≤ℤ (end_of aim).amount) × ((end_of aim).amount ≤ℤ greatest_difference) × ((end_of aim).successor ≤ books.layout.rows)
 turn_in_range books desk row from aim of can =
     let legal : IsLegal books.layout desk.seen = subst (λ (g : Layout). IsLegal g desk.seen) of.layout of.legal in
-    let opening : AreInRange books.layout books.layout.opening = subst (λ (g : Layout). AreInRange g g.opening) of.layout of.opening in
     let s = state_of books.layout desk.seen in
     let b = found (present s row) (λ b. (is_sealed b.phase ≡ true) × TurnsWith s desk.number (limit_of b) (aimed aim) (end_of aim).moment (end_of aim).amount (end_of aim).successor) can.3 in
-    aim_fits books.layout s desk.number (limit_of b.0) aim (ranges-history books.layout books.layout.opening desk.seen legal.1 opening) b.2.1
+    aim_fits books.layout s desk.number (limit_of b.0) aim (ranges_all books.layout desk.seen legal) b.2.1
 
 -- a row that is sealed is none that the desk makes
 
@@ -170,21 +181,11 @@ ending_shape row from aim e now old mid new t seen =
 
 -- the amount that a turn aims at fits its word
 
-between : (z : ℤ) → negsuc 99999999998 ≤ℤ z → z ≤ℤ pos 100009999999 → FitsSigned w64 z
+between : (z : ℤ) → least_difference ≤ℤ z → z ≤ℤ greatest_difference → FitsSigned w64 z
 between (pos n) l m = fits_signed_from_abs w64 (pos n) (omega (arith, ints))
 between (negsuc n) l m = fits_signed_from_abs w64 (negsuc n) (omega (arith, ints))
 
-aim_between : (s : State) (d limit : ℕ) (aim : Aim) → TurnsWith s d limit (aimed aim) (end_of aim).moment (end_of aim).amount (end_of aim).successor → (negsuc 99999999998 ≤ℤ (end_of aim).amount) × ((end_of aim).amount ≤ℤ pos 100009999999)
-aim_between s d limit (Confirm now) may = (omega (arith, ints), omega (arith, ints))
-aim_between s d limit Fulfil may = (omega (arith, ints), omega (arith, ints))
-aim_between s d limit (Release now) may = (omega (arith, ints), omega (arith, ints))
-aim_between s d limit (Expire now) may = (omega (arith, ints), omega (arith, ints))
-aim_between s d limit (Refund now amount) may = let l : pos amount ≤ℤ pos 99999999999 = may.1 in (omega (arith, ints), omega (arith, ints))
-aim_between s d limit (Exchange now difference successor) may = (may.0, may.1)
-
-pub amount_fits : (books : BooksView) (desk : DeskView) (row : ℕ) (from : Phase) (aim : Aim) (z : ℤ) → CanTurn books.layout desk.seen desk.number row from (aimed aim) (end_of aim).moment (end_of aim).amount (end_of aim).successor → z ≡ (end_of aim).amount → to_z w64 (of_z w64 z) ≡ (end_of aim).amount
-amount_fits books desk row from aim z can is =
-    let s = state_of books.layout desk.seen in
-    let b = found (present s row) (λ b. (is_sealed b.phase ≡ true) × TurnsWith s desk.number (limit_of b) (aimed aim) (end_of aim).moment (end_of aim).amount (end_of aim).successor) can.3 in
-    let l = aim_between s desk.number (limit_of b.0) aim b.2.1 in
+pub amount_fits : (books : BooksView) (desk : DeskView) (row : ℕ) (from : Phase) (aim : Aim) (z : ℤ) → IsOf books desk → CanTurn books.layout desk.seen desk.number row from (aimed aim) (end_of aim).moment (end_of aim).amount (end_of aim).successor → z ≡ (end_of aim).amount → to_z w64 (of_z w64 z) ≡ (end_of aim).amount
+amount_fits books desk row from aim z of can is =
+    let l = turn_in_range books desk row from aim of can in
     to_z-of_z {w = w64} {z = z} (subst (FitsSigned w64) (sym is) (between (end_of aim).amount l.0 l.1)) ∙ is

@@ -1,9 +1,10 @@
 -- What looks at the words of a sealed row show.
-use Rattle.std.proofs.Common.{◌≡◌, ℕ, zero, suc, ◌+◌, ◌<◌, ◌≤◌, List, [], ◌∷◌, ◌++◌, map, take, drop, length, get_or, slice_get, slice_index, All, Bool, true, false, cond, Option, Some, None, refl, sym, ap, ◌∙◌, subst, arith, length-append, eqb, ne_eqb}
+use Rattle.std.proofs.Common.{◌≡◌, ℕ, zero, suc, ◌+◌, ◌<◌, ◌≤◌, ℤ, pos, negsuc, ◌≤ℤ◌, List, [], ◌∷◌, ◌++◌, map, take, drop, length, get_or, slice_index, All, Bool, true, false, cond, Option, Some, None, refl, sym, ap, ◌∙◌, subst, arith, length-append, eqb, ne_eqb}
+use Rattle.std.proofs.lemmas.Int.{ints}
 use Rattle.std.specs.List.{AllByRecursion}
 use Rattle.std.specs.Option.{option_map_or}
 use Rattle.std.proofs.lemmas.List.{length-map}
-use Rattle.leg_masks.specs.Interval.{Interval, item_word, IsItemOf, most_places, most_legs}
+use Rattle.leg_masks.specs.Interval.{item_word, IsItemOf, most_places, most_legs}
 use Rattle.leg_masks.specs.Interval.{PlacedSpan as Item}
 use Rattle.history_model.specs.declared.booking.BookedItem.{BookedItem}
 use Rattle.history_model.specs.declared.booking.End.{End}
@@ -13,24 +14,21 @@ use Rattle.history_model.specs.declared.phase.EndKind.{EndKind}
 use Rattle.history_model.specs.declared.phase.EndKind.TheVariants.{Release, Expire, Refund, Exchange}
 use Rattle.history_model.specs.declared.phase.Phase.{Phase}
 use Rattle.history_model.specs.declared.phase.Phase.TheVariants.{Free, Making, Prebooked, Confirmed, Fulfilled, Ending, Ended}
-use Rattle.history_model.specs.Allowed.{OnRow, IsSealable, HasEndWords}
-use Rattle.history_model.specs.Booking.{Booking, Layout, State, present, phase_of_row, word_at, amount_word}
-use Rattle.history_model.specs.History.{IsLegal, state_of}
-use Rattle.history_model.specs.Laws.{LiesWithin, IsSound, Stays, unmarked}
+use Rattle.history_model.specs.Allowed.{OnRow, IsAmountOf, HasEndWords}
+use Rattle.history_model.specs.Booking.{Booking, State, greatest_amount, greatest_retailer, last_moment, present, phase_of_row, word_at, amount_word}
+use Rattle.history_model.specs.History.{IsLegal}
+use Rattle.history_model.specs.Laws.{HasAmountFor, IsInRange, LiesWithin, IsSound, Stays, unmarked}
 use Rattle.history_model.specs.Phase.{is_sealed, word_of_phase, said_phase}
-use Rattle.history_model.specs.Work.{AreInRange, IsInRange}
-use Rattle.history_model.specs.Words.{row_word}
 use Rattle.history_model.proofs.Forward.{stays-history}
 use Rattle.history_model.proofs.Keeping.{found}
 use Rattle.history_model.proofs.Owners.{on_row}
-use Rattle.history_model.proofs.Ranges.{ranges-history, ended_stays, all_found}
+use Rattle.history_model.proofs.Ranges.{ranges_all, ended_stays, all_found}
 use Rattle.history_model.proofs.Writing.{sound_of, word_in, phase_back}
 use Rattle.claim_rule.specs.Endings.{item_looks, items_read}
-use Rattle.claim_rule.specs.Out.{AllLooks, KeepsHolds, KeepsEndings, is_look}
+use Rattle.claim_rule.specs.Out.{AllLooks}
 use Rattle.claim_rule.specs.Rule.{DeskView, BooksView, state_seen}
 use Rattle.claim_rule.specs.Seats.{Stepped, Shape, IsOf, AddsAtMost}
 use Rattle.claim_rule.proofs.Moves.{is_sound}
-use Rattle.claim_rule.proofs.Out.{looks_holds, looks_endings}
 use Rattle.claim_rule.proofs.Reading.{saw, looks-snoc}
 use Rattle.claim_rule.proofs.Shapes.{shape_rest, shape_then, step_shape, adds_length}
 use Rattle.booking_rows.specs.SealedRows.{IsSealedRow, HasItems, IsEndedRow, IsAfter, IsSealedSince, IsAmountWord, IsItemWord}
@@ -103,11 +101,11 @@ seen_sealed row w v old new did some on =
     let b = found (present (state_seen new) row) (λ b. is_sealed b.phase ≡ true) (sealed_on old new (SawRow row w v ∷ []) row (step_shape (SawRow row w v) old new did) on) in
     (b.0, b.1, b.2, sound_at new row b.0 did.legal b.1, shown row w v old new b.0 did b.1 some)
 
-pub retailer_fits : (row v : ℕ) (old new : DeskView) → Stepped (SawRow row 1 v) old new → IsSealedRow old row → v ≤ 4294967295
-retailer_fits row v old new did on = let b = seen_sealed row 1 v old new did (omega arith) on in subst (λ (n : ℕ). n ≤ 4294967295) (sym b.4) (b.3.sealed b.2).retailer
+pub retailer_fits : (row v : ℕ) (old new : DeskView) → Stepped (SawRow row 1 v) old new → IsSealedRow old row → v ≤ greatest_retailer
+retailer_fits row v old new did on = let b = seen_sealed row 1 v old new did (omega arith) on in subst (λ (n : ℕ). n ≤ greatest_retailer) (sym b.4) (b.3.sealed b.2).retailer
 
-pub limit_fits : (row v : ℕ) (old new : DeskView) → Stepped (SawRow row 2 v) old new → IsSealedRow old row → v ≤ 4102444799
-limit_fits row v old new did on = let b = seen_sealed row 2 v old new did (omega arith) on in subst (λ (n : ℕ). n ≤ 4102444799) (sym b.4) (b.3.sealed b.2).limit
+pub limit_fits : (row v : ℕ) (old new : DeskView) → Stepped (SawRow row 2 v) old new → IsSealedRow old row → v ≤ last_moment
+limit_fits row v old new did on = let b = seen_sealed row 2 v old new did (omega arith) on in subst (λ (n : ℕ). n ≤ last_moment) (sym b.4) (b.3.sealed b.2).limit
 
 pub count_fits : (row v : ℕ) (old new : DeskView) → Stepped (SawRow row 4 v) old new → IsSealedRow old row → (v ≤ 24) × HasItems new row v
 count_fits row v old new did on =
@@ -169,27 +167,31 @@ one_more a b c row v k count read i many its s did =
 -- end words
 
 range_at : (books : BooksView) (desk : DeskView) (row : ℕ) (b : Booking) → IsOf books desk → present (state_seen desk) row ≡ Some b → IsInRange desk.layout b
-range_at books desk row b of at = all_found (IsInRange desk.layout) (state_seen desk) row b (ranges-history desk.layout desk.layout.opening desk.seen of.legal.1 of.opening) at
+range_at books desk row b of at = all_found (IsInRange desk.layout) (state_seen desk) row b (ranges_all desk.layout desk.seen of.legal) at
 
-seen_ended : (books : BooksView) (row w v : ℕ) (kind : EndKind) (old new : DeskView) → IsOf books new → Stepped (SawRow row w v) old new → 0 < w → IsEndedRow old row kind → (b : Booking) × HasEndWords kind b × IsInRange new.layout b × (v ≡ word_at b w)
+seen_ended : (books : BooksView) (row w v : ℕ) (kind : EndKind) (old new : DeskView) → IsOf books new → Stepped (SawRow row w v) old new → 0 < w → IsEndedRow old row kind → (b : Booking) × HasEndWords kind b × IsInRange new.layout b × (v ≡ word_at b w) × (b.phase ≡ Ended kind)
 seen_ended books row w v kind old new of did some on =
     let b = found (present (state_seen new) row) (λ b. b.phase ≡ Ended kind) (ended_on old new (SawRow row w v ∷ []) row kind (step_shape (SawRow row w v) old new did) on) in
-    (b.0, ((sound_at new row b.0 did.legal b.1).ended kind b.2).1, range_at books new row b.0 of b.1, shown row w v old new b.0 did b.1 some)
+    (b.0, ((sound_at new row b.0 did.legal b.1).ended kind b.2).1, range_at books new row b.0 of b.1, shown row w v old new b.0 did b.1 some, b.2)
 
 pub successor_fits : (books : BooksView) (row v : ℕ) (kind : EndKind) (old new : DeskView) → IsOf books new → Stepped (SawRow row 5 v) old new → IsEndedRow old row kind → v ≤ new.layout.rows
 successor_fits books row v kind old new of did on = let b = seen_ended books row 5 v kind old new of did (omega arith) on in subst (λ (n : ℕ). n ≤ new.layout.rows) (sym (b.3 ∙ b.1.successor)) b.2.successor
 
-is_amount : (g : Layout) (kind : EndKind) (b : Booking) (v : ℕ) → IsInRange g b → v ≡ amount_word kind b.end.amount → IsAmountWord kind v
-is_amount g Release b v fits is = is
-is_amount g Expire b v fits is = is
-is_amount g Refund b v fits is = subst (λ (n : ℕ). n ≤ 100009999999) (sym is) fits.amount
-is_amount g Exchange b v fits is = tt
+paid : (a : ℤ) → a ≤ℤ pos greatest_amount → amount_word Refund a ≤ greatest_amount
+paid (pos n) l = omega (arith, ints)
+paid (negsuc n) l = omega arith
+
+is_amount : (kind : EndKind) (a : ℤ) (v : ℕ) → IsAmountOf kind a → v ≡ amount_word kind a → IsAmountWord kind v
+is_amount Release a v fits is = is
+is_amount Expire a v fits is = is
+is_amount Refund a v fits is = subst (λ (n : ℕ). n ≤ greatest_amount) (sym is) (paid a fits.1)
+is_amount Exchange a v fits is = tt
 
 pub amount_fits : (books : BooksView) (row v : ℕ) (kind : EndKind) (old new : DeskView) → IsOf books new → Stepped (SawRow row 6 v) old new → IsEndedRow old row kind → IsAmountWord kind v
-amount_fits books row v kind old new of did on = let b = seen_ended books row 6 v kind old new of did (omega arith) on in is_amount new.layout kind b.0 v b.2 (b.3 ∙ b.1.amount)
+amount_fits books row v kind old new of did on = let b = seen_ended books row 6 v kind old new of did (omega arith) on in is_amount kind b.0.end.amount v (subst (λ (p : Phase). HasAmountFor p b.0.end.amount) b.4 b.2.amount) (b.3 ∙ b.1.amount)
 
-pub moment_fits : (books : BooksView) (row v : ℕ) (kind : EndKind) (old new : DeskView) → IsOf books new → Stepped (SawRow row 7 v) old new → IsEndedRow old row kind → v ≤ 4102444799
-moment_fits books row v kind old new of did on = let b = seen_ended books row 7 v kind old new of did (omega arith) on in subst (λ (n : ℕ). n ≤ 4102444799) (sym (b.3 ∙ b.1.moment)) b.2.moment
+pub moment_fits : (books : BooksView) (row v : ℕ) (kind : EndKind) (old new : DeskView) → IsOf books new → Stepped (SawRow row 7 v) old new → IsEndedRow old row kind → v ≤ last_moment
+moment_fits books row v kind old new of did on = let b = seen_ended books row 7 v kind old new of did (omega arith) on in subst (λ (n : ℕ). n ≤ last_moment) (sym (b.3 ∙ b.1.moment)) b.2.moment
 
 -- the first look
 

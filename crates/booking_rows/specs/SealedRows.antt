@@ -1,12 +1,12 @@
 -- Rows that are sealed in what a desk has seen, and numbers that stand in their words.
-use Rattle.std.specs.Prelude.{◌≡◌, ℕ, ◌<◌, ◌≤◌, true, length, All}
+use Rattle.std.specs.Prelude.{◌≡◌, ℕ, ◌≤◌, true, length, All}
 use Rattle.leg_masks.specs.Interval.{Interval, IsItemOf, most_legs, most_places}
 use Rattle.history_model.specs.declared.phase.Phase.{Phase}
 use Rattle.history_model.specs.declared.phase.Phase.TheVariants.{Ended}
 use Rattle.history_model.specs.declared.phase.EndKind.{EndKind}
 use Rattle.history_model.specs.declared.phase.EndKind.TheVariants.{Release, Expire, Refund, Exchange}
 use Rattle.history_model.specs.Phase.{is_sealed}
-use Rattle.history_model.specs.Booking.{Booking, Layout}
+use Rattle.history_model.specs.Booking.{Booking, Layout, greatest_amount}
 use Rattle.history_model.specs.Allowed.{OnRow}
 use Rattle.claim_rule.specs.Rule.{DeskView, state_seen}
 
@@ -38,7 +38,7 @@ IsSealedSince desk row phase = OnRow (state_seen desk) row (IsAfter phase)
 abbrev pub IsAmountWord : EndKind → ℕ → Type 0
 IsAmountWord Release n = n ≡ 0
 IsAmountWord Expire n = n ≡ 0
-IsAmountWord Refund n = n ≤ 100009999999
+IsAmountWord Refund n = n ≤ greatest_amount
 IsAmountWord Exchange n = Unit {0}
 
 -- the number is an item's word

@@ -2,7 +2,7 @@
 ghost use Rattle.std.specs.Prelude.{ℕ, ◌≡◌, ◌≤◌, ◌+◌, [], ◌∷◌, ◌++◌, List, length};
 ghost use Rattle.leg_masks.specs.Interval.{item_word, PlacedSpan as Item};
 ghost use Rattle.history_model.specs.declared.entry.Step.TheVariants.{Note, Seal};
-ghost use Rattle.history_model.specs.Booking.{first_item_word};
+ghost use Rattle.history_model.specs.Booking.{first_item_word, greatest_amount, greatest_retailer};
 ghost use Rattle.history_model.specs.Allowed.{MaySealAs};
 ghost use Rattle.claim_rule.specs.Rule.{state_seen};
 ghost use Rattle.claim_rule.specs.Seats.{IsOf, Shape};
@@ -10,6 +10,7 @@ ghost use Rattle.claim_rule.specs.Out.{IsHolding, HoldsNone, HasNotedItems, HasN
 ghost use Rattle.booking_rows.specs.Notes.{sealed_phase, detail_notes};
 
 use claim_rule::{Books, Desk, Hold};
+use history_model::booking::FIRST_ITEM_WORD;
 use history_model::phase::Phase;
 use leg_masks::write_item;
 use rail_ids::{RetailerNo, RowNo};
@@ -56,7 +57,7 @@ pub fn note_item(books: &Books, desk: &mut Desk, hold: &mut Hold)
 {
     let last = hold.items().len() - 1;
     let word = write_item(hold.items()[last]);
-    books.step_note(desk, hold, 8 + last as u8, word);
+    books.step_note(desk, hold, FIRST_ITEM_WORD as u8 + last as u8, word);
 }
 
 /// Notes retailer, limit, total and the number of items, where all items are noted. The hold may then be sealed.
@@ -65,7 +66,7 @@ pub fn note_detail(books: &Books, desk: &mut Desk, hold: &mut Hold, detail: Deta
     requires hold { IsHolding desk.old hold.old }
     requires noted { HasNotedItems desk.old hold.old }
     requires some { 1 ≤ length hold.old.items }
-    requires total { detail.total ≤ 99999999999 }
+    requires total { detail.total ≤ greatest_amount }
     ensures own { IsOf books.now desk.new }
     ensures entries { Shape desk.old desk.new (detail_notes hold.old.row detail (length hold.old.items)) }
     ensures same { hold.new ≡ hold.old }
@@ -97,10 +98,10 @@ pub fn seal(books: &Books, desk: &mut Desk, hold: Hold, sealed: Sealed) -> RowNo
     books.step_seal(desk, hold, sealed.phase())
 }
 
-// A number as a word.
+// The number of a retailer as a word.
 fn number_word(number: u32) -> u64
     ensures value { result ≡ number }
-    ensures most { result ≤ 4294967295 }
+    ensures most { result ≤ greatest_retailer }
 {
     u64::from(number)
 }

@@ -2,7 +2,6 @@
 ghost use Rattle.std.specs.Prelude.{ℕ, ◌≡◌, ◌≤◌, true, false, length};
 ghost use Rattle.history_model.specs.declared.phase.EndKind.{EndKind};
 ghost use Rattle.history_model.specs.declared.phase.Phase.TheVariants.{Ending as IsEndingPhase};
-ghost use Rattle.history_model.specs.Phase.{said_phase};
 ghost use Rattle.claim_rule.specs.Seats.{IsOf, Shape, CanTurn, AddsAtMost};
 ghost use Rattle.claim_rule.specs.Calls.{ShapeBy};
 ghost use Rattle.claim_rule.specs.EndSteps.{closing};
@@ -12,7 +11,7 @@ ghost use Rattle.claim_rule.specs.Endings.{items_read};
 ghost use Rattle.booking_rows.specs.Aims.{aimed, end_of, Turns, LeavesTurned};
 
 use claim_rule::{Books, Desk, Ending, StepTurned};
-use history_model::phase::{EndKind, Phase};
+use history_model::phase::{EndKind, Phase, phase_said};
 use rail_ids::RowNo;
 use rail_time::Moment;
 
@@ -67,9 +66,8 @@ impl Aim {
 }
 
 impl Aim {
-    ghost use Rattle.std.specs.Prelude.{◌≤◌};
-    ghost use Rattle.history_model.specs.Booking.{amount_word};
-    ghost use Rattle.history_model.specs.declared.phase.EndKind.TheVariants.{Refund};
+    ghost use Rattle.std.specs.Prelude.{◌<◌, ◌≤ℤ◌, ◌^◌};
+    ghost use Rattle.history_model.specs.Booking.{greatest_difference};
 
     // The moment of the end that it gives.
     fn moment(&self) -> u64
@@ -87,7 +85,7 @@ impl Aim {
 
     // The amount of the end that it gives.
     fn amount(&self) -> i64
-        requires amount { amount_word Refund (end_of self.now).amount ≤ 100009999999 }
+        requires amount { (end_of self.now).amount ≤ℤ greatest_difference }
         ensures amount { result ≡ (end_of self.now).amount }
     {
         match self {
@@ -99,7 +97,7 @@ impl Aim {
 
     // The successor of the end that it gives, as a row's number plus 1, or 0.
     fn successor(&self) -> u32
-        requires successor { (end_of self.now).successor ≤ 4294967295 }
+        requires successor { (end_of self.now).successor < 2 ^ 32 }
         ensures successor { result ≡ (end_of self.now).successor }
     {
         match self {
@@ -150,27 +148,6 @@ fn with_items(books: &Books, desk: &mut Desk, mut ending: Ending) -> Ending
 {
     books.step_items(desk, &mut ending);
     ending
-}
-
-// The phase that a word shows.
-pub(crate) fn phase_said(word: u64) -> Phase
-    ensures phase { result ≡ said_phase word }
-{
-    match word {
-        0 => Phase::Free,
-        1 => Phase::Making,
-        2 => Phase::Prebooked,
-        3 => Phase::Confirmed,
-        4 => Phase::Fulfilled,
-        5 => Phase::Ending(EndKind::Release),
-        6 => Phase::Ending(EndKind::Expire),
-        7 => Phase::Ending(EndKind::Refund),
-        8 => Phase::Ending(EndKind::Exchange),
-        9 => Phase::Ended(EndKind::Release),
-        10 => Phase::Ended(EndKind::Expire),
-        11 => Phase::Ended(EndKind::Refund),
-        _ => Phase::Ended(EndKind::Exchange),
-    }
 }
 
 /// Notes the end words, and closes the ending's row, where all its items are given back.

@@ -1,5 +1,5 @@
 //! Reading a row: its phase first, and the words of a sealed one after it.
-ghost use Rattle.std.specs.Prelude.{ℕ, ◌≡◌, ◌≤◌, ◌<◌, ◌+◌, ◌∷◌, [], true, length, option_map, IfSome};
+ghost use Rattle.std.specs.Prelude.{ℕ, ◌≡◌, ◌≤◌, ◌<◌, ◌+◌, ◌^◌, ◌∷◌, [], true, length, option_map, IfSome};
 ghost use Rattle.leg_masks.specs.Interval.{IsItemOf};
 ghost use Rattle.history_model.specs.declared.phase.EndKind.TheVariants.{Exchange};
 ghost use Rattle.history_model.specs.Booking.{most_items, amount_word, greatest_retailer, last_moment};
@@ -12,10 +12,10 @@ ghost use Rattle.booking_rows.specs.Views.{LooksRow, IsSeen, end_looks, saw_end,
 ghost use Rattle.booking_rows.specs.Ends.{shown_end, successor_word};
 ghost use Rattle.booking_rows.specs.SealedRows.{FitWords, IsSealedRow, IsSealedSince, IsEndedRow, IsAmountWord, IsItemWord};
 
-use crate::turns::phase_said;
 use arrayvec::ArrayVec;
 use claim_rule::{Books, Desk};
-use history_model::phase::{EndKind, Phase};
+use history_model::booking::{FIRST_ITEM_WORD, MOST_ITEMS};
+use history_model::phase::{EndKind, Phase, phase_said};
 use leg_masks::{Item, read_item};
 use rail_ids::{RetailerNo, RowNo};
 use rail_time::Moment;
@@ -37,7 +37,7 @@ pub struct RowView {
     pub retailer: RetailerNo,
     pub limit: Moment,
     pub total: u64,
-    pub items: ArrayVec<Item, 24>,
+    pub items: ArrayVec<Item, MOST_ITEMS>,
     pub ended: Option<EndView>,
 }
 
@@ -111,7 +111,7 @@ fn read_sealed(books: &Books, desk: &mut Desk, row: RowNo, phase: Phase) -> RowV
 }
 
 // Reads the items of a sealed row.
-fn read_items(books: &Books, desk: &mut Desk, row: RowNo) -> ArrayVec<Item, 24>
+fn read_items(books: &Books, desk: &mut Desk, row: RowNo) -> ArrayVec<Item, MOST_ITEMS>
     requires own { IsOf books.now desk.old }
     requires row { row.0 < books.now.layout.rows }
     requires fit { FitWords books.now.layout }
@@ -124,7 +124,7 @@ fn read_items(books: &Books, desk: &mut Desk, row: RowNo) -> ArrayVec<Item, 24>
     let count = books.step_read(desk, row, 4) as u8;
     let mut items = ArrayVec::new();
     for i in 0..count {
-        let word = books.step_read(desk, row, 8 + i);
+        let word = books.step_read(desk, row, FIRST_ITEM_WORD as u8 + i);
         items.push(item_of(word));
     }
     items
@@ -200,7 +200,7 @@ fn item_of(word: u64) -> Item
 
 // The successor of a word: a row's number plus 1, or 0 for none.
 fn successor_of(word: u64) -> Option<RowNo>
-    requires small { word ≤ 4294967295 }
+    requires small { word < 2 ^ 32 }
     ensures successor { successor_word result ≡ word }
 {
     if word == 0 {

@@ -23,7 +23,6 @@ use Rattle.history_model.specs.Apply.{apply_step, given, noted, started, taken}
 use Rattle.history_model.specs.Booking.{Booking, Layout, State, change, limit_of, most_items, present}
 use Rattle.history_model.specs.History.{IsLegal, entry, own, state_of}
 use Rattle.history_model.specs.Laws.{is_owners}
-use Rattle.history_model.specs.Work.{AreInRange}
 use Rattle.history_model.specs.Phase.{is_sealed}
 use Rattle.history_model.specs.Quiet.{AllQuiet, is_quiet}
 use Rattle.history_model.specs.declared.booking.BookedItem.{BookedItem}
@@ -92,9 +91,6 @@ past_on old new pre legal layout past taken r l =
 within_on : (old new : DeskView) → new.layout ≡ old.layout → new.past ≡ old.past → old.past ≤ old.layout.rows → new.past ≤ new.layout.rows
 within_on old new layout past l = subst (λ (n : ℕ). n ≤ new.layout.rows) (sym past) (subst (λ (g : Layout). old.past ≤ g.rows) (sym layout) l)
 
-opening_on : (old new : DeskView) → new.layout ≡ old.layout → AreInRange old.layout old.layout.opening → AreInRange new.layout new.layout.opening
-opening_on old new layout all = subst (λ (g : Layout). AreInRange g g.opening) (sym layout) all
-
 -- the desk is still of the books, and a row that it keeps is as it was
 pub still_of : (st : Step) (books : BooksView) (old new : DeskView) → ((r : ℕ) → old.kept ≡ Some r → is_quiet r st ≡ true) → Stepped st old new → IsOf books old → IsOf books new
 still_of st books old new quiet did of = record {
@@ -104,7 +100,6 @@ still_of st books old new quiet did of = record {
   kept = subst (λ (o : Option ℕ). IfSome o (λ r. StandsFor new (empty_hold r))) (sym did.same.5) (kept_on st old new old.kept quiet did of.kept);
   past = past_on old new (did.between ++ entry old.number st ∷ [], sym (append_assoc old.seen did.between (entry old.number st ∷ [])) ∙ sym did.seen) did.legal did.same.1 did.same.6 of.past;
   within = within_on old new did.same.1 did.same.6 of.within;
-  opening = opening_on old new did.same.1 of.opening;
 }
 
 none_kept : (o : Option ℕ) (r : ℕ) (P : Type 0) → o ≡ None → o ≡ Some r → P
@@ -271,7 +266,6 @@ still_met books old other new met of = record {
   kept = subst (λ (o : Option ℕ). IfSome o (λ r. StandsFor new (empty_hold r))) (sym met.same.4) (met_kept books old other new old.kept met of.kept);
   past = past_on old new met.front met.legal met.same.1 met.same.5 of.past;
   within = within_on old new met.same.1 met.same.5 of.within;
-  opening = opening_on old new met.same.1 of.opening;
 }
 
 -- how many desks a desk has parted is nothing to its rows
@@ -282,7 +276,7 @@ made_kept desk m (Some r) is = record { booking = is.booking; found = is.found; 
 pub still_parted : (books : BooksView) (old new : DeskView) → Stepped Met old (record new { made = old.made }) → IsOf books old → IsOf books new
 still_parted books old new did of =
     let is = still_of Met books old (record new { made = old.made }) (λ r e. refl) did of in
-    record { table = is.table; layout = is.layout; legal = is.legal; kept = made_kept new old.made new.kept is.kept; past = is.past; within = is.within; opening = is.opening }
+    record { table = is.table; layout = is.layout; legal = is.legal; kept = made_kept new old.made new.kept is.kept; past = is.past; within = is.within }
 
 pub newly_of : (books : BooksView) (old : DeskView) (new : DeskView) → IsOf books old → new.table ≡ old.table → new.layout ≡ old.layout → new.seen ≡ old.seen → new.kept ≡ None → new.past ≡ old.past → IsOf books new
 newly_of books old new of table layout seen kept past = record {
@@ -292,7 +286,6 @@ newly_of books old new of table layout seen kept past = record {
   kept = subst (λ (o : Option ℕ). IfSome o (λ r. StandsFor new (empty_hold r))) (sym kept) tt;
   past = λ r l. subst (λ (x : Layout × List Entry). 1 ≤ stage (phase_of_row (state_of x.0 x.1) r)) (λ i. (sym layout i, sym seen i)) (of.past r (subst (λ (n : ℕ). r < n) past l));
   within = within_on old new layout past of.within;
-  opening = opening_on old new layout of.opening;
 }
 
 -- a turn of a row that was sealed leaves a kept row

@@ -1,25 +1,23 @@
 -- What is noted in the row of a hold.
-use Rattle.std.proofs.Common.{◌≡◌, ◌⊎◌, inl, inr, ℕ, zero, suc, ◌+◌, ◌-◌, ◌<◌, ◌≤◌, List, [], ◌∷◌, ◌++◌, map, take, drop, length, get_or, set, Option, Some, None, IsSomeAnd, refl, sym, ap, ◌∙◌, subst, arith, length-append, length-set, get_or-set_same, get_or-set_other}
+use Rattle.std.proofs.Common.{◌≡◌, ℕ, zero, suc, ◌+◌, ◌<◌, ◌≤◌, List, [], ◌∷◌, ◌++◌, map, take, drop, length, set, Option, IsSomeAnd, refl, sym, ap, ◌∙◌, subst, arith, length-append}
 use Rattle.std.proofs.lemmas.List.{length-map}
 use mathlib.Core.List.{map-append}
 use Rattle.leg_masks.specs.Interval.{item_word, PlacedSpan as Item}
-use Rattle.history_model.specs.declared.booking.BookedItem.{BookedItem}
 use Rattle.history_model.specs.declared.entry.Step.{Step}
-use Rattle.history_model.specs.declared.entry.Step.TheVariants.{Look, Take, Give, Note}
+use Rattle.history_model.specs.declared.entry.Step.TheVariants.{Take, Give, Note}
 use Rattle.history_model.specs.Booking.{Booking, State, present, change}
-use Rattle.history_model.specs.Allowed.{OnRow, IsSealable}
+use Rattle.history_model.specs.Allowed.{OnRow}
 use Rattle.history_model.specs.Apply.{apply_step, taken, given, noted}
 use Rattle.history_model.specs.History.{IsLegal}
 use Rattle.history_model.proofs.Keeping.{found}
 use Rattle.history_model.proofs.Owners.{on_row, firm_making}
 use Rattle.history_model.proofs.Writing.{sound_of}
 use Rattle.claim_rule.specs.Rule.{DeskView, state_seen}
-use Rattle.claim_rule.specs.Holds.{HoldView, StandsFor, IsHoldOf, held, with_one}
-use Rattle.claim_rule.specs.Seats.{Stepped, IsOf}
-use Rattle.claim_rule.specs.Out.{IsHolding, HasNoted, HasNotedItems, HasNotedButLast, IsToBeSealed}
-use Rattle.claim_rule.proofs.Holding.{own_changes, own_stays}
+use Rattle.claim_rule.specs.Holds.{HoldView, StandsFor}
+use Rattle.claim_rule.specs.Seats.{Stepped}
+use Rattle.claim_rule.specs.Out.{HasNoted}
+use Rattle.claim_rule.proofs.Holding.{own_changes}
 use Rattle.claim_rule.proofs.Moves.{is_sound}
-use Rattle.claim_rule.proofs.Out.{hold_only}
 
 -- what holds of the hold's row, from its booking
 pub stands_on : (desk : DeskView) (hold : HoldView) (P : Booking → Type 0) (is : StandsFor desk hold) → OnRow (state_seen desk) hold.row P → P is.booking

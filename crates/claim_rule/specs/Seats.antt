@@ -6,9 +6,8 @@ use Rattle.claim_rule.specs.declared.rule.View.{View}
 use Rattle.claim_rule.specs.Holds.{held, StandsFor, empty_hold}
 use Rattle.claim_rule.specs.Rule.{Added, BooksView, DeskView, IsWhole, Each}
 use Rattle.history_model.specs.Allowed.{IsMadeBy, MayGive, MayNote, OnRow, TurnsWith}
-use Rattle.history_model.specs.Booking.{phase_of_row, Layout, limit_of, most_items}
+use Rattle.history_model.specs.Booking.{phase_of_row, Layout, last_moment, limit_of, most_items}
 use Rattle.history_model.specs.Laws.{stage}
-use Rattle.history_model.specs.Work.{AreInRange}
 use Rattle.history_model.specs.History.{IsLegal, entry, own, state_of}
 use Rattle.history_model.specs.Phase.{is_sealed, is_turn, said_phase}
 use Rattle.history_model.specs.declared.entry.Entry.{Entry}
@@ -47,8 +46,8 @@ seeing (Row r w) n = SawRow r w n
 abbrev pub either_step : ℕ → Step → Word → ℕ → Step
 either_step old hit at n = cond (eqb n old) hit (seeing at n)
 
--- The desk is of these books, and has seen a legal history of theirs, from an opening state in range. A row that it keeps is its own,
--- without items, and no row below `past` is free.
+-- The desk is of these books, and has seen a legal history of theirs. A row that it keeps is its own, without items, and no row
+-- below `past` is free.
 pub record IsOf (books : BooksView) (desk : DeskView) : Type 0 where
   pub table : desk.table ≡ books.table
   pub layout : desk.layout ≡ books.layout
@@ -56,7 +55,6 @@ pub record IsOf (books : BooksView) (desk : DeskView) : Type 0 where
   pub kept : IfSome desk.kept (λ row. StandsFor desk (empty_hold row))
   pub past : (row : ℕ) → row < desk.past → 1 ≤ stage (phase_of_row (state_of desk.layout desk.seen) row)
   pub within : desk.past ≤ desk.layout.rows
-  pub opening : AreInRange desk.layout desk.layout.opening
 
 -- the desk has made this one step behind all that it had seen, and has now seen no more than that
 pub record Stepped (st : Step) (old new : DeskView) : Type 0 where
@@ -113,7 +111,7 @@ CanNote layout a r w = (r < layout.rows) × OnRow (state_of layout a.me.0.seen) 
 
 -- in what was seen the row is sealed, and the turn is allowed but for the row's phase
 abbrev pub CanTurn : Layout → List Entry → ℕ → ℕ → Phase → Phase → ℕ → ℤ → ℕ → Type 0
-CanTurn layout seen d r from to m x q = (r < layout.rows) × (is_turn from to ≡ true) × (m ≤ 4102444799)
+CanTurn layout seen d r from to m x q = (r < layout.rows) × (is_turn from to ≡ true) × (m ≤ last_moment)
     × OnRow (state_of layout seen) r (λ b. (is_sealed b.phase ≡ true) × TurnsWith (state_of layout seen) d (limit_of b) to m x q)
 
 -- the lost turn of a turn, by the word found

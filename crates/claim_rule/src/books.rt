@@ -2,6 +2,7 @@
 ghost use Rattle.std.specs.Prelude.{◌≡◌, ◌<◌, length, ◌==◌, ◌≤◌, bit_and, All, [], IfOk};
 ghost use prog.Atomic.{either};
 ghost use Rattle.leg_masks.specs.Interval.{most_legs, most_places};
+ghost use Rattle.history_model.specs.Booking.{most_rows};
 ghost use Rattle.history_model.specs.Words.{IsWord, index};
 ghost use Rattle.claim_rule.specs.Rule.{Steps};
 ghost use Rattle.claim_rule.specs.Seats.{IsNew, IsSeatOf, HasMade, IsOf};
@@ -10,6 +11,7 @@ ghost use Rattle.claim_rule.specs.Out.{IsTidy};
 use crate::desk::Desk;
 use crate::rule::{Adds, OneHistory, Plan, Says, View};
 use atomic_table::{Seat, Table};
+use history_model::booking::ROW_WORDS;
 use history_model::entry::Step;
 use history_model::word::Word;
 use leg_masks::{Item, Span};
@@ -30,6 +32,7 @@ pub struct Books {
 
 impl Model for Books {
     ghost use Rattle.std.specs.Prelude.{◌≡◌, ◌<◌, ◌≤◌, ◌^◌, length, All};
+    ghost use Rattle.history_model.specs.Booking.{most_rows};
     ghost use Rattle.history_model.specs.Words.{word_count};
     ghost use Rattle.claim_rule.specs.Rule.{BooksView};
     ghost use Rattle.leg_masks.specs.Interval.{most_legs, most_places};
@@ -38,7 +41,7 @@ impl Model for Books {
 
     ghost view = { λ b. record { table = b.table.shared.table_id; layout = b.table.shared.key } };
 
-    ghost invariant = { λ b. (b.places ≡ length b.table.shared.key.legs) × (b.rows ≡ b.table.shared.key.rows) × (b.table.shared.table_id.words ≡ word_count b.table.shared.key) × (0 < length b.table.shared.key.legs) × (b.table.shared.table_id.slots ≡ 0) × (length b.table.shared.key.legs ≤ most_places) × All (λ n. n ≤ most_legs) b.table.shared.key.legs };
+    ghost invariant = { λ b. (b.places ≡ length b.table.shared.key.legs) × (b.rows ≡ b.table.shared.key.rows) × (b.table.shared.table_id.words ≡ word_count b.table.shared.key) × (0 < length b.table.shared.key.legs) × (b.table.shared.table_id.slots ≡ 0) × (length b.table.shared.key.legs ≤ most_places) × All (λ n. n ≤ most_legs) b.table.shared.key.legs × (b.rows ≤ most_rows) };
 }
 
 /// New books with a place for each number of legs, and their first desk. All words are 0, and the history is empty.
@@ -47,7 +50,7 @@ impl Model for Books {
 pub fn start_books(alloc: Global, legs: &[u8], rows: u32) -> Result<(Books, Desk), AllocError>
     requires places { (0 < length legs.now) × (length legs.now ≤ most_places) }
     requires legs { All (λ n. (0 < n) × (n ≤ most_legs)) legs.now }
-    requires rows { (0 < rows) × (rows ≤ 262144) }
+    requires rows { (0 < rows) × (rows ≤ most_rows) }
     ensures layout { IfOk result (λ t. t.0.layout ≡ record { legs = legs.now; rows = rows; opening = [] }) }
     ensures own { IfOk result (λ t. IsOf t.0 t.1) }
     ensures desk { IfOk result (λ t. IsNew t.1 0 []) }
@@ -59,7 +62,7 @@ pub fn start_books(alloc: Global, legs: &[u8], rows: u32) -> Result<(Books, Desk
         rows,
         opening: Vec::new(alloc),
     };
-    let count = legs.len() + 32 * rows as usize;
+    let count = legs.len() + ROW_WORDS * rows as usize;
     let words = Vec::from_elem(alloc, 0u64, count)?;
     let (table, seat): (Board, Seat<u64, View>) = Table::of_words(alloc, words.as_slice(), &plan)?;
     let books = Books {
@@ -88,10 +91,10 @@ impl Books {
         self.places
     }
 
-    /// How many booking rows there are.
+    /// How many booking rows there are: at most 262,144.
     pub fn rows(&self) -> u32
         ensures count { result ≡ self.now.layout.rows }
-        ensures most { result ≤ 4294967295 }
+        ensures most { result ≤ most_rows }
     {
         self.rows
     }
@@ -115,7 +118,8 @@ impl Books {
     {
         match at {
             Word::Place(place) => place as usize,
-            Word::Row(row, word) => self.places as usize + (32 * row as usize + word as usize),
+            Word::Row(row, word) => self.places as usize
+                + (ROW_WORDS * row as usize + word as usize),
         }
     }
 

@@ -18,7 +18,7 @@ use crate::desk::Desk;
 use crate::rule::View;
 use arrayvec::ArrayVec;
 use atomic_table::Seat;
-use history_model::booking::End;
+use history_model::booking::{End, FIRST_ITEM_WORD, MOST_ITEMS};
 use history_model::entry::Step;
 use history_model::phase::{EndKind, Phase, amount_word_of, phase_word};
 use history_model::word::Word;
@@ -31,7 +31,7 @@ pub struct Ending {
     pub(crate) row: u32,
     pub(crate) kind: EndKind,
     pub(crate) end: End,
-    pub(crate) items: ArrayVec<Item, 24>,
+    pub(crate) items: ArrayVec<Item, MOST_ITEMS>,
     pub(crate) given: u8,
     pub(crate) read: bool,
 }
@@ -205,7 +205,7 @@ impl Books {
         ending.read = true;
     }
 
-    fn read_items(&self, desk: &mut Desk, ending: &Ending) -> ArrayVec<Item, 24>
+    fn read_items(&self, desk: &mut Desk, ending: &Ending) -> ArrayVec<Item, MOST_ITEMS>
         requires own { IsOf self.now desk.old }
         requires ending { IsEndingOf desk.old ending.now }
         requires unread { (ending.now.read ≡ false) × (ending.now.given ≡ 0) }
@@ -220,7 +220,7 @@ impl Books {
         let count = self.step_read(desk, row, 4) as u8;
         let mut items = ArrayVec::new();
         for i in 0..count {
-            let word = self.step_read(desk, row, 8 + i);
+            let word = self.step_read(desk, row, FIRST_ITEM_WORD as u8 + i);
             items.push(item_of(word));
         }
         items

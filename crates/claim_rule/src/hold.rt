@@ -17,6 +17,7 @@ use crate::desk::Desk;
 use crate::rule::View;
 use arrayvec::ArrayVec;
 use atomic_table::Seat;
+use history_model::booking::MOST_ITEMS;
 use history_model::entry::Step;
 use history_model::phase::{Phase, phase_word};
 use history_model::word::Word;
@@ -27,7 +28,7 @@ use std::marker::{Brand, Model};
 /// A row of a desk in the making, with the items that it has taken. It must be spent: by `keep`, or by a seal.
 pub struct Hold {
     pub(crate) row: u32,
-    pub(crate) items: ArrayVec<Item, 24>,
+    pub(crate) items: ArrayVec<Item, MOST_ITEMS>,
 }
 
 impl Model for Hold {

@@ -5,6 +5,7 @@ ghost use Rattle.history_model.specs.Words.{place_number, row_number};
 
 use crate::chronicle::Chronicle;
 use atomic_table::Closed;
+use history_model::booking::ROW_WORDS;
 use rail_ids::{PlaceNo, RowNo};
 use std::alloc::Global;
 use std::marker::Model;
@@ -19,6 +20,7 @@ pub struct Wall {
 
 impl Model for Wall {
     ghost use Rattle.std.specs.Prelude.{◌≡◌, ◌+◌, ◌*◌, length};
+    ghost use Rattle.history_model.specs.Booking.{row_words};
     ghost use Rattle.std.specs.Mem.Slots.{slots_items, slots_len, IsFull};
     ghost use Rattle.claim_rule.specs.Walls.{WallView};
 
@@ -26,7 +28,7 @@ impl Model for Wall {
 
     ghost view = { λ w. record { layout = w.chronicle.view.plan; words = slots_items w.closed.words; history = w.chronicle.view.history } };
 
-    ghost invariant = { λ w. (w.places ≡ length w.chronicle.view.plan.legs) × (w.rows ≡ w.chronicle.view.plan.rows) × IsFull w.closed.words × (slots_len w.closed.words ≡ w.places + 32 * w.rows) × (slots_len w.closed.slots ≡ 0) };
+    ghost invariant = { λ w. (w.places ≡ length w.chronicle.view.plan.legs) × (w.rows ≡ w.chronicle.view.plan.rows) × IsFull w.closed.words × (slots_len w.closed.words ≡ w.places + row_words * w.rows) × (slots_len w.closed.slots ≡ 0) };
 }
 
 impl Wall {
@@ -50,10 +52,10 @@ impl Wall {
         if row.0 >= self.rows {
             return None;
         }
-        if word >= 32 {
+        if usize::from(word) >= ROW_WORDS {
             return None;
         }
-        let at = self.places as usize + (32 * row.0 as usize + word as usize);
+        let at = self.places as usize + (ROW_WORDS * row.0 as usize + word as usize);
         Some(self.closed.word(at))
     }
 }

@@ -1,5 +1,5 @@
 -- The steps of a sweep, row by row.
-use Rattle.std.proofs.Common.{◌≡◌, ◌≢◌, ℕ, zero, suc, ◌+◌, ◌*◌, ◌≤◌, ◌<◌, false, List, [], ◌∷◌, ◌++◌, length, Option, Some, None, refl, sym, ap, ◌∙◌, subst, arith, append_assoc, append-nil, length-append, add-zero}
+use Rattle.std.proofs.Common.{◌≡◌, ◌≢◌, ℕ, zero, suc, ◌+◌, ◌*◌, ◌≤◌, ◌<◌, List, [], ◌∷◌, ◌++◌, length, Some, None, refl, sym, ap, ◌∙◌, subst, arith, append_assoc, append-nil, length-append, add-zero}
 use Rattle.std.specs.List.{AllByRecursion}
 use Rattle.leg_masks.specs.Interval.{PlacedSpan as Item}
 use Rattle.history_model.specs.declared.entry.Step.{Step}
@@ -22,7 +22,6 @@ use Rattle.booking_rows.specs.Aims.{end_of}
 use Rattle.row_decisions.specs.Looks.{saw_phase}
 use Rattle.row_decisions.specs.Ends.{EndsRow, ends_as}
 use Rattle.row_decisions.proofs.Finishing.{ends_length}
-use Rattle.expiry_sweeper.specs.declared.rows.RowSwept.{RowSwept}
 use Rattle.expiry_sweeper.specs.declared.rows.RowSwept.TheVariants as came
 use Rattle.expiry_sweeper.specs.OneRow.{RowSweep, passed, waiting, expired, lost, IsRowSweep, SweepsRow, saw_prebooked, row_sweep_steps}
 use Rattle.expiry_sweeper.specs.AllRows.{sweeps_steps}

@@ -1,7 +1,6 @@
 -- Rows and ends stay in range, and an ended booking keeps its phase and its end.
-use Rattle.std.proofs.Common.{◌≡◌, ◌⊎◌, ⊎_elim, ℕ, ◌-◌, ◌<◌, ◌≤◌, ℤ, pos, negsuc, ◌≤ℤ◌, Bool, true, false, cond, eqb, List, [], ◌∷◌, ◌++◌, Option, Some, None, IfSome, IsSomeAnd, refl, sym, ap, ◌∙◌, subst, arith}
-use Rattle.std.proofs.lemmas.Int.{ints}
-use Rattle.std.specs.List.{AllByRecursion}
+use Rattle.std.proofs.Common.{◌≡◌, ◌⊎◌, ⊎_elim, ℕ, ◌-◌, ◌<◌, ◌≤◌, ℤ, pos, Bool, true, false, cond, eqb, List, [], ◌∷◌, ◌++◌, find, Option, Some, None, IfSome, IsSomeAnd, refl, sym, ap, ◌∙◌, subst, arith}
+use Rattle.std.specs.List.{AllByRecursion, Any}
 use Rattle.std.proofs.lemmas.Bool.{eqb-true}
 use Rattle.history_model.specs.declared.phase.Phase.{Phase}
 use Rattle.history_model.specs.declared.phase.Phase.TheVariants.{Free, Making, Prebooked, Confirmed, Fulfilled, Ending, Ended}
@@ -12,22 +11,23 @@ use Rattle.history_model.specs.declared.entry.Step.{Step}
 use Rattle.history_model.specs.declared.entry.Step.TheVariants.{Look, Take, Give, Start, SawRow, Note, Seal, Turn, LostTurn, Close, Met}
 use Rattle.history_model.specs.declared.entry.Entry.{Entry}
 use Rattle.history_model.specs.Lists.{change_first}
-use Rattle.history_model.specs.Booking.{Booking, Layout, State, limit_of, stands_in, present, amount_word}
-use Rattle.history_model.specs.Allowed.{IsAllowedStep, OnRow, IsMadeBy, TurnsWith}
-use Rattle.history_model.specs.Apply.{apply, apply_step, started, taken, given, noted, in_phase, turned, closed}
-use Rattle.history_model.specs.History.{IsLegalFrom, state_after}
-use Rattle.history_model.specs.Laws.{MayBecome, MayFollow, is_turned_to_end}
-use Rattle.history_model.specs.Work.{IsInRange, AreInRange}
+use Rattle.history_model.specs.Phase.{is_turn}
+use Rattle.history_model.specs.Booking.{Booking, Layout, State, last_moment, limit_of, stands_in, present}
+use Rattle.history_model.specs.Allowed.{IsAllowedStep, OnRow, IsMadeBy, IsSealable, IsExchangedFor, IsAmountOf, TurnsWith}
+use Rattle.history_model.specs.Apply.{apply, apply_step, started, taken, given, noted, in_phase, turned, ended_phase, closed}
+use Rattle.history_model.specs.History.{IsLegal, IsLegalFrom, state_after, state_of}
+use Rattle.history_model.specs.Laws.{IsInRange, AreInRange, HasAmountFor, MayBecome, MayFollow, is_turned_to_end}
 use Rattle.history_model.proofs.Keeping.{found}
 use Rattle.history_model.proofs.Going.{GoesOn-step}
 
-all_changed : (P : Booking → Type 0) (test : Booking → Bool) (f : Booking → Booking) (s : State) → ((b : Booking) → P b → P (f b)) → AllByRecursion P s → AllByRecursion P (change_first test f s)
+-- a change of the first that passes, where it keeps what holds of that one
+all_changed : (P : Booking → Type 0) (test : Booking → Bool) (f : Booking → Booking) (s : State) → ((b : Booking) → find test s ≡ Some b → P b → P (f b)) → AllByRecursion P s → AllByRecursion P (change_first test f s)
 all_changed P test f [] keep all = tt
-all_changed P test f (b ∷ bs) keep all = go (test b) (all_changed P test f bs keep all.1)
+all_changed P test f (b ∷ bs) keep all = go (test b) (λ c. keep c) (λ later. all_changed P test f bs later all.1)
   where
-    go : (t : Bool) → AllByRecursion P (change_first test f bs) → AllByRecursion P (cond t (f b ∷ bs) (b ∷ change_first test f bs))
-    go true rest = (keep b all.0, all.1)
-    go false rest = (all.0, rest)
+    go : (t : Bool) → ((c : Booking) → cond t (Some b) (find test bs) ≡ Some c → P c → P (f c)) → (((c : Booking) → find test bs ≡ Some c → P c → P (f c)) → AllByRecursion P (change_first test f bs)) → AllByRecursion P (cond t (f b ∷ bs) (b ∷ change_first test f bs))
+    go true keep rest = (keep b refl all.0, all.1)
+    go false keep rest = (all.0, rest keep)
 
 all_more : (P : Booking → Type 0) (s : State) (b : Booking) → AllByRecursion P s → P b → AllByRecursion P (s ++ b ∷ [])
 all_more P [] b all p = (p, tt)
@@ -49,61 +49,93 @@ row_of (x ∷ xs) r b e = go (eqb x.row r) refl (row_of xs r b) e
     go true is rest e = let same : x ≡ b = cc in ap (λ (y : Booking). y.row) (sym same) ∙ eqb-true x.row r is
     go false is rest e = rest e
 
-paid : (a : ℤ) → a ≤ℤ pos 100009999999 → amount_word Refund a ≤ 100009999999
-paid (pos n) l = omega (arith, ints)
-paid (negsuc n) l = omega arith
+same_found : (s : State) (r : ℕ) (b c : Booking) → present s r ≡ Some b → present s r ≡ Some c → c ≡ b
+same_found s r b c e f = let same : ◌≡◌ {A = Option Booking} (Some c) (Some b) = sym f ∙ e in cc
 
-less_paid : (a : ℤ) → a ≤ℤ pos 99999999999 → a ≤ℤ pos 100009999999
-less_paid a l = omega (arith, ints)
+-- where the row, the phase and the end stay
+same_range : (g : Layout) (b c : Booking) → c.row ≡ b.row → c.phase ≡ b.phase → c.end ≡ b.end → IsInRange g b → IsInRange g c
+same_range g b c row phase end is = record {
+  row = subst (λ (n : ℕ). n < g.rows) (sym row) is.row;
+  moment = subst (λ (e : End). e.moment ≤ last_moment) (sym end) is.moment;
+  amount = subst (λ (x : Phase × End). HasAmountFor x.0 x.1.amount) (λ i. (sym phase i, sym end i)) is.amount;
+  successor = subst (λ (e : End). e.successor ≤ g.rows) (sym end) is.successor;
+}
 
-with_end : (g : Layout) (who : ℕ) (to : Phase) (end : End) (b : Booking) → end.moment ≤ 4102444799 → ((kind : EndKind) → to ≡ Ending kind → (amount_word Refund end.amount ≤ 100009999999) × (end.successor ≤ g.rows)) → IsInRange g b → IsInRange g (turned who to end b)
-with_end g who (Ending kind) end b moment fits is = let f = fits kind refl in record { row = is.row; moment = moment; amount = f.0; successor = f.1 }
-with_end g who Free end b moment fits is = record { row = is.row; moment = is.moment; amount = is.amount; successor = is.successor }
-with_end g who Making end b moment fits is = record { row = is.row; moment = is.moment; amount = is.amount; successor = is.successor }
-with_end g who Prebooked end b moment fits is = record { row = is.row; moment = is.moment; amount = is.amount; successor = is.successor }
-with_end g who Confirmed end b moment fits is = record { row = is.row; moment = is.moment; amount = is.amount; successor = is.successor }
-with_end g who Fulfilled end b moment fits is = record { row = is.row; moment = is.moment; amount = is.amount; successor = is.successor }
-with_end g who (Ended kind) end b moment fits is = record { row = is.row; moment = is.moment; amount = is.amount; successor = is.successor }
+-- where the phase alone changes
+same_end : (g : Layout) (b : Booking) (phase : Phase) → HasAmountFor phase b.end.amount → IsInRange g b → IsInRange g (in_phase phase b)
+same_end g b phase amount is = record { row = is.row; moment = is.moment; amount = amount; successor = is.successor }
 
-pub turn_fits : (g : Layout) (s : State) (who limit : ℕ) (kind : EndKind) (m : ℕ) (a : ℤ) (x : ℕ) → AreInRange g s → TurnsWith s who limit (Ending kind) m a x → (amount_word Refund a ≤ 100009999999) × (x ≤ g.rows)
-turn_fits g s who limit Release m a x all may = (subst (λ (z : ℤ). amount_word Refund z ≤ 100009999999) (sym may.0) (omega arith), subst (λ (n : ℕ). n ≤ g.rows) (sym may.1) (omega arith))
-turn_fits g s who limit Expire m a x all may = (subst (λ (z : ℤ). amount_word Refund z ≤ 100009999999) (sym may.1) (omega arith), subst (λ (n : ℕ). n ≤ g.rows) (sym may.2) (omega arith))
-turn_fits g s who limit Refund m a x all may = (paid a (less_paid a may.1), subst (λ (n : ℕ). n ≤ g.rows) (sym may.2) (omega arith))
+sealed_amount : (phase : Phase) (a : ℤ) (X : Type 0) → (phase ≡ Prebooked) ⊎ ((phase ≡ Confirmed) × X) → a ≡ pos 0 → HasAmountFor phase a
+sealed_amount phase a X may none = ⊎_elim
+    (λ (p : phase ≡ Prebooked). subst (λ (ph : Phase). HasAmountFor ph a) (sym p) none)
+    (λ (p : (phase ≡ Confirmed) × X). subst (λ (ph : Phase). HasAmountFor ph a) (sym p.0) none) may
+
+closed_amount : (phase : Phase) (a : ℤ) → HasAmountFor phase a → HasAmountFor (ended_phase phase) a
+closed_amount Free a is = is
+closed_amount Making a is = is
+closed_amount Prebooked a is = is
+closed_amount Confirmed a is = is
+closed_amount Fulfilled a is = is
+closed_amount (Ending k) a is = is
+closed_amount (Ended k) a is = is
+
+none_before : (from to : Phase) (a : ℤ) → is_turn from to ≡ true → HasAmountFor from a → a ≡ pos 0
+none_before Prebooked to a t is = is
+none_before Confirmed to a t is = is
+none_before Fulfilled to a t is = is
+none_before Free to a t is = is
+none_before Making to a t is = is
+none_before (Ending k) to a t is = let no : false ≡ true = t in cc
+none_before (Ended k) to a t is = let no : false ≡ true = t in cc
+
+-- what a turn to an ending writes is in range
+pub turn_fits : (g : Layout) (s : State) (who limit : ℕ) (kind : EndKind) (m : ℕ) (a : ℤ) (x : ℕ) → AreInRange g s → TurnsWith s who limit (Ending kind) m a x → IsAmountOf kind a × (x ≤ g.rows)
+turn_fits g s who limit Release m a x all may = (may.0, subst (λ (n : ℕ). n ≤ g.rows) (sym may.1) (omega arith))
+turn_fits g s who limit Expire m a x all may = (may.1, subst (λ (n : ℕ). n ≤ g.rows) (sym may.2) (omega arith))
+turn_fits g s who limit Refund m a x all may = (may.0, subst (λ (n : ℕ). n ≤ g.rows) (sym may.1) (omega arith))
 turn_fits g s who limit Exchange m a x all may =
-    let b = found (present s (x - 1)) (IsMadeBy who) may.3 in
-    (paid a may.1, below x g.rows may.2 (subst (λ (n : ℕ). n < g.rows) (row_of s (x - 1) b.0 b.1) (all_found (IsInRange g) s (x - 1) b.0 all b.1).row))
+    let b = found (present s (x - 1)) (IsMadeBy who) may.2 in
+    (may.0, below x g.rows may.1 (subst (λ (n : ℕ). n < g.rows) (row_of s (x - 1) b.0 b.1) (all_found (IsInRange g) s (x - 1) b.0 all b.1).row))
   where
     below : (x n : ℕ) → 0 < x → x - 1 < n → x ≤ n
     below x n l m = omega arith
 
-same_range : (g : Layout) (b c : Booking) → c.row ≡ b.row → c.end ≡ b.end → IsInRange g b → IsInRange g c
-same_range g b c row end is = record {
-  row = subst (λ (n : ℕ). n < g.rows) (sym row) is.row;
-  moment = subst (λ (e : End). e.moment ≤ 4102444799) (sym end) is.moment;
-  amount = subst (λ (e : End). amount_word Refund e.amount ≤ 100009999999) (sym end) is.amount;
-  successor = subst (λ (e : End). e.successor ≤ g.rows) (sym end) is.successor;
-}
+with_end : (g : Layout) (s : State) (who limit : ℕ) (to : Phase) (m : ℕ) (a : ℤ) (x : ℕ) (b : Booking) → AreInRange g s → m ≤ last_moment → TurnsWith s who limit to m a x → b.end.amount ≡ pos 0 → IsInRange g b
+    → IsInRange g (turned who to (record { moment = m; amount = a; successor = x }) b)
+with_end g s who limit (Ending kind) m a x b all moment may none is = let f = turn_fits g s who limit kind m a x all may in record { row = is.row; moment = moment; amount = f.0; successor = f.1 }
+with_end g s who limit Confirmed m a x b all moment may none is = same_end g b Confirmed none is
+with_end g s who limit Fulfilled m a x b all moment may none is = same_end g b Fulfilled none is
+with_end g s who limit Free m a x b all moment may none is = absurd may
+with_end g s who limit Making m a x b all moment may none is = absurd may
+with_end g s who limit Prebooked m a x b all moment may none is = absurd may
+with_end g s who limit (Ended kind) m a x b all moment may none is = absurd may
 
 ranges-step : (g : Layout) (s : State) (who : ℕ) (st : Step) → IsAllowedStep g s who st → AreInRange g s → AreInRange g (apply_step s who st)
 ranges-step g s who (Look p n) may all = all
-ranges-step g s who (Take q p span) may all = all_changed (IsInRange g) (stands_in s q) (taken p span) s (λ b. same_range g b (taken p span b) refl refl) all
-ranges-step g s who (Give q k) may all = all_changed (IsInRange g) (stands_in s q) (given k) s (λ b. same_range g b (given k b) refl refl) all
-ranges-step g s who (Start q) may all = all_more (IsInRange g) s (started q who) all (record { row = may.0; moment = omega arith; amount = omega arith; successor = omega arith })
+ranges-step g s who (Take q p span) may all = all_changed (IsInRange g) (stands_in s q) (taken p span) s (λ b _. same_range g b (taken p span b) refl refl refl) all
+ranges-step g s who (Give q k) may all = all_changed (IsInRange g) (stands_in s q) (given k) s (λ b _. same_range g b (given k b) refl refl refl) all
+ranges-step g s who (Start q) may all = all_more (IsInRange g) s (started q who) all (record { row = may.0; moment = omega arith; amount = refl; successor = omega arith })
 ranges-step g s who (SawRow q w n) may all = all
-ranges-step g s who (Note q w n) may all = all_changed (IsInRange g) (stands_in s q) (noted w n) s (λ b. same_range g b (noted w n b) refl refl) all
-ranges-step g s who (Seal q ph) may all = all_changed (IsInRange g) (stands_in s q) (in_phase ph) s (λ b. same_range g b (in_phase ph b) refl refl) all
+ranges-step g s who (Note q w n) may all = all_changed (IsInRange g) (stands_in s q) (noted w n) s (λ b _. same_range g b (noted w n b) refl refl refl) all
+ranges-step g s who (Seal q ph) may all =
+    let b = found (present s q) (λ b. IsMadeBy who b × IsSealable b) may.1 in
+    all_changed (IsInRange g) (stands_in s q) (in_phase ph) s (λ c at is. same_end g c ph (sealed_amount ph c.end.amount (Any (IsExchangedFor who q) s) may.2
+    (subst (λ (p : Phase). HasAmountFor p c.end.amount) (ap (λ (y : Booking). y.phase) (same_found s q b.0 c b.1 at) ∙ b.2.0.0) is.amount)) is) all
 ranges-step g s who (Turn q from to m a x) may all =
-    let end : End = record { moment = m; amount = a; successor = x } in
     let b = found (present s q) (λ b. (b.phase ≡ from) × TurnsWith s who (limit_of b) to m a x) may.3 in
-    all_changed (IsInRange g) (stands_in s q) (turned who to end) s (λ c. with_end g who to end c may.2
-    (λ kind is. turn_fits g s who (limit_of b.0) kind m a x all (subst (λ (ph : Phase). TurnsWith s who (limit_of b.0) ph m a x) is b.2.1))) all
+    all_changed (IsInRange g) (stands_in s q) (turned who to (record { moment = m; amount = a; successor = x })) s (λ c at is. with_end g s who (limit_of b.0) to m a x c all may.2 b.2.1
+    (none_before from to c.end.amount may.1 (subst (λ (p : Phase). HasAmountFor p c.end.amount) (ap (λ (y : Booking). y.phase) (same_found s q b.0 c b.1 at) ∙ b.2.0) is.amount)) is) all
 ranges-step g s who (LostTurn q wanted shown) may all = all
-ranges-step g s who (Close q) may all = all_changed (IsInRange g) (stands_in s q) closed s (λ b. same_range g b (closed b) refl refl) all
+ranges-step g s who (Close q) may all = all_changed (IsInRange g) (stands_in s q) closed s (λ b _ is. same_end g b (ended_phase b.phase) (closed_amount b.phase b.end.amount is.amount) is) all
 ranges-step g s who Met may all = all
 
-pub ranges-history : (g : Layout) (s : State) (es : List Entry) → IsLegalFrom g s es → AreInRange g s → AreInRange g (state_after s es)
+ranges-history : (g : Layout) (s : State) (es : List Entry) → IsLegalFrom g s es → AreInRange g s → AreInRange g (state_after s es)
 ranges-history g s [] legal all = all
 ranges-history g s (e ∷ es) legal all = ranges-history g (apply s e) es legal.1 (ranges-step g s e.desk e.step legal.0 all)
+
+-- the state of each legal history is in range
+pub ranges_all : (g : Layout) (h : List Entry) → IsLegal g h → AreInRange g (state_of g h)
+ranges_all g h legal = ranges-history g g.opening h legal.1 legal.0.in_range
 
 -- an ended booking keeps its phase and its end
 pub ended_stays : (g : Layout) (s : State) (es : List Entry) (r : ℕ) (kind : EndKind) (b : Booking) → IsLegalFrom g s es → present s r ≡ Some b → b.phase ≡ Ended kind → OnRow (state_after s es) r (λ c. (c.phase ≡ Ended kind) × (c.end ≡ b.end))

@@ -1,5 +1,5 @@
 -- What each kind of change does to the words.
-use Rattle.std.proofs.Common.{◌≡◌, ℕ, zero, suc, ◌-◌, ◌<◌, ◌≤◌, Bool, true, false, not, ◌&&◌, ◌||◌, cond, eqb, min, max, bit_or, bit_and, w64, List, [], ◌∷◌, ◌++◌, get_or, set, replicate, slice_get, Option, Some, None, refl, sym, ap, ◌∙◌, subst, ⊎_elim, ne_eqb, eq-eqb, arith, lit<, lt_of_le_of_lt, get_or-set_same, get_or-set_other}
+use Rattle.std.proofs.Common.{◌≡◌, ℕ, zero, suc, ◌-◌, ◌<◌, ◌≤◌, Bool, true, false, not, ◌&&◌, ◌||◌, cond, eqb, min, max, bit_or, bit_and, w64, List, [], ◌∷◌, ◌++◌, get_or, set, replicate, find, slice_get, Option, Some, None, refl, sym, ap, ◌∙◌, subst, ⊎_elim, ne_eqb, eq-eqb, arith, lit<, lt_of_le_of_lt, get_or-set_same, get_or-set_other}
 use Rattle.std.specs.Int.{bit_at, bit_not}
 use Rattle.std.specs.Option.{option_or, option_map_or}
 use Rattle.std.proofs.lemmas.Bool.{cases_eq}
@@ -14,7 +14,7 @@ use Rattle.history_model.specs.declared.booking.BookedItem.{BookedItem}
 use Rattle.history_model.specs.declared.booking.End.{End}
 use Rattle.history_model.specs.declared.word.Word.{Word}
 use Rattle.history_model.specs.declared.word.Word.TheVariants.{Place, Row}
-use Rattle.history_model.specs.Phase.{word_of_phase, said_phase}
+use Rattle.history_model.specs.Phase.{word_of_phase, said_phase, phases}
 use Rattle.history_model.specs.Booking.{Booking, Layout, State, stands_in, present, change, word_at, occupies, is_occupied, row_words}
 use Rattle.history_model.specs.Words.{value, place_word, row_word, Writes}
 use Rattle.history_model.specs.Allowed.{MayGive}
@@ -230,3 +230,13 @@ phase_back (Ended Exchange) = refl
 
 pub word_phase : (b from : Phase) → word_of_phase b ≡ word_of_phase from → b ≡ from
 word_phase b from e = sym (phase_back b) ∙ (ap said_phase e ∙ phase_back from)
+
+pub said_found : (n : ℕ) (ph : Phase) → word_of_phase ph ≡ n → ph ≡ said_phase n
+said_found n ph e = sym (phase_back ph) ∙ ap said_phase e
+
+none_found : (test : Phase → Bool) (ps : List Phase) → ((ph : Phase) → test ph ≡ false) → find test ps ≡ None
+none_found test [] none = refl
+none_found test (ph ∷ ps) none = ap (λ (b : Bool). cond b (Some ph) (find test ps)) (none ph) ∙ none_found test ps none
+
+pub said_none : (n : ℕ) → ((ph : Phase) → word_of_phase ph ≡ n → ⊥) → Free ≡ said_phase n
+said_none n none = sym (ap (λ (o : Option Phase). option_map_or (λ ph. ph) o Free) (none_found (λ ph. eqb (word_of_phase ph) n) phases (λ ph. ne_eqb (word_of_phase ph) n (none ph))))

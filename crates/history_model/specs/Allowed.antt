@@ -89,15 +89,22 @@ IsExchangedFor desk row b = (b.owner ≡ desk) × (b.end.successor ≡ row + 1) 
 abbrev pub MaySealAs : State → ℕ → ℕ → Phase → Type 0
 MaySealAs s desk row phase = (phase ≡ Prebooked) ⊎ ((phase ≡ Confirmed) × Any (IsExchangedFor desk row) s)
 
+-- the amount that an end of this kind may have: of a refund what is paid back, of an exchange what the new booking costs more
+abbrev pub IsAmountOf : EndKind → ℤ → Type 0
+IsAmountOf Release amount = amount ≡ pos 0
+IsAmountOf Expire amount = amount ≡ pos 0
+IsAmountOf Refund amount = (pos 0 ≤ℤ amount) × (amount ≤ℤ pos greatest_amount)
+IsAmountOf Exchange amount = (least_difference ≤ℤ amount) × (amount ≤ℤ greatest_difference)
+
 -- what a turn to a phase asks of its moment, amount and successor, where the booking has this limit
 abbrev pub TurnsWith : State → ℕ → ℕ → Phase → ℕ → ℤ → ℕ → Type 0
 TurnsWith s desk limit Confirmed moment amount successor = (moment ≤ limit) × (amount ≡ pos 0) × (successor ≡ 0)
 TurnsWith s desk limit Fulfilled moment amount successor = (moment ≡ 0) × (amount ≡ pos 0) × (successor ≡ 0)
-TurnsWith s desk limit (Ending Release) moment amount successor = (amount ≡ pos 0) × (successor ≡ 0)
-TurnsWith s desk limit (Ending Expire) moment amount successor = (limit < moment) × (amount ≡ pos 0) × (successor ≡ 0)
-TurnsWith s desk limit (Ending Refund) moment amount successor = (pos 0 ≤ℤ amount) × (amount ≤ℤ pos greatest_amount) × (successor ≡ 0)
+TurnsWith s desk limit (Ending Release) moment amount successor = IsAmountOf Release amount × (successor ≡ 0)
+TurnsWith s desk limit (Ending Expire) moment amount successor = (limit < moment) × IsAmountOf Expire amount × (successor ≡ 0)
+TurnsWith s desk limit (Ending Refund) moment amount successor = IsAmountOf Refund amount × (successor ≡ 0)
 TurnsWith s desk limit (Ending Exchange) moment amount successor =
-    (least_difference ≤ℤ amount) × (amount ≤ℤ greatest_difference) × (0 < successor) × OnRow s (successor - 1) (IsMadeBy desk)
+    IsAmountOf Exchange amount × (0 < successor) × OnRow s (successor - 1) (IsMadeBy desk)
 TurnsWith s desk limit _ moment amount successor = ⊥
 
 -- whether the desk's step is allowed

@@ -1,12 +1,11 @@
 -- Rows that a desk makes or ends, and the steps by which it comes to them.
-use Rattle.std.specs.Prelude.{◌≡◌, ℕ, ◌<◌, ◌≤◌, ◌==◌, Bool, false, List}
+use Rattle.std.specs.Prelude.{◌≡◌, ℕ, ◌==◌, Bool, false, List}
 use Rattle.std.specs.List.{AllByRecursion}
 use Rattle.history_model.specs.declared.phase.Phase.{Phase}
 use Rattle.history_model.specs.declared.phase.Phase.TheVariants.{Ending}
-use Rattle.history_model.specs.declared.phase.EndKind.TheVariants.{Refund}
 use Rattle.history_model.specs.declared.entry.Step.{Step}
 use Rattle.history_model.specs.declared.entry.Step.TheVariants.{Start, Turn}
-use Rattle.history_model.specs.Booking.{Booking, Layout, State, amount_word}
+use Rattle.history_model.specs.Booking.{Booking}
 
 -- the booking is in this phase, and the desk's
 abbrev pub IsIn : Phase → ℕ → Booking → Type 0
@@ -25,13 +24,3 @@ ends_row r _ = false
 -- none of the steps passes
 abbrev pub NoStep : (Step → Bool) → List Step → Type 0
 NoStep test steps = AllByRecursion (λ st. test st ≡ false) steps
-
--- the booking lies in a row of the books, and its end has the numbers that a turn may have
-pub record IsInRange (g : Layout) (b : Booking) : Type 0 where
-  pub row : b.row < g.rows
-  pub moment : b.end.moment ≤ 4102444799
-  pub amount : amount_word Refund b.end.amount ≤ 100009999999
-  pub successor : b.end.successor ≤ g.rows
-
-abbrev pub AreInRange : Layout → State → Type 0
-AreInRange g s = AllByRecursion (IsInRange g) s

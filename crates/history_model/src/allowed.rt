@@ -2,18 +2,18 @@
 
 ghost use Rattle.std.specs.Prelude.{◌≡◌, ◌<◌, ◌↔◌, IsTrue, length};
 ghost use Rattle.std.specs.List.{Any};
-ghost use Rattle.history_model.specs.Allowed.{OnRow, IsMadeBy, MayGive, MayNote, MayClose, MaySealAs, IsSealable, IsExchangedFor, TurnsWith};
+ghost use Rattle.history_model.specs.Allowed.{OnRow, IsMadeBy, MayGive, MayNote, MayClose, MaySealAs, IsSealable, IsExchangedFor, IsAmountOf, TurnsWith};
 ghost use Rattle.history_model.specs.Booking.{limit_of, most_items};
 
-use crate::booking::{BookingRow, End, MOST_ITEMS};
+use crate::booking::{BookingRow, End, GREATEST_AMOUNT, MOST_ITEMS};
 use crate::phase::{EndKind, Phase};
 use crate::shown::booking_of;
 
 /// The greatest amount paid back, in minor units.
-const GREATEST_REFUND: i64 = 99_999_999_999;
-/// The difference of an exchange lies between these two.
-const LEAST_DIFFERENCE: i64 = -99_999_999_999;
-
+const GREATEST_REFUND: i64 = GREATEST_AMOUNT as i64;
+/// The least difference of an exchange.
+const LEAST_DIFFERENCE: i64 = -GREATEST_REFUND;
+/// The greatest difference of an exchange: the greatest total and the greatest fee.
 const GREATEST_DIFFERENCE: i64 = 100_009_999_999;
 
 /// Whether the row's booking is the desk's, in the making, and has room for an item.
@@ -94,6 +94,18 @@ pub(crate) fn may_seal_as(bookings: &[BookingRow], desk: u32, row: u32, phase: P
     }
 }
 
+/// Whether an end of this kind may have the amount.
+fn is_amount_of(kind: EndKind, amount: i64) -> bool
+    ensures { IsTrue result ↔ IsAmountOf kind amount }
+{
+    match kind {
+        EndKind::Release => amount == 0,
+        EndKind::Expire => amount == 0,
+        EndKind::Refund => 0 <= amount && amount <= GREATEST_REFUND,
+        EndKind::Exchange => LEAST_DIFFERENCE <= amount && amount <= GREATEST_DIFFERENCE,
+    }
+}
+
 /// Whether a turn of the booking to the phase may have these numbers.
 fn turns_with(bookings: &[BookingRow], desk: u32, limit: u64, to: Phase, end: End) -> bool
     ensures { IsTrue result ↔ TurnsWith bookings.now desk limit to end.moment end.amount end.successor }
@@ -101,18 +113,15 @@ fn turns_with(bookings: &[BookingRow], desk: u32, limit: u64, to: Phase, end: En
     match to {
         Phase::Confirmed => end.moment <= limit && end.amount == 0 && end.successor == 0,
         Phase::Fulfilled => end.moment == 0 && end.amount == 0 && end.successor == 0,
-        Phase::Ending(EndKind::Release) => end.amount == 0 && end.successor == 0,
-        Phase::Ending(EndKind::Expire) => limit < end.moment
-            && end.amount == 0
+        Phase::Ending(EndKind::Release) => is_amount_of(EndKind::Release, end.amount)
             && end.successor == 0,
-        Phase::Ending(EndKind::Refund) => 0 <= end.amount
-            && end.amount <= GREATEST_REFUND
+        Phase::Ending(EndKind::Expire) => limit < end.moment
+            && is_amount_of(EndKind::Expire, end.amount)
+            && end.successor == 0,
+        Phase::Ending(EndKind::Refund) => is_amount_of(EndKind::Refund, end.amount)
             && end.successor == 0,
         Phase::Ending(EndKind::Exchange) => {
-            if end.amount < LEAST_DIFFERENCE {
-                return false;
-            }
-            if end.amount > GREATEST_DIFFERENCE {
+            if !is_amount_of(EndKind::Exchange, end.amount) {
                 return false;
             }
             if end.successor == 0 {

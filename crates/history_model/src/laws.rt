@@ -8,14 +8,16 @@ ghost use Rattle.history_model.specs.declared.phase.Phase.{Phase};
 ghost use Rattle.history_model.specs.declared.phase.Phase.TheVariants.{Confirmed, Ending, Ended};
 ghost use Rattle.history_model.specs.Booking.{Layout, present, phase_of_row};
 ghost use Rattle.history_model.specs.History.{IsLegal, IsTurnFrom, own, state_of};
-ghost use Rattle.history_model.specs.Laws.{IsWellFormed, NoDouble, Stays, is_owners, stage};
+ghost use Rattle.history_model.specs.Laws.{AreInRange, IsWellFormed, NoDouble, Stays, is_owners, stage};
 ghost use Rattle.history_model.specs.Life.{LeadsTo, IsTurnBetween, IsLostTurn, HasEnded, is_let_go};
 ghost use Rattle.history_model.specs.Phase.{is_sealed};
 
-/// The state of each legal history is well formed, and no two live bookings share a place on a leg.
+/// The state of each legal history is well formed, no two live bookings share a place on a leg, and each booking lies in a row
+/// of the books, with an end whose numbers a turn may have.
 pub fn legal_histories()
     ensures well_formed { (g : Layout) (history : List Entry) → IsLegal g history → IsWellFormed g (state_of g history) }
     ensures no_double { (g : Layout) (history : List Entry) → IsLegal g history → NoDouble (state_of g history) }
+    ensures in_range { (g : Layout) (history : List Entry) → IsLegal g history → AreInRange g (state_of g history) }
 {}
 
 /// A booking in the making or ending is changed by the entries of its owner alone.

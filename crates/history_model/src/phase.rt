@@ -1,5 +1,5 @@
 ghost use Rattle.std.specs.Prelude.{◌≡◌, ◌≢◌, IfSome, IfNone};
-ghost use Rattle.history_model.specs.Phase.{word_of_phase, is_turn as spec_is_turn};
+ghost use Rattle.history_model.specs.Phase.{word_of_phase, said_phase, is_turn as spec_is_turn};
 ghost use Rattle.history_model.specs.Booking.{amount_word};
 ghost use Rattle.history_model.specs.declared.phase.Phase.{Phase};
 
@@ -65,6 +65,16 @@ pub fn phase_of(word: u64) -> Option<Phase>
         11 => Some(Phase::Ended(EndKind::Refund)),
         12 => Some(Phase::Ended(EndKind::Exchange)),
         _ => None,
+    }
+}
+
+/// The phase that word 0 of a row says. A word that is no phase's, which no row has, says `Free`.
+pub fn phase_said(word: u64) -> Phase
+    ensures phase { result ≡ said_phase word }
+{
+    match phase_of(word) {
+        Some(phase) => phase,
+        None => Phase::Free,
     }
 }
 

@@ -2,7 +2,6 @@
 use Rattle.std.specs.Prelude.{◌≡◌, ℕ, ◌<◌, ◌≤◌, List, ◌++◌, length}
 use Rattle.leg_masks.specs.Interval.{PlacedSpan as Item}
 use Rattle.history_model.specs.declared.entry.Step.{Step}
-use Rattle.history_model.specs.declared.phase.Phase.{Phase}
 use Rattle.history_model.specs.declared.phase.Phase.TheVariants.{Prebooked}
 use Rattle.history_model.specs.declared.phase.EndKind.TheVariants.{Release}
 use Rattle.history_model.specs.Booking.{most_items}

@@ -1,8 +1,7 @@
 -- A turn to an end, the gives of all items, and the close.
-use Rattle.std.proofs.Common.{◌≡◌, ◌≢◌, ℕ, zero, suc, ◌+◌, ◌-◌, ◌≤◌, true, List, [], ◌∷◌, ◌++◌, map, length, refl, sym, ap, ◌∙◌, subst, arith, append_assoc, length-append}
+use Rattle.std.proofs.Common.{◌≡◌, ℕ, zero, suc, ◌-◌, ◌≤◌, true, List, [], ◌∷◌, ◌++◌, map, length, refl, sym, ap, ◌∙◌, subst, arith, length-append}
 use Rattle.std.proofs.lemmas.List.{length-map}
 use Rattle.leg_masks.specs.Interval.{PlacedSpan as Item}
-use Rattle.history_model.specs.declared.booking.BookedItem.{BookedItem}
 use Rattle.history_model.specs.declared.booking.End.{End}
 use Rattle.history_model.specs.declared.entry.Step.{Step}
 use Rattle.history_model.specs.declared.phase.EndKind.{EndKind}
@@ -20,10 +19,9 @@ use Rattle.claim_rule.specs.Out.{IsEnding}
 use Rattle.claim_rule.proofs.Reading.{sound_now}
 use Rattle.claim_rule.proofs.Shapes.{shape_then}
 use Rattle.booking_rows.specs.declared.turns.Aim.{Aim}
-use Rattle.booking_rows.specs.declared.turns.Turned.{Turned}
 use Rattle.booking_rows.specs.declared.turns.Turned.TheVariants as turned
 use Rattle.booking_rows.specs.Aims.{aimed, end_of, turn_of, turn_step, fresh_ending, Turns}
-use Rattle.row_decisions.specs.Ends.{ends_as, EndsRow}
+use Rattle.row_decisions.specs.Ends.{ends_as}
 
 -- all items are given back, and the end is closed
 pub gave_and_closed : (a b c : DeskView) (e now : EndingView) → e.given ≡ 0 → now ≡ record e { given = length e.items } → Shape a b (gives_from e.row e.given (length e.items - e.given)) → Shape b c (closing now.row now.kind now.end) → Shape a c (ending_steps e.row e.kind e.end e.items)

@@ -1,5 +1,5 @@
 -- What looks at single words of a row show.
-use Rattle.std.proofs.Common.{◌≡◌, ◌≢◌, ℕ, ◌≤◌, Bool, true, false, nat_le, if◌then◌else◌, [], ◌∷◌, Option, Some, None, IsSomeAnd, refl, sym, ap, ◌∙◌, subst, arith}
+use Rattle.std.proofs.Common.{◌≡◌, ℕ, ◌≤◌, Bool, true, false, nat_le, if◌then◌else◌, [], ◌∷◌, Option, Some, None, IsSomeAnd, refl, sym, ap, ◌∙◌, subst}
 use Rattle.std.specs.Option.{option_map_or}
 use Rattle.std.proofs.lemmas.Bool.{le-leb}
 use Rattle.history_model.specs.declared.entry.Step.{Step}
@@ -7,16 +7,15 @@ use Rattle.history_model.specs.declared.entry.Step.TheVariants.{SawRow}
 use Rattle.history_model.specs.declared.phase.Phase.{Phase}
 use Rattle.history_model.specs.declared.phase.Phase.TheVariants.{Free}
 use Rattle.history_model.specs.Phase.{is_sealed, word_of_phase, said_phase}
-use Rattle.history_model.specs.Booking.{Booking, Layout, State, present, phase_of_row, word_at, limit_of}
-use Rattle.history_model.specs.Allowed.{OnRow, IsSealable}
+use Rattle.history_model.specs.Booking.{Booking, Layout, present, phase_of_row, word_at, limit_of}
+use Rattle.history_model.specs.Allowed.{IsSealable}
 use Rattle.history_model.specs.History.{IsLegal, state_of}
 use Rattle.history_model.specs.Laws.{Stays}
-use Rattle.history_model.specs.Words.{row_word}
 use Rattle.history_model.proofs.Keeping.{found}
 use Rattle.history_model.proofs.Owners.{on_row}
 use Rattle.history_model.proofs.Writing.{sound_of, word_in, phase_back}
 use Rattle.claim_rule.specs.Rule.{DeskView, state_seen}
-use Rattle.claim_rule.specs.Seats.{Stepped, Shape}
+use Rattle.claim_rule.specs.Seats.{Stepped}
 use Rattle.claim_rule.specs.Out.{KeepsHolds, KeepsEndings}
 use Rattle.claim_rule.proofs.Moves.{is_sound, sealed_row}
 use Rattle.claim_rule.proofs.Reading.{saw}

@@ -1,11 +1,11 @@
-use Rattle.std.proofs.Common.{◌≡◌, ◌≤◌, ℕ, suc, ℤ, pos, negsuc, sym, ap, ◌∙◌, subst, arith, FitsSigned, w64, to_z-of_z}
+use Rattle.std.proofs.Common.{◌≡◌, ◌<◌, ◌≤◌, ℕ, suc, ℤ, pos, negsuc, sym, ap, ◌∙◌, subst, arith, FitsSigned, w64, to_z-of_z}
 use lib.Signed.{mag}
-use Rattle.history_model.specs.Booking.{Layout, amount_word}
+use Rattle.history_model.specs.Booking.{Layout, most_rows, amount_word}
 use Rattle.booking_rows.specs.Views.{said_amount}
 use Rattle.booking_rows.proofs.ViewLemmas.{successor_fits, amount_fits, moment_fits, ended_next, end_shape}
 use Rattle.booking_rows.proofs.views.read_ended.Goals as goal
 
-within : (a b c : ℕ) → a ≤ b → b ≡ c → c ≤ 4294967295 → a ≤ 4294967295
+within : (a b c : ℕ) → a ≤ b → b ≡ c → c ≤ most_rows → a < 4294967296
 within a b c l e m = omega arith
 
 fits : (z : ℤ) → suc (mag z) ≤ 9223372036854775808 → FitsSigned w64 z

@@ -1,5 +1,4 @@
-use Rattle.std.proofs.Common.{◌≡◌, sym, ap, ◌∙◌, subst, refl, true, option_map}
-use Rattle.history_model.specs.declared.phase.Phase.{Phase}
+use Rattle.std.proofs.Common.{refl, option_map}
 use Rattle.claim_rule.specs.Endings.{items_read}
 use Rattle.booking_rows.specs.Views.{saw_end}
 use Rattle.booking_rows.specs.Ends.{shown_end}

@@ -1,4 +1,4 @@
-use Rattle.std.proofs.Common.{◌≡◌, ℕ, ◌<◌, ◌≤◌, refl, ap, sym, ◌∙◌, subst, arith, pos}
+use Rattle.std.proofs.Common.{◌≡◌, ℕ, ◌≤◌, refl, subst, arith, pos}
 use Rattle.history_model.specs.declared.phase.Phase.TheVariants.{Prebooked, Confirmed as IsConfirmed}
 use Rattle.claim_rule.proofs.Out.{holds_then, endings_then}
 use Rattle.row_decisions.proofs.Deciding.{by_length, can_turn_by}

@@ -1,4 +1,4 @@
-use Rattle.std.proofs.Common.{◌≡◌, ℕ, ◌<◌, true, rules, refl, subst, [], ◌∷◌}
+use Rattle.std.proofs.Common.{◌≡◌, ℕ, ◌<◌, true, rules, refl, subst}
 use Rattle.history_model.specs.Phase.{is_sealed as sealed_phase}
 use Rattle.claim_rule.specs.Seats.{Shape}
 use Rattle.claim_rule.proofs.Out.{holds_then, endings_then}

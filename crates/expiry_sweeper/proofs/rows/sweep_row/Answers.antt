@@ -1,4 +1,4 @@
-use Rattle.std.proofs.Common.{◌≡◌, ℕ, ◌<◌, ◌≤◌, refl, ap, sym, ◌∙◌, subst, arith, pos}
+use Rattle.std.proofs.Common.{◌≡◌, ℕ, ◌<◌, ◌≤◌, refl, ◌∙◌, subst, arith, pos}
 use Rattle.history_model.specs.declared.phase.Phase.TheVariants.{Prebooked, Ending}
 use Rattle.history_model.specs.declared.phase.EndKind.TheVariants.{Expire}
 use Rattle.claim_rule.proofs.Out.{holds_then}

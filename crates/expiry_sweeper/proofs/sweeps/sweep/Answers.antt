@@ -1,6 +1,5 @@
-use Rattle.std.proofs.Common.{◌≡◌, ℕ, ◌+◌, ◌<◌, ◌≤◌, refl, ap, sym, ◌∙◌, subst, arith}
+use Rattle.std.proofs.Common.{◌≡◌, ℕ, ◌+◌, ◌<◌, ◌≤◌, sym, subst, arith}
 use Rattle.claim_rule.proofs.Out.{holds_same, holds_then}
-use Rattle.expiry_sweeper.specs.declared.sweeps.Swept.{Swept}
 use Rattle.expiry_sweeper.proofs.Counting.{SweptTo, swept_none, swept_more, small_counts, swept_all, swept_bound, swept_tidy}
 use Rattle.expiry_sweeper.proofs.sweeps.sweep.Goals as goal
 
@@ -12,7 +11,7 @@ loop-row-init c = record {
   swept = swept_none c.args.desk.now c.args.now c.requires.own.legal;
 }
 
-below : (n row end : ℕ) → n ≤ row → row < end → end ≤ 4294967295 → n + 1 < 4294967296
+below : (n row end : ℕ) → n ≤ row → row < end → end ≤ 262144 → n + 1 < 4294967296
 below n row end a b c = omega arith
 
 pub counted-swept-requires : goal.counted-swept-requires

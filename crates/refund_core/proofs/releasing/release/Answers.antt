@@ -1,4 +1,4 @@
-use Rattle.std.proofs.Common.{◌≡◌, ℕ, refl}
+use Rattle.std.proofs.Common.{refl}
 use Rattle.history_model.specs.declared.phase.EndKind.TheVariants.{Release}
 use Rattle.claim_rule.proofs.Out.{holds_then}
 use Rattle.row_decisions.proofs.Deciding.{by_length}

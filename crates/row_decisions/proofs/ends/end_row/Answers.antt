@@ -1,4 +1,4 @@
-use Rattle.std.proofs.Common.{◌≡◌, true, ap}
+use Rattle.std.proofs.Common.{ap}
 use Rattle.claim_rule.specs.Endings.{EndingView}
 use Rattle.claim_rule.proofs.Out.{holds_then}
 use Rattle.row_decisions.proofs.Finishing.{few_items, ended}

@@ -1,4 +1,4 @@
-use Rattle.std.proofs.Common.{◌≡◌, ℕ, ◌<◌, ◌≤◌, [], ◌∷◌, arith}
+use Rattle.std.proofs.Common.{ℕ, ◌<◌, ◌≤◌, arith}
 use Rattle.history_model.specs.declared.entry.Step.TheVariants.{SawRow}
 use Rattle.claim_rule.proofs.Shapes.{step_shape}
 use Rattle.row_decisions.proofs.Seeing.{saw_retailer, still_sealed, read_holds, read_endings}
