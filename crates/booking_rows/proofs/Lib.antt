@@ -1,4 +1,5 @@
 pub mod StartLemmas
+pub mod SearchLemmas
 pub mod NoteLemmas
 pub mod CloseLemmas
 pub mod TurnLemmas

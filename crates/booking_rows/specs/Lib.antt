@@ -1,4 +1,5 @@
 pub mod Starts
+pub mod Searches
 pub mod Notes
 pub mod Aims
 pub mod Views

@@ -8,6 +8,7 @@
 #![tactic(auto)]
 
 mod holds;
+pub mod laws;
 mod notes;
 #[cfg(test)]
 mod tests;

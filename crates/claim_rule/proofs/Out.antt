@@ -300,6 +300,37 @@ part_idle old new did is =
       λ r m. is.1 r (ends_before old now (Met ∷ []) r shape (refl, tt) m),
     )
 
+-- how many desks a desk has parted is nothing to its hold and its ending
+made_holding : (desk : DeskView) (m : ℕ) (hold : HoldView) → IsHolding (record desk { made = m }) hold → IsHolding desk hold
+made_holding desk m hold is = let s = is.of.0 in record {
+  of = (record { booking = s.booking; found = s.found; owner = s.owner; making = s.making; items = s.items; row = s.row; within = s.within }, is.of.1);
+  only = is.only;
+}
+
+made_ending : (desk : DeskView) (m : ℕ) (e : EndingView) → IsEnding (record desk { made = m }) e → IsEnding desk e
+made_ending desk m e is = let s = is.of in record {
+  of = record { booking = s.booking; found = s.found; owner = s.owner; phase = s.phase; end = s.end; row = s.row; few = s.few; fresh = s.fresh; items = s.items; within = s.within };
+  only = is.only;
+}
+
+pub part_holds : (old new : DeskView) → Stepped Met old (record new { made = old.made }) → KeepsHolds old new
+part_holds old new did =
+    let now = record new { made = old.made } in
+    let kept = looks_holds old now (Met ∷ []) (step_shape Met old now did) did.same.5 (refl, tt) in record {
+      hold = λ hold is. made_holding new old.made hold (kept.hold hold is);
+      noted = λ hold items is on. kept.noted hold items is on;
+      ready = λ hold is on. kept.ready hold is on;
+      none = λ h. kept.none h;
+    }
+
+pub part_endings : (old new : DeskView) → Stepped Met old (record new { made = old.made }) → KeepsEndings old new
+part_endings old new did =
+    let now = record new { made = old.made } in
+    let kept = looks_endings old now (Met ∷ []) (step_shape Met old now did) (refl, tt) in record {
+      ending = λ e is. made_ending new old.made e (kept.ending e is);
+      none = λ h. kept.none h;
+    }
+
 pub part_tidy : (old new : DeskView) → Stepped Met old (record new { made = old.made }) → IsTidy old → IsTidy new
 part_tidy old new did is =
     let now = record new { made = old.made } in (

@@ -25,7 +25,11 @@ step_shape st old new did =
           ∙ ap (λ (c : Bool). own old.seen d ++ cond c e []) (eq-eqb d d refl)));
       whole = λ w. did.seen ∙ ap (λ l. l ++ e) (ap (λ l. old.seen ++ l) (did.none w) ∙ append-nil old.seen);
       same = (did.same.0, did.same.1, did.same.2, did.same.3, did.same.4);
+      further = same_past old.past new.past did.same.6;
     }
+  where
+    same_past : (m n : ℕ) → n ≡ m → m ≤ n
+    same_past m n e = omega arith
 
 pub shape_then : (a b c : DeskView) (xs ys : List Step) → Shape a b xs → Shape b c ys → Shape a c (xs ++ ys)
 shape_then a b c xs ys p q =
@@ -40,7 +44,11 @@ shape_then a b c xs ys p q =
       whole = λ w. q.whole (ap (λ k. k) n ∙ w.0, λ j lo hi. subst (λ (ks : List ℕ). In j ks) (sym p.same.3) (w.1 j lo (subst (λ (k : ℕ). j ≤ k) p.same.4 hi)))
           ∙ (ap (λ (k : ℕ). b.seen ++ map (entry k) ys) n ∙ (ap (λ l. l ++ map (entry d) ys) (p.whole w) ∙ (append_assoc a.seen (map (entry d) xs) (map (entry d) ys) ∙ ap (λ l. a.seen ++ l) more)));
       same = (q.same.0 ∙ p.same.0, q.same.1 ∙ p.same.1, q.same.2 ∙ p.same.2, q.same.3 ∙ p.same.3, q.same.4 ∙ p.same.4);
+      further = further_on a.past b.past c.past p.further q.further;
     }
+  where
+    further_on : (k m n : ℕ) → k ≤ m → m ≤ n → k ≤ n
+    further_on k m n l r = omega arith
 
 -- what a desk has seen since, from the state before
 pub shape_rest : (old new : DeskView) (es : List Step) (did : Shape old new es) → IsLegalFrom old.layout (state_of old.layout old.seen) did.front.0 × (own did.front.0 old.number ≡ map (entry old.number) es) × (state_of new.layout new.seen ≡ state_after (state_of old.layout old.seen) did.front.0)
@@ -83,14 +91,15 @@ shape_none a legal = record {
   mine = sym (append-nil (own a.seen a.number));
   whole = λ _. sym (append-nil a.seen);
   same = (refl, refl, refl, refl, refl);
+  further = omega arith;
 }
 
 -- which rows a desk remembers or keeps is nothing to its entries and its rows
-pub shape_past : (old new : DeskView) (es : List Step) (n : ℕ) → Shape old new es → Shape old (record new { past = n }) es
-shape_past old new es n s = record { front = s.front; legal = s.legal; mine = s.mine; whole = s.whole; same = s.same }
+pub shape_past : (old new : DeskView) (es : List Step) (n : ℕ) → old.past ≤ n → Shape old new es → Shape old (record new { past = n }) es
+shape_past old new es n further s = record { front = s.front; legal = s.legal; mine = s.mine; whole = s.whole; same = s.same; further = further }
 
 pub shape_kept : (old new : DeskView) (es : List Step) (o : Option ℕ) → Shape old new es → Shape old (record new { kept = o }) es
-shape_kept old new es o s = record { front = s.front; legal = s.legal; mine = s.mine; whole = s.whole; same = s.same }
+shape_kept old new es o s = record { front = s.front; legal = s.legal; mine = s.mine; whole = s.whole; same = s.same; further = s.further }
 
 -- how many entries there are more
 pub adds_length : (old new : DeskView) (es : List Step) (n : ℕ) → Shape old new es → length es ≤ n → AddsAtMost n old new

@@ -93,13 +93,15 @@ abbrev pub CanGive : Layout → Seat ℕ View → ℕ → ℕ → Item → Type 
 CanGive layout a r k i = (r < layout.rows) × (i.place < length layout.legs) × (i.span.to ≤ most_legs)
     × OnRow (state_of layout a.me.0.seen) r (λ b. MayGive a.me.0.number k b × (slice_get b.items k ≡ Some (held i)))
 
--- from one call of a desk to the next: what it had seen begins what it has seen, and it has of its own these steps more. Where it has all entries there are, these are all
+-- from one call of a desk to the next: what it had seen begins what it has seen, and it has of its own these steps more. Where it has all entries there are, these are all.
+-- It never forgets that rows are taken
 pub record Shape (old new : DeskView) (es : List Step) : Type 0 where
   pub front : IsPrefix old.seen new.seen
   pub legal : IsLegal new.layout new.seen
   pub mine : own new.seen old.number ≡ own old.seen old.number ++ map (entry old.number) es
   pub whole : IsWhole old.number old.made old.taken → new.seen ≡ old.seen ++ map (entry old.number) es
   pub same : (new.table ≡ old.table) × (new.layout ≡ old.layout) × (new.number ≡ old.number) × (new.taken ≡ old.taken) × (new.made ≡ old.made)
+  pub further : old.past ≤ new.past
 
 -- the desk has at most so many entries of its own more
 abbrev pub AddsAtMost : ℕ → DeskView → DeskView → Type 0

@@ -45,6 +45,7 @@ impl Desk {
     /// Remembers that no row below this one is free.
     pub fn pass(&mut self, row: RowNo)
         requires taken { (r : ℕ) → r < row.0 → 1 ≤ stage (phase_of_row (state_of self.old.layout self.old.seen) r) }
+        requires further { self.old.past ≤ row.0 }
         requires within { row.0 ≤ self.old.layout.rows }
         ensures past { self.new ≡ record self.old { past = row.0 } }
         ensures own { (books : BooksView) → IsOf books self.old → IsOf books self.new }

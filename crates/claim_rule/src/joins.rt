@@ -3,7 +3,7 @@ ghost use Rattle.std.specs.Prelude.{◌≡◌, ◌≢◌, ◌+◌, []};
 ghost use Rattle.history_model.specs.declared.entry.Step.TheVariants.{Met};
 ghost use Rattle.history_model.specs.History.{own};
 ghost use Rattle.claim_rule.specs.Seats.{IsNew, HasMet, IsOf, Stepped};
-ghost use Rattle.claim_rule.specs.Out.{IsIdle, IsTidy};
+ghost use Rattle.claim_rule.specs.Out.{IsIdle, IsTidy, KeepsEndings, KeepsHolds};
 ghost use Rattle.claim_rule.specs.Walls.{Ends};
 
 use crate::books::Books;
@@ -16,7 +16,7 @@ use std::marker::Brand;
 use std::snapshot::Snapshot;
 
 impl Books {
-    /// A further desk, which has seen what the first desk has now seen.
+    /// A further desk, which has seen what the first desk has now seen. A hold or an ending that the first desk has out stays out.
     pub fn part(&self, desk: &mut Desk) -> Desk
         requires own { IsOf self.now desk.old }
         requires first { desk.old.number ≡ 0 }
@@ -25,6 +25,9 @@ impl Books {
         ensures made { desk.new.made ≡ desk.old.made + 1 }
         ensures new { IsNew result desk.new.made desk.new.seen × (own desk.new.seen desk.new.made ≡ []) }
         ensures tidy { IsTidy result }
+        ensures past { result.past ≡ desk.new.past }
+        ensures holds { KeepsHolds desk.old desk.new }
+        ensures endings { KeepsEndings desk.old desk.new }
         ensures still { (IsIdle desk.old → IsIdle desk.new) × (IsTidy desk.old → IsTidy desk.new) }
     {
         let _ = &self.table;

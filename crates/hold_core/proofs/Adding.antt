@@ -17,7 +17,7 @@ use Rattle.hold_core.specs.declared.adds.Added.{Added}
 use Rattle.hold_core.specs.declared.adds.Added.TheVariants as added
 use Rattle.rail_ids.specs.declared.PlaceNo.{PlaceNo}
 use Rattle.hold_core.specs.Tries.{Try, IsTry, IsOutcome, looks_at, try_steps, won_steps, item_won, with_items, place_number, TriesPlace}
-use Rattle.hold_core.specs.Places.{won_by, items_won, tries_steps, tried, AllSettled, EndsWith, IsAdding, Adds}
+use Rattle.hold_core.specs.Places.{won_by, items_won, tries_steps, tried, AllSettled, IsAdding, Adds}
 use Rattle.hold_core.proofs.Trying.{all_more}
 
 -- one try more

@@ -1,15 +1,13 @@
 -- The gives of a hold's items, from the last to the first.
-use Rattle.std.proofs.Common.{◌≡◌, ℕ, zero, suc, ◌+◌, ◌≤◌, List, [], ◌∷◌, ◌++◌, length, Some, refl, sym, ap, ◌∙◌, subst, arith, append_assoc, append-nil, length-append}
+use Rattle.std.proofs.Common.{◌≡◌, ℕ, zero, suc, ◌+◌, ◌≤◌, List, [], ◌∷◌, ◌++◌, length, refl, sym, ap, ◌∙◌, subst, arith, append_assoc, append-nil, length-append}
 use Rattle.leg_masks.specs.Interval.{PlacedSpan as Item}
 use Rattle.history_model.specs.declared.entry.Step.{Step}
 use Rattle.history_model.specs.declared.entry.Step.TheVariants.{Give}
 use Rattle.history_model.specs.History.{IsLegal}
 use Rattle.claim_rule.specs.Rule.{DeskView}
-use Rattle.claim_rule.specs.Seats.{Shape, AddsAtMost}
+use Rattle.claim_rule.specs.Seats.{Shape}
 use Rattle.claim_rule.specs.Holds.{HoldView, with_one}
-use Rattle.claim_rule.specs.Out.{KeepsEndings}
-use Rattle.claim_rule.proofs.Out.{endings_then}
-use Rattle.claim_rule.proofs.Shapes.{shape_then, shape_none, shape_kept, adds_length}
+use Rattle.claim_rule.proofs.Shapes.{shape_then, shape_none}
 use Rattle.hold_core.specs.Places.{gives_back}
 
 -- the desk has given some of the row's items back, and so many are left

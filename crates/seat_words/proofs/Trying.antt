@@ -1,14 +1,14 @@
 -- A desk's hold after a try, and after its last item was given back.
-use Rattle.std.proofs.Common.{◌≡◌, ◌≢◌, ℕ, ◌<◌, Bool, true, false, List, [], ◌∷◌, ◌++◌, length, Option, Some, None, refl, sym, ap, ◌∙◌, subst}
-use Rattle.leg_masks.specs.Interval.{Interval, IsClear, PlacedSpan as Item}
-use Rattle.history_model.specs.declared.entry.Step.{Step}
+use Rattle.std.proofs.Common.{◌≡◌, ℕ, ◌-◌, List, [], ◌∷◌, ◌++◌, take, length, refl, sym, ap, ◌∙◌, subst}
+use Rattle.leg_masks.specs.Interval.{PlacedSpan as Item}
 use Rattle.history_model.specs.declared.entry.Step.TheVariants.{Look, Take, Give}
 use Rattle.claim_rule.specs.Rule.{DeskView}
-use Rattle.claim_rule.specs.Holds.{HoldView, IsHoldOf, StandsFor, with_one}
-use Rattle.claim_rule.specs.Seats.{Stepped, Shape}
-use Rattle.claim_rule.specs.Out.{IsHolding, HasNoted, HasNotedItems, KeepsHolds, KeepsEndings}
+use Rattle.claim_rule.specs.Holds.{HoldView, IsHoldOf, with_one}
+use Rattle.claim_rule.specs.Seats.{Stepped}
+use Rattle.claim_rule.specs.Out.{IsHolding, HasNoted, HasNotedButLast, HasNotedItems, KeepsHolds, KeepsEndings}
 use Rattle.claim_rule.proofs.Shapes.{step_shape}
-use Rattle.claim_rule.proofs.Noting.{noted_takes, noted_gives, noted_front}
+use Rattle.claim_rule.proofs.Noting.{noted_takes, noted_gives}
+use Rattle.claim_rule.proofs.Holding.{take_front}
 use Rattle.claim_rule.proofs.Out.{hold_only, hold_endings, looks_holds, looks_endings}
 
 pub looked_holds : (p n : ℕ) (old new : DeskView) → Stepped (Look p n) old new → KeepsHolds old new
@@ -47,10 +47,16 @@ undone_hold old new hold less i k one did was of = record {
   only = λ r m. hold_only (Give hold.row k) old new hold did (λ _. refl) was r m ∙ ap (λ (h : HoldView). h.row) one;
 }
 
-pub undone_noted : (old new : DeskView) (hold less : HoldView) (i : Item) (k : ℕ) → hold ≡ with_one less i → Stepped (Give hold.row k) old new → IsHolding old hold → HasNotedItems old hold → HasNotedItems new less
-undone_noted old new hold less i k one did was on =
-    let all = noted_gives old new hold k hold.items did was.of.0 on in
-    noted_front new less.row less.items (i ∷ []) (subst (λ (h : HoldView). HasNoted new h.row h.items) one all)
+pub undone_noted : (old new : DeskView) (hold less : HoldView) (i : Item) (k : ℕ) → hold ≡ with_one less i → Stepped (Give hold.row k) old new → IsHolding old hold → (items : List Item) → HasNoted old hold.row items → HasNoted new less.row items
+undone_noted old new hold less i k one did was items on = subst (λ (h : HoldView). HasNoted new h.row items) one (noted_gives old new hold k items did was.of.0 on)
+
+pub undone_but_last : (old new : DeskView) (hold less : HoldView) (i : Item) (k : ℕ) → hold ≡ with_one less i → Stepped (Give hold.row k) old new → IsHolding old hold → HasNotedButLast old hold → HasNotedItems new less
+undone_but_last old new hold less i k one did was on =
+    let front : on.0 ≡ less.items = front_same on.0 less.items on.1 i (sym on.2 ∙ ap (λ (h : HoldView). h.items) one) in
+    subst (HasNoted new less.row) front (undone_noted old new hold less i k one did was on.0 on.3)
+  where
+    front_same : (xs ys : List Item) (x y : Item) → xs ++ x ∷ [] ≡ ys ++ y ∷ [] → xs ≡ ys
+    front_same xs ys x y e = sym (take_front xs x) ∙ (ap (λ (l : List Item). take (length l - 1) l) e ∙ take_front ys y)
 
 pub undone_endings : (old new : DeskView) (hold : HoldView) (k : ℕ) → Stepped (Give hold.row k) old new → IsHolding old hold → KeepsEndings old new
 undone_endings old new hold k did was = hold_endings old new (Give hold.row k ∷ []) hold (step_shape (Give hold.row k) old new did) was.of.0 (λ r q. (q, tt)) (λ r. (refl, tt))

@@ -6,13 +6,13 @@
 //! No call takes memory, and none waits.
 #![tactic(auto)]
 
-ghost use Rattle.std.specs.Prelude.{ℕ, ◌≡◌, ◌≢◌, ◌<◌, ◌≤◌, ◌-◌, true, [], ◌∷◌, length, slice_index};
+ghost use Rattle.std.specs.Prelude.{ℕ, ◌≡◌, ◌≢◌, ◌<◌, ◌≤◌, ◌-◌, true, List, [], ◌∷◌, length, slice_index};
 ghost use Rattle.history_model.specs.declared.entry.Step.TheVariants.{Look, Give};
 ghost use Rattle.history_model.specs.Booking.{most_items};
 ghost use Rattle.leg_masks.specs.Interval.{IsClear, PlacedSpan as Item};
 ghost use Rattle.claim_rule.specs.Seats.{IsOf, Shape};
 ghost use Rattle.claim_rule.specs.Holds.{with_one};
-ghost use Rattle.claim_rule.specs.Out.{IsHolding, IsEnding, HasNoted, HasNotedItems, KeepsHolds, KeepsEndings};
+ghost use Rattle.claim_rule.specs.Out.{IsHolding, IsEnding, HasNoted, HasNotedButLast, HasNotedItems, KeepsHolds, KeepsEndings};
 ghost use Rattle.claim_rule.specs.EndSteps.{gives_from};
 ghost use Rattle.seat_words.specs.Takes.{HasTried};
 
@@ -80,7 +80,7 @@ pub fn try_take(
     }
 }
 
-/// Gives the hold's last item back, and drops it.
+/// Gives the hold's last item back, and drops it. What is noted stays noted.
 pub fn undo_last(books: &Books, desk: &mut Desk, hold: &mut Hold)
     requires own { IsOf books.now desk.old }
     requires hold { IsHolding desk.old hold.old }
@@ -89,7 +89,8 @@ pub fn undo_last(books: &Books, desk: &mut Desk, hold: &mut Hold)
     ensures last { (i : Item) × (hold.old ≡ with_one hold.new i) }
     ensures entries { Shape desk.old desk.new (Give hold.old.row (length hold.new.items) ∷ []) }
     ensures hold { IsHolding desk.new hold.new }
-    ensures noted { HasNotedItems desk.old hold.old → HasNotedItems desk.new hold.new }
+    ensures noted { HasNotedButLast desk.old hold.old → HasNotedItems desk.new hold.new }
+    ensures still { (items : List Item) → HasNoted desk.old hold.old.row items → HasNoted desk.new hold.new.row items }
     ensures endings { KeepsEndings desk.old desk.new }
 {
     books.step_undo(desk, hold);

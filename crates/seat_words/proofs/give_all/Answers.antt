@@ -1,4 +1,4 @@
-use Rattle.std.proofs.Common.{◌≡◌, ℕ, ◌+◌, Bool, true, add-zero, refl, sym, ap, ◌∙◌, subst}
+use Rattle.std.proofs.Common.{◌≡◌, ℕ, add-zero, sym, ap, ◌∙◌, subst}
 use Rattle.claim_rule.specs.Endings.{EndingView}
 use Rattle.claim_rule.specs.Seats.{Shape}
 use Rattle.claim_rule.specs.EndSteps.{gives_from}

@@ -1,4 +1,4 @@
-use Rattle.std.proofs.Common.{◌≡◌, ℕ, ◌+◌, ◌<◌, ◌≤◌, [], ◌∷◌, ◌++◌, Some, ap, sym, ◌∙◌, subst, arith}
+use Rattle.std.proofs.Common.{◌≡◌, ℕ, ◌+◌, ◌<◌, ◌≤◌, [], ◌∷◌, ◌++◌, length, Some, refl, ap, sym, ◌∙◌, subst, arith}
 use Rattle.history_model.specs.declared.entry.Step.TheVariants.{Start}
 use Rattle.claim_rule.specs.Rule.{DeskView}
 use Rattle.claim_rule.specs.Seats.{Shape}
@@ -17,6 +17,7 @@ loop-row-init c = record {
   none = c.requires.none;
   endings = endings_same c.args.desk.now;
   taken = subst (SeenTaken c.args.desk.now c.args.desk.now) (sym c.past-first.ensures) (taken_none c.args.desk.now (shape_none c.args.desk.now c.requires.own.legal) c.requires.own.past);
+  past = refl;
 }
 
 pub loop-row-preserved : goal.loop-row-preserved
@@ -27,12 +28,21 @@ loop-row-preserved c =
       none = n.3;
       endings = endings_then c.args.desk.now c.loop-row.desk c.start_row.new.desk c.loop-row.invariant.endings c.start_row.ensures.endings;
       taken = taken_more c.args.desk.now c.loop-row.desk c.start_row.new.desk c.loop-row.row n.0 c.loop-row.invariant.taken n.1 n.2;
+      past = n.2.same.6 ∙ c.loop-row.invariant.past;
     }
+
+-- the rows known to be taken end where the search began, or before the row
+not_past : (now past first row many : ℕ) → now ≡ past → past ≡ first → first + many ≡ row → now ≤ row + 1
+not_past now past first row many e f g = omega arith
+
+began_before : (first row many : ℕ) → first + many ≡ row → first ≤ row + 1
+began_before first row many e = omega arith
 
 pub pass-requires : goal.pass-requires
 pass-requires c =
     let e = c.in-Some.ensures.some in
     record {
+      further = not_past c.start_row.new.desk.past c.loop-row.desk.past c.args.desk.now.past c.loop-row.row (length c.loop-row.invariant.taken.shown) e.0.same.6 c.loop-row.invariant.past c.loop-row.invariant.taken.many;
       taken = started_taken c.args.desk.now c.loop-row.desk c.start_row.new.desk c.loop-row.row c.loop-row.invariant.taken e.0 c.in-Some.hold e.2 e.1.of.0;
       within = subst (λ (h : HoldView). h.row + 1 ≤ c.start_row.new.desk.layout.rows) e.2 (next c.in-Some.hold.row c.start_row.new.desk.layout.rows e.1.of.0.row);
     }
@@ -62,7 +72,7 @@ returns-in-Some-clause-found c =
       holding_past c.start_row.new.desk hold (c.loop-row.row + 1) e.1,
       e.2 ∙ ap empty_hold (sym row_is),
       ap (λ (n : ℕ). n + 1) (sym row_is),
-      (so.shown, so.many ∙ sym row_is, so.some, shape_past c.args.desk.now c.start_row.new.desk (row_looks first so.shown ++ Start hold.row ∷ []) (c.loop-row.row + 1) did),
+      (so.shown, so.many ∙ sym row_is, so.some, shape_past c.args.desk.now c.start_row.new.desk (row_looks first so.shown ++ Start hold.row ∷ []) (c.loop-row.row + 1) (began_before first c.loop-row.row (length so.shown) so.many) did),
     )
 
 pub returns-clause-endings : goal.returns-clause-endings

@@ -11,4 +11,5 @@ invariant-loop-row l = record {
   none : HoldsNone l.desk;
   endings : KeepsEndings l.fn.desk l.desk;
   taken : SeenTaken l.fn.desk l.desk l.row;
+  past : l.desk.past ≡ l.fn.desk.past;
 }

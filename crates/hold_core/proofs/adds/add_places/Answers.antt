@@ -1,4 +1,4 @@
-use Rattle.std.proofs.Common.{◌≡◌, ◌≢◌, ℕ, ◌+◌, ◌<◌, ◌≤◌, length, ap, refl, sym, ◌∙◌, subst, arith}
+use Rattle.std.proofs.Common.{◌≡◌, ◌+◌, length, ap, arith}
 use Rattle.claim_rule.proofs.Out.{endings_same, endings_then}
 use Rattle.hold_core.proofs.Adding.{tried_none, at_contended, at_last, at_next, at_end_by, bound_settled, bound_last, one_at_most}
 use Rattle.hold_core.proofs.adds.add_places.Goals as goal

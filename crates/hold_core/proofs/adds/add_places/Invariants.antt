@@ -1,4 +1,4 @@
-use Rattle.std.proofs.Common.{◌≡◌, ◌+◌, ◌<◌, length, map, take}
+use Rattle.std.proofs.Common.{◌+◌, ◌<◌, length, map, take}
 use Rattle.claim_rule.specs.Seats.{IsOf}
 use Rattle.claim_rule.specs.Out.{IsHolding, HasNotedItems, KeepsEndings}
 use Rattle.hold_core.specs.Tries.{place_number}

@@ -5,7 +5,7 @@ use Rattle.claim_rule.proofs.Meeting.{splits}
 use Rattle.claim_rule.specs.Seats.{desk_view}
 use Rattle.claim_rule.proofs.Holding.{still_parted, newly_of}
 use Rattle.claim_rule.proofs.Desks.{steps_as, part_met}
-use Rattle.claim_rule.proofs.Out.{new_tidy, part_idle, part_tidy}
+use Rattle.claim_rule.proofs.Out.{new_tidy, part_endings, part_holds, part_idle, part_tidy}
 use Rattle.history_model.specs.History.{own as own_of}
 use Rattle.claim_rule.proofs.books.Books.part.Goals as goal
 use Rattle.history_model.specs.declared.entry.Step.TheVariants.{Met}
@@ -61,3 +61,9 @@ returns-clause-still c =
     let did = returns-clause-met c in
     let now = desk_view c.split_seat-seat.new.seat c.desk.inside.kept c.desk.inside.past in
     (part_idle c.args.desk.now now did, part_tidy c.args.desk.now now did)
+
+pub returns-clause-holds : goal.returns-clause-holds
+returns-clause-holds c = part_holds c.args.desk.now (desk_view c.split_seat-seat.new.seat c.desk.inside.kept c.desk.inside.past) (returns-clause-met c)
+
+pub returns-clause-endings : goal.returns-clause-endings
+returns-clause-endings c = part_endings c.args.desk.now (desk_view c.split_seat-seat.new.seat c.desk.inside.kept c.desk.inside.past) (returns-clause-met c)
