@@ -1,9 +1,10 @@
 -- Which places a wish may have.
-use Rattle.std.specs.Prelude.{ℕ, ◌+◌, ◌==◌, ◌&&◌, Bool, true, false, List, [], ◌∷◌, if◌then◌else◌, bit_and}
+use Rattle.std.specs.Prelude.{◌≡◌, ℕ, ◌+◌, ◌≤◌, ◌==◌, ◌&&◌, Bool, true, false, List, [], ◌∷◌, if◌then◌else◌, bit_and, Some, slice_get}
 use Rattle.place_map.specs.declared.coach.Class.{Class}
 use Rattle.place_map.specs.declared.coach.Class.TheVariants.{First, Second}
 use Rattle.place_map.specs.declared.coach.Place.{Place}
 use Rattle.rail_ids.specs.declared.PlaceNo.{PlaceNo}
+use Rattle.place_map.specs.Places.{run_number}
 
 abbrev pub is_class : Class → Class → Bool
 is_class First First = true
@@ -23,3 +24,12 @@ numbers_of passes k (p ∷ rest) =
 
 abbrev pub candidates_of : ℕ → Class → ℕ → List Place → List PlaceNo
 candidates_of run class wanted places = numbers_of (is_candidate run class wanted) 0 places
+
+-- the number is that of a place of the run
+abbrev pub IsOfRun : ℕ → List Place → PlaceNo → Type 0
+IsOfRun run places n = (p : Place) × (slice_get places n.0 ≡ Some p) × (run_number p ≡ run)
+
+-- the numbers rise, from this one on
+abbrev pub AreRising : ℕ → List PlaceNo → Type 0
+AreRising least [] = Unit {0}
+AreRising least (n ∷ ns) = (least ≤ n.0) × AreRising (n.0 + 1) ns

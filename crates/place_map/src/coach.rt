@@ -46,7 +46,7 @@ impl Group {
     /// The places from the first number to the last, each with these traits.
     pub fn new(first: u16, last: u16, traits: u8) -> Group
         requires { first ≤ last }
-        ensures { result ≡ record { first = first; last = last; traits = traits } }
+        ensures group { result ≡ record { first = first; last = last; traits = traits } }
     {
         Group {
             first,

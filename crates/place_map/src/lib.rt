@@ -6,7 +6,9 @@
 #![tactic(auto)]
 
 mod coach;
+mod crossing;
 mod map;
 
 pub use coach::{Class, Coach, Group, Place, PlaceFault};
+pub use crossing::crosses;
 pub use map::PlaceMap;

@@ -1,7 +1,8 @@
 ghost use Rattle.std.specs.Prelude.{◌≡◌, ◌≤◌, ◌<◌, ◌==◌, ◌+◌, ◌++◌, ◌||◌, [], List, IfOk, OnOk, OnErr, IfErr, Ok, length, min, sum_by, slice_get, option_copied, All, true, false, nat_lt, nat_le};
+ghost use Rattle.std.specs.List.{AllByRecursion};
 ghost use Rattle.std.specs.List.Sorted.{IsPartitionPoint};
 ghost use Rattle.place_map.specs.Places.{coach_places, group_places, group_size, has_place, first_repeat as first_repeat_of, with_places, run_number, EndsWithRun, AreByRun};
-ghost use Rattle.place_map.specs.Candidates.{is_class as is_class_of, is_candidate as is_candidate_of, candidates_of, numbers_of};
+ghost use Rattle.place_map.specs.Candidates.{is_class as is_class_of, is_candidate as is_candidate_of, candidates_of, numbers_of, IsOfRun, AreRising};
 
 use crate::coach::{Class, Coach, Group, Place, PlaceFault};
 use rail_ids::{PlaceNo, RunNo};
@@ -33,7 +34,7 @@ impl Model for PlaceMap {
 impl PlaceMap {
     /// No places.
     pub fn new(alloc: Global) -> PlaceMap
-        ensures { result ≡ [] }
+        ensures empty { result ≡ [] }
     {
         PlaceMap {
             places: Vec::new(alloc),
@@ -49,6 +50,7 @@ impl PlaceMap {
         ensures no_later_run { OnOk result (EndsWithRun run.0 self.new) }
         ensures fault { IfErr result (λ e. ¬ (e ≡ PlaceFault.NoMemory) → with_places run.0 self.old
             (coach_places run.0 coach.now.number coach.now.class coach.now.groups.items) ≡ Err e) }
+        ensures grown { OnOk result (length self.old + length coach.now.groups.items ≤ length self.new) }
         ensures unchanged { OnErr result (self.new ≡ self.old) }
     {
         let alloc = *self.places.allocator();
@@ -61,14 +63,15 @@ impl PlaceMap {
 
     /// The place of a number: `None` exactly where no place has it.
     pub fn place(&self, place: PlaceNo) -> Option<Place>
-        ensures { result ≡ slice_get self.now place.0 }
+        ensures value { result ≡ slice_get self.now place.0 }
     {
         self.places.get(place.0 as usize).copied()
     }
 
     /// All places, in the order of their numbers.
     pub fn all(&self) -> &[Place]
-        ensures { result.now ≡ self.now }
+        ensures places { result.now ≡ self.now }
+        ensures most { length result.now ≤ 4_194_304 }
     {
         self.places.as_slice()
     }
@@ -90,7 +93,9 @@ impl PlaceMap {
         class: Class,
         wanted: u8,
     ) -> Result<Vec<PlaceNo>, AllocError>
-        ensures { IfOk result (λ v. v.items ≡ candidates_of run.0 class wanted self.now) }
+        ensures candidates { IfOk result (λ v. v.items ≡ candidates_of run.0 class wanted self.now) }
+        ensures of_run { IfOk result (λ v. AllByRecursion (IsOfRun run.0 self.now) v.items) }
+        ensures rising { IfOk result (λ v. AreRising 0 v.items) }
     {
         candidates_among(alloc, self.places.as_slice(), run, class, wanted)
     }
@@ -109,6 +114,7 @@ fn fresh_places(
     ensures fresh { IfOk result (λ v. v.items
         ≡ coach_places run.0 coach.now.number coach.now.class coach.now.groups.items) }
     ensures few { IfOk result (λ v. length places.now + length v.items ≤ 4_194_304) }
+    ensures some { IfOk result (λ v. length coach.now.groups.items ≤ length v.items) }
     ensures added { IfOk result (λ v. with_places run.0 places.now
         (coach_places run.0 coach.now.number coach.now.class coach.now.groups.items) ≡ Ok (places.now ++ v.items)) }
     ensures fault { IfErr result (λ e. ¬ (e ≡ PlaceFault.NoMemory) → with_places run.0 places.now
@@ -210,8 +216,9 @@ fn size_of_groups(groups: &[Group]) -> usize
 }
 
 fn places_of(alloc: Global, run: RunNo, coach: &Coach) -> Result<Vec<Place>, AllocError>
-    ensures { IfOk result (λ v. v.items
+    ensures places { IfOk result (λ v. v.items
         ≡ coach_places run.0 coach.now.number coach.now.class coach.now.groups.items) }
+    ensures some { IfOk result (λ v. length coach.now.groups.items ≤ length v.items) }
 {
     let mut places = Vec::new(alloc);
     for group in &coach.groups {
@@ -227,7 +234,8 @@ fn push_group(
     class: Class,
     group: &Group,
 ) -> Result<(), AllocError>
-    ensures { OnOk result (places.new.items ≡ places.old.items ++ group_places run.0 coach class group.now) }
+    ensures places { OnOk result (places.new.items ≡ places.old.items ++ group_places run.0 coach class group.now) }
+    ensures some { OnOk result (length places.old.items < length places.new.items) }
 {
     for number in u32::from(group.first)..u32::from(group.last) + 1 {
         places.push(Place {

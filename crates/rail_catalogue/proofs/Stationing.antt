@@ -1,5 +1,5 @@
 -- A station that is added is one more.
-use Rattle.std.proofs.Common.{◌≡◌, ℕ, ◌+◌, Bool, true, false, List, [], ◌∷◌, ◌++◌, length, if◌then◌else◌, Result, Ok, Err, sym, ap, ◌∙◌, arith, length-append, is_some}
+use Rattle.std.proofs.Common.{◌≡◌, ℕ, ◌+◌, Bool, true, false, List, [], ◌∷◌, ◌++◌, length, if◌then◌else◌, Result, Ok, Err, sym, ap, ◌∙◌, length-append, is_some}
 use Rattle.std.specs.Prelude.{nat_le}
 use Rattle.std.specs.Result.{result_unwrap_or}
 use Rattle.train_runs.specs.declared.station.StationFault.{StationFault}

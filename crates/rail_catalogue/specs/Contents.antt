@@ -1,7 +1,7 @@
 -- What contracts see of a catalogue, and what it is asked.
-use Rattle.std.specs.Prelude.{◌≡◌, ◌<◌, ℕ, min, List, length, map, fold, All, slice_get}
+use Rattle.std.specs.Prelude.{◌≡◌, ◌<◌, ◌≤◌, ℕ, min, List, length, map, fold, All, slice_get}
 use Rattle.std.specs.Option.{option_map_or}
-use Rattle.leg_masks.specs.Interval.{PlacedSpan}
+use Rattle.leg_masks.specs.Interval.{PlacedSpan, most_legs}
 use Rattle.rail_time.specs.Moments.{last_second}
 use Rattle.tariff.specs.Prices.{FareAmounts}
 use Rattle.tariff.specs.Refunds.{RefundTerms}
@@ -10,7 +10,7 @@ use Rattle.place_map.specs.declared.coach.Class.TheVariants.{First, Second}
 use Rattle.place_map.specs.declared.coach.Place.{Place}
 use Rattle.place_map.specs.Places.{run_number}
 use Rattle.train_runs.specs.declared.run.Stop.{Stop}
-use Rattle.train_runs.specs.Stops.{RunView, legs_of}
+use Rattle.train_runs.specs.Stops.{legs_of}
 use Rattle.train_runs.specs.Runs.{RunsView}
 use Rattle.rail_catalogue.specs.Retailers.{RetailerView}
 use Rattle.rail_catalogue.specs.Stops.{FaresView}
@@ -32,6 +32,10 @@ fare_in Second fares = fares.second
 abbrev pub place_legs : RunsView → Place → ℕ
 place_legs runs p = option_map_or legs_of (slice_get runs.runs (run_number p)) 0
 
+-- a run has one leg to 63
+abbrev pub IsNumberOfLegs : ℕ → Type 0
+IsNumberOfLegs n = (0 < n) × (n ≤ most_legs)
+
 abbrev pub legs_in : CatalogueView → List ℕ
 legs_in cat = map (place_legs cat.runs) cat.places
 
@@ -51,7 +55,8 @@ departure_of cat item = option_map_or (departure_from cat.runs item.span.from) (
 abbrev pub least_departure : CatalogueView → List PlacedSpan → ℕ
 least_departure cat items = fold (λ least item. min least (departure_of cat item)) last_second items
 
--- each place is one of a known run, and each run has its fares
+-- each place is one of a known run, each run has its fares, and there are no fewer places than runs
 pub record IsWhole (runs : RunsView) (fares : List FaresView) (places : List Place) : Type 0 where
   pub of_known_runs : All (λ p. run_number p < length runs.runs) places
   pub fares_of_runs : length fares ≡ length runs.runs
+  pub places_of_runs : length runs.runs ≤ length places

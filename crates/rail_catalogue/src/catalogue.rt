@@ -1,7 +1,9 @@
-ghost use Rattle.std.specs.Prelude.{◌≡◌, ◌≤◌, IfOk, length, map, option_map, slice_get, string_bytes};
+ghost use Rattle.std.specs.Prelude.{◌≡◌, ◌≤◌, ◌<◌, All, IfOk, IfSome, IfNone, length, map, option_map, slice_get, string_bytes};
+ghost use Rattle.leg_masks.specs.Interval.{most_places};
+ghost use Rattle.place_map.specs.Places.{run_number};
 ghost use Rattle.rail_time.specs.Moments.{last_second};
 ghost use Rattle.rail_catalogue.specs.Retailers.{retailer_with};
-ghost use Rattle.rail_catalogue.specs.Contents.{IsWhole, fare_in, place_legs, legs_in, departure_at as departure_at_of, departure_from as departure_from_of, departure_of, least_departure};
+ghost use Rattle.rail_catalogue.specs.Contents.{IsWhole, IsNumberOfLegs, fare_in, place_legs, legs_in, departure_at as departure_at_of, departure_from as departure_from_of, departure_of, least_departure};
 
 use crate::retailers::Retailers;
 use crate::runs::Network;
@@ -16,7 +18,7 @@ use train_runs::{Runs, Stop};
 
 /// The fares of a run.
 #[derive(Debug, Clone, Copy, PartialEq, Eq)]
-pub struct Fares {
+pub(crate) struct Fares {
     first: Fare,
     second: Fare,
 }
@@ -33,7 +35,7 @@ impl Model for Fares {
 
 impl Fares {
     /// The fares of both classes.
-    pub fn new(first: Fare, second: Fare) -> Fares
+    pub(crate) fn new(first: Fare, second: Fare) -> Fares
         ensures { result ≡ record { first = first; second = second } }
     {
         Fares { first, second }
@@ -70,12 +72,12 @@ impl Model for Catalogue {
 
     ghost view = { λ c. record { currency = string_bytes c.currency; rows = c.rows; retailers = c.retailers; runs = c.runs; fares = c.fares.items; places = c.places; terms = c.terms } };
 
-    ghost invariant = { λ c. (length (string_bytes c.currency) ≡ 3) × (1 ≤ c.rows) × (c.rows ≤ 262_144) × IsWhole c.runs c.fares.items c.places };
+    ghost invariant = { λ c. (length (string_bytes c.currency) ≡ 3) × (1 ≤ c.rows) × (c.rows ≤ 262_144) × (1 ≤ length c.runs.runs) × IsWhole c.runs c.fares.items c.places };
 }
 
 impl Catalogue {
     // The catalogue of these parts.
-    pub fn new(
+    pub(crate) fn new(
         currency: String,
         rows: u32,
         retailers: Retailers,
@@ -85,6 +87,7 @@ impl Catalogue {
         requires currency { length (string_bytes currency) ≡ 3 }
         requires some { 1 ≤ rows }
         requires most { rows ≤ 262_144 }
+        requires run { 1 ≤ length network.runs.runs }
         requires whole { IsWhole network.runs network.fares.items network.places }
         ensures { result ≡ record { currency = string_bytes currency; rows = rows; retailers = retailers; runs = network.runs; fares = network.fares.items; places = network.places; terms = terms } }
     {
@@ -106,21 +109,21 @@ impl Catalogue {
 
     /// The stations and the runs.
     pub fn runs(&self) -> &Runs
-        ensures { result.now ≡ self.now.runs }
+        ensures value { result.now ≡ self.now.runs }
     {
         &self.runs
     }
 
     /// The places of all runs.
     pub fn places(&self) -> &PlaceMap
-        ensures { result.now ≡ self.now.places }
+        ensures value { result.now ≡ self.now.places }
     {
         &self.places
     }
 
     /// The terms of refunds, exchanges and confirmation.
     pub fn terms(&self) -> &Terms
-        ensures { result.now ≡ self.now.terms }
+        ensures value { result.now ≡ self.now.terms }
     {
         &self.terms
     }
@@ -136,7 +139,7 @@ impl Catalogue {
 
     /// The currency of all amounts: three letters.
     pub fn currency(&self) -> [u8; 3]
-        ensures { result ≡ self.now.currency }
+        ensures value { result ≡ self.now.currency }
     {
         let text = self.currency.as_bytes();
         [text[0], text[1], text[2]]
@@ -144,14 +147,16 @@ impl Catalogue {
 
     /// The currency of all amounts as a text.
     pub fn currency_text(&self) -> &str
-        ensures { result.now ≡ self.now.currency }
+        ensures value { result.now ≡ self.now.currency }
     {
         self.currency.as_str()
     }
 
     /// What an adult pays on a run: `None` exactly where there is no such run.
     pub fn fare(&self, run: RunNo, class: Class) -> Option<Fare>
-        ensures { result ≡ option_map (fare_in class) (slice_get self.now.fares run.0) }
+        ensures fare { result ≡ option_map (fare_in class) (slice_get self.now.fares run.0) }
+        ensures known { IfSome result (λ _. run.0 < length self.now.runs.runs) }
+        ensures unknown { IfNone result (length self.now.runs.runs ≤ run.0) }
     {
         let fares = self.fares.get(run.0 as usize).copied()?;
         Some(fares.of(class))
@@ -159,14 +164,17 @@ impl Catalogue {
 
     /// The retailer with the key: `None` exactly where there is none.
     pub fn retailer_of(&self, key: &[u8]) -> Option<RetailerNo>
-        ensures { result ≡ retailer_with key.now self.now.retailers }
+        ensures value { result ≡ retailer_with key.now self.now.retailers }
     {
         self.retailers.number_of(key)
     }
 
     /// For each place in rising number, the number of legs of its run.
     pub fn legs(&self, alloc: Global) -> Result<Vec<u8>, AllocError>
-        ensures { IfOk result (λ v. v.items ≡ legs_in self.now) }
+        ensures legs { IfOk result (λ v. v.items ≡ legs_in self.now) }
+        ensures some { 1 ≤ length self.now.places }
+        ensures most { length self.now.places ≤ most_places }
+        ensures within { IfOk result (λ v. All IsNumberOfLegs v.items) }
     {
         legs_of_places(alloc, self.places.all(), &self.runs)
     }
@@ -174,7 +182,7 @@ impl Catalogue {
     /// The least departure over the items' runs at the stops where the items begin. The last moment stands in for an item
     /// that lies within no run of the catalogue, and for no item at all.
     pub fn first_departure(&self, items: &[Item]) -> Moment
-        ensures { result ≡ least_departure self.now items.now }
+        ensures value { result ≡ least_departure self.now items.now }
     {
         let mut least = last_moment();
         for item in items {
@@ -222,7 +230,9 @@ fn last_moment() -> Moment
 }
 
 fn legs_of_places(alloc: Global, places: &[Place], runs: &Runs) -> Result<Vec<u8>, AllocError>
-    ensures { IfOk result (λ v. v.items ≡ map (place_legs runs.now) places.now) }
+    requires known { All (λ p. run_number p < length runs.now.runs) places.now }
+    ensures legs { IfOk result (λ v. v.items ≡ map (place_legs runs.now) places.now) }
+    ensures within { IfOk result (λ v. All IsNumberOfLegs v.items) }
 {
     let mut legs = Vec::new(alloc);
     for place in places {
@@ -232,7 +242,8 @@ fn legs_of_places(alloc: Global, places: &[Place], runs: &Runs) -> Result<Vec<u8
 }
 
 fn legs_of_place(place: &Place, runs: &Runs) -> u8
-    ensures { result ≡ place_legs runs.now place.now }
+    ensures legs { result ≡ place_legs runs.now place.now }
+    ensures within { run_number place.now < length runs.now.runs → IsNumberOfLegs result }
 {
     match runs.run(place.run) {
         Some(run) => (run.stops().len() - 1) as u8,

@@ -1,4 +1,4 @@
-ghost use Rattle.std.specs.Prelude.{◌≡◌, ◌≤◌, [], Ok, Err, IfOk, IfErr, IfSome, OnOk, map, option_map, option_and_then};
+ghost use Rattle.std.specs.Prelude.{◌≡◌, ◌≤◌, ◌+◌, [], length, Ok, Err, IfOk, IfErr, IfSome, OnOk, map, option_map, option_and_then};
 ghost use Rattle.serde_json.specs.View.{view};
 ghost use Rattle.place_map.specs.Places.{EndsWithRun, with_places, coach_places};
 ghost use Rattle.rail_catalogue.specs.Faults.{fault_of};
@@ -22,6 +22,7 @@ pub fn read_coaches(
 ) -> Result<(), CatalogueFault>
     requires no_later_run { EndsWithRun run places.old }
     ensures ok { OnOk result (coaches_from run 0 places.old (map view items.now) ≡ Ok places.new) }
+    ensures grown { OnOk result (length places.old + length items.now ≤ length places.new) }
     ensures no_later_run { OnOk result (EndsWithRun run places.new) }
     ensures err { IfErr result (λ e. IfSome (fault_of e) (λ f. coaches_from run 0 places.old (map view items.now) ≡ Err f)) }
 {
@@ -36,6 +37,7 @@ fn add_coach(places: &mut PlaceMap, run: u32, coach: &Coach) -> Result<(), Catal
     requires no_later_run { EndsWithRun run places.old }
     ensures ok { OnOk result (placed (with_places run places.old
         (coach_places run coach.now.number coach.now.class coach.now.groups.items)) ≡ Ok places.new) }
+    ensures grown { OnOk result (length places.old + length coach.now.groups.items ≤ length places.new) }
     ensures no_later_run { OnOk result (EndsWithRun run places.new) }
     ensures err { IfErr result (λ e. IfSome (fault_of e) (λ f. placed (with_places run places.old
         (coach_places run coach.now.number coach.now.class coach.now.groups.items)) ≡ Err f)) }
@@ -49,6 +51,7 @@ fn add_coach(places: &mut PlaceMap, run: u32, coach: &Coach) -> Result<(), Catal
 
 fn read_coach(alloc: Global, item: &Value, run: usize, n: usize) -> Result<Coach, CatalogueFault>
     ensures ok { IfOk result (λ c. coach_at run n (view item.now) ≡ Ok (coach_view c)) }
+    ensures some { IfOk result (λ c. 1 ≤ length c.groups.items) }
     ensures err { IfErr result (λ e. IfSome (fault_of e) (λ f. coach_at run n (view item.now) ≡ Err f)) }
 {
     if !item.is_object() {
@@ -87,6 +90,7 @@ fn read_groups(
     coach: usize,
 ) -> Result<Vec<Group>, CatalogueFault>
     ensures ok { IfOk result (λ v. groups_from run coach [] (map view items.now) ≡ Ok v.items) }
+    ensures count { IfOk result (λ v. length v.items ≡ length items.now) }
     ensures err { IfErr result (λ e. IfSome (fault_of e) (λ f. groups_from run coach [] (map view items.now) ≡ Err f)) }
 {
     let mut groups = Vec::new(alloc);

@@ -1,4 +1,4 @@
-ghost use Rattle.std.specs.Prelude.{◌≡◌, ◌≤◌, IfOk, IfErr, IfSome, Some, None, map, option_map};
+ghost use Rattle.std.specs.Prelude.{◌≡◌, ◌≤◌, IfOk, IfErr, IfSome, Some, None, length, map, option_map};
 ghost use Rattle.serde_json.specs.View.{view};
 ghost use Rattle.serde_json.specs.Find.{as_array};
 ghost use Rattle.rail_catalogue.specs.Faults.{fault_of, not_json};
@@ -71,7 +71,8 @@ pub fn list_of(value: Option<&Value>) -> Option<&[Value]>
 
 // A list of so many items.
 pub fn list_in(value: Option<&Value>, least: usize, most: usize) -> Option<&[Value]>
-    ensures { option_map (λ v. map view v.now) result ≡ list_in_of least most (option_map (λ v. view v.now) value.entry) }
+    ensures value { option_map (λ v. map view v.now) result ≡ list_in_of least most (option_map (λ v. view v.now) value.entry) }
+    ensures least { IfSome result (λ v. least ≤ length v.now) }
 {
     let items = list_of(value)?;
     if least <= items.len() && items.len() <= most {

@@ -7,6 +7,7 @@
 
 mod catalogue;
 mod coaches;
+mod crossing;
 mod fault;
 mod json;
 mod reader;
@@ -18,6 +19,7 @@ mod stops;
 #[cfg(test)]
 mod tests;
 
-pub use catalogue::{Catalogue, Fares};
+pub use catalogue::Catalogue;
+pub use crossing::crosses;
 pub use fault::CatalogueFault;
 pub use reader::read_catalogue;

@@ -36,6 +36,7 @@ pub fn read_network(
     requires { runs.runs ≡ [] }
     ensures ok { IfOk result (λ n. network_of runs.stations (option_map (λ v. view v.now) value.entry) ≡ Ok (network_view n)) }
     ensures whole { IfOk result (λ n. IsWhole n.runs n.fares.items n.places) }
+    ensures some { IfOk result (λ n. 1 ≤ length n.runs.runs) }
     ensures err { IfErr result (λ e. IfSome (fault_of e) (λ f. network_of runs.stations (option_map (λ v. view v.now) value.entry) ≡ Err f)) }
 {
     let Some(items) = list_in(value, 1, 9_223_372_036_854_775_807) else {
@@ -152,6 +153,7 @@ fn read_places(
 ) -> Result<(), CatalogueFault>
     requires no_later_run { EndsWithRun run.0 places.old }
     ensures ok { OnOk result (places_of run.0 places.old (view item.now) ≡ Ok places.new) }
+    ensures grown { OnOk result (length places.old < length places.new) }
     ensures no_later_run { OnOk result (EndsWithRun run.0 places.new) }
     ensures err { IfErr result (λ e. IfSome (fault_of e) (λ f. places_of run.0 places.old (view item.now) ≡ Err f)) }
 {

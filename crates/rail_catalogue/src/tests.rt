@@ -1,4 +1,5 @@
 use crate::{Catalogue, read_catalogue};
+use leg_masks::{Item, Span};
 use place_map::Class;
 use rail_ids::{RetailerNo, RunNo};
 use std::alloc::Global;
@@ -209,6 +210,22 @@ fn finds_in_the_example(rt: HostRuntime) -> Result<(), Fail> {
     let fare = catalogue.fare(RunNo(0), Class::Second);
     assert_eq!(rt; fare.map(|f| f.per_leg), Some(300));
     assert!(rt; catalogue.fare(RunNo(2), Class::First).is_none());
+    Ok(())
+}
+
+// The place on the first legs, up to this stop.
+fn item(place: u32, to: u8) -> Result<Item, Fail> {
+    let span = Span::new(0, to).ok_or("a span")?;
+    Ok(Item::new(place, span).ok_or("an item")?)
+}
+
+#[test]
+fn departs_first_in_the_example(rt: HostRuntime) -> Result<(), Fail> {
+    let catalogue = example(rt.alloc())?;
+    let early = item(4, 2)?;
+    let late = item(12, 1)?;
+    let first = catalogue.first_departure(&[late, early]);
+    assert_eq!(rt; first.seconds(), 1_780_300_800);
     Ok(())
 }
 

@@ -27,7 +27,7 @@ impl Fare {
     pub fn new(base: u32, per_leg: u32) -> Fare
         requires base { base ≤ 10_000_000 }
         requires per_leg { per_leg ≤ 10_000_000 }
-        ensures { result ≡ record { base = base; per_leg = per_leg } }
+        ensures amounts { result ≡ record { base = base; per_leg = per_leg } }
     {
         Fare { base, per_leg }
     }

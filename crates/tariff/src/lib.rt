@@ -5,10 +5,12 @@
 //! the whole amount. Nothing here takes memory.
 #![tactic(auto)]
 
+mod crossing;
 mod fare;
 mod prices;
 mod terms;
 
+pub use crossing::crosses;
 pub use fare::Fare;
 pub use prices::price;
 pub use terms::{RefundStep, Terms, TermsFault, exchange_difference, refund_value};

@@ -5,12 +5,14 @@
 //! refusal. Then it is only asked: for a station by its code, for a run, and for the legs between two stations.
 #![tactic(auto)]
 
+mod crossing;
 mod run;
 mod runs;
 mod station;
 #[cfg(test)]
 mod tests;
 
+pub use crossing::crosses;
 pub use run::{MOST_STOPS, Run, RunFault, Stop};
 pub use runs::{MOST_RUNS, Runs};
 pub use station::{MOST_STATIONS, StationFault};

@@ -1,6 +1,9 @@
-use Rattle.std.proofs.Common.{◌≡◌, map, take}
-use Rattle.rail_catalogue.specs.Contents.{place_legs}
+use Rattle.std.proofs.Common.{◌≡◌, All, map, take}
+use Rattle.rail_catalogue.specs.Contents.{place_legs, IsNumberOfLegs}
 use Rattle.rail_catalogue.proofs.catalogue.legs_of_places.Given as goal
 
 abbrev pub invariant-loop-place : goal.invariant-loop-place
-invariant-loop-place l = l.legs.items ≡ map (place_legs l.runs) (take l.place-index l.places)
+invariant-loop-place l = record {
+  legs : l.legs.items ≡ map (place_legs l.runs) (take l.place-index l.places);
+  within : All IsNumberOfLegs l.legs.items;
+}

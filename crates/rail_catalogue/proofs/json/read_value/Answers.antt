@@ -1,4 +1,4 @@
-use Rattle.std.proofs.Common.{rules, ◌≡◌}
+use Rattle.std.proofs.Common.{rules}
 use Rattle.rail_catalogue.proofs.JsonFacts.{json_of-some, json_of-none}
 use Rattle.rail_catalogue.proofs.json.read_value.Goals as goal
 

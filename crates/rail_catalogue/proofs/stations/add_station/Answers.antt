@@ -1,4 +1,3 @@
-use Rattle.std.proofs.Common.{◌≡◌}
 use Rattle.rail_catalogue.proofs.Stationing.{length-with_station}
 use Rattle.rail_catalogue.proofs.stations.add_station.Goals as goal
 
