@@ -8,7 +8,7 @@ use Rattle.httparse.proofs.GrammarLemmas.{request_unique}
 use Rattle.http_wire.specs.declared.request.WireFault.{WireFault}
 use Rattle.http_wire.specs.declared.request.WireFault.TheVariants.{BadHead, HeadTooLarge, BodyTooLarge, Coding, BadLength}
 use Rattle.http_wire.specs.Heads.{IsHead, HasLines}
-use Rattle.http_wire.specs.declared.head.HeadSearch.TheVariants.{Nothing, Ended, Many}
+use Rattle.http_wire.specs.declared.scan.HeadSearch.TheVariants.{Nothing, Ended, Many}
 use Rattle.http_wire.specs.HeadLines.{IsHeadOf, IsServedHead, IsNumeral, IsLength, lengths_of, codings_of}
 use Rattle.http_wire.specs.Requests.{HeadAt, HasNoEnd, IsFault, IsBlank, IsUnfinished}
 use Rattle.http_wire.specs.HeadRead.{IsHeadFault}

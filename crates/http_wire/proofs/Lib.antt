@@ -8,3 +8,5 @@ pub mod ServedLemmas
 pub mod WordLemmas
 pub mod OnceLemmas
 pub mod SomeReading
+pub mod ScanLemmas
+pub mod StageLemmas

@@ -9,8 +9,8 @@ use Rattle.std.proofs.lemmas.Bool.Decides.{Decides-eqb}
 use Rattle.std.proofs.lemmas.Bool.{false_from_ne_true}
 use Rattle.httparse.specs.Grammar.{LineEnd, crlf, lf, print_end, print_blank}
 use Rattle.http_wire.specs.Heads.{HasNoFeed, IsLine, print_line, print_lines, IsHead, HasLines}
-use Rattle.http_wire.specs.declared.head.HeadSearch.{HeadSearch}
-use Rattle.http_wire.specs.declared.head.HeadSearch.TheVariants.{Nothing, Ended, Many}
+use Rattle.http_wire.specs.declared.scan.HeadSearch.{HeadSearch}
+use Rattle.http_wire.specs.declared.scan.HeadSearch.TheVariants.{Nothing, Ended, Many}
 use Rattle.http_wire.specs.Scan.{on, search_head}
 
 -- the line in progress, by what the search knows of it

@@ -1,5 +1,5 @@
 -- A whole request by the places of its parts.
-use Rattle.std.proofs.Common.{◌≡◌, ℕ, ◌+◌, ◌-◌, ◌≤◌, List, ◌++◌, length, take, drop, Option, Some, None, [], refl, sym, ◌∙◌, ap, subst, arith, option_map}
+use Rattle.std.proofs.Common.{◌≡◌, ℕ, ◌+◌, ◌-◌, ◌≤◌, List, ◌++◌, length, take, drop, Option, Some, None, [], refl, sym, ◌∙◌, ap, subst, arith, option_map, append_assoc}
 use Rattle.std.specs.Prelude.{slice_range, IfSome}
 use Rattle.std.proofs.lemmas.List.{length-take, length-drop, take-take, take-append-drop, drop-drop, drop-take, take_at}
 use Rattle.httparse.specs.declared.spans.Span.{Span}
@@ -130,3 +130,7 @@ start_held items new len at filled same all is =
 pub nothing_pulled : (told : Option (List ℕ)) → told ≡ with_front [] told
 nothing_pulled None = refl
 nothing_pulled (Some left) = refl
+
+pub pulled_more : (front more : List ℕ) (told : Option (List ℕ)) → with_front front (with_front more told) ≡ with_front (front ++ more) told
+pulled_more front more None = refl
+pulled_more front more (Some left) = ap (λ (l : List ℕ). Some l) (sym (append_assoc front more left))

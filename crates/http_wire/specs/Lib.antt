@@ -9,3 +9,4 @@ pub mod Requests
 pub mod Scan
 pub mod ServedLines
 pub mod View
+pub mod Stages

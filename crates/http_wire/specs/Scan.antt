@@ -1,7 +1,8 @@
 -- The search for the end of a head, byte by byte.
-use Rattle.std.specs.Prelude.{ℕ, ◌+◌, Bool, true, false, not, ◌&&◌, ◌||◌, ◌==◌, List, [], ◌∷◌, if◌then◌else◌}
-use Rattle.http_wire.specs.declared.head.HeadSearch.{HeadSearch}
-use Rattle.http_wire.specs.declared.head.HeadSearch.TheVariants.{Nothing, Ended, Many}
+use Rattle.std.specs.Prelude.{◌≡◌, ℕ, ◌+◌, Bool, true, false, not, ◌&&◌, ◌||◌, ◌==◌, List, [], ◌∷◌, ◌++◌, length, if◌then◌else◌}
+use Rattle.http_wire.specs.declared.scan.HeadScan.{HeadScan}
+use Rattle.http_wire.specs.declared.scan.HeadSearch.{HeadSearch}
+use Rattle.http_wire.specs.declared.scan.HeadSearch.TheVariants.{Nothing, Ended, Many}
 
 -- so many bytes more
 abbrev pub on : ℕ → HeadSearch → HeadSearch
@@ -30,3 +31,22 @@ only_ends carriage [] = not carriage
 only_ends carriage (b ∷ bytes) =
     if b == 10 then only_ends false bytes
     else (if b == 13 && not carriage then only_ends true bytes else false)
+
+-- ---- where a search stands
+
+-- what is found with more bytes behind those searched
+abbrev pub found_with : HeadScan → HeadSearch → List ℕ → HeadSearch
+found_with scan Nothing more = on scan.at (search_head scan.lines scan.begun scan.line_empty scan.carriage more)
+found_with scan (Ended n) more = Ended n
+found_with scan Many more = Many
+
+-- all bytes searched are empty lines
+abbrev pub is_blank : HeadScan → Bool
+is_blank scan = scan.line_empty && not scan.begun && not scan.carriage
+
+-- A search stands for these bytes: with any bytes behind them it finds what a search from the start does.
+pub record StandsFor (scan : HeadScan) (bytes : List ℕ) : Type 0 where
+  pub search : (more : List ℕ) → search_head 0 false true false (bytes ++ more) ≡ found_with scan scan.found more
+  pub blank : scan.found ≡ Nothing → (more : List ℕ)
+      → only_ends false (bytes ++ more) ≡ (if scan.line_empty && not scan.begun then only_ends scan.carriage more else false)
+  pub at : scan.found ≡ Nothing → scan.at ≡ length bytes

@@ -6,7 +6,6 @@ ghost use Rattle.httparse.specs.Spans.{IsWithin, IsHeaderWithin, header_bytes, s
 ghost use Rattle.http_wire.specs.Heads.{IsHead};
 ghost use Rattle.http_wire.specs.Named.{with_value, IsNamed, IsNamedWithin};
 ghost use Rattle.http_wire.specs.HeadLines.{same_name, values_named, IsNumeral};
-ghost use Rattle.http_wire.specs.Scan.{search_head};
 
 use httparse::Status;
 use httparse::spans::{EMPTY_HEADER_SPAN, HeaderSpan, Span, parse_request};
@@ -16,46 +15,6 @@ pub const HEAD_ROOM: usize = 16_384;
 
 /// The most lines after the request line.
 pub const HEAD_LINES: usize = 64;
-
-/// What the search for a head's end finds.
-#[derive(Clone, Copy, Debug, PartialEq, Eq)]
-pub enum HeadSearch {
-    Nothing,
-    Ended(usize),
-    Many,
-}
-
-/// One line more, where it has ended.
-fn count_line(count: usize, ended: bool) -> usize
-    requires { count < 2 ^ 32 }
-    ensures { result ≡ (if ended then count + 1 else count) }
-{
-    if ended { count + 1 } else { count }
-}
-
-/// The place after the first empty line that stands after a line that isn't empty, unless the 66th line comes before.
-pub fn head_end(text: &[u8]) -> HeadSearch
-    ensures { result ≡ search_head 0 false true false text.now }
-{
-    let mut count = 0;
-    let mut begun = false;
-    let mut line_empty = true;
-    let mut carriage = false;
-    for (i, byte) in text.iter().enumerate() {
-        let feed = *byte == b'\n';
-        if feed && line_empty && begun {
-            return HeadSearch::Ended(i + 1);
-        }
-        if feed && !line_empty && count == 65 {
-            return HeadSearch::Many;
-        }
-        count = count_line(count, feed && !line_empty);
-        begun = begun || (feed && !line_empty);
-        line_empty = feed || (line_empty && !carriage && *byte == b'\r');
-        carriage = *byte == b'\r';
-    }
-    HeadSearch::Nothing
-}
 
 /// What the named header lines hold.
 #[derive(Clone, Copy)]

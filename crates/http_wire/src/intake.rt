@@ -1,5 +1,5 @@
 // The wire's memory.
-ghost use Rattle.std.specs.Prelude.{◌≡◌, ◌≤◌, ◌<◌, ◌+◌, ◌-◌, ◌^◌, ℕ, List, false, [], ◌++◌, length, take, drop, option_map, IfSome, IfOk};
+ghost use Rattle.std.specs.Prelude.{◌≡◌, ◌≤◌, ◌<◌, ◌+◌, ◌-◌, ◌^◌, ℕ, List, [], min, ◌++◌, length, take, drop, option_map, IfSome, IfOk};
 ghost use Rattle.httparse.specs.Spans.{IsWithin, span_bytes};
 ghost use Rattle.rail_io.specs.Faults.{Rose};
 ghost use Rattle.rail_io.specs.Told.{with_front};
@@ -8,10 +8,12 @@ ghost use Rattle.http_wire.specs.declared.request.Next.TheVariants.{ReadFault};
 ghost use Rattle.http_wire.specs.Pieces.{piece_bytes, IsPieceWithin, IsFront};
 ghost use Rattle.http_wire.specs.Next.{IsNext, PullsBehind, Stays};
 ghost use Rattle.http_wire.specs.Requests.{HeadAt};
-ghost use Rattle.http_wire.specs.Scan.{only_ends};
+ghost use Rattle.http_wire.specs.Stages.{IsStage};
+ghost use Rattle.http_wire.specs.declared.intake.Stage.TheVariants.{Head, Body};
 
-use crate::head::{HEAD_ROOM, HeadSearch, head_end};
+use crate::head::{HEAD_ROOM, ServedHead};
 use crate::request::{Next, Piece, Request, WireFault};
+use crate::scan::{HeadScan, HeadSearch};
 use crate::served::served_head;
 use httparse::spans::Span;
 use rail_io::{Pulled, Source};
@@ -33,6 +35,7 @@ pub struct Intake {
     filled: usize,
     at: usize,
     given: u32,
+    stage: Stage,
 }
 
 impl Model for Intake {
@@ -47,7 +50,7 @@ impl Model for Intake {
       given = a.given;
     } };
 
-    ghost invariant = { λ a. IsIntake a.memory.items a.filled a.at a.given };
+    ghost invariant = { λ a. IsIntake a.memory.items a.filled a.at a.given a.stage };
 }
 
 /// What stands at the front of some bytes.
@@ -82,53 +85,99 @@ fn key_piece(key: Option<Span>) -> Option<Piece>
     }
 }
 
-fn only_line_ends(text: &[u8]) -> bool
-    ensures { result ≡ only_ends false text.now }
-{
-    let mut carriage = false;
-    for byte in text {
-        if *byte == b'\n' {
-            carriage = false;
-        } else if *byte == b'\r' && !carriage {
-            carriage = true;
-        } else {
-            return false;
-        }
-    }
-    !carriage
+/// How far the reading of the next request has come.
+#[derive(Clone, Copy)]
+pub enum Stage {
+    /// No end of its head was found.
+    Head(HeadScan),
+    /// Its head has so many bytes, and says this.
+    Body(usize, ServedHead),
+}
+
+/// What stands at the front of some bytes, and how far their reading has come.
+#[derive(Clone, Copy)]
+pub struct Examined {
+    pub front: Front,
+    pub stage: Stage,
 }
 
 /// What stands at the front of the text, which isn't known to be all of the stream.
-pub fn examine(text: &[u8], number: u32) -> Front
-    ensures { IsFront number text.now result }
+fn examine(text: &[u8], number: u32, stage: Stage) -> Examined
+    requires { IsStage number text.now stage }
+    ensures front { IsFront number text.now result.front }
+    ensures stage { IsStage number text.now result.stage }
+{
+    match stage {
+        Stage::Head(scan) => search_on(text, number, scan),
+        Stage::Body(end, head) => Examined {
+            front: body_after(text, number, end, head),
+            stage,
+        },
+    }
+}
+
+/// The same, where no end of the head was found yet.
+fn search_on(text: &[u8], number: u32, before: HeadScan) -> Examined
+    requires { IsStage number text.now (Head before) }
+    ensures front { IsFront number text.now result.front }
+    ensures stage { IsStage number text.now result.stage }
 {
     let room = text.len().min(HEAD_ROOM);
-    match head_end(&text[..room]) {
-        HeadSearch::Many => Front::Fault(WireFault::HeadTooLarge),
-        HeadSearch::Nothing => {
-            if text.len() >= HEAD_ROOM {
-                return Front::Fault(WireFault::HeadTooLarge);
-            }
-            if only_line_ends(text) {
-                Front::Blank
-            } else {
-                Front::Open
-            }
-        }
-        HeadSearch::Ended(end) => body_after(text, number, end),
+    let scan = before.feed(&text[before.at..room]);
+    match scan.found {
+        HeadSearch::Ended(end) => after_head(text, number, end, before),
+        HeadSearch::Many => Examined {
+            front: Front::Fault(WireFault::HeadTooLarge),
+            stage: Stage::Head(before),
+        },
+        HeadSearch::Nothing => Examined {
+            front: without_head(text, number, scan),
+            stage: Stage::Head(scan),
+        },
+    }
+}
+
+/// The same, where the search went over all of the text, or over all that a head may have.
+fn without_head(text: &[u8], number: u32, scan: HeadScan) -> Front
+    requires stage { IsStage number text.now (Head scan) }
+    requires all { scan.at ≡ min (length text.now) 16384 }
+    ensures { IsFront number text.now result }
+{
+    if text.len() >= HEAD_ROOM {
+        return Front::Fault(WireFault::HeadTooLarge);
+    }
+    if scan.is_blank() {
+        Front::Blank
+    } else {
+        Front::Open
     }
 }
 
 /// The same, where the head ends.
-fn body_after(text: &[u8], number: u32, end: usize) -> Front
+fn after_head(text: &[u8], number: u32, end: usize, before: HeadScan) -> Examined
     requires at { HeadAt text.now (take end text.now) (drop end text.now) }
     requires within { end ≤ length text.now }
+    requires stage { IsStage number text.now (Head before) }
+    ensures front { IsFront number text.now result.front }
+    ensures stage { IsStage number text.now result.stage }
+{
+    match served_head(&text[..end], number) {
+        Ok(head) => Examined {
+            front: body_after(text, number, end, head),
+            stage: Stage::Body(end, head),
+        },
+        Err(fault) => Examined {
+            front: Front::Fault(fault),
+            stage: Stage::Head(before),
+        },
+    }
+}
+
+/// What stands there, where the head is one of a request.
+fn body_after(text: &[u8], number: u32, end: usize, head: ServedHead) -> Front
+    requires { IsStage number text.now (Body end head) }
     ensures { IsFront number text.now result }
 {
-    let head = match served_head(&text[..end], number) {
-        Ok(head) => head,
-        Err(fault) => return Front::Fault(fault),
-    };
     let length = head.length as usize;
     if text.len() - end < length {
         return Front::Open;
@@ -173,12 +222,14 @@ impl Intake {
         ensures unread { IfOk result (λ intake. intake.unread ≡ []) }
         ensures given { IfOk result (λ intake. intake.given ≡ 0) }
     {
-        let memory = vec![in alloc; 0; ROOM]?;
+        let mut memory = Vec::with_capacity(alloc, ROOM)?;
+        memory.resize(ROOM, 0)?;
         Ok(Intake {
             memory,
             filled: 0,
             at: 0,
             given: 0,
+            stage: Stage::Head(HeadScan::start()),
         })
     }
 
@@ -199,11 +250,13 @@ impl Intake {
         self.at = 0;
         let number = self.given + 1;
         'reads: loop {
-            let front = examine(&self.memory[..self.filled], number);
-            let blank = match front {
+            let examined = examine(&self.memory[..self.filled], number, self.stage);
+            self.stage = examined.stage;
+            let blank = match examined.front {
                 Front::Whole(request, end) => {
                     self.at = end;
                     self.given = number;
+                    self.stage = Stage::Head(HeadScan::start());
                     return Next::Request(request);
                 }
                 Front::Fault(fault) => return Next::Bad(fault),

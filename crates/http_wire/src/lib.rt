@@ -14,6 +14,7 @@ mod answer;
 mod head;
 mod intake;
 mod request;
+mod scan;
 mod served;
 
 ghost use Rattle.std.specs.Prelude.{◌≡◌, ℕ, List};

@@ -92,12 +92,7 @@ fn check<R: AllocGlobal + Abort>(
 ) -> Result<(), Fail> {
     let bytes = stream.bytes(rt.alloc())?;
     let front = stream.front;
-    let sizes = if bytes.len() < 1_000 {
-        [1, 2, 3, 7, 1_000]
-    } else {
-        [7, 100, 999, 16_384, 300_000]
-    };
-    for size in sizes {
+    for size in [1, 2, 3, 7, 1_000_000] {
         let mut intake = Intake::start(rt.alloc())?;
         let mut source = Pieces {
             left: bytes.as_slice(),

@@ -1,5 +1,6 @@
 use Rattle.std.proofs.Common.{◌≡◌, ℕ, ◌+◌, ◌-◌, ◌≤◌, List, ◌++◌, length, take}
 use Rattle.rail_io.specs.Told.{with_front}
+use Rattle.http_wire.specs.Stages.{IsStage}
 use Rattle.http_wire.proofs.intake.Intake.next_request.Given as goal
 
 -- what is held is what was held, and what was pulled since
@@ -12,6 +13,7 @@ invariant-reads g l = record {
   within : l.self-inside.filled ≤ 278528;
   room : length l.self-inside.memory.items ≡ 278528;
   number : l.number ≡ l.fn.self.given + 1;
+  stage : IsStage l.number (take l.self-inside.filled l.self-inside.memory.items) l.self-inside.stage;
   given : l.self-inside.given ≡ l.fn.self.given;
   faults : g.S.Source.faults l.fn.source ≤ g.S.Source.faults l.source;
   steady : g.S.Source.faults l.source ≤ g.S.Source.faults l.fn.source;
