@@ -1,0 +1,54 @@
+ghost use Rattle.std.specs.Prelude.{◌≡◌};
+
+use arrayvec::ArrayVec;
+use offer_codes::Segment;
+use rail_ids::StationNo;
+use rail_time::Moment;
+use std::marker::Model;
+
+/// From where to where a retailer wishes to go, and the window of the first departure, with both its ends.
+#[derive(Debug, Clone, Copy, PartialEq, Eq)]
+pub struct TripWish {
+    pub origin: StationNo,
+    pub destination: StationNo,
+    pub earliest: Moment,
+    pub latest: Moment,
+}
+
+/// One to three segments, in the order of travel. Contracts see their list.
+#[derive(Drop)]
+pub struct Trip {
+    segments: ArrayVec<Segment, 3>,
+}
+
+impl Model for Trip {
+    ghost use Rattle.std.specs.Prelude.{List};
+    ghost use Rattle.offer_codes.specs.declared.code.Segment.{Segment};
+
+    ghost Value = { List Segment };
+
+    ghost view = { λ t. t.segments.items };
+}
+
+impl Trip {
+    // The trip of these segments.
+    pub(crate) fn of(segments: ArrayVec<Segment, 3>) -> Trip
+        ensures value { result ≡ segments.items }
+    {
+        Trip { segments }
+    }
+
+    /// The segments, in the order of travel.
+    pub fn segments(&self) -> &[Segment]
+        ensures value { result.now ≡ self.now }
+    {
+        self.segments.as_slice()
+    }
+
+    /// The segments as they are kept.
+    pub fn into_segments(self) -> ArrayVec<Segment, 3>
+        ensures value { result.items ≡ self }
+    {
+        self.segments
+    }
+}
