@@ -1,4 +1,4 @@
-ghost use Rattle.std.specs.Prelude.{◌≡◌};
+ghost use Rattle.std.specs.Prelude.{◌≡◌, ◌≤◌, length};
 
 use arrayvec::ArrayVec;
 use offer_codes::Segment;
@@ -22,25 +22,33 @@ pub struct Trip {
 }
 
 impl Model for Trip {
-    ghost use Rattle.std.specs.Prelude.{List};
+    ghost use Rattle.std.specs.Prelude.{◌≤◌, List, length};
     ghost use Rattle.offer_codes.specs.declared.code.Segment.{Segment};
 
     ghost Value = { List Segment };
 
     ghost view = { λ t. t.segments.items };
+
+    ghost invariant = { λ t. 1 ≤ length t.segments.items };
 }
 
 impl Trip {
     // The trip of these segments.
-    pub(crate) fn of(segments: ArrayVec<Segment, 3>) -> Trip
-        ensures value { result ≡ segments.items }
+    pub(crate) fn of(segments: &[Segment]) -> Trip
+        requires some { 1 ≤ length segments.now }
+        requires few { length segments.now ≤ 3 }
+        ensures value { result ≡ segments.now }
     {
-        Trip { segments }
+        let mut found = ArrayVec::new();
+        let _copied = found.try_extend_from_slice(segments);
+        Trip { segments: found }
     }
 
     /// The segments, in the order of travel.
     pub fn segments(&self) -> &[Segment]
         ensures value { result.now ≡ self.now }
+        ensures some { 1 ≤ length self.now }
+        ensures few { length self.now ≤ 3 }
     {
         self.segments.as_slice()
     }
@@ -48,6 +56,7 @@ impl Trip {
     /// The segments as they are kept.
     pub fn into_segments(self) -> ArrayVec<Segment, 3>
         ensures value { result.items ≡ self }
+        ensures some { 1 ≤ length self }
     {
         self.segments
     }

@@ -1,0 +1,5 @@
+pub mod Ordering
+pub mod Walking
+pub mod Pruning
+pub mod Rising
+pub mod Searching

@@ -1,0 +1,4 @@
+pub mod Segments
+pub mod Order
+pub mod Trips
+pub mod Search
