@@ -4,8 +4,10 @@ use Rattle.std.specs.BTreeMap.{get_by_text}
 use Rattle.rail_io.specs.declared.memory_source.BytesSource.{BytesSource}
 use Rattle.rail_io.specs.declared.memory_sink.VecSink.{VecSink}
 use Rattle.rail_io.specs.declared.memory_shelf.MapShelf.{MapShelf}
+use Rattle.rail_io.specs.declared.file_shelf.FileShelf.{FileShelf}
 use Rattle.rail_io.specs.declared.standard.ReaderSource.{ReaderSource}
 use Rattle.rail_io.specs.declared.standard.WriterSink.{WriterSink}
+use Rattle.rail_io.specs.declared.system_clock.SystemClock.{SystemClock}
 
 -- one call more, of a count that stands still at its last value
 abbrev pub IsOneCallMore : ℕ → ℕ → Type 0
@@ -64,3 +66,12 @@ reader_faults s = s.faults
 
 abbrev pub writer_faults : {W : Type 0} → WriterSink W → ℕ
 writer_faults s = s.faults
+
+abbrev pub file_faults : {F X Y : Type 0} → FileShelf F X Y → ℕ
+file_faults s = s.faults
+
+abbrev pub file_misses : {F X Y : Type 0} → FileShelf F X Y → ℕ
+file_misses s = s.misses
+
+abbrev pub clock_faults : {C : Type 0} → SystemClock C → ℕ
+clock_faults c = c.faults

@@ -1,14 +1,18 @@
-//! The outside of the program as traits: where bytes come from, where they go, and files by name.
+//! The outside of the program as traits: where bytes come from, where they go, files by name, and moments.
 //!
 //! Each trait says what an object holds, where the object tells it, and counts its failures. A call
 //! answers `Failed` only where that count rose in it. The program above speaks of the outside by
 //! these traits alone, so that what it promises holds over a socket as over memory.
 //!
 //! `BytesSource`, `VecSink` and `MapShelf` hold their bytes in memory and tell them; each has a list
-//! of the calls that are to fail. `ReaderSource` and `WriterSink` stand before a reader and a writer
-//! of std, as standard input and output, and tell nothing.
+//! of the calls that are to fail. `ScriptClock` and `ListClock` tell their readings. `ReaderSource` and
+//! `WriterSink` stand before a reader and a writer of std, as standard input and output, `FileShelf`
+//! before the system's files and `SystemClock` before its clock; they tell nothing.
 #![tactic(auto)]
 
+mod clock;
+mod file_shelf;
+mod memory_clock;
 mod memory_shelf;
 mod memory_sink;
 mod memory_source;
@@ -16,7 +20,11 @@ mod shelf;
 mod sink;
 mod source;
 mod standard;
+mod system_clock;
 
+pub use clock::Clock;
+pub use file_shelf::FileShelf;
+pub use memory_clock::{ListClock, ScriptClock};
 pub use memory_shelf::MapShelf;
 pub use memory_sink::VecSink;
 pub use memory_source::BytesSource;
@@ -24,6 +32,7 @@ pub use shelf::{Fetched, Shelf};
 pub use sink::{Pushed, Sink};
 pub use source::{Pulled, Source};
 pub use standard::{ReaderSource, WriterSink};
+pub use system_clock::SystemClock;
 
 #[cfg(test)]
 mod tests;

@@ -2,12 +2,14 @@
 ghost use Rattle.std.specs.Prelude.{◌≤◌, IfOk};
 
 use crate::{
-    BytesSource, Fetched, MapShelf, Pulled, Pushed, ReaderSource, Shelf, Sink, Source, VecSink,
-    WriterSink,
+    BytesSource, Clock, Fetched, FileShelf, ListClock, MapShelf, Pulled, Pushed, ReaderSource,
+    ScriptClock, Shelf, Sink, Source, SystemClock, VecSink, WriterSink,
 };
-use std::io;
+use rail_time::Moment;
 use std::io::{ErrorKind, Read, Write};
+use std::process::Abort;
 use std::test::Fail;
+use std::{fs, io};
 
 #[test]
 fn bytes_source_reads_and_fails_as_listed(rt: HostRuntime) -> Result<(), Fail> {
@@ -187,4 +189,53 @@ fn writer_sink_retries_interrupts(rt: HostRuntime) {
     assert_eq!(rt; output.write(b"out\n"), Pushed::Took(4));
     let mut errors = WriterSink::new(rt.stderr());
     assert_eq!(rt; errors.write(b"err\n"), Pushed::Took(4));
+}
+
+fn at(rt: &impl Abort, seconds: u64) -> Moment {
+    Moment::of(seconds).expect(rt, "a moment")
+}
+
+#[test]
+fn script_clock_goes_up_to_the_last_moment(rt: HostRuntime) {
+    let mut clock = ScriptClock {
+        next: at(&rt, 4_102_444_700),
+        tick: 60,
+    };
+    for want in [4_102_444_700, 4_102_444_760, 4_102_444_799, 4_102_444_799] {
+        assert_eq!(rt; clock.now().seconds(), want);
+    }
+}
+
+#[test]
+fn list_clock_repeats_its_last_reading(rt: HostRuntime) -> Result<(), Fail> {
+    let mut clock = ListClock::new(vec![in rt.alloc(); at(&rt, 5), at(&rt, 3)]?);
+    for want in [5, 3, 3, 3] {
+        assert_eq!(rt; clock.now().seconds(), want);
+    }
+    Ok(())
+}
+
+#[test]
+fn system_clock_reads_a_moment_of_this_century(rt: HostRuntime) {
+    let mut clock = SystemClock::new(&rt);
+    let reading = clock.now().seconds();
+    assert!(rt; reading > 1_700_000_000);
+    assert_eq!(rt; clock.faults(), 0);
+}
+
+#[test]
+fn file_shelf_fetches_files(rt: HostRuntime) -> Result<(), Fail> {
+    let alloc = rt.alloc();
+    fs::write(&rt, "shelf.txt", "again")?;
+    let mut shelf = FileShelf::new(&rt);
+    let whole = shelf.fetch(alloc, "shelf.txt", 5);
+    assert!(rt; is_content(&whole, b"again"));
+    let too_large = shelf.fetch(alloc, "shelf.txt", 4);
+    assert!(rt; matches!(&too_large, Fetched::TooLarge));
+    let missing = shelf.fetch(alloc, "no_shelf.txt", 5);
+    assert!(rt; matches!(&missing, Fetched::Missing));
+    let failed = shelf.fetch(alloc, ".", 5);
+    assert!(rt; matches!(&failed, Fetched::Failed));
+    fs::remove_file(&rt, "shelf.txt")?;
+    Ok(())
 }

@@ -6,7 +6,7 @@ use std::alloc::Global;
 use std::process::Abort;
 use std::test::Fail;
 
-const T0600: u64 = 1_780_293_600;
+const AT_SIX: u64 = 1_780_293_600;
 
 // stops at these stations, each reached and left at these seconds after six
 fn stops(rt: &impl Abort, alloc: Global, times: &[(u32, u32, u32)]) -> Result<Vec<Stop>, Fail> {
@@ -14,8 +14,8 @@ fn stops(rt: &impl Abort, alloc: Global, times: &[(u32, u32, u32)]) -> Result<Ve
     for (station, arrive, depart) in times {
         found.push(Stop {
             station: StationNo(*station),
-            arrive: Moment::of(T0600 + u64::from(*arrive)).expect(rt, "a moment"),
-            depart: Moment::of(T0600 + u64::from(*depart)).expect(rt, "a moment"),
+            arrive: Moment::of(AT_SIX + u64::from(*arrive)).expect(rt, "a moment"),
+            depart: Moment::of(AT_SIX + u64::from(*depart)).expect(rt, "a moment"),
         })?;
     }
     Ok(found)

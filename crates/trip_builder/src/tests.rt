@@ -6,7 +6,7 @@ use std::process::Abort;
 use std::test::Fail;
 use train_runs::{Run, Runs, Stop};
 
-const T0600: u64 = 1_780_293_600;
+const AT_SIX: u64 = 1_780_293_600;
 
 const CODES: [&str; 10] = ["A", "B", "C", "D", "E", "F", "G", "H", "I", "J"];
 
@@ -20,7 +20,7 @@ fn stations(rt: &impl Abort, alloc: Global, changes: &[u32]) -> Result<Runs, Fai
 }
 
 fn moment(rt: &impl Abort, seconds: u32) -> Moment {
-    Moment::of(T0600 + u64::from(seconds)).expect(rt, "a moment")
+    Moment::of(AT_SIX + u64::from(seconds)).expect(rt, "a moment")
 }
 
 // a run that stops at these stations, each reached and left at these seconds after six

@@ -1,0 +1,14 @@
+-- The readings of clocks that tell them.
+use Rattle.std.specs.Prelude.{ℕ, zero, suc, ◌+◌, ◌*◌, min, List, [], ◌∷◌}
+use Rattle.rail_time.specs.Moments.{last_second}
+
+-- the i-th reading from the next one on: each is the tick later, and none is after the last moment
+abbrev pub script_reading : ℕ → ℕ → ℕ → ℕ
+script_reading next tick i = min (next + i * tick) last_second
+
+-- the i-th of the listed readings, of which the last is repeated
+abbrev pub listed_reading : List ℕ → ℕ → ℕ
+listed_reading [] i = 0
+listed_reading (m ∷ []) i = m
+listed_reading (m ∷ n ∷ rest) zero = m
+listed_reading (m ∷ n ∷ rest) (suc i) = listed_reading (n ∷ rest) i

@@ -1,0 +1,67 @@
+// The files of the system as a shelf. It tells no content.
+ghost use Rattle.std.specs.Prelude.{None};
+
+use crate::{Fetched, Shelf};
+use std::alloc::Global;
+use std::io::{ErrorKind, Read};
+use std::{fs, io};
+
+/// The system's files, by their paths.
+#[derive(Drop)]
+pub struct FileShelf<F: fs::Files + Drop> {
+    files: F,
+    faults: u64,
+    misses: u64,
+}
+
+impl<F: fs::Files + Drop> FileShelf<F> {
+    ghost use Rattle.std.specs.Prelude.{◌≡◌};
+    ghost use Rattle.rail_io.specs.Memory.{file_faults, file_misses};
+
+    /// A shelf of these files, that hasn't failed or missed a file.
+    pub fn new(files: F) -> Self
+        ensures faults { file_faults result ≡ 0 }
+        ensures misses { file_misses result ≡ 0 }
+    {
+        FileShelf {
+            files,
+            faults: 0,
+            misses: 0,
+        }
+    }
+}
+
+// The content of a file, or its first bytes, one more than there is room for.
+fn read_file<F: fs::Files>(files: &F, alloc: Global, name: &str, room: u32) -> io::Result<Vec<u8>> {
+    let file = fs::open(files, name)?;
+    let mut content = Vec::new(alloc);
+    file.take(u64::from(room) + 1).read_to_end(&mut content)?;
+    Ok(content)
+}
+
+impl<F: fs::Files + Drop> Shelf for FileShelf<F> {
+    ghost told = { λ _. None };
+
+    ghost faults = { λ s. s.faults };
+
+    ghost misses = { λ s. s.misses };
+
+    fn fetch(&mut self, alloc: Global, name: &str, room: u32) -> Fetched {
+        match read_file(&self.files, alloc, name, room) {
+            Ok(content) if content.len() <= room as usize => Fetched::Got(content),
+            Ok(_) => {
+                self.misses = self.misses.saturating_add(1);
+                Fetched::TooLarge
+            }
+            Err(error) if error.kind() == ErrorKind::NotFound => {
+                self.misses = self.misses.saturating_add(1);
+                Fetched::Missing
+            }
+            Err(error) if error.kind() == ErrorKind::OutOfMemory => Fetched::NoMemory,
+            Err(_) => {
+                self.faults = self.faults.saturating_add(1);
+                Fetched::Failed
+            }
+        }
+    }
+}
