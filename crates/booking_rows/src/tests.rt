@@ -11,7 +11,7 @@ use history_model::phase::Phase;
 use leg_masks::{Span, free_on};
 use rail_ids::{PlaceNo, RetailerNo, RowNo};
 use rail_time::Moment;
-use seat_words::{Take, glance, try_take};
+use seat_words::{Take, glance, try_take, undo_last};
 use std::alloc::{AllocError, Global};
 use std::process::Abort;
 use std::test::Fail;
@@ -194,5 +194,121 @@ fn first_turn_decides(rt: HostRuntime) -> Result<(), Fail> {
         confirm_first(&rt, &books, &mut first, row),
         Some(Phase::Confirmed)
     );
+    Ok(())
+}
+
+// Tries to take legs of place 0, where the word expected is free on them.
+fn try_on(
+    rt: &impl Abort,
+    books: &Books,
+    desk: &mut Desk,
+    hold: &mut Hold,
+    span: Span,
+    expected: u64,
+) -> Take
+    requires own { IsOf books.now desk.old }
+    requires hold { IsHolding desk.old hold.old }
+    requires place { (0 < length books.now.layout.legs) × (span.to ≤ slice_index books.now.layout.legs 0) }
+    ensures own { IsOf books.now desk.new }
+    ensures hold { IsHolding desk.new hold.new }
+    ensures number { desk.new.number ≡ desk.old.number }
+    ensures endings { KeepsEndings desk.old desk.new }
+{
+    assert!(rt; free_on(expected, span));
+    assert!(rt; hold.items().len() < 24);
+    try_take(books, desk, hold, PlaceNo(0), span, expected)
+}
+
+// The second desk takes legs between the first one's look at the place and its try, which is told the word that it finds.
+fn contend(
+    rt: &impl Abort,
+    books: &Books,
+    first: &mut Desk,
+    one: &mut Hold,
+    second: &mut Desk,
+    two: &mut Hold,
+)
+    requires own { IsOf books.now first.old × IsOf books.now second.old }
+    requires holds { IsHolding first.old one.old × IsHolding second.old two.old }
+    requires place { (0 < length books.now.layout.legs) × (2 ≤ slice_index books.now.layout.legs 0) }
+    ensures own { IsOf books.now first.new × IsOf books.now second.new }
+    ensures holds { IsHolding first.new one.new × IsHolding second.new two.new }
+    ensures one { (length one.new.items ≡ 1) × (length two.new.items ≡ 1) }
+    ensures number { second.new.number ≡ second.old.number }
+    ensures endings { KeepsEndings first.old first.new × KeepsEndings second.old second.new }
+{
+    let front = span(rt, 0, 1);
+    let back = span(rt, 1, 2);
+    let word = glance(books, first, PlaceNo(0));
+    assert_eq!(rt; word, 0);
+    let other = try_on(rt, books, second, two, back, 0);
+    assert_eq!(rt; other, Take::Won);
+    let missed = try_on(rt, books, first, one, front, 0);
+    assert_eq!(rt; missed, Take::Moving { shown: 2 });
+    let again = try_on(rt, books, first, one, front, 2);
+    assert_eq!(rt; again, Take::Won);
+    assert!(rt; one.items().len() == 1);
+    assert!(rt; two.items().len() == 1);
+}
+
+// Gives the one item of a hold back, and keeps the row.
+fn undo_and_keep(books: &Books, desk: &mut Desk, mut hold: Hold)
+    requires own { IsOf books.now desk.old }
+    requires hold { IsHolding desk.old hold }
+    requires one { length hold.items ≡ 1 }
+    ensures own { IsOf books.now desk.new }
+    ensures none { HoldsNone desk.new }
+    ensures number { desk.new.number ≡ desk.old.number }
+    ensures endings { KeepsEndings desk.old desk.new }
+{
+    undo_last(books, desk, &mut hold);
+    keep_row(desk, hold);
+}
+
+// A hold on the first free row.
+fn start(rt: &impl Abort, books: &Books, desk: &mut Desk) -> Hold
+    requires own { IsOf books.now desk.old }
+    requires none { HoldsNone desk.old }
+    ensures own { IsOf books.now desk.new }
+    ensures hold { IsHolding desk.new result }
+    ensures number { desk.new.number ≡ desk.old.number }
+    ensures endings { KeepsEndings desk.old desk.new }
+{
+    start_hold(books, desk).expect(rt, "a row")
+}
+
+/// A try on a word that moved on names the word found, and the next try on that word is won. What is undone leaves no leg taken, and the
+/// rows stay in the making.
+#[test]
+fn undone_beside_another_desk(rt: HostRuntime) -> Result<(), Fail> {
+    let (books, mut first, mut second) = two_desks(rt.alloc())?;
+    let mut one = start(&rt, &books, &mut first);
+    let mut two = start(&rt, &books, &mut second);
+    contend(&rt, &books, &mut first, &mut one, &mut second, &mut two);
+    undo_and_keep(&books, &mut first, one);
+    undo_and_keep(&books, &mut second, two);
+    books.meet(&mut first, second);
+    let wall = books.finish(first);
+    assert_eq!(rt; wall.place_word(PlaceNo(0)), Some(0));
+    assert_eq!(rt; wall.row_word(RowNo(0), 0), Some(1));
+    assert_eq!(rt; wall.row_word(RowNo(1), 0), Some(1));
+    Ok(())
+}
+
+/// Two desks hold legs of one place, and both seal.
+#[test]
+fn two_desks_on_one_place(rt: HostRuntime) -> Result<(), Fail> {
+    let (books, mut first, mut second) = two_desks(rt.alloc())?;
+    let mut one = start(&rt, &books, &mut first);
+    let mut two = start(&rt, &books, &mut second);
+    contend(&rt, &books, &mut first, &mut one, &mut second, &mut two);
+    let limit = moment(&rt, 900);
+    close_hold(&books, &mut first, one, limit);
+    close_hold(&books, &mut second, two, limit);
+    books.meet(&mut first, second);
+    let wall = books.finish(first);
+    assert_eq!(rt; wall.place_word(PlaceNo(0)), Some(3));
+    assert_eq!(rt; wall.row_word(RowNo(0), 0), Some(2));
+    assert_eq!(rt; wall.row_word(RowNo(1), 0), Some(2));
     Ok(())
 }

@@ -1,5 +1,5 @@
-use Rattle.std.proofs.Common.{◌≡◌, ℕ, List, [], ◌∷◌, length, refl, arith, ◌∙◌}
-use Rattle.leg_masks.specs.Interval.{item_word, PlacedSpan as Item}
+use Rattle.std.proofs.Common.{◌≡◌, List, [], ◌∷◌, length, refl, arith, ◌∙◌}
+use Rattle.leg_masks.specs.Interval.{PlacedSpan as Item}
 use Rattle.history_model.proofs.Owners.{on_row}
 use Rattle.claim_rule.specs.Rule.{DeskView, state_seen}
 use Rattle.claim_rule.specs.Holds.{HoldView}

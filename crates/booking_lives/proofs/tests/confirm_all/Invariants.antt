@@ -1,0 +1,5 @@
+use Rattle.claim_rule.specs.Seats.{IsOf}
+use Rattle.booking_lives.proofs.tests.confirm_all.Given as goal
+
+abbrev pub invariant-loop-row : goal.invariant-loop-row
+invariant-loop-row l = record { own : IsOf l.books l.member.desk }

@@ -1,0 +1,13 @@
+use Rattle.std.proofs.Common.{◌∙◌}
+use Rattle.claim_rule.proofs.Out.{endings_then}
+use Rattle.booking_lives.proofs.tests.prebooked.Goals as goal
+
+pub returns-clause-endings : goal.returns-clause-endings
+returns-clause-endings g c =
+    endings_then c.args.desk.now c.start_hold.new.desk c.seal.new.desk c.start_hold.ensures.endings
+    (endings_then c.start_hold.new.desk c.add_places-added.new.desk c.seal.new.desk c.add_places-added.ensures.endings
+    (endings_then c.add_places-added.new.desk c.note_detail.new.desk c.seal.new.desk c.note_detail.ensures.endings c.seal.ensures.endings))
+
+pub returns-clause-number : goal.returns-clause-number
+returns-clause-number g c =
+    c.seal.ensures.entries.same.2 ∙ (c.note_detail.ensures.entries.same.2 ∙ (c.add_places-added.ensures.entries.1.2.same.2 ∙ c.start_hold.ensures.entries.2.same.2))

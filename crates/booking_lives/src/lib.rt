@@ -1,0 +1,5 @@
+//! Tests of a booking's life, over the crates that decide it: held, sealed, confirmed, collected, released, expired.
+#![tactic(auto)]
+
+#[cfg(test)]
+mod tests;

@@ -1,0 +1,288 @@
+ghost use Rattle.std.specs.Prelude.{◌≡◌, ◌<◌, length, slice_index, ◌≤◌, All, IfOk, replicate};
+ghost use Rattle.claim_rule.specs.Seats.{IsOf};
+ghost use Rattle.claim_rule.specs.Out.{HoldsNone, EndsNone, IsIdle, KeepsEndings};
+
+use booking_rows::{Detail, Sealed, look_row, note_detail, seal, start_hold};
+use claim_rule::{Books, Desk, start_books};
+use confirm_core::{Confirmed, Fulfilment, confirm, fulfil};
+use expiry_sweeper::{Swept, sweep};
+use history_model::phase::{EndKind, Phase};
+use hold_core::{Added, abandon, add_places};
+use leg_masks::Span;
+use rail_ids::{PlaceNo, RetailerNo, RowNo};
+use rail_time::Moment;
+use refund_core::{Released, release};
+use seat_words::glance;
+use std::alloc::{AllocError, Global};
+use std::process::Abort;
+use std::test::Fail;
+use std::thread;
+use std::thread::Threads;
+
+const RETAILER: RetailerNo = RetailerNo(7);
+
+fn at(rt: &impl Abort, seconds: u64) -> Moment {
+    Moment::of(seconds).expect(rt, "a moment")
+}
+
+// A prebooked booking of leg 0 of a place, to be confirmed by 900.
+fn prebooked(rt: &impl Abort, books: &Books, desk: &mut Desk, place: PlaceNo) -> RowNo
+    requires own { IsOf books.now desk.old }
+    requires none { HoldsNone desk.old }
+    requires place { place.0 < length books.now.layout.legs }
+    requires legs { 1 ≤ slice_index books.now.layout.legs place.0 }
+    ensures own { IsOf books.now desk.new }
+    ensures none { HoldsNone desk.new }
+    ensures number { desk.new.number ≡ desk.old.number }
+    ensures endings { KeepsEndings desk.old desk.new }
+{
+    let mut hold = start_hold(books, desk).expect(rt, "a row");
+    let span = Span::new(0, 1).expect(rt, "a span");
+    let places = [place];
+    let added = add_places(books, desk, &mut hold, places.as_slice(), span, 1);
+    assert!(rt; added == Added::All);
+    let count = hold.items().len();
+    assert!(rt; count >= 1);
+    let detail = Detail {
+        retailer: RETAILER,
+        limit: at(rt, 900),
+        total: 100,
+    };
+    note_detail(books, desk, &mut hold, detail);
+    seal(books, desk, hold, Sealed::Prebooked)
+}
+
+#[test]
+fn confirmed_up_to_the_limit(rt: HostRuntime) -> Result<(), Fail> {
+    let alloc = rt.alloc();
+    let (books, mut desk) = start_books(alloc, [1, 1, 1].as_slice(), 4)?;
+    let first = prebooked(&rt, &books, &mut desk, PlaceNo(0));
+    let second = prebooked(&rt, &books, &mut desk, PlaceNo(1));
+    assert_eq!(rt;
+        fulfil(&books, &mut desk, first, RETAILER),
+        Fulfilment::WrongState {
+            shown: Phase::Prebooked,
+        }
+    );
+    assert_eq!(rt;
+        confirm(&books, &mut desk, first, RETAILER, at(&rt, 900)),
+        Confirmed::Done
+    );
+    assert_eq!(rt;
+        confirm(&books, &mut desk, second, RETAILER, at(&rt, 901)),
+        Confirmed::TooLate {
+            limit: at(&rt, 900)
+        }
+    );
+    assert_eq!(rt;
+        confirm(&books, &mut desk, second, RetailerNo(8), at(&rt, 0)),
+        Confirmed::Unknown
+    );
+    assert_eq!(rt;
+        confirm(&books, &mut desk, RowNo(262_144), RETAILER, at(&rt, 0)),
+        Confirmed::Unknown
+    );
+    assert_eq!(rt;
+        fulfil(&books, &mut desk, first, RETAILER),
+        Fulfilment::Done
+    );
+    Ok(())
+}
+
+#[test]
+fn expired_after_the_limit(rt: HostRuntime) -> Result<(), Fail> {
+    let alloc = rt.alloc();
+    let (books, mut desk) = start_books(alloc, [1, 1].as_slice(), 4)?;
+    let first = prebooked(&rt, &books, &mut desk, PlaceNo(0));
+    let waiting = sweep(&books, &mut desk, at(&rt, 900));
+    assert_eq!(rt;
+        waiting,
+        Swept {
+            expired: 0,
+            lost: 0,
+            waiting: 1,
+        }
+    );
+    let expired = sweep(&books, &mut desk, at(&rt, 901));
+    assert_eq!(rt;
+        expired,
+        Swept {
+            expired: 1,
+            lost: 0,
+            waiting: 0,
+        }
+    );
+    let shown = Phase::Ended(EndKind::Expire);
+    let late = confirm(&books, &mut desk, first, RETAILER, at(&rt, 0));
+    assert_eq!(rt; late, Confirmed::WrongState { shown });
+    let second = prebooked(&rt, &books, &mut desk, PlaceNo(0));
+    assert_eq!(rt;
+        release(&books, &mut desk, second, RETAILER, at(&rt, 5000)),
+        Released::Done
+    );
+    Ok(())
+}
+
+// New books of a thousand places of one leg, and as many rows.
+fn thousand(alloc: Global) -> Result<(Books, Desk), AllocError>
+    ensures own { IfOk result (λ t. IsOf t.0 t.1) }
+    ensures idle { IfOk result (λ t. IsIdle t.1) }
+    ensures first { IfOk result (λ t. t.1.number ≡ 0) }
+    ensures legs { IfOk result (λ t. t.0.layout.legs ≡ replicate 1000 1) }
+    ensures rows { IfOk result (λ t. t.0.layout.rows ≡ 1000) }
+{
+    let legs = Vec::from_elem(alloc, 1u8, 1000)?;
+    let (books, desk) = start_books(alloc, legs.as_slice(), 1000)?;
+    Ok((books, desk))
+}
+
+// Prebooks each of a thousand places, in the row of its number. A search for a row has at most as many entries as it moves on the first
+// row that isn't known to be taken, so each of these has one.
+fn book_all(rt: &impl Abort, books: &Books, desk: &mut Desk)
+    requires own { IsOf books.now desk.old }
+    requires none { HoldsNone desk.old }
+    requires legs { books.now.layout.legs ≡ replicate 1000 1 }
+    ensures own { IsOf books.now desk.new }
+    ensures none { HoldsNone desk.new }
+    ensures number { desk.new.number ≡ desk.old.number }
+{
+    for place in 0..1000 {
+        assert_eq!(rt; desk.past(), RowNo(place));
+        assert_eq!(rt; prebooked(rt, books, desk, PlaceNo(place)), RowNo(place));
+        assert_eq!(rt; desk.past(), RowNo(place + 1));
+    }
+}
+
+// A desk, and how many rows it decided.
+#[derive(Drop)]
+struct Member {
+    desk: Desk,
+    decided: u32,
+}
+
+// Confirms each row that it can.
+fn confirm_all(books: &Books, member: &mut Member, now: Moment)
+    requires own { IsOf books.now member.old.desk }
+{
+    for row in 0..books.rows() {
+        if let Confirmed::Done = confirm(books, &mut member.desk, RowNo(row), RETAILER, now) {
+            member.decided = member.decided.saturating_add(1);
+        }
+    }
+}
+
+// Expires each row that it can.
+fn sweep_all(books: &Books, member: &mut Member, now: Moment)
+    requires own { IsOf books.now member.old.desk }
+    requires none { EndsNone member.old.desk }
+{
+    let swept = sweep(books, &mut member.desk, now);
+    member.decided = swept.expired;
+}
+
+// The first member confirms and the second one sweeps, at the same time.
+fn play<R: Threads + Sync>(
+    rt: &R,
+    books: &Books,
+    members: &mut [Member],
+    early: Moment,
+    late: Moment,
+)
+    requires own { All (λ m. IsOf books.now m.desk × EndsNone m.desk) members.old }
+{
+    thread::for_each_mut(
+        rt,
+        members,
+        2,
+        &|i: usize, member: &mut Member|
+            requires { IsOf books.now member.old.desk × EndsNone member.old.desk }
+        {
+            if i == 0 {
+                confirm_all(books, member, early);
+            } else {
+                sweep_all(books, member, late);
+            }
+        },
+    );
+}
+
+/// Of a confirmation and an expiry of each of a thousand rows one is won, and a place is free exactly where its row has expired.
+#[test]
+fn one_confirms_and_one_sweeps(rt: HostRuntime) -> Result<(), Fail> {
+    let (books, mut desk) = thousand(rt.alloc())?;
+    book_all(&rt, &books, &mut desk);
+    let confirming = books.part(&mut desk);
+    let sweeping = books.part(&mut desk);
+    let mut members = [
+        Member {
+            desk: confirming,
+            decided: 0,
+        },
+        Member {
+            desk: sweeping,
+            decided: 0,
+        },
+    ];
+    play(
+        &rt,
+        &books,
+        members.as_mut_slice(),
+        at(&rt, 900),
+        at(&rt, 901),
+    );
+    let won = members[0].decided;
+    let expired = members[1].decided;
+    assert_eq!(rt; u64::from(won) + u64::from(expired), 1000);
+    assert_eq!(rt; count_confirmed(&rt, &books, &mut desk), won);
+    Ok(())
+}
+
+// How many rows are confirmed. Each other one has expired, and its place alone is free.
+fn count_confirmed(rt: &impl Abort, books: &Books, desk: &mut Desk) -> u32
+    requires own { IsOf books.now desk.old }
+    requires legs { books.now.layout.legs ≡ replicate 1000 1 }
+    requires rows { books.now.layout.rows ≡ 1000 }
+{
+    let mut confirmed: u32 = 0;
+    for row in 0..1000 {
+        let word = glance(books, desk, PlaceNo(row));
+        let phase = match look_row(books, desk, RowNo(row)) {
+            Some(view) => view.phase,
+            None => Phase::Free,
+        };
+        if phase == Phase::Confirmed {
+            confirmed = confirmed.saturating_add(1);
+            assert_eq!(rt; word, 1);
+        } else {
+            assert_eq!(rt; phase, Phase::Ended(EndKind::Expire));
+            assert_eq!(rt; word, 0);
+        }
+    }
+    confirmed
+}
+
+// Finds no free row among a thousand, and knows them all to be taken.
+fn finds_none(rt: &impl Abort, books: &Books, desk: &mut Desk)
+    requires own { IsOf books.now desk.old }
+    requires none { HoldsNone desk.old }
+    ensures own { IsOf books.now desk.new }
+    ensures none { HoldsNone desk.new }
+{
+    if let Some(hold) = start_hold(books, desk) {
+        abandon(books, desk, hold);
+        panic!(rt; "all rows are taken");
+    }
+    assert_eq!(rt; desk.past(), RowNo(1000));
+}
+
+/// A desk that knows of no row looks at each of a thousand once, and then at none.
+#[test]
+fn searches_each_row_once(rt: HostRuntime) -> Result<(), Fail> {
+    let (books, mut desk) = thousand(rt.alloc())?;
+    let mut late = books.part(&mut desk);
+    book_all(&rt, &books, &mut desk);
+    assert_eq!(rt; late.past(), RowNo(0));
+    finds_none(&rt, &books, &mut late);
+    finds_none(&rt, &books, &mut late);
+    Ok(())
+}
