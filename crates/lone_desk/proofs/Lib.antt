@@ -1,0 +1,6 @@
+pub mod Following
+pub mod Looking
+pub mod Starting
+pub mod OwnRow
+pub mod Clear
+pub mod Finding

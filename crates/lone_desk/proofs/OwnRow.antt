@@ -1,0 +1,90 @@
+-- The row that a lone desk makes is the last of the list, and its steps there leave the others as they are.
+use Rattle.std.proofs.Common.{◌≡◌, ℕ, zero, suc, ◌+◌, Bool, true, false, cond, eq-eqb, List, [], ◌∷◌, ◌++◌, length, refl, sym, ap, ◌∙◌, subst}
+use Rattle.std.specs.Prelude.{◌==◌}
+use Rattle.std.specs.List.{AllByRecursion}
+use Rattle.std.proofs.lemmas.Bool.Decides.{Decides-eqb}
+use Rattle.leg_masks.specs.Interval.{Interval}
+use Rattle.history_model.specs.declared.entry.Step.{Step}
+use Rattle.history_model.specs.declared.entry.Step.TheVariants.{Look, Take, Give, Start, SawRow, Note, Seal, Turn, LostTurn, Close, Met}
+use Rattle.history_model.specs.Apply.{apply_step, taken, given, noted, in_phase}
+use Rattle.history_model.specs.Booking.{Booking, State, change}
+use Rattle.history_model.proofs.ListLemmas.{All-append}
+use Rattle.hold_core.specs.declared.tries.Outcome.{Outcome}
+use Rattle.hold_core.specs.declared.tries.Outcome.TheVariants.{Won, Refused, Contended}
+use Rattle.hold_core.specs.Tries.{Try, looks_at, won_steps}
+use Rattle.hold_core.specs.Places.{tries_steps, gives_back, won_by}
+use Rattle.lone_desk.specs.Lone.{is_at, after_steps}
+
+-- the row is none of these bookings'
+abbrev pub IsApart : ℕ → State → Type 0
+IsApart row s = AllByRecursion (λ b. (b.row == row) ≡ false) s
+
+-- the steps are of the row, or look
+abbrev pub AllAt : ℕ → List Step → Type 0
+AllAt row steps = AllByRecursion (λ st. is_at row st ≡ true) steps
+
+pub change_last : (front : State) (b : Booking) (row : ℕ) (f : Booking → Booking) → b.row ≡ row → IsApart row front
+    → change (front ++ b ∷ []) row f ≡ front ++ f b ∷ []
+change_last [] b row f here apart = ap (λ (t : Bool). cond t (f b ∷ []) (b ∷ [])) (eq-eqb b.row row here)
+change_last (x ∷ front) b row f here apart =
+    ap (λ (t : Bool). cond t (f x ∷ (front ++ b ∷ [])) (x ∷ change (front ++ b ∷ []) row f)) apart.0
+    ∙ ap (λ (s : State). x ∷ s) (change_last front b row f here apart.1)
+
+-- the list with another booking in the last one's place
+pub record KeepsFront (front : State) (row : ℕ) (s : State) : Type 0 where
+  pub last : Booking
+  pub same : last.row ≡ row
+  pub is : s ≡ front ++ last ∷ []
+
+changed : (front : State) (b : Booking) (row r : ℕ) (f : Booking → Booking) → b.row ≡ row → ((x : Booking) → (f x).row ≡ x.row) → (r == row) ≡ true → IsApart row front
+    → KeepsFront front row (change (front ++ b ∷ []) r f)
+changed front b row r f here same at apart =
+    let is : r ≡ row = (Decides-eqb r row).0 at in
+    record {
+      last = f b;
+      same = same b ∙ here;
+      is = ap (λ (k : ℕ). change (front ++ b ∷ []) k f) is ∙ change_last front b row f here apart;
+    }
+
+step_keeps : (front : State) (b : Booking) (row desk : ℕ) (st : Step) → b.row ≡ row → IsApart row front → is_at row st ≡ true
+    → KeepsFront front row (apply_step (front ++ b ∷ []) desk st)
+step_keeps front b row desk (Look place shown) here apart at = record { last = b; same = here; is = refl }
+step_keeps front b row desk (Take r place span) here apart at = changed front b row r (taken place span) here (λ x. refl) at apart
+step_keeps front b row desk (Give r item) here apart at = changed front b row r (given item) here (λ x. refl) at apart
+step_keeps front b row desk (Start r) here apart at = absurd cc
+step_keeps front b row desk (SawRow r word value) here apart at = record { last = b; same = here; is = refl }
+step_keeps front b row desk (Note r word value) here apart at = changed front b row r (noted word value) here (λ x. refl) at apart
+step_keeps front b row desk (Seal r phase) here apart at = changed front b row r (in_phase phase) here (λ x. refl) at apart
+step_keeps front b row desk (Turn r from to moment amount successor) here apart at = absurd cc
+step_keeps front b row desk (LostTurn r wanted shown) here apart at = record { last = b; same = here; is = refl }
+step_keeps front b row desk (Close r) here apart at = absurd cc
+step_keeps front b row desk Met here apart at = record { last = b; same = here; is = refl }
+
+pub steps_keep : (front : State) (b : Booking) (row desk : ℕ) (steps : List Step) → b.row ≡ row → IsApart row front → AllAt row steps
+    → KeepsFront front row (after_steps (front ++ b ∷ []) desk steps)
+steps_keep front b row desk [] here apart at = record { last = b; same = here; is = refl }
+steps_keep front b row desk (st ∷ steps) here apart at =
+    let one = step_keeps front b row desk st here apart at.0 in
+    subst (λ (s : State). KeepsFront front row (after_steps s desk steps)) (sym one.is) (steps_keep front one.last row desk steps one.same apart at.1)
+
+looks_at_row : (row place : ℕ) (shown : List ℕ) → AllAt row (looks_at place shown)
+looks_at_row row place [] = tt
+looks_at_row row place (w ∷ ws) = (refl, looks_at_row row place ws)
+
+won_at_row : (row k place : ℕ) (span : Interval) (o : Outcome) → AllAt row (won_steps row k place span o)
+won_at_row row k place span Won = (eq-eqb row row refl, (eq-eqb row row refl, tt))
+won_at_row row k place span Refused = tt
+won_at_row row k place span Contended = tt
+
+-- the tries for a row are steps of it
+pub tries_at_row : (row k : ℕ) (span : Interval) (ts : List Try) → AllAt row (tries_steps row k span ts)
+tries_at_row row k span [] = tt
+tries_at_row row k span (t ∷ ts) =
+    All-append (λ st. is_at row st ≡ true) (looks_at t.place t.shown ++ won_steps row k t.place span t.outcome) (tries_steps row (k + length (won_by span t)) span ts)
+    (All-append (λ st. is_at row st ≡ true) (looks_at t.place t.shown) (won_steps row k t.place span t.outcome) (looks_at_row row t.place t.shown)
+    (won_at_row row k t.place span t.outcome))
+    (tries_at_row row (k + length (won_by span t)) span ts)
+
+pub gives_at_row : (row n : ℕ) → AllAt row (gives_back row n)
+gives_at_row row zero = tt
+gives_at_row row (suc n) = (eq-eqb row row refl, gives_at_row row n)
