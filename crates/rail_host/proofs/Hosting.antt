@@ -12,7 +12,8 @@ use Rattle.session_loop.specs.declared.end.ConnEnd.TheVariants.{Done, Cut, Refus
 use Rattle.session_loop.specs.Session.{IsEnd}
 use Rattle.session_loop.specs.Writes.{Writes}
 use Rattle.session_loop.proofs.Views.{end_seen}
-use Rattle.rail_host.specs.declared.held.Held.{Held}
+use Rattle.rail_host.specs.Reservations.{Held}
+use Rattle.rail_host.specs.Run.{RunView}
 use Rattle.rail_host.specs.declared.responder.Tiny.{Tiny}
 use Rattle.rail_host.specs.Host.{status_of_end, IsHostEnd, IsNoted}
 use Rattle.rail_host.specs.Responding.{Responds, Declines}
@@ -45,26 +46,26 @@ never_two WriteFault e = absurd (omega (arith, e))
 never_two NoMemory e = absurd (omega (arith, e))
 
 -- the run stays the one with these legs and places
-abbrev IsRun : ℕ → ℕ → Tiny → Type 0
-IsRun legs places tiny = (tiny.legs ≡ legs) × (tiny.places ≡ places)
+abbrev HasSize : ℕ → ℕ → Tiny → Type 0
+HasSize legs places tiny = (tiny.run.legs ≡ legs) × (tiny.run.places ≡ places)
 
-answer_seen : (legs places : ℕ) (before : Tiny) (request : RequestText) (text : List ℕ) (after : Tiny) → IsRun legs places before
-    → Responds before request text after → IsRun legs places after × Answers legs places before.held.items request text after.held.items
+answer_seen : (legs places : ℕ) (before : Tiny) (request : RequestText) (text : List ℕ) (after : Tiny) → HasSize legs places before
+    → Responds before request text after → HasSize legs places after × Answers legs places before.run.held request text after.run.held
 answer_seen legs places before request text after (l, p) is = (
   (is.legs ∙ l, is.places ∙ p),
-  subst (λ (n : ℕ). Answers n places before.held.items request text after.held.items) l
-      (subst (λ (n : ℕ). Answers before.legs n before.held.items request text after.held.items) p is.answer),
+  subst (λ (n : ℕ). Answers n places before.run.held request text after.run.held) l
+      (subst (λ (n : ℕ). Answers before.run.legs n before.run.held request text after.run.held) p is.answer),
 )
 
 -- An end of a session of the run with nothing reserved is one of the host.
 pub end_of_run : (legs places : ℕ) (start after : Tiny) (taken : List ℕ) (left : Option (List ℕ)) (written : List ℕ) (end : ConnEnd)
-    → start.legs ≡ legs → start.places ≡ places → start.held.items ≡ [] → IsEnd Responds Declines start after taken left written end
+    → start.run ≡ record { legs = legs; places = places; held = [] } → IsEnd Responds Declines start after taken left written end
     → IsHostEnd legs places taken left written end
-end_of_run legs places start after taken left written end l p none is = inr (
-  after.held.items,
-  subst (λ (held : List Held). IsEnd (Answers legs places) Refuses held after.held.items taken left written end) none
-      (end_seen Responds Declines (Answers legs places) Refuses (λ (t : Tiny). t.held.items) (IsRun legs places)
-      (answer_seen legs places) (λ now fault text run e. e) start after taken left written end (l, p) is),
+end_of_run legs places start after taken left written end fresh is = inr (
+  after.run.held,
+  subst (λ (held : List Held). IsEnd (Answers legs places) Refuses held after.run.held taken left written end) (ap (λ (r : RunView). r.held) fresh)
+      (end_seen Responds Declines (Answers legs places) Refuses (λ (t : Tiny). t.run.held) (HasSize legs places)
+      (answer_seen legs places) (λ now fault text run e. e) start after taken left written end (ap (λ (r : RunView). r.legs) fresh, ap (λ (r : RunView). r.places) fresh) is),
 )
 
 -- the bytes to come are those taken and those left

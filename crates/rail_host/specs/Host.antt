@@ -7,7 +7,7 @@ use Rattle.http_wire.specs.Requests.{empty, unfinished, closed, refused}
 use Rattle.session_loop.specs.declared.end.ConnEnd.{ConnEnd}
 use Rattle.session_loop.specs.declared.end.ConnEnd.TheVariants.{Done, Cut, Refused, ReadFault, WriteFault, NoMemory}
 use Rattle.session_loop.specs.Session.{IsEnd}
-use Rattle.rail_host.specs.declared.held.Held.{Held}
+use Rattle.rail_host.specs.Reservations.{Held}
 use Rattle.rail_host.specs.Tiny.{Answers, Refuses, IsOneThread, IsOneThreadCut}
 use Rattle.rail_host.specs.Words.{IsTiny}
 

@@ -3,6 +3,7 @@ pub mod Json
 pub mod Replies
 pub mod Reservations
 pub mod Responding
+pub mod Run
 pub mod Tiny
 pub mod Wish
 pub mod Words

@@ -1,7 +1,11 @@
 -- Numbered places of one run, each taken on spans of legs.
 use Rattle.std.specs.Prelude.{◌≡◌, ℕ, ◌<◌, List, All}
 use Rattle.leg_masks.specs.Interval.{Interval, Meet}
-use Rattle.rail_host.specs.declared.held.Held.{Held}
+
+-- a place and the legs on which it is taken
+pub record Held : Type 0 where
+  pub place : ℕ
+  pub span : Interval
 
 -- the reservation takes the place on a leg of the span
 abbrev pub Takes : Held → ℕ → Interval → Type 0

@@ -7,9 +7,9 @@ use Rattle.rail_host.specs.Tiny.{Answers, Refuses}
 
 -- a request is answered so, and the run stays the same
 pub record Responds (before : Tiny) (request : RequestText) (text : List ℕ) (after : Tiny) : Type 0 where
-  pub answer : Answers before.legs before.places before.held.items request text after.held.items
-  pub legs : after.legs ≡ before.legs
-  pub places : after.places ≡ before.places
+  pub answer : Answers before.run.legs before.run.places before.run.held request text after.run.held
+  pub legs : after.run.legs ≡ before.run.legs
+  pub places : after.run.places ≡ before.run.places
 
 abbrev pub Declines : Tiny → WireFault → List ℕ → Type 0
-Declines tiny fault text = Refuses tiny.held.items fault text
+Declines tiny fault text = Refuses tiny.run.held fault text

@@ -3,14 +3,13 @@ use Rattle.std.specs.Prelude.{◌≡◌, ℕ, ◌<◌, ◌≤◌, List, [], ◌�
 use Rattle.leg_masks.specs.Interval.{Interval}
 use Rattle.http_wire.specs.Requests.{Rest}
 use Rattle.session_loop.specs.Session.{Answering, Refusing, IsAnswered, IsCutShort}
-use Rattle.rail_host.specs.declared.held.Held.{Held}
 use Rattle.rail_host.specs.declared.reply.Reply.{Reply}
 use Rattle.rail_host.specs.declared.reply.Reply.TheVariants.{Reserved, NotBuilt, NotJson, BadField, RowsFull, NoPlace, NoMemory}
 use Rattle.rail_host.specs.declared.wish.WishFault.{WishFault}
 use Rattle.rail_host.specs.declared.wish.WishFault.TheVariants as wish
 use Rattle.rail_host.specs.Json.{json_of}
 use Rattle.rail_host.specs.Wish.{wish_of}
-use Rattle.rail_host.specs.Reservations.{IsLeastFree, IsNoneFree}
+use Rattle.rail_host.specs.Reservations.{Held, IsLeastFree, IsNoneFree}
 use Rattle.rail_host.specs.Replies.{answer_text, fault_text}
 
 -- the request is one for a reservation

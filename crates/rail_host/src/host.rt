@@ -56,6 +56,8 @@ fn serve<S: Source, K: Sink>(
 ) -> ConnEnd
     requires some { 0 < legs }
     requires few { legs ≤ 63 }
+    requires places { 0 < places }
+    requires most { places ≤ 1200 }
     ensures serves { (taken written : List ℕ)
         × (S.told input.old ≡ with_front taken (S.told input.new))
         × (K.told output.new ≡ with_end (K.told output.old) written)
@@ -85,6 +87,8 @@ fn run_tiny<S: Source, K: Sink, E: Sink>(
 ) -> ConnEnd
     requires some { 0 < legs }
     requires few { legs ≤ 63 }
+    requires places { 0 < places }
+    requires most { places ≤ 1200 }
     ensures serves { (taken written : List ℕ)
         × (S.told input.old ≡ with_front taken (S.told input.new))
         × (K.told output.new ≡ with_end (K.told output.old) written)

@@ -3,15 +3,16 @@
 //!
 //! `run_plain` promises of the command `tiny` that the bytes written are those of a plain host on the
 //! requests of the bytes read: a list of reserved places and spans, from which each request is given
-//! the least place that is free on its legs, or is refused.
+//! the least place that is free on its legs, or is refused. The program keeps no such list: it takes
+//! places on atomic words, by the calls of every service, at a desk that is alone.
 #![tactic(auto)]
 
-mod held;
 mod host;
 mod json;
 mod refusal;
 mod reply;
 mod responder;
+mod run;
 mod tiny;
 mod wish;
 mod words;

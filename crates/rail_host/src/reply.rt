@@ -25,7 +25,7 @@ pub enum Reply {
     RowsFull,
     /// 409: no place is free on the legs.
     NoPlace,
-    /// 500: there was no memory for the body's JSON or for the reservation. Nothing is reserved.
+    /// 500: there was no memory for the body's JSON. Nothing is reserved.
     NoMemory,
 }
 

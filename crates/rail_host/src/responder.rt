@@ -1,10 +1,10 @@
 // `tiny` as a responder.
 ghost use Rattle.std.specs.Prelude.{◌≡◌, ◌<◌, ◌≤◌, [], IfOk};
 
-use crate::held::Held;
 use crate::refusal::refusal_of;
 use crate::reply::answer_of;
-use crate::tiny::{ROWS, reply_to};
+use crate::run::Run;
+use crate::tiny::reply_to;
 use http_wire::{Answer, Intake, Request, WireFault};
 use session_loop::Responder;
 use std::alloc::{AllocError, Global};
@@ -12,12 +12,8 @@ use std::alloc::{AllocError, Global};
 /// The run with its reservations.
 #[derive(Drop)]
 pub struct Tiny {
-    pub legs: u8,
-    pub places: u16,
-    pub held: Vec<Held>,
+    pub run: Run,
     alloc: Global,
-    ghost some: { 0 < legs },
-    ghost few: { legs ≤ 63 },
 }
 
 impl Tiny {
@@ -25,17 +21,12 @@ impl Tiny {
     pub fn start(alloc: Global, legs: u8, places: u16) -> Result<Self, AllocError>
         requires some { 0 < legs }
         requires few { legs ≤ 63 }
-        ensures legs { IfOk result (λ tiny. tiny.legs ≡ legs) }
-        ensures places { IfOk result (λ tiny. tiny.places ≡ places) }
-        ensures held { IfOk result (λ tiny. tiny.held.items ≡ []) }
+        requires places { 0 < places }
+        requires most { places ≤ 1200 }
+        ensures { IfOk result (λ tiny. tiny.run ≡ record { legs = legs; places = places; held = [] }) }
     {
-        let held = Vec::with_capacity(alloc, ROWS)?;
-        Ok(Tiny {
-            legs,
-            places,
-            held,
-            alloc,
-        })
+        let run = Run::start(alloc, legs, places)?;
+        Ok(Tiny { run, alloc })
     }
 }
 
@@ -50,15 +41,7 @@ impl Responder for Tiny {
         let method = intake.part(request.method);
         let path = intake.part(request.path);
         let body = intake.part(request.body);
-        let reply = reply_to(
-            self.alloc,
-            &mut self.held,
-            self.legs,
-            self.places,
-            method,
-            path,
-            body,
-        );
+        let reply = reply_to(self.alloc, &mut self.run, method, path, body);
         answer_of(&reply, last)
     }
 

@@ -33,6 +33,9 @@ impl Source for Pieces<'_> {
     }
 }
 
+/// A piece that holds any input whole.
+const WHOLE: usize = 1_000_000;
+
 /// A run of the words over an input that fails nowhere.
 fn run<S: Source>(
     alloc: Global,
@@ -57,29 +60,29 @@ fn check<R: AllocGlobal + Abort>(
     output: &[u8],
     end: (u8, &str),
 ) -> Result<(), AllocError> {
-    check_by(rt, &[1, 2, 3, 7, 1_000_000], words, input, output, end)
+    for size in [1, 2, 3, 7, WHOLE] {
+        check_by(rt, size, words, input, output, end)?;
+    }
+    Ok(())
 }
 
-/// The same, in pieces of these sizes.
+/// The same, in pieces of this size.
 fn check_by<R: AllocGlobal + Abort>(
     rt: &R,
-    sizes: &[usize],
+    size: usize,
     words: &[&str],
     input: &[u8],
     output: &[u8],
     end: (u8, &str),
 ) -> Result<(), AllocError> {
     let alloc = rt.alloc();
-    for size in sizes {
-        let size = *size;
-        let mut source = Pieces { left: input, size };
-        let mut sink = VecSink::new(alloc, Vec::new(alloc));
-        let mut notes = VecSink::new(alloc, Vec::new(alloc));
-        let status = run(alloc, words, &mut source, &mut sink, &mut notes)?;
-        assert_eq!(rt; status, end.0, "by {size}");
-        assert_eq!(rt; sink.taken(), output, "by {size}");
-        assert_eq!(rt; notes.taken(), end.1.as_bytes(), "by {size}");
-    }
+    let mut source = Pieces { left: input, size };
+    let mut sink = VecSink::new(alloc, Vec::new(alloc));
+    let mut notes = VecSink::new(alloc, Vec::new(alloc));
+    let status = run(alloc, words, &mut source, &mut sink, &mut notes)?;
+    assert_eq!(rt; status, end.0, "by {size}");
+    assert_eq!(rt; sink.taken(), output, "by {size}");
+    assert_eq!(rt; notes.taken(), end.1.as_bytes(), "by {size}");
     Ok(())
 }
 
@@ -293,19 +296,47 @@ fn inputs_end(rt: HostRuntime) -> Result<(), Fail> {
     Ok(())
 }
 
-#[test]
-fn prefixes_are_cut(rt: HostRuntime) -> Result<(), Fail> {
+/// Each proper prefix of the first stretch's input, in pieces of this size: the empty one is done, and each other one is cut.
+fn check_prefixes<R: AllocGlobal + Abort>(rt: &R, size: usize) -> Result<(), AllocError> {
     let input = FIRST.as_bytes();
-    let sizes = [1, 2, 3, 7];
     for length in 0..input.len() {
-        let sizes = [sizes[length % 4], 1_000_000];
         let end = if length == 0 {
             (0, "")
         } else {
             (6, "rail_host: input cut\n")
         };
-        check_by(&rt, &sizes, &["tiny", "3", "2"], &input[..length], b"", end)?;
+        check_by(rt, size, &["tiny", "3", "2"], &input[..length], b"", end)?;
     }
+    Ok(())
+}
+
+#[test]
+fn prefixes_by_one(rt: HostRuntime) -> Result<(), Fail> {
+    check_prefixes(&rt, 1)?;
+    Ok(())
+}
+
+#[test]
+fn prefixes_by_two(rt: HostRuntime) -> Result<(), Fail> {
+    check_prefixes(&rt, 2)?;
+    Ok(())
+}
+
+#[test]
+fn prefixes_by_three(rt: HostRuntime) -> Result<(), Fail> {
+    check_prefixes(&rt, 3)?;
+    Ok(())
+}
+
+#[test]
+fn prefixes_by_seven(rt: HostRuntime) -> Result<(), Fail> {
+    check_prefixes(&rt, 7)?;
+    Ok(())
+}
+
+#[test]
+fn prefixes_whole(rt: HostRuntime) -> Result<(), Fail> {
+    check_prefixes(&rt, WHOLE)?;
     Ok(())
 }
 
@@ -397,6 +428,15 @@ fn rows_run_out(rt: HostRuntime) -> Result<(), Fail> {
     let mut input = String::new(alloc);
     let mut output = String::new(alloc);
     for k in 0..1_024u32 {
+        if k == 1_023 {
+            // Each place is taken on leg 0. The row that this wish leaves serves the last reservation.
+            input.push_str(
+                "POST /reservations HTTP/1.1\r\nContent-Length: 18\r\n\r\n{\"from\":0,\"to\":63}",
+            )?;
+            output.push_str(
+                "HTTP/1.1 409 Conflict\r\nContent-Type: application/problem+json\r\nContent-Length: 50\r\n\r\n{\"code\":\"NoPlace\",\"status\":409,\"title\":\"No place\"}",
+            )?;
+        }
         let from = k % 63;
         let to = from + 1;
         let place = k / 63;

@@ -20,5 +20,5 @@ returns-clause-serves g c =
       a.2,
       a.3,
       end_of_run c.args.legs c.args.places c.in-Ok-start.tiny c.run_session.new.responder a.0 (g.S.Source.told c.run_session.new.source) a.1 c.run_session.result
-          c.in-Ok-start.ensures.legs c.in-Ok-start.ensures.places c.in-Ok-start.ensures.held a.4,
+          c.in-Ok-start.ensures a.4,
     )
