@@ -1,5 +1,5 @@
 -- The trips of a wish.
-use Rattle.std.specs.Prelude.{ℕ, zero, suc, ◌+◌, ◌==◌, ◌&&◌, nat_le, Bool, true, false, not, List, [], ◌∷◌, ◌++◌, take, slice_get}
+use Rattle.std.specs.Prelude.{ℕ, zero, suc, ◌+◌, ◌==◌, ◌&&◌, nat_le, Bool, true, false, not, List, [], ◌∷◌, ◌++◌, take, drop, slice_get}
 use Rattle.std.specs.List.{filter, flat_map, list_any}
 use Rattle.std.specs.Option.{option_map_or}
 use Rattle.rail_ids.specs.declared.StationNo.{StationNo}
@@ -45,6 +45,10 @@ follows r before s = connects r (last_stop r (last_of before)) s && not (uses_ru
 abbrev pub is_chain : RunsView → List Segment → List Segment → Bool
 is_chain r before [] = true
 is_chain r before (s ∷ rest) = follows r before s && is_chain r (before ++ s ∷ []) rest
+
+-- each of the segments but the first follows those before it
+abbrev pub are_connected : RunsView → List Segment → Bool
+are_connected r segments = is_chain r (take 1 segments) (drop 1 segments)
 
 -- the last segment ends at the destination
 abbrev pub arrives : RunsView → TripWish → List Segment → Bool

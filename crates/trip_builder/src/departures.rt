@@ -39,8 +39,8 @@ pub(crate) fn window_after(runs: &Runs, segments: &[Segment]) -> Window
     }
 }
 
-/// Where and when the last of the segments ends.
-pub(crate) fn last_stop_of(runs: &Runs, segments: &[Segment]) -> Stop
+/// Where and when the last of the segments ends: at station 0 in 1970 where that is no stop of a known run.
+pub fn last_stop_of(runs: &Runs, segments: &[Segment]) -> Stop
     requires some { 1 ≤ length segments.now }
     ensures { result ≡ last_stop runs.now (last_of segments.now) }
 {
@@ -48,8 +48,8 @@ pub(crate) fn last_stop_of(runs: &Runs, segments: &[Segment]) -> Stop
     stop_of(runs, last.run, last.span.to())
 }
 
-/// Where and when the first of the segments begins.
-pub(crate) fn first_stop_of(runs: &Runs, segments: &[Segment]) -> Stop
+/// Where and when the first of the segments begins: at station 0 in 1970 where that is no stop of a known run.
+pub fn first_stop_of(runs: &Runs, segments: &[Segment]) -> Stop
     requires some { 1 ≤ length segments.now }
     ensures { result ≡ first_stop runs.now (first_of segments.now) }
 {
@@ -122,7 +122,8 @@ fn push_departures(
     Ok(())
 }
 
-fn admits(window: Window, stop: &Stop) -> bool
+/// Whether the stop is left within the window.
+pub(crate) fn admits(window: Window, stop: &Stop) -> bool
     ensures { result ≡ leaves window.station window.from window.to stop.now }
 {
     let depart = stop.depart.seconds();

@@ -6,6 +6,7 @@
 //! their runs and stops.
 #![tactic(auto)]
 
+mod chain;
 mod departures;
 mod order;
 mod search;
@@ -13,5 +14,7 @@ mod search;
 mod tests;
 mod trip;
 
+pub use chain::are_connected;
+pub use departures::{first_stop_of, last_stop_of};
 pub use search::trips;
 pub use trip::{Trip, TripWish};

@@ -1,9 +1,10 @@
 ghost use Rattle.std.specs.Prelude.{◌≡◌, ◌≤◌, ◌-◌, ◌++◌, ◌∷◌, [], length, IfOk, OnOk};
 ghost use Rattle.std.specs.List.{fold};
 ghost use Rattle.trip_builder.specs.Segments.{all_segments};
-ghost use Rattle.trip_builder.specs.Trips.{trips_of, uses_run as uses_run_of};
+ghost use Rattle.trip_builder.specs.Trips.{trips_of};
 ghost use Rattle.trip_builder.specs.Search.{routes, keep as keep_of, is_behind as is_behind_of, Rise};
 
+use crate::chain::uses_run;
 use crate::departures::{Window, departures, last_stop_of, window_after};
 use crate::order::place_among;
 use crate::trip::{Trip, TripWish};
@@ -106,17 +107,6 @@ fn is_behind(runs: &Runs, best: &[Trip], route: &[Segment]) -> bool
         }
     }
     true
-}
-
-fn uses_run(route: &[Segment], next: &Segment) -> bool
-    ensures { result ≡ uses_run_of route.now next.now }
-{
-    for segment in route {
-        if segment.run.0 == next.run.0 {
-            return true;
-        }
-    }
-    false
 }
 
 fn longer(route: &[Segment], next: Segment) -> ArrayVec<Segment, 3>

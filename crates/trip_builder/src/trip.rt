@@ -53,11 +53,12 @@ impl Trip {
         self.segments.as_slice()
     }
 
-    /// The segments as they are kept.
-    pub fn into_segments(self) -> ArrayVec<Segment, 3>
-        ensures value { result.items ≡ self }
-        ensures some { 1 ≤ length self }
+    /// A copy of the segments.
+    pub fn copied_segments(&self) -> ArrayVec<Segment, 3>
+        ensures value { result.items ≡ self.now }
     {
-        self.segments
+        let mut found = ArrayVec::new();
+        let _copied = found.try_extend_from_slice(self.segments());
+        found
     }
 }

@@ -1,0 +1,42 @@
+ghost use Rattle.std.specs.Prelude.{◌≡◌, ◌≤◌, length};
+ghost use Rattle.trip_builder.specs.Trips.{are_connected as are_connected_of, follows as follows_of, uses_run as uses_run_of};
+ghost use Rattle.trip_builder.specs.Segments.{first_of};
+
+use crate::departures::{admits, first_stop_of, window_after};
+use offer_codes::Segment;
+use train_runs::Runs;
+
+/// Whether each of the segments but the first is reached from those before it: at the station where the one before ended, from the
+/// change time to 14,400 seconds after it, on a run that none of them has.
+pub fn are_connected(runs: &Runs, segments: &[Segment]) -> bool
+    ensures { result ≡ are_connected_of runs.now segments.now }
+{
+    for n in 1..segments.len() {
+        if !follows(runs, &segments[..n], &segments[n..]) {
+            return false;
+        }
+    }
+    true
+}
+
+// Whether the first of the rest is reached from the segments before it.
+fn follows(runs: &Runs, before: &[Segment], rest: &[Segment]) -> bool
+    requires some { 1 ≤ length before.now }
+    requires next { 1 ≤ length rest.now }
+    ensures { result ≡ follows_of runs.now before.now (first_of rest.now) }
+{
+    let window = window_after(runs, before);
+    admits(window, &first_stop_of(runs, rest)) && !uses_run(before, &rest[0])
+}
+
+/// Whether one of the segments has the run.
+pub(crate) fn uses_run(route: &[Segment], next: &Segment) -> bool
+    ensures { result ≡ uses_run_of route.now next.now }
+{
+    for segment in route {
+        if segment.run.0 == next.run.0 {
+            return true;
+        }
+    }
+    false
+}
