@@ -3,7 +3,7 @@ use Rattle.std.proofs.Common.{◌≡◌, ℕ, ◌+◌, ◌-◌, ◌≤◌, lengt
 use Rattle.history_model.specs.Booking.{Layout}
 use Rattle.claim_rule.specs.Rule.{BooksView, DeskView}
 use Rattle.claim_rule.specs.Seats.{IsOf}
-use Rattle.booking_rows.specs.Searches.{Searches, no_call, a_call, a_search}
+use Rattle.booking_rows.specs.Searches.{Searches, no_call, a_call, a_part, a_meet, a_search}
 
 none : (n p q : ℕ) → n ≡ 0 → p ≡ q → n + q ≤ p
 none n p q e f = omega arith
@@ -11,12 +11,17 @@ none n p q e f = omega arith
 on : (n f p q : ℕ) → n + f ≤ p → p ≤ q → n + f ≤ q
 on n f p q l m = omega arith
 
+kept : (n f p q : ℕ) → n + f ≤ p → q ≡ p → n + f ≤ q
+kept n f p q l e = omega arith
+
 more : (n k f p q many : ℕ) → n + f ≤ p → p ≤ q → k ≤ q - p → many ≡ n + k → many + f ≤ q
 more n k f p q many l m few e = omega arith
 
 moved : (first last : DeskView) (n : ℕ) → Searches first last n → n + first.past ≤ last.past
 moved first last n (no_call desk k e z) = none n last.past first.past z (ap (λ (d : DeskView). d.past) e)
 moved first last n (a_call old new k steps before did) = on n first.past old.past last.past (moved first old n before) did.further
+moved first last n (a_part old new k before did) = kept k first.past old.past last.past (moved first old k before) did.same.6
+moved first last n (a_meet old other new k before met) = kept k first.past old.past last.past (moved first old k before) met.same.5
 moved first last n (a_search old new k many steps before did few e) = more k (length steps) first.past old.past last.past n (moved first old k before) did.further few e
 
 pub all_few : (books : BooksView) (first last : DeskView) (n : ℕ) → IsOf books last → Searches first last n → n ≤ books.layout.rows

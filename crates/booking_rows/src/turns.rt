@@ -1,5 +1,5 @@
 //! Turns of a row's phase, and the close of an ending.
-ghost use Rattle.std.specs.Prelude.{ℕ, ◌≡◌, ◌≤◌, true, false, length};
+ghost use Rattle.std.specs.Prelude.{ℕ, ◌≡◌, ◌≤◌, ◌+◌, true, false, length};
 ghost use Rattle.history_model.specs.declared.phase.EndKind.{EndKind};
 ghost use Rattle.history_model.specs.declared.phase.Phase.TheVariants.{Ending as IsEndingPhase};
 ghost use Rattle.claim_rule.specs.Seats.{IsOf, Shape, CanTurn, AddsAtMost};
@@ -119,7 +119,7 @@ pub fn turn(books: &Books, desk: &mut Desk, row: RowNo, from: Phase, to: Aim) ->
     ensures entries { ShapeBy (Turns row.0 from to result) desk.old desk.new }
     ensures leaves { LeavesTurned row.0 to desk.old desk.new result }
     ensures holds { KeepsHolds desk.old desk.new }
-    ensures bound { AddsAtMost 26 desk.old desk.new }
+    ensures bound { AddsAtMost (most_items + 2) desk.old desk.new }
 {
     let _ = books.rows();
     let moment = to.moment();

@@ -62,7 +62,7 @@ pub fn look_row(books: &Books, desk: &mut Desk, row: RowNo) -> Option<RowView>
     ensures sealed { IfSome result (λ view. IsSealedSince desk.new row.0 view.phase) }
     ensures holds { KeepsHolds desk.old desk.new }
     ensures endings { KeepsEndings desk.old desk.new }
-    ensures bound { AddsAtMost 32 desk.old desk.new }
+    ensures bound { AddsAtMost (most_items + 8) desk.old desk.new }
 {
     let _ = books.places();
     let phase = phase_said(books.step_read(desk, row, 0));

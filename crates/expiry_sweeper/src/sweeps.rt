@@ -1,5 +1,6 @@
 //! The sweep of all rows.
 ghost use Rattle.std.specs.Prelude.{◌≡◌, ◌+◌, ◌*◌, ◌^◌, ◌<◌};
+ghost use Rattle.history_model.specs.Booking.{most_items};
 ghost use Rattle.claim_rule.specs.Seats.{IsOf, AddsAtMost};
 ghost use Rattle.claim_rule.specs.Calls.{ShapeBy};
 ghost use Rattle.claim_rule.specs.Out.{EndsNone, KeepsHolds, IsTidy};
@@ -31,7 +32,7 @@ pub fn sweep(books: &Books, desk: &mut Desk, now: Moment) -> Swept
     ensures none { EndsNone desk.new }
     ensures holds { KeepsHolds desk.old desk.new }
     ensures tidy { IsTidy desk.old → IsTidy desk.new }
-    ensures bound { AddsAtMost (56 * books.now.layout.rows) desk.old desk.new }
+    ensures bound { AddsAtMost ((2 * most_items + 8) * books.now.layout.rows) desk.old desk.new }
 {
     let mut swept = Swept {
         expired: 0,

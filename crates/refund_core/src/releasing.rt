@@ -1,4 +1,6 @@
 //! Releasing a booking (OSDM's release of a prebooked offer).
+ghost use Rattle.std.specs.Prelude.{◌+◌, ◌*◌};
+ghost use Rattle.history_model.specs.Booking.{most_items};
 ghost use Rattle.claim_rule.specs.Seats.{IsOf, AddsAtMost};
 ghost use Rattle.claim_rule.specs.Calls.{ShapeBy};
 ghost use Rattle.claim_rule.specs.Out.{EndsNone, KeepsHolds};
@@ -36,7 +38,7 @@ pub fn release(
     ensures entries { ShapeBy (Releases books.now.layout.rows row.0 retailer.0 now result) desk.old desk.new }
     ensures none { EndsNone desk.new }
     ensures holds { KeepsHolds desk.old desk.new }
-    ensures bound { AddsAtMost 56 desk.old desk.new }
+    ensures bound { AddsAtMost (2 * most_items + 8) desk.old desk.new }
 {
     let Some(shown) = find_owned(books, desk, row, retailer) else {
         return Released::Unknown;
