@@ -1,0 +1,70 @@
+-- The offers of a wish, and the looks that they are made of.
+use Rattle.std.specs.Prelude.{◌≡◌, ℕ, ◌-◌, max, List, [], ◌∷◌, ◌++◌, slice_get, sum_by}
+use Rattle.std.specs.List.{flat_map}
+use Rattle.std.specs.Option.{option_map_or}
+use Rattle.rail_ids.specs.declared.PlaceNo.{PlaceNo}
+use Rattle.place_map.specs.declared.coach.Class.{Class}
+use Rattle.place_map.specs.Candidates.{candidates_of}
+use Rattle.tariff.specs.Prices.{FareAmounts, price_of}
+use Rattle.offer_codes.specs.declared.code.Segment.{Segment}
+use Rattle.offer_codes.specs.declared.code.Offer.{Offer}
+use Rattle.offer_codes.specs.Offers.{OfferView, offer_view}
+use Rattle.rail_catalogue.specs.Contents.{CatalogueView, fare_in}
+use Rattle.trip_builder.specs.declared.trip.TripWish.{TripWish}
+use Rattle.history_model.specs.declared.entry.Step.{Step}
+use Rattle.availability.specs.Looks.{CountsFree}
+use Rattle.offer_engine.specs.declared.wish.OfferWish.{OfferWish}
+
+-- the wish from this moment on
+abbrev pub raised : TripWish → ℕ → TripWish
+raised w now = record w { earliest = max w.earliest now }
+
+abbrev pub no_fare : FareAmounts
+no_fare = record { base = 0; per_leg = 0 }
+
+abbrev pub fare_on : CatalogueView → Class → ℕ → FareAmounts
+fare_on cat class run = option_map_or (fare_in class) (slice_get cat.fares run) no_fare
+
+-- what the passengers pay for a segment
+abbrev pub segment_price : CatalogueView → Class → ℕ → ℕ → Segment → ℕ
+segment_price cat class adults children s = price_of (fare_on cat class s.run.0) (s.span.to - s.span.from) adults children
+
+-- and for the whole offer
+abbrev pub offer_price : CatalogueView → OfferView → ℕ
+offer_price cat o = sum_by (segment_price cat o.class o.adults o.children) o.segments
+
+abbrev pub code_for : OfferWish → ℕ → List Segment → OfferView
+code_for w now segments = record { made = now; adults = w.adults; children = w.children; class = w.class; wanted = w.wanted; segments = segments }
+
+-- the places of the segment's run that the wish may have
+abbrev pub wanted_places : CatalogueView → OfferWish → Segment → List PlaceNo
+wanted_places cat w s = candidates_of s.run.0 w.class w.wanted cat.places
+
+-- how many of each segment's wanted places are free on it, by one look at each in order
+abbrev pub CountsSegments : CatalogueView → OfferWish → List Segment → List ℕ → List Step → Type 0
+CountsSegments cat w [] [] es = es ≡ []
+CountsSegments cat w (s ∷ rest) (n ∷ free) es =
+    (first : List Step) × (more : List Step) × CountsFree (wanted_places cat w s) s.span n first × CountsSegments cat w rest free more × (es ≡ first ++ more)
+CountsSegments cat w [] (n ∷ free) es = ⊥
+CountsSegments cat w (s ∷ rest) [] es = ⊥
+
+-- the same of the first of the segments
+abbrev pub BeginsCounts : CatalogueView → OfferWish → List Segment → List Step → Type 0
+BeginsCounts cat w segments es = (front : List Segment) × (rest : List Segment) × (free : List ℕ) × (segments ≡ front ++ rest) × CountsSegments cat w front free es
+
+-- the offer of a trip, with its looks
+abbrev pub IsOfferFor : CatalogueView → OfferWish → ℕ → List Segment → Offer → List Step → Type 0
+IsOfferFor cat w now trip o es =
+    (offer_view o.code ≡ code_for w now trip) × (o.price ≡ offer_price cat (code_for w now trip)) × CountsSegments cat w trip o.free.items es
+
+-- an offer for each of the trips, in order
+abbrev pub OffersFor : CatalogueView → OfferWish → ℕ → List (List Segment) → List Offer → List Step → Type 0
+OffersFor cat w now [] [] es = es ≡ []
+OffersFor cat w now (t ∷ trips) (o ∷ offers) es =
+    (first : List Step) × (more : List Step) × IsOfferFor cat w now t o first × OffersFor cat w now trips offers more × (es ≡ first ++ more)
+OffersFor cat w now [] (o ∷ offers) es = ⊥
+OffersFor cat w now (t ∷ trips) [] es = ⊥
+
+-- the looks of the first segments of the trips, one trip after the other
+abbrev pub BeginsOffers : CatalogueView → OfferWish → List (List Segment) → List Step → Type 0
+BeginsOffers cat w trips es = BeginsCounts cat w (flat_map (λ t. t) trips) es
