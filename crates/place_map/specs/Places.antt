@@ -1,5 +1,5 @@
 -- What a coach adds to the places of all runs, or why it is refused.
-use Rattle.std.specs.Prelude.{ℕ, zero, suc, ◌+◌, ◌-◌, ◌≤◌, ◌==◌, ◌&&◌, ◌||◌, nat_lt, Bool, List, [], ◌∷◌, ◌++◌, All, length, count_by, flat_map, if◌then◌else◌, Option, Some, None, Result, Ok, Err}
+use Rattle.std.specs.Prelude.{ℕ, zero, suc, ◌+◌, ◌-◌, ◌≤◌, ◌==◌, ◌&&◌, ◌||◌, nat_lt, Bool, List, [], ◌∷◌, ◌++◌, All, length, count_by, filter, flat_map, if◌then◌else◌, Option, Some, None, Result, Ok, Err}
 use Rattle.std.specs.List.{list_any}
 use Rattle.std.specs.List.Sorted.{IsNonDecreasingBy}
 use Rattle.place_map.specs.declared.coach.Class.{Class}
@@ -10,6 +10,10 @@ use Rattle.place_map.specs.declared.coach.PlaceFault.TheVariants.{TooManyPlaces,
 
 abbrev pub run_number : Place → ℕ
 run_number p = p.run.0
+
+-- the places of a run, in the order of their numbers
+abbrev pub places_of : ℕ → List Place → List Place
+places_of run places = filter (λ p. run_number p == run) places
 
 -- n places of consecutive numbers, from this number on
 abbrev pub places_from : ℕ → ℕ → Class → ℕ → ℕ → ℕ → List Place

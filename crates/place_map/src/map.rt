@@ -1,7 +1,7 @@
 ghost use Rattle.std.specs.Prelude.{◌≡◌, ◌≤◌, ◌<◌, ◌==◌, ◌+◌, ◌++◌, ◌||◌, [], List, IfOk, OnOk, OnErr, IfErr, Ok, length, min, sum_by, slice_get, option_copied, All, true, false, nat_lt, nat_le};
 ghost use Rattle.std.specs.List.{AllByRecursion};
 ghost use Rattle.std.specs.List.Sorted.{IsPartitionPoint};
-ghost use Rattle.place_map.specs.Places.{coach_places, group_places, group_size, has_place, first_repeat as first_repeat_of, with_places, run_number, EndsWithRun, AreByRun};
+ghost use Rattle.place_map.specs.Places.{places_of as places_of_run, coach_places, group_places, group_size, has_place, first_repeat as first_repeat_of, with_places, run_number, EndsWithRun, AreByRun};
 ghost use Rattle.place_map.specs.Candidates.{is_class as is_class_of, is_candidate as is_candidate_of, candidates_of, numbers_of, IsOfRun, AreRising};
 
 use crate::coach::{Class, Coach, Group, Place, PlaceFault};
@@ -74,6 +74,13 @@ impl PlaceMap {
         ensures most { length result.now ≤ 4_194_304 }
     {
         self.places.as_slice()
+    }
+
+    /// The places of the run, in the order of their numbers. They are found by two binary searches.
+    pub fn of_run(&self, run: RunNo) -> &[Place]
+        ensures { result.now ≡ places_of_run run.0 self.now }
+    {
+        own_places(self.places.as_slice(), run)
     }
 
     /// How many places there are.
@@ -161,6 +168,15 @@ fn candidates_among(
     let rest = &places[first..];
     let own = &rest[..end_of_run(rest, run)];
     numbers_from(alloc, own, first, run, class, wanted)
+}
+
+// The places of the run among these.
+fn own_places(places: &[Place], run: RunNo) -> &[Place]
+    requires by_run { AreByRun places.now }
+    ensures { result.now ≡ places_of_run run.0 places.now }
+{
+    let rest = &places[first_of_run(places, run)..];
+    &rest[..end_of_run(rest, run)]
 }
 
 // The numbers of the candidates among these places, of which the first has this number.
@@ -351,6 +367,9 @@ mod tests {
             assert_eq!(rt; (place.number, place.traits), (seat, traits));
         }
         assert_eq!(rt; map.place(PlaceNo(18)), None);
+        for (run, from, end) in [(0, 0, 12), (1, 12, 18), (2, 18, 18)] {
+            assert_eq!(rt; map.of_run(RunNo(run)), &map.all()[from..end]);
+        }
         for (run, class, wanted, from, end) in [
             (0, Class::First, 0, 0, 4),
             (0, Class::Second, 0, 4, 12),
