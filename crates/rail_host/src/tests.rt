@@ -33,6 +33,31 @@ impl Source for Pieces<'_> {
     }
 }
 
+/// Hands out the pieces, and fails in place of the end.
+#[derive(Drop)]
+struct Broken<'a> {
+    pieces: Pieces<'a>,
+    faults: u64,
+}
+
+impl Source for Broken<'_> {
+    ghost use Rattle.std.specs.Prelude.{None};
+
+    ghost told = { λ _. None };
+
+    ghost faults = { λ s. s.faults };
+
+    fn read(&mut self, room: &mut [u8]) -> Pulled {
+        match self.pieces.read(room) {
+            Pulled::Got(count) => Pulled::Got(count),
+            Pulled::End | Pulled::Failed => {
+                self.faults = self.faults.saturating_add(1);
+                Pulled::Failed
+            }
+        }
+    }
+}
+
 /// A piece that holds any input whole.
 const WHOLE: usize = 1_000_000;
 
@@ -418,6 +443,77 @@ fn devices_fail(rt: HostRuntime) -> Result<(), Fail> {
         assert_eq!(rt; got, status, "{read} {write} {noted}");
         assert_eq!(rt; sink.taken(), output.as_bytes(), "{read} {write} {noted}");
         assert_eq!(rt; notes.taken(), note.as_bytes(), "{read} {write} {noted}");
+    }
+    Ok(())
+}
+
+/// A run whose input fails behind these bytes, in pieces of this size.
+fn check_broken<R: AllocGlobal + Abort>(
+    rt: &R,
+    size: usize,
+    left: &[u8],
+    output: &str,
+) -> Result<(), AllocError> {
+    let alloc = rt.alloc();
+    let pieces = Pieces { left, size };
+    let mut source = Broken { pieces, faults: 0 };
+    let mut sink = VecSink::new(alloc, Vec::new(alloc));
+    let mut notes = VecSink::new(alloc, Vec::new(alloc));
+    let status = run(
+        alloc,
+        &["tiny", "3", "2"],
+        &mut source,
+        &mut sink,
+        &mut notes,
+    )?;
+    assert_eq!(rt; status, 3, "by {size}");
+    assert_eq!(rt; sink.taken(), output.as_bytes(), "by {size}");
+    assert_eq!(rt;
+        notes.taken(),
+        b"rail_host: read fault\n".as_slice(),
+        "by {size}"
+    );
+    Ok(())
+}
+
+/// A run of the first stretch whose output fails at this call, in pieces of this size.
+fn check_stopped<R: AllocGlobal + Abort>(
+    rt: &R,
+    size: usize,
+    call: u64,
+    output: &str,
+) -> Result<(), AllocError> {
+    let alloc = rt.alloc();
+    let left = FIRST.as_bytes();
+    let mut source = Pieces { left, size };
+    let mut sink = VecSink::new(alloc, vec![in alloc; call]?);
+    let mut notes = VecSink::new(alloc, Vec::new(alloc));
+    let status = run(
+        alloc,
+        &["tiny", "3", "2"],
+        &mut source,
+        &mut sink,
+        &mut notes,
+    )?;
+    assert_eq!(rt; status, 4, "by {size}");
+    assert_eq!(rt; sink.taken(), output.as_bytes(), "by {size}");
+    assert_eq!(rt;
+        notes.taken(),
+        b"rail_host: write fault\n".as_slice(),
+        "by {size}"
+    );
+    Ok(())
+}
+
+#[test]
+fn devices_fail_in_pieces(rt: HostRuntime) -> Result<(), Fail> {
+    let input = FIRST.as_bytes();
+    for size in [1, 2, 3, 7, WHOLE] {
+        check_broken(&rt, size, b"", "")?;
+        check_broken(&rt, size, &input[..20], "")?;
+        check_broken(&rt, size, input, SOLD)?;
+        check_stopped(&rt, size, 1, "")?;
+        check_stopped(&rt, size, 2, &SOLD[..SOLD.len() - 27])?;
     }
     Ok(())
 }
