@@ -14,7 +14,7 @@ use std::process::Abort;
 use std::test::Fail;
 use trip_builder::TripWish;
 
-const T0600: u64 = 1_780_293_600;
+const AT_SIX: u64 = 1_780_293_600;
 
 // The example of `examples/k1.json`.
 const EXAMPLE: &str = r#"{"currency":"EUR",
@@ -39,7 +39,7 @@ const EXAMPLE: &str = r#"{"currency":"EUR",
                                                     {"first":15,"last":16,"traits":["AISLE"]}]}]}]}"#;
 
 fn moment(rt: &impl Abort, seconds: u32) -> Moment {
-    Moment::of(T0600 + u64::from(seconds)).expect(rt, "a moment")
+    Moment::of(AT_SIX + u64::from(seconds)).expect(rt, "a moment")
 }
 
 fn station(rt: &impl Abort, cat: &Catalogue, code: &str) -> StationNo {
