@@ -10,6 +10,7 @@ pub mod Items
 pub mod Places
 pub mod Keeping
 pub mod Legal
+pub mod Looks
 pub mod Going
 pub mod Histories
 pub mod Changes

@@ -8,4 +8,5 @@ pub mod History
 pub mod Laws
 pub mod Life
 pub mod Quiet
+pub mod Looks
 pub mod Work

@@ -1,14 +1,16 @@
 //! What holds of every legal history, as contracts of functions that do nothing.
 
-ghost use Rattle.std.specs.Prelude.{◌≡◌, ◌≤◌, ◌⊎◌, true, false, ℕ, List, [], ◌∷◌, ◌++◌, Some, IfSome, IsSomeAnd};
+ghost use Rattle.std.specs.Prelude.{◌≡◌, ◌≢◌, ◌≤◌, ◌⊎◌, true, false, ℕ, List, [], ◌∷◌, ◌++◌, Some, IfSome, IsSomeAnd};
 ghost use Rattle.history_model.specs.declared.booking.BookedItem.{BookedItem};
 ghost use Rattle.history_model.specs.declared.entry.Entry.{Entry};
+ghost use Rattle.history_model.specs.declared.entry.Step.TheVariants.{Look};
 ghost use Rattle.history_model.specs.declared.phase.EndKind.{EndKind};
 ghost use Rattle.history_model.specs.declared.phase.Phase.{Phase};
 ghost use Rattle.history_model.specs.declared.phase.Phase.TheVariants.{Confirmed, Ending, Ended};
 ghost use Rattle.history_model.specs.Booking.{Layout, present, phase_of_row};
-ghost use Rattle.history_model.specs.History.{IsLegal, IsTurnFrom, own, state_of};
+ghost use Rattle.history_model.specs.History.{IsLegal, IsTurnFrom, entry, own, state_of};
 ghost use Rattle.history_model.specs.Laws.{AreInRange, IsWellFormed, NoDouble, Stays, is_owners, stage};
+ghost use Rattle.history_model.specs.Looks.{ChangesPlace};
 ghost use Rattle.history_model.specs.Life.{LeadsTo, IsTurnBetween, IsLostTurn, HasEnded, is_let_go};
 ghost use Rattle.history_model.specs.Phase.{is_sealed};
 
@@ -52,4 +54,11 @@ pub fn sealed_bookings_stay()
 /// books began with it.
 pub fn ended_bookings_gave_back()
     ensures ended { (g : Layout) (history : List Entry) (row : ℕ) → IsLegal g history → IfSome (present (state_of g history) row) (λ c. (kind : EndKind) → c.phase ≡ Ended kind → (present g.opening row ≡ Some c) ⊎ HasEnded g history row kind c) }
+{}
+
+/// Where two looks at one place show unlike words, an entry between them changed the word of the place; and where none between them
+/// is a desk's own, it is another desk's.
+pub fn unlike_looks_have_a_cause()
+    ensures changed { (g : Layout) (before between after : List Entry) (first second place shown later : ℕ) → shown ≢ later → IsLegal g (before ++ (entry first (Look place shown) ∷ (between ++ (entry second (Look place later) ∷ after)))) → ChangesPlace g (before ++ entry first (Look place shown) ∷ []) place between }
+    ensures others { (front back : List Entry) (change : Entry) (desk : ℕ) → own (front ++ change ∷ back) desk ≡ [] → change.desk ≢ desk }
 {}
