@@ -3,3 +3,4 @@ pub mod Walking
 pub mod Pruning
 pub mod Rising
 pub mod Searching
+pub mod Finishing

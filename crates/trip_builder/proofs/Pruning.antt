@@ -57,7 +57,7 @@ later_pieces r m q f each (x ∷ xs) rise = by_test (q x) refl (later_pieces r m
     by_test true e more = later_append r m (f x) (flat_map f (filter q xs)) (each x e rise.0) more
     by_test false e more = more
 
-last_is : (t : List Segment) (x : Segment) → last_of (t ++ x ∷ []) ≡ x
+pub last_is : (t : List Segment) (x : Segment) → last_of (t ++ x ∷ []) ≡ x
 last_is t x =
     let count : length (t ++ x ∷ []) ≡ length t + 1 = length-append t (x ∷ []) in
     let at : length (t ++ x ∷ []) - 1 ≡ length t = omega arith in

@@ -17,6 +17,13 @@ departing r station from to = filter (λ s. leaves station from to (first_stop r
 abbrev pub departing_from : RunsView → StationNo → ℕ → ℕ → ℕ → ℕ → ℕ → List Segment
 departing_from r station earliest latest run from n = filter (λ s. leaves station earliest latest (first_stop r s)) (segments_from run from n)
 
+-- the segment ends at the station; the segments that do
+abbrev pub ends_at : RunsView → StationNo → Segment → Bool
+ends_at r station s = (last_stop r s).station.0 == station.0
+
+abbrev pub ending : RunsView → StationNo → List Segment
+ending r station = filter (ends_at r station) (all_segments r)
+
 abbrev pub onward : RunsView → List Segment → List Segment
 onward r before = filter (connects r (last_stop r (last_of before))) (all_segments r)
 

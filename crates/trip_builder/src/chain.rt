@@ -1,8 +1,7 @@
 ghost use Rattle.std.specs.Prelude.{◌≡◌, ◌≤◌, length};
 ghost use Rattle.trip_builder.specs.Trips.{are_connected as are_connected_of, follows as follows_of, uses_run as uses_run_of};
-ghost use Rattle.trip_builder.specs.Segments.{first_of};
 
-use crate::departures::{admits, first_stop_of, window_after};
+use crate::departures::{admits, stop_of, window_after};
 use offer_codes::Segment;
 use train_runs::Runs;
 
@@ -12,21 +11,20 @@ pub fn are_connected(runs: &Runs, segments: &[Segment]) -> bool
     ensures { result ≡ are_connected_of runs.now segments.now }
 {
     for n in 1..segments.len() {
-        if !follows(runs, &segments[..n], &segments[n..]) {
+        if !follows(runs, &segments[..n], &segments[n]) {
             return false;
         }
     }
     true
 }
 
-// Whether the first of the rest is reached from the segments before it.
-fn follows(runs: &Runs, before: &[Segment], rest: &[Segment]) -> bool
+/// Whether the segment is reached from those before it.
+pub(crate) fn follows(runs: &Runs, before: &[Segment], next: &Segment) -> bool
     requires some { 1 ≤ length before.now }
-    requires next { 1 ≤ length rest.now }
-    ensures { result ≡ follows_of runs.now before.now (first_of rest.now) }
+    ensures { result ≡ follows_of runs.now before.now next.now }
 {
     let window = window_after(runs, before);
-    admits(window, &first_stop_of(runs, rest)) && !uses_run(before, &rest[0])
+    admits(window, &stop_of(runs, next.run, next.span.from())) && !uses_run(before, next)
 }
 
 /// Whether one of the segments has the run.

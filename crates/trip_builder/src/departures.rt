@@ -1,8 +1,9 @@
 ghost use Rattle.std.specs.Prelude.{◌≡◌, ◌<◌, ◌≤◌, ◌+◌, ◌-◌, ◌++◌, length, IfOk, OnOk};
+ghost use Rattle.std.specs.List.{filter};
 ghost use Rattle.train_runs.specs.Stops.{stop_at, no_stop as nowhere};
 ghost use Rattle.trip_builder.specs.Segments.{stops_of, segments_to, segments_from, all_segments, first_stop, last_stop, last_of, first_of};
 ghost use Rattle.trip_builder.specs.Trips.{leaves, change_at, longest_wait};
-ghost use Rattle.trip_builder.specs.Search.{departing, departing_from, Rise};
+ghost use Rattle.trip_builder.specs.Search.{departing, departing_from, ends_at, ending, Rise};
 
 use leg_masks::Span;
 use offer_codes::Segment;
@@ -57,8 +58,8 @@ pub fn first_stop_of(runs: &Runs, segments: &[Segment]) -> Stop
     stop_of(runs, first.run, first.span.from())
 }
 
-// The stop of this number of the run.
-fn stop_of(runs: &Runs, run: RunNo, number: u8) -> Stop
+/// The stop of this number of the run.
+pub(crate) fn stop_of(runs: &Runs, run: RunNo, number: u8) -> Stop
     ensures { result ≡ stop_at (stops_of runs.now run.0) number }
 {
     match runs.run(run) {
@@ -138,6 +139,67 @@ fn push_ends(found: &mut Vec<Segment>, run: RunNo, from: u8, stops: u8) -> Resul
 {
     for to in from + 1..stops {
         if let Some(span) = Span::new(from, to) {
+            found.push(Segment { run, span })?;
+        }
+    }
+    Ok(())
+}
+
+/// The segments that end at the station, in the order of their runs and stops.
+pub(crate) fn arrivals(
+    alloc: Global,
+    runs: &Runs,
+    station: StationNo,
+) -> Result<Vec<Segment>, AllocError>
+    ensures { IfOk result (λ v. v.items ≡ ending runs.now station) }
+{
+    let mut found = Vec::new(alloc);
+    for number in 0..runs.count() {
+        push_arrivals(&mut found, runs, RunNo(number), station)?;
+    }
+    Ok(found)
+}
+
+// Appends the segments of the run that end at the station.
+fn push_arrivals(
+    found: &mut Vec<Segment>,
+    runs: &Runs,
+    run: RunNo,
+    station: StationNo,
+) -> Result<(), AllocError>
+    ensures { OnOk result (found.new.items ≡ found.old.items
+        ++ filter (ends_at runs.now station) (segments_from run.0 0 (length (stops_of runs.now run.0)))) }
+{
+    let Some(it) = runs.run(run) else {
+        return Ok(());
+    };
+    let stops = it.stops();
+    for from in 0..stops.len() {
+        push_ends_at(found, runs, run, from as u8, stops, station)?;
+    }
+    Ok(())
+}
+
+// Appends the segments of the run from this stop to each later one at the station.
+fn push_ends_at(
+    found: &mut Vec<Segment>,
+    _runs: &Runs,
+    run: RunNo,
+    from: u8,
+    stops: &[Stop],
+    station: StationNo,
+) -> Result<(), AllocError>
+    requires one { from < length stops.now }
+    requires most { length stops.now ≤ 64 }
+    requires stops { stops.now ≡ stops_of _runs.now run.0 }
+    ensures { OnOk result (found.new.items ≡ found.old.items
+        ++ filter (ends_at _runs.now station) (segments_to run.0 from (from + 1) (length stops.now - (from + 1)))) }
+{
+    for to in from + 1..stops.len() as u8 {
+        let Some(span) = Span::new(from, to) else {
+            unreachable!()
+        };
+        if stops[usize::from(to)].station.0 == station.0 {
             found.push(Segment { run, span })?;
         }
     }

@@ -1,11 +1,11 @@
 ghost use Rattle.std.specs.Prelude.{◌≡◌, ◌≤◌, ◌-◌, ◌++◌, ◌∷◌, [], length, IfOk, OnOk};
-ghost use Rattle.std.specs.List.{fold};
+ghost use Rattle.std.specs.List.{fold, flat_map};
 ghost use Rattle.trip_builder.specs.Segments.{all_segments};
 ghost use Rattle.trip_builder.specs.Trips.{trips_of};
-ghost use Rattle.trip_builder.specs.Search.{routes, keep as keep_of, is_behind as is_behind_of, Rise};
+ghost use Rattle.trip_builder.specs.Search.{routes, routes_by, onward as onward_of, ending, keep as keep_of, is_behind as is_behind_of, Rise};
 
-use crate::chain::uses_run;
-use crate::departures::{Window, departures, last_stop_of, window_after};
+use crate::chain::{follows, uses_run};
+use crate::departures::{Window, arrivals, departures, last_stop_of, window_after};
 use crate::order::place_among;
 use crate::trip::{Trip, TripWish};
 use arrayvec::ArrayVec;
@@ -35,9 +35,17 @@ pub fn trips(alloc: Global, runs: &Runs, wish: &TripWish) -> Result<Vec<Trip>, A
         to: wish.latest.seconds(),
     };
     let firsts = departures(alloc, runs, window)?;
+    let finals = arrivals(alloc, runs, wish.destination)?;
     for first in &firsts {
         let route = longer(&[], *first);
-        extend(alloc, runs, wish, route.as_slice(), &mut best)?;
+        extend(
+            alloc,
+            runs,
+            wish,
+            finals.as_slice(),
+            route.as_slice(),
+            &mut best,
+        )?;
     }
     Ok(best)
 }
@@ -47,26 +55,49 @@ fn extend(
     alloc: Global,
     runs: &Runs,
     wish: &TripWish,
+    finals: &[Segment],
     route: &[Segment],
     best: &mut Vec<Trip>,
 ) -> Result<(), AllocError>
     requires some { 1 ≤ length route.now }
-    requires few { length route.now ≤ 3 }
+    requires few { length route.now ≤ 2 }
+    requires finals { finals.now ≡ ending runs.now wish.now.destination }
     requires rise { Rise runs.now (all_segments runs.now) }
     ensures { OnOk result (best.new.items ≡ fold (keep_of runs.now wish.now) best.old.items (routes runs.now (3 - length route.now) route.now)) }
 {
     keep(runs, wish, route, best)?;
-    if route.len() == MOST_SEGMENTS {
-        return Ok(());
-    }
     if is_behind(runs, best.as_slice(), route) {
         return Ok(());
+    }
+    if route.len() + 1 == MOST_SEGMENTS {
+        return finish(runs, wish, finals, route, best);
     }
     let onward = departures(alloc, runs, window_after(runs, route))?;
     for next in &onward {
         if !uses_run(route, next) {
             let route = longer(route, *next);
-            extend(alloc, runs, wish, route.as_slice(), best)?;
+            extend(alloc, runs, wish, finals, route.as_slice(), best)?;
+        }
+    }
+    Ok(())
+}
+
+// Tries what one last segment makes of the route.
+fn finish(
+    runs: &Runs,
+    wish: &TripWish,
+    finals: &[Segment],
+    route: &[Segment],
+    best: &mut Vec<Trip>,
+) -> Result<(), AllocError>
+    requires some { 1 ≤ length route.now }
+    requires few { length route.now ≤ 2 }
+    requires finals { finals.now ≡ ending runs.now wish.now.destination }
+    ensures { OnOk result (best.new.items ≡ fold (keep_of runs.now wish.now) best.old.items (flat_map (routes_by runs.now 0 route.now) (onward_of runs.now route.now))) }
+{
+    for last in finals {
+        if follows(runs, route, last) {
+            keep(runs, wish, longer(route, *last).as_slice(), best)?;
         }
     }
     Ok(())

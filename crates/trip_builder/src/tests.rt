@@ -138,3 +138,25 @@ fn trips_of_a_line_with_two_hundred_runs(rt: HostRuntime) -> Result<(), Fail> {
     }
     Ok(())
 }
+
+// A run from station 1 to 9 every five minutes; none stops at station 0.
+#[test]
+fn no_trips_to_a_station_that_none_serves(rt: HostRuntime) -> Result<(), Fail> {
+    let alloc = rt.alloc();
+    let mut runs = stations(
+        &rt,
+        alloc,
+        [300, 300, 300, 300, 300, 300, 300, 300, 300, 300].as_slice(),
+    )?;
+    for run in 0..200 {
+        let mut times = Vec::new(alloc);
+        for station in 1..10 {
+            let arrive = 300 * run + 600 * station;
+            times.push((station, arrive, arrive + 60))?;
+        }
+        add(&rt, alloc, &mut runs, times.as_slice())?;
+    }
+    let found = trips(alloc, &runs, &wish(&rt, 1, 0, 0, 86_400))?;
+    assert_eq!(rt; found.len(), 0);
+    Ok(())
+}

@@ -1,8 +1,10 @@
 use Rattle.std.proofs.Common.{◌≡◌, ◌∙◌, suc, Bool, true, false, ◌+◌, ◌-◌, ◌++◌, [], ◌∷◌, List, length, length-append, drop, sym, ap, arith, if◌then◌else◌}
 use Rattle.std.specs.List.{fold, flat_map}
+use Rattle.rail_ids.specs.declared.StationNo.{StationNo}
+use Rattle.trip_builder.specs.Segments.{last_stop, last_of}
 use Rattle.offer_codes.specs.declared.code.Segment.{Segment}
-use Rattle.trip_builder.specs.Trips.{uses_run}
-use Rattle.trip_builder.specs.Search.{keep, routes, routes_by, onward, is_behind}
+use Rattle.trip_builder.specs.Trips.{uses_run, change_at}
+use Rattle.trip_builder.specs.Search.{keep, routes, routes_by, departing, onward, is_behind}
 use Rattle.trip_builder.proofs.Ordering.{piece_step}
 use Rattle.trip_builder.proofs.Pruning.{behind}
 use Rattle.trip_builder.proofs.search.+extend.Goals as goal
@@ -49,3 +51,19 @@ loop-next-preserved t c =
           ap (λ b. b.items) v.best-is ∙ ap (λ (b : Bool). fold (keep r w) c.loop-next.best.items (if b then [] else routes r n (route ++ next ∷ []))) (sym used) in
           ap (λ (b : List (List Segment)). fold (keep r w) b more) tried ∙ stepped
     ]
+
+pub loop-next-init : goal.loop-next-init
+loop-next-init t c =
+    let r = c.args.runs.now in
+    let w = c.args.wish.now in
+    let route = c.args.route.now in
+    let n = 2 - length route in
+    let e : 3 - length route ≡ suc n = omega arith in
+    let win = c.window_after.result in
+    let wins = c.window_after.ensures in
+    let items : c.deref-next-items.result.now ≡ onward r route =
+    c.deref-next-items.ensures.value ∙ (c.in_ok-onward.ensures.found ∙ (ap (λ (s : StationNo). departing r s win.from win.to) wins.station
+    ∙ (ap (λ a. departing r (last_stop r (last_of route)).station a win.to) wins.from ∙ ap (λ b. departing r (last_stop r (last_of route)).station ((last_stop r (last_of route)).arrive + change_at r (last_stop r (last_of route)).station) b) wins.to))) in
+    ap (λ (l : List Segment). fold (keep r w) c.keep.new.best.items (flat_map (routes_by r n route) l)) items
+    ∙ (ap (λ (b : List (List Segment)). fold (keep r w) b (flat_map (routes_by r n route) (onward r route))) c.in_ok-keep.ensures
+    ∙ sym (ap (λ m. fold (keep r w) c.args.best.now.items (routes r m route)) e))

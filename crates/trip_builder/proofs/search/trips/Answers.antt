@@ -16,7 +16,7 @@ loop-first-preserved c =
     let w = c.args.wish.now in
     let xs = c.deref-first-items.result.now in
     let first = c.first-item.result in
-    let route_is : c.as_slice.result.now ≡ first ∷ [] = c.as_slice.ensures.value ∙ c.longer-route.ensures in
+    let route_is : c.as_slice-in-loop-first.result.now ≡ first ∷ [] = c.as_slice-in-loop-first.ensures.value ∙ c.longer-route.ensures in
     ap (λ (b : List (List Segment)). fold (keep r w) b (flat_map (λ s. routes r 2 (s ∷ [])) (drop (c.loop-first.first-index + 1) xs)))
     (c.in_ok-extend.ensures ∙ ap (λ (t : List Segment). fold (keep r w) c.loop-first.best.items (routes r (3 - length t) t)) route_is)
     ∙ (piece_step (keep r w) (λ s. routes r 2 (s ∷ [])) xs c.loop-first.first-index first c.loop-first.best.items c.loop-first-test.true c.first-item.is ∙ c.loop-first.invariant)
