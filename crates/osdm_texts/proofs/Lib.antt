@@ -1,0 +1,5 @@
+pub mod Plain
+pub mod SmallLemmas
+pub mod Chains
+pub mod Ascii
+pub mod BookingTokens

@@ -1,0 +1,58 @@
+-- The JSON of bookings.
+use Rattle.std.specs.Prelude.{ℕ, zero, suc, pos, Bool, true, false, map, codes, Option, Some, None}
+use Rattle.serde_json.specs.Data.{Data, boolean, string, array, object, Members, no_members, member}
+use Rattle.serde_json.specs.View.{items_of}
+use Rattle.leg_masks.specs.Interval.{PlacedSpan}
+use Rattle.history_model.specs.declared.phase.Phase.{Phase}
+use Rattle.history_model.specs.declared.phase.Phase.TheVariants.{Free, Making, Prebooked, Confirmed, Fulfilled, Ending, Ended}
+use Rattle.history_model.specs.declared.phase.EndKind.TheVariants.{Exchange}
+use Rattle.history_model.specs.declared.booking.End.{End}
+use Rattle.place_map.specs.Places.{run_number}
+use Rattle.booking_rows.specs.Views.{RowSeen}
+use Rattle.rail_catalogue.specs.Contents.{CatalogueView}
+use Rattle.osdm_texts.specs.Statuses.{phase_text}
+use Rattle.osdm_texts.specs.Times.{time_text}
+use Rattle.osdm_texts.specs.Ids.{booking_id}
+use Rattle.osdm_texts.specs.Amounts.{count_tree, amount_tree}
+use Rattle.osdm_texts.specs.Spots.{stop_code, train_of, place_at}
+
+-- a place with the legs that are reserved on it
+abbrev pub reservation_tree : CatalogueView → PlacedSpan → Data
+reservation_tree cat item = let p = place_at cat item.place in
+    object (member (codes "coach") (count_tree p.coach) (member (codes "from") (string (stop_code cat (run_number p) item.span.from))
+    (member (codes "place") (count_tree p.number) (member (codes "run") (count_tree (run_number p))
+    (member (codes "to") (string (stop_code cat (run_number p) item.span.to)) (member (codes "train") (count_tree (train_of cat (run_number p))) no_members))))))
+
+-- a booking is settled once it has ended
+abbrev pub is_settled : Phase → Bool
+is_settled Free = false
+is_settled Making = false
+is_settled Prebooked = false
+is_settled Confirmed = false
+is_settled Fulfilled = false
+is_settled (Ending kind) = false
+is_settled (Ended kind) = true
+
+-- how a settled booking ended stands before the other members
+abbrev pub end_members : CatalogueView → Option End → Members → Members
+end_members cat None rest = rest
+end_members cat (Some e) rest = member (codes "endAmount") (amount_tree cat.currency e.amount) (member (codes "endedAt") (string (time_text e.moment)) rest)
+
+-- the successor of a booking, whose number plus 1 stands in its end
+abbrev pub successor_member : ℕ → Members
+successor_member zero = no_members
+successor_member (suc row) = member (codes "successor") (string (booking_id row)) no_members
+
+-- only a booking that ended by exchange has a successor
+abbrev pub successor_members : Phase → Option End → Members
+successor_members (Ended Exchange) (Some e) = successor_member e.successor
+successor_members (Ended Exchange) None = no_members
+successor_members phase e = no_members
+
+abbrev pub booking_tree : CatalogueView → ℕ → RowSeen → Data
+booking_tree cat row v =
+    object (member (codes "confirmableUntil") (string (time_text v.limit)) (end_members cat v.ended
+    (member (codes "id") (string (booking_id row)) (member (codes "price") (amount_tree cat.currency (pos v.total))
+    (member (codes "reservations") (array (items_of (map (reservation_tree cat) v.items)))
+    (member (codes "settled") (boolean (is_settled v.phase)) (member (codes "status") (string (phase_text v.phase))
+    (successor_members v.phase v.ended))))))))

@@ -1,0 +1,13 @@
+-- The tokens of the members that say how a booking ended.
+use Rattle.std.specs.Prelude.{List, [], ◌∷◌, ◌++◌, Option, Some, None, codes}
+use Rattle.json.specs.Token.{Token, key, string}
+use Rattle.history_model.specs.declared.booking.End.{End}
+use Rattle.rail_catalogue.specs.Contents.{CatalogueView}
+use Rattle.osdm_texts.specs.Times.{time_text}
+use Rattle.osdm_texts.specs.Amounts.{amount_tree}
+use Rattle.osdm_texts.specs.Appends.{tokens_of}
+
+abbrev pub end_tokens : CatalogueView → Option End → List Token
+end_tokens cat None = []
+end_tokens cat (Some e) =
+    (key (codes "endAmount") ∷ tokens_of (amount_tree cat.currency e.amount)) ++ key (codes "endedAt") ∷ string (time_text e.moment) ∷ []

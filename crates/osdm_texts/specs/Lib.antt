@@ -1,0 +1,16 @@
+pub mod Times
+pub mod Ids
+pub mod Fields
+pub mod Statuses
+pub mod Problems
+pub mod SmallTexts
+pub mod Amounts
+pub mod Sweeps
+pub mod Spots
+pub mod Offers
+pub mod Bookings
+pub mod Quotes
+pub mod Places
+pub mod Replies
+pub mod Appends
+pub mod EndTokens

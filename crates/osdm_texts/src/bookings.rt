@@ -1,0 +1,105 @@
+//! Bookings.
+ghost use Rattle.std.specs.Prelude.{◌≡◌, ◌+◌, map, option_map, OnOk};
+ghost use Rattle.std.specs.Option.{option_map_or};
+ghost use Rattle.serde_json.specs.Data.{no_members};
+ghost use Rattle.booking_rows.specs.Ends.{shown_end};
+ghost use Rattle.osdm_texts.specs.Bookings.{reservation_tree, is_settled as is_settled_of, end_members, successor_member, successor_members, booking_tree};
+ghost use Rattle.osdm_texts.specs.EndTokens.{end_tokens};
+ghost use Rattle.osdm_texts.specs.Appends.{Appends, tokens_of, listed, members_of};
+
+use crate::members::{
+    put_amount, put_booking_id, put_count, put_flag, put_price, put_text, put_time,
+};
+use crate::problem::phase_text;
+use crate::spots::{place_at, stop_code, train_number};
+use booking_rows::{EndView, RowView};
+use history_model::phase::{EndKind, Phase};
+use json::Writer;
+use leg_masks::Item;
+use rail_catalogue::Catalogue;
+use rail_ids::RowNo;
+use std::alloc::AllocError;
+
+pub(crate) fn put_booking(
+    out: &mut Writer,
+    cat: &Catalogue,
+    row: RowNo,
+    view: &RowView,
+) -> Result<(), AllocError>
+    ensures { OnOk result (Appends out.old out.new (tokens_of (booking_tree cat.now row.0 view.now))) }
+{
+    out.begin_object()?;
+    put_time(out, "confirmableUntil", view.limit)?;
+    put_end(out, cat, view.ended)?;
+    put_booking_id(out, "id", row)?;
+    put_price(out, "price", cat.currency_text(), view.total)?;
+    out.key("reservations")?;
+    out.begin_array()?;
+    put_reservations(out, cat, view.items.as_slice())?;
+    out.end_array()?;
+    put_flag(out, "settled", is_settled(view.phase))?;
+    put_text(out, "status", phase_text(view.phase))?;
+    put_successor(out, view.phase, view.ended)
+}
+
+fn is_settled(phase: Phase) -> bool
+    ensures { result ≡ is_settled_of phase }
+{
+    matches!(phase, Phase::Ended(_))
+}
+
+// How a settled booking ended.
+fn put_end(out: &mut Writer, cat: &Catalogue, ended: Option<EndView>) -> Result<(), AllocError>
+    ensures { OnOk result (Appends out.old out.new (end_tokens cat.now (option_map shown_end ended))) }
+{
+    match ended {
+        Some(end) => {
+            put_amount(out, "endAmount", cat.currency_text(), end.amount)?;
+            put_time(out, "endedAt", end.moment)
+        }
+        None => Ok(()),
+    }
+}
+
+// The successor of a booking that ended by exchange, and the end of the object.
+fn put_successor(out: &mut Writer, phase: Phase, ended: Option<EndView>) -> Result<(), AllocError>
+    ensures { OnOk result (Appends out.old out.new (members_of (successor_members phase (option_map shown_end ended)))) }
+{
+    if let Some(row) = successor(phase, ended) {
+        put_booking_id(out, "successor", row)?;
+    }
+    out.end_object()
+}
+
+fn successor(phase: Phase, ended: Option<EndView>) -> Option<RowNo>
+    ensures { successor_members phase (option_map shown_end ended) ≡ option_map_or (λ row. successor_member (row.0 + 1)) result no_members }
+{
+    match phase {
+        Phase::Ended(EndKind::Exchange) => ended?.successor,
+        _ => None,
+    }
+}
+
+fn put_reservations(out: &mut Writer, cat: &Catalogue, items: &[Item]) -> Result<(), AllocError>
+    ensures { OnOk result (Appends out.old out.new (listed (map (reservation_tree cat.now) items.now))) }
+{
+    for item in items {
+        put_reservation(out, cat, item)?;
+    }
+    Ok(())
+}
+
+fn put_reservation(out: &mut Writer, cat: &Catalogue, item: &Item) -> Result<(), AllocError>
+    ensures { OnOk result (Appends out.old out.new (tokens_of (reservation_tree cat.now item.now))) }
+{
+    let place = place_at(cat, item.place());
+    let span = item.span();
+    out.begin_object()?;
+    put_count(out, "coach", u64::from(place.coach))?;
+    put_text(out, "from", stop_code(cat, place.run, span.from()))?;
+    put_count(out, "place", u64::from(place.number))?;
+    put_count(out, "run", u64::from(place.run.0))?;
+    put_text(out, "to", stop_code(cat, place.run, span.to()))?;
+    put_count(out, "train", u64::from(train_number(cat, place.run)))?;
+    out.end_object()
+}

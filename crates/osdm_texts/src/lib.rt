@@ -1,0 +1,26 @@
+//! What retailers are answered, as JSON texts: replies and problems.
+//!
+//! Each reply and each problem has one JSON value, which the definitions give member by member; its text has no space, and its
+//! members stand in byte order of their names. `reply_text` writes it in one growing buffer. Problems and the counts of a sweep are
+//! small, and `small_text` and `swept_text` write them without memory.
+#![tactic(auto)]
+
+mod bookings;
+mod field;
+mod ids;
+mod members;
+mod offers;
+mod pieces;
+mod places;
+mod problem;
+mod quotes;
+mod reply;
+mod small;
+mod spots;
+#[cfg(test)]
+mod tests;
+
+pub use field::FieldName;
+pub use problem::Problem;
+pub use reply::{Reply, reply_text};
+pub use small::{small_text, swept_text};
