@@ -1,0 +1,9 @@
+pub mod Faults
+pub mod Asked
+pub mod Members
+pub mod OfferBodies
+pub mod OrderBodies
+pub mod IdBodies
+pub mod Commands
+pub mod Readable
+pub mod EndViews

@@ -1,0 +1,106 @@
+ghost use Rattle.std.specs.Prelude.{◌≡◌, Result, Err, IfOk, IfErr};
+ghost use Rattle.serde_json.specs.Data.{Data};
+ghost use Rattle.serde_json.specs.View.{view};
+ghost use Rattle.rail_catalogue.specs.Json.{json_of};
+ghost use Rattle.osdm_json.specs.declared.fault.BodyFault.{BodyFault};
+ghost use Rattle.osdm_json.specs.Asked.{Asked};
+ghost use Rattle.osdm_json.specs.Members.{in_object};
+ghost use Rattle.osdm_json.specs.Commands.{asked_in, asked_by, has_body as has_body_of, Asks};
+ghost use Rattle.osdm_json.specs.Readable.{IsReadable};
+
+use crate::command::Command;
+use crate::fault::BodyFault;
+use crate::members::read_value;
+use crate::offers::read_offers;
+use crate::orders::{
+    read_accept_exchange, read_accept_refund, read_book, read_fulfil, read_quote_exchange,
+};
+use crate::route::Route;
+use crate::spellings::row_of;
+use crate::stretches::{read_places, read_reserve};
+use osdm_texts::FieldName;
+use rail_catalogue::Catalogue;
+use serde_json::Value;
+use std::alloc::Global;
+
+/// The command that a route asks with this body, or the first fault: fields in the order of the route's table, then stations. A route that
+/// has no body lets it be. `NoMemory` is the one answer without a cause.
+pub fn read_command(
+    alloc: Global,
+    cat: &Catalogue,
+    route: Route<'_>,
+    body: &[u8],
+) -> Result<Command, BodyFault>
+    ensures ok { IfOk result (λ c. Asks (asked_by cat.now route.entry body.now) c) }
+    ensures readable { IfOk result (λ c. IsReadable cat.now c) }
+    ensures err { IfErr result (λ e. ¬ (e ≡ BodyFault.NoMemory) → asked_by cat.now route.entry body.now ≡ Err e) }
+{
+    if !has_body(&route) {
+        return read_in(alloc, cat, &route, &Value::Null);
+    }
+    let value = read_object(alloc, body)?;
+    read_in(alloc, cat, &route, &value)
+}
+
+fn has_body(route: &Route<'_>) -> bool
+    ensures { result ≡ has_body_of route.now }
+{
+    match route {
+        Route::Offers
+        | Route::Book
+        | Route::Reserve
+        | Route::Fulfil { .. }
+        | Route::AcceptRefund { .. }
+        | Route::QuoteExchange
+        | Route::AcceptExchange { .. } => true,
+        Route::Show { .. }
+        | Route::Release { .. }
+        | Route::Confirm { .. }
+        | Route::QuoteRefund { .. }
+        | Route::Places { .. }
+        | Route::Sweep => false,
+    }
+}
+
+// The object that the body is.
+fn read_object(alloc: Global, body: &[u8]) -> Result<Value, BodyFault>
+    ensures ok { IfOk result (λ v. (next : Data → Result Asked BodyFault) → in_object (json_of body.now) next ≡ next (view v)) }
+    ensures err { IfErr result (λ e. ¬ (e ≡ BodyFault.NoMemory) → (next : Data → Result Asked BodyFault) → in_object (json_of body.now) next ≡ Err e) }
+{
+    let value = read_value(alloc, body)?;
+    if value.is_object() {
+        Ok(value)
+    } else {
+        Err(BodyFault::Field {
+            name: FieldName::Body,
+        })
+    }
+}
+
+// What the route asks with this value as its body.
+fn read_in(
+    alloc: Global,
+    cat: &Catalogue,
+    route: &Route<'_>,
+    body: &Value,
+) -> Result<Command, BodyFault>
+    ensures ok { IfOk result (λ c. Asks (asked_in cat.now route.now (view body.now)) c) }
+    ensures readable { IfOk result (λ c. IsReadable cat.now c) }
+    ensures err { IfErr result (λ e. asked_in cat.now route.now (view body.now) ≡ Err e) }
+{
+    match route {
+        Route::Offers => read_offers(alloc, cat, body),
+        Route::Book => read_book(body),
+        Route::Reserve => read_reserve(cat, body),
+        Route::Show { id } => Ok(Command::Show { row: row_of(id) }),
+        Route::Release { id } => Ok(Command::Release { row: row_of(id) }),
+        Route::Confirm { id } => Ok(Command::Confirm { row: row_of(id) }),
+        Route::Fulfil { id } => read_fulfil(id, body),
+        Route::QuoteRefund { id } => Ok(Command::QuoteRefund { row: row_of(id) }),
+        Route::AcceptRefund { id, offer } => read_accept_refund(id, offer, body),
+        Route::QuoteExchange => read_quote_exchange(body),
+        Route::AcceptExchange { id } => read_accept_exchange(id, body),
+        Route::Places { run, start, end } => read_places(cat, run, start, end),
+        Route::Sweep => Ok(Command::Sweep),
+    }
+}
