@@ -17,7 +17,7 @@ returns c =
     let reservations = rw c.as_slice.ensures.value at c.in_ok-put_reservations.ensures in
     let tail = last_call r end _ (step (rw c.is_settled.ensures at c.in_ok-put_flag.ensures) (rw c.phase_text.ensures.text at c.in_ok-put_text.ensures)) c.put_successor.ensures refl in
     let items = last_call r end _ (ended (map (reservation_tree c.args.cat.now) i.items.items) reservations (one c.in_ok-end_array.ensures)) tail refl in
-    let later = last_call r end _ (step (step (step c.in_ok-put_booking_id.ensures (rw c.currency_text.ensures at c.in_ok-put_price.ensures)) (one c.in_ok-key.ensures)) (one c.in_ok-begin_array.ensures)) items refl in
+    let later = last_call r end _ (step (step (step c.in_ok-put_booking_id.ensures (rw c.currency_text.ensures.value at c.in_ok-put_price.ensures)) (one c.in_ok-key.ensures)) (one c.in_ok-begin_array.ensures)) items refl in
     let from_end = last_call r end _ c.in_ok-put_end.ensures later refl in
     last_call r end _ (step (one c.in_ok-begin_object.ensures) c.in_ok-put_time.ensures) from_end
     (booking_tokens c.args.cat.now c.args.row.0 seen ∙ ap (λ (v : RowSeen). tokens_of (booking_tree c.args.cat.now c.args.row.0 v)) same)

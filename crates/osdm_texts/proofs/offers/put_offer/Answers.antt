@@ -12,7 +12,7 @@ returns c =
     let o = c.args.offer.now in
     let id : c.text_of.result.now ≡ offer_id (offer_view o.code) = c.text_of.ensures ∙ c.as_slice.ensures.value ∙ c.offer_id-id.ensures.text in
     let segments = rw (c.as_slice-2.ensures.value, c.as_slice-3.ensures.value) at c.in_ok-put_segments.ensures in
-    let front = step (step (step (step (one c.in_ok-begin_object.ensures) (rw id at c.in_ok-put_text.ensures)) (rw c.currency_text.ensures at c.in_ok-put_price.ensures)) (one c.in_ok-key.ensures)) (one c.in_ok-begin_array.ensures) in
+    let front = step (step (step (step (one c.in_ok-begin_object.ensures) (rw id at c.in_ok-put_text.ensures)) (rw c.currency_text.ensures.value at c.in_ok-put_price.ensures)) (one c.in_ok-key.ensures)) (one c.in_ok-begin_array.ensures) in
     last_call r end _ front
     (last_call r end _ (ended (segment_trees c.args.cat.now o.code.segments.items o.free.items) segments (one c.in_ok-end_array.ensures))
     (last r (rw c.later.ensures at c.in_ok-put_time.ensures) c.end_object.ensures refl)

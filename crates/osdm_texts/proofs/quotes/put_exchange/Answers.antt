@@ -9,5 +9,5 @@ returns c =
     let fits : FitsSigned w64 c.args.code.now.difference = search rules in
     let id : c.text_of.result.now ≡ exchange_id (exchange_view c.args.code.now) = c.text_of.ensures ∙ c.as_slice.ensures.value ∙ c.exchange_id-id.ensures.text in
     last c.end_object.result
-    (step (step (step (one c.in_ok-begin_object.ensures) (simp (to_z-of_z, c.currency_text.ensures) at c.in_ok-put_amount.ensures)) (rw id at c.in_ok-put_text.ensures)) (rw c.later.ensures at c.in_ok-put_time.ensures))
+    (step (step (step (one c.in_ok-begin_object.ensures) (simp (to_z-of_z, c.currency_text.ensures.value) at c.in_ok-put_amount.ensures)) (rw id at c.in_ok-put_text.ensures)) (rw c.later.ensures at c.in_ok-put_time.ensures))
     c.end_object.ensures refl
