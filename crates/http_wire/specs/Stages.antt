@@ -1,5 +1,7 @@
 -- How far the reading of a request has come.
-use Rattle.std.specs.Prelude.{◌≡◌, ℕ, ◌≤◌, List, length, take, drop}
+use Rattle.std.specs.Prelude.{◌≡◌, ℕ, ◌≤◌, List, length, take, drop, min}
+use Rattle.http_wire.specs.declared.intake.Front.{Front}
+use Rattle.http_wire.specs.declared.intake.Front.TheVariants.{Blank, Open}
 use Rattle.http_wire.specs.declared.head.ServedHead.{ServedHead}
 use Rattle.http_wire.specs.declared.intake.Stage.{Stage}
 use Rattle.http_wire.specs.declared.intake.Stage.TheVariants.{Head, Body}
@@ -23,6 +25,12 @@ pub record IsHeadSaid (number : ℕ) (text : List ℕ) (end : ℕ) (head : Serve
   pub within : end ≤ length text
   pub read : IsServedRead number (take end text) head
   pub places : IsServedWithin (length (take end text)) head
+
+-- where there is no head yet, all bytes that one may have are searched, and the search is kept
+abbrev pub IsSearchKept : List ℕ → Front → Stage → Type 0
+IsSearchKept text Blank (Head scan) = scan.at ≡ min (length text) 16384
+IsSearchKept text Open (Head scan) = scan.at ≡ min (length text) 16384
+IsSearchKept text _ _ = Unit {0}
 
 abbrev pub IsStage : ℕ → List ℕ → Stage → Type 0
 IsStage number text (Head scan) = IsSearched text scan

@@ -8,7 +8,7 @@ ghost use Rattle.http_wire.specs.declared.request.Next.TheVariants.{ReadFault};
 ghost use Rattle.http_wire.specs.Pieces.{piece_bytes, IsPieceWithin, IsFront};
 ghost use Rattle.http_wire.specs.Next.{IsNext, PullsBehind, Stays};
 ghost use Rattle.http_wire.specs.Requests.{HeadAt};
-ghost use Rattle.http_wire.specs.Stages.{IsStage};
+ghost use Rattle.http_wire.specs.Stages.{IsStage, IsSearchKept};
 ghost use Rattle.http_wire.specs.declared.intake.Stage.TheVariants.{Head, Body};
 
 use crate::head::{HEAD_ROOM, ServedHead};
@@ -106,6 +106,7 @@ fn examine(text: &[u8], number: u32, stage: Stage) -> Examined
     requires { IsStage number text.now stage }
     ensures front { IsFront number text.now result.front }
     ensures stage { IsStage number text.now result.stage }
+    ensures kept { IsSearchKept text.now result.front result.stage }
 {
     match stage {
         Stage::Head(scan) => search_on(text, number, scan),
@@ -121,6 +122,7 @@ fn search_on(text: &[u8], number: u32, before: HeadScan) -> Examined
     requires { IsStage number text.now (Head before) }
     ensures front { IsFront number text.now result.front }
     ensures stage { IsStage number text.now result.stage }
+    ensures kept { IsSearchKept text.now result.front result.stage }
 {
     let room = text.len().min(HEAD_ROOM);
     let scan = before.feed(&text[before.at..room]);
@@ -160,6 +162,7 @@ fn after_head(text: &[u8], number: u32, end: usize, before: HeadScan) -> Examine
     requires stage { IsStage number text.now (Head before) }
     ensures front { IsFront number text.now result.front }
     ensures stage { IsStage number text.now result.stage }
+    ensures kept { IsSearchKept text.now result.front result.stage }
 {
     match served_head(&text[..end], number) {
         Ok(head) => Examined {
