@@ -55,7 +55,7 @@ returns-in_err-offer-clause-begun c =
     let mid = c.loop-trip.desk in
     let new = c.offer_of.new.desk in
     let ts = c.deref-trip-items.result.now in
-    let whole : ts ≡ trips_of cat.runs (raised w.trip now) = c.deref-trip-items.ensures.value ∙ (c.in_ok-found.ensures ∙ (ap (λ (r : RunsView). trips_of r c.raised.result) c.runs.ensures ∙ ap (trips_of cat.runs) c.raised.ensures)) in
+    let whole : ts ≡ trips_of cat.runs (raised w.trip now) = c.deref-trip-items.ensures.value ∙ (c.in_ok-found.ensures ∙ (ap (λ (r : RunsView). trips_of r c.raised.result) c.runs.ensures.value ∙ ap (trips_of cat.runs) c.raised.ensures)) in
     on_err c.from_residual-in_err-offer.result (subst (λ (l : List (List Segment)). ShapeBy (BeginsOffers cat w l) old new) whole
     (begun_within cat w now old mid new ts c.loop-trip.trip-index c.trip-item.result c.loop-trip.offers.items c.loop-trip-test.true i.made
     (subst (λ (t : List Segment). ShapeBy (BeginsCounts cat w t) mid new) c.trip-item.is c.in_err-offer.ensures.begun)))
@@ -76,7 +76,7 @@ returns-in_err-push-clause-begun c =
     let mid = c.loop-trip.desk in
     let new = c.offer_of.new.desk in
     let ts = c.deref-trip-items.result.now in
-    let whole : ts ≡ trips_of cat.runs (raised w.trip now) = c.deref-trip-items.ensures.value ∙ (c.in_ok-found.ensures ∙ (ap (λ (r : RunsView). trips_of r c.raised.result) c.runs.ensures ∙ ap (trips_of cat.runs) c.raised.ensures)) in
+    let whole : ts ≡ trips_of cat.runs (raised w.trip now) = c.deref-trip-items.ensures.value ∙ (c.in_ok-found.ensures ∙ (ap (λ (r : RunsView). trips_of r c.raised.result) c.runs.ensures.value ∙ ap (trips_of cat.runs) c.raised.ensures)) in
     on_err c.from_residual-in_err-push.result (subst (λ (l : List (List Segment)). ShapeBy (BeginsOffers cat w l) old new) whole
     (begun_whole cat w now old new ts (c.loop-trip.trip-index + 1) (c.loop-trip.offers.items ++ c.in_ok-offer.offer ∷ [])
     (offers_next cat w now old mid new ts c.loop-trip.trip-index c.trip-item.result c.loop-trip.offers.items c.in_ok-offer.offer c.loop-trip-test.true i.made
