@@ -12,11 +12,11 @@ use std::alloc::{AllocError, Global};
 
 /// How many of the places were free on all legs of the span, by one look at each in order. Takes no memory.
 ///
-/// Each place is one of the books, and there are fewer than 4,294,967,295.
+/// Each place is one of the books, and there are fewer than 4,294,967,296.
 pub fn free_places(books: &Books, desk: &mut Desk, places: &[PlaceNo], span: Span) -> u32
     requires own { IsOf books.now desk.old }
     requires places { All (λ p. p.0 < length books.now.layout.legs) places.now }
-    requires few { length places.now < 4_294_967_295 }
+    requires few { length places.now < 4_294_967_296 }
     ensures own { IsOf books.now desk.new }
     ensures entries { ShapeBy (CountsFree places.now span result) desk.old desk.new }
     ensures holds { KeepsHolds desk.old desk.new }
