@@ -72,13 +72,14 @@ fn trip(rt: &impl Abort, cat: &Catalogue, stations: (&str, &str), times: (u32, u
     }
 }
 
-// for these stations, and these seconds after six: how many offers there are at six
+// for these stations, this window and this moment, in seconds after six: how many offers there are
 fn count(
     rt: &impl Abort,
     alloc: Global,
     cat: &Catalogue,
     stations: (&str, &str),
     times: (u32, u32),
+    now: u32,
 ) -> usize {
     let (books, mut desk) = books_of(rt, alloc, cat);
     let trip = trip(rt, cat, stations, times);
@@ -89,7 +90,7 @@ fn count(
         class: Class::Second,
         wanted: 1,
     };
-    let found = offers(alloc, cat, &books, &mut desk, &wish, moment(rt, 0));
+    let found = offers(alloc, cat, &books, &mut desk, &wish, moment(rt, now));
     found.expect(rt, "memory").len()
 }
 
@@ -120,13 +121,15 @@ fn offers_of_the_example(rt: HostRuntime) -> Result<(), Fail> {
         (offer.code.adults, offer.code.children, offer.code.wanted),
         (2, 1, 1)
     );
-    for (from, to, earliest, latest, expected) in [
-        ("BASEL", "THUN", 3600, 90_000, 1),
-        ("THUN", "BASEL", 3600, 90_000, 0),
-        ("BASEL", "THUN", 7201, 10_800, 0),
-        ("BASEL", "BERN", 7200, 7200, 1),
+    for (from, to, earliest, latest, now, expected) in [
+        ("BASEL", "THUN", 3600, 90_000, 0, 1),
+        ("THUN", "BASEL", 3600, 90_000, 0, 0),
+        ("BASEL", "THUN", 7201, 10_800, 0, 0),
+        ("BASEL", "BERN", 7200, 7200, 0, 1),
+        ("BASEL", "THUN", 3600, 90_000, 7200, 1),
+        ("BASEL", "THUN", 3600, 90_000, 7201, 0),
     ] {
-        let number = count(&rt, alloc, &cat, (from, to), (earliest, latest));
+        let number = count(&rt, alloc, &cat, (from, to), (earliest, latest), now);
         assert_eq!(rt; number, expected);
     }
     Ok(())
