@@ -1,0 +1,131 @@
+-- Calls that turn nothing to an exchange leave a tidy desk tidy.
+use Rattle.std.proofs.Common.{◌≡◌, inl, inr, ℕ, suc, zero, true, false, List, [], ◌∷◌, ◌++◌, length, Option, Some, None, refl, sym, subst}
+use Rattle.leg_masks.specs.Interval.{PlacedSpan as Item}
+use Rattle.history_model.specs.declared.entry.Step.{Step}
+use Rattle.history_model.specs.declared.entry.Step.TheVariants.{Look, Take, Give, Start, SawRow, Note, Seal, Turn, LostTurn, Close, Met}
+use Rattle.history_model.specs.declared.phase.Phase.{Phase}
+use Rattle.history_model.specs.declared.phase.EndKind.{EndKind}
+use Rattle.history_model.specs.declared.phase.EndKind.TheVariants.{Release}
+use Rattle.booking_rows.specs.declared.turns.Aim.TheVariants as aim
+use Rattle.history_model.specs.declared.booking.End.{End}
+use Rattle.history_model.specs.Work.{NoStep}
+use Rattle.claim_rule.specs.Rule.{DeskView}
+use Rattle.claim_rule.specs.Calls.{Calls, ShapeBy}
+use Rattle.claim_rule.specs.Endings.{item_looks, items_read}
+use Rattle.claim_rule.specs.EndSteps.{gives_from, closing, ending_steps}
+use Rattle.claim_rule.specs.Out.{is_look, AllLooks, exchanges, IsTidy, KeepsHolds, KeepsEndings, EndsNone}
+use Rattle.claim_rule.proofs.Out.{tidy_through, settled_calm, still_idle}
+use Rattle.booking_rows.specs.Views.{RowSeen, LooksRow, saw_row}
+use Rattle.booking_rows.specs.Aims.{end_of}
+use Rattle.booking_rows.proofs.ViewLemmas.{row_all_looks}
+use Rattle.row_decisions.specs.Looks.{saw_owner, IsUnknown, IsWrong}
+use Rattle.confirm_core.specs.Confirming.{SawTerms, SawInTime, Confirms}
+use Rattle.confirm_core.specs.declared.confirming.Confirmed.{Confirmed}
+use Rattle.confirm_core.specs.declared.confirming.Confirmed.TheVariants as confirmed
+use Rattle.confirm_core.specs.Fulfilling.{Fulfils}
+use Rattle.confirm_core.specs.declared.fulfilling.Fulfilment.{Fulfilment}
+use Rattle.confirm_core.specs.declared.fulfilling.Fulfilment.TheVariants as fulfilled
+use Rattle.refund_core.specs.Releasing.{Releases}
+use Rattle.refund_core.specs.declared.releasing.Released.{Released}
+use Rattle.refund_core.specs.declared.releasing.Released.TheVariants as released
+use Rattle.booking_service.specs.Finding.{FindsBooking}
+
+calm_look : (st : Step) → is_look st ≡ true → exchanges st ≡ false
+calm_look (Look place shown) is = refl
+calm_look (SawRow row word value) is = refl
+calm_look (LostTurn row wanted shown) is = refl
+calm_look Met is = refl
+calm_look (Take row place span) is = refl
+calm_look (Give row item) is = refl
+calm_look (Start row) is = refl
+calm_look (Note row word value) is = refl
+calm_look (Seal row phase) is = refl
+calm_look (Close row) is = refl
+calm_look (Turn row from to moment amount successor) is = absurd (let no : false ≡ true = is in cc)
+
+pub calm_looks : (es : List Step) → AllLooks es → NoStep exchanges es
+calm_looks [] all = tt
+calm_looks (st ∷ es) all = (calm_look st all.0, calm_looks es all.1)
+
+pub calm_append : (xs ys : List Step) → NoStep exchanges xs → NoStep exchanges ys → NoStep exchanges (xs ++ ys)
+calm_append [] ys p q = q
+calm_append (x ∷ xs) ys p q = (p.0, calm_append xs ys p.1 q)
+
+-- steps of calls that hold no turn to an exchange
+abbrev pub AreCalm : Calls → Type 0
+AreCalm P = (es : List Step) → P es → NoStep exchanges es
+
+-- a tidy desk stays tidy through calm steps that leave its holds and its endings
+pub tidy_by : (P : Calls) (old new : DeskView) → AreCalm P → ShapeBy P old new → KeepsHolds old new → KeepsEndings old new → IsTidy old → IsTidy new
+tidy_by P old new calm did holds endings tidy = tidy_through old new did.0 did.2 (settled_calm old.number did.0 (calm did.0 did.1)) tidy (still_idle old new holds endings tidy.0)
+
+-- or through calm steps that leave its holds and no ending
+pub tidy_after : (P : Calls) (old new : DeskView) → AreCalm P → ShapeBy P old new → KeepsHolds old new → EndsNone new → IsTidy old → IsTidy new
+tidy_after P old new calm did holds none tidy = tidy_through old new did.0 did.2 (settled_calm old.number did.0 (calm did.0 did.1)) tidy (holds.none tidy.0.0, none)
+
+calm_row : (row : ℕ) (v : Option RowSeen) → AreCalm (LooksRow row v)
+calm_row row None es is = subst (NoStep exchanges) (sym is.2) (refl, tt)
+calm_row row (Some v) es is = subst (NoStep exchanges) (sym is.1) (calm_looks (saw_row row v) (row_all_looks row v))
+
+pub calm_find : (rows row retailer : ℕ) (v : Option RowSeen) → AreCalm (FindsBooking rows row retailer v)
+calm_find rows row retailer (Some v) es is = calm_row row (Some v) es is.2
+calm_find rows row retailer None es (inl is) = subst (NoStep exchanges) (sym is.1) tt
+calm_find rows row retailer None es (inr (here, inl is)) = calm_row row None es is
+calm_find rows row retailer None es (inr (here, inr is)) = calm_row row (Some is.0) es is.2
+
+calm_unknown : (rows row retailer : ℕ) (Saw : Phase → ℕ → List Step → Type 0) → ((shown : Phase) (who : ℕ) → AreCalm (Saw shown who)) → AreCalm (IsUnknown rows row retailer Saw)
+calm_unknown rows row retailer Saw calm es (inl is) = subst (NoStep exchanges) (sym is.1) tt
+calm_unknown rows row retailer Saw calm es (inr (here, shown, inl is)) = subst (NoStep exchanges) (sym is.1) (refl, tt)
+calm_unknown rows row retailer Saw calm es (inr (here, shown, inr (sealed, who, ne, saw))) = calm shown who es saw
+
+calm_wrong : (row : ℕ) (wanted shown : Phase) (Saw : Phase → List Step → Type 0) → ((was : Phase) → AreCalm (Saw was)) → AreCalm (IsWrong row wanted shown Saw)
+calm_wrong row wanted shown Saw calm es (inl (ne, sealed, saw)) = calm shown es saw
+calm_wrong row wanted shown Saw calm es (inr (front, back, saw, lost, is)) =
+    subst (NoStep exchanges) (sym is) (calm_append front back (calm wanted front saw) (subst (NoStep exchanges) (sym lost.1) (refl, tt)))
+
+pub calm_confirms : (rows row retailer now : ℕ) (a : Confirmed) → AreCalm (Confirms rows row retailer now a)
+calm_confirms rows row retailer now confirmed.Done es (here, (limit, le, is)) = subst (NoStep exchanges) (sym is) (refl, (refl, (refl, (refl, tt))))
+calm_confirms rows row retailer now confirmed.Unknown es is =
+    calm_unknown rows row retailer (SawTerms row) (λ shown who es' saw. subst (NoStep exchanges) (sym saw.1) (refl, (refl, (refl, tt)))) es is
+calm_confirms rows row retailer now (confirmed.TooLate limit) es (here, late, is) = subst (NoStep exchanges) (sym is) (refl, (refl, (refl, tt)))
+calm_confirms rows row retailer now (confirmed.WrongState shown) es (here, (limit, wrong)) =
+    calm_wrong row _ shown (SawInTime row retailer now limit) (λ was es' saw. subst (NoStep exchanges) (sym saw.1) (refl, (refl, (refl, tt)))) es wrong
+
+pub calm_fulfils : (rows row retailer : ℕ) (a : Fulfilment) → AreCalm (Fulfils rows row retailer a)
+calm_fulfils rows row retailer fulfilled.Done es (here, is) = subst (NoStep exchanges) (sym is) (refl, (refl, (refl, tt)))
+calm_fulfils rows row retailer fulfilled.Unknown es is =
+    calm_unknown rows row retailer (λ shown who es'. es' ≡ saw_owner row shown who) (λ shown who es' saw. subst (NoStep exchanges) (sym saw) (refl, (refl, tt))) es is
+calm_fulfils rows row retailer (fulfilled.WrongState shown) es (here, wrong) =
+    calm_wrong row _ shown (λ was es'. es' ≡ saw_owner row was retailer) (λ was es' saw. subst (NoStep exchanges) (sym saw) (refl, (refl, tt))) es wrong
+
+calm_items : (row w : ℕ) (items : List Item) (more : List Step) → NoStep exchanges more → NoStep exchanges (item_looks row w items ++ more)
+calm_items row w [] more calm = calm
+calm_items row w (i ∷ is) more calm = (refl, calm_items row (suc w) is more calm)
+
+calm_gives : (row k n : ℕ) (more : List Step) → NoStep exchanges more → NoStep exchanges (gives_from row k n ++ more)
+calm_gives row k zero more calm = calm
+calm_gives row k (suc n) more calm = (refl, calm_gives row (suc k) n more calm)
+
+calm_end : (row : ℕ) (kind : EndKind) (end : End) (items : List Item) → NoStep exchanges (items_read row items ++ ending_steps row kind end items)
+calm_end row kind end items = (refl, calm_items row _ items (ending_steps row kind end items) (calm_gives row 0 (length items) (closing row kind end) (refl, (refl, (refl, (refl, tt))))))
+
+pub calm_releases : (rows row retailer now : ℕ) (a : Released) → AreCalm (Releases rows row retailer now a)
+calm_releases rows row retailer now released.Done es (here, (items, le, is)) = subst (NoStep exchanges) (sym is) (refl, (refl, (refl, calm_end row Release (end_of (aim.Release now)) items)))
+calm_releases rows row retailer now released.Unknown es is =
+    calm_unknown rows row retailer (λ shown who es'. es' ≡ saw_owner row shown who) (λ shown who es' saw. subst (NoStep exchanges) (sym saw) (refl, (refl, tt))) es is
+calm_releases rows row retailer now (released.WrongState shown) es (here, wrong) =
+    calm_wrong row _ shown (λ was es'. es' ≡ saw_owner row was retailer) (λ was es' saw. subst (NoStep exchanges) (sym saw) (refl, (refl, tt))) es wrong
+
+-- the calls of the commands on a booking
+
+pub found_tidy : (rows row retailer : ℕ) (v : Option RowSeen) (old new : DeskView) → ShapeBy (FindsBooking rows row retailer v) old new → KeepsHolds old new → KeepsEndings old new → IsTidy old → IsTidy new
+found_tidy rows row retailer v old new = tidy_by (FindsBooking rows row retailer v) old new (calm_find rows row retailer v)
+
+pub confirmed_tidy : (rows row retailer now : ℕ) (a : Confirmed) (old new : DeskView) → ShapeBy (Confirms rows row retailer now a) old new → KeepsHolds old new → KeepsEndings old new → IsTidy old → IsTidy new
+confirmed_tidy rows row retailer now a old new = tidy_by (Confirms rows row retailer now a) old new (calm_confirms rows row retailer now a)
+
+pub fulfilled_tidy : (rows row retailer : ℕ) (a : Fulfilment) (old new : DeskView) → ShapeBy (Fulfils rows row retailer a) old new → KeepsHolds old new → KeepsEndings old new → IsTidy old → IsTidy new
+fulfilled_tidy rows row retailer a old new = tidy_by (Fulfils rows row retailer a) old new (calm_fulfils rows row retailer a)
+
+pub released_tidy : (rows row retailer now : ℕ) (a : Released) (old new : DeskView) → ShapeBy (Releases rows row retailer now a) old new → KeepsHolds old new → EndsNone new → IsTidy old → IsTidy new
+released_tidy rows row retailer now a old new = tidy_after (Releases rows row retailer now a) old new (calm_releases rows row retailer now a)

@@ -1,0 +1,73 @@
+-- What is done with a retailer's booking, and what is answered.
+use Rattle.std.specs.Prelude.{◌≡◌, ◌⊎◌, ℕ, Some, None}
+use Rattle.history_model.specs.declared.phase.Phase.{Phase}
+use Rattle.history_model.specs.declared.phase.Phase.TheVariants as phase
+use Rattle.history_model.specs.declared.phase.EndKind.{EndKind}
+use Rattle.history_model.specs.declared.phase.EndKind.TheVariants as kind
+use Rattle.history_model.specs.declared.booking.End.{End}
+use Rattle.claim_rule.specs.Rule.{DeskView}
+use Rattle.claim_rule.specs.Calls.{ShapeBy}
+use Rattle.booking_rows.specs.Views.{RowSeen}
+use Rattle.booking_rows.specs.Aims.{end_of}
+use Rattle.booking_rows.specs.declared.turns.Aim.TheVariants as aim
+use Rattle.confirm_core.specs.declared.confirming.Confirmed.{Confirmed}
+use Rattle.confirm_core.specs.declared.confirming.Confirmed.TheVariants as confirmed
+use Rattle.confirm_core.specs.Confirming.{Confirms}
+use Rattle.confirm_core.specs.declared.fulfilling.Fulfilment.{Fulfilment}
+use Rattle.confirm_core.specs.declared.fulfilling.Fulfilment.TheVariants as fulfilled
+use Rattle.confirm_core.specs.Fulfilling.{Fulfils}
+use Rattle.refund_core.specs.declared.releasing.Released.{Released}
+use Rattle.refund_core.specs.declared.releasing.Released.TheVariants as released
+use Rattle.refund_core.specs.Releasing.{Releases}
+use Rattle.osdm_texts.specs.declared.problem.Problem.TheVariants.{UnknownBooking, TooLate, WrongState, NoMemory}
+use Rattle.booking_service.specs.Finding.{FindsBooking}
+use Rattle.booking_service.specs.Replies.{Reply, booking, problem}
+
+-- which steps and replies a call may have, from what a desk has seen to what it has then seen
+abbrev pub Replying : Type 1
+Replying = DeskView → DeskView → Reply → Type 0
+
+-- A look for the booking. None is answered as unknown; with one, this is done, or there is no memory and nothing more is done.
+abbrev pub OnBooking : ℕ → ℕ → ℕ → (RowSeen → Replying) → Replying
+OnBooking rows row retailer Does old new reply =
+    (ShapeBy (FindsBooking rows row retailer None) old new × (reply ≡ problem UnknownBooking))
+    ⊎ ((v : RowSeen) × (mid : DeskView) × ShapeBy (FindsBooking rows row retailer (Some v)) old mid
+    × (Does v mid new reply ⊎ ((new ≡ mid) × (reply ≡ problem NoMemory))))
+
+-- the booking in another phase, and at an end
+abbrev pub in_phase : Phase → RowSeen → RowSeen
+in_phase phase v = record v { phase = phase; ended = None }
+
+abbrev pub at_end : EndKind → End → RowSeen → RowSeen
+at_end kind end v = record v { phase = phase.Ended kind; ended = Some end }
+
+abbrev pub shows : ℕ → RowSeen → Replying
+shows row v old new reply = (new ≡ old) × (reply ≡ booking row v)
+
+abbrev pub confirm_reply : ℕ → ℕ → RowSeen → Confirmed → Reply
+confirm_reply row now v confirmed.Done = booking row (in_phase phase.Confirmed v)
+confirm_reply row now v confirmed.Unknown = problem UnknownBooking
+confirm_reply row now v (confirmed.TooLate limit) = problem (TooLate limit now)
+confirm_reply row now v (confirmed.WrongState shown) = problem (WrongState shown)
+
+abbrev pub ConfirmsIt : ℕ → ℕ → ℕ → ℕ → RowSeen → Replying
+ConfirmsIt rows row retailer now v old new reply =
+    (a : Confirmed) × ShapeBy (Confirms rows row retailer now a) old new × (reply ≡ confirm_reply row now v a)
+
+abbrev pub fulfil_reply : ℕ → RowSeen → Fulfilment → Reply
+fulfil_reply row v fulfilled.Done = booking row (in_phase phase.Fulfilled v)
+fulfil_reply row v fulfilled.Unknown = problem UnknownBooking
+fulfil_reply row v (fulfilled.WrongState shown) = problem (WrongState shown)
+
+abbrev pub FulfilsIt : ℕ → ℕ → ℕ → RowSeen → Replying
+FulfilsIt rows row retailer v old new reply =
+    (a : Fulfilment) × ShapeBy (Fulfils rows row retailer a) old new × (reply ≡ fulfil_reply row v a)
+
+abbrev pub release_reply : ℕ → ℕ → RowSeen → Released → Reply
+release_reply row now v released.Done = booking row (at_end kind.Release (end_of (aim.Release now)) v)
+release_reply row now v released.Unknown = problem UnknownBooking
+release_reply row now v (released.WrongState shown) = problem (WrongState shown)
+
+abbrev pub ReleasesIt : ℕ → ℕ → ℕ → ℕ → RowSeen → Replying
+ReleasesIt rows row retailer now v old new reply =
+    (a : Released) × ShapeBy (Releases rows row retailer now a) old new × (reply ≡ release_reply row now v a)

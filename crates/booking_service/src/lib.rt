@@ -1,0 +1,15 @@
+//! What each command of a retailer does on a desk, and what it is answered.
+//!
+//! Every answer is the defined reply of the command, by the desk's own entries in this very call, whatever other desks do meanwhile. A
+//! command that changes a booking has its whole answer ready before the exchange that decides, so that want of memory changes no
+//! booking's fate: it is answered 500, and what was held is given back.
+#![tactic(auto)]
+
+mod answers;
+mod deciding;
+mod finding;
+#[cfg(test)]
+mod tests;
+
+pub use answers::problem_answer;
+pub use deciding::{confirm_booking, fulfil_booking, release_booking, show_booking};
