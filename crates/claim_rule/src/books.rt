@@ -9,9 +9,9 @@ ghost use Rattle.claim_rule.specs.Seats.{IsNew, IsSeatOf, HasMade, IsOf};
 ghost use Rattle.claim_rule.specs.Out.{IsTidy};
 
 use crate::desk::Desk;
+use crate::numbers::{number_of_place, number_of_row};
 use crate::rule::{Adds, OneHistory, Plan, Says, View};
 use atomic_table::{Seat, Table};
-use history_model::booking::ROW_WORDS;
 use history_model::entry::Step;
 use history_model::word::Word;
 use leg_masks::{Item, Span};
@@ -62,7 +62,7 @@ pub fn start_books(alloc: Global, legs: &[u8], rows: u32) -> Result<(Books, Desk
         rows,
         opening: Vec::new(alloc),
     };
-    let count = legs.len() + ROW_WORDS * rows as usize;
+    let count = number_of_row(legs.len() as u32, rows, 0);
     let words = Vec::from_elem(alloc, 0u64, count)?;
     let (table, seat): (Board, Seat<u64, View>) = Table::of_words(alloc, words.as_slice(), &plan)?;
     let books = Books {
@@ -117,9 +117,8 @@ impl Books {
         ensures { result ≡ index self.now.layout at }
     {
         match at {
-            Word::Place(place) => place as usize,
-            Word::Row(row, word) => self.places as usize
-                + (ROW_WORDS * row as usize + word as usize),
+            Word::Place(place) => number_of_place(place),
+            Word::Row(row, word) => number_of_row(self.places, row, word),
         }
     }
 

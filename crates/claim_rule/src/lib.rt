@@ -16,6 +16,7 @@ mod ending;
 mod hold;
 mod joins;
 mod looks;
+mod numbers;
 mod rule;
 mod wall;
 

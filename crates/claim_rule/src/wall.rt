@@ -4,6 +4,7 @@ ghost use Rattle.history_model.specs.Booking.{row_words};
 ghost use Rattle.history_model.specs.Words.{place_number, row_number};
 
 use crate::chronicle::Chronicle;
+use crate::numbers::{number_of_place, number_of_row};
 use atomic_table::Closed;
 use history_model::booking::ROW_WORDS;
 use rail_ids::{PlaceNo, RowNo};
@@ -38,7 +39,7 @@ impl Wall {
         ensures word { IfSome result (λ n. slice_get self.now.words (place_number place.0) ≡ Some n) }
     {
         if place.0 < self.places {
-            Some(self.closed.word(place.0 as usize))
+            Some(self.closed.word(number_of_place(place.0)))
         } else {
             None
         }
@@ -55,8 +56,7 @@ impl Wall {
         if usize::from(word) >= ROW_WORDS {
             return None;
         }
-        let at = self.places as usize + (ROW_WORDS * row.0 as usize + word as usize);
-        Some(self.closed.word(at))
+        Some(self.closed.word(number_of_row(self.places, row.0, word)))
     }
 }
 

@@ -222,8 +222,13 @@ fn item(place: u32, to: u8) -> Result<Item, Fail> {
 #[test]
 fn departs_first_in_the_example(rt: HostRuntime) -> Result<(), Fail> {
     let catalogue = example(rt.alloc())?;
-    let (window, others) = ([item(12, 1)?, item(13, 1)?, item(14, 1)?], [item(4, 2)?, item(5, 2)?, item(6, 2)?]);
-    let items = [window[0], window[1], others[0], others[1], window[2], others[2]];
+    let (window, others) = (
+        [item(12, 1)?, item(13, 1)?, item(14, 1)?],
+        [item(4, 2)?, item(5, 2)?, item(6, 2)?],
+    );
+    let items = [
+        window[0], window[1], others[0], others[1], window[2], others[2],
+    ];
     assert_eq!(rt; catalogue.first_departure(&items).seconds(), 1_780_300_800);
     assert_eq!(rt; catalogue.first_departure(&window).seconds(), 1_780_305_000);
     Ok(())

@@ -1,0 +1,20 @@
+//! The numbers of words in the table: places first, then rows.
+ghost use Rattle.std.specs.Prelude.{◌≡◌, ◌+◌, ◌*◌};
+ghost use Rattle.history_model.specs.Booking.{row_words};
+ghost use Rattle.history_model.specs.Words.{place_number};
+
+use history_model::booking::ROW_WORDS;
+
+/// The number of a place's word.
+pub(crate) fn number_of_place(place: u32) -> usize
+    ensures { result ≡ place_number place }
+{
+    place as usize
+}
+
+/// The number of a row's word in a table of so many places. That of the row behind the last is the number of all words.
+pub(crate) fn number_of_row(places: u32, row: u32, word: u8) -> usize
+    ensures { result ≡ places + (row_words * row + word) }
+{
+    places as usize + (ROW_WORDS * row as usize + word as usize)
+}
