@@ -160,7 +160,9 @@ impl Books {
         requires row { row < self.now.layout.rows }
         ensures { HasMade self.now.layout (either_step 0 (Start row) (Row row 0) result) seat.old seat.new }
     {
-        self.exchange_as::<Brand>(seat, Word::Row(row, 0), 0, 1, Step::Start { row })
+        let free = phase_word(Phase::Free);
+        let making = phase_word(Phase::Making);
+        self.exchange_as::<Brand>(seat, Word::Row(row, 0), free, making, Step::Start { row })
     }
 
     /// Notes a word of the hold's row.
@@ -203,7 +205,14 @@ impl Books {
         requires ready { IsAllowedStep self.now.layout (state_of self.now.layout seat.old.me.0.seen) seat.old.me.0.number (Seal row phase) }
         ensures { HasMade self.now.layout (Seal row phase) seat.old seat.new }
     {
+        let making = phase_word(Phase::Making);
         let new = phase_word(phase);
-        self.exchange_as::<Brand>(seat, Word::Row(row, 0), 1, new, Step::Seal { row, phase });
+        self.exchange_as::<Brand>(
+            seat,
+            Word::Row(row, 0),
+            making,
+            new,
+            Step::Seal { row, phase },
+        );
     }
 }
