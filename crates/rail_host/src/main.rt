@@ -9,6 +9,7 @@
 
 mod host;
 mod json;
+mod problem;
 mod refusal;
 mod reply;
 mod responder;
