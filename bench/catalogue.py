@@ -12,13 +12,10 @@ import argparse
 import datetime
 import os
 import pathlib
-import resource
-import shutil
-import subprocess
-import sys
 import tempfile
 
-ROOT = pathlib.Path(__file__).resolve().parent.parent
+from common import build, measured
+
 START = datetime.datetime(2026, 6, 1)
 
 PROGRAM = """#![tactic(auto)]
@@ -75,38 +72,8 @@ def shapes():
     yield "groups (1,280 runs of 2 stops, 1,408,000 places in groups of one)", catalogue(2_000, 1_280, 2, single)
 
 
-def measured(words, folder):
-    """Processor seconds and greatest memory in bytes of one run, and what it printed."""
-    before = resource.getrusage(resource.RUSAGE_CHILDREN).ru_utime
-    timed = subprocess.run(["/usr/bin/time", "-f", "%M"] + words, cwd=folder, capture_output=True, text=True)
-    if timed.returncode != 0:
-        sys.exit("%s: %s" % (words[0], timed.stderr))
-    after = resource.getrusage(resource.RUSAGE_CHILDREN).ru_utime
-    return after - before, int(timed.stderr.split()[-1]) * 1024, timed.stdout.strip()
-
-
-def build(folder):
-    """The program, in a copy of the repository with what its own checks kept."""
-    copy = folder / "copy"
-    shutil.copytree(ROOT, copy, ignore=shutil.ignore_patterns(".git"))
-    crate = copy / "crates" / "catalogue_reader"
-    for part in ["src", "specs", "proofs"]:
-        (crate / part).mkdir(parents=True)
-    (crate / "src" / "main.rt").write_text(PROGRAM)
-    (crate / "specs" / "Lib.antt").write_text("")
-    (crate / "proofs" / "Lib.antt").write_text("")
-    with open(copy / "crates.txt", "a") as lines:
-        lines.write("catalogue_reader: rail_catalogue place_map\n")
-    subprocess.run(["git", "init", "-q"], cwd=copy, check=True)
-    subprocess.run(["rt", "run"], cwd=crate, capture_output=True, text=True)
-    program = crate / "out" / "catalogue_reader"
-    if not program.exists():
-        sys.exit("the program was not built")
-    return program
-
-
 def report(folder):
-    program = build(folder)
+    program = build(folder, "catalogue_reader", "rail_catalogue place_map", PROGRAM)
     tree = ["python3", "-c", "import json; json.load(open('catalogue.json'))"]
     for name, text in shapes():
         (folder / "catalogue.json").write_text(text)
