@@ -1,3 +1,4 @@
 pub mod Giving
 pub mod Trying
 pub mod Adding
+pub mod Contending

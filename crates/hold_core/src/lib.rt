@@ -8,10 +8,12 @@
 
 mod abandons;
 mod adds;
+mod laws;
 #[cfg(test)]
 mod tests;
 mod tries;
 
 pub use abandons::abandon;
 pub use adds::{Added, add_places};
+pub use laws::contended_looks_have_causes;
 pub use tries::Outcome;

@@ -30,10 +30,14 @@ const EXAMPLE: &str = r#"{"currency":"EUR",
 
 const ID: &[u8] = b"B000007";
 
-const OFFERS: [(&str, &str); 3] = [
+const OFFERS: [(&str, &str); 4] = [
     (
         r#"{"adults":2,"children":1,"class":"SECOND","destination":"THUN","earliest":"2026-06-01T07:00:00Z","origin":"BASEL","wanted":["WINDOW"]}"#,
         "offers 0 3 1780297200 1780383600 2 1 Second 1",
+    ),
+    (
+        r#"{"adults":2,"children":1,"class":"SECOND","destination":"BASEL","earliest":"2026-06-01T07:00:00Z","origin":"THUN","wanted":["WINDOW"]}"#,
+        "offers 3 0 1780297200 1780383600 2 1 Second 1",
     ),
     (
         r#"{"adults":9,"latest":"2026-06-03T07:00:00Z","adults":8,"x":[{}],"class":"FIRST","destination":"OLTEN","earliest":"2026-06-01T07:00:00.9Z","origin":"BERN","wanted":["AISLE","POWER","AISLE"]}"#,
@@ -45,7 +49,7 @@ const OFFERS: [(&str, &str); 3] = [
     ),
 ];
 
-const BAD_OFFERS: [(&str, &str); 27] = [
+const BAD_OFFERS: [(&str, &str); 28] = [
     (r#"{"#, "NotJson"),
     (r#""#, "NotJson"),
     (r#"[]"#, "Field { name: Body }"),
@@ -112,9 +116,13 @@ const BAD_OFFERS: [(&str, &str); 27] = [
         r#"{"adults":1,"origin":"BASEL","destination":"NOWHERE","earliest":"2026-06-01T07:00:00Z"}"#,
         "UnknownStation { name: Destination }",
     ),
+    (
+        r#"{"adults":2,"children":1,"class":"SECOND","destination":"NOWHERE","earliest":"2026-06-01T07:00:00Z","origin":"BASEL","wanted":["WINDOW"]}"#,
+        "UnknownStation { name: Destination }",
+    ),
 ];
 
-const RESERVATIONS: [(&str, &str); 17] = [
+const RESERVATIONS: [(&str, &str); 19] = [
     (
         r#"{"class":"SECOND","count":4,"from":"BASEL","run":0,"to":"BERN","wanted":["AISLE"]}"#,
         "reserve 0 0 2 Second 4 2",
@@ -122,6 +130,14 @@ const RESERVATIONS: [(&str, &str); 17] = [
     (
         r#"{"run":1,"from":"BERN","to":"THUN"}"#,
         "reserve 1 0 1 Second 1 0",
+    ),
+    (
+        r#"{"class":"FIRST","from":"BASEL","run":0,"to":"BERN"}"#,
+        "reserve 0 0 2 First 1 0",
+    ),
+    (
+        r#"{"class":"SECOND","count":6,"from":"BERN","run":1,"to":"THUN"}"#,
+        "reserve 1 0 1 Second 6 0",
     ),
     (r#"5"#, "Field { name: Body }"),
     (r#"{}"#, "Field { name: Run }"),
@@ -165,9 +181,13 @@ const BOOKS: [(&str, &str); 4] = [
     (r#"{"offerId":5}"#, "Field { name: OfferId }"),
 ];
 
-const EXCHANGES: [(&str, &str); 4] = [
+const EXCHANGES: [(&str, &str); 5] = [
     (
         r#"{"bookingId":"B000000","offerId":"O1780293600-1-0-2-0-1.0.1"}"#,
+        "quote exchange 0 1780293600 1 0 Second 0 1",
+    ),
+    (
+        r#"{"bookingId":"B000000","offerId":"O1780293600-1-0-2-0-0.1.2"}"#,
         "quote exchange 0 1780293600 1 0 Second 0 1",
     ),
     (
@@ -178,10 +198,14 @@ const EXCHANGES: [(&str, &str); 4] = [
     (r#"{"bookingId":"B000000"}"#, "Field { name: OfferId }"),
 ];
 
-const ACCEPTED_EXCHANGES: [(&str, &str); 4] = [
+const ACCEPTED_EXCHANGES: [(&str, &str); 5] = [
     (
         r#"{"exchangeOfferId":"X0-1780293600-C-m550-O1780293600-1-0-2-0-0.1.2"}"#,
         "accept exchange 7 0 1780293600 false -550 1780293600 1 0 Second 0 1",
+    ),
+    (
+        r#"{"exchangeOfferId":"X0-1780293600-C-m750-O1780293600-1-0-2-0-1.0.1"}"#,
+        "accept exchange 7 0 1780293600 false -750 1780293600 1 0 Second 0 1",
     ),
     (r#"{"exchangeOfferId":"X"}"#, "accept exchange 7 none"),
     (r#"{}"#, "Field { name: ExchangeOfferId }"),

@@ -154,6 +154,15 @@ const IN_EXCHANGE: &str =
 const PLACES: &str =
     r#"{"places":[{"class":"SECOND","coach":1,"free":true,"place":11,"traits":["WINDOW"]},{"class":"SECOND","coach":1,"free":true,"place":12,"traits":["WINDOW"]},{"class":"SECOND","coach":1,"free":false,"place":13,"traits":["WINDOW"]},{"class":"SECOND","coach":1,"free":true,"place":14,"traits":["WINDOW"]},{"class":"SECOND","coach":1,"free":true,"place":15,"traits":["AISLE"]},{"class":"SECOND","coach":1,"free":true,"place":16,"traits":["AISLE"]}]}"#;
 
+const LATER_REFUND_OFFER: &str =
+    r#"{"amount":{"amount":2687,"currency":"EUR","scale":2},"id":"R0-1780294320-F-2687","validUntil":"2026-06-01T06:27:00Z"}"#;
+
+const OTHER_EXCHANGE_OFFER: &str =
+    r#"{"difference":{"amount":-750,"currency":"EUR","scale":2},"id":"X0-1780293600-C-m750-O1780293600-1-0-2-0-1.0.1","validUntil":"2026-06-01T06:15:00Z"}"#;
+
+const BEFORE_EXCHANGE: &str =
+    r#"{"confirmableUntil":"2026-06-01T06:15:00Z","id":"B000000","price":{"amount":2200,"currency":"EUR","scale":2},"reservations":[{"coach":1,"from":"BASEL","place":1,"run":0,"to":"BERN","train":501}],"settled":false,"status":"CONFIRMED"}"#;
+
 fn catalogue(rt: &impl Abort, alloc: Global) -> Catalogue {
     read_catalogue(alloc, EXAMPLE.as_bytes()).expect(rt, "a catalogue")
 }
@@ -231,6 +240,29 @@ fn problems_of_fields(rt: HostRuntime) {
         r#"{"code":"UnknownStation","detail":"destination","status":404,"title":"Unknown station"}"#,
     );
     assert_eq!(rt; Problem::UnknownStation { name }.status(), 404);
+    let name = FieldName::Adults;
+    check_problem(
+        &rt,
+        Problem::BadField { name },
+        r#"{"code":"BadField","detail":"adults","status":400,"title":"Bad field"}"#,
+    );
+}
+
+#[test]
+fn replies_of_problems_and_of_no_offers(rt: HostRuntime) -> Result<(), Fail> {
+    let cat = catalogue(&rt, rt.alloc());
+    let none: [Offer; 0] = [];
+    let reply = Reply::OfferList {
+        offers: none.as_slice(),
+    };
+    let text = reply_text(rt.alloc(), &cat, &reply)?;
+    assert_eq!(rt; text.as_slice(), br#"{"offers":[]}"#.as_slice());
+    let text = reply_text(rt.alloc(), &cat, &Reply::Problem(Problem::NoPlace))?;
+    assert_eq!(rt;
+        text.as_slice(),
+        br#"{"code":"NoPlace","status":409,"title":"No place"}"#.as_slice()
+    );
+    Ok(())
 }
 
 #[test]
@@ -240,6 +272,12 @@ fn problems_of_states_and_moments(rt: HostRuntime) {
         &rt,
         Problem::WrongState { shown },
         r#"{"code":"WrongState","detail":"EXPIRED","status":409,"title":"Wrong state"}"#,
+    );
+    let shown = Phase::Fulfilled;
+    check_problem(
+        &rt,
+        Problem::WrongState { shown },
+        r#"{"code":"WrongState","detail":"FULFILLED","status":409,"title":"Wrong state"}"#,
     );
     let (made, now) = (moment(&rt, 0), moment(&rt, 901));
     check_problem(
@@ -320,19 +358,34 @@ fn refund_with_a_ticket_collected_in_between(rt: HostRuntime) -> Result<(), Fail
 #[test]
 fn refund_offers(rt: HostRuntime) -> Result<(), Fail> {
     let cat = catalogue(&rt, rt.alloc());
-    let code = read_refund(b"R0-1780294200-C-3187").expect(&rt, "a refund offer");
-    let text = reply_text(rt.alloc(), &cat, &Reply::RefundOffer { code })?;
-    assert_eq!(rt; text.as_slice(), REFUND_OFFER.as_bytes());
+    for (id, want) in [
+        ("R0-1780294200-C-3187", REFUND_OFFER),
+        ("R0-1780294320-F-2687", LATER_REFUND_OFFER),
+    ] {
+        let code = read_refund(id.as_bytes()).expect(&rt, "a refund offer");
+        let text = reply_text(rt.alloc(), &cat, &Reply::RefundOffer { code })?;
+        assert_eq!(rt; text.as_slice(), want.as_bytes());
+    }
     Ok(())
 }
 
 #[test]
 fn exchange_offers(rt: HostRuntime) -> Result<(), Fail> {
     let cat = catalogue(&rt, rt.alloc());
-    let id = b"X0-1780293600-C-m550-O1780293600-1-0-2-0-0.1.2";
-    let code = read_exchange(id).expect(&rt, "an exchange offer");
-    let text = reply_text(rt.alloc(), &cat, &Reply::ExchangeOffer { code })?;
-    assert_eq!(rt; text.as_slice(), EXCHANGE_OFFER.as_bytes());
+    for (id, want) in [
+        (
+            "X0-1780293600-C-m550-O1780293600-1-0-2-0-0.1.2",
+            EXCHANGE_OFFER,
+        ),
+        (
+            "X0-1780293600-C-m750-O1780293600-1-0-2-0-1.0.1",
+            OTHER_EXCHANGE_OFFER,
+        ),
+    ] {
+        let code = read_exchange(id.as_bytes()).expect(&rt, "an exchange offer");
+        let text = reply_text(rt.alloc(), &cat, &Reply::ExchangeOffer { code })?;
+        assert_eq!(rt; text.as_slice(), want.as_bytes());
+    }
     Ok(())
 }
 
@@ -354,6 +407,8 @@ fn exchanges(rt: HostRuntime) -> Result<(), Fail> {
 #[test]
 fn exchanged_bookings(rt: HostRuntime) -> Result<(), Fail> {
     let items = [(0, 0, 2)];
+    let seen = view(&rt, Phase::Confirmed, 900, 2200, items.as_slice(), None);
+    check_booking(&rt, RowNo(0), seen, BEFORE_EXCHANGE)?;
     let ended = EndView {
         amount: -550,
         moment: moment(&rt, 0),
