@@ -107,6 +107,9 @@ retailer_fits row v old new did on = let b = seen_sealed row 1 v old new did (om
 pub limit_fits : (row v : ℕ) (old new : DeskView) → Stepped (SawRow row 2 v) old new → IsSealedRow old row → v ≤ last_moment
 limit_fits row v old new did on = let b = seen_sealed row 2 v old new did (omega arith) on in subst (λ (n : ℕ). n ≤ last_moment) (sym b.4) (b.3.sealed b.2).limit
 
+pub total_fits : (row v : ℕ) (old new : DeskView) → Stepped (SawRow row 3 v) old new → IsSealedRow old row → v ≤ greatest_amount
+total_fits row v old new did on = let b = seen_sealed row 3 v old new did (omega arith) on in subst (λ (n : ℕ). n ≤ greatest_amount) (sym b.4) (b.3.sealed b.2).total
+
 pub count_fits : (row v : ℕ) (old new : DeskView) → Stepped (SawRow row 4 v) old new → IsSealedRow old row → (v ≤ 24) × HasItems new row v
 count_fits row v old new did on =
     let b = seen_sealed row 4 v old new did (omega arith) on in

@@ -1,6 +1,7 @@
 -- A row as a look at it shows it.
-use Rattle.std.specs.Prelude.{◌≡◌, ℕ, ℤ, pos, negsuc, ◌==◌, ◌/◌, ◌%◌, if◌then◌else◌, Bool, true, false, List, [], ◌∷◌, ◌++◌, Option, Some, None}
-use Rattle.leg_masks.specs.Interval.{PlacedSpan as Item}
+use Rattle.std.specs.Prelude.{◌≡◌, ◌<◌, ◌≤◌, ℕ, ℤ, pos, negsuc, ◌==◌, ◌/◌, ◌%◌, if◌then◌else◌, Bool, true, false, List, [], ◌∷◌, ◌++◌, Option, Some, None}
+use Rattle.std.specs.List.{AllByRecursion}
+use Rattle.leg_masks.specs.Interval.{PlacedSpan as Item, most_places, most_legs}
 use Rattle.history_model.specs.declared.entry.Step.{Step}
 use Rattle.history_model.specs.declared.entry.Step.TheVariants.{SawRow}
 use Rattle.history_model.specs.declared.phase.Phase.{Phase}
@@ -61,11 +62,16 @@ abbrev pub HasSaidAmount : Phase → Option End → Type 0
 HasSaidAmount (Ended kind) (Some e) = SaysAmount kind e
 HasSaidAmount phase e = Unit {0}
 
+-- the item has a word, which is no other item's
+abbrev pub HasWord : Item → Type 0
+HasWord i = (i.place < most_places) × (i.span.from < i.span.to) × (i.span.to ≤ most_legs)
+
 -- a view of a sealed row. Its end stands exactly where the row is ended, with the amount that its word says
 pub record IsSeen (v : RowSeen) : Type 0 where
   pub sealed : is_sealed v.phase ≡ true
   pub ended : has_end v.phase v.ended ≡ true
   pub amount : HasSaidAmount v.phase v.ended
+  pub items : AllByRecursion HasWord v.items
 
 -- what a look at the row answers, with its steps
 abbrev pub LooksRow : ℕ → Option RowSeen → List Step → Type 0

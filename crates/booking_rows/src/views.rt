@@ -1,14 +1,15 @@
 //! Reading a row: its phase first, and the words of a sealed one after it.
 ghost use Rattle.std.specs.Prelude.{ℕ, ◌≡◌, ◌≤◌, ◌<◌, ◌+◌, ◌^◌, ◌∷◌, [], true, length, option_map, IfSome};
+ghost use Rattle.std.specs.List.{AllByRecursion};
 ghost use Rattle.leg_masks.specs.Interval.{IsItemOf};
 ghost use Rattle.history_model.specs.declared.phase.EndKind.TheVariants.{Exchange};
-ghost use Rattle.history_model.specs.Booking.{most_items, amount_word, greatest_retailer, last_moment};
+ghost use Rattle.history_model.specs.Booking.{most_items, amount_word, greatest_amount, greatest_retailer, last_moment};
 ghost use Rattle.history_model.specs.Phase.{is_sealed as is_sealed_phase};
 ghost use Rattle.claim_rule.specs.Endings.{items_read};
 ghost use Rattle.claim_rule.specs.Seats.{IsOf, Shape, AddsAtMost};
 ghost use Rattle.claim_rule.specs.Calls.{ShapeBy};
 ghost use Rattle.claim_rule.specs.Out.{KeepsHolds, KeepsEndings};
-ghost use Rattle.booking_rows.specs.Views.{LooksRow, IsSeen, end_looks, saw_end, saw_words, has_end, said_amount, SaysAmount, HasSaidAmount};
+ghost use Rattle.booking_rows.specs.Views.{LooksRow, IsSeen, HasWord, end_looks, saw_end, saw_words, has_end, said_amount, SaysAmount, HasSaidAmount};
 ghost use Rattle.booking_rows.specs.Ends.{shown_end, successor_word};
 ghost use Rattle.booking_rows.specs.SealedRows.{FitWords, IsSealedRow, IsSealedSince, IsEndedRow, IsAmountWord, IsItemWord};
 
@@ -60,6 +61,7 @@ pub fn look_row(books: &Books, desk: &mut Desk, row: RowNo) -> Option<RowView>
     ensures own { IsOf books.now desk.new }
     ensures entries { ShapeBy (LooksRow row.0 result) desk.old desk.new }
     ensures sealed { IfSome result (λ view. IsSealedSince desk.new row.0 view.phase) }
+    ensures total { IfSome result (λ view. view.total ≤ greatest_amount) }
     ensures holds { KeepsHolds desk.old desk.new }
     ensures endings { KeepsEndings desk.old desk.new }
     ensures bound { AddsAtMost (most_items + 8) desk.old desk.new }
@@ -90,6 +92,7 @@ fn read_sealed(books: &Books, desk: &mut Desk, row: RowNo, phase: Phase) -> RowV
     ensures own { IsOf books.now desk.new }
     ensures phase { result.phase ≡ phase }
     ensures seen { IsSeen result }
+    ensures total { result.total ≤ greatest_amount }
     ensures entries { Shape desk.old desk.new (saw_words row.0 result) }
     ensures few { length result.items ≤ most_items }
     ensures sealed { IsSealedSince desk.new row.0 phase }
@@ -118,6 +121,7 @@ fn read_items(books: &Books, desk: &mut Desk, row: RowNo) -> ArrayVec<Item, MOST
     requires sealed { IsSealedRow desk.old row.0 }
     ensures own { IsOf books.now desk.new }
     ensures entries { Shape desk.old desk.new (items_read row.0 result.items) }
+    ensures words { AllByRecursion HasWord result.items }
     ensures few { length result.items ≤ most_items }
     ensures kept { desk.new.kept ≡ desk.old.kept }
 {

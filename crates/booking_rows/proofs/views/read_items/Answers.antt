@@ -1,10 +1,13 @@
 use Rattle.std.proofs.Common.{◌<◌, ◌≤◌, ◌+◌, ℕ, ◌≡◌, List, [], ◌∷◌, ◌++◌, length-append, length, ap, ◌∙◌, subst, sym, arith, All}
+use Rattle.std.specs.List.{AllByRecursion}
 use Rattle.leg_masks.specs.Interval.{most_places, most_legs, PlacedSpan as Item}
 use Rattle.history_model.specs.Booking.{Layout}
 use Rattle.history_model.specs.declared.entry.Step.TheVariants.{SawRow}
 use Rattle.claim_rule.specs.Seats.{Shape}
 use Rattle.claim_rule.specs.Endings.{item_looks}
 use Rattle.claim_rule.proofs.Shapes.{step_shape}
+use Rattle.history_model.proofs.ListLemmas.{All-append}
+use Rattle.booking_rows.specs.Views.{HasWord}
 use Rattle.booking_rows.proofs.ViewLemmas.{count_fits, shows_item, items_on, one_more}
 use Rattle.booking_rows.proofs.views.read_items.Goals as goal
 
@@ -34,6 +37,7 @@ loop-i-init c =
       many = ap length none;
       kept = look.same.5;
       few = subst (λ (l : List Item). length l ≤ 24) (sym none) (omega arith);
+      words = subst (AllByRecursion HasWord) (sym none) tt;
       seen = subst (λ (l : List Item). Shape c.args.desk.now new (SawRow c.args.row.0 4 v ∷ item_looks c.args.row.0 8 l)) (sym none) (step_shape (SawRow c.args.row.0 4 v) c.args.desk.now new look);
     }
 
@@ -83,6 +87,8 @@ loop-i-preserved c =
       many = ap length pushed ∙ (length-append is (i ∷ []) ∙ ap (λ (n : ℕ). n + 1) so.many);
       kept = look.same.5 ∙ so.kept;
       few = subst (λ (l : List Item). length l ≤ 24) (sym pushed) (one_less is i k count so.many c.loop-i-test.true few);
+      words = subst (AllByRecursion HasWord) (sym pushed)
+          (All-append HasWord is (i ∷ []) so.words ((c.item_of.ensures.item.0, c.item_of.ensures.item.1, c.item_of.ensures.item.2), tt));
       seen = subst (λ (l : List Item). Shape c.args.desk.now new (SawRow row 4 count ∷ item_looks row 8 l)) (sym pushed)
           (one_more c.args.desk.now old new row v k count is i so.many c.item_of.ensures.item so.seen look);
     }

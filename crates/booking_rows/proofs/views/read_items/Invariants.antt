@@ -2,7 +2,9 @@ use Rattle.std.proofs.Common.{◌≡◌, ◌≤◌, ◌∷◌, length}
 use Rattle.history_model.specs.declared.entry.Step.TheVariants.{SawRow}
 use Rattle.claim_rule.specs.Seats.{IsOf, Shape}
 use Rattle.claim_rule.specs.Endings.{item_looks}
+use Rattle.std.specs.List.{AllByRecursion}
 use Rattle.booking_rows.specs.SealedRows.{HasItems}
+use Rattle.booking_rows.specs.Views.{HasWord}
 use Rattle.booking_rows.proofs.views.read_items.Given as goal
 
 abbrev pub invariant-loop-i : goal.invariant-loop-i
@@ -12,5 +14,6 @@ invariant-loop-i l = record {
   many : length l.items.items ≡ l.i;
   kept : l.desk.kept ≡ l.fn.desk.kept;
   few : length l.items.items ≤ 24;
+  words : AllByRecursion HasWord l.items.items;
   seen : Shape l.fn.desk l.desk (SawRow l.row.0 4 l.count ∷ item_looks l.row.0 8 l.items.items);
 }

@@ -2,7 +2,7 @@ use Rattle.std.proofs.Common.{refl, option_map}
 use Rattle.claim_rule.specs.Endings.{items_read}
 use Rattle.booking_rows.specs.Views.{saw_end}
 use Rattle.booking_rows.specs.Ends.{shown_end}
-use Rattle.booking_rows.proofs.ViewLemmas.{retailer_fits, limit_fits, since_next, since_on, sealed_of, words_shape}
+use Rattle.booking_rows.proofs.ViewLemmas.{retailer_fits, limit_fits, total_fits, since_next, since_on, sealed_of, words_shape}
 use Rattle.booking_rows.proofs.views.read_sealed.Goals as goal
 
 pub retailer_of-retailer-requires : goal.retailer_of-retailer-requires
@@ -44,7 +44,7 @@ returns-clause-sealed c =
     since_on c.read_items-items.new.desk c.read_end-ended.new.desk (saw_end row ph (option_map shown_end c.read_end-ended.result)) row ph c.read_end-ended.ensures.entries read
 
 pub returns-clause-seen : goal.returns-clause-seen
-returns-clause-seen c = record { sealed = c.requires.phase; ended = c.read_end-ended.ensures.there; amount = c.read_end-ended.ensures.said }
+returns-clause-seen c = record { sealed = c.requires.phase; ended = c.read_end-ended.ensures.there; amount = c.read_end-ended.ensures.said; items = c.read_items-items.ensures.words }
 
 pub returns-clause-entries : goal.returns-clause-entries
 returns-clause-entries c =
@@ -54,3 +54,11 @@ returns-clause-entries c =
     c.step_read.ensures.look c.step_read-2.ensures.look c.step_read-total.ensures.look
     c.retailer_of-retailer.ensures.number c.moment_of-limit.ensures.moment refl
     c.read_items-items.ensures.entries c.read_end-ended.ensures.entries
+
+pub returns-clause-total : goal.returns-clause-total
+returns-clause-total c =
+    let row = c.args.row.0 in
+    let ph = c.args.phase in
+    let one = since_next row 1 c.step_read.result ph c.args.desk.now c.step_read.new.desk c.step_read.ensures.look c.requires.sealed in
+    let two = since_next row 2 c.step_read-2.result ph c.step_read.new.desk c.step_read-2.new.desk c.step_read-2.ensures.look one in
+    total_fits row c.step_read-total.result c.step_read-2.new.desk c.step_read-total.new.desk c.step_read-total.ensures.look (sealed_of c.step_read-2.new.desk row ph two)
