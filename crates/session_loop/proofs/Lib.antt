@@ -1,3 +1,4 @@
 pub mod WriteLemmas
 pub mod Serving
 pub mod Views
+pub mod Keeping

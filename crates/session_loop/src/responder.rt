@@ -9,6 +9,9 @@ use http_wire::{Answer, Intake, Request, WireFault};
 
 /// Answers the requests of one connection.
 pub trait Responder {
+    /// What a responder has to be like to be asked. It is so again after each answer.
+    ghost ready: { Self → Type 0 };
+
     /// The responder before, the request, the bytes of its answer, the responder after.
     ghost answers: { Self → RequestText → List ℕ → Self → Type 0 };
 
@@ -19,6 +22,8 @@ pub trait Responder {
     fn answer(&mut self, intake: &Intake, request: &Request, last: bool) -> Answer
         requires given { ArePiecesWithin (length intake.now.taken) request.now }
         requires last { last ≡ request.now.last }
+        requires ready { ready self.old }
+        ensures ready { ready self.new }
         ensures answers { answers self.old (request_text intake.now.taken request.now) (answer_bytes result) self.new };
 
     /// Answers what stands in a request's place, and stays as it was.

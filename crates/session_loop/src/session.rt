@@ -18,12 +18,14 @@ fn step<S: Source, K: Sink, R: Responder>(
     sink: &mut K,
     responder: &mut R,
 ) -> Option<ConnEnd>
-    requires { intake.old.given < 65536 }
+    requires few { intake.old.given < 65536 }
+    requires ready { R.ready responder.old }
     ensures step { (pulled written : List ℕ)
         × (S.told source.old ≡ with_front pulled (S.told source.new))
         × (K.told sink.new ≡ with_end (K.told sink.old) written)
         × IsStep R.answers R.refuses (intake.old.given + 1) (intake.old.unread ++ pulled) intake.new.unread
         responder.old responder.new (S.told source.new) written result }
+    ensures ready { R.ready responder.new }
     ensures given { IfNone result (intake.new.given ≡ intake.old.given + 1) }
     ensures source_faults { S.faults source.old ≤ S.faults source.new }
     ensures sink_faults { K.faults sink.old ≤ K.faults sink.new }
@@ -66,10 +68,12 @@ pub fn run_session<S: Source, K: Sink, R: Responder>(
 ) -> ConnEnd
     requires fresh { intake.old.given ≡ 0 }
     requires empty { intake.old.unread ≡ [] }
+    requires ready { R.ready responder.old }
     ensures answers { (taken written : List ℕ)
         × (S.told source.old ≡ with_front taken (S.told source.new))
         × (K.told sink.new ≡ with_end (K.told sink.old) written)
         × IsEnd R.answers R.refuses responder.old responder.new taken (S.told source.new) written result }
+    ensures ready { R.ready responder.new }
     ensures source_faults { S.faults source.old ≤ S.faults source.new }
     ensures sink_faults { K.faults sink.old ≤ K.faults sink.new }
     ensures read_cause { result ≡ ReadFault → Rose (S.faults source.old) (S.faults source.new) }

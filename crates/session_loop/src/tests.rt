@@ -38,6 +38,8 @@ struct Echo {
 }
 
 impl Responder for Echo {
+    ghost ready = { λ _. Unit {0} };
+
     ghost answers = { λ _ _ _ _. Unit {0} };
 
     ghost refuses = { λ _ _ _. Unit {0} };

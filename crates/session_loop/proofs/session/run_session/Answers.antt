@@ -16,6 +16,7 @@ requests-init g c = record {
   written = [];
   sent = end_none (g.K.Sink.told c.args.sink.now);
   chain = (refl, refl);
+  ready = c.requires.ready;
   source_faults = refl;
   sink_faults = refl;
 }
@@ -68,6 +69,7 @@ requests-preserved g c =
       written = inv.written ++ step.1;
       sent = step.3 ∙ ap (λ (o : Option (List ℕ)). with_end o step.1) inv.sent ∙ end_more (g.K.Sink.told c.args.sink.now) inv.written step.1;
       chain = next.chain;
+      ready = c.in_default.ensures.ready;
       source_faults = c.in_default.ensures.source_steady (λ e. absurd cc) ∙ inv.source_faults;
       sink_faults = c.in_default.ensures.sink_steady (λ e. absurd cc) ∙ inv.sink_faults;
     }

@@ -16,6 +16,7 @@ invariant-requests g l = record {
   written : List ℕ;
   sent : g.K.Sink.told l.sink ≡ with_end (g.K.Sink.told l.fn.sink) written;
   chain : Chain g.R.Responder.answers l.fn.responder requests written l.responder;
+  ready : g.R.Responder.ready l.responder;
   source_faults : g.S.Source.faults l.source ≡ g.S.Source.faults l.fn.source;
   sink_faults : g.K.Sink.faults l.sink ≡ g.K.Sink.faults l.fn.sink;
 }
