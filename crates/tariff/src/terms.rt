@@ -154,6 +154,7 @@ pub fn exchange_difference(terms: &Terms, refund: u64, new_total: u64) -> i64
     ensures difference { result ≡ pos (new_total + terms.now.exchange_fee) -ℤ pos refund }
     ensures least { negsuc 99_999_999_998 ≤ℤ result }
     ensures most { result ≤ℤ pos 100_009_999_999 }
+    ensures above { result ≤ℤ pos (new_total + 10_000_000) }
 {
     new_total as i64 + i64::from(terms.exchange_fee) - refund as i64
 }
