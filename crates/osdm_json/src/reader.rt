@@ -1,4 +1,4 @@
-ghost use Rattle.std.specs.Prelude.{◌≡◌, Result, Err, IfOk, IfErr};
+ghost use Rattle.std.specs.Prelude.{◌≡◌, true, Result, Err, IfOk, IfErr};
 ghost use Rattle.serde_json.specs.Data.{Data};
 ghost use Rattle.serde_json.specs.View.{view};
 ghost use Rattle.rail_catalogue.specs.Json.{json_of};
@@ -24,7 +24,7 @@ use serde_json::Value;
 use std::alloc::Global;
 
 /// The command that a route asks with this body, or the first fault: fields in the order of the route's table, then stations. A route that
-/// has no body lets it be. `NoMemory` is the one answer without a cause.
+/// has no body lets it be, and takes no memory. `NoMemory` is the one answer without a cause.
 pub fn read_command(
     alloc: Global,
     cat: &Catalogue,
@@ -34,6 +34,7 @@ pub fn read_command(
     ensures ok { IfOk result (λ c. Asks (asked_by cat.now route.entry body.now) c) }
     ensures readable { IfOk result (λ c. IsReadable cat.now c) }
     ensures err { IfErr result (λ e. ¬ (e ≡ BodyFault.NoMemory) → asked_by cat.now route.entry body.now ≡ Err e) }
+    ensures memory { IfErr result (λ e. e ≡ BodyFault.NoMemory → has_body_of route.entry ≡ true) }
 {
     if !has_body(&route) {
         return read_in(alloc, cat, &route, &Value::Null);
