@@ -1,1 +1,3 @@
 pub mod ReleaseSteps
+pub mod QuoteSteps
+pub mod RefundSteps

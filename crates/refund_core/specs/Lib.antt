@@ -1,1 +1,3 @@
 pub mod Releasing
+pub mod Quotes
+pub mod Refunding

@@ -1,10 +1,19 @@
-//! Releasing a prebooked booking.
+//! Releasing a prebooked booking, and refunding a confirmed one by a quote.
 //!
-//! The call looks at the row, decides by one exchange on the row's phase, and then gives every item back before it answers.
+//! Each call looks at the row, decides by one exchange on the row's phase, and then gives every item back before it answers. A quote
+//! spells all that it rests on, so nothing is kept of it.
 //!
 //! No call takes memory, and none waits.
 #![tactic(auto)]
 
+mod quotes;
+mod quoting;
+mod refunding;
 mod releasing;
 
+pub use quotes::{
+    QUOTE_SECONDS, find_booking, is_collected, is_named, is_stale, phase_named, refund_at,
+};
+pub use quoting::{Quoted, quote_refund};
+pub use refunding::{Refunded, accept_refund};
 pub use releasing::{Released, release};
