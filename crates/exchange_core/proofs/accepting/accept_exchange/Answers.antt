@@ -1,0 +1,56 @@
+use Rattle.std.proofs.Common.{rules, ◌≡◌, ◌+◌, ℕ, refl, ap, ◌∙◌, subst, to_z, of_z, w64}
+use Rattle.claim_rule.specs.Calls.{ShapeBy}
+use Rattle.claim_rule.specs.Endings.{EndingView}
+use Rattle.offer_codes.specs.Exchanges.{exchange_view}
+use Rattle.row_decisions.proofs.Finishing.{few_items}
+use Rattle.exchange_core.specs.Ready.{ReadyView}
+use Rattle.exchange_core.specs.Accepting.{AcceptsExchange, IsExchanged, exchange_steps}
+use Rattle.exchange_core.specs.declared.accepting.Exchanged.TheVariants as exchanged
+use Rattle.exchange_core.proofs.Ending.{may_seal, exchanged as ends_exchanged}
+use Rattle.exchange_core.proofs.Exchanging.{kind_is, carried, settled_done, settled_lost, exchange_bound}
+use Rattle.exchange_core.proofs.accepting.accept_exchange.Goals as goal
+
+pub seal-new-requires-clause-hold : goal.seal-new-requires-clause-hold
+seal-new-requires-clause-hold c = c.turn.ensures.holds.hold c.args.hold c.requires.hold
+
+pub seal-new-requires-clause-phase : goal.seal-new-requires-clause-phase
+seal-new-requires-clause-phase c =
+    let l = c.in-Ending.ensures.leaves in
+    may_seal c.turn.new.desk c.in-Ending.ending c.args.hold.row l.2 (kind_is c.in-Ending.ending.kind l.0) (ap (λ (e : EndingView). e.end.successor) l.1 ∙ ap (λ (n : ℕ). n + 1) c.row.ensures)
+
+pub finish_end-requires-clause-ending : goal.finish_end-requires-clause-ending
+finish_end-requires-clause-ending c = c.seal-new.ensures.endings.ending c.in-Ending.ending c.in-Ending.ensures.leaves.2
+
+pub returns-in-Lost-clause-lost : goal.returns-in-Lost-clause-lost
+returns-in-Lost-clause-lost c = (refl, c.turn.ensures.holds.hold c.args.hold c.requires.hold)
+
+pub returns-in-Lost-clause-settled : goal.returns-in-Lost-clause-settled
+returns-in-Lost-clause-settled c = settled_lost c.args.desk.now c.turn.new.desk c.ready.inside.code.row.0 c.phase_named-from.result c.in-Lost.shown c.in-Lost.ensures.entries
+
+pub returns-in-Ending-clause-entries : goal.returns-in-Ending-clause-entries
+returns-in-Ending-clause-entries c =
+    let i = c.ready.inside in
+    let e = c.in-Ending.ending in
+    let l = c.in-Ending.ensures.leaves in
+    let r : ReadyView = record { code = exchange_view i.code; retailer = i.retailer.0; moment = i.moment } in
+    let amount : to_z w64 (of_z w64 i.code.difference) ≡ i.code.difference = search rules in
+    subst (λ (y : ReadyView). ShapeBy (AcceptsExchange y c.args.hold.row (exchanged.Done c.seal-new.result (to_z w64 (of_z w64 i.code.difference)))) c.args.desk.now c.finish_end.new.desk) c.ready.view_is (
+      exchange_steps r c.args.hold.row e.items,
+      (c.seal-new.ensures.row, amount, (e.items, few_items c.turn.new.desk e c.in-Ending.ensures.own.legal l.2 (ap (λ (y : EndingView). y.read) l.1) (ap (λ (y : EndingView). y.given) l.1), refl)),
+      carried c.args.desk.now c.turn.new.desk c.seal-new.new.desk c.finish_end.new.desk r c.phase_named-from.result (to_z w64 (of_z w64 i.code.difference)) c.row.result c.args.hold.row e
+          c.phase_named-from.ensures.phase amount c.row.ensures l.0 l.1 c.in-Ending.ensures.entries c.seal-new.ensures.entries c.finish_end.ensures.entries,
+    )
+
+pub returns-in-Ending-clause-ended : goal.returns-in-Ending-clause-ended
+returns-in-Ending-clause-ended c =
+    let l = c.in-Ending.ensures.leaves in
+    subst (IsExchanged c.finish_end.new.desk) (ap (λ (e : EndingView). e.row) l.1 ∙ ap (λ (r : ReadyView). r.code.row) c.ready.view_is)
+    (ends_exchanged c.turn.new.desk c.seal-new.new.desk c.finish_end.new.desk _ _ c.in-Ending.ending (kind_is c.in-Ending.ending.kind l.0) l.2 c.seal-new.ensures.entries c.finish_end.ensures.entries c.finish_end.ensures.none)
+
+pub returns-in-Ending-clause-settled : goal.returns-in-Ending-clause-settled
+returns-in-Ending-clause-settled c =
+    settled_done c.args.desk.now c.finish_end.new.desk c.args.ready c.args.hold.row c.seal-new.result (to_z w64 (of_z w64 c.ready.inside.code.difference)) (returns-in-Ending-clause-entries c)
+
+pub returns-in-Ending-clause-bound : goal.returns-in-Ending-clause-bound
+returns-in-Ending-clause-bound c =
+    exchange_bound c.args.desk.now c.finish_end.new.desk c.args.ready c.args.hold.row c.seal-new.result (to_z w64 (of_z w64 c.ready.inside.code.difference)) (returns-in-Ending-clause-entries c)
