@@ -21,7 +21,7 @@ use Rattle.refund_core.specs.declared.releasing.Released.TheVariants as released
 use Rattle.refund_core.specs.Releasing.{Releases}
 use Rattle.osdm_texts.specs.declared.problem.Problem.TheVariants.{UnknownBooking, TooLate, WrongState, NoMemory}
 use Rattle.booking_service.specs.Finding.{FindsBooking}
-use Rattle.booking_service.specs.Replies.{Reply, booking, problem}
+use Rattle.osdm_answers.specs.Replies.{Reply, booking, problem}
 
 -- which steps and replies a call may have, from what a desk has seen to what it has then seen
 abbrev pub Replying : Type 1

@@ -6,16 +6,16 @@ ghost use Rattle.claim_rule.specs.Out.{IsTidy, IsIdle, KeepsHolds, KeepsEndings}
 ghost use Rattle.history_model.specs.declared.phase.EndKind.TheVariants as kind;
 ghost use Rattle.booking_rows.specs.declared.turns.Aim.TheVariants as aim;
 ghost use Rattle.booking_rows.specs.Aims.{end_of};
-ghost use Rattle.booking_service.specs.Replies.{Reply as Replied, booking, reply_bytes};
+ghost use Rattle.osdm_answers.specs.Replies.{Reply as Replied, booking, reply_bytes};
 ghost use Rattle.booking_service.specs.Deciding.{OnBooking, shows, ConfirmsIt, FulfilsIt, ReleasesIt, in_phase as in_phase_of, at_end};
 
-use crate::answers::{problem_answer, told_answer};
 use crate::finding::find_booking;
 use booking_rows::{EndView, RowView};
 use claim_rule::{Books, Desk};
 use confirm_core::{Confirmed, Fulfilment, confirm, fulfil};
 use history_model::phase::{EndKind, Phase};
 use http_wire::Answer;
+use osdm_answers::{problem_answer, reply_answer};
 use osdm_texts::{Problem, Reply};
 use rail_catalogue::Catalogue;
 use rail_ids::{RetailerNo, RowNo};
@@ -33,7 +33,7 @@ fn booking_answer(
 ) -> Option<Answer>
     ensures bytes { IfSome result (λ answer. answer_bytes answer ≡ reply_bytes cat.now last (booking row.0 view)) }
 {
-    told_answer(alloc, cat, 200, &Reply::Booking { row, view }, last)
+    reply_answer(alloc, cat, 200, &Reply::Booking { row, view }, last)
 }
 
 fn in_phase(phase: Phase, view: RowView) -> RowView
@@ -57,9 +57,10 @@ pub fn show_booking(
     last: bool,
 ) -> Answer
     requires own { IsOf books.now desk.old }
-    requires tidy { IsTidy desk.old }
+    requires idle { IsIdle desk.old }
     ensures own { IsOf books.now desk.new }
-    ensures tidy { IsTidy desk.new }
+    ensures idle { IsIdle desk.new }
+    ensures tidy { IsTidy desk.old → IsTidy desk.new }
     ensures answer { (reply : Replied) × OnBooking books.now.layout.rows row.0 retailer.0 (shows row.0) desk.old desk.new reply × (answer_bytes result ≡ reply_bytes cat.now last reply) }
 {
     let Some(view) = find_booking(books, desk, row, retailer) else {
@@ -83,9 +84,10 @@ pub fn confirm_booking(
     last: bool,
 ) -> Answer
     requires own { IsOf books.now desk.old }
-    requires tidy { IsTidy desk.old }
+    requires idle { IsIdle desk.old }
     ensures own { IsOf books.now desk.new }
-    ensures tidy { IsTidy desk.new }
+    ensures idle { IsIdle desk.new }
+    ensures tidy { IsTidy desk.old → IsTidy desk.new }
     ensures answer { (reply : Replied) × OnBooking books.now.layout.rows row.0 retailer.0 (ConfirmsIt books.now.layout.rows row.0 retailer.0 now) desk.old desk.new reply × (answer_bytes result ≡ reply_bytes cat.now last reply) }
 {
     let Some(view) = find_booking(books, desk, row, retailer) else {
@@ -113,9 +115,10 @@ pub fn fulfil_booking(
     last: bool,
 ) -> Answer
     requires own { IsOf books.now desk.old }
-    requires tidy { IsTidy desk.old }
+    requires idle { IsIdle desk.old }
     ensures own { IsOf books.now desk.new }
-    ensures tidy { IsTidy desk.new }
+    ensures idle { IsIdle desk.new }
+    ensures tidy { IsTidy desk.old → IsTidy desk.new }
     ensures answer { (reply : Replied) × OnBooking books.now.layout.rows row.0 retailer.0 (FulfilsIt books.now.layout.rows row.0 retailer.0) desk.old desk.new reply × (answer_bytes result ≡ reply_bytes cat.now last reply) }
 {
     let Some(view) = find_booking(books, desk, row, retailer) else {
@@ -157,9 +160,10 @@ pub fn release_booking(
     last: bool,
 ) -> Answer
     requires own { IsOf books.now desk.old }
-    requires tidy { IsTidy desk.old }
+    requires idle { IsIdle desk.old }
     ensures own { IsOf books.now desk.new }
-    ensures tidy { IsTidy desk.new }
+    ensures idle { IsIdle desk.new }
+    ensures tidy { IsTidy desk.old → IsTidy desk.new }
     ensures answer { (reply : Replied) × OnBooking books.now.layout.rows row.0 retailer.0 (ReleasesIt books.now.layout.rows row.0 retailer.0 now) desk.old desk.new reply × (answer_bytes result ≡ reply_bytes cat.now last reply) }
 {
     let Some(view) = find_booking(books, desk, row, retailer) else {

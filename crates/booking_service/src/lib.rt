@@ -5,11 +5,9 @@
 //! booking's fate: it is answered 500, and what was held is given back.
 #![tactic(auto)]
 
-mod answers;
 mod deciding;
 mod finding;
 #[cfg(test)]
 mod tests;
 
-pub use answers::problem_answer;
 pub use deciding::{confirm_booking, fulfil_booking, release_booking, show_booking};
