@@ -1,0 +1,4 @@
+pub mod Placed
+pub mod Runs
+pub mod Calm
+pub mod Replying

@@ -1,0 +1,101 @@
+-- The replies to a booking of an offer.
+use Rattle.std.proofs.Common.{◌≡◌, ◌∙◌, inl, inr, ℕ, ◌≤◌, Bool, List, [], ◌∷◌, ◌++◌, map, length, Option, Some, None, refl, sym, subst, arith}
+use Rattle.leg_masks.specs.Interval.{PlacedSpan as Item}
+use Rattle.history_model.specs.Booking.{Layout}
+use Rattle.history_model.specs.Allowed.{OnRow}
+use Rattle.history_model.specs.History.{entry, state_of}
+use Rattle.history_model.specs.declared.entry.Entry.{Entry}
+use Rattle.history_model.specs.declared.entry.Step.TheVariants.{Seal}
+use Rattle.history_model.specs.declared.phase.Phase.{Phase}
+use Rattle.history_model.specs.declared.phase.Phase.TheVariants as phase
+use Rattle.claim_rule.specs.Rule.{DeskView}
+use Rattle.claim_rule.specs.Holds.{HoldView, held}
+use Rattle.claim_rule.specs.Seats.{Shape}
+use Rattle.claim_rule.proofs.Shapes.{shape_then}
+use Rattle.booking_rows.specs.declared.notes.Detail.{Detail}
+use Rattle.booking_rows.specs.Notes.{detail_notes}
+use Rattle.claim_rule.specs.Out.{SealsItems, IsIdle, IsTidy}
+use Rattle.offer_codes.specs.Offers.{OfferView}
+use Rattle.rail_catalogue.specs.Contents.{CatalogueView}
+use Rattle.osdm_texts.specs.declared.problem.Problem.{Problem}
+use Rattle.osdm_texts.specs.declared.problem.Problem.TheVariants as reason
+use Rattle.osdm_answers.specs.Replies.{Reply, created, problem, reply_bytes}
+use Rattle.osdm_answers.proofs.Answering.{problem_bytes, of_problem}
+use Rattle.reservation_service.specs.declared.holding.Placing.{Placing}
+use Rattle.reservation_service.specs.declared.holding.Placing.TheVariants.{Whole, Short, Contended, NoMemory}
+use Rattle.reservation_service.specs.Holding.{count_of, HoldsPlaces, FindsNoRow, GivesUp, HasAllPlaces, problem_of}
+use Rattle.reservation_service.specs.Reserving.{detail_of, made_view, Reserves, SealsHold, HasAllOrNone}
+use Rattle.reservation_service.proofs.Placed.{whole_places, places_many}
+use Rattle.reservation_service.proofs.Calm.{held_calmly, reserves_tidy}
+
+-- what is answered, with its bytes
+abbrev pub Answered : CatalogueView → ℕ → ℕ → OfferView → Bool → DeskView → DeskView → List ℕ → Type 0
+Answered cat retailer now o last old new written =
+    (reply : Reply) × Reserves cat retailer now o old new reply × HasAllOrNone cat o old new reply × (written ≡ reply_bytes cat last reply)
+
+pub whole_of : (p : Placing) → problem_of p ≡ None → p ≡ Whole
+whole_of Whole e = refl
+whole_of Short e = absurd (let no : ◌≡◌ {A = Option Problem} (Some reason.NoPlace) None = e in cc)
+whole_of Contended e = absurd (let no : ◌≡◌ {A = Option Problem} (Some reason.Contended) None = e in cc)
+whole_of NoMemory e = absurd (let no : ◌≡◌ {A = Option Problem} (Some reason.NoMemory) None = e in cc)
+
+pub no_row : (cat : CatalogueView) (retailer now : ℕ) (o : OfferView) (last : Bool) (old new : DeskView) (written : List ℕ) → FindsNoRow old new → written ≡ problem_bytes reason.RowsFull last → Answered cat retailer now o last old new written
+no_row cat retailer now o last old new written did is = (problem reason.RowsFull, inr (inl (inl (did, refl))), tt, is ∙ of_problem cat last reason.RowsFull)
+
+pub given_up : (cat : CatalogueView) (retailer now : ℕ) (o : OfferView) (last : Bool) (row : ℕ) (p : Placing) (why : Problem) (items : List Item) (old mid new : DeskView) (written : List ℕ) → HoldsPlaces cat o o.segments row p items old mid
+    → problem_of p ≡ Some why → GivesUp row items mid new → written ≡ reply_bytes cat last (problem why) → Answered cat retailer now o last old new written
+given_up cat retailer now o last row p why items old mid new written placed is gave bytes = (problem why, inr (inl (inr (row, p, why, items, mid, placed, is, gave, refl))), tt, bytes)
+
+-- a whole placing of some segments holds some items
+pub some_held : (cat : CatalogueView) (o : OfferView) (row : ℕ) (p : Placing) (items : List Item) (old mid : DeskView) → HoldsPlaces cat o o.segments row p items old mid → problem_of p ≡ None → 1 ≤ count_of o → count_of o ≤ 8 → 1 ≤ length o.segments
+    → 1 ≤ length items
+some_held cat o row p items old mid (start, started, placed) none some few segments =
+    let m = (places_many cat o row [] o.segments p items start mid placed (whole_of p none) some few).0 in omega arith
+
+-- a seal as an earlier view of the desk has it
+abbrev SealsBy : Layout → ℕ → DeskView → ℕ → List Item → Type 0
+SealsBy layout number new row items =
+    (before : List Entry) × (phase : Phase) × (after : List Entry)
+    × (new.seen ≡ before ++ entry number (Seal row phase) ∷ after)
+    × OnRow (state_of layout (before ++ entry number (Seal row phase) ∷ [])) row (λ b. (b.owner ≡ number) × (b.items ≡ map held items))
+
+pub seals_since : (old mid new : DeskView) (row : ℕ) (items : List Item) → mid.layout ≡ old.layout → mid.number ≡ old.number → SealsItems mid new row items → SealsItems old new row items
+seals_since old mid new row items layout number did =
+    subst (λ (g : Layout). SealsBy g old.number new row items) layout (subst (λ (n : ℕ). SealsBy mid.layout n new row items) number did)
+
+pub has_places : (cat : CatalogueView) (o : OfferView) (row : ℕ) (items : List Item) (old mid : DeskView) → HoldsPlaces cat o o.segments row Whole items old mid → HasAllPlaces cat o o.segments items
+has_places cat o row items old mid (start, started, placed) =
+    let more = whole_places cat o row [] o.segments Whole items start mid placed refl in
+    subst (HasAllPlaces cat o o.segments) (sym more.2) more.1
+
+-- the notes and the seal of a hold
+noted_and_sealed : (row count : ℕ) (d : Detail) (old mid new : DeskView) → Shape old mid (detail_notes row d count) → Shape mid new (Seal row phase.Prebooked ∷ []) → Shape old new (detail_notes row d count ++ Seal row phase.Prebooked ∷ [])
+noted_and_sealed row count d old mid new = shape_then old mid new (detail_notes row d count) (Seal row phase.Prebooked ∷ [])
+
+pub seals_hold : (hold noted : HoldView) (d : Detail) (old mid new : DeskView) (reply : Reply) → noted ≡ hold → Shape old mid (detail_notes hold.row d (length hold.items)) → Shape mid new (Seal noted.row phase.Prebooked ∷ []) → SealsItems mid new noted.row noted.items
+    → reply ≡ created hold.row (made_view phase.Prebooked d hold.items) → SealsHold hold.row hold.items d old new reply
+seals_hold hold noted d old mid new reply same notes seal items is = inl (
+  noted_and_sealed hold.row (length hold.items) d old mid new notes (subst (λ (h : HoldView). Shape mid new (Seal h.row phase.Prebooked ∷ [])) same seal),
+  seals_since old mid new hold.row hold.items notes.same.1 notes.same.2 (subst (λ (h : HoldView). SealsItems mid new h.row h.items) same items),
+  is,
+)
+
+sealed : (cat : CatalogueView) (retailer now : ℕ) (o : OfferView) (last : Bool) (row : ℕ) (items : List Item) (old mid new : DeskView) (reply : Reply) → HoldsPlaces cat o o.segments row Whole items old mid
+    → SealsHold row items (detail_of cat o retailer now) mid new reply → Reserves cat retailer now o old new reply × HasAllOrNone cat o old new reply
+sealed cat retailer now o last row items old mid new reply placed (inl (did, seals, is)) =
+    let same = (held_calmly cat o o.segments row Whole items old mid placed).2.same in (
+      inl (row, items, mid, placed, did, is),
+      subst (HasAllOrNone cat o old new) (sym is) (seals_since old mid new row items same.1 same.2 seals, has_places cat o row items old mid placed),
+    )
+sealed cat retailer now o last row items old mid new reply placed (inr (gave, is)) =
+    (inr (inr ((row, items, mid, placed, gave), is)), subst (HasAllOrNone cat o old new) (sym is) tt)
+
+pub prebooked : (cat : CatalogueView) (retailer now : ℕ) (o : OfferView) (last : Bool) (row : ℕ) (p : Placing) (items : List Item) (old mid new : DeskView) (reply : Reply) (written : List ℕ) → HoldsPlaces cat o o.segments row p items old mid
+    → problem_of p ≡ None → SealsHold row items (detail_of cat o retailer now) mid new reply → written ≡ reply_bytes cat last reply → Answered cat retailer now o last old new written
+prebooked cat retailer now o last row p items old mid new reply written placed none did bytes =
+    let whole = subst (λ (q : Placing). HoldsPlaces cat o o.segments row q items old mid) (whole_of p none) placed in
+    let s = sealed cat retailer now o last row items old mid new reply whole did in
+    (reply, s.0, s.1, bytes)
+
+pub answered_tidy : (cat : CatalogueView) (retailer now : ℕ) (o : OfferView) (last : Bool) (old new : DeskView) (written : List ℕ) → Answered cat retailer now o last old new written → IsIdle new → IsTidy old → IsTidy new
+answered_tidy cat retailer now o last old new written a = reserves_tidy cat retailer now o old new a.0 a.1

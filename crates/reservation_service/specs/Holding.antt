@@ -1,0 +1,83 @@
+-- Places for each segment of an offer, on a hold.
+use Rattle.std.specs.Prelude.{◌≡◌, ◌⊎◌, ℕ, ◌+◌, List, [], ◌∷◌, ◌++◌, length, map, Option, Some, None}
+use Rattle.leg_masks.specs.Interval.{PlacedSpan as Item}
+use Rattle.place_map.specs.Candidates.{candidates_of}
+use Rattle.offer_codes.specs.declared.code.Segment.{Segment}
+use Rattle.offer_codes.specs.Offers.{OfferView}
+use Rattle.rail_catalogue.specs.Contents.{CatalogueView}
+use Rattle.claim_rule.specs.Rule.{DeskView}
+use Rattle.claim_rule.specs.Seats.{Shape}
+use Rattle.claim_rule.specs.Calls.{ShapeBy}
+use Rattle.booking_rows.specs.Starts.{StartsHold}
+use Rattle.hold_core.specs.declared.adds.Added.{Added}
+use Rattle.hold_core.specs.declared.adds.Added.TheVariants as added
+use Rattle.hold_core.specs.Tries.{place_number}
+use Rattle.hold_core.specs.Places.{Adds, gives_back}
+use Rattle.osdm_texts.specs.declared.problem.Problem.{Problem}
+use Rattle.osdm_texts.specs.declared.problem.Problem.TheVariants as problem
+use Rattle.reservation_service.specs.declared.holding.Placing.{Placing}
+use Rattle.reservation_service.specs.declared.holding.Placing.TheVariants.{Whole, Short, Contended, NoMemory}
+
+-- one place for each passenger
+abbrev pub count_of : OfferView → ℕ
+count_of o = o.adults + o.children
+
+-- the places that a segment of the offer may have
+abbrev pub candidates_in : CatalogueView → OfferView → Segment → List ℕ
+candidates_in cat o s = map place_number (candidates_of s.run.0 o.class o.wanted cat.places)
+
+-- places were added for this segment to a hold of the row that had these items, with this answer
+abbrev pub AddsSegment : CatalogueView → OfferView → ℕ → List Item → Segment → Added → List Item → DeskView → DeskView → Type 0
+AddsSegment cat o row items s answer won old new =
+    ShapeBy (Adds row (length items) s.span (count_of o) (candidates_in cat o s) answer won) old new
+
+-- how the segment's answer ends the placing
+abbrev pub Stops : Added → Placing → Type 0
+Stops added.All placing = ⊥
+Stops (added.NoPlace won) placing = placing ≡ Short
+Stops (added.Contended place) placing = placing ≡ Contended
+
+-- From a hold of the row with these items to one with all of those: each segment in order, up to the first that is not answered All, or
+-- for which there was no memory
+abbrev pub PlacesAll : CatalogueView → OfferView → ℕ → List Item → List Segment → Placing → List Item → DeskView → DeskView → Type 0
+PlacesAll cat o row items [] placing all old new = (placing ≡ Whole) × (all ≡ items) × (new ≡ old)
+PlacesAll cat o row items (s ∷ rest) placing all old new =
+    ((answer : Added) × (won : List Item) × (mid : DeskView) × AddsSegment cat o row items s answer won old mid
+    × (((answer ≡ added.All) × PlacesAll cat o row (items ++ won) rest placing all mid new)
+    ⊎ (Stops answer placing × (all ≡ items ++ won) × (new ≡ mid))))
+    ⊎ ((placing ≡ NoMemory) × (all ≡ items) × (new ≡ old))
+
+-- a hold was started on the row, and places added for these segments
+abbrev pub HoldsPlaces : CatalogueView → OfferView → List Segment → ℕ → Placing → List Item → DeskView → DeskView → Type 0
+HoldsPlaces cat o segments row placing items old new =
+    (mid : DeskView) × ShapeBy (StartsHold old mid (Some row)) old mid × PlacesAll cat o row [] segments placing items mid new
+
+abbrev pub FindsNoRow : DeskView → DeskView → Type 0
+FindsNoRow old new = ShapeBy (StartsHold old new None) old new
+
+-- what was held is given back
+abbrev pub GivesUp : ℕ → List Item → DeskView → DeskView → Type 0
+GivesUp row items old new = Shape old new (gives_back row (length items))
+
+-- what is wrong with a placing that is not whole
+abbrev pub problem_of : Placing → Option Problem
+problem_of Whole = None
+problem_of Short = Some problem.NoPlace
+problem_of Contended = Some problem.Contended
+problem_of NoMemory = Some problem.NoMemory
+
+abbrev pub In : ℕ → List ℕ → Type 0
+In p [] = ⊥
+In p (q ∷ rest) = (p ≡ q) ⊎ In p rest
+
+-- items of the segment, each at one of the candidates and with the segment's span
+abbrev pub AreOf : Segment → List ℕ → List Item → Type 0
+AreOf s candidates [] = Unit {0}
+AreOf s candidates (i ∷ rest) = (i.span ≡ s.span) × In i.place candidates × AreOf s candidates rest
+
+-- for each segment in order one item per passenger
+abbrev pub HasAllPlaces : CatalogueView → OfferView → List Segment → List Item → Type 0
+HasAllPlaces cat o [] items = items ≡ []
+HasAllPlaces cat o (s ∷ rest) items =
+    (mine : List Item) × (more : List Item) × (length mine ≡ count_of o) × AreOf s (candidates_in cat o s) mine
+    × HasAllPlaces cat o rest more × (items ≡ mine ++ more)

@@ -1,0 +1,76 @@
+-- Booking the places of an offer, and what is answered.
+use Rattle.std.specs.Prelude.{◌≡◌, ◌⊎◌, ℕ, ◌+◌, min, List, [], ◌∷◌, ◌++◌, length, Some, None}
+use Rattle.leg_masks.specs.Interval.{PlacedSpan as Item}
+use Rattle.rail_time.specs.Moments.{last_second}
+use Rattle.place_map.specs.declared.coach.Class.{Class}
+use Rattle.offer_codes.specs.declared.code.Segment.{Segment}
+use Rattle.offer_codes.specs.Offers.{OfferView}
+use Rattle.rail_catalogue.specs.Contents.{CatalogueView}
+use Rattle.offer_engine.specs.Offers.{offer_price}
+use Rattle.history_model.specs.declared.entry.Step.TheVariants.{Seal}
+use Rattle.history_model.specs.declared.phase.Phase.{Phase}
+use Rattle.history_model.specs.declared.phase.Phase.TheVariants as phase
+use Rattle.claim_rule.specs.Rule.{DeskView}
+use Rattle.claim_rule.specs.Seats.{Shape}
+use Rattle.claim_rule.specs.Out.{SealsItems}
+use Rattle.booking_rows.specs.declared.notes.Detail.{Detail}
+use Rattle.booking_rows.specs.Notes.{detail_notes}
+use Rattle.booking_rows.specs.Views.{RowSeen}
+use Rattle.osdm_texts.specs.declared.problem.Problem.{Problem}
+use Rattle.osdm_texts.specs.declared.problem.Problem.TheVariants.{RowsFull, NoMemory}
+use Rattle.osdm_answers.specs.Replies.{Reply, created, exchanged, problem}
+use Rattle.reservation_service.specs.declared.holding.Placing.{Placing}
+use Rattle.reservation_service.specs.declared.holding.Placing.TheVariants.{Whole}
+use Rattle.reservation_service.specs.Holding.{HoldsPlaces, FindsNoRow, GivesUp, problem_of, HasAllPlaces}
+
+-- what a reservation asks for: one segment, for so many adults
+abbrev pub reserved : Segment → Class → ℕ → ℕ → ℕ → OfferView
+reserved s class count wanted now = record { made = now; adults = count; children = 0; class = class; wanted = wanted; segments = s ∷ [] }
+
+-- the detail of a booking made at this moment: it can be confirmed for the catalogue's time
+abbrev pub detail_of : CatalogueView → OfferView → ℕ → ℕ → Detail
+detail_of cat o retailer now =
+    record { retailer = record { 0 = retailer }; limit = min (now + cat.terms.confirm_seconds) last_second; total = offer_price cat o }
+
+abbrev pub made_view : Phase → Detail → List Item → RowSeen
+made_view phase d items =
+    record { phase = phase; retailer = d.retailer.0; limit = d.limit; total = d.total; items = items; ended = None }
+
+-- all places are held, noted and sealed
+abbrev pub Prebooks : CatalogueView → ℕ → ℕ → OfferView → DeskView → DeskView → Reply → Type 0
+Prebooks cat retailer now o old new reply =
+    (row : ℕ) × (items : List Item) × (mid : DeskView) × HoldsPlaces cat o o.segments row Whole items old mid
+    × Shape mid new (detail_notes row (detail_of cat o retailer now) (length items) ++ Seal row phase.Prebooked ∷ [])
+    × (reply ≡ created row (made_view phase.Prebooked (detail_of cat o retailer now) items))
+
+-- No row was free; or there were too few places for a segment, or one was contended, or no memory to go on, and what was held is given
+-- back
+abbrev pub FailsToHold : CatalogueView → OfferView → DeskView → DeskView → Reply → Type 0
+FailsToHold cat o old new reply =
+    (FindsNoRow old new × (reply ≡ problem RowsFull))
+    ⊎ ((row : ℕ) × (placing : Placing) × (reason : Problem) × (items : List Item) × (mid : DeskView)
+    × HoldsPlaces cat o o.segments row placing items old mid × (problem_of placing ≡ Some reason) × GivesUp row items mid new
+    × (reply ≡ problem reason))
+
+-- all places were held, and are given back, since there was no memory for the answer
+abbrev pub Falters : CatalogueView → OfferView → DeskView → DeskView → Type 0
+Falters cat o old new =
+    (row : ℕ) × (items : List Item) × (mid : DeskView) × HoldsPlaces cat o o.segments row Whole items old mid × GivesUp row items mid new
+
+-- a hold with all its places is sealed with this detail; or given back, since there was no memory for the answer
+abbrev pub SealsHold : ℕ → List Item → Detail → DeskView → DeskView → Reply → Type 0
+SealsHold row items d old new reply =
+    (Shape old new (detail_notes row d (length items) ++ Seal row phase.Prebooked ∷ []) × SealsItems old new row items
+    × (reply ≡ created row (made_view phase.Prebooked d items)))
+    ⊎ (GivesUp row items old new × (reply ≡ problem NoMemory))
+
+-- what booking the places of an offer does, and is answered
+abbrev pub Reserves : CatalogueView → ℕ → ℕ → OfferView → DeskView → DeskView → Reply → Type 0
+Reserves cat retailer now o old new reply =
+    Prebooks cat retailer now o old new reply ⊎ (FailsToHold cat o old new reply ⊎ (Falters cat o old new × (reply ≡ problem NoMemory)))
+
+-- the new booking has all its places; after any other answer a desk that is idle again holds none
+abbrev pub HasAllOrNone : CatalogueView → OfferView → DeskView → DeskView → Reply → Type 0
+HasAllOrNone cat o old new (created row v) = SealsItems old new row v.items × HasAllPlaces cat o o.segments v.items
+HasAllOrNone cat o old new (exchanged row v difference replaced) = SealsItems old new row v.items × HasAllPlaces cat o o.segments v.items
+HasAllOrNone cat o old new reply = Unit {0}

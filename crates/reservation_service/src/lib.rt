@@ -1,0 +1,16 @@
+//! Booking the places of an offer, or of one segment without an offer: a place for each passenger at each segment, all or none.
+//!
+//! Places are held first, segment by segment. Where one is short or contended, all that was held is given back before the answer. The
+//! whole answer is ready before the booking is sealed, so want of memory books nothing: it is answered 500, and what was held is given
+//! back.
+#![tactic(auto)]
+
+mod booking;
+mod details;
+mod holding;
+#[cfg(test)]
+mod tests;
+
+pub use booking::{book_offer, give_up, new_view, reserve_places};
+pub use details::detail_for;
+pub use holding::{Held, Placing, hold_places};
