@@ -1,0 +1,40 @@
+-- Searching for offers and for free places, sweeping, and what is answered.
+use Rattle.std.specs.Prelude.{◌≡◌, ◌⊎◌, ℕ, ◌==◌, Bool, List}
+use Rattle.rail_ids.specs.declared.PlaceNo.{PlaceNo}
+use Rattle.place_map.specs.Candidates.{numbers_of}
+use Rattle.offer_codes.specs.declared.code.Segment.{Segment}
+use Rattle.offer_codes.specs.declared.code.Offer.{Offer}
+use Rattle.rail_catalogue.specs.Contents.{CatalogueView}
+use Rattle.trip_builder.specs.Trips.{trips_of}
+use Rattle.offer_engine.specs.declared.wish.OfferWish.{OfferWish}
+use Rattle.offer_engine.specs.Offers.{raised, OffersFor, BeginsOffers}
+use Rattle.availability.specs.Looks.{LooksAt}
+use Rattle.expiry_sweeper.specs.declared.sweeps.Swept.{Swept}
+use Rattle.expiry_sweeper.specs.AllRows.{Sweeps}
+use Rattle.claim_rule.specs.Rule.{DeskView}
+use Rattle.claim_rule.specs.Calls.{ShapeBy}
+use Rattle.osdm_texts.specs.declared.problem.Problem.TheVariants.{NoMemory}
+use Rattle.osdm_answers.specs.Replies.{Reply, offer_list, place_list, swept, problem}
+
+-- told, or without memory for the answer
+abbrev pub ToldOr : Reply → Reply → Type 0
+ToldOr told reply = (reply ≡ told) ⊎ (reply ≡ problem NoMemory)
+
+-- the offers of the wish from now on, or, without memory for them, the looks of the first
+abbrev pub SearchesOffers : CatalogueView → OfferWish → ℕ → DeskView → DeskView → Reply → Type 0
+SearchesOffers cat wish now old new reply =
+    ((offers : List Offer) × ShapeBy (OffersFor cat wish now (trips_of cat.runs (raised wish.trip now)) offers) old new × ToldOr (offer_list offers) reply)
+    ⊎ (ShapeBy (BeginsOffers cat wish (trips_of cat.runs (raised wish.trip now))) old new × (reply ≡ problem NoMemory))
+
+-- the numbers of a run's places, in order
+abbrev pub numbers_on : CatalogueView → ℕ → List PlaceNo
+numbers_on cat run = numbers_of (λ p. p.run.0 == run) 0 cat.places
+
+-- of each place of the segment's run whether it is free on the segment's span, or, without memory for them, no look
+abbrev pub ListsPlaces : CatalogueView → Segment → DeskView → DeskView → Reply → Type 0
+ListsPlaces cat s old new reply =
+    ((free : List Bool) × ShapeBy (LooksAt (numbers_on cat s.run.0) s.span free) old new × ToldOr (place_list s.run.0 free) reply)
+    ⊎ ((new ≡ old) × (reply ≡ problem NoMemory))
+
+abbrev pub SweepsRows : ℕ → ℕ → DeskView → DeskView → Reply → Type 0
+SweepsRows rows now old new reply = (n : Swept) × ShapeBy (Sweeps rows now n) old new × (reply ≡ swept n)

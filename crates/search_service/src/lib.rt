@@ -1,0 +1,17 @@
+//! What a retailer may ask of the whole timetable: offers of a wish, the places of a run, and a sweep of late bookings.
+//!
+//! Every answer is the defined reply of the command, by the desk's own entries in this very call, whatever other desks do meanwhile. None
+//! of these commands takes a place: what is free is what this call's looks showed.
+#![tactic(auto)]
+
+mod offer_search;
+mod place_list;
+mod place_numbers;
+mod ranges;
+mod sweeping;
+#[cfg(test)]
+mod tests;
+
+pub use offer_search::search_offers;
+pub use place_list::list_places;
+pub use sweeping::sweep_bookings;
