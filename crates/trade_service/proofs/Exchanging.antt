@@ -1,0 +1,174 @@
+-- The replies to commands on exchanges.
+use Rattle.std.proofs.Common.{◌≡◌, ◌⊎◌, ◌∙◌, inl, inr, ⊎_elim, ℕ, ℤ, ◌≤◌, Bool, true, List, length, Option, Some, None, refl, sym, subst}
+use Rattle.std.specs.Prelude.{nat_le}
+use Rattle.std.proofs.lemmas.Bool.{leb-true}
+use Rattle.leg_masks.specs.Interval.{PlacedSpan as Item}
+use Rattle.rail_ids.specs.declared.RowNo.{RowNo}
+use Rattle.history_model.specs.declared.phase.Phase.{Phase}
+use Rattle.claim_rule.specs.Rule.{DeskView}
+use Rattle.claim_rule.specs.Seats.{Shape}
+use Rattle.claim_rule.specs.Calls.{ShapeBy}
+use Rattle.claim_rule.specs.Holds.{HoldView}
+use Rattle.claim_rule.specs.Out.{SealsItems, IsIdle, IsTidy}
+use Rattle.booking_rows.specs.declared.notes.Detail.{Detail}
+use Rattle.booking_rows.specs.Notes.{detail_notes}
+use Rattle.booking_rows.specs.Views.{RowSeen}
+use Rattle.rail_catalogue.specs.Contents.{CatalogueView}
+use Rattle.offer_codes.specs.declared.code.ExchangeCode.{ExchangeCode}
+use Rattle.offer_codes.specs.Offers.{OfferView, is_offer, is_party}
+use Rattle.offer_codes.specs.Exchanges.{ExchangeView}
+use Rattle.exchange_core.specs.Ready.{ReadyView, IsReadyFor}
+use Rattle.exchange_core.specs.Exchanges.{QuotesExchange, Readies}
+use Rattle.exchange_core.specs.Accepting.{AcceptsExchange}
+use Rattle.exchange_core.specs.declared.quoting.QuotedExchange.TheVariants as quoted
+use Rattle.exchange_core.specs.declared.readying.Readied.{Readied}
+use Rattle.exchange_core.specs.declared.readying.Readied.TheVariants as readied
+use Rattle.exchange_core.specs.declared.accepting.Exchanged.TheVariants as accepted
+use Rattle.exchange_core.proofs.Kept.{ready_on}
+use Rattle.osdm_texts.specs.declared.problem.Problem.{Problem}
+use Rattle.osdm_texts.specs.declared.problem.Problem.TheVariants.{UnknownBooking, WrongState, RowsFull, NoMemory}
+use Rattle.osdm_answers.specs.Replies.{Reply, offer_list, created, booking, refund_offer, exchange_offer, exchanged, place_list, swept, problem, reply_bytes}
+use Rattle.osdm_answers.proofs.Answering.{problem_bytes, of_problem}
+use Rattle.history_model.specs.declared.phase.Phase.TheVariants as phase
+use Rattle.reservation_service.specs.declared.holding.Placing.{Placing}
+use Rattle.reservation_service.specs.declared.holding.Placing.TheVariants.{Whole}
+use Rattle.reservation_service.specs.Holding.{HoldsPlaces, FindsNoRow, GivesUp, problem_of}
+use Rattle.reservation_service.specs.Reserving.{detail_of, made_view, HasAllOrNone}
+use Rattle.reservation_service.proofs.Calm.{held_calmly}
+use Rattle.reservation_service.proofs.Placed.{both}
+use Rattle.reservation_service.proofs.Replying.{whole_of, seals_since, has_places}
+use Rattle.trade_service.specs.Exchanges.{QuotesExchangeOfIt, Decides, DecidesOrNot, CarriesOut, ExchangesIt, IsUnready, ready_of}
+use Rattle.trade_service.proofs.Replying.{Answered}
+use Rattle.trade_service.proofs.Settling.{exchanges_settles}
+
+-- the replies to a quote
+
+pub offers_exchange : (cat : CatalogueView) (last : Bool) (rows row retailer : ℕ) (offer : OfferView) (now : ℕ) (code : ExchangeCode) (old new : DeskView) (written : List ℕ) → ShapeBy (QuotesExchange cat rows row retailer offer now (quoted.Done code)) old new
+    → (written ≡ reply_bytes cat last (exchange_offer code)) ⊎ (written ≡ reply_bytes cat last (problem NoMemory)) → Answered cat last (QuotesExchangeOfIt cat rows row retailer offer now) old new written
+offers_exchange cat last rows row retailer offer now code old new written did is =
+    ⊎_elim (λ e. (exchange_offer code, (quoted.Done code, did, inl refl), e)) (λ e. (problem NoMemory, (quoted.Done code, did, inr refl), e)) is
+
+pub offers_unknown : (cat : CatalogueView) (last : Bool) (rows row retailer : ℕ) (offer : OfferView) (now : ℕ) (old new : DeskView) (written : List ℕ) → ShapeBy (QuotesExchange cat rows row retailer offer now quoted.Unknown) old new
+    → written ≡ problem_bytes UnknownBooking last → Answered cat last (QuotesExchangeOfIt cat rows row retailer offer now) old new written
+offers_unknown cat last rows row retailer offer now old new written did is = (problem UnknownBooking, (quoted.Unknown, did, refl), is ∙ of_problem cat last UnknownBooking)
+
+pub offers_wrong : (cat : CatalogueView) (last : Bool) (rows row retailer : ℕ) (offer : OfferView) (now : ℕ) (shown : Phase) (old new : DeskView) (written : List ℕ) → ShapeBy (QuotesExchange cat rows row retailer offer now (quoted.WrongState shown)) old new
+    → written ≡ problem_bytes (WrongState shown) last → Answered cat last (QuotesExchangeOfIt cat rows row retailer offer now) old new written
+offers_wrong cat last rows row retailer offer now shown old new written did is = (problem (WrongState shown), (quoted.WrongState shown, did, refl), is ∙ of_problem cat last (WrongState shown))
+
+-- an offer of a spelling has passengers and segments
+
+pub has_party : (o : OfferView) → is_offer o ≡ true → is_party o.adults o.children ≡ true
+has_party o is = (both (is_party o.adults o.children) _ (both (nat_le o.made 4_102_444_799) _ is).1).0
+
+pub has_segments : (o : OfferView) → is_offer o ≡ true → 1 ≤ length o.segments
+has_segments o is =
+    let party = (both (nat_le o.made 4_102_444_799) _ is).1 in
+    let wanted = (both (is_party o.adults o.children) _ party).1 in
+    let some = (both (nat_le o.wanted 31) _ wanted).1 in
+    leb-true 1 (length o.segments) (both (nat_le 1 (length o.segments)) _ some).0
+
+-- what was made ready stays so while places are held
+pub ready_held : (cat : CatalogueView) (o : OfferView) (row : ℕ) (p : Placing) (items : List Item) (ready : ReadyView) (old mid : DeskView) → HoldsPlaces cat o o.segments row p items old mid → IsReadyFor old ready → IsReadyFor mid ready
+ready_held cat o row p items ready old mid placed is =
+    let w = held_calmly cat o o.segments row p items old mid placed in ready_on old mid w.0 ready w.2 is
+
+-- the exchange is made, or its turn is lost
+
+pub made : (ready : ReadyView) (hold then : HoldView) (d : Detail) (m : RowNo) (x : ℤ) (old noted new : DeskView) → then ≡ hold → Shape old noted (detail_notes hold.row d (length hold.items)) → ShapeBy (AcceptsExchange ready then.row (accepted.Done m x)) noted new
+    → SealsItems noted new then.row then.items → DecidesOrNot ready hold.row hold.items d old new (exchanged hold.row (made_view phase.Confirmed d hold.items) ready.code.difference ready.code.row)
+made ready hold then d m x old noted new same notes did seals = inl (
+  noted,
+  notes,
+  inl (
+    m,
+    x,
+    subst (λ (h : HoldView). ShapeBy (AcceptsExchange ready h.row (accepted.Done m x)) noted new) same did,
+    seals_since old noted new hold.row hold.items notes.same.1 notes.same.2 (subst (λ (h : HoldView). SealsItems noted new h.row h.items) same seals),
+    refl,
+  ),
+)
+
+pub lost : (ready : ReadyView) (hold then back : HoldView) (d : Detail) (shown : Phase) (old noted last new : DeskView) → then ≡ hold → back ≡ then → Shape old noted (detail_notes hold.row d (length hold.items)) → ShapeBy (AcceptsExchange ready then.row (accepted.WrongState shown back)) noted last
+    → GivesUp back.row back.items last new → DecidesOrNot ready hold.row hold.items d old new (problem (WrongState shown))
+lost ready hold then back d shown old noted last new same kept notes did gave = inl (
+  noted,
+  notes,
+  inr (
+    shown,
+    back,
+    last,
+    subst (λ (h : HoldView). ShapeBy (AcceptsExchange ready h.row (accepted.WrongState shown back)) noted last) same did,
+    subst (λ (h : HoldView). GivesUp h.row h.items last new) (kept ∙ same) gave,
+    refl,
+  ),
+)
+
+-- the bytes that show it
+pub shown_by : (cat : CatalogueView) (last : Bool) (p row : ℕ) (v w : RowSeen) (x y : ℤ) (q r : ℕ) (written : List ℕ) → p ≡ row → v ≡ w → x ≡ y → q ≡ r → written ≡ reply_bytes cat last (exchanged p v x q) → written ≡ reply_bytes cat last (exchanged row w y r)
+shown_by cat last p row v w x y q r written rows views differences replaced is = is ∙ (λ i. reply_bytes cat last (exchanged (rows i) (views i) (differences i) (replaced i)))
+
+-- what is answered, with its bytes and the places of the new booking
+abbrev pub Carried : CatalogueView → Bool → ReadyView → DeskView → DeskView → List ℕ → Type 0
+Carried cat last ready old new written = (reply : Reply) × CarriesOut cat ready old new reply × HasAllOrNone cat ready.code.offer old new reply × (written ≡ reply_bytes cat last reply)
+
+pub no_row : (cat : CatalogueView) (last : Bool) (ready : ReadyView) (old new : DeskView) (written : List ℕ) → FindsNoRow old new → written ≡ problem_bytes RowsFull last → Carried cat last ready old new written
+no_row cat last ready old new written did is = (problem RowsFull, inl (inl (did, refl)), tt, is ∙ of_problem cat last RowsFull)
+
+pub given_up : (cat : CatalogueView) (last : Bool) (ready : ReadyView) (row : ℕ) (p : Placing) (why : Problem) (items : List Item) (old mid new : DeskView) (written : List ℕ) → HoldsPlaces cat ready.code.offer ready.code.offer.segments row p items old mid
+    → problem_of p ≡ Some why → GivesUp row items mid new → written ≡ reply_bytes cat last (problem why) → Carried cat last ready old new written
+given_up cat last ready row p why items old mid new written placed is gave bytes = (problem why, inl (inr (row, p, why, items, mid, placed, is, gave, refl)), tt, bytes)
+
+has_all : (cat : CatalogueView) (ready : ReadyView) (row : ℕ) (items : List Item) (d : Detail) (old mid new : DeskView) (reply : Reply) → HoldsPlaces cat ready.code.offer ready.code.offer.segments row Whole items old mid → DecidesOrNot ready row items d mid new reply
+    → HasAllOrNone cat ready.code.offer old new reply
+has_all cat ready row items d old mid new reply placed (inl (noted, notes, inl (m, x, did, seals, is))) =
+    let o = ready.code.offer in
+    let same = (held_calmly cat o o.segments row Whole items old mid placed).2.same in
+    subst (HasAllOrNone cat o old new) (sym is) (seals_since old mid new row items same.1 same.2 seals, has_places cat o row items old mid placed)
+has_all cat ready row items d old mid new reply placed (inl (noted, notes, inr (shown, hold, last, did, gave, is))) = subst (HasAllOrNone cat ready.code.offer old new) (sym is) tt
+has_all cat ready row items d old mid new reply placed (inr (gave, is)) = subst (HasAllOrNone cat ready.code.offer old new) (sym is) tt
+
+pub decided : (cat : CatalogueView) (last : Bool) (ready was : ReadyView) (row : ℕ) (p : Placing) (items : List Item) (d : Detail) (old mid new : DeskView) (reply : Reply) (written : List ℕ) → HoldsPlaces cat ready.code.offer ready.code.offer.segments row p items old mid
+    → problem_of p ≡ None → was ≡ ready → d ≡ detail_of cat ready.code.offer ready.retailer ready.moment → DecidesOrNot was row items d mid new reply → written ≡ reply_bytes cat last reply → Carried cat last ready old new written
+decided cat last ready was row p items d old mid new reply written placed none same detail did bytes =
+    let o = ready.code.offer in
+    let whole = subst (λ (q : Placing). HoldsPlaces cat o o.segments row q items old mid) (whole_of p none) placed in
+    let go = subst (λ (x : ReadyView). DecidesOrNot x row items (detail_of cat o ready.retailer ready.moment) mid new reply) same (subst (λ (x : Detail). DecidesOrNot was row items x mid new reply) detail did) in
+    (reply, inr (row, items, mid, whole, go), has_all cat ready row items (detail_of cat o ready.retailer ready.moment) old mid new reply whole go, bytes)
+
+-- the whole command
+
+abbrev pub Exchanged : CatalogueView → Bool → ℕ → ℕ → ExchangeView → ℕ → DeskView → DeskView → List ℕ → Type 0
+Exchanged cat last rows retailer code now old new written =
+    (reply : Reply) × ExchangesIt cat rows retailer code now old new reply × HasAllOrNone cat code.offer old new reply × (written ≡ reply_bytes cat last reply)
+
+-- the booking of a seal is so of what went before
+has_all_since : (cat : CatalogueView) (o : OfferView) (old mid new : DeskView) (es : _) (reply : Reply) → Shape old mid es → HasAllOrNone cat o mid new reply → HasAllOrNone cat o old new reply
+has_all_since cat o old mid new es (created row v) did (seals, places) = (seals_since old mid new row v.items did.same.1 did.same.2 seals, places)
+has_all_since cat o old mid new es (exchanged row v x q) did (seals, places) = (seals_since old mid new row v.items did.same.1 did.same.2 seals, places)
+has_all_since cat o old mid new es (offer_list offers) did is = tt
+has_all_since cat o old mid new es (booking row v) did is = tt
+has_all_since cat o old mid new es (refund_offer code) did is = tt
+has_all_since cat o old mid new es (exchange_offer code) did is = tt
+has_all_since cat o old mid new es (place_list run free) did is = tt
+has_all_since cat o old mid new es (swept n) did is = tt
+has_all_since cat o old mid new es (problem p) did is = tt
+
+pub is_ready_of : (cat : CatalogueView) (rows retailer : ℕ) (code : ExchangeView) (now : ℕ) (ready : ReadyView) (old mid : DeskView) → ShapeBy (Readies cat rows retailer code now (readied.Fine ready)) old mid → ready ≡ ready_of retailer code now
+is_ready_of cat rows retailer code now ready old mid did = did.1.0
+
+pub carried : (cat : CatalogueView) (last : Bool) (rows retailer : ℕ) (code : ExchangeView) (now : ℕ) (ready : ReadyView) (old mid new : DeskView) (written : List ℕ) → ShapeBy (Readies cat rows retailer code now (readied.Fine ready)) old mid
+    → Carried cat last (ready_of retailer code now) mid new written → Exchanged cat last rows retailer code now old new written
+carried cat last rows retailer code now ready old mid new written did (reply, go, all, bytes) = (
+  reply,
+  inr (mid, subst (λ (r : ReadyView). ShapeBy (Readies cat rows retailer code now (readied.Fine r)) old mid) did.1.0 did, go),
+  has_all_since cat code.offer old mid new did.0 reply did.2 all,
+  bytes,
+)
+
+pub refused : (cat : CatalogueView) (last : Bool) (rows retailer : ℕ) (code : ExchangeView) (now : ℕ) (p : Problem) (old new : DeskView) (written : List ℕ) → ((a : Readied) × ShapeBy (Readies cat rows retailer code now a) old new × IsUnready a p)
+    → written ≡ problem_bytes p last → Exchanged cat last rows retailer code now old new written
+refused cat last rows retailer code now p old new written (a, did, un) bytes = (problem p, inl (a, p, did, un, refl), tt, bytes ∙ of_problem cat last p)
+
+pub exchanged_tidy : (cat : CatalogueView) (last : Bool) (rows retailer : ℕ) (code : ExchangeView) (now : ℕ) (old new : DeskView) (written : List ℕ) → Exchanged cat last rows retailer code now old new written → IsIdle new → IsTidy old → IsTidy new
+exchanged_tidy cat last rows retailer code now old new written a idle tidy = (idle, exchanges_settles cat rows retailer code now old new a.0 a.1 tidy.1)

@@ -1,0 +1,4 @@
+pub mod Calm
+pub mod Replying
+pub mod Settling
+pub mod Exchanging

@@ -1,0 +1,2 @@
+pub mod Refunds
+pub mod Exchanges

@@ -1,0 +1,13 @@
+//! What commands on refunds and exchanges do on a desk, and what they are answered.
+//!
+//! Every answer is the defined reply of the command, by the desk's own entries in this very call, whatever other desks do meanwhile. A
+//! command that ends a booking has its whole answer ready before the exchange that decides.
+#![tactic(auto)]
+
+mod exchanges;
+mod refunds;
+#[cfg(test)]
+mod tests;
+
+pub use exchanges::{accept_exchange_booking, quote_exchange_booking};
+pub use refunds::{accept_refund_booking, quote_refund_booking};
