@@ -1,0 +1,11 @@
+//! What each command of a retailer does and is answered, as one definition, and what a command is refused for before it does anything.
+//!
+//! A command whose ids and codes are no spellings, or are of no offer of the catalogue, or are too old at the moment of the command, is
+//! refused by these alone: no booking and no place is looked at.
+#![tactic(auto)]
+
+mod checks;
+#[cfg(test)]
+mod tests;
+
+pub use checks::command_problem;
