@@ -1,0 +1,137 @@
+-- The law of carrying out an exchange.
+use Rattle.std.proofs.Common.{◌≡◌, ◌≢◌, ℕ, ◌+◌, ℤ, pos, negsuc, inl, inr, Bool, true, false, cond, eq-eqb, ne_eqb, Option, Some, None, refl, sym, ap, ◌∙◌, subst}
+use Rattle.std.specs.Prelude.{◌⊎◌, ◌&&◌, nat_le}
+use Rattle.std.proofs.lemmas.Bool.{and_parts}
+use Rattle.rail_ids.specs.declared.RowNo.{RowNo}
+use Rattle.history_model.specs.declared.phase.Phase.{Phase}
+use Rattle.history_model.specs.Booking.{State, present}
+use Rattle.claim_rule.specs.Rule.{DeskView, state_seen}
+use Rattle.booking_rows.specs.Views.{RowSeen}
+use Rattle.rail_catalogue.specs.Contents.{CatalogueView}
+use Rattle.offer_codes.specs.declared.code.ExchangeCode.{ExchangeCode}
+use Rattle.offer_codes.specs.Offers.{offer_view, is_offer}
+use Rattle.offer_codes.specs.Exchanges.{ExchangeView, exchange_view, magnitude, is_exchange}
+use Rattle.offer_engine.specs.Codes.{is_offered}
+use Rattle.refund_core.specs.Quotes.{phase_named, is_stale}
+use Rattle.exchange_core.specs.Exchanges.{difference_at}
+use Rattle.exchange_core.specs.declared.readying.Readied.TheVariants as readied
+use Rattle.osdm_texts.specs.declared.problem.Problem.{Problem}
+use Rattle.osdm_texts.specs.declared.problem.Problem.TheVariants.{UnknownOffer, WrongState, QuoteWrong, NoMemory}
+use Rattle.osdm_answers.specs.Replies.{Reply, problem}
+use Rattle.osdm_json.specs.declared.command.Command.TheVariants as command
+use Rattle.osdm_json.specs.Readable.{IsReadable}
+use Rattle.trade_service.specs.Exchanges.{ExchangesIt}
+use Rattle.service_rules.specs.Checks.{validity, is_of_row, is_quoted, command_fault}
+use Rattle.service_rules.specs.Answering.{AnswersBy}
+use Rattle.plain_host.specs.Plain.{Plain, Outcome}
+use Rattle.plain_host.specs.Outcomes.{refusing, wrong, with_places_for, exchanged_for, exchanged_by, is_same, exchanged_with, on_view, on_own, outcome_by}
+use Rattle.plain_host.specs.PlainOf.{view_of, plain_in, plain_of}
+use Rattle.plain_host.specs.Plainly.{IsLone, AnswersPlainly, MayKeepRow}
+use Rattle.plain_host.proofs.Decided.{is_in_yes, is_in_no}
+use Rattle.plain_host.proofs.Laws.{refused_plain}
+use Rattle.plain_host.proofs.Seeing.{IsBy, has_seen, seen_by, unseen_by, stays_seen}
+use Rattle.plain_host.proofs.Trades.{known_code, fresh_code}
+use Rattle.plain_host.proofs.PlacesChosen.{Differ, Fit}
+use Rattle.plain_host.proofs.PlacesLaws.{offered_differ, offer_fits}
+use Rattle.plain_host.proofs.ExchangesMade.{carried_plainly}
+
+-- differences
+
+same_yes : (a b : ℤ) → a ≡ b → is_same a b ≡ true
+same_yes a b e = subst (λ (c : ℤ). is_same a c ≡ true) e (itself a) where
+  itself : (a : ℤ) → is_same a a ≡ true
+  itself (pos n) = eq-eqb n n refl
+  itself (negsuc n) = eq-eqb n n refl
+
+same_no : (a b : ℤ) → a ≢ b → is_same a b ≡ false
+same_no (pos a) (pos b) ne = ne_eqb a b (λ e. ne (ap (λ (n : ℕ). pos n) e))
+same_no (negsuc a) (negsuc b) ne = ne_eqb a b (λ e. ne (ap (λ (n : ℕ). negsuc n) e))
+same_no (pos a) (negsuc b) ne = refl
+same_no (negsuc a) (pos b) ne = refl
+
+-- the outcome, by what was seen
+
+by_difference : (cat : CatalogueView) (x : ExchangeView) (retailer now : ℕ) (plain : Plain) (v : RowSeen) → x.difference ≡ difference_at cat v x.made x.fulfilled x.offer
+    → exchanged_with cat x retailer now plain v ≡ exchanged_by cat x retailer now plain v
+by_difference cat x retailer now plain v is =
+    ap (λ (t : Bool). cond t (exchanged_by cat x retailer now plain v) (refusing QuoteWrong plain)) (same_yes x.difference (difference_at cat v x.made x.fulfilled x.offer) is)
+
+not_worth : (cat : CatalogueView) (x : ExchangeView) (retailer now : ℕ) (plain : Plain) (v : RowSeen) → x.difference ≢ difference_at cat v x.made x.fulfilled x.offer → exchanged_with cat x retailer now plain v ≡ refusing QuoteWrong plain
+not_worth cat x retailer now plain v ne =
+    ap (λ (t : Bool). cond t (exchanged_by cat x retailer now plain v) (refusing QuoteWrong plain)) (same_no x.difference (difference_at cat v x.made x.fulfilled x.offer) ne)
+
+in_phase_named : (cat : CatalogueView) (x : ExchangeView) (retailer now : ℕ) (plain : Plain) (v : RowSeen) → v.phase ≡ phase_named x.fulfilled
+    → exchanged_by cat x retailer now plain v ≡ with_places_for cat x.offer (exchanged_for cat x retailer now plain v) plain
+in_phase_named cat x retailer now plain v is =
+    ap (λ (t : Bool). cond t (with_places_for cat x.offer (exchanged_for cat x retailer now plain v) plain) (wrong plain v)) (is_in_yes v.phase (phase_named x.fulfilled) is)
+
+in_another : (cat : CatalogueView) (x : ExchangeView) (retailer now : ℕ) (plain : Plain) (v : RowSeen) → v.phase ≢ phase_named x.fulfilled → exchanged_by cat x retailer now plain v ≡ wrong plain v
+in_another cat x retailer now plain v ne =
+    ap (λ (t : Bool). cond t (with_places_for cat x.offer (exchanged_for cat x retailer now plain v) plain) (wrong plain v)) (is_in_no v.phase (phase_named x.fulfilled) ne)
+
+-- the reply and the list are the outcome's; or there was no memory, and at most a row is kept more
+abbrev IsExchangedPlainly : CatalogueView → Outcome → DeskView → DeskView → Reply → Type 0
+IsExchangedPlainly cat o old new reply = IsBy o new reply ⊎ ((reply ≡ problem NoMemory) × MayKeepRow cat.rows (plain_of old) (plain_of new))
+
+abbrev outcome_for : CatalogueView → ExchangeView → ℕ → ℕ → DeskView → Outcome
+outcome_for cat x retailer now old = on_own (plain_of old) x.row retailer (exchanged_with cat x retailer now (plain_of old))
+
+exchanges_plainly : (cat : CatalogueView) (x : ExchangeView) (retailer now : ℕ) (old new : DeskView) (reply : Reply) → IsLone cat old → Fit cat x.offer x.offer.segments → Differ x.offer.segments → is_stale x.made now ≡ false
+    → ExchangesIt cat cat.rows retailer x now old new reply → IsExchangedPlainly cat (outcome_for cat x retailer now old) old new reply × IsLone cat new
+exchanges_plainly cat x retailer now old new reply lone fit differ fresh (inl (readied.Fine ready, p, did, un, told)) = absurd un
+exchanges_plainly cat x retailer now old new reply lone fit differ fresh (inl (readied.Unknown, p, (es, (fine, none), did), un, told)) =
+    let c = unseen_by cat x.row retailer (exchanged_with cat x retailer now (plain_of old)) old new reply lone (es, none, did) (told ∙ ap (λ (q : Problem). problem q) un) in (inl c.0, c.1)
+exchanges_plainly cat x retailer now old new reply lone fit differ fresh (inl (readied.WrongState shown, p, (es, (ne, (v, right, is)), did), un, told)) =
+    let has = has_seen cat x.row retailer v es old new lone right.sees did in
+    let c = seen_by cat x.row retailer v (exchanged_with cat x retailer now (plain_of old)) (problem (WrongState v.phase)) old new reply lone has
+    (by_difference cat x retailer now (plain_of old) v right.difference ∙ in_another cat x retailer now (plain_of old) v (λ e. ne (sym is ∙ e)))
+    (told ∙ (ap (λ (q : Problem). problem q) un ∙ ap (λ (q : Phase). problem (WrongState q)) (sym is))) in
+    (inl c.0, c.1)
+exchanges_plainly cat x retailer now old new reply lone fit differ fresh (inl (readied.QuoteStale made then, p, (es, (stale, one, two, is), did), un, told)) =
+    absurd (let no : false ≡ true = sym fresh ∙ stale in cc)
+exchanges_plainly cat x retailer now old new reply lone fit differ fresh (inl (readied.QuoteWrong, p, (es, (fine, here, (v, saw, ne)), did), un, told)) =
+    let has = has_seen cat x.row retailer v es old new lone saw did in
+    let c = seen_by cat x.row retailer v (exchanged_with cat x retailer now (plain_of old)) (problem QuoteWrong) old new reply lone has
+    (not_worth cat x retailer now (plain_of old) v ne) (told ∙ ap (λ (q : Problem). problem q) un) in
+    (inl c.0, c.1)
+exchanges_plainly cat x retailer now old new reply lone fit differ fresh (inr (mid, (es, (same, (v, right, is)), did), goes)) =
+    let has = has_seen cat x.row retailer v es old mid lone right.sees did in
+    let b = has.booking in
+    let at : present (state_seen mid) x.row ≡ Some b = ap (λ (u : State). present u x.row) has.same ∙ has.found in
+    let named = sym (ap (λ (w : RowSeen). w.phase) has.view) ∙ is in
+    let c = carried_plainly cat x retailer now b mid new reply (stays_seen cat x.row retailer v old mid lone has) fit differ at has.sealed named goes in
+    let plain : plain_of mid ≡ plain_of old = ap plain_in has.same in
+    let moved : IsExchangedPlainly cat (with_places_for cat x.offer (exchanged_for cat x retailer now (plain_of old) (view_of b)) (plain_of old)) old new reply =
+    subst (λ (p : Plain). IsBy (with_places_for cat x.offer (exchanged_for cat x retailer now p (view_of b)) p) new reply ⊎ ((reply ≡ problem NoMemory) × MayKeepRow cat.rows p (plain_of new))) plain c.0 in
+    let o : with_places_for cat x.offer (exchanged_for cat x retailer now (plain_of old) (view_of b)) (plain_of old) ≡ outcome_for cat x retailer now old =
+    ap (λ (w : RowSeen). with_places_for cat x.offer (exchanged_for cat x retailer now (plain_of old) w) (plain_of old)) (sym has.view)
+    ∙ (sym (by_difference cat x retailer now (plain_of old) v right.difference ∙ in_phase_named cat x retailer now (plain_of old) v is)
+    ∙ ap (on_view (exchanged_with cat x retailer now (plain_of old)) (plain_of old)) (sym has.owned)) in
+    (subst (λ (y : Outcome). IsExchangedPlainly cat y old new reply) o moved, c.1)
+
+offer_of : (x : ExchangeView) → is_exchange x ≡ true → is_offer x.offer ≡ true
+offer_of x is =
+    (and_parts (nat_le (magnitude x.difference) 99_999_999_999) (is_offer x.offer)
+    (and_parts (nat_le x.made 4_102_444_799) (nat_le (magnitude x.difference) 99_999_999_999 && is_offer x.offer)
+    (and_parts (nat_le x.row 262_143) (nat_le x.made 4_102_444_799 && (nat_le (magnitude x.difference) 99_999_999_999 && is_offer x.offer)) is).1).1).1
+
+pub accept_exchange_plain : (cat : CatalogueView) (retailer now : ℕ) (row : Option RowNo) (code : Option ExchangeCode) → IsReadable cat (command.AcceptExchange row code) → AnswersPlainly cat retailer now (command.AcceptExchange row code)
+accept_exchange_plain cat retailer now row None readable = refused_plain cat retailer now (command.AcceptExchange row None) UnknownOffer refl
+accept_exchange_plain cat retailer now row (Some code) readable = go (command_fault cat now (command.AcceptExchange row (Some code))) refl where
+  known : (k : Bool) → (is_of_row row code.row && is_quoted cat code) ≡ k → k ≡ true → is_offered cat (offer_view code.offer) ≡ true
+  known k is right =
+      let both = and_parts (is_of_row row code.row) (is_quoted cat code) (is ∙ right) in
+      (and_parts (is_offered cat (offer_view code.offer)) (nat_le code.offer.made code.made && nat_le code.made (code.offer.made + validity)) both.1).0
+
+  go : (fault : Option Problem) → command_fault cat now (command.AcceptExchange row (Some code)) ≡ fault → AnswersPlainly cat retailer now (command.AcceptExchange row (Some code))
+  go (Some p) is = refused_plain cat retailer now (command.AcceptExchange row (Some code)) p is
+  go None is = λ old new reply lone did.
+      let x = exchange_view code in
+      let did_it : ExchangesIt cat cat.rows retailer x now old new reply =
+      subst (λ (f : Option Problem). AnswersBy cat retailer now (command.AcceptExchange row (Some code)) f old new reply) is did in
+      let offered = known (is_of_row row code.row && is_quoted cat code) refl (known_code (is_of_row row code.row && is_quoted cat code) code.made now is) in
+      let came = exchanges_plainly cat x retailer now old new reply lone (offer_fits cat x.offer (offer_of x readable)) (offered_differ cat x.offer offered) (fresh_code (is_of_row row code.row && is_quoted cat code) code.made now is) did_it in (
+        subst (λ (f : Option Problem). (let it = outcome_by cat retailer now (command.AcceptExchange row (Some code)) (plain_of old) f in (reply ≡ it.reply) × (plain_of new ≡ it.plain))
+            ⊎ ((reply ≡ problem NoMemory) × MayKeepRow cat.rows (plain_of old) (plain_of new))) (sym is) came.0,
+        came.1,
+      )

@@ -1,0 +1,26 @@
+pub mod Standings
+pub mod PlacesFree
+pub mod PlacesTries
+pub mod PlacesRows
+pub mod PlacesHeld
+pub mod PlacesSealed
+pub mod PlacesChosen
+pub mod BookingMade
+pub mod Changes
+pub mod Shown
+pub mod Staying
+pub mod Decided
+pub mod Commands
+pub mod Sweeping
+pub mod Sweeps
+pub mod Laws
+pub mod PlacesSeen
+pub mod PlacesLaws
+pub mod Seeing
+pub mod Trades
+pub mod ExchangesMade
+pub mod ExchangeLaws
+pub mod AllLaws
+pub mod Beginning
+mod UsualLife
+pub mod OwnWork

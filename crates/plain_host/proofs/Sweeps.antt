@@ -1,0 +1,88 @@
+-- A sweep, and what is refused, come to the outcomes of a plain host.
+use Rattle.std.proofs.Common.{◌≡◌, ℕ, ◌+◌, ◌<◌, inl, Bool, true, false, cond, List, [], ◌∷◌, map, length, Option, Some, sym, ap, ◌∙◌, subst, arith}
+use Rattle.std.specs.Prelude.{count_by}
+use Rattle.std.specs.List.{AllByRecursion, filter}
+use Rattle.history_model.specs.declared.entry.Step.{Step}
+use Rattle.history_model.specs.Phase.{is_sealed}
+use Rattle.history_model.specs.Booking.{Booking, Layout, State}
+use Rattle.history_model.specs.History.{IsLegalFrom}
+use Rattle.history_model.specs.Laws.{IsInRange}
+use Rattle.history_model.proofs.ListLemmas.{All-map}
+use Rattle.history_model.proofs.Ranges.{ranges_all}
+use Rattle.claim_rule.specs.Rule.{DeskView, state_seen}
+use Rattle.claim_rule.proofs.Moves.{is_sound}
+use Rattle.expiry_sweeper.specs.declared.sweeps.Swept.{Swept}
+use Rattle.expiry_sweeper.specs.AllRows.{sweeps_steps}
+use Rattle.rail_catalogue.specs.Contents.{CatalogueView}
+use Rattle.osdm_texts.specs.declared.problem.Problem.{Problem}
+use Rattle.osdm_answers.specs.Replies.{Reply, swept, problem}
+use Rattle.osdm_json.specs.declared.command.Command.{Command}
+use Rattle.osdm_json.specs.declared.command.Command.TheVariants as command
+use Rattle.search_service.specs.Searching.{SweepsRows}
+use Rattle.service_rules.specs.Checks.{command_fault}
+use Rattle.service_rules.specs.Performing.{DoesNothing}
+use Rattle.lone_desk.specs.Lone.{entries_of, after_steps}
+use Rattle.lone_desk.proofs.Following.{shape_follows}
+use Rattle.plain_host.specs.Plain.{Standing}
+use Rattle.plain_host.specs.Outcomes.{is_late, is_waiting, swept_one, outcome_by}
+use Rattle.plain_host.specs.PlainOf.{standing_of, is_standing, standings_of, plain_in, plain_of}
+use Rattle.plain_host.specs.Settled.{IsSettled}
+use Rattle.plain_host.specs.Plainly.{IsLone, IsPlainly}
+use Rattle.plain_host.proofs.Staying.{stays_by, still_lone}
+use Rattle.plain_host.proofs.Sweeping.{rows_swept, all_swept, late_counts, wait_counts}
+
+rows_below : (m : ℕ) (s : State) → AllByRecursion (λ (b : Booking). b.row < m) s → AllByRecursion (λ (x : Standing). x.row < m) (standings_of s)
+rows_below m [] below = tt
+rows_below m (b ∷ s) below = go (is_sealed b.phase) (rows_below m s below.1) where
+  go : (t : Bool) → AllByRecursion (λ (x : Standing). x.row < m) (standings_of s)
+      → AllByRecursion (λ (x : Standing). x.row < m) (map standing_of (cond t (b ∷ filter is_standing s) (filter is_standing s)))
+  go true rest = (below.0, rest)
+  go false rest = rest
+
+pub sweep_is_plain : (cat : CatalogueView) (retailer now : ℕ) (old new : DeskView) (reply : Reply) → IsLone cat old
+    → SweepsRows cat.rows now old new reply → IsPlainly cat retailer now command.Sweep old new reply × IsLone cat new
+sweep_is_plain cat retailer now old new reply lone (n, (es, did, shape), told) =
+    let f = shape_follows old new es lone.alone shape in
+    let s = state_seen old in
+    let d = old.number in
+    let steps = sweeps_steps now 0 did.sweeps in
+    let legal = subst (λ (x : List Step). IsLegalFrom old.layout s (entries_of d x)) did.steps f.legal in
+    let state : state_seen new ≡ after_steps s d steps = f.state ∙ ap (λ (x : List Step). after_steps s d x) did.steps in
+    let rows : new.layout.rows ≡ length did.sweeps = ap (λ (g : Layout). g.rows) f.layout ∙ (lone.rows ∙ sym did.every) in
+    let below = All-map (λ (b : Booking) (r : IsInRange new.layout b). let l : b.row < 0 + length did.sweeps = omega (arith, r.row, rows) in l)
+    (state_seen new) (ranges_all new.layout new.seen shape.legal) in
+    let all = rows_swept old.layout d now did.sweeps 0 s (is_sound old.layout old.seen lone.legal) did.each legal
+    (rows_below (0 + length did.sweeps) (after_steps s d steps) (subst (AllByRecursion (λ (b : Booking). b.row < 0 + length did.sweeps)) state below)) in
+    let settled : IsSettled (state_seen new) = subst IsSettled (sym state) (all.settled lone.settled) in
+    let list : standings_of (state_seen new) ≡ map (swept_one now) (standings_of s) =
+    ap standings_of state ∙ (all.bookings ∙ all_swept now (standings_of s)) in
+    let kept = ap (λ (u : State). (plain_in u).kept) state ∙ all.kept in
+    let counts : n ≡ record { expired = count_by (is_late now) (standings_of s); lost = 0; waiting = count_by (is_waiting now) (standings_of s) } =
+    did.counts
+    ∙ (λ i. record {
+      expired = (all.expired ∙ late_counts now (standings_of s)) i;
+      lost = all.lost i;
+      waiting = (all.waiting ∙ wait_counts now (standings_of s)) i;
+    }) in (
+      inl (told ∙ ap (λ (k : Swept). swept k) counts, λ i. record { bookings = list i; kept = kept i }),
+      still_lone cat old new lone (stays_by old new es lone.alone shape) settled,
+    )
+
+-- nothing was done
+nothing_done : (cat : CatalogueView) (old new : DeskView) → IsLone cat old → DoesNothing old new → (plain_of new ≡ plain_of old) × IsLone cat new
+nothing_done cat old new lone did =
+    let f = shape_follows old new [] lone.alone did in (
+      ap plain_in f.state,
+      still_lone cat old new lone (stays_by old new [] lone.alone did) (subst IsSettled (sym f.state) lone.settled),
+    )
+
+pub refused_is_plain : (cat : CatalogueView) (retailer now : ℕ) (c : Command) (p : Problem) (old new : DeskView) (reply : Reply) → IsLone cat old
+    → command_fault cat now c ≡ Some p → DoesNothing old new → reply ≡ problem p → IsPlainly cat retailer now c old new reply × IsLone cat new
+refused_is_plain cat retailer now c p old new reply lone fault did told =
+    let none = nothing_done cat old new lone did in (
+      inl (
+        told ∙ ap (λ (o : Option Problem). (outcome_by cat retailer now c (plain_of old) o).reply) (sym fault),
+        none.0 ∙ ap (λ (o : Option Problem). (outcome_by cat retailer now c (plain_of old) o).plain) (sym fault),
+      ),
+      none.1,
+    )

@@ -1,0 +1,26 @@
+-- What a lone desk's own work leaves, whatever its calls were.
+use Rattle.std.specs.Prelude.{◌≡◌, Bool, true, false, List, [], ◌∷◌}
+use Rattle.std.specs.List.{AllByRecursion}
+use Rattle.history_model.specs.declared.entry.Step.{Step}
+use Rattle.history_model.specs.declared.entry.Step.TheVariants.{Start}
+use Rattle.history_model.specs.declared.phase.Phase.TheVariants.{Making}
+use Rattle.history_model.specs.Booking.{State}
+use Rattle.history_model.specs.Laws.{is_owners}
+
+-- no booking in the making has others behind it
+abbrev pub MakesLast : State → Type 0
+MakesLast [] = Unit {0}
+MakesLast (b ∷ rest) = (b.phase ≡ Making → rest ≡ []) × MakesLast rest
+
+-- all bookings in the making and ending are the first desk's own, and it started none while it made one
+pub record IsOwnWork (s : State) : Type 0 where
+  pub owned : AllByRecursion (λ b. is_owners b.phase ≡ true → b.owner ≡ 0) s
+  pub last : MakesLast s
+
+-- the steps start no row
+abbrev pub is_start : Step → Bool
+is_start (Start row) = true
+is_start _ = false
+
+abbrev pub StartNone : List Step → Type 0
+StartNone steps = AllByRecursion (λ st. is_start st ≡ false) steps

@@ -1,0 +1,57 @@
+-- What stands in a state: its sealed bookings, and the row that a desk makes.
+use Rattle.std.specs.Prelude.{ℕ, Bool, true, false, List, map, find, Option, Some, None, option_map}
+use Rattle.std.specs.List.{filter}
+use Rattle.leg_masks.specs.Interval.{PlacedSpan as Item}
+use Rattle.history_model.specs.declared.phase.Phase.{Phase}
+use Rattle.history_model.specs.declared.phase.Phase.TheVariants.{Making, Ended}
+use Rattle.history_model.specs.declared.booking.BookedItem.{BookedItem}
+use Rattle.history_model.specs.declared.booking.End.{End}
+use Rattle.history_model.specs.Phase.{is_sealed}
+use Rattle.history_model.specs.Booking.{Booking, State, word_at}
+use Rattle.claim_rule.specs.Rule.{DeskView, state_seen}
+use Rattle.booking_rows.specs.Views.{RowSeen}
+use Rattle.plain_host.specs.Plain.{Standing, Plain}
+
+abbrev pub item_of : BookedItem → Item
+item_of i = record { place = i.place; span = i.span }
+
+abbrev pub end_in : Phase → End → Option End
+end_in (Ended kind) end = Some end
+end_in phase end = None
+
+-- a booking as a look at its row shows it
+abbrev pub view_of : Booking → RowSeen
+view_of b = record {
+  phase = b.phase;
+  retailer = word_at b 1;
+  limit = word_at b 2;
+  total = word_at b 3;
+  items = map item_of b.items;
+  ended = end_in b.phase b.end;
+}
+
+abbrev pub standing_of : Booking → Standing
+standing_of b = record { row = b.row; view = view_of b }
+
+-- a booking stands once it is sealed
+abbrev pub is_standing : Booking → Bool
+is_standing b = is_sealed b.phase
+
+abbrev pub standings_of : State → List Standing
+standings_of s = map standing_of (filter is_standing s)
+
+abbrev pub is_in_making : Phase → Bool
+is_in_making Making = true
+is_in_making phase = false
+
+-- the row in the making
+abbrev pub kept_of : State → Option ℕ
+kept_of s = option_map (λ (b : Booking). b.row) (find (λ (b : Booking). is_in_making b.phase) s)
+
+-- what a state has
+abbrev pub plain_in : State → Plain
+plain_in s = record { bookings = standings_of s; kept = kept_of s }
+
+-- what a desk that is alone has
+abbrev pub plain_of : DeskView → Plain
+plain_of desk = plain_in (state_seen desk)

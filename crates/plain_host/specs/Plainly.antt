@@ -1,0 +1,48 @@
+-- A desk that is alone answers as a host of one thread.
+use Rattle.std.specs.Prelude.{◌≡◌, ◌⊎◌, ℕ}
+use Rattle.history_model.specs.History.{IsLegal}
+use Rattle.claim_rule.specs.Rule.{DeskView, state_seen}
+use Rattle.booking_rows.specs.SealedRows.{FitWords}
+use Rattle.rail_catalogue.specs.Contents.{CatalogueView, legs_in}
+use Rattle.osdm_texts.specs.declared.problem.Problem.TheVariants.{NoMemory}
+use Rattle.osdm_answers.specs.Replies.{Reply, problem}
+use Rattle.osdm_json.specs.declared.command.Command.{Command}
+use Rattle.osdm_json.specs.declared.command.Command.TheVariants as command
+use Rattle.service_rules.specs.Answering.{Answers}
+use Rattle.lone_desk.specs.Lone.{IsAlone}
+use Rattle.plain_host.specs.Plain.{Plain, row_for}
+use Rattle.plain_host.specs.Outcomes.{outcome_of}
+use Rattle.plain_host.specs.PlainOf.{plain_of}
+use Rattle.plain_host.specs.Settled.{IsSettled}
+
+-- A desk between two commands that is alone at the books of a catalogue: it has seen a legal history, and its bookings are settled.
+pub record IsLone (cat : CatalogueView) (desk : DeskView) : Type 0 where
+  pub alone : IsAlone desk
+  pub legal : IsLegal desk.layout desk.seen
+  pub settled : IsSettled (state_seen desk)
+  pub rows : desk.layout.rows ≡ cat.rows
+  pub legs : desk.layout.legs ≡ legs_in cat
+  pub fit : FitWords desk.layout
+
+-- the bookings are as before; so is the row kept, or it is the one that the booking came to
+abbrev pub MayKeepRow : ℕ → Plain → Plain → Type 0
+MayKeepRow rows before after = (after.bookings ≡ before.bookings) × ((after.kept ≡ before.kept) ⊎ (after.kept ≡ row_for rows before))
+
+-- what a command without memory leaves: all as before, but that a booking may keep its row
+abbrev pub MayKeep : ℕ → Command → Plain → Plain → Type 0
+MayKeep rows (command.Book offer) before after = MayKeepRow rows before after
+MayKeep rows (command.Reserve segment class count wanted) before after = MayKeepRow rows before after
+MayKeep rows (command.AcceptExchange row code) before after = MayKeepRow rows before after
+MayKeep rows c before after = after ≡ before
+
+-- the reply and the list are the outcome at the list before; or there was no memory
+abbrev pub IsPlainly : CatalogueView → ℕ → ℕ → Command → DeskView → DeskView → Reply → Type 0
+IsPlainly cat retailer now c old new reply =
+    (let o = outcome_of cat retailer now c (plain_of old) in (reply ≡ o.reply) × (plain_of new ≡ o.plain))
+    ⊎ ((reply ≡ problem NoMemory) × MayKeep cat.rows c (plain_of old) (plain_of new))
+
+-- whatever a lone desk's reply to the command is, it is that of a host of one thread, and the desk is then as before between two commands
+abbrev pub AnswersPlainly : CatalogueView → ℕ → ℕ → Command → Type 0
+AnswersPlainly cat retailer now c =
+    (old new : DeskView) (reply : Reply) → IsLone cat old → Answers cat retailer now c old new reply
+    → IsPlainly cat retailer now c old new reply × IsLone cat new

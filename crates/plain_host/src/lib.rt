@@ -1,0 +1,13 @@
+//! What a service of one thread answers: a plain list of bookings, and what each command makes of it.
+//!
+//! A desk that is alone at its books answers each command as this plain host does at the list of the desk's bookings, and leaves the list
+//! that the plain host leaves. The crate has definitions and laws alone: it does nothing when it runs.
+#![tactic(auto)]
+
+mod bookings;
+mod own_work;
+mod places;
+
+pub use bookings::decisions_are_plain;
+pub use own_work::own_work_is_lone;
+pub use places::{commands_are_plain, places_are_found, places_are_plain};
