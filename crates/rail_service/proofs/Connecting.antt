@@ -1,0 +1,88 @@
+-- A connection, from the answers of its service.
+use Rattle.std.proofs.Common.{◌≡◌, ℕ, true, List, ◌++◌, Option, refl, sym, ◌∙◌, subst}
+use mathlib.Core.List.{IsPrefix}
+use Rattle.history_model.specs.declared.entry.Entry.{Entry}
+use Rattle.history_model.specs.History.{IsLegal}
+use Rattle.history_model.proofs.Legal.{NoDouble-from_WellFormed, WellFormed-history}
+use Rattle.history_model.proofs.Seen.{legal-front}
+use Rattle.claim_rule.specs.Rule.{DeskView}
+use Rattle.claim_rule.specs.Out.{IsTidy, IsIdle}
+use Rattle.http_wire.specs.declared.request.WireFault.{WireFault}
+use Rattle.http_wire.specs.Requests.{RequestText}
+use Rattle.session_loop.specs.declared.end.ConnEnd.{ConnEnd}
+use Rattle.session_loop.specs.Session.{IsEnd}
+use Rattle.session_loop.proofs.Keeping.{end_keeps}
+use Rattle.session_loop.proofs.Views.{end_seen}
+use Rattle.rail_catalogue.specs.Contents.{CatalogueView}
+use Rattle.osdm_answers.specs.Replies.{problem, reply_bytes}
+use Rattle.rail_service.specs.declared.service.Service.{Service}
+use Rattle.rail_service.specs.Refusals.{problem_of_wire}
+use Rattle.rail_service.specs.Connections.{ServiceView, IsAnswer, answers_of, refusals_of, NeverDouble, IsServed}
+use Rattle.rail_service.specs.Responding.{view_of, Responds, Declines}
+use Rattle.rail_service.proofs.Owned.{Own, own_then, own_same}
+
+never_double : (desk : DeskView) → IsLegal desk.layout desk.seen → NeverDouble desk
+never_double desk legal history front =
+    let l = legal-front desk.layout history front.0 (subst (IsLegal desk.layout) (sym front.1) legal) in
+    NoDouble-from_WellFormed desk.layout _ (WellFormed-history desk.layout desk.layout.opening history l.0.well_formed l.1)
+
+-- what a service keeps from the start of a connection on
+pub record Through {C : Type 0} (start now : Service C) : Type 0 where
+  pub cat : now.cat.now ≡ start.cat.now
+  pub books : now.books.now ≡ start.books.now
+  pub desk : now.desk.ghost_name ≡ start.desk.ghost_name
+  pub clock : now.clock.ghost_name ≡ start.clock.ghost_name
+  pub tidy : IsTidy start.desk.now → IsTidy now.desk.now
+  pub own : Own start.desk.now now.desk.now
+
+module _ {C : Type 0} (told : C → Option (ℕ → ℕ)) (start after : Service C) (taken : List ℕ) (left : Option (List ℕ)) (written : List ℕ) (end : ConnEnd) where
+  -- the service's session ended so
+  abbrev pub Ended : Type 0
+  Ended = IsEnd (λ (before : Service C) request text (next : Service C). Responds told before request text next) (λ (service : Service C) fault text. Declines service fault text) start after taken left written end
+
+  pub through : IsLegal start.desk.now.layout start.desk.now.seen → Ended → Through start after
+  through legal is = end_keeps (λ before request text next. Responds told before request text next) (λ service fault text. Declines service fault text) (Through start) on start after taken left written end
+      (record { cat = refl; books = refl; desk = refl; clock = refl; tidy = λ t. t; own = own_same start.desk.now start.desk.now legal refl }) is
+    where
+      on : (before : Service C) (request : RequestText) (text : List ℕ) (next : Service C) → Through start before → Responds told before request text next → Through start next
+      on before request text next t is = record {
+        cat = is.cat ∙ t.cat;
+        books = is.books ∙ t.books;
+        desk = is.desk ∙ t.desk;
+        clock = is.clock ∙ t.clock;
+        tidy = λ tidy. is.tidy (t.tidy tidy);
+        own = own_then start.desk.now before.desk.now next.desk.now t.own (is.answer.steps, is.answer.shape);
+      }
+
+  ended : Ended → IsEnd (answers_of start.cat.now) (refusals_of start.cat.now) (view_of told start) (view_of told after) taken left written end
+  ended is = end_seen (λ before request text next. Responds told before request text next) (λ service fault text. Declines service fault text) (answers_of start.cat.now) (refusals_of start.cat.now)
+      (view_of told) (λ (s : Service C). s.cat.now ≡ start.cat.now) answered refused start after taken left written end refl is
+    where
+      answered : (before : Service C) (request : RequestText) (text : List ℕ) (next : Service C) → before.cat.now ≡ start.cat.now → Responds told before request text next
+          → (next.cat.now ≡ start.cat.now) × IsAnswer start.cat.now (view_of told before) request text (view_of told next)
+      answered before request text next same is =
+          (is.cat ∙ same, subst (λ (cat : CatalogueView). IsAnswer cat (view_of told before) request text (view_of told next)) same is.answer)
+
+      refused : (now : Service C) (fault : WireFault) (text : List ℕ) → now.cat.now ≡ start.cat.now → Declines now fault text
+          → text ≡ reply_bytes start.cat.now true (problem (problem_of_wire fault))
+      refused now fault text same is = subst (λ (cat : CatalogueView). text ≡ reply_bytes cat true (problem (problem_of_wire fault))) same is
+
+  pub serves : IsLegal start.desk.now.layout start.desk.now.seen → IsIdle after.desk.now → Ended
+      → IsServed start.cat.now (view_of told start) (view_of told after) taken left written end
+  serves legal idle is =
+      let t = through legal is in
+      record {
+        answered = ended is;
+        steps = t.own.0;
+        shape = t.own.1;
+        no_double = never_double after.desk.now t.own.1.legal;
+        idle = idle;
+      }
+
+-- what the service held at its end is left at the desk and the clock
+pub served_there : {C : Type 0} (told : C → Option (ℕ → ℕ)) (cat : CatalogueView) (before : ServiceView) (service : Service C) (desk : DeskView) (clock : C) (taken : List ℕ) (left : Option (List ℕ)) (written : List ℕ) (end : ConnEnd)
+    → desk ≡ service.desk.now → clock ≡ service.clock.now → IsServed cat before (view_of told service) taken left written end
+    → IsServed cat before (record { desk = desk; first = service.first; clock = told clock }) taken left written end
+served_there {C} told cat before service desk clock taken left written end same_desk same_clock is =
+    subst (λ (d : DeskView). IsServed cat before (record { desk = d; first = service.first; clock = told clock }) taken left written end) (sym same_desk)
+    (subst (λ (k : C). IsServed cat before (record { desk = service.desk.now; first = service.first; clock = told k }) taken left written end) (sym same_clock) is)

@@ -1,0 +1,6 @@
+pub mod Naming
+pub mod Owned
+pub mod Replying
+pub mod Connecting
+pub mod Alone
+pub mod Carried

@@ -1,0 +1,12 @@
+use Rattle.std.proofs.Common.{◌≡◌, true, ap, ◌∙◌}
+use Rattle.osdm_texts.specs.declared.problem.Problem.{Problem}
+use Rattle.osdm_answers.specs.Replies.{problem, reply_bytes}
+use Rattle.osdm_answers.proofs.Answering.{of_problem}
+use Rattle.rail_service.proofs.refusal.refusal_of.Goals as goal
+
+pub returns : goal.returns
+returns c = record {
+  bytes = λ cat.
+      c.problem_answer.ensures.bytes
+      ∙ (of_problem cat true c.problem_of_wire.result ∙ ap (λ (p : Problem). reply_bytes cat true (problem p)) c.problem_of_wire.ensures);
+}

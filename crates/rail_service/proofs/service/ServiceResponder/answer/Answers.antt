@@ -1,0 +1,46 @@
+use Rattle.std.proofs.Common.{ℕ, Bool, Option, Ok, Err, refl, ap, ◌∙◌}
+use Rattle.rail_ids.specs.declared.RetailerNo.{RetailerNo}
+use Rattle.http_wire.specs.Pieces.{request_text}
+use Rattle.claim_rule.proofs.Shapes.{shape_none}
+use Rattle.osdm_answers.specs.Replies.{problem, reply_bytes}
+use Rattle.osdm_answers.proofs.Answering.{of_problem}
+use Rattle.rail_service.specs.Serving.{first_after}
+use Rattle.rail_service.specs.Responding.{view_of}
+use Rattle.rail_service.proofs.Replying.{reading_of, answer_by}
+use Rattle.rail_service.proofs.service.ServiceResponder.answer.Goals as goal
+
+pub returns-in-Ok-clause-answers : goal.returns-in-Ok-clause-answers
+returns-in-Ok-clause-answers g c =
+    let cat = c.args.self.now.cat.now in
+    let did = c.perform.ensures.answer in
+    record {
+      answer = answer_by cat (view_of g.C.Clock.told c.args.self.now) (request_text c.args.intake.now.taken c.args.request.now) _ _ c.now-now.result did.0
+          c.requires.ready.own.legal (reading_of _ _ _ c.now-now.ensures.first c.now-now.ensures.rest)
+          (Ok (c.in-Ok.retailer, c.in-Ok.command), c.in-Ok.ensures.asks, (did.1, did.2))
+          (did.3 ∙ ap (λ (last : Bool). reply_bytes cat last did.0) c.requires.last)
+          (c.first_after-self.ensures.value ∙ ap (λ (retailer : Option RetailerNo). first_after c.args.self.now.first retailer) c.retailer_of.ensures.value)
+          c.perform.ensures.idle;
+      tidy = c.perform.ensures.tidy;
+      cat = refl;
+      books = refl;
+      desk = refl;
+      clock = refl;
+    }
+
+pub returns-in-Err-clause-answers : goal.returns-in-Err-clause-answers
+returns-in-Err-clause-answers g c =
+    let cat = c.args.self.now.cat.now in
+    let reply = problem c.in-Err.problem in
+    record {
+      answer = answer_by cat (view_of g.C.Clock.told c.args.self.now) (request_text c.args.intake.now.taken c.args.request.now) _ _ c.now-now.result reply
+          c.requires.ready.own.legal (reading_of _ _ _ c.now-now.ensures.first c.now-now.ensures.rest)
+          (Err c.in-Err.problem, c.in-Err.ensures.asks, (shape_none c.args.self.now.desk.now c.requires.ready.own.legal, refl))
+          (c.problem_answer.ensures.bytes ∙ (of_problem cat c.args.last c.in-Err.problem ∙ ap (λ (last : Bool). reply_bytes cat last reply) c.requires.last))
+          (c.first_after-self.ensures.value ∙ ap (λ (retailer : Option RetailerNo). first_after c.args.self.now.first retailer) c.retailer_of.ensures.value)
+          c.requires.ready.idle;
+      tidy = λ tidy. tidy;
+      cat = refl;
+      books = refl;
+      desk = refl;
+      clock = refl;
+    }

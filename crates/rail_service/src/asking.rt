@@ -1,0 +1,81 @@
+//! Whether a request asks for anything, and what.
+ghost use Rattle.std.specs.Prelude.{◌≡◌, IfOk, Ok, Err, option_map, IfSome, length};
+ghost use Rattle.http_wire.specs.Pieces.{request_text, ArePiecesWithin};
+ghost use Rattle.osdm_json.specs.Readable.{IsReadable};
+ghost use Rattle.rail_service.specs.Paths.{all_rows};
+ghost use Rattle.rail_service.specs.Routes.{FindsRoute};
+ghost use Rattle.rail_service.specs.Serving.{retailer_of as retailer_in, first_after as first_then, admitted, ReadsAs, AsksFor};
+
+use crate::resource::Resource;
+use crate::routing::find_route;
+use http_wire::{Intake, Request};
+use matchit::Router;
+use osdm_json::{Command, Problem, Route, read_command};
+use rail_catalogue::Catalogue;
+use rail_ids::RetailerNo;
+use std::alloc::Global;
+
+/// The retailer of the request's key, if the catalogue has it.
+pub fn retailer_of(cat: &Catalogue, intake: &Intake, request: &Request) -> Option<RetailerNo>
+    requires given { ArePiecesWithin (length intake.now.taken) request.now }
+    ensures value { result ≡ retailer_in cat.now (request_text intake.now.taken request.now) }
+{
+    let key = request.key?;
+    cat.retailer_of(intake.part(key))
+}
+
+/// The retailer of the connection's first known key, after one request more.
+pub fn first_after(first: Option<RetailerNo>, retailer: Option<RetailerNo>) -> Option<RetailerNo>
+    ensures value { result ≡ first_then first retailer }
+{
+    match first {
+        Some(first) => Some(first),
+        None => retailer,
+    }
+}
+
+/// Whether the retailer of a key may ask on a connection with this first one.
+fn admit(first: Option<RetailerNo>, retailer: Option<RetailerNo>) -> Result<RetailerNo, Problem>
+    ensures value { result ≡ admitted first retailer }
+{
+    match (retailer, first) {
+        (None, _) => Err(Problem::NoRetailer),
+        (Some(retailer), Some(first)) if first.0 != retailer.0 => Err(Problem::OtherRetailer),
+        (Some(retailer), _) => Ok(retailer),
+    }
+}
+
+/// The command that the route asks with this body.
+fn read(alloc: Global, cat: &Catalogue, route: Route<'_>, body: &[u8]) -> Result<Command, Problem>
+    ensures reads { ReadsAs cat.now route.entry body.now result }
+    ensures readable { IfOk result (λ c. IsReadable cat.now c) }
+{
+    match read_command(alloc, cat, route, body) {
+        Ok(command) => Ok(command),
+        Err(fault) => Err(fault.problem()),
+    }
+}
+
+/// What a request asks for: a retailer's command, or why it asks for none. No memory is taken before a body is read.
+pub fn asked(
+    alloc: Global,
+    cat: &Catalogue,
+    router: &Router<Resource>,
+    first: Option<RetailerNo>,
+    intake: &Intake,
+    request: &Request,
+) -> Result<(RetailerNo, Command), Problem>
+    requires rows { router.now ≡ all_rows }
+    requires given { ArePiecesWithin (length intake.now.taken) request.now }
+    ensures asks { AsksFor cat.now first (request_text intake.now.taken request.now) result }
+    ensures readable { IfOk result (λ a. IsReadable cat.now a.1) }
+{
+    let retailer = admit(first, retailer_of(cat, intake, request))?;
+    let route = find_route(
+        router,
+        intake.part(request.method),
+        intake.part(request.path),
+    )?;
+    let command = read(alloc, cat, route, intake.part(request.body))?;
+    Ok((retailer, command))
+}

@@ -1,0 +1,111 @@
+//! One connection, from its first byte to its end.
+ghost use Rattle.std.specs.Prelude.{◌≡◌, ℕ, List, [], Option, None};
+ghost use Rattle.rail_ids.specs.declared.RetailerNo.{RetailerNo};
+ghost use Rattle.rail_io.specs.Faults.{Rose};
+ghost use Rattle.rail_io.specs.Told.{with_front, with_end};
+ghost use Rattle.session_loop.specs.declared.end.ConnEnd.TheVariants.{ReadFault, WriteFault};
+ghost use Rattle.rail_catalogue.specs.Contents.{legs_in};
+ghost use Rattle.claim_rule.specs.Seats.{IsOf};
+ghost use Rattle.claim_rule.specs.Out.{IsIdle, IsTidy};
+ghost use Rattle.plain_host.specs.PlainOf.{plain_of};
+ghost use Rattle.plain_host.specs.Plainly.{IsLone};
+ghost use Rattle.rail_service.specs.Connections.{IsServed, HasServed};
+ghost use Rattle.rail_service.specs.OneThread.{IsOneThread};
+ghost use Rattle.rail_service.specs.Readiness.{IsReady};
+ghost use Rattle.rail_service.specs.Responding.{view_of};
+
+use crate::resource::start_router;
+use crate::service::Service;
+use claim_rule::{Books, Desk};
+use http_wire::Intake;
+use rail_catalogue::Catalogue;
+use rail_io::{Clock, Sink, Source};
+use session_loop::{ConnEnd, run_session};
+use std::alloc::Global;
+
+/// Serves until an end. The intake is as its start gave it.
+fn serve<S: Source, K: Sink, C: Clock>(
+    intake: &mut Intake,
+    source: &mut S,
+    sink: &mut K,
+    service: &mut Service<'_, '_, '_, C>,
+) -> ConnEnd
+    requires fresh { intake.old.given ≡ 0 }
+    requires empty { intake.old.unread ≡ [] }
+    requires ready { IsReady service.old.cat.now service.old.books.now service.old.router.now service.old.desk.now }
+    ensures own { IsOf service.old.books.now service.new.desk.now }
+    ensures tidy { IsTidy service.old.desk.now → IsTidy service.new.desk.now }
+    ensures served { (taken written : List ℕ)
+        × (S.told source.old ≡ with_front taken (S.told source.new))
+        × (K.told sink.new ≡ with_end (K.told sink.old) written)
+        × IsServed service.old.cat.now (view_of C.told service.old) (view_of C.told service.new) taken (S.told source.new) written result }
+    ensures read_cause { result ≡ ReadFault → Rose (S.faults source.old) (S.faults source.new) }
+    ensures write_cause { result ≡ WriteFault → Rose (K.faults sink.old) (K.faults sink.new) }
+    ensures read_steady { (result ≡ ReadFault → ⊥) → S.faults source.new ≡ S.faults source.old }
+    ensures write_steady { (result ≡ WriteFault → ⊥) → K.faults sink.new ≡ K.faults sink.old }
+    ensures same_desk { service.new.desk.ghost_name ≡ service.old.desk.ghost_name }
+    ensures same_clock { service.new.clock.ghost_name ≡ service.old.clock.ghost_name }
+{
+    run_session(intake, source, sink, service)
+}
+
+/// Serves one connection at a desk of the books: its requests are read from the source, each is answered at the clock's next reading, and
+/// the answers are written to the sink, until an end.
+///
+/// All memory of the wire and of the routes is taken first; where there is none, the end is `NoMemory`, and nothing is read, written or
+/// done. Later want of memory is answered 500, and changes no booking's fate.
+pub fn serve_connection<S: Source, K: Sink, C: Clock>(
+    alloc: Global,
+    cat: &Catalogue,
+    books: &Books,
+    desk: &mut Desk,
+    source: &mut S,
+    sink: &mut K,
+    clock: &mut C,
+) -> ConnEnd
+    requires own { IsOf books.now desk.old }
+    requires legs { books.now.layout.legs ≡ legs_in cat.now }
+    requires rows { books.now.layout.rows ≡ cat.now.rows }
+    requires idle { IsIdle desk.old }
+    ensures own { IsOf books.now desk.new }
+    ensures idle { IsIdle desk.new }
+    ensures tidy { IsTidy desk.old → IsTidy desk.new }
+
+    // The bytes written are the defined replies to the requests of the bytes taken, whatever other desks do.
+    ensures served { (taken written : List ℕ) × (first : Option RetailerNo)
+        × (S.told source.old ≡ with_front taken (S.told source.new))
+        × (K.told sink.new ≡ with_end (K.told sink.old) written)
+        × HasServed cat.now (record { desk = desk.old; first = None; clock = C.told clock.old })
+        (record { desk = desk.new; first = first; clock = C.told clock.new }) taken (S.told source.new) written result }
+
+    // At a desk that is alone they are those of a host of one thread, which begins with the desk's bookings.
+    ensures one_thread { IsLone cat.now desk.old → (taken written : List ℕ) × (first : Option RetailerNo)
+        × (S.told source.old ≡ with_front taken (S.told source.new))
+        × (K.told sink.new ≡ with_end (K.told sink.old) written)
+        × IsOneThread cat.now (record { plain = plain_of desk.old; first = None; clock = C.told clock.old })
+        (record { plain = plain_of desk.new; first = first; clock = C.told clock.new }) taken (S.told source.new) written result }
+    ensures lone { IsLone cat.now desk.old → IsLone cat.now desk.new }
+
+    // A device's failure is the end where its count of faults rose in this call, and at every other end that count is as it was.
+    ensures read_cause { result ≡ ReadFault → Rose (S.faults source.old) (S.faults source.new) }
+    ensures write_cause { result ≡ WriteFault → Rose (K.faults sink.old) (K.faults sink.new) }
+    ensures read_steady { (result ≡ ReadFault → ⊥) → S.faults source.new ≡ S.faults source.old }
+    ensures write_steady { (result ≡ WriteFault → ⊥) → K.faults sink.new ≡ K.faults sink.old }
+{
+    let Ok(mut intake) = Intake::start(alloc) else {
+        return ConnEnd::NoMemory;
+    };
+    let Ok(router) = start_router(alloc) else {
+        return ConnEnd::NoMemory;
+    };
+    let mut service = Service {
+        alloc,
+        cat,
+        books,
+        router: &router,
+        desk,
+        clock,
+        first: None,
+    };
+    serve(&mut intake, source, sink, &mut service)
+}

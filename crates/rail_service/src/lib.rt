@@ -1,0 +1,18 @@
+//! The service of one connection.
+#![tactic(auto)]
+
+mod asking;
+mod connection;
+mod parts;
+mod performing;
+mod refusal;
+mod resource;
+mod routing;
+mod service;
+mod trading;
+
+pub use connection::serve_connection;
+pub use performing::perform;
+
+#[cfg(test)]
+mod tests;

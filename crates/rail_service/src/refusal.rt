@@ -1,0 +1,29 @@
+//! Refusals of what stands in a request's place.
+ghost use Rattle.std.specs.Prelude.{◌≡◌, true};
+ghost use Rattle.session_loop.specs.Answered.{answer_bytes};
+ghost use Rattle.rail_catalogue.specs.Contents.{CatalogueView};
+ghost use Rattle.osdm_answers.specs.Replies.{problem, reply_bytes};
+ghost use Rattle.rail_service.specs.Refusals.{problem_of_wire as problem_of};
+
+use http_wire::{Answer, WireFault};
+use osdm_answers::problem_answer;
+use osdm_texts::Problem;
+
+fn problem_of_wire(fault: WireFault) -> Problem
+    ensures { result ≡ problem_of fault }
+{
+    match fault {
+        WireFault::BadHead => Problem::BadHead,
+        WireFault::HeadTooLarge => Problem::HeadTooLarge,
+        WireFault::BodyTooLarge => Problem::BodyTooLarge,
+        WireFault::Coding => Problem::Coding,
+        WireFault::BadLength => Problem::BadLength,
+    }
+}
+
+/// The answer to what stands in a request's place. It is the last of its connection, and takes no memory.
+pub fn refusal_of(fault: WireFault) -> Answer
+    ensures bytes { (cat : CatalogueView) → answer_bytes result ≡ reply_bytes cat true (problem (problem_of fault)) }
+{
+    problem_answer(&problem_of_wire(fault), true)
+}

@@ -1,0 +1,75 @@
+//! The paths that are served.
+ghost use Rattle.std.specs.Prelude.{◌≡◌, IfOk, OnOk};
+ghost use Rattle.rail_service.specs.Paths.{with_path, all_rows, resource_at as resource_named};
+
+use matchit::Router;
+use std::alloc::{AllocError, Global};
+use std::str;
+
+/// What a path names.
+#[derive(Debug, Clone, Copy, PartialEq, Eq)]
+pub enum Resource {
+    Offers,
+    Bookings,
+    Reservations,
+    Booking,
+    Fulfillments,
+    RefundOffers,
+    RefundOffer,
+    ExchangeOffers,
+    ExchangeOperations,
+    Places,
+    Sweeps,
+}
+
+/// The paths that are served, with the names of their parameters, in the order of their insertion.
+const PATHS: [(&str, Resource); 11] = [
+    ("/offers", Resource::Offers),
+    ("/bookings", Resource::Bookings),
+    ("/reservations", Resource::Reservations),
+    ("/bookings/{id}", Resource::Booking),
+    ("/bookings/{id}/fulfillments", Resource::Fulfillments),
+    ("/bookings/{id}/refund-offers", Resource::RefundOffers),
+    (
+        "/bookings/{id}/refund-offers/{offer}",
+        Resource::RefundOffer,
+    ),
+    ("/exchange-offers", Resource::ExchangeOffers),
+    (
+        "/bookings/{id}/exchange-operations",
+        Resource::ExchangeOperations,
+    ),
+    ("/runs/{run}/places/{from}/{to}", Resource::Places),
+    ("/sweeps", Resource::Sweeps),
+];
+
+fn add_path(router: &mut Router<Resource>, path: &str, resource: Resource) -> Result<(), AllocError>
+    ensures added { OnOk result (router.new ≡ with_path router.old (path.now, resource)) }
+{
+    router.insert(path, resource).map_err(|_| AllocError)
+}
+
+/// A router that holds each path once.
+pub fn start_router(alloc: Global) -> Result<Router<Resource>, AllocError>
+    ensures rows { IfOk result (λ router. router ≡ all_rows) }
+{
+    let mut router = Router::new(alloc);
+    for (path, resource) in PATHS {
+        add_path(&mut router, path, resource)?;
+    }
+    Ok(router)
+}
+
+/// What the path names. No memory is taken.
+pub fn resource_at(router: &Router<Resource>, path: &[u8]) -> Option<Resource>
+    requires rows { router.now ≡ all_rows }
+    ensures found { result ≡ resource_named path.now }
+{
+    let Ok(text) = str::from_utf8(path) else {
+        return None;
+    };
+    match router.at(text) {
+        Ok(found) => Some(*found.value),
+        Err(_) => None,
+    }
+}

@@ -1,0 +1,61 @@
+//! The service as it answers the requests of one connection.
+use crate::asking::{asked, first_after, retailer_of};
+use crate::performing::perform;
+use crate::refusal::refusal_of;
+use crate::resource::Resource;
+use claim_rule::{Books, Desk};
+use http_wire::{Answer, Intake, Request, WireFault};
+use matchit::Router;
+use osdm_answers::problem_answer;
+use rail_catalogue::Catalogue;
+use rail_ids::RetailerNo;
+use rail_io::Clock;
+use session_loop::Responder;
+use std::alloc::Global;
+
+/// Answers the requests of one connection at a desk, at the clock's moments.
+#[derive(Drop)]
+pub struct Service<'s, 'd, 'k, C> {
+    pub alloc: Global,
+    pub cat: &'s Catalogue,
+    pub books: &'s Books,
+    pub router: &'s Router<Resource>,
+    pub desk: &'d mut Desk,
+    pub clock: &'k mut C,
+    /// The retailer of the connection's first known key.
+    pub first: Option<RetailerNo>,
+}
+
+impl<C: Clock> Responder for Service<'_, '_, '_, C> {
+    ghost use Rattle.rail_service.specs.Readiness.{IsReady};
+    ghost use Rattle.rail_service.specs.Responding.{Responds, Declines};
+
+    ghost ready = { λ s. IsReady s.cat.now s.books.now s.router.now s.desk.now };
+
+    ghost answers = { λ before request text after. Responds C.told before request text after };
+
+    ghost refuses = { λ service fault text. Declines service fault text };
+
+    fn answer(&mut self, intake: &Intake, request: &Request, last: bool) -> Answer {
+        let now = self.clock.now();
+        let asking = asked(
+            self.alloc,
+            self.cat,
+            self.router,
+            self.first,
+            intake,
+            request,
+        );
+        self.first = first_after(self.first, retailer_of(self.cat, intake, request));
+        match asking {
+            Ok((retailer, command)) => perform(
+                self.alloc, self.cat, self.books, self.desk, retailer, &command, now, last,
+            ),
+            Err(problem) => problem_answer(&problem, last),
+        }
+    }
+
+    fn refuse(&mut self, fault: WireFault) -> Answer {
+        refusal_of(fault)
+    }
+}

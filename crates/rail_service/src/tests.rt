@@ -1,0 +1,4 @@
+mod conversation;
+mod lives;
+mod refusals;
+mod trades;
