@@ -1,0 +1,15 @@
+//! The words of the commands that `clap` reads: `replay CATALOGUE --start MOMENT --tick N`.
+//!
+//! Each command is read as a simple one by `clap`, and its contract is `clap`'s stated reading: the values are exactly those that it
+//! gives, and the words are refused exactly where it refuses them for another cause than memory, where a number is out of its range, or
+//! where the text of a moment is none. A wish for help or for a version is refused as well.
+#![tactic(auto)]
+
+mod fault;
+mod options;
+mod replay;
+#[cfg(test)]
+mod tests;
+
+pub use fault::WordsFault;
+pub use replay::{ReplayWords, read_replay};

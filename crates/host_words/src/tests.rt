@@ -1,0 +1,89 @@
+use crate::{WordsFault, read_replay};
+use std::alloc::{AllocError, Global};
+use std::process::Abort;
+use std::test::Fail;
+
+/// The words of a line, parted by single spaces. A word that is written `''` is the empty one.
+fn words_of(alloc: Global, line: &str) -> Result<Vec<String>, AllocError> {
+    let mut words = Vec::new(alloc);
+    for word in line.split(' ') {
+        let word = if word == "''" { "" } else { word };
+        words.push(String::from_str(alloc, word)?)?;
+    }
+    Ok(words)
+}
+
+/// What `replay` reads of the line.
+fn check_replay<R: AllocGlobal + Abort>(
+    rt: &R,
+    line: &str,
+    said: Result<(&str, u64, u32), WordsFault>,
+) -> Result<(), AllocError> {
+    let words = words_of(rt.alloc(), line)?;
+    let read = match read_replay(rt.alloc(), &words) {
+        Ok(words) => Ok((words.catalogue, words.start.seconds(), words.tick)),
+        Err(fault) => Err(fault),
+    };
+    assert!(rt; read == said, "{line}");
+    Ok(())
+}
+
+#[test]
+fn replay_words(rt: HostRuntime) -> Result<(), Fail> {
+    for (line, said) in [
+        ("replay k1.json", ("k1.json", 0, 0)),
+        (
+            "replay k1.json --start 2026-06-01T06:00:00Z --tick 60",
+            ("k1.json", 1_780_293_600, 60),
+        ),
+        (
+            "replay --tick=86400 --start=2026-06-01T08:00:00.9+02:00 k1.json",
+            ("k1.json", 1_780_293_600, 86_400),
+        ),
+        ("replay --tick +5 k1.json", ("k1.json", 0, 5)),
+        ("replay --tick 007 k1.json", ("k1.json", 0, 7)),
+        ("replay --tick=-0 k1.json", ("k1.json", 0, 0)),
+        (
+            "replay k1.json --start 2099-12-31T23:59:59Z",
+            ("k1.json", 4_102_444_799, 0),
+        ),
+        ("replay -- --tick", ("--tick", 0, 0)),
+        ("replay ''", ("", 0, 0)),
+        ("replay help", ("help", 0, 0)),
+    ] {
+        check_replay(&rt, line, Ok(said))?;
+    }
+    Ok(())
+}
+
+#[test]
+fn replay_refusals(rt: HostRuntime) -> Result<(), Fail> {
+    for line in [
+        "replay",
+        "replay --help",
+        "replay -h",
+        "replay k1.json --help",
+        "replay --version",
+        "replay k1.json -V",
+        "replay k1.json k2.json",
+        "replay k1.json --tick",
+        "replay k1.json --tick -5",
+        "replay k1.json --tick=-5",
+        "replay k1.json --tick 86401",
+        "replay k1.json --tick 4294967296",
+        "replay k1.json --tick 1.0",
+        "replay k1.json --tick ''",
+        "replay k1.json --tick 1 --tick 1",
+        "replay k1.json --tic 1",
+        "replay k1.json --start",
+        "replay k1.json --start ''",
+        "replay k1.json --start 2026-06-01",
+        "replay k1.json --start 1969-12-31T23:59:59Z",
+        "replay k1.json --start 2100-01-01T00:00:00Z",
+        "replay --tick 1",
+        "replay k1.json --seed 1",
+    ] {
+        check_replay(&rt, line, Err(WordsFault::Refused))?;
+    }
+    Ok(())
+}
