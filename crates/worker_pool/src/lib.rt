@@ -1,0 +1,20 @@
+//! Workers on desks of their own, each in a thread of its own.
+//!
+//! A `Member` is a worker and its desk. `run_workers` runs each member's turns until one answers that its
+//! worker has ended. It promises that each member's turns followed one another on its own desk, whatever the
+//! other threads do. Where no thread can be made, members run one after another. It waits for its members,
+//! and nothing is said of when they end.
+#![tactic(auto)]
+
+mod gate;
+mod member;
+mod running;
+mod worker;
+
+pub use gate::{Gate, Open};
+pub use member::Member;
+pub use running::run_workers;
+pub use worker::{TurnEnd, Worker};
+
+#[cfg(test)]
+mod tests;
