@@ -1,0 +1,4 @@
+pub mod Listeners
+pub mod Memory
+pub mod Tcp
+pub mod Risen

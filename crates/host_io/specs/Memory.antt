@@ -1,0 +1,33 @@
+-- What the memory forms hold.
+use Rattle.std.specs.Prelude.{◌≡◌, ℕ, List, [], ◌∷◌, map}
+use Rattle.rail_io.specs.declared.memory_source.BytesSource.{BytesSource}
+use Rattle.rail_io.specs.declared.memory_sink.VecSink.{VecSink}
+use Rattle.rail_io.specs.Memory.{source_left, sink_taken}
+use Rattle.host_io.specs.declared.memory_listener.ListListener.{ListListener}
+use Rattle.host_io.specs.declared.listener.Accepted.{Accepted}
+use Rattle.host_io.specs.declared.listener.Accepted.TheVariants.{Stream, Failed, Closed}
+use Rattle.host_io.specs.Listeners.{ListenerView}
+
+abbrev pub list_view : ListListener → ListenerView
+list_view l = record { port = l.port; limit = l.limit; handed = l.handed }
+
+-- the bytes of the streams to come
+abbrev pub list_streams : ListListener → List (List ℕ)
+list_streams l = map (λ bytes. bytes.items) l.streams.items
+
+abbrev pub list_faults : ListListener → ℕ
+list_faults l = l.faults
+
+-- the binds and accepts made
+abbrev pub list_calls : ListListener → ℕ
+list_calls l = l.calls
+
+-- the numbers of the calls that fail
+abbrev pub list_fails : ListListener → List ℕ
+list_fails l = l.fails.items
+
+-- a stream is the first of those to come, with a sink that has taken nothing; else they stay
+abbrev pub HandsOut : List (List ℕ) → List (List ℕ) → Accepted BytesSource VecSink → Type 0
+HandsOut old new (Stream waiting) = (old ≡ source_left waiting.input ∷ new) × (sink_taken waiting.output ≡ [])
+HandsOut old new Failed = new ≡ old
+HandsOut old new Closed = new ≡ old

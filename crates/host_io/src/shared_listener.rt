@@ -1,0 +1,112 @@
+// A listener that members take turns at.
+ghost use Rattle.std.specs.Prelude.{◌≡◌, ◌≢◌, true, ◌<◌, ◌≤◌, ℕ, IfSome, IfNone};
+ghost use Rattle.rail_io.specs.Faults.{Rose};
+ghost use Rattle.host_io.specs.Risen.{has_risen};
+ghost use Rattle.host_io.specs.declared.shared_listener.ListenerEnd.TheVariants.{Open, Closed, Failed};
+
+use crate::listener::{Accepted, Listener};
+use crate::waiting::Waiting;
+use std::marker::{Brand, PhantomData};
+
+/// What is named of a listener while it stands behind a lock: its count of faults when it was handed in, its port and its limit.
+pub trait Named {
+    ghost faults: { ℕ };
+
+    ghost port: { ℕ };
+
+    ghost limit: { ℕ };
+}
+
+impl Named for Brand {
+    ghost faults = { 0 };
+
+    ghost port = { 0 };
+
+    ghost limit = { 0 };
+}
+
+/// How a shared listener ended.
+#[derive(Clone, Copy, Debug, PartialEq, Eq)]
+pub enum ListenerEnd {
+    /// It hasn't ended.
+    Open,
+    /// As many streams as the limit says were handed out.
+    Closed,
+    /// An accept failed.
+    Failed,
+}
+
+/// A listener beside how it ended, to stand in a lock. Whoever has the lock knows what is named of it, and why it ended.
+#[derive(Drop)]
+pub struct SharedListener<L: Listener + Drop, N: Named> {
+    listener: L,
+    end: ListenerEnd,
+    of: PhantomData<N>,
+    ghost port: { (L.told listener).port ≡ N.port },
+    ghost limit: { (L.told listener).limit ≡ N.limit },
+    ghost within: { (L.told listener).handed ≤ N.limit },
+    ghost faults: { N.faults ≤ L.faults listener },
+    ghost rose: { end ≡ Failed → has_risen N.faults (L.faults listener) ≡ true },
+    ghost failed: { end ≡ Failed → (L.told listener).handed < N.limit },
+    ghost closed: { end ≡ Closed → N.limit ≤ (L.told listener).handed },
+}
+
+impl<L: Listener + Drop, N: Named> SharedListener<L, N> {
+    /// A listener with what is named, which hasn't ended.
+    pub fn new(listener: L) -> Self
+        requires port { (L.told listener).port ≡ N.port }
+        requires limit { (L.told listener).limit ≡ N.limit }
+        requires within { (L.told listener).handed ≤ N.limit }
+        requires faults { N.faults ≤ L.faults listener }
+        ensures listener { result.listener ≡ listener }
+        ensures open { result.end ≡ Open }
+    {
+        SharedListener {
+            listener,
+            end: ListenerEnd::Open,
+            of: PhantomData,
+        }
+    }
+
+    /// The next stream. None exactly where the listener has then ended; one that has ended isn't asked again.
+    pub fn next(&mut self) -> Option<Waiting<L::Input, L::Output>>
+        ensures some { IfSome result (λ _. (self.new.end ≡ Open) × ((L.told self.old.listener).handed < (L.told self.new.listener).handed)) }
+        ensures none { IfNone result (self.new.end ≢ Open) }
+        ensures ended { self.old.end ≢ Open → self.new ≡ self.old }
+    {
+        if self.end != ListenerEnd::Open {
+            return None;
+        }
+        match self.listener.accept() {
+            Accepted::Stream(waiting) => return Some(waiting),
+            Accepted::Failed => self.end = ListenerEnd::Failed,
+            Accepted::Closed => self.end = ListenerEnd::Closed,
+        }
+        None
+    }
+
+    /// How it has ended so far.
+    pub fn end(&self) -> ListenerEnd
+        ensures { result ≡ self.now.end }
+    {
+        self.end
+    }
+
+    /// Takes the listener out, with what is known of it.
+    pub fn into_listener(self) -> (L, ListenerEnd)
+        ensures port { (L.told result.0).port ≡ N.port }
+        ensures limit { (L.told result.0).limit ≡ N.limit }
+        ensures within { (L.told result.0).handed ≤ N.limit }
+        ensures faults { N.faults ≤ L.faults result.0 }
+        ensures rose { result.1 ≡ Failed → Rose N.faults (L.faults result.0) }
+        ensures failed { result.1 ≡ Failed → (L.told result.0).handed < N.limit }
+        ensures closed { result.1 ≡ Closed → N.limit ≤ (L.told result.0).handed }
+    {
+        let SharedListener {
+            listener,
+            end,
+            of: _,
+        } = self;
+        (listener, end)
+    }
+}
