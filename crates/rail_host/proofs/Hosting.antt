@@ -15,7 +15,8 @@ use Rattle.session_loop.proofs.Views.{end_seen}
 use Rattle.rail_host.specs.Reservations.{Held}
 use Rattle.rail_host.specs.Run.{RunView}
 use Rattle.rail_host.specs.declared.responder.Tiny.{Tiny}
-use Rattle.rail_host.specs.Host.{status_of_end, IsHostEnd, IsNoted}
+use Rattle.rail_host.specs.Ends.{status_of_end, IsNoted}
+use Rattle.rail_host.specs.Host.{IsHostEnd}
 use Rattle.rail_host.specs.Responding.{Responds, Declines}
 use Rattle.rail_host.specs.Tiny.{Answers, Refuses, IsOneThread, IsOneThreadCut}
 

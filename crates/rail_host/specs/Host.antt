@@ -11,35 +11,9 @@ use Rattle.rail_host.specs.Reservations.{Held}
 use Rattle.rail_host.specs.Tiny.{Answers, Refuses, IsOneThread, IsOneThreadCut}
 use Rattle.rail_host.specs.Words.{IsTiny}
 
--- the status of an end
-abbrev pub status_of_end : ConnEnd → ℕ
-status_of_end Done = 0
-status_of_end Cut = 6
-status_of_end (Refused fault) = 6
-status_of_end ReadFault = 3
-status_of_end WriteFault = 4
-status_of_end NoMemory = 5
-
--- the note of an end
-abbrev pub note_of_end : ConnEnd → List ℕ
-note_of_end Done = []
-note_of_end Cut = codes "rail_host: input cut\n"
-note_of_end (Refused fault) = codes "rail_host: input refused\n"
-note_of_end ReadFault = codes "rail_host: read fault\n"
-note_of_end WriteFault = codes "rail_host: write fault\n"
-note_of_end NoMemory = codes "rail_host: no memory\n"
-
--- no such command
-abbrev pub IsRefusedWords : List (List ℕ) → Type 0
-IsRefusedWords words = (legs places : ℕ) → IsTiny words legs places → ⊥
-
--- a front of the note was written into the notes: all of it, unless these failed
-pub record IsNoted (before after : Option (List ℕ)) (faults_before faults_after : ℕ) (text : List ℕ) : Type 0 where
-  pub written : List ℕ
-  pub left : List ℕ
-  pub told : after ≡ with_end before written
-  pub is : text ≡ written ++ left
-  pub whole : (left ≡ []) ⊎ Rose faults_before faults_after
+-- not the words of `tiny`
+abbrev pub IsNoTiny : List (List ℕ) → Type 0
+IsNoTiny words = (legs places : ℕ) → IsTiny words legs places → ⊥
 
 -- A connection with nothing reserved ended so after these bytes were taken, with those left, and what
 -- was written is the host's; or there was no memory, and nothing was taken or written.

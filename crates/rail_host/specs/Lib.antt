@@ -1,4 +1,7 @@
+pub mod Ends
 pub mod Host
+pub mod Plain
+pub mod Replay
 pub mod Json
 pub mod Replies
 pub mod Reservations

@@ -7,18 +7,21 @@
 //! places on atomic words, by the calls of every service, at a desk that is alone.
 #![tactic(auto)]
 
+mod ends;
 mod host;
 mod json;
 mod problem;
 mod refusal;
+mod replay;
 mod reply;
 mod responder;
 mod run;
 mod tiny;
+mod tiny_host;
 mod wish;
 mod words;
 
-use rail_io::{MapShelf, ReaderSource, WriterSink};
+use rail_io::{FileShelf, ReaderSource, WriterSink};
 use std::alloc::AllocError;
 use std::env;
 use std::io::ErrorKind;
@@ -42,7 +45,7 @@ fn given_words(rt: &(impl Env + AllocGlobal)) -> Result<Vec<String>, AllocError>
 
 fn main(rt: HostRuntime) -> ExitCode {
     let alloc = rt.alloc();
-    let mut shelf = MapShelf::new(alloc, Vec::new(alloc));
+    let mut shelf = FileShelf::new(&rt);
     let mut input = ReaderSource::new(rt.stdin());
     let mut output = WriterSink::new(rt.stdout());
     let mut notes = WriterSink::new(rt.stderr());
@@ -55,7 +58,7 @@ fn main(rt: HostRuntime) -> ExitCode {
             &mut output,
             &mut notes,
         ),
-        Err(_) => host::end_without_memory(&mut notes),
+        Err(_) => ends::end_without_memory(&mut notes),
     };
     ExitCode::from(status)
 }

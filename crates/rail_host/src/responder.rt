@@ -33,6 +33,8 @@ impl Tiny {
 impl Responder for Tiny {
     ghost use Rattle.rail_host.specs.Responding.{Responds, Declines};
 
+    ghost ready = { λ _. Unit {0} };
+
     ghost answers = { λ before request text after. Responds before request text after };
 
     ghost refuses = { λ tiny fault text. Declines tiny fault text };

@@ -58,10 +58,32 @@ impl Source for Broken<'_> {
     }
 }
 
+/// The example of `examples/k1.json`.
+const EXAMPLE: &str = r#"{"currency":"EUR",
+ "retailers":[{"number":1,"key":"north"},{"number":2,"key":"south"}],
+ "stations":[{"code":"BASEL"},{"code":"OLTEN"},{"code":"BERN"},{"code":"THUN"}],
+ "refundSteps":[{"before":86400,"fee":0},{"before":3600,"fee":2500},{"before":0,"fee":10000}],
+ "ticketFee":500,"exchangeFee":300,
+ "runs":[
+  {"train":501,
+   "stops":[{"station":"BASEL","depart":"2026-06-01T08:00:00Z"},
+            {"station":"OLTEN","arrive":"2026-06-01T08:25:00Z","depart":"2026-06-01T08:27:00Z"},
+            {"station":"BERN","arrive":"2026-06-01T09:00:00Z"}],
+   "fares":{"first":{"base":1000,"perLeg":600},"second":{"base":500,"perLeg":300}},
+   "coaches":[{"coach":1,"class":"FIRST","places":[{"first":1,"last":4}]},
+              {"coach":2,"class":"SECOND","places":[{"first":11,"last":14,"traits":["WINDOW"]},
+                                                    {"first":15,"last":18,"traits":["AISLE"]}]}]},
+  {"train":812,
+   "stops":[{"station":"BERN","depart":"2026-06-01T09:10:00Z"},
+            {"station":"THUN","arrive":"2026-06-01T09:30:00Z"}],
+   "fares":{"first":{"base":800,"perLeg":400},"second":{"base":400,"perLeg":200}},
+   "coaches":[{"coach":1,"class":"SECOND","places":[{"first":11,"last":14,"traits":["WINDOW"]},
+                                                    {"first":15,"last":16,"traits":["AISLE"]}]}]}]}"#;
+
 /// A piece that holds any input whole.
 const WHOLE: usize = 1_000_000;
 
-/// A run of the words over an input that fails nowhere.
+/// A run of the words over an input that fails nowhere, and over a shelf with these catalogues.
 fn run<S: Source>(
     alloc: Global,
     words: &[&str],
@@ -70,6 +92,14 @@ fn run<S: Source>(
     notes: &mut VecSink,
 ) -> Result<u8, AllocError> {
     let mut shelf = MapShelf::new(alloc, Vec::new(alloc));
+    for (name, text) in [
+        ("k1.json", EXAMPLE),
+        ("list.json", "[]"),
+        ("open.json", "{"),
+    ] {
+        let name = String::from_str(alloc, name)?;
+        shelf.put(name, text.as_bytes().to_vec(alloc)?)?;
+    }
     let mut given = Vec::new(alloc);
     for word in words {
         given.push(String::from_str(alloc, word)?)?;
@@ -375,7 +405,7 @@ fn words_are_refused(rt: HostRuntime) -> Result<(), Fail> {
         ["tiny", "3", "0"],
         ["tiny", "3", "1201"],
         ["tiny", "3", "x"],
-        ["replay", "3", "2"],
+        ["replay", "--tick", "86401"],
         ["--help", "3", "2"],
     ] {
         check(
@@ -563,5 +593,88 @@ fn rows_run_out(rt: HostRuntime) -> Result<(), Fail> {
         output.as_bytes(),
         (0, ""),
     )?;
+    Ok(())
+}
+
+/// A request of the retailer `north`.
+fn request_of(alloc: Global, line: &str, body: &str) -> Result<String, AllocError> {
+    let length = body.len();
+    format!(in alloc;
+        "{line} HTTP/1.1\r\nRetailer-Key: north\r\nContent-Length: {length}\r\n\r\n{body}"
+    )
+}
+
+/// An answer with this status line and body.
+fn answer_of(alloc: Global, status: &str, media: &str, body: &str) -> Result<String, AllocError> {
+    let length = body.len();
+    format!(in alloc;
+        "HTTP/1.1 {status}\r\nContent-Type: application/{media}\r\nContent-Length: {length}\r\n\r\n{body}"
+    )
+}
+
+const AISLE: &str =
+    "{\"class\":\"SECOND\",\"from\":\"BERN\",\"run\":1,\"to\":\"THUN\",\"wanted\":[\"AISLE\"]}";
+
+const PREBOOKED: &str =
+    "{\"confirmableUntil\":\"2026-06-01T06:15:00Z\",\"id\":\"B000000\",\"price\":{\"amount\":600,\"currency\":\"EUR\",\"scale\":2},\"reservations\":[{\"coach\":1,\"from\":\"BERN\",\"place\":15,\"run\":1,\"to\":\"THUN\",\"train\":812}],\"settled\":false,\"status\":\"PREBOOKED\"}";
+
+const CONFIRMED: &str =
+    "{\"confirmableUntil\":\"2026-06-01T06:15:00Z\",\"id\":\"B000000\",\"price\":{\"amount\":600,\"currency\":\"EUR\",\"scale\":2},\"reservations\":[{\"coach\":1,\"from\":\"BERN\",\"place\":15,\"run\":1,\"to\":\"THUN\",\"train\":812}],\"settled\":false,\"status\":\"CONFIRMED\"}";
+
+const TOO_LATE: &str =
+    "{\"code\":\"TooLate\",\"detail\":\"2026-06-01T06:15:00Z 2026-06-01T06:15:01Z\",\"status\":410,\"title\":\"Too late\"}";
+
+#[test]
+fn replays(rt: HostRuntime) -> Result<(), Fail> {
+    let alloc = rt.alloc();
+    let mut input = request_of(alloc, "POST /reservations", AISLE)?;
+    input.push_str(request_of(alloc, "POST /bookings/B000000/fulfillments", "")?.as_str())?;
+    for (tick, status, media, body) in [
+        ("900", "200 OK", "json", CONFIRMED),
+        ("901", "410 Gone", "problem+json", TOO_LATE),
+    ] {
+        let mut output = answer_of(alloc, "201 Created", "json", PREBOOKED)?;
+        output.push_str(answer_of(alloc, status, media, body)?.as_str())?;
+        check(
+            &rt,
+            &[
+                "replay",
+                "k1.json",
+                "--start",
+                "2026-06-01T06:00:00Z",
+                "--tick",
+                tick,
+            ],
+            input.as_bytes(),
+            output.as_bytes(),
+            (0, ""),
+        )?;
+    }
+    Ok(())
+}
+
+const UNKNOWN: &str =
+    "HTTP/1.1 404 Not Found\r\nContent-Type: application/problem+json\r\nContent-Length: 64\r\n\r\n{\"code\":\"UnknownBooking\",\"status\":404,\"title\":\"Unknown booking\"}";
+
+#[test]
+fn replays_end(rt: HostRuntime) -> Result<(), Fail> {
+    let alloc = rt.alloc();
+    let mut cut = request_of(alloc, "GET /bookings/B000000", "")?;
+    cut.push_str("GET /bookings/B000000 HTTP/1.1\r\nContent-Length: 10\r\n\r\nbody")?;
+    for (name, output, status, note) in [
+        ("k1.json", UNKNOWN, 6, "rail_host: input cut\n"),
+        ("k2.json", "", 1, "rail_host: catalogue missing\n"),
+        ("list.json", "", 1, "rail_host: catalogue fault 2 at \n"),
+        ("open.json", "", 1, "rail_host: catalogue fault 1\n"),
+        ("--help", "", 2, "rail_host: words refused\n"),
+    ] {
+        check(
+            &rt,
+            &["replay", name],
+            cut.as_bytes(),
+            output.as_bytes(),
+            (status, note),
+        )?;
+    }
     Ok(())
 }

@@ -1,5 +1,5 @@
 use Rattle.rail_host.proofs.Hosting.{noted}
-use Rattle.rail_host.proofs.host.note.Goals as goal
+use Rattle.rail_host.proofs.ends.note.Goals as goal
 
 pub returns : goal.returns
 returns g c =

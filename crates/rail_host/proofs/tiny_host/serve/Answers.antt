@@ -2,7 +2,7 @@ use Rattle.std.proofs.Common.{[], refl, inl}
 use Rattle.session_loop.proofs.WriteLemmas.{end_none}
 use Rattle.session_loop.proofs.Serving.{front_none}
 use Rattle.rail_host.proofs.Hosting.{end_of_run}
-use Rattle.rail_host.proofs.host.serve.Goals as goal
+use Rattle.rail_host.proofs.tiny_host.serve.Goals as goal
 
 pub returns-in_default-clause-serves : goal.returns-in_default-clause-serves
 returns-in_default-clause-serves g c =
