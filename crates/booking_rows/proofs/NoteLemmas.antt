@@ -136,14 +136,14 @@ may_seal books desk hold ph of is ready may =
     subst (λ (g : Layout). IsAllowedStep g (state_of g desk.seen) desk.number (Seal hold.row ph)) of.layout
     (st.row, on_row (state_seen desk) hold.row st.booking (λ b. IsMadeBy desk.number b × IsSealable b) st.found ((st.making, st.owner), stands_on desk hold IsSealable st ready), may)
 
-pub seals_items : (ph : Phase) (old new : DeskView) (hold : HoldView) → Stepped (Seal hold.row ph) old new → IsHolding old hold → SealsItems old new hold.row hold.items
+pub seals_items : (ph : Phase) (old new : DeskView) (hold : HoldView) → Stepped (Seal hold.row ph) old new → IsHolding old hold → SealsItems old new hold.row ph hold.items
 seals_items ph old new hold did is =
     let st = is.of.0 in
     let now = own_changes (Seal hold.row ph) old new did hold.row st.booking (in_phase ph) (λ s. refl) (λ _. refl) st.found st.owner (firm_making st.booking.phase st.making) in
     let there = subst (λ (x : Layout × List Entry). present (state_of x.0 x.1) hold.row ≡ Some (in_phase ph st.booking)) (λ i. (did.same.1 i, did.seen i)) now in (
       old.seen ++ did.between,
-      ph,
       [],
+      (did.between, refl),
       did.seen,
       on_row (state_of old.layout ((old.seen ++ did.between) ++ entry old.number (Seal hold.row ph) ∷ [])) hold.row (in_phase ph st.booking) (λ b. (b.owner ≡ old.number) × (b.items ≡ map held hold.items)) there (st.owner, st.items),
     )

@@ -91,7 +91,7 @@ pub fn seal(books: &Books, desk: &mut Desk, hold: Hold, sealed: Sealed) -> RowNo
     ensures own { IsOf books.now desk.new }
     ensures entries { Shape desk.old desk.new (Seal hold.row (sealed_phase sealed) ∷ []) }
     ensures row { result.0 ≡ hold.row }
-    ensures items { SealsItems desk.old desk.new hold.row hold.items }
+    ensures items { SealsItems desk.old desk.new hold.row (sealed_phase sealed) hold.items }
     ensures none { HoldsNone desk.new }
     ensures endings { KeepsEndings desk.old desk.new }
 {

@@ -1,5 +1,6 @@
 -- What a desk has out: a hold, an ending, or none.
 use Rattle.std.specs.Prelude.{◌≡◌, ◌⊎◌, ℕ, ◌-◌, Bool, true, false, List, [], ◌∷◌, ◌++◌, map, take, drop, length, Some}
+use mathlib.Core.List.{IsPrefix}
 use Rattle.std.specs.List.{AllByRecursion}
 use Rattle.leg_masks.specs.Interval.{item_word}
 use Rattle.leg_masks.specs.Interval.{PlacedSpan as Item}
@@ -72,10 +73,10 @@ pub record KeepsEndings (old new : DeskView) : Type 0 where
   pub ending : (e : EndingView) → IsEnding old e → IsEnding new e
   pub none : EndsNone old → EndsNone new
 
--- the booking that the desk's seal of this row left has just these items
-abbrev pub SealsItems : DeskView → DeskView → ℕ → List Item → Type 0
-SealsItems old new row items =
-    (before : List Entry) × (phase : Phase) × (after : List Entry)
+-- since the old view the desk has sealed this row in this phase, and the booking that the seal left has just these items
+abbrev pub SealsItems : DeskView → DeskView → ℕ → Phase → List Item → Type 0
+SealsItems old new row phase items =
+    (before : List Entry) × (after : List Entry) × IsPrefix old.seen before
     × (new.seen ≡ before ++ entry old.number (Seal row phase) ∷ after)
     × OnRow (state_of old.layout (before ++ entry old.number (Seal row phase) ∷ [])) row (λ b. (b.owner ≡ old.number) × (b.items ≡ map held items))
 
