@@ -145,7 +145,7 @@ seals_items ph old new hold did is =
       [],
       (did.between, refl),
       did.seen,
-      on_row (state_of old.layout ((old.seen ++ did.between) ++ entry old.number (Seal hold.row ph) ∷ [])) hold.row (in_phase ph st.booking) (λ b. (b.owner ≡ old.number) × (b.items ≡ map held hold.items)) there (st.owner, st.items),
+      on_row (state_of old.layout ((old.seen ++ did.between) ++ entry old.number (Seal hold.row ph) ∷ [])) hold.row (in_phase ph st.booking) (λ b. (b.owner ≡ old.number) × (b.phase ≡ ph) × (b.items ≡ map held hold.items)) there (st.owner, refl, st.items),
     )
 
 pub seal_endings : (ph : Phase) (old new : DeskView) (hold : HoldView) → Stepped (Seal hold.row ph) old new → IsHolding old hold → KeepsEndings old new

@@ -73,12 +73,12 @@ pub record KeepsEndings (old new : DeskView) : Type 0 where
   pub ending : (e : EndingView) → IsEnding old e → IsEnding new e
   pub none : EndsNone old → EndsNone new
 
--- since the old view the desk has sealed this row in this phase, and the booking that the seal left has just these items
+-- since the old view the desk has sealed this row, and the booking that the seal left is its own, in this phase, with just these items
 abbrev pub SealsItems : DeskView → DeskView → ℕ → Phase → List Item → Type 0
 SealsItems old new row phase items =
     (before : List Entry) × (after : List Entry) × IsPrefix old.seen before
     × (new.seen ≡ before ++ entry old.number (Seal row phase) ∷ after)
-    × OnRow (state_of old.layout (before ++ entry old.number (Seal row phase) ∷ [])) row (λ b. (b.owner ≡ old.number) × (b.items ≡ map held items))
+    × OnRow (state_of old.layout (before ++ entry old.number (Seal row phase) ∷ [])) row (λ b. (b.owner ≡ old.number) × (b.phase ≡ phase) × (b.items ≡ map held items))
 
 -- a turn to an exchange, and its successor as it is written there
 abbrev pub exchanges : Step → Bool
