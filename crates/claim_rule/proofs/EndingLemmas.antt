@@ -16,6 +16,7 @@ use Rattle.history_model.specs.Quiet.{AllQuiet}
 use Rattle.claim_rule.specs.Seats.{Shape}
 use Rattle.claim_rule.proofs.Shapes.{own_through}
 use Rattle.claim_rule.proofs.Moves.{is_sound}
+use Rattle.claim_rule.proofs.OwnWork.{is_start}
 use Rattle.claim_rule.proofs.Holding.{legal_before, state_then, own_changes, own_stays, still_of, kept_apart}
 use Rattle.history_model.proofs.Going.{present-changed}
 use Rattle.history_model.proofs.Keeping.{found, given_ending, turn_from, turned-row}
@@ -207,8 +208,8 @@ end_stays st old new e quiet did is = record {
 }
 
 -- a step of an ending leaves a kept row
-pub still_ending : (books : BooksView) (old new : DeskView) (e : EndingView) (st : Step) → ((r : ℕ) → not (eqb e.row r) ≡ true → is_quiet r st ≡ true) → IsEndingOf old e → Stepped st old new → IsOf books old → IsOf books new
-still_ending books old new e st quiet is did of = still_of st books old new (λ r kept. quiet r (kept_apart books old r e.row (λ b. b.phase ≡ Ending e.kind) (λ b p m. let no : Ending e.kind ≡ Making = sym p ∙ m in cc) of
+pub still_ending : (books : BooksView) (old new : DeskView) (e : EndingView) (st : Step) → is_start st ≡ false → ((r : ℕ) → not (eqb e.row r) ≡ true → is_quiet r st ≡ true) → IsEndingOf old e → Stepped st old new → IsOf books old → IsOf books new
+still_ending books old new e st none quiet is did of = still_of st books old new none (λ r kept. quiet r (kept_apart books old r e.row (λ b. b.phase ≡ Ending e.kind) (λ b p m. let no : Ending e.kind ≡ Making = sym p ∙ m in cc) of
     (on_row (state_of old.layout old.seen) e.row is.booking (λ b. b.phase ≡ Ending e.kind) is.found is.phase) kept)) did of
 
 -- an ending stays the desk's through calls that leave its row alone

@@ -12,7 +12,10 @@ use Rattle.history_model.specs.Laws.{stage}
 use Rattle.history_model.specs.Booking.{phase_of_row}
 use Rattle.history_model.specs.History.{state_after}
 use Rattle.history_model.proofs.Forward.{stages-history}
-use Rattle.claim_rule.proofs.Moves.{own_row}
+use Rattle.claim_rule.proofs.Moves.{own_row, is_sound}
+use Rattle.claim_rule.proofs.OwnWork.{is_start, step_keeps, start_keeps}
+use Rattle.claim_rule.specs.Out.{HoldsNone}
+use Rattle.claim_rule.specs.OwnWork.{IsOwnWork}
 use Rattle.history_model.proofs.Going.{present-changed}
 use Rattle.history_model.proofs.Keeping.{found, given_making}
 use Rattle.history_model.proofs.Owners.{firm_making, on_row, quiet_stays, quiet_step}
@@ -91,23 +94,69 @@ past_on old new pre legal layout past taken r l =
 within_on : (old new : DeskView) → new.layout ≡ old.layout → new.past ≡ old.past → old.past ≤ old.layout.rows → new.past ≤ new.layout.rows
 within_on old new layout past l = subst (λ (n : ℕ). n ≤ new.layout.rows) (sym past) (subst (λ (g : Layout). old.past ≤ g.rows) (sym layout) l)
 
--- the desk is still of the books, and a row that it keeps is as it was
-pub still_of : (st : Step) (books : BooksView) (old new : DeskView) → ((r : ℕ) → old.kept ≡ Some r → is_quiet r st ≡ true) → Stepped st old new → IsOf books old → IsOf books new
-still_of st books old new quiet did of = record {
+-- a lone desk's step stands right behind what it had seen
+alone_before : (st : Step) (old new : DeskView) (did : Stepped st old new) → old.number ≡ 0 → old.made ≡ 0 → old.seen ++ did.between ≡ old.seen
+alone_before st old new did number made =
+    ap (λ (l : List Entry). old.seen ++ l) (did.none (number, λ j some few. absurd (omega (arith, some, few, made)))) ∙ append-nil old.seen
+
+allowed_then : (st : Step) (old new : DeskView) (did : Stepped st old new) → old.number ≡ 0 → IsAllowedStep old.layout (state_of old.layout (old.seen ++ did.between)) 0 st
+allowed_then st old new did number =
+    let s = state_of old.layout (old.seen ++ did.between) in
+    subst (λ (d : ℕ). IsAllowedStep old.layout s d st) number
+    (legal-rest old.layout (old.seen ++ did.between) (entry old.number st ∷ []) (legal_before st old new did)).0
+
+-- the work that a desk has while it is alone
+abbrev HasWork : DeskView → Type 0
+HasWork desk = desk.number ≡ 0 → desk.made ≡ 0 → desk.taken ≡ [] → IsOwnWork (state_of desk.layout desk.seen)
+
+-- is its own after each step that keeps it
+work_by : (st : Step) (old new : DeskView) (did : Stepped st old new)
+    → (old.number ≡ 0 → IsOwnWork (state_of old.layout (old.seen ++ did.between)) → IsOwnWork (apply_step (state_of old.layout (old.seen ++ did.between)) 0 st)) → HasWork old → HasWork new
+work_by st old new did keeps work number made taken =
+    let n : old.number ≡ 0 = sym did.same.2 ∙ number in
+    let m : old.made ≡ 0 = sym did.same.4 ∙ made in
+    let s = state_of old.layout (old.seen ++ did.between) in
+    let had : IsOwnWork s = subst (λ (l : List Entry). IsOwnWork (state_of old.layout l)) (sym (alone_before st old new did n m)) (work n m (sym did.same.3 ∙ taken)) in
+    subst IsOwnWork (sym (state_then st old new did ∙ ap (λ (d : ℕ). apply_step s d st) n)) (keeps n had)
+
+work_on : (st : Step) (old new : DeskView) → is_start st ≡ false → Stepped st old new → HasWork old → HasWork new
+work_on st old new none did =
+    work_by st old new did (λ n. step_keeps old.layout (state_of old.layout (old.seen ++ did.between)) st (allowed_then st old new did n) none)
+
+still_by : (st : Step) (books : BooksView) (old new : DeskView) → ((r : ℕ) → old.kept ≡ Some r → is_quiet r st ≡ true) → Stepped st old new → IsOf books old → HasWork new → IsOf books new
+still_by st books old new quiet did of work = record {
   table = did.same.0 ∙ of.table;
   layout = did.same.1 ∙ of.layout;
   legal = did.legal;
   kept = subst (λ (o : Option ℕ). IfSome o (λ r. StandsFor new (empty_hold r))) (sym did.same.5) (kept_on st old new old.kept quiet did of.kept);
   past = past_on old new (did.between ++ entry old.number st ∷ [], sym (append_assoc old.seen did.between (entry old.number st ∷ [])) ∙ sym did.seen) did.legal did.same.1 did.same.6 of.past;
   within = within_on old new did.same.1 did.same.6 of.within;
+  work = work;
 }
+
+-- the desk is still of the books, and a row that it keeps is as it was
+pub still_of : (st : Step) (books : BooksView) (old new : DeskView) → is_start st ≡ false → ((r : ℕ) → old.kept ≡ Some r → is_quiet r st ≡ true) → Stepped st old new → IsOf books old → IsOf books new
+still_of st books old new none quiet did of = still_by st books old new quiet did of (work_on st old new none did of.work)
 
 none_kept : (o : Option ℕ) (r : ℕ) (P : Type 0) → o ≡ None → o ≡ Some r → P
 none_kept o r P n e = absurd (let no : ◌≡◌ {A = Option ℕ} None (Some r) = sym n ∙ e in cc)
 
 -- the same for a desk that keeps no row
-pub still_alone : (st : Step) (books : BooksView) (old new : DeskView) → old.kept ≡ None → Stepped st old new → IsOf books old → IsOf books new
-still_alone st books old new alone did of = still_of st books old new (λ r e. none_kept old.kept r (is_quiet r st ≡ true) alone e) did of
+pub still_alone : (st : Step) (books : BooksView) (old new : DeskView) → is_start st ≡ false → old.kept ≡ None → Stepped st old new → IsOf books old → IsOf books new
+still_alone st books old new none alone did of = still_of st books old new none (λ r e. none_kept old.kept r (is_quiet r st ≡ true) alone e) did of
+
+-- and for one that starts a row, where it makes none
+pub still_started : (row : ℕ) (books : BooksView) (old new : DeskView) → old.kept ≡ None → HoldsNone old → Stepped (Start row) old new → IsOf books old → IsOf books new
+still_started row books old new alone holds did of =
+    still_by (Start row) books old new (λ r e. none_kept old.kept r (is_quiet r (Start row) ≡ true) alone e) did of
+    (λ number made taken.
+    let before = alone_before (Start row) old new did (sym did.same.2 ∙ number) (sym did.same.4 ∙ made) in
+    work_by (Start row) old new did
+    (λ n. start_keeps old.layout (state_of old.layout (old.seen ++ did.between)) row
+    (is_sound old.layout (old.seen ++ did.between) (legal-front old.layout (old.seen ++ did.between) (entry old.number (Start row) ∷ []) (legal_before (Start row) old new did)))
+    (λ r on. none_kept old.kept r ⊥ alone (holds r
+    (subst (λ (d : ℕ). OnRow (state_of old.layout old.seen) r (IsMadeBy d)) (sym n) (subst (λ (l : List Entry). OnRow (state_of old.layout l) r (IsMadeBy 0)) before on)))))
+    of.work number made taken)
 
 -- a kept row is no row that was sealed
 pub kept_apart : (books : BooksView) (desk : DeskView) (r q : ℕ) (P : Booking → Type 0) → ((b : Booking) → P b → b.phase ≡ Making → ⊥) → IsOf books desk → OnRow (state_of desk.layout desk.seen) q P → desk.kept ≡ Some r → not (eqb q r) ≡ true
@@ -258,6 +307,10 @@ met_kept books old other new (Some r) met is =
       within = tt;
     }
 
+none_left : (l : List ℕ) (n : ℕ) (rest : List ℕ) → l ++ n ∷ rest ≡ [] → ⊥
+none_left [] n rest e = let no : ◌≡◌ {A = List ℕ} (n ∷ rest) [] = e in cc
+none_left (m ∷ l) n rest e = let no : ◌≡◌ {A = List ℕ} (m ∷ (l ++ n ∷ rest)) [] = e in cc
+
 pub still_met : (books : BooksView) (old other new : DeskView) → HasMet old other new → IsOf books old → IsOf books new
 still_met books old other new met of = record {
   table = met.same.0 ∙ of.table;
@@ -266,6 +319,7 @@ still_met books old other new met of = record {
   kept = subst (λ (o : Option ℕ). IfSome o (λ r. StandsFor new (empty_hold r))) (sym met.same.4) (met_kept books old other new old.kept met of.kept);
   past = past_on old new met.front met.legal met.same.1 met.same.5 of.past;
   within = within_on old new met.same.1 met.same.5 of.within;
+  work = λ number made taken. absurd (none_left old.taken other.number other.taken (sym met.taken ∙ taken));
 }
 
 -- how many desks a desk has parted is nothing to its rows
@@ -273,19 +327,28 @@ made_kept : (desk : DeskView) (m : ℕ) (o : Option ℕ) → IfSome o (λ r. Sta
 made_kept desk m None is = tt
 made_kept desk m (Some r) is = record { booking = is.booking; found = is.found; owner = is.owner; making = is.making; items = is.items; row = is.row; within = is.within }
 
-pub still_parted : (books : BooksView) (old new : DeskView) → Stepped Met old (record new { made = old.made }) → IsOf books old → IsOf books new
-still_parted books old new did of =
-    let is = still_of Met books old (record new { made = old.made }) (λ r e. refl) did of in
-    record { table = is.table; layout = is.layout; legal = is.legal; kept = made_kept new old.made new.kept is.kept; past = is.past; within = is.within }
+pub still_parted : (books : BooksView) (old new : DeskView) → Stepped Met old (record new { made = old.made }) → new.made ≡ old.made + 1 → IsOf books old → IsOf books new
+still_parted books old new did more of =
+    let is = still_of Met books old (record new { made = old.made }) refl (λ r e. refl) did of in
+    record {
+      table = is.table;
+      layout = is.layout;
+      legal = is.legal;
+      kept = made_kept new old.made new.kept is.kept;
+      past = is.past;
+      within = is.within;
+      work = λ number made taken. absurd (omega (arith, more, made));
+    }
 
-pub newly_of : (books : BooksView) (old : DeskView) (new : DeskView) → IsOf books old → new.table ≡ old.table → new.layout ≡ old.layout → new.seen ≡ old.seen → new.kept ≡ None → new.past ≡ old.past → IsOf books new
-newly_of books old new of table layout seen kept past = record {
+pub newly_of : (books : BooksView) (old : DeskView) (new : DeskView) → IsOf books old → new.table ≡ old.table → new.layout ≡ old.layout → new.seen ≡ old.seen → new.kept ≡ None → new.past ≡ old.past → (new.number ≡ 0 → ⊥) → IsOf books new
+newly_of books old new of table layout seen kept past other = record {
   table = table ∙ of.table;
   layout = layout ∙ of.layout;
   legal = subst (λ (x : Layout × List Entry). IsLegal x.0 x.1) (λ i. (sym layout i, sym seen i)) of.legal;
   kept = subst (λ (o : Option ℕ). IfSome o (λ r. StandsFor new (empty_hold r))) (sym kept) tt;
   past = λ r l. subst (λ (x : Layout × List Entry). 1 ≤ stage (phase_of_row (state_of x.0 x.1) r)) (λ i. (sym layout i, sym seen i)) (of.past r (subst (λ (n : ℕ). r < n) past l));
   within = within_on old new layout past of.within;
+  work = λ number made taken. absurd (other number);
 }
 
 -- a turn of a row that was sealed leaves a kept row
@@ -298,4 +361,4 @@ turn_quiet books desk q from to m x n of can r kept =
     unsealed ph e t = let no : false ≡ true = sym (ap is_sealed e) ∙ t in cc
 
 pub still_turned : (books : BooksView) (old new : DeskView) (q : ℕ) (from to : Phase) (m : ℕ) (x : ℤ) (n : ℕ) → IsOf books old → CanTurn books.layout old.seen old.number q from to m x n → Stepped (Turn q from to m x n) old new → IsOf books new
-still_turned books old new q from to m x n of can did = still_of (Turn q from to m x n) books old new (turn_quiet books old q from to m x n of can) did of
+still_turned books old new q from to m x n of can did = still_of (Turn q from to m x n) books old new refl (turn_quiet books old q from to m x n of can) did of

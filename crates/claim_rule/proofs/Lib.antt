@@ -2,6 +2,7 @@ pub mod Views
 pub mod Adds
 pub mod Moves
 pub mod Desks
+pub mod OwnWork
 pub mod Holding
 pub mod Meeting
 pub mod Finishing

@@ -1,5 +1,6 @@
 pub mod Rule
 pub mod Holds
+pub mod OwnWork
 pub mod Seats
 pub mod Walls
 pub mod Starts

@@ -4,6 +4,7 @@ use mathlib.Core.List.{IsPrefix}
 use Rattle.atomic_table.specs.declared.shared.Seat.{Seat}
 use Rattle.claim_rule.specs.declared.rule.View.{View}
 use Rattle.claim_rule.specs.Holds.{held, StandsFor, empty_hold}
+use Rattle.claim_rule.specs.OwnWork.{IsOwnWork}
 use Rattle.claim_rule.specs.Rule.{Added, BooksView, DeskView, IsWhole, Each}
 use Rattle.history_model.specs.Allowed.{IsMadeBy, MayGive, MayNote, OnRow, TurnsWith}
 use Rattle.history_model.specs.Booking.{phase_of_row, Layout, last_moment, limit_of, most_items}
@@ -47,7 +48,7 @@ abbrev pub either_step : ℕ → Step → Word → ℕ → Step
 either_step old hit at n = cond (eqb n old) hit (seeing at n)
 
 -- The desk is of these books, and has seen a legal history of theirs. A row that it keeps is its own, without items, and no row
--- below `past` is free.
+-- below `past` is free. What the first desk has seen while it is alone is its own work.
 pub record IsOf (books : BooksView) (desk : DeskView) : Type 0 where
   pub table : desk.table ≡ books.table
   pub layout : desk.layout ≡ books.layout
@@ -55,6 +56,7 @@ pub record IsOf (books : BooksView) (desk : DeskView) : Type 0 where
   pub kept : IfSome desk.kept (λ row. StandsFor desk (empty_hold row))
   pub past : (row : ℕ) → row < desk.past → 1 ≤ stage (phase_of_row (state_of desk.layout desk.seen) row)
   pub within : desk.past ≤ desk.layout.rows
+  pub work : desk.number ≡ 0 → desk.made ≡ 0 → desk.taken ≡ [] → IsOwnWork (state_of desk.layout desk.seen)
 
 -- the desk has made this one step behind all that it had seen, and has now seen no more than that
 pub record Stepped (st : Step) (old new : DeskView) : Type 0 where

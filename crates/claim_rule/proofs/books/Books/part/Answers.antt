@@ -33,16 +33,21 @@ returns-clause-met c =
     (steps_as c.args.self.now.layout Met c.desk.inside.seat c.load_as.new.seat c.desk.inside.kept c.desk.inside.past c.args.desk.now c.desk.view_is (ap (λ (d : DeskView). d.layout) c.desk.view_is ∙ c.requires.own.layout) c.load_as.ensures)
     p.0 (ap (λ (m : View × List (ℕ × ℕ)). m.0) p.2)
 
+none_zero : (n : ℕ) → n + 1 ≡ 0 → ⊥
+none_zero n e = omega (arith, e)
+
 pub returns-clause-own : goal.returns-clause-own
 returns-clause-own c =
     let p = c.split_seat-seat.ensures in
     let did = returns-clause-met c in
-    let now = still_parted c.args.self.now c.args.desk.now (desk_view c.split_seat-seat.new.seat c.desk.inside.kept c.desk.inside.past) did c.requires.own in
     let v = ap (λ (m : View × List (ℕ × ℕ)). m.0) p.2 in
-    let w = ap (λ (m : View × List (ℕ × ℕ)). m.0) p.4 in (
+    let w = ap (λ (m : View × List (ℕ × ℕ)). m.0) p.4 in
+    let more = ap (λ (x : View). x.made) v ∙ ap (λ (n : ℕ). n + 1) (c.load_as.ensures.3.same.4 ∙ ap (λ (d : DeskView). d.made) c.desk.view_is) in
+    let now = still_parted c.args.self.now c.args.desk.now (desk_view c.split_seat-seat.new.seat c.desk.inside.kept c.desk.inside.past) did more c.requires.own in
+    let other : c.split_seat-seat.result.me.0.number ≡ 0 → ⊥ = λ e. none_zero c.load_as.new.seat.me.0.made (sym (ap (λ (x : View). x.number) w) ∙ e) in (
       now,
       newly_of c.args.self.now (desk_view c.split_seat-seat.new.seat c.desk.inside.kept c.desk.inside.past) (desk_view c.split_seat-seat.result None c.desk.inside.past) now (p.3 ∙ sym p.0)
-          (ap (λ (x : View). x.plan) w ∙ sym (ap (λ (x : View). x.plan) v)) (ap (λ (x : View). x.seen) w ∙ sym (ap (λ (x : View). x.seen) v)) refl refl,
+          (ap (λ (x : View). x.plan) w ∙ sym (ap (λ (x : View). x.plan) v)) (ap (λ (x : View). x.seen) w ∙ sym (ap (λ (x : View). x.seen) v)) refl refl other,
     )
 
 made_less : (old new : ℕ) → new ≡ old → old < new + 1

@@ -1,4 +1,4 @@
-use Rattle.std.proofs.Common.{◌<◌, ℕ, ap, ◌∙◌, subst, sym}
+use Rattle.std.proofs.Common.{◌<◌, ℕ, ap, ◌∙◌, subst, sym, refl}
 use Rattle.history_model.specs.declared.entry.Step.TheVariants.{Close}
 use Rattle.claim_rule.specs.Rule.{DeskView}
 use Rattle.claim_rule.specs.Seats.{desk_view, Stepped}
@@ -21,4 +21,4 @@ returns-clause-closed c =
     subst (λ (r : ℕ). Stepped (Close r) c.args.desk.now (desk_view c.close_at.new.seat c.desk.inside.kept c.desk.inside.past)) (ap (λ (e : EndingView). e.row) c.ending.view_is) did
 
 pub returns-clause-own : goal.returns-clause-own
-returns-clause-own c = still_ending c.args.self.now c.args.desk.now (desk_view c.close_at.new.seat c.desk.inside.kept c.desk.inside.past) c.args.ending (Close c.args.ending.row) (λ r q. q) c.requires.ending (returns-clause-closed c) c.requires.own
+returns-clause-own c = still_ending c.args.self.now c.args.desk.now (desk_view c.close_at.new.seat c.desk.inside.kept c.desk.inside.past) c.args.ending (Close c.args.ending.row) refl (λ r q. q) c.requires.ending (returns-clause-closed c) c.requires.own

@@ -17,7 +17,7 @@ returns-clause-noted c =
     subst (λ (r : ℕ). Stepped (Note r c.args.word c.args.value) c.args.desk.now (desk_view c.note_at.new.seat c.desk.inside.kept c.desk.inside.past)) (ap (λ (e : EndingView). e.row) c.ending.view_is) did
 
 pub returns-clause-own : goal.returns-clause-own
-returns-clause-own c = still_ending c.args.self.now c.args.desk.now (desk_view c.note_at.new.seat c.desk.inside.kept c.desk.inside.past) c.args.ending.now (Note c.args.ending.now.row c.args.word c.args.value) (λ r q. q) c.requires.ending (returns-clause-noted c) c.requires.own
+returns-clause-own c = still_ending c.args.self.now c.args.desk.now (desk_view c.note_at.new.seat c.desk.inside.kept c.desk.inside.past) c.args.ending.now (Note c.args.ending.now.row c.args.word c.args.value) refl (λ r q. q) c.requires.ending (returns-clause-noted c) c.requires.own
 
 pub returns-clause-ending : goal.returns-clause-ending
 returns-clause-ending c = (end_notes c.args.word c.args.value c.args.desk.now (desk_view c.note_at.new.seat c.desk.inside.kept c.desk.inside.past) c.args.ending.now (returns-clause-noted c) c.requires.ending, refl)

@@ -1,4 +1,4 @@
-use Rattle.std.proofs.Common.{ℕ, ◌+◌, ap, ◌∙◌, subst, sym}
+use Rattle.std.proofs.Common.{ℕ, ◌+◌, ap, ◌∙◌, subst, sym, refl}
 use Rattle.history_model.specs.declared.entry.Step.TheVariants.{Give}
 use Rattle.claim_rule.specs.Rule.{DeskView}
 use Rattle.claim_rule.specs.Seats.{desk_view, Stepped, CanGive}
@@ -18,7 +18,7 @@ returns-clause-given c =
     subst (λ (x : ℕ × ℕ). Stepped (Give x.0 x.1) c.args.desk.now (desk_view c.undo_at.new.seat c.desk.inside.kept c.desk.inside.past)) (λ i. (ap (λ (e : EndingView). e.row) c.ending.view_is i, ap (λ (e : EndingView). e.given) c.ending.view_is i)) did
 
 pub returns-clause-own : goal.returns-clause-own
-returns-clause-own c = still_ending c.args.self.now c.args.desk.now (desk_view c.undo_at.new.seat c.desk.inside.kept c.desk.inside.past) c.args.ending.now (Give c.args.ending.now.row c.args.ending.now.given) (λ r q. q) c.requires.ending (returns-clause-given c) c.requires.own
+returns-clause-own c = still_ending c.args.self.now c.args.desk.now (desk_view c.undo_at.new.seat c.desk.inside.kept c.desk.inside.past) c.args.ending.now (Give c.args.ending.now.row c.args.ending.now.given) refl (λ r q. q) c.requires.ending (returns-clause-given c) c.requires.own
 
 pub returns-clause-ending : goal.returns-clause-ending
 returns-clause-ending c =

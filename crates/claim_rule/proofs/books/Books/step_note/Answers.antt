@@ -17,7 +17,7 @@ returns-clause-noted c =
     subst (λ (r : ℕ). Stepped (Note r c.args.word c.args.value) c.args.desk.now (desk_view c.note_at.new.seat c.desk.inside.kept c.desk.inside.past)) (ap (λ (h : HoldView). h.row) c.hold.view_is) did
 
 pub returns-clause-own : goal.returns-clause-own
-returns-clause-own c = still_alone (Note c.args.hold.now.row c.args.word c.args.value) c.args.self.now c.args.desk.now (desk_view c.note_at.new.seat c.desk.inside.kept c.desk.inside.past) c.requires.hold.1 (returns-clause-noted c) c.requires.own
+returns-clause-own c = still_alone (Note c.args.hold.now.row c.args.word c.args.value) c.args.self.now c.args.desk.now (desk_view c.note_at.new.seat c.desk.inside.kept c.desk.inside.past) refl c.requires.hold.1 (returns-clause-noted c) c.requires.own
 
 pub returns-clause-hold : goal.returns-clause-hold
 returns-clause-hold c = let did = returns-clause-noted c in

@@ -20,4 +20,4 @@ invariant_of-desk c = sound_after c.args.self.now.layout (SawRow c.args.row.0 c.
 
 pub returns : goal.returns
 returns c = let did = steps_as c.args.self.now.layout (SawRow c.args.row.0 c.args.word c.load_as.result) c.desk.inside.seat c.load_as.new.seat c.desk.inside.kept c.desk.inside.past c.args.desk.now c.desk.view_is (ap (λ (d : DeskView). d.layout) c.desk.view_is ∙ c.requires.own.layout) c.load_as.ensures in
-    record { own = still_of (SawRow c.args.row.0 c.args.word c.load_as.result) c.args.self.now c.args.desk.now (desk_view c.load_as.new.seat c.desk.inside.kept c.desk.inside.past) (λ r e. refl) did c.requires.own; look = did }
+    record { own = still_of (SawRow c.args.row.0 c.args.word c.load_as.result) c.args.self.now c.args.desk.now (desk_view c.load_as.new.seat c.desk.inside.kept c.desk.inside.past) refl (λ r e. refl) did c.requires.own; look = did }

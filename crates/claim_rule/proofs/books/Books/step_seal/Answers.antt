@@ -1,4 +1,4 @@
-use Rattle.std.proofs.Common.{ℕ, ap, sym, ◌∙◌, subst}
+use Rattle.std.proofs.Common.{ℕ, ap, sym, ◌∙◌, subst, refl}
 use Rattle.claim_rule.specs.Rule.{DeskView}
 use Rattle.claim_rule.specs.Seats.{desk_view, Stepped}
 use Rattle.claim_rule.specs.Holds.{HoldView}
@@ -20,4 +20,4 @@ returns-clause-sealed c =
     subst (λ (r : ℕ). Stepped (Seal r c.args.phase) c.args.desk.now (desk_view c.seal_at.new.seat c.desk.inside.kept c.desk.inside.past)) (ap (λ (h : HoldView). h.row) c.hold.view_is) did
 
 pub returns-clause-own : goal.returns-clause-own
-returns-clause-own c = still_alone (Seal c.args.hold.row c.args.phase) c.args.self.now c.args.desk.now (desk_view c.seal_at.new.seat c.desk.inside.kept c.desk.inside.past) c.requires.hold.1 (returns-clause-sealed c) c.requires.own
+returns-clause-own c = still_alone (Seal c.args.hold.row c.args.phase) c.args.self.now c.args.desk.now (desk_view c.seal_at.new.seat c.desk.inside.kept c.desk.inside.past) refl c.requires.hold.1 (returns-clause-sealed c) c.requires.own

@@ -1,9 +1,9 @@
-use Rattle.std.proofs.Common.{◌≡◌, ◌<◌, ap, sym, ◌∙◌, subst}
+use Rattle.std.proofs.Common.{◌≡◌, ◌<◌, ap, sym, ◌∙◌, subst, refl}
 use Rattle.claim_rule.specs.Rule.{DeskView}
 use Rattle.claim_rule.specs.Seats.{desk_view}
 use Rattle.claim_rule.specs.Holds.{HoldView, IsHoldOf, empty_hold}
 use Rattle.claim_rule.proofs.Desks.{steps_as, missed, won}
-use Rattle.claim_rule.proofs.Holding.{hold_starts, still_alone}
+use Rattle.claim_rule.proofs.Holding.{hold_starts, still_alone, still_started}
 use Rattle.claim_rule.proofs.books.Books.step_start.Goals as goal
 use Rattle.history_model.specs.Booking.{Layout}
 use Rattle.history_model.specs.declared.entry.Step.TheVariants.{SawRow, Start}
@@ -16,7 +16,7 @@ returns-then-found-ne0 c =
     let r = c.args.row.0 in
     let did = steps_as lay (SawRow r 0 f.result) c.desk.inside.seat f.new.seat c.desk.inside.kept c.desk.inside.past c.args.desk.now c.desk.view_is (ap (λ (d : DeskView). d.layout) c.desk.view_is ∙ c.requires.own.layout)
     (missed (Row r 0) f.result 0 (Start r) lay c.desk.inside.seat f.new.seat c.if-found-ne0.true f.ensures) in
-    record { own = still_alone (SawRow r 0 f.result) c.args.self.now c.args.desk.now (desk_view f.new.seat c.desk.inside.kept c.desk.inside.past) c.requires.kept did c.requires.own; started = (did, c.if-found-ne0.true) }
+    record { own = still_alone (SawRow r 0 f.result) c.args.self.now c.args.desk.now (desk_view f.new.seat c.desk.inside.kept c.desk.inside.past) refl c.requires.kept did c.requires.own; started = (did, c.if-found-ne0.true) }
 
 pub returns : goal.returns
 returns c =
@@ -30,6 +30,6 @@ returns c =
     let is : new ≡ none = (λ j. record { row = r; items = c.new.ensures j }) in
     let hold = hold_starts r c.args.desk.now (desk_view f.new.seat c.desk.inside.kept c.desk.inside.past) (subst (λ (l : Layout). r < l.rows) (sym c.requires.own.layout) c.requires.row) did in
     record {
-      own = still_alone (Start r) c.args.self.now c.args.desk.now (desk_view f.new.seat c.desk.inside.kept c.desk.inside.past) c.requires.kept did c.requires.own;
+      own = still_started r c.args.self.now c.args.desk.now (desk_view f.new.seat c.desk.inside.kept c.desk.inside.past) c.requires.kept c.requires.none did c.requires.own;
       started = (did, subst (IsHoldOf (desk_view f.new.seat c.desk.inside.kept c.desk.inside.past)) (sym is) (hold, did.same.5 ∙ c.requires.kept), is);
     }

@@ -24,14 +24,14 @@ missing : (n old : ℕ) (i : Item) (hit : Step) (books : BooksView) (a b : Seat 
     → IsOf books (desk_view b kept past) × IsHoldOf (desk_view b kept past) hold × Stepped (Look i.place n) desk (desk_view b kept past)
 missing n old i hit books a b kept past desk hold is of held other made =
     let did = steps_as books.layout (Look i.place n) a b kept past desk is (ap (λ (d : DeskView). d.layout) is ∙ of.layout) (missed n old i hit books.layout a b other made) in
-    (still_alone (Look i.place n) books desk (desk_view b kept past) held.1 did of, (hold_stays (Look i.place n) desk (desk_view b kept past) hold refl did held.0, did.same.5 ∙ held.1), did)
+    (still_alone (Look i.place n) books desk (desk_view b kept past) refl held.1 did of, (hold_stays (Look i.place n) desk (desk_view b kept past) hold refl did held.0, did.same.5 ∙ held.1), did)
 
 taking : (n old : ℕ) (i : Item) (row : ℕ) (books : BooksView) (a b : Seat ℕ View) (kept : Option ℕ) (past : ℕ) (desk : DeskView) (hold : HoldView) → desk_view a kept past ≡ desk → IsOf books desk → IsHoldOf desk hold → IsItem books.layout i → row ≡ hold.row → n ≡ old → HasMade books.layout (either_step old (Take row i.place i.span) (Place i.place) n) a b
     → IsOf books (desk_view b kept past) × IsHoldOf (desk_view b kept past) (with_one hold i) × Stepped (Take hold.row i.place i.span) desk (desk_view b kept past)
 taking n old i row books a b kept past desk hold is of held fits at same made =
     let hit = Take hold.row i.place i.span in
     let did = steps_as books.layout hit a b kept past desk is (ap (λ (d : DeskView). d.layout) is ∙ of.layout) (subst (λ (r : ℕ). HasMade books.layout (Take r i.place i.span) a b) at (won n old i (Take row i.place i.span) books.layout a b same made)) in
-    (still_alone hit books desk (desk_view b kept past) held.1 did of, (hold_takes i desk (desk_view b kept past) hold (subst (λ (l : Layout). IsItem l i) (sym of.layout) fits) did held.0, did.same.5 ∙ held.1), did)
+    (still_alone hit books desk (desk_view b kept past) refl held.1 did of, (hold_takes i desk (desk_view b kept past) hold (subst (λ (l : Layout). IsItem l i) (sym of.layout) fits) did held.0, did.same.5 ∙ held.1), did)
 
 pub take_at-found-requires-clause-row : goal.take_at-found-requires-clause-row
 take_at-found-requires-clause-row c = subst (λ (r : ℕ). CanTake c.args.self.now.layout c.desk.inside.seat r) (sym (ap (λ (h : HoldView). h.row) c.hold.view_is))

@@ -1,4 +1,4 @@
-use Rattle.std.proofs.Common.{◌≡◌, ℕ, ap, sym, ◌∙◌, subst}
+use Rattle.std.proofs.Common.{◌≡◌, ℕ, ap, sym, ◌∙◌, subst, refl}
 use Rattle.claim_rule.specs.Rule.{DeskView}
 use Rattle.claim_rule.specs.Seats.{desk_view, Stepped}
 use Rattle.claim_rule.specs.Holds.{HoldView, with_one}
@@ -37,4 +37,4 @@ returns-clause-own c =
     let row = c.hold.inside.row in
     let k = c.len-left.result in
     let did = steps_as c.args.self.now.layout (Give row k) c.desk.inside.seat c.undo_at.new.seat c.desk.inside.kept c.desk.inside.past c.args.desk.now c.desk.view_is (ap (λ (d : DeskView). d.layout) c.desk.view_is ∙ c.requires.own.layout) c.undo_at.ensures in
-    still_alone (Give row k) c.args.self.now c.args.desk.now (desk_view c.undo_at.new.seat c.desk.inside.kept c.desk.inside.past) c.requires.hold.1 did c.requires.own
+    still_alone (Give row k) c.args.self.now c.args.desk.now (desk_view c.undo_at.new.seat c.desk.inside.kept c.desk.inside.past) refl c.requires.hold.1 did c.requires.own

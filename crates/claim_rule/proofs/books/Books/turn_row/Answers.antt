@@ -34,4 +34,4 @@ returns-clause-own c =
 pub returns-then-found-old-clause-own : goal.returns-then-found-old-clause-own
 returns-then-found-old-clause-own c =
     let a = c.args in
-    still_of (LostTurn a.row a.from (said_phase c.turn_at-found.result)) a.self.now a.desk.now (desk_view c.turn_at-found.new.seat c.desk.inside.kept c.desk.inside.past) (λ r e. refl) (returns-then-found-old-clause-lost c).1 c.requires.own
+    still_of (LostTurn a.row a.from (said_phase c.turn_at-found.result)) a.self.now a.desk.now (desk_view c.turn_at-found.new.seat c.desk.inside.kept c.desk.inside.past) refl (λ r e. refl) (returns-then-found-old-clause-lost c).1 c.requires.own
