@@ -69,8 +69,7 @@ impl Shelf for MapShelf {
         ensures same { Some (shelf_file self.new) ≡ Some (shelf_file self.old) }
         ensures faults_never_fall { shelf_faults self.old ≤ shelf_faults self.new }
         ensures failed { result ≡ Failed → Rose (shelf_faults self.old) (shelf_faults self.new) }
-        ensures missing_is_no_fault { result ≡ Missing → shelf_faults self.new ≡ shelf_faults self.old }
-        ensures too_large_is_no_fault { result ≡ TooLarge → shelf_faults self.new ≡ shelf_faults self.old }
+        ensures steady { (result ≡ Failed → ⊥) → shelf_faults self.new ≡ shelf_faults self.old }
         ensures misses_never_fall { shelf_misses self.old ≤ shelf_misses self.new }
         ensures missing { result ≡ Missing → Rose (shelf_misses self.old) (shelf_misses self.new) }
         ensures too_large { result ≡ TooLarge → Rose (shelf_misses self.old) (shelf_misses self.new) }

@@ -40,8 +40,7 @@ pub trait Shelf {
 
         ensures faults_never_fall { faults self.old ≤ faults self.new }
         ensures failed { result ≡ Failed → Rose (faults self.old) (faults self.new) }
-        ensures missing_is_no_fault { result ≡ Missing → faults self.new ≡ faults self.old }
-        ensures too_large_is_no_fault { result ≡ TooLarge → faults self.new ≡ faults self.old }
+        ensures steady { (result ≡ Failed → ⊥) → faults self.new ≡ faults self.old }
 
         ensures misses_never_fall { misses self.old ≤ misses self.new }
         ensures missing { result ≡ Missing → Rose (misses self.old) (misses self.new) }
