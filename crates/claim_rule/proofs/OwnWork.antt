@@ -42,7 +42,7 @@ changed_last p f (x ∷ xs) b at keeps last = go (p x) at (λ e. changed_last p 
         ((λ making. last.0 (subst (λ (y : Booking). (f y).phase ≡ Making → y.phase ≡ Making) same keeps making)), last.1)
     go false e more = ((λ making. ap (change_first p f) (last.0 making)), more e)
 
-abbrev IsOwned : Booking → Type 0
+abbrev pub IsOwned : Booking → Type 0
 IsOwned b = is_owners b.phase ≡ true → b.owner ≡ 0
 
 work_changed : (s : State) (row : ℕ) (f : Booking → Booking) (P : Booking → Type 0) → OnRow s row P → ((b : Booking) → P b → (f b).phase ≡ Making → b.phase ≡ Making)
@@ -120,7 +120,7 @@ found_there [] b rest apart = ap (λ (t : Bool). cond t (Some b) (present rest b
 found_there (x ∷ front) b rest apart =
     ap (λ (t : Bool). cond t (Some x) (present (front ++ b ∷ rest) b.row)) apart.0 ∙ found_there front b rest apart.1
 
-stands_there : (g : Layout) (s front : State) (b : Booking) (rest : State) → IsWellFormed g s → s ≡ front ++ b ∷ rest → present s b.row ≡ Some b
+pub stands_there : (g : Layout) (s front : State) (b : Booking) (rest : State) → IsWellFormed g s → s ≡ front ++ b ∷ rest → present s b.row ≡ Some b
 stands_there g s front b rest well is =
     let rows : map (λ (x : Booking). x.row) s ≡ (map (λ (x : Booking). x.row) front ++ b.row ∷ []) ++ map (λ (x : Booking). x.row) rest =
     ap (map (λ (x : Booking). x.row)) is ∙ (map-append (λ (x : Booking). x.row) front (b ∷ rest)

@@ -45,7 +45,9 @@ pub fn load_catalogue<F: Shelf>(
     ensures loads { Loads (F.told shelf.old) name.now result }
     ensures same { F.told shelf.new ≡ F.told shelf.old }
 
-    // A shelf's failure is answered where its count of faults rose in this call, and a missing or too large file where its misses rose.
+    // A shelf's failure is answered where its count of faults rose in this call, and else that count is as it was. A missing or too
+    // large file is answered where its misses rose.
+    ensures steady { (result ≡ Err Failed → ⊥) → F.faults shelf.new ≡ F.faults shelf.old }
     ensures failed { result ≡ Err Failed → Rose (F.faults shelf.old) (F.faults shelf.new) }
     ensures missing { result ≡ Err Missing → Rose (F.misses shelf.old) (F.misses shelf.new) }
     ensures too_large { result ≡ Err TooLarge → Rose (F.misses shelf.old) (F.misses shelf.new) }

@@ -21,6 +21,5 @@ pub mod Trades
 pub mod ExchangesMade
 pub mod ExchangeLaws
 pub mod AllLaws
-pub mod Beginning
 mod UsualLife
-pub mod OwnWork
+pub mod Alone

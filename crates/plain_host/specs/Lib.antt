@@ -4,4 +4,3 @@ pub mod PlainOf
 pub mod Settled
 pub mod Found
 pub mod Plainly
-pub mod OwnWork

@@ -1,20 +1,17 @@
 //! Commands on a booking, quotes, sweeps, and what is refused.
-ghost use Rattle.std.specs.Prelude.{◌≡◌, ℕ, [], Option, Some};
+ghost use Rattle.std.specs.Prelude.{◌≡◌, ℕ, Option, Some};
 ghost use Rattle.rail_ids.specs.declared.RowNo.{RowNo};
 ghost use Rattle.offer_codes.specs.declared.code.OfferCode.{OfferCode};
 ghost use Rattle.offer_codes.specs.declared.code.RefundCode.{RefundCode};
-ghost use Rattle.rail_catalogue.specs.Contents.{CatalogueView, legs_in};
-ghost use Rattle.claim_rule.specs.Rule.{BooksView, DeskView};
-ghost use Rattle.claim_rule.specs.Seats.{IsOf, IsNew};
-ghost use Rattle.booking_rows.specs.SealedRows.{FitWords};
+ghost use Rattle.rail_catalogue.specs.Contents.{CatalogueView};
 ghost use Rattle.osdm_texts.specs.declared.problem.Problem.{Problem};
 ghost use Rattle.osdm_json.specs.declared.command.Command.{Command};
 ghost use Rattle.osdm_json.specs.declared.command.Command.TheVariants.{Show, Confirm, Fulfil, Release, QuoteRefund, AcceptRefund, QuoteExchange, Sweep};
 ghost use Rattle.service_rules.specs.Checks.{command_fault};
-ghost use Rattle.plain_host.specs.Plainly.{IsLone, AnswersPlainly};
+ghost use Rattle.plain_host.specs.Plainly.{AnswersPlainly};
 
 /// The laws of a lone desk's commands on a booking, of its quotes, refunds and sweeps, and of commands that are refused by their codes
-/// and ids: each is answered as by a host of one thread. The first desk of new books is such a desk, and after each command it still is.
+/// and ids: each is answered as by a host of one thread, and after each command the desk still is such a desk.
 pub fn decisions_are_plain()
     ensures show { (cat : CatalogueView) (retailer now : ℕ) (row : Option RowNo) → AnswersPlainly cat retailer now (Show row) }
     ensures confirm { (cat : CatalogueView) (retailer now : ℕ) (row : Option RowNo) → AnswersPlainly cat retailer now (Confirm row) }
@@ -26,8 +23,6 @@ pub fn decisions_are_plain()
         → AnswersPlainly cat retailer now (AcceptRefund row code) }
     ensures quote_exchange { (cat : CatalogueView) (retailer now : ℕ) (row : Option RowNo) (offer : Option OfferCode)
         → AnswersPlainly cat retailer now (QuoteExchange row offer) }
-    ensures begins { (cat : CatalogueView) (books : BooksView) (desk : DeskView) → IsOf books desk → IsNew desk 0 []
-        → books.layout.rows ≡ cat.rows → books.layout.legs ≡ legs_in cat → FitWords books.layout → IsLone cat desk }
     ensures refused { (cat : CatalogueView) (retailer now : ℕ) (c : Command) (p : Problem) → command_fault cat now c ≡ Some p
         → AnswersPlainly cat retailer now c }
 {}

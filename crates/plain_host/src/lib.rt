@@ -4,10 +4,10 @@
 //! that the plain host leaves. The crate has definitions and laws alone: it does nothing when it runs.
 #![tactic(auto)]
 
+mod alone;
 mod bookings;
-mod own_work;
 mod places;
 
+pub use alone::alone_is_lone;
 pub use bookings::decisions_are_plain;
-pub use own_work::own_work_is_lone;
 pub use places::{commands_are_plain, places_are_found, places_are_plain};

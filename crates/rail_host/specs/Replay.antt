@@ -110,15 +110,15 @@ Ends said files input left output sent end.NoMemory = IsUntouched input left out
 Ends said files input left output sent (end.NoCatalogue fault) = Loads files said.catalogue (Err fault) × IsUntouched input left output sent
 Ends said files input left output sent (end.Served e) = IsReplayRun said files input left output sent e
 
--- where the shelf gave no file, it failed or missed in this call
+-- Where the shelf gave no file, it failed or missed in this call; and where it didn't fail, its count of faults is as it was.
 abbrev pub HasCause : ReplayEnd → ℕ → ℕ → ℕ → ℕ → Type 0
 HasCause (end.NoCatalogue load.Failed) failed fails missed misses = Rose failed fails
-HasCause (end.NoCatalogue load.Missing) failed fails missed misses = Rose missed misses
-HasCause (end.NoCatalogue load.TooLarge) failed fails missed misses = Rose missed misses
-HasCause (end.NoCatalogue (load.Refused fault)) failed fails missed misses = Unit {0}
-HasCause (end.NoCatalogue load.NoMemory) failed fails missed misses = Unit {0}
-HasCause (end.Served e) failed fails missed misses = Unit {0}
-HasCause end.NoMemory failed fails missed misses = Unit {0}
+HasCause (end.NoCatalogue load.Missing) failed fails missed misses = Rose missed misses × (fails ≡ failed)
+HasCause (end.NoCatalogue load.TooLarge) failed fails missed misses = Rose missed misses × (fails ≡ failed)
+HasCause (end.NoCatalogue (load.Refused fault)) failed fails missed misses = fails ≡ failed
+HasCause (end.NoCatalogue load.NoMemory) failed fails missed misses = fails ≡ failed
+HasCause (end.Served e) failed fails missed misses = fails ≡ failed
+HasCause end.NoMemory failed fails missed misses = fails ≡ failed
 
 -- there was no memory to read the words
 pub record IsUnread (words : List (List ℕ)) (input left output sent : Option (List ℕ)) (e : ReplayEnd) : Type 0 where

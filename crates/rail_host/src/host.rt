@@ -74,13 +74,14 @@ pub fn run_plain<F: Shelf, S: Source, K: Sink, E: Sink>(
         → (written : List ℕ) × (K.told output.new ≡ Some (before ++ written))
         × AnswersPart (words_bytes words.now) (F.told shelf.old) stream (S.told input.new) written }
 
-    // A device's failure is answered where its count of faults rose in this call, and at every other status the counts of the
-    // input and of the output are as they were. A missing or too large catalogue is answered where the shelf's misses rose.
+    // A device's failure is answered where its count of faults rose in this call, and at every other status that count is as it
+    // was. A missing or too large catalogue is answered where the shelf's misses rose.
     ensures read_cause { result ≡ 3 → Rose (S.faults input.old) (S.faults input.new)
         ⊎ (IsForReplay (words_bytes words.now) × Rose (F.faults shelf.old) (F.faults shelf.new)) }
     ensures write_cause { result ≡ 4 → Rose (K.faults output.old) (K.faults output.new) }
     ensures read_steady { (result ≡ 3 → ⊥) → S.faults input.new ≡ S.faults input.old }
     ensures write_steady { (result ≡ 4 → ⊥) → K.faults output.new ≡ K.faults output.old }
+    ensures shelf_steady { (result ≡ 3 → ⊥) → F.faults shelf.new ≡ F.faults shelf.old }
     ensures missed { result ≡ 1 → IsForReplay (words_bytes words.now)
         × (Rose (F.misses shelf.old) (F.misses shelf.new) ⊎ IsRefusedText (words_bytes words.now) (F.told shelf.old)) }
 

@@ -76,6 +76,7 @@ fn replay<F: Shelf, S: Source, K: Sink>(
     ensures read_steady { (result ≡ Served ReadFault → ⊥) → S.faults input.new ≡ S.faults input.old }
     ensures write_steady { (result ≡ Served WriteFault → ⊥) → K.faults output.new ≡ K.faults output.old }
     ensures failed { result ≡ NoCatalogue load.Failed → Rose (F.faults shelf.old) (F.faults shelf.new) }
+    ensures steady { (result ≡ NoCatalogue load.Failed → ⊥) → F.faults shelf.new ≡ F.faults shelf.old }
     ensures missing { result ≡ NoCatalogue load.Missing → Rose (F.misses shelf.old) (F.misses shelf.new) }
     ensures too_large { result ≡ NoCatalogue load.TooLarge → Rose (F.misses shelf.old) (F.misses shelf.new) }
 {
@@ -160,6 +161,7 @@ pub fn replay_command<F: Shelf, S: Source, K: Sink, E: Sink>(
         × HasCause end (F.faults shelf.old) (F.faults shelf.new) (F.misses shelf.old) (F.misses shelf.new)) }
     ensures same { F.told shelf.new ≡ F.told shelf.old }
     ensures missed { result ≡ 1 → Rose (F.misses shelf.old) (F.misses shelf.new) ⊎ IsRefusedText (words_bytes words.now) (F.told shelf.old) }
+    ensures shelf_steady { (result ≡ 3 → ⊥) → F.faults shelf.new ≡ F.faults shelf.old }
     ensures read_cause { result ≡ 3 → Rose (S.faults input.old) (S.faults input.new) ⊎ Rose (F.faults shelf.old) (F.faults shelf.new) }
     ensures write_cause { result ≡ 4 → Rose (K.faults output.old) (K.faults output.new) }
     ensures read_steady { (result ≡ 3 → ⊥) → S.faults input.new ≡ S.faults input.old }

@@ -5,7 +5,6 @@ use Rattle.http_wire.specs.declared.request.WireFault.{WireFault}
 use Rattle.http_wire.specs.Requests.{RequestText, Rest}
 use Rattle.session_loop.specs.declared.end.ConnEnd.{ConnEnd}
 use Rattle.session_loop.specs.Session.{IsAnswered, IsCutShort, IsEnd}
-use Rattle.session_loop.proofs.Keeping.{end_keeps}
 use Rattle.session_loop.proofs.Views.{end_seen, answered_seen, cut_seen}
 use Rattle.claim_rule.specs.Rule.{DeskView, state_seen}
 use Rattle.rail_catalogue.specs.Contents.{CatalogueView}
@@ -75,11 +74,6 @@ answered_plainly cat before request written after lone is =
     )
 
 module _ (cat : CatalogueView) (before after : ServiceView) (taken : List ℕ) (told : Option (List ℕ)) (written : List ℕ) (end : ConnEnd) where
-  ended_lone : IsLone cat before.desk → IsEnd (answers_of cat) (refusals_of cat) before after taken told written end → IsLone cat after.desk
-  ended_lone lone is = end_keeps (answers_of cat) (refusals_of cat) (λ s. IsLone cat s.desk)
-      (λ (b : ServiceView) (request : RequestText) (text : List ℕ) (a : ServiceView) (l : IsLone cat b.desk) (answered : IsAnswer cat b request text a). (answered_plainly cat b request text a l answered).0)
-      before after taken told written end lone is
-
   ended_plainly : IsLone cat before.desk → IsEnd (answers_of cat) (refusals_of cat) before after taken told written end
       → IsEnd (plain_answers_of cat) (plain_refusals_of cat) (plain_view before) (plain_view after) taken told written end
   ended_plainly lone is = end_seen (answers_of cat) (refusals_of cat) (plain_answers_of cat) (plain_refusals_of cat) plain_view (λ s. IsLone cat s.desk)
@@ -91,12 +85,6 @@ module _ (cat : CatalogueView) (before after : ServiceView) (taken : List ℕ) (
       → IsOneThread cat (plain_view before) (plain_view after) taken told written end
   served_plainly lone (inl (none, untouched)) = inl (none, untouched.no_read, untouched.no_write)
   served_plainly lone (inr served) = inr (ended_plainly lone served.answered)
-
--- the desk that the service held at its end is left
-pub lone_there : {C : Type 0} (clock_told : C → Option (ℕ → ℕ)) (cat : CatalogueView) (before : ServiceView) (service : Service C) (desk : DeskView) (taken : List ℕ) (left : Option (List ℕ)) (written : List ℕ) (end : ConnEnd)
-    → desk ≡ service.desk.now → IsLone cat before.desk → IsServed cat before (view_of clock_told service) taken left written end → IsLone cat desk
-lone_there {C} clock_told cat before service desk taken left written end same lone is =
-    subst (IsLone cat) (sym same) (ended_lone cat before (view_of clock_told service) taken left written end lone is.answered)
 
 -- what the service held at its end is left at the desk and the clock
 pub plainly_there : {C : Type 0} (clock_told : C → Option (ℕ → ℕ)) (cat : CatalogueView) (before : ServiceView) (service : Service C) (desk : DeskView) (clock : C) (taken : List ℕ) (left : Option (List ℕ)) (written : List ℕ) (end : ConnEnd)

@@ -7,8 +7,8 @@ ghost use Rattle.session_loop.specs.declared.end.ConnEnd.TheVariants.{ReadFault,
 ghost use Rattle.rail_catalogue.specs.Contents.{legs_in};
 ghost use Rattle.claim_rule.specs.Seats.{IsOf};
 ghost use Rattle.claim_rule.specs.Out.{IsIdle, IsTidy};
+ghost use Rattle.lone_desk.specs.Lone.{IsAlone};
 ghost use Rattle.plain_host.specs.PlainOf.{plain_of};
-ghost use Rattle.plain_host.specs.Plainly.{IsLone};
 ghost use Rattle.rail_service.specs.Connections.{IsServed, HasServed};
 ghost use Rattle.rail_service.specs.OneThread.{IsOneThread};
 ghost use Rattle.rail_service.specs.Readiness.{IsReady};
@@ -78,13 +78,12 @@ pub fn serve_connection<S: Source, K: Sink, C: Clock>(
         × HasServed cat.now (record { desk = desk.old; first = None; clock = C.told clock.old })
         (record { desk = desk.new; first = first; clock = C.told clock.new }) taken (S.told source.new) written result }
 
-    // At a desk that is alone they are those of a host of one thread, which begins with the desk's bookings.
-    ensures one_thread { IsLone cat.now desk.old → (taken written : List ℕ) × (first : Option RetailerNo)
+    // At a desk that is alone, whatever it has done, they are those of a host of one thread, which begins with the desk's bookings.
+    ensures one_thread { IsAlone desk.old → (taken written : List ℕ) × (first : Option RetailerNo)
         × (S.told source.old ≡ with_front taken (S.told source.new))
         × (K.told sink.new ≡ with_end (K.told sink.old) written)
         × IsOneThread cat.now (record { plain = plain_of desk.old; first = None; clock = C.told clock.old })
         (record { plain = plain_of desk.new; first = first; clock = C.told clock.new }) taken (S.told source.new) written result }
-    ensures lone { IsLone cat.now desk.old → IsLone cat.now desk.new }
 
     // A device's failure is the end where its count of faults rose in this call, and at every other end that count is as it was.
     ensures read_cause { result ≡ ReadFault → Rose (S.faults source.old) (S.faults source.new) }
@@ -92,6 +91,8 @@ pub fn serve_connection<S: Source, K: Sink, C: Clock>(
     ensures read_steady { (result ≡ ReadFault → ⊥) → S.faults source.new ≡ S.faults source.old }
     ensures write_steady { (result ≡ WriteFault → ⊥) → K.faults sink.new ≡ K.faults sink.old }
 {
+    // Tells contracts that each item of these books has a word.
+    let _ = books.places();
     let Ok(mut intake) = Intake::start(alloc) else {
         return ConnEnd::NoMemory;
     };

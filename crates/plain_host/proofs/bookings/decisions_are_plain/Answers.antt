@@ -1,4 +1,3 @@
-use Rattle.plain_host.proofs.Beginning.{begins_lone}
 use Rattle.plain_host.proofs.Laws.{show_plain, confirm_plain, fulfil_plain, release_plain, refused_plain}
 use Rattle.plain_host.proofs.Trades.{quote_refund_plain, accept_refund_plain, quote_exchange_plain}
 use Rattle.plain_host.proofs.Sweeps.{sweep_is_plain}
@@ -14,6 +13,5 @@ returns c = record {
   quote_refund = quote_refund_plain;
   accept_refund = accept_refund_plain;
   quote_exchange = quote_exchange_plain;
-  begins = begins_lone;
   refused = refused_plain;
 }

@@ -2,7 +2,8 @@ use Rattle.std.proofs.Common.{[], None, refl, inl, inr, rules}
 use Rattle.session_loop.proofs.WriteLemmas.{end_none}
 use Rattle.session_loop.proofs.Serving.{front_none}
 use Rattle.rail_service.proofs.Connecting.{served_there}
-use Rattle.rail_service.proofs.Alone.{lone_there, plainly_there}
+use Rattle.plain_host.proofs.Alone.{alone_is_lone}
+use Rattle.rail_service.proofs.Alone.{plainly_there}
 use Rattle.rail_service.proofs.connection.serve_connection.Goals as goal
 
 pub returns-in_default-clause-served : goal.returns-in_default-clause-served
@@ -38,7 +39,7 @@ returns-clause-served g c =
     )
 
 pub returns-in_default-clause-one_thread : goal.returns-in_default-clause-one_thread
-returns-in_default-clause-one_thread g c lone = (
+returns-in_default-clause-one_thread g c alone = (
   [],
   [],
   None,
@@ -46,12 +47,9 @@ returns-in_default-clause-one_thread g c lone = (
   end_none (g.K.Sink.told c.args.sink.now),
   inl (refl, refl, refl),
 )
-
-pub returns-in_default-clause-lone : goal.returns-in_default-clause-lone
-returns-in_default-clause-lone g c lone = lone
 
 pub returns-in_default-start_router-clause-one_thread : goal.returns-in_default-start_router-clause-one_thread
-returns-in_default-start_router-clause-one_thread g c lone = (
+returns-in_default-start_router-clause-one_thread g c alone = (
   [],
   [],
   None,
@@ -60,11 +58,10 @@ returns-in_default-start_router-clause-one_thread g c lone = (
   inl (refl, refl, refl),
 )
 
-pub returns-in_default-start_router-clause-lone : goal.returns-in_default-start_router-clause-lone
-returns-in_default-start_router-clause-lone g c lone = lone
-
 pub returns-clause-one_thread : goal.returns-clause-one_thread
-returns-clause-one_thread g c lone =
+returns-clause-one_thread g c alone =
+    let lone = alone_is_lone c.args.cat.now c.args.books.now c.args.desk.now c.requires.own alone c.requires.idle c.requires.rows c.requires.legs
+    (record { places = c.places.ensures.most; legs = c.places.ensures.legs }) in
     let did = c.serve.ensures.served in (
       did.0,
       did.1,
@@ -74,9 +71,3 @@ returns-clause-one_thread g c lone =
       plainly_there g.C.Clock.told c.args.cat.now (record { desk = c.args.desk.now; first = None; clock = g.C.Clock.told c.args.clock.now }) c.serve.new.service
           c.desk-1.given.0 c.clock-1.given.0 did.0 _ did.1 c.serve.result (search rules) (search rules) lone did.4,
     )
-
-pub returns-clause-lone : goal.returns-clause-lone
-returns-clause-lone g c lone =
-    let did = c.serve.ensures.served in
-    lone_there g.C.Clock.told c.args.cat.now (record { desk = c.args.desk.now; first = None; clock = g.C.Clock.told c.args.clock.now }) c.serve.new.service
-    _ did.0 _ did.1 c.serve.result (search rules) lone did.4
