@@ -65,3 +65,6 @@ returns-clause-bound c =
     let h = c.args.hold in
     adds_length c.args.desk.now c.keep_row.new.desk (gives_back h.row (length h.items)) 24 (returns-clause-entries c)
     (few (length h.items) (length c.items-end.result.now) (length (gives_back h.row (length h.items))) (sym (ap length c.items-end.ensures.items)) c.items-end.ensures.few (gives_length h.row (length h.items)))
+
+pub returns-clause-own : goal.returns-clause-own
+returns-clause-own c = c.keep_row.ensures.own c.args.books.now c.loop.invariant.own
