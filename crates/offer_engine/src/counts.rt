@@ -1,12 +1,11 @@
-ghost use Rattle.std.specs.Prelude.{◌≡◌, ◌≤◌, ◌<◌, ◌+◌, ◌*◌, length, true, sum_by, IfOk, OnErr, OnOk};
+ghost use Rattle.std.specs.Prelude.{◌≡◌, ◌≤◌, ◌<◌, ◌+◌, ◌*◌, length, true, IfOk, OnErr, OnOk};
 ghost use Rattle.arrayvec.specs.ArrayVec.{array_vec_len};
-ghost use Rattle.offer_codes.specs.Offers.{is_party};
 ghost use Rattle.claim_rule.specs.Seats.{IsOf};
 ghost use Rattle.claim_rule.specs.Calls.{ShapeBy};
 ghost use Rattle.claim_rule.specs.Out.{KeepsHolds, KeepsEndings, IsTidy};
 ghost use Rattle.rail_catalogue.specs.Contents.{legs_in};
 ghost use Rattle.availability.specs.Looks.{CountsFree};
-ghost use Rattle.offer_engine.specs.Offers.{wanted_places, CountsSegments, BeginsCounts, segment_price as segment_price_of};
+ghost use Rattle.offer_engine.specs.Offers.{wanted_places, CountsSegments, BeginsCounts};
 
 use crate::wish::OfferWish;
 use arrayvec::ArrayVec;
@@ -15,7 +14,6 @@ use claim_rule::{Books, Desk};
 use offer_codes::Segment;
 use rail_catalogue::Catalogue;
 use std::alloc::{AllocError, Global};
-use tariff::{Fare, price};
 
 /// How many of each segment's wanted places are free on it, by one look at each place.
 pub(crate) fn count_segments(
@@ -65,30 +63,4 @@ fn count_segment(
     prove!(places.count() <= 4_194_304);
     let candidates = places.candidates(alloc, segment.run, wish.class, wish.wanted)?;
     Ok(free_places(books, desk, candidates.as_slice(), segment.span))
-}
-
-/// The price of the segments for all passengers, in minor units.
-pub(crate) fn price_of_segments(cat: &Catalogue, wish: &OfferWish, segments: &[Segment]) -> u64
-    requires party { is_party wish.now.adults wish.now.children ≡ true }
-    requires few { length segments.now ≤ 3 }
-    ensures { result ≡ sum_by (segment_price_of cat.now wish.now.class wish.now.adults wish.now.children) segments.now }
-{
-    let mut total = 0;
-    for segment in segments {
-        total += price_of_segment(cat, wish, segment);
-    }
-    total
-}
-
-fn price_of_segment(cat: &Catalogue, wish: &OfferWish, segment: &Segment) -> u64
-    requires party { is_party wish.now.adults wish.now.children ≡ true }
-    ensures price { result ≡ segment_price_of cat.now wish.now.class wish.now.adults wish.now.children segment.now }
-    ensures bound { result ≤ 5_120_000_000 }
-{
-    let fare = match cat.fare(segment.run, wish.class) {
-        Some(fare) => fare,
-        None => Fare::new(0, 0),
-    };
-    let legs = segment.span.to() - segment.span.from();
-    price(fare, legs, wish.adults, wish.children)
 }

@@ -7,7 +7,8 @@ ghost use Rattle.rail_catalogue.specs.Contents.{legs_in};
 ghost use Rattle.trip_builder.specs.Trips.{trips_of};
 ghost use Rattle.offer_engine.specs.Offers.{raised as raised_of, OffersFor, BeginsOffers, BeginsCounts, IsOfferFor};
 
-use crate::counts::{count_segments, price_of_segments};
+use crate::counts::count_segments;
+use crate::prices::price_of_offer;
 use crate::wish::OfferWish;
 use claim_rule::{Books, Desk};
 use offer_codes::{Offer, OfferCode};
@@ -82,7 +83,6 @@ fn offer_of(
 {
     let segments = trip.segments();
     let free = count_segments(alloc, cat, books, desk, wish, segments)?;
-    let price = price_of_segments(cat, wish, segments);
     let code = OfferCode {
         made: now,
         adults: wish.adults,
@@ -91,5 +91,6 @@ fn offer_of(
         wanted: wish.wanted,
         segments: trip.copied_segments(),
     };
+    let price = price_of_offer(cat, &code);
     Ok(Offer { code, price, free })
 }

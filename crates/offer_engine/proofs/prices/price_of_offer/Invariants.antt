@@ -1,10 +1,10 @@
 use Rattle.std.proofs.Common.{◌≡◌, ◌≤◌, ◌*◌, take}
 use Rattle.std.specs.Prelude.{sum_by}
 use Rattle.offer_engine.specs.Offers.{segment_price}
-use Rattle.offer_engine.proofs.counts.price_of_segments.Given as goal
+use Rattle.offer_engine.proofs.prices.price_of_offer.Given as goal
 
 abbrev pub invariant-loop-segment : goal.invariant-loop-segment
 invariant-loop-segment l = record {
-  sum : l.total ≡ sum_by (segment_price l.cat l.wish.class l.wish.adults l.wish.children) (take l.segment-index l.segments);
+  sum : l.total ≡ sum_by (segment_price l.cat l.offer.class l.offer.adults l.offer.children) (take l.segment-index l.offer.segments.items);
   bound : l.total ≤ 5_120_000_000 * l.segment-index;
 }
