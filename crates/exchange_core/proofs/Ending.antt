@@ -44,16 +44,17 @@ may_seal desk e row is kind successor =
           (is.of.owner, ap (λ (x : End). x.successor) is.of.end ∙ successor, inl (is.of.phase ∙ ap (λ (k : EndKind). Ending k) kind)),
     )
 
--- the booking is the desk's, and ending or ended by exchange
-abbrev IsExchanging : ℕ → Booking → Type 0
-IsExchanging d b = (b.owner ≡ d) × ((b.phase ≡ Ending Exchange) ⊎ (b.phase ≡ Ended Exchange))
+-- the booking is the desk's, and ending or ended by exchange with this end
+abbrev IsExchanging : ℕ → End → Booking → Type 0
+IsExchanging d end b = (b.owner ≡ d) × (b.end ≡ end) × ((b.phase ≡ Ending Exchange) ⊎ (b.phase ≡ Ended Exchange))
 
-exchanging_becomes : (d e : ℕ) (x y : Booking) → MayBecome e x y → IsExchanging d x → IsExchanging d y
-exchanging_becomes d e x y m (own, phase) =
+exchanging_becomes : (d : ℕ) (end : End) (e : ℕ) (x y : Booking) → MayBecome e x y → IsExchanging d end x → IsExchanging d end y
+exchanging_becomes d end e x y m (own, same, phase) =
     let t : is_turned_to_end x.phase ≡ true = ⊎_elim (λ p. ap is_turned_to_end p) (λ p. ap is_turned_to_end p) phase in (
       m.ender t ∙ own,
+      m.ended t ∙ same,
       ⊎_elim
-          (λ (same : y.phase ≡ x.phase). ⊎_elim (λ p. inl (same ∙ p)) (λ p. inr (same ∙ p)) phase)
+          (λ (still : y.phase ≡ x.phase). ⊎_elim (λ p. inl (still ∙ p)) (λ p. inr (still ∙ p)) phase)
           (λ (on : MayFollow x.phase y.phase). ⊎_elim (λ p. inr (ending x.phase y.phase p on)) (λ p. absurd (ended x.phase y.phase p on)) phase)
           m.forward,
     )
@@ -64,24 +65,24 @@ exchanging_becomes d e x y m (own, phase) =
     ended : (a b : Phase) → a ≡ Ended Exchange → MayFollow a b → ⊥
     ended a b p on = let no : false ≡ true = subst (λ (z : Phase). MayFollow z b) p on in cc
 
-exchanging_stays : (g : Layout) (d r : ℕ) (s : State) (es : List Entry) → IsLegalFrom g s es → OnRow s r (IsExchanging d) → OnRow (state_after s es) r (IsExchanging d)
-exchanging_stays g d r s [] l on = on
-exchanging_stays g d r s (x ∷ es) l on =
-    let b = found (present s r) (IsExchanging d) on in
+exchanging_stays : (g : Layout) (d : ℕ) (end : End) (r : ℕ) (s : State) (es : List Entry) → IsLegalFrom g s es → OnRow s r (IsExchanging d end) → OnRow (state_after s es) r (IsExchanging d end)
+exchanging_stays g d end r s [] l on = on
+exchanging_stays g d end r s (x ∷ es) l on =
+    let b = found (present s r) (IsExchanging d end) on in
     let n = found (present (apply s x) r) (MayBecome x.desk b.0) (rw b.1 at ((GoesOn-step g s x.desk x.step l.0).bookings r)) in
-    exchanging_stays g d r (apply s x) es l.1 (on_row (apply s x) r n.0 (IsExchanging d) n.1 (exchanging_becomes d x.desk b.0 n.0 n.2 b.2))
+    exchanging_stays g d end r (apply s x) es l.1 (on_row (apply s x) r n.0 (IsExchanging d end) n.1 (exchanging_becomes d end x.desk b.0 n.0 n.2 b.2))
 
 -- an exchange that a desk had out, and has no longer, is ended with all items given back
-pub exchanged : (mid between new : DeskView) (xs ys : List Step) (e : EndingView) → e.kind ≡ Exchange → IsEnding mid e → Shape mid between xs → Shape between new ys → EndsNone new → IsExchanged new e.row
+pub exchanged : (mid between new : DeskView) (xs ys : List Step) (e : EndingView) → e.kind ≡ Exchange → IsEnding mid e → Shape mid between xs → Shape between new ys → EndsNone new → IsExchanged new e.row e.end
 exchanged mid between new xs ys e kind is first second none =
     let did : Shape mid new (xs ++ ys) = shape_then mid between new xs ys first second in
     let x = shape_rest mid new (xs ++ ys) did in
     let d = mid.number in
-    let was : OnRow (state_seen mid) e.row (IsExchanging d) = on_row (state_seen mid) e.row is.of.booking (IsExchanging d) is.of.found (is.of.owner, inl (is.of.phase ∙ ap (λ (k : EndKind). Ending k) kind)) in
-    let now : OnRow (state_seen new) e.row (IsExchanging d) = subst (λ (s : State). OnRow s e.row (IsExchanging d)) (sym x.2) (exchanging_stays mid.layout d e.row (state_seen mid) did.front.0 x.0 was) in
-    let c = found (present (state_seen new) e.row) (IsExchanging d) now in
+    let was : OnRow (state_seen mid) e.row (IsExchanging d e.end) = on_row (state_seen mid) e.row is.of.booking (IsExchanging d e.end) is.of.found (is.of.owner, is.of.end, inl (is.of.phase ∙ ap (λ (k : EndKind). Ending k) kind)) in
+    let now : OnRow (state_seen new) e.row (IsExchanging d e.end) = subst (λ (s : State). OnRow s e.row (IsExchanging d e.end)) (sym x.2) (exchanging_stays mid.layout d e.end e.row (state_seen mid) did.front.0 x.0 was) in
+    let c = found (present (state_seen new) e.row) (IsExchanging d e.end) now in
     let sound = sound_of new.layout (state_seen new) e.row c.0 (is_sound new.layout new.seen did.legal) c.1 in
     ⊎_elim
     (λ (p : c.0.phase ≡ Ending Exchange). absurd (none e.row (on_row (state_seen new) e.row c.0 (IsBeingEndedBy new.number) c.1 (Exchange, (p, c.2.0 ∙ sym did.same.2)))))
-    (λ (p : c.0.phase ≡ Ended Exchange). on_row (state_seen new) e.row c.0 (λ b. (b.phase ≡ Ended Exchange) × AllGiven b) c.1 (p, (sound.ended Exchange p).0))
-    c.2.1
+    (λ (p : c.0.phase ≡ Ended Exchange). on_row (state_seen new) e.row c.0 (λ b. (b.phase ≡ Ended Exchange) × (b.end ≡ e.end) × AllGiven b) c.1 (p, c.2.1, (sound.ended Exchange p).0))
+    c.2.2

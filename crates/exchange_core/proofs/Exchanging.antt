@@ -1,5 +1,6 @@
 -- The steps of an exchange.
 use Rattle.std.proofs.Common.{◌≡◌, inl, inr, ℕ, ℤ, zero, suc, ◌+◌, ◌-◌, ◌<◌, ◌≤◌, Bool, true, false, List, [], ◌∷◌, ◌++◌, map, length, refl, sym, ap, ◌∙◌, subst, arith, length-append, append_assoc}
+use mathlib.Core.List.{IsPrefix}
 use Rattle.rail_ids.specs.declared.RowNo.{RowNo}
 use Rattle.leg_masks.specs.Interval.{PlacedSpan as Item}
 use Rattle.history_model.specs.declared.entry.Entry.{Entry}
@@ -58,6 +59,10 @@ same_kind a b p e f = let g : Ending a ≡ Ending b = sym e ∙ f in cc
 pub kind_is : (kind : EndKind) → Ending Exchange ≡ Ending kind → kind ≡ Exchange
 kind_is kind to = same_kind kind Exchange (Ending Exchange) to refl
 
+-- the end that the turn aims at is the exchange's
+pub end_is : (ready : ReadyView) (x : ℤ) (q : RowNo) (successor : ℕ) → x ≡ ready.code.difference → q.0 ≡ successor → end_of (aim.Exchange ready.moment x q) ≡ exchange_end ready successor
+end_is ready x q successor amount same = λ i. end_at ready.moment (amount i) (same i + 1)
+
 pub carried : (a b c d : DeskView) (ready : ReadyView) (from : Phase) (x : ℤ) (q : RowNo) (successor : ℕ) (e : EndingView) → from ≡ phase_named ready.code.fulfilled → x ≡ ready.code.difference → q.0 ≡ successor → Ending Exchange ≡ Ending e.kind
     → e ≡ fresh_ending ready.code.row e.kind (end_of (aim.Exchange ready.moment x q)) e → ShapeBy (Turns ready.code.row from (aim.Exchange ready.moment x q) (turned.Ending e)) a b → Shape b c (Seal successor Confirmed ∷ []) → Shape c d (ending_steps e.row e.kind e.end e.items)
     → Shape a d (exchange_steps ready successor e.items)
@@ -65,30 +70,31 @@ carried a b c d ready from x q successor e is amount same to fresh did sealed re
     let row = ready.code.row in
     let end : End = exchange_end ready successor in
     let kind = kind_is e.kind to in
-    let end_is : end_of (aim.Exchange ready.moment x q) ≡ end = λ i. end_at ready.moment (amount i) (same i + 1) in
+    let aims = end_is ready x q successor amount same in
     let first : Shape a b (turn_step row (phase_named ready.code.fulfilled) (Ending Exchange) end ∷ items_read row e.items) =
-    subst (Shape a b) (did.1 ∙ (λ i. turn_step row (is i) (Ending Exchange) (end_is i) ∷ items_read row e.items)) did.2 in
+    subst (Shape a b) (did.1 ∙ (λ i. turn_step row (is i) (Ending Exchange) (aims i) ∷ items_read row e.items)) did.2 in
     let closed : Shape c d (ending_steps row e.kind (end_of (aim.Exchange ready.moment x q)) e.items) = subst (λ (y : EndingView). Shape c d (ending_steps y.row e.kind y.end e.items)) fresh rest in
-    let last : Shape c d (ending_steps row Exchange end e.items) = subst (λ (y : EndKind × End). Shape c d (ending_steps row y.0 y.1 e.items)) (λ i. (kind i, end_is i)) closed in
+    let last : Shape c d (ending_steps row Exchange end e.items) = subst (λ (y : EndKind × End). Shape c d (ending_steps row y.0 y.1 e.items)) (λ i. (kind i, aims i)) closed in
     shape_then a b d (turn_step row (phase_named ready.code.fulfilled) (Ending Exchange) end ∷ items_read row e.items) (Seal successor Confirmed ∷ ending_steps row Exchange end e.items) first
     (shape_then b c d (Seal successor Confirmed ∷ []) (ending_steps row Exchange end e.items) sealed last)
 
 -- what the seal left is so of the whole call
 
-abbrev Seals : DeskView → ℕ → Layout → ℕ → List Item → Type 0
-Seals new number layout row items =
-    (before : List Entry) × (phase : Phase) × (after : List Entry)
+abbrev Seals : List Entry → DeskView → ℕ → Layout → ℕ → Phase → List Item → Type 0
+Seals seen new number layout row phase items =
+    (before : List Entry) × (after : List Entry) × IsPrefix seen before
     × (new.seen ≡ before ++ entry number (Seal row phase) ∷ after)
-    × OnRow (state_of layout (before ++ entry number (Seal row phase) ∷ [])) row (λ b. (b.owner ≡ number) × (b.items ≡ map held items))
+    × OnRow (state_of layout (before ++ entry number (Seal row phase) ∷ [])) row (λ b. (b.owner ≡ number) × (b.phase ≡ phase) × (b.items ≡ map held items))
 
-pub seals_within : (a b c d : DeskView) (row : ℕ) (items : List Item) (xs ys : List Step) → Shape a b xs → SealsItems b c row items → Shape c d ys → SealsItems a d row items
-seals_within a b c d row items xs ys first is after =
-    let s : Seals c a.number a.layout row items = subst (λ (x : ℕ × Layout). Seals c x.0 x.1 row items) (λ i. (first.same.2 i, first.same.1 i)) is in
+pub seals_within : (a b c d : DeskView) (row : ℕ) (phase : Phase) (items : List Item) (xs ys : List Step) → Shape a b xs → SealsItems b c row phase items → Shape c d ys → SealsItems a d row phase items
+seals_within a b c d row phase items xs ys first is after =
+    let s : Seals b.seen c a.number a.layout row phase items = subst (λ (x : ℕ × Layout). Seals b.seen c x.0 x.1 row phase items) (λ i. (first.same.2 i, first.same.1 i)) is in
+    let start = first.front.0 in
     let rest = after.front.0 in (
       s.0,
-      s.1,
-      s.2 ++ rest,
-      sym after.front.1 ∙ (ap (λ (l : List Entry). l ++ rest) s.3 ∙ append_assoc s.0 (entry a.number (Seal row s.1) ∷ s.2) rest),
+      s.1 ++ rest,
+      (start ++ s.2.0, sym (append_assoc a.seen start s.2.0) ∙ (ap (λ (l : List Entry). l ++ s.2.0) first.front.1 ∙ s.2.1)),
+      sym after.front.1 ∙ (ap (λ (l : List Entry). l ++ rest) s.3 ∙ append_assoc s.0 (entry a.number (Seal row phase) ∷ s.1) rest),
       s.4,
     )
 

@@ -43,6 +43,6 @@ abbrev pub OnLost : Exchanged → (HoldView → Type 0) → Type 0
 OnLost (Done new difference) P = Unit {0}
 OnLost (WrongState shown hold) P = P hold
 
--- the row's booking has ended by exchange, and all its items are given back
-abbrev pub IsExchanged : DeskView → ℕ → Type 0
-IsExchanged desk row = OnRow (state_seen desk) row (λ b. (b.phase ≡ Ended Exchange) × AllGiven b)
+-- the row's booking has ended by exchange with this end, and all its items are given back
+abbrev pub IsExchanged : DeskView → ℕ → End → Type 0
+IsExchanged desk row end = OnRow (state_seen desk) row (λ b. (b.phase ≡ Ended Exchange) × (b.end ≡ end) × AllGiven b)

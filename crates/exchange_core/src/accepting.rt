@@ -1,12 +1,13 @@
 //! Carrying an exchange out.
 ghost use Rattle.std.specs.Prelude.{◌≡◌, ◌+◌, ◌*◌};
 ghost use Rattle.history_model.specs.Booking.{most_items};
+ghost use Rattle.history_model.specs.declared.phase.Phase.TheVariants.{Confirmed};
 ghost use Rattle.history_model.specs.History.{own};
 ghost use Rattle.claim_rule.specs.Seats.{IsOf, AddsAtMost};
 ghost use Rattle.claim_rule.specs.Calls.{ShapeBy};
 ghost use Rattle.claim_rule.specs.Out.{IsHolding, IsToBeSealed, HoldsNone, EndsNone, SealsItems, AreSettled};
 ghost use Rattle.exchange_core.specs.Ready.{IsReadyFor};
-ghost use Rattle.exchange_core.specs.Accepting.{AcceptsExchange, OnDone, OnLost, IsExchanged};
+ghost use Rattle.exchange_core.specs.Accepting.{AcceptsExchange, OnDone, OnLost, IsExchanged, exchange_end};
 
 use crate::readying::ExchangeReady;
 use booking_rows::{Aim, Sealed, Turned, seal, turn};
@@ -25,7 +26,8 @@ pub enum Exchanged {
 }
 
 /// Exchanges a booking for the one that is held, by a quote that was checked: turns the old booking from the phase that the code names,
-/// seals the new one as confirmed, and ends the old one with all its items given back. Where the turn is lost, nothing else has changed.
+/// seals the new one as confirmed, and ends the old one with all its items given back. Its end has the moment of the check, the code's
+/// difference, and the new booking as its successor. Where the turn is lost, nothing else has changed.
 ///
 /// The hold is ready to be sealed, and the desk has no ending out. At most 55 entries are added.
 pub fn accept_exchange(
@@ -41,8 +43,8 @@ pub fn accept_exchange(
     requires ready { IsReadyFor desk.old ready }
     ensures own { IsOf books.now desk.new }
     ensures entries { ShapeBy (AcceptsExchange ready hold.row result) desk.old desk.new }
-    ensures items { OnDone result (SealsItems desk.old desk.new hold.row hold.items) }
-    ensures ended { OnDone result (IsExchanged desk.new ready.code.row) }
+    ensures items { OnDone result (SealsItems desk.old desk.new hold.row Confirmed hold.items) }
+    ensures ended { OnDone result (IsExchanged desk.new ready.code.row (exchange_end ready hold.row)) }
     ensures holds_none { OnDone result (HoldsNone desk.new) }
     ensures lost { OnLost result (λ h. (h ≡ hold) × IsHolding desk.new h) }
     ensures noted { OnLost result (IsToBeSealed desk.new) }

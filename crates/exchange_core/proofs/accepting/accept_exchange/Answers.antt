@@ -1,13 +1,14 @@
 use Rattle.std.proofs.Common.{rules, ◌≡◌, ◌+◌, ℕ, refl, ap, ◌∙◌, subst, to_z, of_z, w64}
+use Rattle.history_model.specs.declared.booking.End.{End}
 use Rattle.claim_rule.specs.Calls.{ShapeBy}
 use Rattle.claim_rule.specs.Endings.{EndingView}
 use Rattle.offer_codes.specs.Exchanges.{exchange_view}
 use Rattle.row_decisions.proofs.Finishing.{few_items}
 use Rattle.exchange_core.specs.Ready.{ReadyView}
-use Rattle.exchange_core.specs.Accepting.{AcceptsExchange, IsExchanged, exchange_steps}
+use Rattle.exchange_core.specs.Accepting.{AcceptsExchange, IsExchanged, exchange_end, exchange_steps}
 use Rattle.exchange_core.specs.declared.accepting.Exchanged.TheVariants as exchanged
 use Rattle.exchange_core.proofs.Ending.{may_seal, exchanged as ends_exchanged}
-use Rattle.exchange_core.proofs.Exchanging.{kind_is, carried, settled_done, settled_lost, exchange_bound}
+use Rattle.exchange_core.proofs.Exchanging.{kind_is, end_is, carried, settled_done, settled_lost, exchange_bound}
 use Rattle.exchange_core.proofs.accepting.accept_exchange.Goals as goal
 
 pub seal-new-requires-clause-hold : goal.seal-new-requires-clause-hold
@@ -43,9 +44,16 @@ returns-in-Ending-clause-entries c =
 
 pub returns-in-Ending-clause-ended : goal.returns-in-Ending-clause-ended
 returns-in-Ending-clause-ended c =
+    let i = c.ready.inside in
+    let e = c.in-Ending.ending in
     let l = c.in-Ending.ensures.leaves in
-    subst (IsExchanged c.finish_end.new.desk) (ap (λ (e : EndingView). e.row) l.1 ∙ ap (λ (r : ReadyView). r.code.row) c.ready.view_is)
-    (ends_exchanged c.turn.new.desk c.seal-new.new.desk c.finish_end.new.desk _ _ c.in-Ending.ending (kind_is c.in-Ending.ending.kind l.0) l.2 c.seal-new.ensures.entries c.finish_end.ensures.entries c.finish_end.ensures.none)
+    let r : ReadyView = record { code = exchange_view i.code; retailer = i.retailer.0; moment = i.moment } in
+    let amount : to_z w64 (of_z w64 i.code.difference) ≡ i.code.difference = search rules in
+    let row : e.row ≡ r.code.row = ap (λ (y : EndingView). y.row) l.1 in
+    let end : e.end ≡ exchange_end r c.args.hold.row = ap (λ (y : EndingView). y.end) l.1 ∙ end_is r (to_z w64 (of_z w64 i.code.difference)) c.row.result c.args.hold.row amount c.row.ensures in
+    subst (λ (y : ReadyView). IsExchanged c.finish_end.new.desk y.code.row (exchange_end y c.args.hold.row)) c.ready.view_is
+    (subst (λ (y : ℕ × End). IsExchanged c.finish_end.new.desk y.0 y.1) (λ j. (row j, end j))
+    (ends_exchanged c.turn.new.desk c.seal-new.new.desk c.finish_end.new.desk _ _ c.in-Ending.ending (kind_is c.in-Ending.ending.kind l.0) l.2 c.seal-new.ensures.entries c.finish_end.ensures.entries c.finish_end.ensures.none))
 
 pub returns-in-Ending-clause-settled : goal.returns-in-Ending-clause-settled
 returns-in-Ending-clause-settled c =
