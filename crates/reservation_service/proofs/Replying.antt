@@ -1,10 +1,12 @@
 -- The replies to a booking of an offer.
-use Rattle.std.proofs.Common.{◌≡◌, ◌∙◌, inl, inr, ℕ, ◌≤◌, Bool, List, [], ◌∷◌, ◌++◌, map, length, Option, Some, None, refl, sym, subst, arith}
+use Rattle.std.proofs.Common.{◌≡◌, ◌∙◌, inl, inr, ℕ, ◌≤◌, Bool, List, [], ◌∷◌, ◌++◌, map, length, Option, Some, None, refl, sym, ap, subst, arith, append_assoc}
+use mathlib.Core.List.{IsPrefix}
 use Rattle.leg_masks.specs.Interval.{PlacedSpan as Item}
 use Rattle.history_model.specs.Booking.{Layout}
 use Rattle.history_model.specs.Allowed.{OnRow}
 use Rattle.history_model.specs.History.{entry, state_of}
 use Rattle.history_model.specs.declared.entry.Entry.{Entry}
+use Rattle.history_model.specs.declared.entry.Step.{Step}
 use Rattle.history_model.specs.declared.entry.Step.TheVariants.{Seal}
 use Rattle.history_model.specs.declared.phase.Phase.{Phase}
 use Rattle.history_model.specs.declared.phase.Phase.TheVariants as phase
@@ -53,15 +55,22 @@ some_held cat o row p items old mid (start, started, placed) none some few segme
     let m = (places_many cat o row [] o.segments p items start mid placed (whole_of p none) some few).0 in omega arith
 
 -- a seal as an earlier view of the desk has it
-abbrev SealsBy : Layout → ℕ → DeskView → ℕ → List Item → Type 0
-SealsBy layout number new row items =
-    (before : List Entry) × (phase : Phase) × (after : List Entry)
+abbrev SealsBy : List Entry → Layout → ℕ → DeskView → ℕ → Phase → List Item → Type 0
+SealsBy seen layout number new row phase items =
+    (before : List Entry) × (after : List Entry) × IsPrefix seen before
     × (new.seen ≡ before ++ entry number (Seal row phase) ∷ after)
-    × OnRow (state_of layout (before ++ entry number (Seal row phase) ∷ [])) row (λ b. (b.owner ≡ number) × (b.items ≡ map held items))
+    × OnRow (state_of layout (before ++ entry number (Seal row phase) ∷ [])) row (λ b. (b.owner ≡ number) × (b.phase ≡ phase) × (b.items ≡ map held items))
 
-pub seals_since : (old mid new : DeskView) (row : ℕ) (items : List Item) → mid.layout ≡ old.layout → mid.number ≡ old.number → SealsItems mid new row items → SealsItems old new row items
-seals_since old mid new row items layout number did =
-    subst (λ (g : Layout). SealsBy g old.number new row items) layout (subst (λ (n : ℕ). SealsBy mid.layout n new row items) number did)
+pub seals_since : (old mid new : DeskView) (row : ℕ) (phase : Phase) (items : List Item) (es : List Step) → Shape old mid es → SealsItems mid new row phase items → SealsItems old new row phase items
+seals_since old mid new row phase items es did seals =
+    let s : SealsBy mid.seen old.layout old.number new row phase items = subst (λ (x : Layout × ℕ). SealsBy mid.seen x.0 x.1 new row phase items) (λ i. (did.same.1 i, did.same.2 i)) seals in
+    let start = did.front.0 in (
+      s.0,
+      s.1,
+      (start ++ s.2.0, sym (append_assoc old.seen start s.2.0) ∙ (ap (λ (l : List Entry). l ++ s.2.0) did.front.1 ∙ s.2.1)),
+      s.3,
+      s.4,
+    )
 
 pub has_places : (cat : CatalogueView) (o : OfferView) (row : ℕ) (items : List Item) (old mid : DeskView) → HoldsPlaces cat o o.segments row Whole items old mid → HasAllPlaces cat o o.segments items
 has_places cat o row items old mid (start, started, placed) =
@@ -72,20 +81,20 @@ has_places cat o row items old mid (start, started, placed) =
 noted_and_sealed : (row count : ℕ) (d : Detail) (old mid new : DeskView) → Shape old mid (detail_notes row d count) → Shape mid new (Seal row phase.Prebooked ∷ []) → Shape old new (detail_notes row d count ++ Seal row phase.Prebooked ∷ [])
 noted_and_sealed row count d old mid new = shape_then old mid new (detail_notes row d count) (Seal row phase.Prebooked ∷ [])
 
-pub seals_hold : (hold noted : HoldView) (d : Detail) (old mid new : DeskView) (reply : Reply) → noted ≡ hold → Shape old mid (detail_notes hold.row d (length hold.items)) → Shape mid new (Seal noted.row phase.Prebooked ∷ []) → SealsItems mid new noted.row noted.items
+pub seals_hold : (hold noted : HoldView) (d : Detail) (old mid new : DeskView) (reply : Reply) → noted ≡ hold → Shape old mid (detail_notes hold.row d (length hold.items)) → Shape mid new (Seal noted.row phase.Prebooked ∷ []) → SealsItems mid new noted.row phase.Prebooked noted.items
     → reply ≡ created hold.row (made_view phase.Prebooked d hold.items) → SealsHold hold.row hold.items d old new reply
 seals_hold hold noted d old mid new reply same notes seal items is = inl (
   noted_and_sealed hold.row (length hold.items) d old mid new notes (subst (λ (h : HoldView). Shape mid new (Seal h.row phase.Prebooked ∷ [])) same seal),
-  seals_since old mid new hold.row hold.items notes.same.1 notes.same.2 (subst (λ (h : HoldView). SealsItems mid new h.row h.items) same items),
+  seals_since old mid new hold.row phase.Prebooked hold.items (detail_notes hold.row d (length hold.items)) notes (subst (λ (h : HoldView). SealsItems mid new h.row phase.Prebooked h.items) same items),
   is,
 )
 
 sealed : (cat : CatalogueView) (retailer now : ℕ) (o : OfferView) (last : Bool) (row : ℕ) (items : List Item) (old mid new : DeskView) (reply : Reply) → HoldsPlaces cat o o.segments row Whole items old mid
     → SealsHold row items (detail_of cat o retailer now) mid new reply → Reserves cat retailer now o old new reply × HasAllOrNone cat o old new reply
 sealed cat retailer now o last row items old mid new reply placed (inl (did, seals, is)) =
-    let same = (held_calmly cat o o.segments row Whole items old mid placed).2.same in (
+    let held = held_calmly cat o o.segments row Whole items old mid placed in (
       inl (row, items, mid, placed, did, is),
-      subst (HasAllOrNone cat o old new) (sym is) (seals_since old mid new row items same.1 same.2 seals, has_places cat o row items old mid placed),
+      subst (HasAllOrNone cat o old new) (sym is) (seals_since old mid new row phase.Prebooked items held.0 held.2 seals, has_places cat o row items old mid placed),
     )
 sealed cat retailer now o last row items old mid new reply placed (inr (gave, is)) =
     (inr (inr ((row, items, mid, placed, gave), is)), subst (HasAllOrNone cat o old new) (sym is) tt)

@@ -60,7 +60,7 @@ Falters cat o old new =
 -- a hold with all its places is sealed with this detail; or given back, since there was no memory for the answer
 abbrev pub SealsHold : ℕ → List Item → Detail → DeskView → DeskView → Reply → Type 0
 SealsHold row items d old new reply =
-    (Shape old new (detail_notes row d (length items) ++ Seal row phase.Prebooked ∷ []) × SealsItems old new row items
+    (Shape old new (detail_notes row d (length items) ++ Seal row phase.Prebooked ∷ []) × SealsItems old new row phase.Prebooked items
     × (reply ≡ created row (made_view phase.Prebooked d items)))
     ⊎ (GivesUp row items old new × (reply ≡ problem NoMemory))
 
@@ -71,6 +71,6 @@ Reserves cat retailer now o old new reply =
 
 -- the new booking has all its places; after any other answer a desk that is idle again holds none
 abbrev pub HasAllOrNone : CatalogueView → OfferView → DeskView → DeskView → Reply → Type 0
-HasAllOrNone cat o old new (created row v) = SealsItems old new row v.items × HasAllPlaces cat o o.segments v.items
-HasAllOrNone cat o old new (exchanged row v difference replaced) = SealsItems old new row v.items × HasAllPlaces cat o o.segments v.items
+HasAllOrNone cat o old new (created row v) = SealsItems old new row phase.Prebooked v.items × HasAllPlaces cat o o.segments v.items
+HasAllOrNone cat o old new (exchanged row v difference replaced) = SealsItems old new row phase.Confirmed v.items × HasAllPlaces cat o o.segments v.items
 HasAllOrNone cat o old new reply = Unit {0}
