@@ -76,7 +76,7 @@ ready_held cat o row p items ready old mid placed is =
 -- the exchange is made, or its turn is lost
 
 pub made : (ready : ReadyView) (hold then : HoldView) (d : Detail) (m : RowNo) (x : ℤ) (old noted new : DeskView) → then ≡ hold → Shape old noted (detail_notes hold.row d (length hold.items)) → ShapeBy (AcceptsExchange ready then.row (accepted.Done m x)) noted new
-    → SealsItems noted new then.row then.items → DecidesOrNot ready hold.row hold.items d old new (exchanged hold.row (made_view phase.Confirmed d hold.items) ready.code.difference ready.code.row)
+    → SealsItems noted new then.row phase.Confirmed then.items → DecidesOrNot ready hold.row hold.items d old new (exchanged hold.row (made_view phase.Confirmed d hold.items) ready.code.difference ready.code.row)
 made ready hold then d m x old noted new same notes did seals = inl (
   noted,
   notes,
@@ -84,7 +84,7 @@ made ready hold then d m x old noted new same notes did seals = inl (
     m,
     x,
     subst (λ (h : HoldView). ShapeBy (AcceptsExchange ready h.row (accepted.Done m x)) noted new) same did,
-    seals_since old noted new hold.row hold.items notes.same.1 notes.same.2 (subst (λ (h : HoldView). SealsItems noted new h.row h.items) same seals),
+    seals_since old noted new hold.row phase.Confirmed hold.items (detail_notes hold.row d (length hold.items)) notes (subst (λ (h : HoldView). SealsItems noted new h.row phase.Confirmed h.items) same seals),
     refl,
   ),
 )
@@ -123,8 +123,8 @@ has_all : (cat : CatalogueView) (ready : ReadyView) (row : ℕ) (items : List It
     → HasAllOrNone cat ready.code.offer old new reply
 has_all cat ready row items d old mid new reply placed (inl (noted, notes, inl (m, x, did, seals, is))) =
     let o = ready.code.offer in
-    let same = (held_calmly cat o o.segments row Whole items old mid placed).2.same in
-    subst (HasAllOrNone cat o old new) (sym is) (seals_since old mid new row items same.1 same.2 seals, has_places cat o row items old mid placed)
+    let held = held_calmly cat o o.segments row Whole items old mid placed in
+    subst (HasAllOrNone cat o old new) (sym is) (seals_since old mid new row phase.Confirmed items held.0 held.2 seals, has_places cat o row items old mid placed)
 has_all cat ready row items d old mid new reply placed (inl (noted, notes, inr (shown, hold, last, did, gave, is))) = subst (HasAllOrNone cat ready.code.offer old new) (sym is) tt
 has_all cat ready row items d old mid new reply placed (inr (gave, is)) = subst (HasAllOrNone cat ready.code.offer old new) (sym is) tt
 
@@ -144,8 +144,8 @@ Exchanged cat last rows retailer code now old new written =
 
 -- the booking of a seal is so of what went before
 has_all_since : (cat : CatalogueView) (o : OfferView) (old mid new : DeskView) (es : _) (reply : Reply) → Shape old mid es → HasAllOrNone cat o mid new reply → HasAllOrNone cat o old new reply
-has_all_since cat o old mid new es (created row v) did (seals, places) = (seals_since old mid new row v.items did.same.1 did.same.2 seals, places)
-has_all_since cat o old mid new es (exchanged row v x q) did (seals, places) = (seals_since old mid new row v.items did.same.1 did.same.2 seals, places)
+has_all_since cat o old mid new es (created row v) did (seals, places) = (seals_since old mid new row phase.Prebooked v.items es did seals, places)
+has_all_since cat o old mid new es (exchanged row v x q) did (seals, places) = (seals_since old mid new row phase.Confirmed v.items es did seals, places)
 has_all_since cat o old mid new es (offer_list offers) did is = tt
 has_all_since cat o old mid new es (booking row v) did is = tt
 has_all_since cat o old mid new es (refund_offer code) did is = tt

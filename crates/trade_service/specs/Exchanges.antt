@@ -57,7 +57,7 @@ ready_of retailer code now = record { code = code; retailer = retailer; moment =
 abbrev pub Decides : ReadyView → ℕ → List Item → Detail → Replying
 Decides ready row items d old new reply =
     (noted : DeskView) × Shape old noted (detail_notes row d (length items))
-    × (((made : RowNo) × (difference : ℤ) × ShapeBy (AcceptsExchange ready row (accepted.Done made difference)) noted new × SealsItems old new row items
+    × (((made : RowNo) × (difference : ℤ) × ShapeBy (AcceptsExchange ready row (accepted.Done made difference)) noted new × SealsItems old new row phase.Confirmed items
     × (reply ≡ exchanged row (made_view phase.Confirmed d items) ready.code.difference ready.code.row))
     ⊎ ((shown : Phase) × (hold : HoldView) × (lost : DeskView) × ShapeBy (AcceptsExchange ready row (accepted.WrongState shown hold)) noted lost × GivesUp row items lost new
     × (reply ≡ problem (WrongState shown))))
