@@ -22,4 +22,4 @@ pub mod ExchangesMade
 pub mod ExchangeLaws
 pub mod AllLaws
 mod UsualLife
-pub mod Alone
+pub mod OwnWork

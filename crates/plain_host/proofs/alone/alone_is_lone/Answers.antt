@@ -1,4 +1,4 @@
-use Rattle.plain_host.proofs.Alone.{alone_is_lone}
+use Rattle.plain_host.proofs.OwnWork.{alone_is_lone}
 use Rattle.plain_host.proofs.alone.alone_is_lone.Goals as goal
 
 pub returns : goal.returns

@@ -2,7 +2,7 @@ use Rattle.std.proofs.Common.{[], None, refl, inl, inr, rules}
 use Rattle.session_loop.proofs.WriteLemmas.{end_none}
 use Rattle.session_loop.proofs.Serving.{front_none}
 use Rattle.rail_service.proofs.Connecting.{served_there}
-use Rattle.plain_host.proofs.Alone.{alone_is_lone}
+use Rattle.plain_host.proofs.OwnWork.{alone_is_lone}
 use Rattle.rail_service.proofs.Alone.{plainly_there}
 use Rattle.rail_service.proofs.connection.serve_connection.Goals as goal
 
