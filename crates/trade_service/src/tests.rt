@@ -1,4 +1,4 @@
-ghost use Rattle.std.specs.Prelude.{◌≡◌, true};
+ghost use Rattle.std.specs.Prelude.{◌≡◌, ◌≤◌, true};
 ghost use Rattle.std.specs.List.{list_all};
 ghost use Rattle.rail_catalogue.specs.Contents.{legs_in};
 ghost use Rattle.claim_rule.specs.Seats.{IsOf};
@@ -27,8 +27,8 @@ use std::alloc::Global;
 use std::process::Abort;
 use std::test::Fail;
 
-// The example of `examples/k1.json`, with 64 booking rows.
-const EXAMPLE: &str = r#"{"currency":"EUR","rows":64,
+// The example of `examples/k1.json`.
+const EXAMPLE: &str = r#"{"currency":"EUR",
  "retailers":[{"number":1,"key":"north"},{"number":2,"key":"south"}],
  "stations":[{"code":"BASEL"},{"code":"OLTEN"},{"code":"BERN"},{"code":"THUN"}],
  "refundSteps":[{"before":86400,"fee":0},{"before":3600,"fee":2500},{"before":0,"fee":10000}],
@@ -56,16 +56,18 @@ const NORTH: RetailerNo = RetailerNo(1);
 
 const FIRST_ROW: RowNo = RowNo(0);
 
-fn books_of(rt: &impl Abort, alloc: Global, cat: &Catalogue) -> (Books, Desk)
+// The books of the catalogue's places with so many rows, and their first desk.
+fn books_of(rt: &impl Abort, alloc: Global, cat: &Catalogue, rows: u32) -> (Books, Desk)
+    requires some { 1 ≤ rows }
+    requires most { rows ≤ 262144 }
     ensures own { IsOf result.0 result.1 }
     ensures idle { IsIdle result.1 }
     ensures legs { result.0.layout.legs ≡ legs_in cat.now }
-    ensures rows { result.0.layout.rows ≡ cat.now.rows }
 {
     let legs = cat.legs(alloc).expect(rt, "memory");
     let some = 0 < legs.len() && legs.len() <= 4_194_304;
     assert!(rt; some);
-    start_books(alloc, legs.as_slice(), cat.rows()).expect(rt, "memory")
+    start_books(alloc, legs.as_slice(), rows).expect(rt, "memory")
 }
 
 fn catalogue(rt: &impl Abort, alloc: Global) -> Catalogue {
@@ -190,7 +192,7 @@ fn pay(
 fn a_refund_is_offered_and_paid_once(rt: HostRuntime) -> Result<(), Fail> {
     let alloc = rt.alloc();
     let cat = catalogue(&rt, alloc);
-    let (books, mut desk) = books_of(&rt, alloc, &cat);
+    let (books, mut desk) = books_of(&rt, alloc, &cat, 64);
     confirmed(&rt, alloc, &cat, &books, &mut desk);
     let six = at(&rt, 0);
     let offered = quote_refund_booking(
@@ -216,6 +218,21 @@ const EXCHANGE_OFFERED: &str =
 const EXCHANGE: &str =
     r#"{"booking":{"confirmableUntil":"2026-06-01T06:15:00Z","id":"B000001","price":{"amount":800,"currency":"EUR","scale":2},"reservations":[{"coach":2,"from":"OLTEN","place":11,"run":0,"to":"BERN","train":501}],"settled":false,"status":"CONFIRMED"},"difference":{"amount":-550,"currency":"EUR","scale":2},"replaced":"B000000"}"#;
 
+// The same, made at the last moment of the quote's validity.
+const LAST_EXCHANGE: &str =
+    r#"{"booking":{"confirmableUntil":"2026-06-01T06:30:00Z","id":"B000001","price":{"amount":800,"currency":"EUR","scale":2},"reservations":[{"coach":2,"from":"OLTEN","place":11,"run":0,"to":"BERN","train":501}],"settled":false,"status":"CONFIRMED"},"difference":{"amount":-550,"currency":"EUR","scale":2},"replaced":"B000000"}"#;
+
+const NOT_COLLECTED: &str =
+    r#"{"code":"WrongState","detail":"CONFIRMED","status":409,"title":"Wrong state"}"#;
+
+const EXCHANGED_ALREADY: &str =
+    r#"{"code":"WrongState","detail":"EXCHANGED","status":409,"title":"Wrong state"}"#;
+
+const STALE: &str =
+    r#"{"code":"OfferTooOld","detail":"2026-06-01T06:00:00Z 2026-06-01T06:15:01Z","status":410,"title":"Offer too old"}"#;
+
+const ROWS_FULL: &str = r#"{"code":"RowsFull","status":507,"title":"Rows full"}"#;
+
 const EXCHANGED: &str =
     r#"{"confirmableUntil":"2026-06-01T06:15:00Z","endAmount":{"amount":-550,"currency":"EUR","scale":2},"endedAt":"2026-06-01T06:00:00Z","id":"B000000","price":{"amount":2200,"currency":"EUR","scale":2},"reservations":[{"coach":1,"from":"BASEL","place":1,"run":0,"to":"BERN","train":501}],"settled":true,"status":"EXCHANGED","successor":"B000001"}"#;
 
@@ -223,7 +240,7 @@ const EXCHANGED: &str =
 fn an_exchange_is_offered_and_carried_out(rt: HostRuntime) -> Result<(), Fail> {
     let alloc = rt.alloc();
     let cat = catalogue(&rt, alloc);
-    let (books, mut desk) = books_of(&rt, alloc, &cat);
+    let (books, mut desk) = books_of(&rt, alloc, &cat, 64);
     confirmed(&rt, alloc, &cat, &books, &mut desk);
     let six = at(&rt, 0);
     let offer = offer_of(&rt, "O1780293600-1-0-2-0-0.1.2");
@@ -236,5 +253,89 @@ fn an_exchange_is_offered_and_carried_out(rt: HostRuntime) -> Result<(), Fail> {
     check(&rt, &made, EXCHANGE);
     let old = show_booking(alloc, &cat, &books, &mut desk, NORTH, FIRST_ROW, false);
     check(&rt, &old, EXCHANGED);
+    Ok(())
+}
+
+// An exchange by the quote of this id, so many seconds after six.
+fn exchange(
+    rt: &impl Abort,
+    alloc: Global,
+    cat: &Catalogue,
+    books: &Books,
+    desk: &mut Desk,
+    id: &str,
+    seconds: u32,
+    want: &str,
+)
+    requires own { IsOf books.now desk.old }
+    requires legs { books.now.layout.legs ≡ legs_in cat.now }
+    requires idle { IsIdle desk.old }
+    ensures own { IsOf books.now desk.new }
+    ensures idle { IsIdle desk.new }
+{
+    let code = exchange_of(rt, cat, id);
+    let now = at(rt, seconds);
+    let made = accept_exchange_booking(alloc, cat, books, desk, NORTH, &code, now, false);
+    check(rt, &made, want);
+}
+
+// Refused are a difference that isn't the quote's, a ticket that isn't collected, a row without a booking, a second past the
+// quote's last, and a booking that is exchanged already.
+#[test]
+fn exchanges_are_refused_by_their_quotes(rt: HostRuntime) -> Result<(), Fail> {
+    let alloc = rt.alloc();
+    let cat = catalogue(&rt, alloc);
+    let (books, mut desk) = books_of(&rt, alloc, &cat, 64);
+    confirmed(&rt, alloc, &cat, &books, &mut desk);
+    let less = "X0-1780293600-C-m551-O1780293600-1-0-2-0-0.1.2";
+    exchange(&rt, alloc, &cat, &books, &mut desk, less, 900, QUOTE_WRONG);
+    let collected = "X0-1780293600-F-m50-O1780293600-1-0-2-0-0.1.2";
+    exchange(
+        &rt,
+        alloc,
+        &cat,
+        &books,
+        &mut desk,
+        collected,
+        900,
+        NOT_COLLECTED,
+    );
+    let unknown = "X1-1780293600-C-m550-O1780293600-1-0-2-0-0.1.2";
+    exchange(&rt, alloc, &cat, &books, &mut desk, unknown, 900, UNKNOWN);
+    let quote = "X0-1780293600-C-m550-O1780293600-1-0-2-0-0.1.2";
+    exchange(&rt, alloc, &cat, &books, &mut desk, quote, 901, STALE);
+    exchange(
+        &rt,
+        alloc,
+        &cat,
+        &books,
+        &mut desk,
+        quote,
+        900,
+        LAST_EXCHANGE,
+    );
+    exchange(
+        &rt,
+        alloc,
+        &cat,
+        &books,
+        &mut desk,
+        quote,
+        900,
+        EXCHANGED_ALREADY,
+    );
+    Ok(())
+}
+
+#[test]
+fn an_exchange_wants_a_row_of_its_own(rt: HostRuntime) -> Result<(), Fail> {
+    let alloc = rt.alloc();
+    let cat = catalogue(&rt, alloc);
+    let (books, mut desk) = books_of(&rt, alloc, &cat, 1);
+    confirmed(&rt, alloc, &cat, &books, &mut desk);
+    let quote = "X0-1780293600-C-m550-O1780293600-1-0-2-0-0.1.2";
+    exchange(&rt, alloc, &cat, &books, &mut desk, quote, 0, ROWS_FULL);
+    let old = show_booking(alloc, &cat, &books, &mut desk, NORTH, FIRST_ROW, false);
+    check(&rt, &old, CONFIRMED);
     Ok(())
 }
