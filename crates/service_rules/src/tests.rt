@@ -140,6 +140,10 @@ fn refuses_exchanges_by_their_ids(rt: HostRuntime) -> Result<(), Fail> {
     let alloc = rt.alloc();
     let cat = read_catalogue(alloc, EXAMPLE.as_bytes()).expect(&rt, "a catalogue");
     let now = at(&rt, SIX);
+    let too_old = Problem::OfferTooOld {
+        made: at(&rt, 1_780_292_699),
+        now,
+    };
     for (row, id, want) in [
         (
             Some(RowNo(0)),
@@ -176,15 +180,26 @@ fn refuses_exchanges_by_their_ids(rt: HostRuntime) -> Result<(), Fail> {
             "X0-1780293600-C-m750-O1780293600-1-0-2-0-1.0.1",
             Some(Problem::UnknownOffer),
         ),
+        (
+            Some(RowNo(0)),
+            "X0-1780292700-C-m750-O1780292700-1-0-2-0-1.0.1",
+            None,
+        ),
+        (
+            Some(RowNo(0)),
+            "X0-1780292699-C-m750-O1780292699-1-0-2-0-1.0.1",
+            Some(too_old),
+        ),
+        (
+            Some(RowNo(0)),
+            "X0-1780293601-C-m750-O1780293600-1-0-2-0-1.0.1",
+            Some(Problem::UnknownOffer),
+        ),
     ] {
         let code = read_exchange(id.as_bytes());
         let found = command_problem(&cat, &Command::AcceptExchange { row, code }, now);
         assert_eq!(rt; found, want, "{id}");
     }
-    let too_old = Problem::OfferTooOld {
-        made: at(&rt, 1_780_292_699),
-        now,
-    };
     for (row, id, want) in [
         (
             None,
