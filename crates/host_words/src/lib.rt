@@ -1,4 +1,5 @@
-//! The words of the commands that `clap` reads: `replay CATALOGUE --start MOMENT --tick N`.
+//! The words of the commands that `clap` reads: `replay CATALOGUE --start MOMENT --tick N`, and `serve CATALOGUE --port N --workers N
+//! --connections N --sweep N`.
 //!
 //! Each command is read as a simple one by `clap`, and its contract is `clap`'s stated reading: the values are exactly those that it
 //! gives, and the words are refused exactly where it refuses them for another cause than memory, where a number is out of its range, or
@@ -8,8 +9,10 @@
 mod fault;
 mod options;
 mod replay;
+mod serve;
 #[cfg(test)]
 mod tests;
 
 pub use fault::WordsFault;
 pub use replay::{ReplayWords, read_replay};
+pub use serve::{ServeWords, Serving, read_serve};

@@ -1,4 +1,4 @@
-use crate::{WordsFault, read_replay};
+use crate::{WordsFault, read_replay, read_serve};
 use std::alloc::{AllocError, Global};
 use std::process::Abort;
 use std::test::Fail;
@@ -84,6 +84,82 @@ fn replay_refusals(rt: HostRuntime) -> Result<(), Fail> {
         "replay k1.json --seed 1",
     ] {
         check_replay(&rt, line, Err(WordsFault::Refused))?;
+    }
+    Ok(())
+}
+
+/// What `serve` reads of the line: the name, the port, and how many workers, connections and seconds between sweeps.
+fn check_serve<R: AllocGlobal + Abort>(
+    rt: &R,
+    line: &str,
+    said: Result<(&str, u16, u32, u32, u32), WordsFault>,
+) -> Result<(), AllocError> {
+    let words = words_of(rt.alloc(), line)?;
+    let read = match read_serve(rt.alloc(), &words) {
+        Ok(words) => {
+            let n = words.numbers;
+            Ok((words.catalogue, n.port, n.workers, n.connections, n.sweep))
+        }
+        Err(fault) => Err(fault),
+    };
+    assert!(rt; read == said, "{line}");
+    Ok(())
+}
+
+#[test]
+fn serve_words(rt: HostRuntime) -> Result<(), Fail> {
+    for (line, said) in [
+        (
+            "serve k1.json --port 8080",
+            ("k1.json", 8_080, 4, 4_294_967_295, 30),
+        ),
+        (
+            "serve --port=1 k1.json",
+            ("k1.json", 1, 4, 4_294_967_295, 30),
+        ),
+        (
+            "serve k1.json --sweep 1 --connections 1 --workers 1 --port 65535",
+            ("k1.json", 65_535, 1, 1, 1),
+        ),
+        (
+            "serve k1.json --port +7 --workers 016 --connections=4294967295 --sweep=86400",
+            ("k1.json", 7, 16, 4_294_967_295, 86_400),
+        ),
+        (
+            "serve --port 80 -- --sweep",
+            ("--sweep", 80, 4, 4_294_967_295, 30),
+        ),
+    ] {
+        check_serve(&rt, line, Ok(said))?;
+    }
+    Ok(())
+}
+
+#[test]
+fn serve_refusals(rt: HostRuntime) -> Result<(), Fail> {
+    for line in [
+        "serve",
+        "serve k1.json",
+        "serve --port 80",
+        "serve k1.json --port",
+        "serve k1.json --port 0",
+        "serve k1.json --port 65536",
+        "serve k1.json --port -1",
+        "serve k1.json --port http",
+        "serve k1.json k2.json --port 80",
+        "serve k1.json --port 80 --port 81",
+        "serve k1.json --port 80 --workers 0",
+        "serve k1.json --port 80 --workers 17",
+        "serve k1.json --port 80 --connections 0",
+        "serve k1.json --port 80 --connections 4294967296",
+        "serve k1.json --port 80 --sweep 0",
+        "serve k1.json --port 80 --sweep 86401",
+        "serve k1.json --port 80 --tick 1",
+        "serve k1.json --port 80 --help",
+        "serve --help",
+        "serve -V",
+    ] {
+        check_serve(&rt, line, Err(WordsFault::Refused))?;
     }
     Ok(())
 }

@@ -1,0 +1,33 @@
+use Rattle.std.proofs.Common.{◌≡◌, ◌∙◌, Option, Some, None, sym, ap, codes, option_map}
+use Rattle.clap.specs.Words.{found_of, rows_of}
+use Rattle.host_words.specs.Options.{words_texts}
+use Rattle.host_words.specs.Serve.{serve_app}
+use Rattle.host_words.proofs.Rows.{text_given, rows_given}
+use Rattle.host_words.proofs.ServeRows.{no_catalogue, no_numbers, all_said}
+use Rattle.host_words.proofs.serve.read_serve.Goals as goal
+
+pub returns-in_default-clause-refused : goal.returns-in_default-clause-refused
+returns-in_default-clause-refused c _ =
+    let found = found_of c.in_ok-matches.matches in
+    let words = words_texts c.args.words.now in
+    let are = rows_given _ serve_app words (Some (rows_of found)) c.in_ok-serve_command.ensures c.in_ok-matches.ensures.ok in
+    no_catalogue words (rows_of found) are
+    (text_given found (codes "catalogue") None (ap (option_map (λ s. s.now)) (sym c.in_default.is) ∙ c.get_str.ensures))
+
+pub returns-in_default-numbers_in-clause-refused : goal.returns-in_default-numbers_in-clause-refused
+returns-in_default-numbers_in-clause-refused c _ =
+    let found = found_of c.in_ok-matches.matches in
+    let words = words_texts c.args.words.now in
+    let are = rows_given _ serve_app words (Some (rows_of found)) c.in_ok-serve_command.ensures c.in_ok-matches.ensures.ok in
+    no_numbers words (rows_of found) are c.in-Some.catalogue.now
+    (text_given found (codes "catalogue") (Some c.in-Some.catalogue.now) (ap (option_map (λ s. s.now)) (sym c.in-Some.is) ∙ c.get_str.ensures))
+    (sym c.numbers_in.ensures.numbers ∙ c.in_default-numbers_in.is)
+
+pub returns-clause-ok : goal.returns-clause-ok
+returns-clause-ok c =
+    let found = found_of c.in_ok-matches.matches in
+    let words = words_texts c.args.words.now in
+    let are = rows_given _ serve_app words (Some (rows_of found)) c.in_ok-serve_command.ensures c.in_ok-matches.ensures.ok in
+    all_said words (rows_of found) are c.in-Some.catalogue.now c.in-Some-numbers_in.numbers
+    (text_given found (codes "catalogue") (Some c.in-Some.catalogue.now) (ap (option_map (λ s. s.now)) (sym c.in-Some.is) ∙ c.get_str.ensures))
+    (sym c.numbers_in.ensures.numbers ∙ c.in-Some-numbers_in.is)

@@ -1,0 +1,48 @@
+-- The words of `serve`.
+use Rattle.std.specs.Prelude.{ℕ, ◌≤◌, List, Option, codes, option_and_then, option_map}
+use Rattle.clap.specs.Words.{App, Row, Text, new_app, new_rule, with_rule, first_of}
+use Rattle.host_words.specs.declared.serve.Serving.{Serving}
+use Rattle.host_words.specs.Options.{option_rule, numbered, required, with_default, number_of, taken}
+
+-- `serve CATALOGUE --port N --workers N --connections N --sweep N`
+abbrev pub serve_app : App
+serve_app = with_rule (with_rule (with_rule (with_rule (with_rule (new_app (codes "serve"))
+    (required (new_rule (codes "catalogue"))))
+    (required (numbered 1 65535 (option_rule (codes "port")))))
+    (with_default (codes "4") (numbered 1 16 (option_rule (codes "workers")))))
+    (with_default (codes "4294967295") (numbered 1 4294967295 (option_rule (codes "connections")))))
+    (with_default (codes "30") (numbered 1 86400 (option_rule (codes "sweep"))))
+
+-- what the words say
+pub record ServeView : Type 0 where
+  pub catalogue : Text
+  pub numbers : Serving
+
+-- the numbers lie in their ranges
+pub record IsInRange (n : Serving) : Type 0 where
+  pub port : (1 ≤ n.port) × (n.port ≤ 65535)
+  pub workers : (1 ≤ n.workers) × (n.workers ≤ 16)
+  pub connections : 1 ≤ n.connections
+  pub sweep : (1 ≤ n.sweep) × (n.sweep ≤ 86400)
+
+abbrev pub numbers_of : List Row → Option Serving
+numbers_of rows =
+    option_and_then (λ port.
+    option_and_then (λ workers.
+    option_and_then (λ connections.
+    option_map (λ sweep. record { port = port; workers = workers; connections = connections; sweep = sweep })
+    (number_of 1 86400 (codes "sweep") rows))
+    (number_of 1 4294967295 (codes "connections") rows))
+    (number_of 1 16 (codes "workers") rows))
+    (number_of 1 65535 (codes "port") rows)
+
+abbrev pub serve_of : List Row → Option ServeView
+serve_of rows =
+    option_and_then (λ catalogue.
+    option_map (λ numbers. record { catalogue = catalogue; numbers = numbers })
+    (numbers_of rows))
+    (first_of (codes "catalogue") rows)
+
+-- what the words say, and nothing where they are refused: by `clap`, or by a number out of its range
+abbrev pub serve_words : List Text → Option ServeView
+serve_words words = option_and_then serve_of (taken serve_app words)
