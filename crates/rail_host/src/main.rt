@@ -16,6 +16,7 @@ mod replay;
 mod reply;
 mod responder;
 mod run;
+mod serve;
 mod tiny;
 mod tiny_host;
 mod wish;
@@ -50,6 +51,9 @@ fn main(rt: HostRuntime) -> ExitCode {
     let mut output = WriterSink::new(rt.stdout());
     let mut notes = WriterSink::new(rt.stderr());
     let status = match given_words(&rt) {
+        Ok(words) if host_serve::is_for_serve(&words) => {
+            serve::serve_port(&rt, alloc, &words, &mut shelf, &mut notes)
+        }
         Ok(words) => host::run_plain(
             alloc,
             &words,

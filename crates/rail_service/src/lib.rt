@@ -10,9 +10,11 @@ mod resource;
 mod routing;
 mod service;
 mod trading;
+mod waiting;
 
 pub use connection::serve_connection;
 pub use performing::perform;
+pub use waiting::{Finished, serve_waiting};
 
 #[cfg(test)]
 mod tests;

@@ -1,0 +1,169 @@
+-- Crews that gain and lose a member.
+use Rattle.std.proofs.Common.{◌≡◌, ◌∙◌, ◌<◌, ◌≤◌, ◌+◌, ◌-◌, ◌⊎◌, ℕ, zero, suc, List, [], ◌∷◌, ◌++◌, length, take, drop, slice_index_or, refl, sym, ap, subst, inl, inr, arith, append-nil, append_assoc}
+use Rattle.std.proofs.Math.Logic.{⊎_elim}
+use Rattle.std.proofs.lemmas.Bool.{cases_lt}
+use Rattle.std.proofs.lemmas.List.{drop_all, get_or_append_left, length-append, take_all}
+use Rattle.std.proofs.Math.Seq.{get_or-append_seam}
+use Rattle.std.specs.List.{All}
+use Rattle.std.proofs.lemmas.List.Elements.{All-from_get_or}
+use mathlib.Core.List.{IsPrefix}
+use Rattle.history_model.specs.History.{own}
+use Rattle.claim_rule.specs.Rule.{BooksView, DeskView, In, Each, IsWhole}
+use Rattle.history_model.specs.declared.entry.Step.TheVariants.{Met}
+use Rattle.claim_rule.specs.Seats.{IsOf, IsNew, HasMet, Stepped}
+use Rattle.claim_rule.specs.Out.{IsTidy}
+use Rattle.claim_rule.proofs.Views.{each_in}
+use Rattle.worker_pool.specs.Turns.{KeepsDesk, EachMember}
+use Rattle.worker_pool.specs.declared.member.Member.{Member}
+use Rattle.host_serve.specs.Crews.{IsFirst, IsDesk, IsMember, IsCrew, HasIn, HasMetAll}
+
+in_left : (j : ℕ) (a b : List ℕ) → In j a → In j (a ++ b)
+in_left j [] b i = elim i [ ]
+in_left j (k ∷ ks) b (inl e) = inl e
+in_left j (k ∷ ks) b (inr i) = inr (in_left j ks b i)
+
+in_right : (j : ℕ) (a b : List ℕ) → In j b → In j (a ++ b)
+in_right j [] b i = i
+in_right j (k ∷ ks) b i = inr (in_right j ks b i)
+
+module _ {W : Type 0} (Fits : W → BooksView → Type 0) (books : BooksView) where
+  -- one member more
+  pub joined : (crew : List (Member W)) (m : Member W) → IsCrew Fits books crew → IsMember Fits books (length crew + 1) m → IsCrew Fits books (crew ++ m ∷ [])
+  joined crew m is new i none lt = ⊎_elim
+      (λ (here : i < length crew). subst (λ (n : Member W). IsMember Fits books (i + 1) n) (sym (get_or_append_left crew (m ∷ []) none i here)) (is i none here))
+      (λ (past : length crew ≤ i).
+          let count : length (crew ++ m ∷ []) ≡ length crew + 1 = length-append crew (m ∷ []) in
+          let at : length crew ≡ i = omega (arith, lt, past, count) in
+          subst (λ (k : ℕ). IsMember Fits books (k + 1) (slice_index_or (crew ++ m ∷ []) k none)) at
+          (subst (λ (n : Member W). IsMember Fits books (length crew + 1) n) (sym (get_or-append_seam crew m [] none)) new))
+      (cases_lt i (length crew))
+
+  -- what holds of each member holds of all
+  pub all_of : (P : Member W → Type 0) (crew : List (Member W)) → ((i : ℕ) (none : Member W) → i < length crew → P (slice_index_or crew i none)) → All P crew
+  all_of P [] each = search
+  all_of P (m ∷ crew) each = All-from_get_or P (m ∷ crew) m (λ i lt. each i m lt)
+
+  -- the members before a last one, and it
+  pub last_of : (all crew : List (Member W)) (m : Member W) → IsCrew Fits books all → IsPrefix (crew ++ m ∷ []) all → IsMember Fits books (length crew + 1) m × (length crew < length all)
+  last_of all crew m is front =
+      let whole : all ≡ crew ++ m ∷ front.0 = sym front.1 ∙ append_assoc crew (m ∷ []) front.0 in
+      let count : length all ≡ length crew + length (m ∷ front.0) = ap length whole ∙ length-append crew (m ∷ front.0) in
+      let lt : length crew < length all = omega (arith, count) in
+      (
+        subst (λ (n : Member W). IsMember Fits books (length crew + 1) n)
+            (ap (λ (l : List (Member W)). slice_index_or l (length crew) m) whole ∙ get_or-append_seam crew m front.0 m) (is (length crew) m lt),
+        lt,
+      )
+
+  -- it stands there
+  pub stands : (all crew : List (Member W)) (m none : Member W) → IsPrefix (crew ++ m ∷ []) all → slice_index_or all (length crew) none ≡ m
+  stands all crew m none front =
+      let whole : all ≡ crew ++ m ∷ front.0 = sym front.1 ∙ append_assoc crew (m ∷ []) front.0 in
+      ap (λ (l : List (Member W)). slice_index_or l (length crew) none) whole ∙ get_or-append_seam crew m front.0 none
+
+  pub front_of : (all crew : List (Member W)) (m : Member W) → IsPrefix (crew ++ m ∷ []) all → IsPrefix crew all
+  front_of all crew m front = (m ∷ front.0, sym (append_assoc crew (m ∷ []) front.0) ∙ front.1)
+
+-- no desk was taken in yet
+pub none_met : {W : Type 0} (books : BooksView) (crew : List (Member W)) (desk : DeskView) → IsFirst books (length crew) desk → HasMetAll books crew (length crew) desk
+none_met books crew desk first = record {
+  own = first.own;
+  tidy = first.tidy;
+  number = first.number;
+  made = first.made;
+  met = λ i none low high. absurd (omega (arith, low, high));
+}
+
+-- one desk more is taken in
+pub met_one : {W : Type 0} (Fits : W → BooksView → Type 0) (books : BooksView) (all crew : List (Member W)) (m : Member W) (old new : DeskView)
+    → IsPrefix (crew ++ m ∷ []) all → IsMember Fits books (length crew + 1) m → HasMetAll books all (length crew + 1) old
+    → HasMet old m.desk new → IsOf books new → IsTidy new → HasMetAll books all (length crew) new
+met_one {W} Fits books all crew m old new front is before met of tidy = record {
+  own = of;
+  tidy = tidy;
+  number = met.same.2 ∙ before.number;
+  made = met.same.3 ∙ before.made;
+  met = λ i none low high. ⊎_elim
+      (λ (later : length crew < i).
+          let was = before.met i none (omega (arith, later)) high in (
+            subst (λ (ks : List ℕ). In (i + 1) ks) (sym met.taken) (in_left (i + 1) old.taken (m.desk.number ∷ m.desk.taken) was.0),
+            each_in (λ (j : ℕ). own new.seen j ≡ own old.seen j) old.taken (i + 1) met.before was.0 ∙ was.1,
+          ))
+      (λ (not_later : i ≤ length crew).
+          let at : length crew ≡ i = omega (arith, low, not_later) in
+          let number : i + 1 ≡ m.desk.number = sym (is.desk.number ∙ ap (λ (k : ℕ). k + 1) at) in
+          let member : slice_index_or all i none ≡ m = subst (λ (k : ℕ). slice_index_or all k none ≡ m) at (stands Fits books all crew m none front) in (
+            subst (λ (ks : List ℕ). In (i + 1) ks) (sym met.taken) (in_right (i + 1) old.taken (m.desk.number ∷ m.desk.taken) (inl number)),
+            subst (λ (n : Member W). own new.seen (i + 1) ≡ own n.desk.seen (i + 1)) (sym member)
+                (subst (λ (k : ℕ). own new.seen k ≡ own m.desk.seen k) (sym number) met.theirs.0),
+          ))
+      (cases_lt (length crew) i);
+}
+
+-- a desk more was parted
+pub parted_first : (books : BooksView) (n : ℕ) (old new : DeskView) → IsFirst books n old → IsOf books new → Stepped Met old (record new { made = old.made })
+    → new.made ≡ old.made + 1 → IsTidy new → IsFirst books (n + 1) new
+parted_first books n old new first of met made tidy = record {
+  own = of;
+  tidy = tidy;
+  number = met.same.2 ∙ first.number;
+  made = made ∙ ap (λ (k : ℕ). k + 1) first.made;
+  taken = met.same.3 ∙ first.taken;
+}
+
+pub parted_desk : (books : BooksView) (n : ℕ) (old new desk : DeskView) → IsFirst books n old → new.made ≡ old.made + 1 → IsNew desk new.made new.seen
+    → IsOf books desk → IsTidy desk → IsDesk books (n + 1) desk
+parted_desk books n old new desk first made is of tidy = record {
+  own = of;
+  tidy = tidy;
+  number = is.number ∙ (made ∙ ap (λ (k : ℕ). k + 1) first.made);
+  taken = is.taken;
+}
+
+-- the members of a crew that has run stand at their desks
+pub after_run : {W : Type 0} (Fits : W → BooksView → Type 0) (books : BooksView) (old crew : List (Member W)) → IsCrew Fits books old → length crew ≡ length old
+    → EachMember (λ _ m. Fits m.worker books) old crew → EachMember (λ _ m. IsOf books m.desk) old crew → EachMember (λ _ m. IsTidy m.desk) old crew
+    → EachMember (λ m n. KeepsDesk m.desk n.desk) old crew → IsCrew Fits books crew
+after_run Fits books old crew is count fits of tidy keeps i none lt =
+    let low : i < length old = omega (arith, lt, count) in
+    let was = is i none low in
+    let kept = keeps i none low in
+    record {
+      fits = fits i none low;
+      desk = record {
+        own = of i none low;
+        tidy = tidy i none low;
+        number = kept.number ∙ was.desk.number;
+        taken = kept.taken ∙ was.desk.taken;
+      };
+    }
+
+-- The first desk has taken in all others once it has met the first member's
+pub complete : {W : Type 0} (books : BooksView) (crew : List (Member W)) (none : Member W) (first other new : DeskView) → HasMetAll books crew 1 first
+    → HasMet first other new → other.number ≡ 1 → IsWhole new.number new.made new.taken × (new.made ≡ length crew)
+complete {W} books crew none first other new all met number =
+    let made : new.made ≡ length crew = met.same.3 ∙ all.made in (
+      (
+        met.same.2 ∙ all.number,
+        λ j low high. subst (λ (ks : List ℕ). In j ks) (sym met.taken) (⊎_elim
+            (λ (later : 1 < j).
+                let at : j - 1 + 1 ≡ j = omega (arith, later) in
+                in_left j first.taken (other.number ∷ other.taken)
+                (subst (λ (k : ℕ). In k first.taken) at (all.met (j - 1) none (omega (arith, later)) (omega (arith, later, high, made))).0))
+            (λ (one : j ≤ 1).
+                let at : j ≡ 1 = omega (arith, one, low) in
+                in_right j first.taken (other.number ∷ other.taken) (inl (at ∙ sym number)))
+            (cases_lt 1 j)),
+      ),
+      made,
+    )
+
+-- what is so of the members of a crew that is the same
+pub since : {W : Type 0} (so : Member W → Member W → Type 0) (was old crew : List (Member W)) → was ≡ old → EachMember so was crew → EachMember so old crew
+since so was old crew same each = subst (λ l. EachMember so l crew) same each
+
+-- a list that is written over another of its length stands alone
+pub all_written : {A : Type 0} (n : ℕ) (old new : List A) → length new ≡ n → length new ≡ length old → take n (new ++ drop (length new) old) ≡ new
+all_written n old new len same =
+    let none : drop (length new) old ≡ [] = drop_all (length new) old (omega (arith, same)) in
+    ap (λ l. take n (new ++ l)) none ∙ (ap (take n) (append-nil new) ∙ take_all n new (omega (arith, len)))

@@ -1,0 +1,4 @@
+pub mod Crewing
+pub mod Leaving
+pub mod Closing
+pub mod Ending

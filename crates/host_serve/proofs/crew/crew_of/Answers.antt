@@ -1,0 +1,51 @@
+use Rattle.std.proofs.Common.{◌≡◌, ◌∙◌, ◌+◌, ◌++◌, ◌∷◌, [], ℕ, List, length, sym, subst, ap, arith, rules}
+use Rattle.std.proofs.lemmas.List.{length-append}
+use Rattle.host_serve.specs.Crews.{IsCrew, IsFirst, IsMember}
+use Rattle.host_serve.specs.Turns.{FitsBooks}
+use Rattle.host_serve.proofs.Crewing.{joined, parted_first, parted_desk}
+use Rattle.host_serve.proofs.crew.crew_of.Goals as goal
+
+pub loop-number-preserved : goal.loop-number-preserved
+loop-number-preserved g c =
+    let books = c.args.books.now in
+    let inv = c.loop-number.invariant in
+    let crew = c.loop-number.crew.items in
+    let items = c.in_ok-push.ensures.items in
+    let part = c.part.ensures in
+    let n = length crew in
+    let many : length c.push.new.self.items ≡ n + 1 = ap length items ∙ length-append crew _ in
+    let whole : c.loop-number.clocks.items ≡ c.pop.new.self.items ++ c.unwrap.result ∷ [] = search rules in
+    let popped : length c.loop-number.clocks.items ≡ length c.pop.new.self.items + 1 = ap length whole ∙ length-append c.pop.new.self.items _ in
+    record {
+      first = subst (λ (k : ℕ). IsFirst books k c.part.new.desk) (sym many)
+          (parted_first books n c.loop-number.first c.part.new.desk inv.first part.own.0 part.met part.made (part.still.1 inv.first.tidy));
+      crew = subst (λ l. IsCrew FitsBooks books l) (sym items)
+          (joined FitsBooks books crew _ inv.crew (record {
+            fits = c.requires.has;
+            desk = parted_desk books n c.loop-number.first c.part.new.desk c.part.result inv.first part.made part.new.0 part.own.1 part.tidy;
+          }));
+      count = omega (arith, many, inv.count);
+      clocks = omega (arith, inv.clocks, popped, c.loop-number-test.true);
+    }
+
+pub returns-clause-first : goal.returns-clause-first
+returns-clause-first g c =
+    let books = c.args.books.now in
+    let inv = c.loop-number.invariant in
+    let crew = c.loop-number.crew.items in
+    let part = c.part-2.ensures in
+    let many : length c.push-2.new.self.items ≡ length crew + 1 = ap length c.in_ok-push-2.ensures.items ∙ length-append crew _ in
+    subst (λ (k : ℕ). IsFirst books k c.part-2.new.desk) (sym many)
+    (parted_first books (length crew) c.loop-number.first c.part-2.new.desk inv.first part.own.0 part.met part.made (part.still.1 inv.first.tidy))
+
+pub returns-clause-crew : goal.returns-clause-crew
+returns-clause-crew g c =
+    let books = c.args.books.now in
+    let inv = c.loop-number.invariant in
+    let crew = c.loop-number.crew.items in
+    let part = c.part-2.ensures in
+    subst (λ l. IsCrew FitsBooks books l) (sym c.in_ok-push-2.ensures.items)
+    (joined FitsBooks books crew _ inv.crew (record {
+      fits = tt {0};
+      desk = parted_desk books (length crew) c.loop-number.first c.part-2.new.desk c.part-2.result inv.first part.made part.new.0 part.own.1 part.tidy;
+    }))

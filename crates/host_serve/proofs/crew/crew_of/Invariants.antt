@@ -1,0 +1,12 @@
+use Rattle.std.proofs.Common.{◌≡◌, ◌≤◌, ◌+◌, length}
+use Rattle.host_serve.specs.Crews.{IsCrew, IsFirst}
+use Rattle.host_serve.specs.Turns.{FitsBooks}
+use Rattle.host_serve.proofs.crew.crew_of.Given as goal
+
+abbrev pub invariant-loop-number : goal.invariant-loop-number
+invariant-loop-number g l = record {
+  first : IsFirst l.books (length l.crew.items) l.first;
+  crew : IsCrew FitsBooks l.books l.crew.items;
+  count : length l.crew.items ≡ l._number;
+  clocks : l.said.workers + 1 ≤ l._number + length l.clocks.items;
+}

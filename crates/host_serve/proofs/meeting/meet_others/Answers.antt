@@ -1,0 +1,24 @@
+use Rattle.std.proofs.Common.{◌≡◌, ◌+◌, ◌++◌, ◌∷◌, [], List, length, sym, subst, ap, ◌∙◌, arith, rules}
+use mathlib.Core.List.{IsPrefix}
+use Rattle.std.proofs.lemmas.List.{length-append}
+use Rattle.worker_pool.specs.declared.member.Member.{Member}
+use Rattle.host_serve.specs.Crews.{HasMetAll}
+use Rattle.host_serve.proofs.Crewing.{front_of, last_of, met_one}
+use Rattle.host_serve.proofs.meeting.meet_others.Goals as goal
+
+pub loop-crew-preserved : goal.loop-crew-preserved
+loop-crew-preserved g c =
+    let all = c.args.crew.items in
+    let crew = c.pop.new.self.items in
+    let m = c.unwrap-member.result in
+    let inv = c.loop-crew.invariant in
+    let whole : c.loop-crew.crew.items ≡ crew ++ m ∷ [] = search rules in
+    let front : IsPrefix (crew ++ m ∷ []) all = subst (λ (l : List (Member g.row.W.Denot)). IsPrefix l all) whole inv.front in
+    let last = last_of g.W.Worker.fits c.args.books.now all crew m c.requires.crew front in
+    let count : length c.loop-crew.crew.items ≡ length crew + 1 = ap length whole ∙ length-append crew (m ∷ []) in
+    let met = subst (λ n. HasMetAll c.args.books.now all n c.loop-crew.first) count inv.met in
+    record {
+      some = omega (arith, count, c.loop-crew-test.true);
+      front = front_of g.W.Worker.fits c.args.books.now all crew m front;
+      met = met_one g.W.Worker.fits c.args.books.now all crew m c.loop-crew.first c.meet.new.desk front last.0 met c.meet.ensures.met c.meet.ensures.own (c.meet.ensures.tidy inv.met.tidy);
+    }

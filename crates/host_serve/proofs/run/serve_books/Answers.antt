@@ -1,0 +1,39 @@
+use Rattle.std.proofs.Common.{◌≡◌, ◌∙◌, ◌+◌, ◌<◌, ℕ, Option, Some, sym, subst, ap}
+use Rattle.rail_io.specs.Faults.{Rose}
+use Rattle.host_serve.specs.declared.end.ServeOutcome.{ServeOutcome}
+use Rattle.host_serve.specs.Serve.{IsServedWall, BooksEnd}
+use Rattle.host_serve.proofs.Crewing.{complete}
+use Rattle.host_serve.proofs.Closing.{served_wall}
+use Rattle.host_serve.proofs.run.serve_books.Goals as goal
+use Rattle.host_serve.proofs.run.serve_books.Goals.{then-all, else-all}
+
+pub returns : goal.returns
+returns g c =
+    let said = c.args.said in
+    let run = c.run_crew-desk.ensures.run in
+    let left = c.serve_left-all.ensures in
+    let whole = complete c.args.books run.crew c.run_crew-desk.result c.run_crew-desk.new.first c.serve_left-all.new.desk c.meet.new.desk run.met c.meet.ensures.met
+    (left.keeps.number ∙ run.is.desk.number) in
+    let wall = served_wall c.args.cat.now said c.args.books c.meet.new.desk c.finish.result c.requires.has c.requires.opening c.finish.ensures.layout c.finish.ensures.history
+    whole.0 (whole.1 ∙ (run.count ∙ c.in-Ok.ensures.count)) in
+    let view = g.L.Listener.told c.serve_left-all.new.listener in
+    let faults = g.L.Listener.faults c.serve_left-all.new.listener in
+    record {
+      ends = elim c.if-all.branch [
+        then-all w ↦ subst (λ (o : ServeOutcome). BooksEnd c.args.cat.now said (g.L.Listener.faults c.args.listener) faults view (Some c.finish.result) o) (sym w.result-is)
+            (
+              left.spent w.if-all.true
+                  ∙ (ap (λ (n : ℕ). record { port = n; limit = g.N.Named.limit; handed = g.N.Named.limit }) c.requires.port
+                  ∙ ap (λ (n : ℕ). record { port = said.port; limit = n; handed = n }) c.requires.limit),
+              wall,
+            )
+        | else-all w ↦ subst (λ (o : ServeOutcome). BooksEnd c.args.cat.now said (g.L.Listener.faults c.args.listener) faults view (Some c.finish.result) o) (sym w.result-is)
+            (
+              record {
+                rose = subst (λ (n : ℕ). Rose n faults) c.requires.faults (left.failed w.if-all.false).0;
+                fewer = subst (λ (n : ℕ). view.handed < n) c.requires.limit (left.failed w.if-all.false).1;
+              },
+              wall,
+            )
+      ];
+    }

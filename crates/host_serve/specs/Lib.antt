@@ -1,0 +1,4 @@
+pub mod Turns
+pub mod Crews
+pub mod Ends
+pub mod Serve

@@ -1,0 +1,104 @@
+-- What `serve` promises.
+use Rattle.std.specs.Prelude.{◌≡◌, ◌⊎◌, ◌<◌, ◌+◌, ℕ, List, [], Option, Some, None, IsSomeAnd, IfSome, Ok, Err, slice_get, codes}
+use Rattle.rail_io.specs.Faults.{Rose}
+use Rattle.history_model.specs.History.{IsLegal, state_of}
+use Rattle.history_model.specs.Words.{AreWordsOf}
+use Rattle.claim_rule.specs.Rule.{DeskView, IsWhole}
+use Rattle.claim_rule.specs.Walls.{WallView}
+use Rattle.rail_catalogue.specs.Contents.{CatalogueView, legs_in}
+use Rattle.host_io.specs.Listeners.{ListenerView}
+use Rattle.host_words.specs.Serve.{ServeView, serve_words}
+use Rattle.host_words.specs.declared.serve.Serving.{Serving}
+use Rattle.host_words.specs.declared.serve.ServeWords.{ServeWords}
+use Rattle.host_catalogue.specs.Loading.{Files, Loads}
+use Rattle.host_catalogue.specs.declared.load.LoadFault.TheVariants as load
+use Rattle.host_serve.specs.declared.end.ServeOutcome.{ServeOutcome}
+use Rattle.host_serve.specs.declared.end.ServeOutcome.TheVariants as end
+
+-- the command is `serve`
+abbrev pub IsForServe : List (List ℕ) → Type 0
+IsForServe words = slice_get words 0 ≡ Some (codes "serve")
+
+-- the words are those of `serve`, and say this
+pub record IsServe (words : List (List ℕ)) (said : ServeView) : Type 0 where
+  pub command : IsForServe words
+  pub is : serve_words words ≡ Some said
+
+-- not the words of `serve`
+abbrev pub IsNoServe : List (List ℕ) → Type 0
+IsNoServe words = (said : ServeView) → IsServe words said → ⊥
+
+-- what the words say
+abbrev pub said_in : ServeWords → ServeView
+said_in words = record { catalogue = words.catalogue.now; numbers = words.numbers }
+
+-- The wall's words are those of its history, which is legal, of the catalogue's places and rows, and what a first desk has seen that took in
+-- the desk of each member: so no entry is left out.
+pub record IsServedWall (cat : CatalogueView) (said : Serving) (wall : WallView) : Type 0 where
+  pub layout : wall.layout ≡ record { legs = legs_in cat; rows = cat.rows; opening = [] }
+  pub legal : IsLegal wall.layout wall.history
+  pub words : AreWordsOf wall.layout (state_of wall.layout wall.history) wall.words
+  pub desk : DeskView
+  pub seen : wall.history ≡ desk.seen
+  pub complete : IsWhole desk.number desk.made desk.taken
+  pub members : desk.made ≡ said.workers + 1
+
+-- what was served, of the catalogue of the words' file
+pub record HasWall (files : Files) (said : ServeView) (wall : Option WallView) : Type 0 where
+  pub cat : CatalogueView
+  pub loads : Loads files said.catalogue (Ok cat)
+  pub closed : IsSomeAnd wall (IsServedWall cat said.numbers)
+
+-- the listener listens at the port, and has handed out as many streams as its limit, which is the words'
+abbrev pub IsSpent : Serving → ListenerView → Type 0
+IsSpent said view = view ≡ record { port = said.port; limit = said.connections; handed = said.connections }
+
+-- the listener failed, before it had handed out as many
+pub record HasFailed (said : Serving) (faults_before faults_after : ℕ) (view : ListenerView) : Type 0 where
+  pub rose : Rose faults_before faults_after
+  pub fewer : view.handed < said.connections
+
+-- what the listener told and how often it had failed, before and after, and the wall
+pub record Left : Type 0 where
+  pub faults_before : ℕ
+  pub before : ListenerView
+  pub faults_after : ℕ
+  pub after : ListenerView
+  pub wall : Option WallView
+
+-- what the words ask for ended so
+abbrev pub Ends : Files → ServeView → Left → ServeOutcome → Type 0
+Ends files said left end.Served = IsSpent said.numbers left.after × HasWall files said left.wall
+Ends files said left end.ListenerFailed =
+    HasFailed said.numbers left.faults_before left.faults_after left.after × ((left.wall ≡ None) ⊎ HasWall files said left.wall)
+Ends files said left (end.NoCatalogue fault) = Loads files said.catalogue (Err fault) × (left.after ≡ left.before) × (left.wall ≡ None)
+Ends files said left end.NoMemory = left.wall ≡ None
+Ends files said left end.Refused = ⊥
+
+-- the books were served and closed so, from a count of faults of the listener to one with what it then told
+abbrev pub BooksEnd : CatalogueView → Serving → ℕ → ℕ → ListenerView → Option WallView → ServeOutcome → Type 0
+BooksEnd cat said before after view wall end.Served = IsSpent said view × IsSomeAnd wall (IsServedWall cat said)
+BooksEnd cat said before after view wall end.ListenerFailed = HasFailed said before after view × IsSomeAnd wall (IsServedWall cat said)
+BooksEnd cat said before after view wall end.NoMemory = wall ≡ None
+BooksEnd cat said before after view wall (end.NoCatalogue fault) = ⊥
+BooksEnd cat said before after view wall end.Refused = ⊥
+
+-- The command ran so. Words that are refused leave all as it was.
+abbrev pub Runs : List (List ℕ) → Files → Left → ServeOutcome → Type 0
+Runs words files left end.Refused = IsNoServe words × (left.after ≡ left.before) × (left.wall ≡ None)
+Runs words files left end.NoMemory = left.wall ≡ None
+Runs words files left end.Served = (said : ServeView) × IsServe words said × Ends files said left end.Served
+Runs words files left end.ListenerFailed = (said : ServeView) × IsServe words said × Ends files said left end.ListenerFailed
+Runs words files left (end.NoCatalogue fault) = (said : ServeView) × IsServe words said × Ends files said left (end.NoCatalogue fault)
+
+-- where the shelf gave no file, it failed or missed in this call
+abbrev pub HasCause : ServeOutcome → ℕ → ℕ → ℕ → ℕ → Type 0
+HasCause (end.NoCatalogue load.Failed) failed fails missed misses = Rose failed fails
+HasCause (end.NoCatalogue load.Missing) failed fails missed misses = Rose missed misses
+HasCause (end.NoCatalogue load.TooLarge) failed fails missed misses = Rose missed misses
+HasCause (end.NoCatalogue (load.Refused fault)) failed fails missed misses = Unit {0}
+HasCause (end.NoCatalogue load.NoMemory) failed fails missed misses = Unit {0}
+HasCause end.Served failed fails missed misses = Unit {0}
+HasCause end.ListenerFailed failed fails missed misses = Unit {0}
+HasCause end.NoMemory failed fails missed misses = Unit {0}
+HasCause end.Refused failed fails missed misses = Unit {0}

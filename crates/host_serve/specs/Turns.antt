@@ -1,0 +1,77 @@
+-- What the turns of members do.
+use Rattle.std.specs.Prelude.{◌≡◌, ◌⊎◌, ℕ, ◌+◌, zero, suc, Bool, true, false, List, Option, None}
+use Rattle.rail_ids.specs.declared.RetailerNo.{RetailerNo}
+use Rattle.rail_io.specs.Told.{with_front, with_end}
+use Rattle.session_loop.specs.declared.end.ConnEnd.{ConnEnd}
+use Rattle.claim_rule.specs.Rule.{BooksView, DeskView}
+use Rattle.claim_rule.specs.Calls.{ShapeBy}
+use Rattle.rail_catalogue.specs.Contents.{CatalogueView, legs_in}
+use Rattle.expiry_sweeper.specs.AllRows.{Sweeps}
+use Rattle.expiry_sweeper.specs.declared.sweeps.Swept.{Swept}
+use Rattle.rail_service.specs.Connections.{IsReading, HasServed}
+use Rattle.host_serve.specs.declared.member.Post.{Post}
+use Rattle.host_serve.specs.declared.member.Post.TheVariants.{Serving, Sweeping}
+
+-- the readings of a clock to come, where it tells them
+abbrev pub Readings : Type 0
+Readings = Option (ℕ → ℕ)
+
+-- the books have the catalogue's places and rows
+pub record HasCatalogue (books : BooksView) (cat : CatalogueView) : Type 0 where
+  pub legs : books.layout.legs ≡ legs_in cat
+  pub rows : books.layout.rows ≡ cat.rows
+
+-- One connection was served, from the bytes that its stream told to those that were written, by the desk's own entries.
+pub record ServesOne (cat : CatalogueView) (clock : Readings) (old : DeskView) (later : Readings) (new : DeskView) : Type 0 where
+  pub stream : Option (List ℕ)
+  pub left : Option (List ℕ)
+  pub taken : List ℕ
+  pub takes : stream ≡ with_front taken left
+  pub written : List ℕ
+  pub first : Option RetailerNo
+  pub end : ConnEnd
+  pub served : HasServed cat (record { desk = old; first = None; clock = clock }) (record { desk = new; first = first; clock = later }) taken left written end
+
+-- All rows were swept once, at the clock's next reading.
+pub record SweepsOnce (clock : Readings) (old : DeskView) (later : Readings) (new : DeskView) : Type 0 where
+  pub moment : ℕ
+  pub reading : IsReading clock moment later
+  pub swept : Swept
+  pub entries : ShapeBy (Sweeps old.layout.rows moment swept) old new
+
+-- nothing was done
+pub record Rests (clock : Readings) (old : DeskView) (later : Readings) (new : DeskView) : Type 0 where
+  pub same : new ≡ old
+  pub unread : later ≡ clock
+
+-- a serving member's turn: one connection, or nothing, where it has then ended
+abbrev pub ServesTurn : CatalogueView → Readings → DeskView → Readings → DeskView → Bool → Type 0
+ServesTurn cat clock old later new true = Rests clock old later new
+ServesTurn cat clock old later new false = ServesOne cat clock old later new
+
+-- a sweeping member's turn: one sweep, or nothing, where it has then ended
+abbrev pub SweepsTurn : Readings → DeskView → Readings → DeskView → Bool → Type 0
+SweepsTurn clock old later new true = Rests clock old later new
+SweepsTurn clock old later new false = SweepsOnce clock old later new
+
+module _ {S T C : Type 0} where
+  -- a serving member's books have its catalogue
+  abbrev pub FitsBooks : Post S T C → BooksView → Type 0
+  FitsBooks (Serving w) books = HasCatalogue books w.common.cat.now
+  FitsBooks (Sweeping w) books = Unit {0}
+
+  abbrev pub HasEnded : Post S T C → Type 0
+  HasEnded (Serving w) = w.ended ≡ true
+  HasEnded (Sweeping w) = w.ended ≡ true
+
+  abbrev pub clock_of : Post S T C → C
+  clock_of (Serving w) = w.clock
+  clock_of (Sweeping w) = w.clock
+
+  -- a member stays at its post, a serving one with its catalogue
+  abbrev pub DoesTurn : (C → Readings) → Post S T C → DeskView → Post S T C → DeskView → Type 0
+  DoesTurn told (Serving w) old (Serving v) new =
+      (v.common.cat.now ≡ w.common.cat.now) × ServesTurn w.common.cat.now (told w.clock) old (told v.clock) new v.ended
+  DoesTurn told (Sweeping w) old (Sweeping v) new = SweepsTurn (told w.clock) old (told v.clock) new v.ended
+  DoesTurn told (Serving w) old (Sweeping v) new = ⊥
+  DoesTurn told (Sweeping w) old (Serving v) new = ⊥

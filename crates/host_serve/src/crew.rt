@@ -1,0 +1,67 @@
+// The members and their desks.
+ghost use Rattle.std.specs.Prelude.{◌≡◌, ◌≤◌, ◌+◌, [], length, IfOk};
+ghost use Rattle.claim_rule.specs.Seats.{IsOf};
+ghost use Rattle.claim_rule.specs.Out.{IsTidy};
+ghost use Rattle.host_serve.specs.Crews.{IsCrew, IsFirst};
+ghost use Rattle.host_serve.specs.Turns.{FitsBooks, HasCatalogue};
+
+use crate::member::{Common, Post};
+use crate::serving::Server;
+use crate::streams::LockedStreams;
+use crate::sweeping::Sweeper;
+use claim_rule::{Books, Desk};
+use host_io::{Listener, Named, SharedListener, Ticker};
+use host_words::Serving;
+use rail_io::Clock;
+use std::alloc::AllocError;
+use std::sync::{Mutex, Wait};
+use worker_pool::Member;
+
+/// The members at the streams of a shared listener.
+pub type Crew<'s, R, L, N, T, C> = Vec<Member<Post<'s, LockedStreams<'s, R, L, N>, T, C>>>;
+
+/// As many serving members as the words say, and a sweeping one behind them, each at a desk that was parted from the first and with a
+/// clock of its own.
+pub fn crew_of<'s, R: Wait, L: Listener + Drop, N: Named, T: Ticker + Drop, C: Clock + Drop>(
+    rt: &'s R,
+    shared: &'s Mutex<SharedListener<L, N>>,
+    common: Common<'s>,
+    books: &Books,
+    first: &mut Desk,
+    said: Serving,
+    ticker: T,
+    mut clocks: Vec<C>,
+) -> Result<Crew<'s, R, L, N, T, C>, AllocError>
+    requires has { HasCatalogue books.now common.cat.now }
+    requires first { IsFirst books.now 0 first.old }
+    requires clocks { said.workers + 1 ≤ length clocks.items }
+    ensures first { IfOk result (λ crew. IsFirst books.now (length crew.items) first.new) }
+    ensures crew { IfOk result (λ crew. IsCrew FitsBooks books.now crew.items) }
+    ensures count { IfOk result (λ crew. length crew.items ≡ said.workers + 1) }
+{
+    let mut crew = Vec::new(common.alloc);
+    for _number in 0..said.workers {
+        let worker = Post::Serving(Server {
+            streams: LockedStreams { rt, shared },
+            common,
+            clock: clocks.pop().unwrap(),
+            ended: false,
+        });
+        crew.push(Member {
+            desk: books.part(first),
+            worker,
+        })?;
+    }
+    let worker = Post::Sweeping(Sweeper {
+        ticker,
+        seconds: said.sweep,
+        closed: common.closed,
+        clock: clocks.pop().unwrap(),
+        ended: false,
+    });
+    crew.push(Member {
+        desk: books.part(first),
+        worker,
+    })?;
+    Ok(crew)
+}

@@ -1,0 +1,24 @@
+//! Many connections: members that take streams in turn from a listener behind a lock, and serve each at a desk of their own.
+//!
+//! A serving member's turn takes the next stream, for which alone the lock is held, and adds to its desk the entries of that one
+//! connection. One further member sweeps the rows at each tick. `run_serve` starts them, waits for them, takes in their desks and
+//! closes the books: the history of the wall that it hands back is what the first desk has seen, which has all entries there are.
+#![tactic(auto)]
+
+mod alone;
+mod crew;
+mod end;
+mod meeting;
+mod member;
+mod run;
+mod serving;
+mod streams;
+mod sweeping;
+
+pub use end::{ServeEnd, ServeOutcome};
+pub use member::{Common, Post};
+pub use run::{is_for_serve, run_serve};
+pub use serving::Server;
+pub use streams::Streams;
+pub use sweeping::Sweeper;
+

@@ -1,0 +1,57 @@
+// The member that serves.
+ghost use Rattle.std.specs.Prelude.{◌≡◌, ◌↔◌, true};
+ghost use Rattle.claim_rule.specs.Seats.{IsOf};
+ghost use Rattle.claim_rule.specs.Out.{IsTidy};
+ghost use Rattle.worker_pool.specs.Turns.{KeepsDesk};
+ghost use Rattle.worker_pool.specs.declared.worker.TurnEnd.TheVariants.{End};
+ghost use Rattle.host_serve.specs.Turns.{HasCatalogue, ServesTurn};
+
+use crate::member::Common;
+use crate::streams::Streams;
+use claim_rule::{Books, Desk};
+use rail_io::Clock;
+use rail_service::serve_waiting;
+use std::sync::atomic::Ordering;
+use worker_pool::TurnEnd;
+
+/// Serves the streams that it is handed out, one a turn, at its clock's moments.
+#[derive(Drop)]
+pub struct Server<'s, S, C> {
+    pub streams: S,
+    pub common: Common<'s>,
+    pub clock: C,
+    /// Whether no more streams were handed out.
+    pub ended: bool,
+}
+
+impl<S: Streams, C: Clock> Server<'_, S, C> {
+    /// Serves the next stream to its connection's end; or ends, and sets the mark, where there is none.
+    pub fn serve_next(&mut self, books: &Books, desk: &mut Desk) -> TurnEnd
+        requires has { HasCatalogue books.now self.old.common.cat.now }
+        requires own { IsOf books.now desk.old }
+        requires tidy { IsTidy desk.old }
+        ensures own { IsOf books.now desk.new }
+        ensures tidy { IsTidy desk.new }
+        ensures keeps { KeepsDesk desk.old desk.new }
+        ensures cat { self.new.common.cat.now ≡ self.old.common.cat.now }
+        ensures turn { ServesTurn self.old.common.cat.now (C.told self.old.clock) desk.old (C.told self.new.clock) desk.new self.new.ended }
+        ensures end { (result ≡ End) ↔ (self.new.ended ≡ true) }
+    {
+        let Some(waiting) = self.streams.next_stream() else {
+            self.common.closed.store(true, Ordering::SeqCst);
+            self.ended = true;
+            return TurnEnd::End;
+        };
+        let common = self.common;
+        let _finished = serve_waiting(
+            common.alloc,
+            common.cat,
+            books,
+            desk,
+            waiting,
+            &mut self.clock,
+        );
+        self.ended = false;
+        TurnEnd::Again
+    }
+}

@@ -1,0 +1,49 @@
+// The member that sweeps.
+ghost use Rattle.std.specs.Prelude.{◌≡◌, ◌↔◌, true};
+ghost use Rattle.claim_rule.specs.Seats.{IsOf};
+ghost use Rattle.claim_rule.specs.Out.{IsTidy};
+ghost use Rattle.worker_pool.specs.Turns.{KeepsDesk};
+ghost use Rattle.worker_pool.specs.declared.worker.TurnEnd.TheVariants.{End};
+ghost use Rattle.host_serve.specs.Turns.{SweepsTurn};
+
+use claim_rule::{Books, Desk};
+use expiry_sweeper::sweep;
+use host_io::Ticker;
+use rail_io::Clock;
+use std::sync::atomic::{AtomicBool, Ordering};
+use worker_pool::TurnEnd;
+
+/// Sweeps all rows at each tick, at its clock's moment, until the ticker ends or the mark is set.
+#[derive(Drop)]
+pub struct Sweeper<'s, T, C> {
+    pub ticker: T,
+    /// The seconds from one tick to the next.
+    pub seconds: u32,
+    /// The mark that serving members set.
+    pub closed: &'s AtomicBool,
+    pub clock: C,
+    /// Whether the ticker has ended, or the mark was seen.
+    pub ended: bool,
+}
+
+impl<T: Ticker, C: Clock> Sweeper<'_, T, C> {
+    /// Waits for the next tick and sweeps once; or ends.
+    pub fn sweep_next(&mut self, books: &Books, desk: &mut Desk) -> TurnEnd
+        requires own { IsOf books.now desk.old }
+        requires tidy { IsTidy desk.old }
+        ensures own { IsOf books.now desk.new }
+        ensures tidy { IsTidy desk.new }
+        ensures keeps { KeepsDesk desk.old desk.new }
+        ensures turn { SweepsTurn (C.told self.old.clock) desk.old (C.told self.new.clock) desk.new self.new.ended }
+        ensures end { (result ≡ End) ↔ (self.new.ended ≡ true) }
+    {
+        if !self.ticker.next_tick(self.seconds) || self.closed.load(Ordering::SeqCst) {
+            self.ended = true;
+            return TurnEnd::End;
+        }
+        let now = self.clock.now();
+        let _swept = sweep(books, desk, now);
+        self.ended = false;
+        TurnEnd::Again
+    }
+}

@@ -1,0 +1,75 @@
+//! A stream that was handed out, served whole.
+ghost use Rattle.std.specs.Prelude.{◌≡◌, ℕ, List, Option, None};
+ghost use Rattle.rail_ids.specs.declared.RetailerNo.{RetailerNo};
+ghost use Rattle.rail_io.specs.Faults.{Rose};
+ghost use Rattle.rail_io.specs.Told.{with_front, with_end};
+ghost use Rattle.session_loop.specs.declared.end.ConnEnd.TheVariants.{ReadFault, WriteFault};
+ghost use Rattle.rail_catalogue.specs.Contents.{legs_in};
+ghost use Rattle.claim_rule.specs.Seats.{IsOf};
+ghost use Rattle.claim_rule.specs.Out.{IsIdle, IsTidy};
+ghost use Rattle.plain_host.specs.PlainOf.{plain_of};
+ghost use Rattle.plain_host.specs.Plainly.{IsLone};
+ghost use Rattle.rail_service.specs.Connections.{HasServed};
+ghost use Rattle.rail_service.specs.OneThread.{IsOneThread};
+
+use crate::connection::serve_connection;
+use claim_rule::{Books, Desk};
+use host_io::Waiting;
+use rail_catalogue::Catalogue;
+use rail_io::{Clock, Sink, Source};
+use session_loop::ConnEnd;
+use std::alloc::Global;
+
+/// A stream whose connection has ended.
+#[derive(Drop)]
+pub struct Finished<I, O> {
+    /// How it ended.
+    pub end: ConnEnd,
+    /// Its source, behind what was taken of it.
+    pub input: I,
+    /// Its sink, with what was written.
+    pub output: O,
+}
+
+/// Serves the connection of a stream that was handed out, at a desk of the books, as `serve_connection` does over the stream's source and
+/// sink, and hands both back beside the connection's end. This call alone spends a waiting stream.
+pub fn serve_waiting<I: Source, O: Sink, C: Clock>(
+    alloc: Global,
+    cat: &Catalogue,
+    books: &Books,
+    desk: &mut Desk,
+    waiting: Waiting<I, O>,
+    clock: &mut C,
+) -> Finished<I, O>
+    requires own { IsOf books.now desk.old }
+    requires legs { books.now.layout.legs ≡ legs_in cat.now }
+    requires rows { books.now.layout.rows ≡ cat.now.rows }
+    requires idle { IsIdle desk.old }
+    ensures own { IsOf books.now desk.new }
+    ensures idle { IsIdle desk.new }
+    ensures tidy { IsTidy desk.old → IsTidy desk.new }
+
+    // The bytes written are the defined replies to the requests of the bytes taken, whatever other desks do.
+    ensures served { (taken written : List ℕ) × (first : Option RetailerNo)
+        × (I.told waiting.input ≡ with_front taken (I.told result.input))
+        × (O.told result.output ≡ with_end (O.told waiting.output) written)
+        × HasServed cat.now (record { desk = desk.old; first = None; clock = C.told clock.old })
+        (record { desk = desk.new; first = first; clock = C.told clock.new }) taken (I.told result.input) written result.end }
+
+    // At a desk that is alone they are those of a host of one thread, which begins with the desk's bookings.
+    ensures one_thread { IsLone cat.now desk.old → (taken written : List ℕ) × (first : Option RetailerNo)
+        × (I.told waiting.input ≡ with_front taken (I.told result.input))
+        × (O.told result.output ≡ with_end (O.told waiting.output) written)
+        × IsOneThread cat.now (record { plain = plain_of desk.old; first = None; clock = C.told clock.old })
+        (record { plain = plain_of desk.new; first = first; clock = C.told clock.new }) taken (I.told result.input) written result.end }
+
+    // A device's failure is the end where its count of faults rose in this call, and at every other end that count is as it was.
+    ensures read_cause { result.end ≡ ReadFault → Rose (I.faults waiting.input) (I.faults result.input) }
+    ensures write_cause { result.end ≡ WriteFault → Rose (O.faults waiting.output) (O.faults result.output) }
+    ensures read_steady { (result.end ≡ ReadFault → ⊥) → I.faults result.input ≡ I.faults waiting.input }
+    ensures write_steady { (result.end ≡ WriteFault → ⊥) → O.faults result.output ≡ O.faults waiting.output }
+{
+    let (mut input, mut output) = waiting.into_streams();
+    let end = serve_connection(alloc, cat, books, desk, &mut input, &mut output, clock);
+    Finished { end, input, output }
+}
