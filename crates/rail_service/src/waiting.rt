@@ -7,8 +7,8 @@ ghost use Rattle.session_loop.specs.declared.end.ConnEnd.TheVariants.{ReadFault,
 ghost use Rattle.rail_catalogue.specs.Contents.{legs_in};
 ghost use Rattle.claim_rule.specs.Seats.{IsOf};
 ghost use Rattle.claim_rule.specs.Out.{IsIdle, IsTidy};
+ghost use Rattle.lone_desk.specs.Lone.{IsAlone};
 ghost use Rattle.plain_host.specs.PlainOf.{plain_of};
-ghost use Rattle.plain_host.specs.Plainly.{IsLone};
 ghost use Rattle.rail_service.specs.Connections.{HasServed};
 ghost use Rattle.rail_service.specs.OneThread.{IsOneThread};
 
@@ -56,8 +56,8 @@ pub fn serve_waiting<I: Source, O: Sink, C: Clock>(
         × HasServed cat.now (record { desk = desk.old; first = None; clock = C.told clock.old })
         (record { desk = desk.new; first = first; clock = C.told clock.new }) taken (I.told result.input) written result.end }
 
-    // At a desk that is alone they are those of a host of one thread, which begins with the desk's bookings.
-    ensures one_thread { IsLone cat.now desk.old → (taken written : List ℕ) × (first : Option RetailerNo)
+    // At a desk that is alone, whatever it has done, they are those of a host of one thread, which begins with the desk's bookings.
+    ensures one_thread { IsAlone desk.old → (taken written : List ℕ) × (first : Option RetailerNo)
         × (I.told waiting.input ≡ with_front taken (I.told result.input))
         × (O.told result.output ≡ with_end (O.told waiting.output) written)
         × IsOneThread cat.now (record { plain = plain_of desk.old; first = None; clock = C.told clock.old })
