@@ -32,10 +32,10 @@ module _ {W : Type 0} (Fits : W → BooksView → Type 0) (books : BooksView) wh
   joined crew m is new i none lt = ⊎_elim
       (λ (here : i < length crew). subst (λ (n : Member W). IsMember Fits books (i + 1) n) (sym (get_or_append_left crew (m ∷ []) none i here)) (is i none here))
       (λ (past : length crew ≤ i).
-          let count : length (crew ++ m ∷ []) ≡ length crew + 1 = length-append crew (m ∷ []) in
-          let at : length crew ≡ i = omega (arith, lt, past, count) in
-          subst (λ (k : ℕ). IsMember Fits books (k + 1) (slice_index_or (crew ++ m ∷ []) k none)) at
-          (subst (λ (n : Member W). IsMember Fits books (length crew + 1) n) (sym (get_or-append_seam crew m [] none)) new))
+      let count : length (crew ++ m ∷ []) ≡ length crew + 1 = length-append crew (m ∷ []) in
+      let at : length crew ≡ i = omega (arith, lt, past, count) in
+      subst (λ (k : ℕ). IsMember Fits books (k + 1) (slice_index_or (crew ++ m ∷ []) k none)) at
+      (subst (λ (n : Member W). IsMember Fits books (length crew + 1) n) (sym (get_or-append_seam crew m [] none)) new))
       (cases_lt i (length crew))
 
   -- what holds of each member holds of all
@@ -48,8 +48,7 @@ module _ {W : Type 0} (Fits : W → BooksView → Type 0) (books : BooksView) wh
   last_of all crew m is front =
       let whole : all ≡ crew ++ m ∷ front.0 = sym front.1 ∙ append_assoc crew (m ∷ []) front.0 in
       let count : length all ≡ length crew + length (m ∷ front.0) = ap length whole ∙ length-append crew (m ∷ front.0) in
-      let lt : length crew < length all = omega (arith, count) in
-      (
+      let lt : length crew < length all = omega (arith, count) in (
         subst (λ (n : Member W). IsMember Fits books (length crew + 1) n)
             (ap (λ (l : List (Member W)). slice_index_or l (length crew) m) whole ∙ get_or-append_seam crew m front.0 m) (is (length crew) m lt),
         lt,
@@ -85,18 +84,18 @@ met_one {W} Fits books all crew m old new front is before met of tidy = record {
   made = met.same.3 ∙ before.made;
   met = λ i none low high. ⊎_elim
       (λ (later : length crew < i).
-          let was = before.met i none (omega (arith, later)) high in (
-            subst (λ (ks : List ℕ). In (i + 1) ks) (sym met.taken) (in_left (i + 1) old.taken (m.desk.number ∷ m.desk.taken) was.0),
-            each_in (λ (j : ℕ). own new.seen j ≡ own old.seen j) old.taken (i + 1) met.before was.0 ∙ was.1,
-          ))
+      let was = before.met i none (omega (arith, later)) high in (
+        subst (λ (ks : List ℕ). In (i + 1) ks) (sym met.taken) (in_left (i + 1) old.taken (m.desk.number ∷ m.desk.taken) was.0),
+        each_in (λ (j : ℕ). own new.seen j ≡ own old.seen j) old.taken (i + 1) met.before was.0 ∙ was.1,
+      ))
       (λ (not_later : i ≤ length crew).
-          let at : length crew ≡ i = omega (arith, low, not_later) in
-          let number : i + 1 ≡ m.desk.number = sym (is.desk.number ∙ ap (λ (k : ℕ). k + 1) at) in
-          let member : slice_index_or all i none ≡ m = subst (λ (k : ℕ). slice_index_or all k none ≡ m) at (stands Fits books all crew m none front) in (
-            subst (λ (ks : List ℕ). In (i + 1) ks) (sym met.taken) (in_right (i + 1) old.taken (m.desk.number ∷ m.desk.taken) (inl number)),
-            subst (λ (n : Member W). own new.seen (i + 1) ≡ own n.desk.seen (i + 1)) (sym member)
-                (subst (λ (k : ℕ). own new.seen k ≡ own m.desk.seen k) (sym number) met.theirs.0),
-          ))
+      let at : length crew ≡ i = omega (arith, low, not_later) in
+      let number : i + 1 ≡ m.desk.number = sym (is.desk.number ∙ ap (λ (k : ℕ). k + 1) at) in
+      let member : slice_index_or all i none ≡ m = subst (λ (k : ℕ). slice_index_or all k none ≡ m) at (stands Fits books all crew m none front) in (
+        subst (λ (ks : List ℕ). In (i + 1) ks) (sym met.taken) (in_right (i + 1) old.taken (m.desk.number ∷ m.desk.taken) (inl number)),
+        subst (λ (n : Member W). own new.seen (i + 1) ≡ own n.desk.seen (i + 1)) (sym member)
+            (subst (λ (k : ℕ). own new.seen k ≡ own m.desk.seen k) (sym number) met.theirs.0),
+      ))
       (cases_lt (length crew) i);
 }
 
@@ -147,12 +146,12 @@ complete {W} books crew none first other new all met number =
         met.same.2 ∙ all.number,
         λ j low high. subst (λ (ks : List ℕ). In j ks) (sym met.taken) (⊎_elim
             (λ (later : 1 < j).
-                let at : j - 1 + 1 ≡ j = omega (arith, later) in
-                in_left j first.taken (other.number ∷ other.taken)
-                (subst (λ (k : ℕ). In k first.taken) at (all.met (j - 1) none (omega (arith, later)) (omega (arith, later, high, made))).0))
+            let at : j - 1 + 1 ≡ j = omega (arith, later) in
+            in_left j first.taken (other.number ∷ other.taken)
+            (subst (λ (k : ℕ). In k first.taken) at (all.met (j - 1) none (omega (arith, later)) (omega (arith, later, high, made))).0))
             (λ (one : j ≤ 1).
-                let at : j ≡ 1 = omega (arith, one, low) in
-                in_right j first.taken (other.number ∷ other.taken) (inl (at ∙ sym number)))
+            let at : j ≡ 1 = omega (arith, one, low) in
+            in_right j first.taken (other.number ∷ other.taken) (inl (at ∙ sym number)))
             (cases_lt 1 j)),
       ),
       made,

@@ -8,7 +8,6 @@ pub rose_since : (first old new : ℕ) → first ≤ old → Rose old new → Ro
 rose_since first old new le (inl less) = inl (omega (arith, le, less))
 rose_since first old new le (inr last) = inr last
 
-
 -- as many were handed out as the limit says
 pub all_handed : (view : ListenerView) (port limit : ℕ) → view.port ≡ port → view.limit ≡ limit → view.handed ≤ limit → limit ≤ view.handed
     → view ≡ record { port = port; limit = limit; handed = limit }

@@ -40,8 +40,14 @@ pub fn serve_alone<L: Listener + Drop, C: Clock>(
     for _served in 0..limit {
         match listener.accept() {
             Accepted::Stream(waiting) => {
-                let _finished =
-                    serve_waiting(common.alloc, common.cat, books, desk, waiting, clock);
+                let _finished = serve_waiting(
+                    common.alloc,
+                    common.cat,
+                    books,
+                    desk,
+                    waiting,
+                    clock,
+                );
             }
             Accepted::Failed => return false,
             Accepted::Closed => return true,

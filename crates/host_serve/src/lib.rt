@@ -22,3 +22,5 @@ pub use serving::Server;
 pub use streams::Streams;
 pub use sweeping::Sweeper;
 
+#[cfg(test)]
+mod tests;

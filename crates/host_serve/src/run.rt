@@ -155,7 +155,11 @@ where
     );
     books.meet(&mut first, desk);
     ServeRun {
-        outcome: if all { ServeOutcome::Served } else { ServeOutcome::ListenerFailed },
+        outcome: if all {
+            ServeOutcome::Served
+        } else {
+            ServeOutcome::ListenerFailed
+        },
         listener,
         wall: Some(books.finish(first)),
     }

@@ -1,14 +1,15 @@
 // Serving from memory: two connections at once, sweeping, and how serving ends.
-ghost use Rattle.std.specs.Prelude.{◌≡◌, ◌≤◌, IfOk, length};
-ghost use Rattle.claim_rule.specs.Seats.{IsOf};
+ghost use Rattle.std.specs.Prelude.{◌≡◌, None, IfOk, length};
+ghost use Rattle.host_io.specs.Memory.{list_view, list_faults};
 
 use crate::end::ServeEnd;
-use crate::member::Post;
+use crate::member::{Common, Post};
 use crate::run::run_serve;
-use crate::streams::LockedStreams;
+use crate::serving::Server;
+use crate::streams::Streams;
 use crate::sweeping::Sweeper;
 use claim_rule::Wall;
-use history_model::phase::{Phase, phase_word};
+use history_model::phase::{EndKind, Phase, phase_word};
 use host_catalogue::{load_catalogue, open_books};
 use host_io::{Accepted, Bound, CountTicker, ListListener, Listener, Waiting};
 use rail_ids::RowNo;
@@ -21,6 +22,7 @@ use std::sync::atomic::{AtomicBool, Ordering};
 use std::test::Fail;
 use std::thread;
 use std::thread::Threads;
+use worker_pool::{Member, Open, run_workers};
 
 const CATALOGUE: &str = r#"{"currency":"EUR",
  "retailers":[{"number":1,"key":"north"}],
@@ -39,7 +41,8 @@ const CATALOGUE: &str = r#"{"currency":"EUR",
 const SIX: u64 = 1_780_293_600;
 
 /// A request for a place from Basel to Bern.
-const RESERVES: &str = "POST /reservations HTTP/1.1\r\nRetailer-Key: north\r\nContent-Length: 61\r\n\r\n{\"class\":\"SECOND\",\"from\":\"BASEL\",\"run\":0,\"to\":\"BERN\",\"n\":0}\r\n";
+const RESERVES: &str =
+    "POST /reservations HTTP/1.1\r\nRetailer-Key: north\r\nContent-Length: 65\r\n\r\n{\"class\":\"SECOND\",\"from\":\"BASEL\",\"run\":0,\"to\":\"BERN\",\"wanted\":[]}";
 
 /// How many turns a read waits at most.
 const LIMIT: u32 = 10_000_000;
@@ -79,4 +82,340 @@ fn two_streams(alloc: Global) -> Result<Vec<Vec<u8>>, AllocError> {
         streams.push(RESERVES.as_bytes().to_vec(alloc)?)?;
     }
     Ok(streams)
+}
+
+/// What the words give over this listener, with all clocks at six.
+fn serve_line<R: Threads + Wait + Abort + Sync, L: Listener + Drop + Send>(
+    rt: &R,
+    alloc: Global,
+    line: &str,
+    listener: L,
+    notes: &mut VecSink,
+) -> Result<ServeEnd<L>, AllocError>
+where
+    L::Input: Send,
+    L::Output: Send,
+    requires fresh { (L.told listener).handed ≡ 0 }
+{
+    let next = Moment::of(SIX).expect(rt, "a moment");
+    let clocks = clocks_of(alloc, next)?;
+    let words = words_of(alloc, line)?;
+    let mut shelf = shelf_of(alloc)?;
+    let ticker = CountTicker { left: 0 };
+    Ok(run_serve(
+        rt, alloc, &words, &mut shelf, listener, ticker, clocks, notes,
+    ))
+}
+
+// Whether rows 0 and 1 are prebooked at different places.
+fn has_two_bookings(wall: &Option<Wall>) -> bool {
+    let Some(wall) = wall else {
+        return false;
+    };
+    let prebooked = Some(phase_word(Phase::Prebooked));
+    wall.row_word(RowNo(0), 0) == prebooked
+        && wall.row_word(RowNo(1), 0) == prebooked
+        && wall.row_word(RowNo(0), 8) != wall.row_word(RowNo(1), 8)
+}
+
+/// Two connections, each with one reservation, and two members.
+#[test]
+fn two_connections(rt: HostRuntime) -> Result<(), Fail> {
+    let alloc = rt.alloc();
+    let listener = ListListener::new(alloc, two_streams(alloc)?, Vec::new(alloc));
+    let mut notes = VecSink::new(alloc, Vec::new(alloc));
+    let line = "serve k1.json --port 80 --workers 2 --connections 2";
+    let end = serve_line(&rt, alloc, line, listener, &mut notes)?;
+    assert_eq!(rt; end.status, 0);
+    assert!(rt; has_two_bookings(&end.wall));
+    Ok(())
+}
+
+/// How serving ends: its words, its calls of bind and accept that fail, its status and its note.
+#[test]
+fn serving_ends(rt: HostRuntime) -> Result<(), Fail> {
+    let alloc = rt.alloc();
+    for (line, fails, status, note) in [
+        ("serve k1.json --port 80 --connections 1", 9, 0, ""),
+        (
+            "serve k1.json --port 80 --connections 2 --workers 1",
+            9,
+            0,
+            "",
+        ),
+        (
+            "serve k1.json --port 80 --connections 3",
+            9,
+            3,
+            "rail_host: read fault\n",
+        ),
+        (
+            "serve k1.json --port 80 --connections 2",
+            1,
+            3,
+            "rail_host: read fault\n",
+        ),
+        (
+            "serve k1.json --port 80 --connections 2",
+            3,
+            3,
+            "rail_host: read fault\n",
+        ),
+        (
+            "serve k2.json --port 80",
+            9,
+            1,
+            "rail_host: catalogue missing\n",
+        ),
+        (
+            "serve list.json --port 80",
+            9,
+            1,
+            "rail_host: catalogue fault 2 at \n",
+        ),
+        ("serve k1.json --port 0", 9, 2, "rail_host: words refused\n"),
+        (
+            "replay k1.json --port 80",
+            9,
+            2,
+            "rail_host: words refused\n",
+        ),
+        ("serve", 9, 2, "rail_host: words refused\n"),
+    ] {
+        let listener = ListListener::new(alloc, two_streams(alloc)?, vec![in alloc; fails]?);
+        let mut notes = VecSink::new(alloc, Vec::new(alloc));
+        let end = serve_line(&rt, alloc, line, listener, &mut notes)?;
+        assert_eq!(rt; end.status, status, "{line}");
+        assert_eq!(rt; notes.taken(), note.as_bytes(), "{line}");
+    }
+    Ok(())
+}
+
+// Waits until the mark is set, or not at all.
+fn becomes_true(mark: &AtomicBool) -> bool {
+    for _ in 0..LIMIT {
+        if mark.load(Ordering::SeqCst) {
+            return true;
+        }
+        thread::yield_now();
+    }
+    false
+}
+
+/// A source whose first read waits until the other stream was answered.
+#[derive(Drop)]
+struct GateSource<'a> {
+    bytes: BytesSource,
+    waits: bool,
+    answered: &'a AtomicBool,
+    faults: u64,
+}
+
+impl Source for GateSource<'_> {
+    ghost use Rattle.std.specs.Prelude.{None};
+
+    ghost told = { λ _. None };
+
+    ghost faults = { λ s. s.faults };
+
+    fn read(&mut self, room: &mut [u8]) -> Pulled {
+        if self.waits && !becomes_true(self.answered) {
+            self.faults = self.faults.saturating_add(1);
+            return Pulled::Failed;
+        }
+        self.waits = false;
+        match self.bytes.read(room) {
+            Pulled::Got(count) => Pulled::Got(count),
+            Pulled::End => Pulled::End,
+            Pulled::Failed => {
+                self.faults = self.faults.saturating_add(1);
+                Pulled::Failed
+            }
+        }
+    }
+}
+
+/// A sink that marks that it has taken a byte, or doesn't.
+#[derive(Drop)]
+struct GateSink<'a> {
+    taken: VecSink,
+    marks: bool,
+    answered: &'a AtomicBool,
+    faults: u64,
+}
+
+impl Sink for GateSink<'_> {
+    ghost use Rattle.std.specs.Prelude.{None};
+
+    ghost told = { λ _. None };
+
+    ghost faults = { λ s. s.faults };
+
+    fn write(&mut self, piece: &[u8]) -> Pushed {
+        match self.taken.write(piece) {
+            Pushed::Took(count) => {
+                if self.marks {
+                    self.answered.store(true, Ordering::SeqCst);
+                }
+                Pushed::Took(count)
+            }
+            Pushed::Failed => {
+                self.faults = self.faults.saturating_add(1);
+                Pushed::Failed
+            }
+        }
+    }
+}
+
+/// Hands out listed streams, of which the first waits for the second.
+#[derive(Drop)]
+struct GateListener<'a> {
+    streams: ListListener,
+    first: bool,
+    answered: &'a AtomicBool,
+}
+
+impl<'a> Listener for GateListener<'a> {
+    ghost use Rattle.host_io.specs.Memory.{list_view, list_faults};
+
+    type Input = GateSource<'a>;
+
+    type Output = GateSink<'a>;
+
+    ghost told = { λ l. list_view l.streams };
+
+    ghost faults = { λ l. list_faults l.streams };
+
+    fn bind(&mut self, port: u16) -> Bound {
+        self.streams.bind(port)
+    }
+
+    fn accept(&mut self) -> Accepted<GateSource<'a>, GateSink<'a>> {
+        match self.streams.accept() {
+            Accepted::Stream(waiting) => {
+                let (bytes, taken) = waiting.into_streams();
+                let input = GateSource {
+                    bytes,
+                    waits: self.first,
+                    answered: self.answered,
+                    faults: 0,
+                };
+                let output = GateSink {
+                    taken,
+                    marks: !self.first,
+                    answered: self.answered,
+                    faults: 0,
+                };
+                self.first = false;
+                Accepted::Stream(Waiting::of(input, output))
+            }
+            Accepted::Failed => Accepted::Failed,
+            Accepted::Closed => Accepted::Closed,
+        }
+    }
+
+    fn set_limit(&mut self, connections: u32) {
+        self.streams.set_limit(connections);
+    }
+}
+
+/// The first stream's first read waits until the second stream was answered, so that both are served at once.
+#[test]
+fn two_connections_at_once(rt: HostRuntime) -> Result<(), Fail> {
+    let alloc = rt.alloc();
+    let answered = AtomicBool::new(false);
+    let listener = GateListener {
+        streams: ListListener::new(alloc, two_streams(alloc)?, Vec::new(alloc)),
+        first: true,
+        answered: &answered,
+    };
+    let mut notes = VecSink::new(alloc, Vec::new(alloc));
+    let line = "serve k1.json --port 80 --workers 2 --connections 2";
+    let end = serve_line(&rt, alloc, line, listener, &mut notes)?;
+    assert_eq!(rt; end.status, 0);
+    assert!(rt; has_two_bookings(&end.wall));
+    Ok(())
+}
+
+/// One stream, and then no more.
+#[derive(Drop)]
+struct OneStream {
+    alloc: Global,
+    bytes: Option<BytesSource>,
+}
+
+impl Streams for OneStream {
+    type Input = BytesSource;
+
+    type Output = VecSink;
+
+    fn next_stream(&mut self) -> Option<Waiting<BytesSource, VecSink>> {
+        let bytes = self.bytes.take()?;
+        Some(Waiting::of(bytes, VecSink::new(self.alloc, Vec::new(self.alloc))))
+    }
+}
+
+/// A member with a ticker of two and the mark not set sweeps twice, at its clock's readings, and ends. The row that a member before it
+/// booked is late by then, and expires.
+#[test]
+fn sweeps_twice(rt: HostRuntime) -> Result<(), Fail> {
+    let alloc = rt.alloc();
+    let mut shelf = shelf_of(alloc)?;
+    let Ok(cat) = load_catalogue(alloc, &mut shelf, "k1.json") else {
+        return Err(Fail::from("no catalogue"));
+    };
+    let (books, mut first) = open_books(alloc, &cat)?;
+    let closed = AtomicBool::new(false);
+    let bytes = BytesSource::new(RESERVES.as_bytes().to_vec(alloc)?, Vec::new(alloc));
+    let serving: Post<'_, OneStream, CountTicker, ScriptClock> = Post::Serving(Server {
+        streams: OneStream {
+            alloc,
+            bytes: Some(bytes),
+        },
+        common: Common {
+            alloc,
+            cat: &cat,
+            closed: &closed,
+        },
+        clock: ScriptClock {
+            next: Moment::of(SIX).expect(&rt, "a moment"),
+            tick: 0,
+        },
+        ended: false,
+    });
+    let mut crew = [Member {
+        desk: books.part(&mut first),
+        worker: serving,
+    }];
+    run_workers(&rt, &books, crew.as_mut_slice(), &Open);
+    assert!(rt; closed.load(Ordering::SeqCst));
+    let unset = AtomicBool::new(false);
+    let sweeping: Post<'_, OneStream, CountTicker, ScriptClock> = Post::Sweeping(Sweeper {
+        ticker: CountTicker { left: 2 },
+        seconds: 30,
+        closed: &unset,
+        clock: ScriptClock {
+            next: Moment::of(SIX + 901).expect(&rt, "a moment"),
+            tick: 1,
+        },
+        ended: false,
+    });
+    let mut sweepers = [Member {
+        desk: books.part(&mut first),
+        worker: sweeping,
+    }];
+    run_workers(&rt, &books, sweepers.as_mut_slice(), &Open);
+    let [Member { desk: _, worker }] = sweepers;
+    let Post::Sweeping(sweeper) = worker else {
+        return Err(Fail::from("another post"));
+    };
+    assert!(rt; sweeper.ended);
+    assert_eq!(rt; sweeper.ticker.left, 0);
+    assert_eq!(rt; sweeper.clock.next.seconds(), SIX + 903);
+    let wall = books.finish(first);
+    assert_eq!(rt;
+        wall.row_word(RowNo(0), 0),
+        Some(phase_word(Phase::Ended(EndKind::Expire)))
+    );
+    Ok(())
 }

@@ -15,10 +15,7 @@ use std::time;
 const CLOCKS: u8 = 17;
 
 /// Clocks of the system, as many as serving takes.
-fn system_clocks<R: time::Clock>(
-    rt: &R,
-    alloc: Global,
-) -> Result<Vec<SystemClock<&R>>, AllocError>
+fn system_clocks<R: time::Clock>(rt: &R, alloc: Global) -> Result<Vec<SystemClock<&R>>, AllocError>
     ensures { IfOk result (λ clocks. length clocks.items ≡ 17) }
 {
     let mut clocks = Vec::new(alloc);
@@ -33,13 +30,7 @@ pub fn serve_port<
     R: Threads + Wait + Sync + Net<Listener = TcpListener, Stream = TcpStream> + time::Clock,
     F: Shelf,
     E: Sink,
->(
-    rt: &R,
-    alloc: Global,
-    words: &[String],
-    shelf: &mut F,
-    notes: &mut E,
-) -> u8 {
+>(rt: &R, alloc: Global, words: &[String], shelf: &mut F, notes: &mut E) -> u8 {
     let Ok(clocks) = system_clocks(rt, alloc) else {
         return end_without_memory(notes);
     };

@@ -25,7 +25,7 @@ returns g c =
     let same_len : length crew ≡ c.args.crew.len = search rules in
     let written : take c.args.crew.len (crew ++ drop (length crew) old) ≡ crew = all_written c.args.crew.len old crew same_len count in
     let left : (n : Member g.row.W.Denot) → c.meet_others.result ≡ slice_index_or crew 0 n =
-        (λ n. c.meet_others.ensures.left n ∙ ap (λ (l : List (Member g.row.W.Denot)). slice_index_or l 0 n) written) in
+    (λ n. c.meet_others.ensures.left n ∙ ap (λ (l : List (Member g.row.W.Denot)). slice_index_or l 0 n) written) in
     let one : 0 + 1 ≡ 1 = omega arith in
     let some : 0 < length crew = omega (arith, count, c.requires.some) in
     record {

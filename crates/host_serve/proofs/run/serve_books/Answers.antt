@@ -20,20 +20,18 @@ returns g c =
     let faults = g.L.Listener.faults c.serve_left-all.new.listener in
     record {
       ends = elim c.if-all.branch [
-        then-all w ↦ subst (λ (o : ServeOutcome). BooksEnd c.args.cat.now said (g.L.Listener.faults c.args.listener) faults view (Some c.finish.result) o) (sym w.result-is)
-            (
-              left.spent w.if-all.true
-                  ∙ (ap (λ (n : ℕ). record { port = n; limit = g.N.Named.limit; handed = g.N.Named.limit }) c.requires.port
-                  ∙ ap (λ (n : ℕ). record { port = said.port; limit = n; handed = n }) c.requires.limit),
-              wall,
-            )
-        | else-all w ↦ subst (λ (o : ServeOutcome). BooksEnd c.args.cat.now said (g.L.Listener.faults c.args.listener) faults view (Some c.finish.result) o) (sym w.result-is)
-            (
-              record {
-                rose = subst (λ (n : ℕ). Rose n faults) c.requires.faults (left.failed w.if-all.false).0;
-                fewer = subst (λ (n : ℕ). view.handed < n) c.requires.limit (left.failed w.if-all.false).1;
-              },
-              wall,
-            )
+        | then-all w ↦ subst (λ (o : ServeOutcome). BooksEnd c.args.cat.now said (g.L.Listener.faults c.args.listener) faults view (Some c.finish.result) o) (sym w.result-is) (
+          left.spent w.if-all.true
+              ∙ (ap (λ (n : ℕ). record { port = n; limit = g.N.Named.limit; handed = g.N.Named.limit }) c.requires.port
+              ∙ ap (λ (n : ℕ). record { port = said.port; limit = n; handed = n }) c.requires.limit),
+          wall,
+        )
+        | else-all w ↦ subst (λ (o : ServeOutcome). BooksEnd c.args.cat.now said (g.L.Listener.faults c.args.listener) faults view (Some c.finish.result) o) (sym w.result-is) (
+          record {
+            rose = subst (λ (n : ℕ). Rose n faults) c.requires.faults (left.failed w.if-all.false).0;
+            fewer = subst (λ (n : ℕ). view.handed < n) c.requires.limit (left.failed w.if-all.false).1;
+          },
+          wall,
+        )
       ];
     }
