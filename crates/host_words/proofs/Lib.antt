@@ -2,3 +2,4 @@ pub mod Numbers
 pub mod Rows
 pub mod Ranges
 pub mod ServeRows
+pub mod Drilling

@@ -1,12 +1,12 @@
 -- The values of words, from the rows that `clap` gives.
 use Rattle.std.proofs.Common.{◌≡◌, ◌∙◌, ℕ, List, Option, Some, None, refl, sym, ap, codes}
-use Rattle.std.specs.Prelude.{Ok, Err, option_map, option_and_then}
-use Rattle.clap.specs.Words.{App, Row, Text, first_of, first_value, one_of, one_text, rows_of}
+use Rattle.std.specs.Prelude.{option_and_then}
+use Rattle.clap.specs.Words.{App, Row, Text, first_of, first_value, one_text, rows_of}
 use Rattle.clap.specs.declared.parser.matches.Found.{Found}
 use Rattle.clap.proofs.WalkLemmas.{first_value-rows, one_text-rows}
 use Rattle.rail_time.specs.Moments.{moment_of}
 use Rattle.host_words.specs.Options.{number_in, number_of, taken}
-use Rattle.host_words.specs.Replay.{ReplayView, found_moment, replay_app, replay_of, replay_words, start_of}
+use Rattle.host_words.specs.Replay.{found_moment, replay_app, replay_of, replay_words}
 
 -- the text that a getter gave
 pub text_given : (f : Found) (id : Text) (o : Option Text) → o ≡ first_value f id → first_of id (rows_of f) ≡ o

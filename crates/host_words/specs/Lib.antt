@@ -1,3 +1,4 @@
 pub mod Options
 pub mod Replay
 pub mod Serve
+pub mod Drill

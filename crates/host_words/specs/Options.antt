@@ -1,5 +1,5 @@
 -- What `clap` reads of the words of a command.
-use Rattle.std.specs.Prelude.{◌≡◌, ℕ, Bool, pos, true, List, [], ◌∷◌, Option, Some, None, map, if◌then◌else◌, option_and_then, String, string_bytes}
+use Rattle.std.specs.Prelude.{ℕ, pos, true, List, [], ◌∷◌, Option, Some, None, map, if◌then◌else◌, option_and_then, String, string_bytes}
 use Rattle.std.specs.Str.Parse.{digits_value, without_leading_plus}
 use Rattle.std.specs.declared.alloc.Global.{Global}
 use Rattle.clap.specs.Words.{App, Row, Rule, Text, new_rule, one_of, fault_of, matches_of}

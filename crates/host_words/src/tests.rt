@@ -1,4 +1,4 @@
-use crate::{WordsFault, read_replay, read_serve};
+use crate::{WordsFault, read_drill, read_replay, read_serve};
 use std::alloc::{AllocError, Global};
 use std::process::Abort;
 use std::test::Fail;
@@ -160,6 +160,60 @@ fn serve_refusals(rt: HostRuntime) -> Result<(), Fail> {
         "serve -V",
     ] {
         check_serve(&rt, line, Err(WordsFault::Refused))?;
+    }
+    Ok(())
+}
+
+/// What `drill` reads of the line.
+fn check_drill<R: AllocGlobal + Abort>(
+    rt: &R,
+    line: &str,
+    said: Result<(u32, u32, u32, u32), WordsFault>,
+) -> Result<(), AllocError> {
+    let words = words_of(rt.alloc(), line)?;
+    let read = match read_drill(rt.alloc(), &words) {
+        Ok(words) => Ok((words.seed, words.workers, words.size, words.places)),
+        Err(fault) => Err(fault),
+    };
+    assert!(rt; read == said, "{line}");
+    Ok(())
+}
+
+#[test]
+fn drill_words(rt: HostRuntime) -> Result<(), Fail> {
+    for (line, said) in [
+        (
+            "drill --seed 7 --workers 4 --size 40 --places 30",
+            (7, 4, 40, 30),
+        ),
+        (
+            "drill --places=1200 --size=2000 --workers=16 --seed=65535",
+            (65_535, 16, 2_000, 1_200),
+        ),
+        (
+            "drill --seed 0 --workers +1 --size 001 --places 1",
+            (0, 1, 1, 1),
+        ),
+    ] {
+        check_drill(&rt, line, Ok(said))?;
+    }
+    for line in [
+        "drill",
+        "drill --help",
+        "drill --seed 7 --workers 4 --size 40",
+        "drill --seed 7 --workers 4 --places 30",
+        "drill --seed 7 --size 40 --places 30",
+        "drill --workers 4 --size 40 --places 30",
+        "drill --seed 65536 --workers 4 --size 40 --places 30",
+        "drill --seed 7 --workers 0 --size 40 --places 30",
+        "drill --seed 7 --workers 17 --size 40 --places 30",
+        "drill --seed 7 --workers 4 --size 0 --places 30",
+        "drill --seed 7 --workers 4 --size 2001 --places 30",
+        "drill --seed 7 --workers 4 --size 40 --places 0",
+        "drill --seed 7 --workers 4 --size 40 --places 1201",
+        "drill --seed 7 --workers 4 --size 40 --places 30 more",
+    ] {
+        check_drill(&rt, line, Err(WordsFault::Refused))?;
     }
     Ok(())
 }

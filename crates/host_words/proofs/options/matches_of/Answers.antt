@@ -1,7 +1,5 @@
-use Rattle.std.proofs.Common.{◌≡◌, ◌∙◌, [], List, Option, Some, ap, refl, sym}
-use Rattle.std.specs.Prelude.{None, if◌then◌else◌}
-use Rattle.clap.specs.Words.{App, Kinds, Row, Text, app_of, fault_of, matches_of}
-use Rattle.clap.specs.Walk.{is_empty}
+use Rattle.std.proofs.Common.{◌≡◌, [], List, Some, ap, sym}
+use Rattle.clap.specs.Words.{App, Row, Text, app_of, fault_of, matches_of}
 use Rattle.clap.proofs.WalkLemmas.{both}
 use Rattle.host_words.specs.Options.{taken, words_texts}
 use Rattle.host_words.proofs.options.matches_of.Goals as goal

@@ -1,6 +1,6 @@
-use Rattle.std.proofs.Common.{◌≡◌, ◌∙◌, ℕ, List, Option, Some, None, Result, subst, sym}
+use Rattle.std.proofs.Common.{◌≡◌, ◌∙◌, ℕ, Option, Some, None, subst, sym}
 use Rattle.std.specs.Str.Parse.{ParsesUnsigned, ExplainsUnsignedError, HasUnsignedDigitsIfOk}
-use Rattle.clap.specs.Words.{ReadsOne, Text, found_of, one_text}
+use Rattle.clap.specs.Words.{ReadsOne, found_of, one_text}
 use Rattle.host_words.proofs.Numbers.{none_found, some_found}
 use Rattle.host_words.proofs.options.number_of.Goals as goal
 

@@ -1,10 +1,8 @@
-use Rattle.std.proofs.Common.{◌≡◌, ◌∙◌, ap, ap₂, codes, pos, rules, Some, None, subst, List, Option, map}
+use Rattle.std.proofs.Common.{◌≡◌, ◌∙◌, ap₂, codes, pos, rules}
 use Rattle.std.proofs.lemmas.Result.{IfOk-weaker}
-use Rattle.clap.specs.Words.{App, Rule, Text, app_of, new_app, new_rule, rule_of, with_rule}
-use Rattle.clap.specs.declared.builder.value_parser.ValueParser.{ValueParser}
+use Rattle.clap.specs.Words.{new_rule, rule_of, with_rule}
 use Rattle.clap.specs.declared.builder.value_parser.ValueParser.TheVariants as vp
 use Rattle.host_words.specs.Options.{option_rule, numbered, required, with_default}
-use Rattle.host_words.specs.Replay.{replay_app}
 use Rattle.host_words.proofs.replay.replay_command.Goals as goal
 
 pub returns : goal.returns
