@@ -1,0 +1,14 @@
+//! What a drill asks for, and what it comes to.
+//!
+//! A drill is a large valid input made from a number: so many connections, each with so many requests for one place on one leg of a run
+//! with eight. `Generator` in `specs/` defines the requests and the catalogue, and `Totals` what is counted: the bookings sold, the
+//! requests refused, and the line that is printed. The functions make just these bytes, and count just so.
+#![tactic(auto)]
+
+mod counts;
+mod generator;
+mod line;
+
+pub use counts::{count_sold, count_times};
+pub use generator::{catalogue_bytes, worker_requests};
+pub use line::{Totals, line_of};

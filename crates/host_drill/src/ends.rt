@@ -1,0 +1,37 @@
+// The statuses of a drill, and their notes.
+ghost use Rattle.std.specs.Prelude.{◌≡◌};
+ghost use Rattle.host_drill.specs.Ends.{IsNoted, note_of, status_of};
+
+use crate::drill::Cause;
+use rail_io::Sink;
+use session_loop::write_all;
+
+fn note_text(cause: Cause) -> &'static [u8]
+    ensures { result.now ≡ note_of cause }
+{
+    match cause {
+        Cause::Whole => b"",
+        Cause::Words => b"rail_host: words refused\n",
+        Cause::Write => b"rail_host: write fault\n",
+        Cause::Memory => b"rail_host: no memory\n",
+    }
+}
+
+/// The status of a cause.
+pub(crate) fn status(cause: Cause) -> u8
+    ensures { result ≡ status_of cause }
+{
+    match cause {
+        Cause::Whole => 0,
+        Cause::Words => 2,
+        Cause::Write => 4,
+        Cause::Memory => 5,
+    }
+}
+
+/// Writes as much of the cause's note as the sink takes.
+pub(crate) fn note<E: Sink>(notes: &mut E, cause: Cause)
+    ensures { IsNoted (E.told notes.old) (E.told notes.new) (E.faults notes.old) (E.faults notes.new) (note_of cause) }
+{
+    let _whole = write_all(notes, note_text(cause));
+}
