@@ -1,5 +1,5 @@
 -- What a drill is counted to.
-use Rattle.std.specs.Prelude.{◌≡◌, ℕ, zero, suc, ◌+◌, ◌*◌, ◌==◌, ◌&&◌, nat_lt, min, Bool, true, false, List, [], ◌∷◌, ◌++◌, Option, Some, None, sum, map, codes, decimal, if◌then◌else◌}
+use Rattle.std.specs.Prelude.{◌≡◌, ℕ, zero, suc, ◌+◌, ◌*◌, ◌==◌, ◌&&◌, nat_lt, min, Bool, true, false, List, [], ◌∷◌, ◌++◌, Option, Some, None, codes, decimal, if◌then◌else◌}
 use Rattle.std.specs.List.{list_any}
 use Rattle.std.specs.Option.{option_map_or}
 use Rattle.history_model.specs.declared.booking.BookedItem.{BookedItem}
@@ -72,7 +72,8 @@ busy_line = codes "HTTP/1.1 503 Service Unavailable\r\n"
 
 -- how often a line stands in all that was answered
 abbrev pub times_in : List ℕ → List (List ℕ) → ℕ
-times_in line answered = sum (map (times line) answered)
+times_in line [] = 0
+times_in line (answer ∷ more) = times line answer + times_in line more
 
 -- what is printed
 abbrev pub totals_line : ℕ → ℕ → ℕ → ℕ → ℕ → List ℕ

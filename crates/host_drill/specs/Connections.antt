@@ -1,11 +1,10 @@
 -- One connection of a drill.
-use Rattle.std.specs.Prelude.{◌≡◌, ℕ, ◌+◌, ◌<◌, List, [], ◌∷◌, ◌++◌, length, Option, Some, None, slice_index_or}
+use Rattle.std.specs.Prelude.{◌≡◌, ℕ, ◌+◌, List, [], ◌++◌, Option, Some, None}
 use Rattle.rail_ids.specs.declared.RetailerNo.{RetailerNo}
 use Rattle.rail_io.specs.Clocks.{script_reading}
 use Rattle.rail_io.specs.Memory.{source_left, sink_taken}
 use Rattle.session_loop.specs.declared.end.ConnEnd.{ConnEnd}
 use Rattle.session_loop.specs.declared.end.ConnEnd.TheVariants.{Done}
-use Rattle.history_model.specs.declared.entry.Entry.{Entry}
 use Rattle.history_model.specs.History.{own}
 use Rattle.claim_rule.specs.Rule.{BooksView, DeskView}
 use Rattle.claim_rule.specs.Seats.{IsOf}
@@ -14,14 +13,6 @@ use Rattle.rail_catalogue.specs.Contents.{CatalogueView}
 use Rattle.rail_service.specs.Connections.{ServiceView, HasServed, IsServed}
 use Rattle.drill_totals.specs.Generator.{requests_of}
 use Rattle.host_drill.specs.declared.connection.Connection.{Connection}
-
--- what is so at each place of a list
-abbrev pub EachAt : {A : Type 0} → (ℕ → A → Type 0) → List A → Type 0
-EachAt So xs = (i : ℕ) (none : _) → i < length xs → So i (slice_index_or xs i none)
-
--- and of two lists
-abbrev pub EachPair : {A : Type 0} → (A → A → Type 0) → List A → List A → Type 0
-EachPair So xs ys = (i : ℕ) (none : _) → i < length xs → So (slice_index_or xs i none) (slice_index_or ys i none)
 
 -- a connection begins at this desk, with no known retailer and at moment 0
 abbrev pub beginning : DeskView → ServiceView

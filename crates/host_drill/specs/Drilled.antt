@@ -15,17 +15,11 @@ use Rattle.rail_catalogue.specs.Contents.{CatalogueView, legs_in}
 use Rattle.rail_catalogue.specs.Format.{catalogue_of}
 use Rattle.host_words.specs.declared.drill.DrillWords.{DrillWords}
 use Rattle.drill_totals.specs.Generator.{catalogue_text}
-use Rattle.drill_totals.specs.Totals.{sold_of, doubled_of, times_in, refused_line, no_memory_line, busy_line}
+use Rattle.drill_totals.specs.Totals.{sold_of, doubled_of}
+use Rattle.drill_totals.specs.Meeting.{OfWorker, AreAnswered}
 use Rattle.host_drill.specs.declared.connection.Connection.{Connection}
 use Rattle.drill_totals.specs.declared.line.Totals.{Totals}
 use Rattle.host_drill.specs.Connections.{IsConnection}
-
--- the first desk has parted so many desks, has met alone, and has taken in all those behind the k-th
-pub record IsFirst (desk : DeskView) (n k : ℕ) : Type 0 where
-  pub number : desk.number ≡ 0
-  pub made : desk.made ≡ n
-  pub mets : AllByRecursion (λ e. e.step ≡ Met) (own desk.seen 0)
-  pub taken : (j : ℕ) → k < j → j ≤ n → In j desk.taken
 
 -- a connection that was served, of this worker
 pub record IsDone (books : BooksView) (cat : CatalogueView) (said : DrillWords) (worker : ℕ) (c : Connection) : Type 0 where
@@ -35,25 +29,9 @@ pub record IsDone (books : BooksView) (cat : CatalogueView) (said : DrillWords) 
   pub taken : c.desk.taken ≡ []
   pub connection : c.end ≡ Done → IsConnection cat said.seed said.size worker c.desk (sink_taken c.sink)
 
--- the history holds of a worker's desk just the entries of its connection, which was answered so
-pub record IsOneOf (cat : CatalogueView) (said : DrillWords) (history : List Entry) (worker : ℕ) (answered : List ℕ) : Type 0 where
-  pub desk : DeskView
-  pub connection : IsConnection cat said.seed said.size worker desk answered
-  pub own : own history (worker + 1) ≡ own desk.seen (worker + 1)
-
--- so of each worker from the k-th on, in order, by what they were answered
-abbrev pub AreAll : CatalogueView → DrillWords → List Entry → ℕ → List (List ℕ) → Type 0
-AreAll cat said history k [] = Unit {0}
-AreAll cat said history k (answered ∷ more) = IsOneOf cat said history k answered × AreAll cat said history (k + 1) more
-
--- what the connections from the k-th on were answered, and what is counted of it. None of them was answered for want of memory
-pub record AreAnswered (cat : CatalogueView) (said : DrillWords) (history : List Entry) (k refused busy : ℕ) : Type 0 where
-  pub answered : List (List ℕ)
-  pub number : k + length answered ≡ said.workers
-  pub each : AreAll cat said history k answered
-  pub refused_is : refused ≡ times_in refused_line answered
-  pub busy_is : busy ≡ times_in busy_line answered
-  pub no_memory : times_in no_memory_line answered ≡ 0
+-- of each worker its connection
+abbrev pub connection_of : CatalogueView → DrillWords → OfWorker
+connection_of cat said = IsConnection cat said.seed said.size
 
 -- the catalogue is that of the drill's text
 abbrev pub IsCatalogue : CatalogueView → DrillWords → Type 0
@@ -73,7 +51,7 @@ pub record IsDrilled (said : DrillWords) (wall : WallView) (totals : Totals) : T
   pub history : wall.history ≡ desk.seen
   pub books : Ends wall.layout desk wall.words wall.history
   pub first : AllByRecursion (λ e. e.step ≡ Met) (own wall.history 0)
-  pub answered : AreAnswered cat said wall.history 0 totals.refused totals.busy
+  pub answered : AreAnswered (connection_of cat said) wall.history said.workers 0 totals.refused totals.busy
   pub requests : totals.requests ≡ said.workers * said.size
   pub sold : totals.sold ≡ sold_of (state_at wall) cat.rows
   pub double : totals.double ≡ doubled_of (state_at wall) cat.rows

@@ -8,8 +8,9 @@ ghost use Rattle.session_loop.specs.declared.end.ConnEnd.TheVariants.{Done};
 ghost use Rattle.claim_rule.specs.Seats.{HasMet, IsNew, IsOf};
 ghost use Rattle.claim_rule.specs.Out.{IsIdle};
 ghost use Rattle.drill_totals.specs.Totals.{busy_line, no_memory_line, refused_line, times};
-ghost use Rattle.host_drill.specs.Connections.{EachAt, EachPair, IsReady, Serves};
-ghost use Rattle.host_drill.specs.Drilled.{AreAnswered, IsDone, IsFirst};
+ghost use Rattle.drill_totals.specs.Meeting.{AreAnswered, EachAt, EachPair, IsFirst};
+ghost use Rattle.host_drill.specs.Connections.{IsReady, Serves};
+ghost use Rattle.host_drill.specs.Drilled.{IsDone, connection_of};
 
 use crate::connection::Connection;
 use drill_totals::{count_times, worker_requests};
@@ -195,16 +196,16 @@ pub(crate) fn meet_all(
     ensures own { IsOf books.now desk.new }
     ensures idle { IsIdle desk.new }
     ensures first { IfSome result (λ _. IsFirst desk.new said.workers 0) }
-    ensures answered { IfSome result (λ a. AreAnswered cat.now said desk.new.seen 0 a.refused a.busy) }
+    ensures answered { IfSome result (λ a. AreAnswered (connection_of cat.now said) desk.new.seen said.workers 0 a.refused a.busy) }
 {
     let _cat = cat;
     let _said = said;
-    let mut crew = crew;
+    let mut left = crew;
     let mut answers = Answers {
         refused: 0,
         busy: 0,
     };
-    while let Some(connection) = crew.pop() {
+    while let Some(connection) = left.pop() {
         answers = meet_one(books, desk, connection, answers)?;
     }
     Some(answers)
