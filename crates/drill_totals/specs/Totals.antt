@@ -1,10 +1,7 @@
 -- What a drill is counted to.
-use Rattle.std.specs.Prelude.{◌≡◌, ℕ, zero, suc, ◌+◌, ◌*◌, ◌==◌, ◌&&◌, nat_lt, min, Bool, true, false, List, [], ◌∷◌, ◌++◌, Option, Some, None, codes, decimal, if◌then◌else◌}
-use Rattle.std.specs.List.{list_any}
-use Rattle.std.specs.Option.{option_map_or}
-use Rattle.history_model.specs.declared.booking.BookedItem.{BookedItem}
+use Rattle.std.specs.Prelude.{ℕ, zero, suc, ◌+◌, ◌==◌, ◌&&◌, min, Bool, true, false, List, [], ◌∷◌, ◌++◌, codes, decimal}
 use Rattle.history_model.specs.Phase.{is_live}
-use Rattle.history_model.specs.Booking.{Booking, State, present, phase_of_row}
+use Rattle.history_model.specs.Booking.{State, phase_of_row}
 use Rattle.drill_totals.specs.Generator.{drill_leg, drill_legs}
 
 abbrev pub one_if : Bool → ℕ
@@ -32,22 +29,6 @@ sold_on seed n places (suc leg) = sold_on seed n places leg + min (asked_for see
 -- the same over all legs
 abbrev pub most_sold : ℕ → ℕ → ℕ → ℕ
 most_sold seed n places = sold_on seed n places drill_legs
-
--- two items lie at one place and have a leg in common
-abbrev pub share : BookedItem → BookedItem → Bool
-share i j = (i.place == j.place) && (nat_lt i.span.from j.span.to && nat_lt j.span.from i.span.to)
-
--- two live bookings that share a place on a leg
-abbrev pub are_double : Booking → Booking → Bool
-are_double b c = is_live b.phase && (is_live c.phase && list_any (λ i. list_any (share i) c.items) b.items)
-
-abbrev pub is_double : State → ℕ → ℕ → Bool
-is_double s row other = option_map_or (λ b. option_map_or (are_double b) (present s other) false) (present s row) false
-
--- how many pairs of the rows, of so many, have such bookings
-abbrev pub doubled_of : State → ℕ → ℕ
-doubled_of s zero = 0
-doubled_of s (suc row) = doubled_of s row + count_below (is_double s row) row
 
 -- whether the first text begins the second
 abbrev pub begins : List ℕ → List ℕ → Bool

@@ -7,6 +7,7 @@ use Rattle.history_model.specs.declared.entry.Entry.{Entry}
 use Rattle.history_model.specs.declared.entry.Step.TheVariants.{Met}
 use Rattle.history_model.specs.Booking.{State}
 use Rattle.history_model.specs.History.{own, state_of}
+use Rattle.history_model.specs.Laws.{NoDouble}
 use Rattle.claim_rule.specs.Rule.{BooksView, DeskView, In}
 use Rattle.claim_rule.specs.Seats.{IsOf}
 use Rattle.claim_rule.specs.Out.{IsIdle}
@@ -15,7 +16,7 @@ use Rattle.rail_catalogue.specs.Contents.{CatalogueView, legs_in}
 use Rattle.rail_catalogue.specs.Format.{catalogue_of}
 use Rattle.host_words.specs.declared.drill.DrillWords.{DrillWords}
 use Rattle.drill_totals.specs.Generator.{catalogue_text}
-use Rattle.drill_totals.specs.Totals.{sold_of, doubled_of}
+use Rattle.drill_totals.specs.Totals.{sold_of}
 use Rattle.drill_totals.specs.Meeting.{OfWorker, AreAnswered}
 use Rattle.host_drill.specs.declared.connection.Connection.{Connection}
 use Rattle.drill_totals.specs.declared.line.Totals.{Totals}
@@ -54,4 +55,5 @@ pub record IsDrilled (said : DrillWords) (wall : WallView) (totals : Totals) : T
   pub answered : AreAnswered (connection_of cat said) wall.history said.workers 0 totals.refused totals.busy
   pub requests : totals.requests ≡ said.workers * said.size
   pub sold : totals.sold ≡ sold_of (state_at wall) cat.rows
-  pub double : totals.double ≡ doubled_of (state_at wall) cat.rows
+  pub no_double : NoDouble (state_at wall)
+  pub double : totals.double ≡ 0

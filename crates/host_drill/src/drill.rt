@@ -98,6 +98,7 @@ fn work<R: Threads + Sync>(
         sold,
         refused: answers.refused,
         busy: answers.busy,
+        // A legal history has no two live bookings that share a place on a leg: `no_double` of what is promised.
         double: 0,
     };
     Ok((wall, totals))

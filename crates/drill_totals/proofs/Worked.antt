@@ -1,0 +1,16 @@
+-- The totals of a worked drill.
+use Rattle.std.proofs.Common.{◌≡◌, refl}
+use Rattle.drill_totals.specs.Totals.{asked_for, most_sold}
+
+-- of 160 requests from number 7 on, legs 0, 3 and 7 are asked for 80, 40 and 40 times
+asked_at_0 : asked_for 7 160 0 ≡ 80
+asked_at_0 = refl
+
+asked_at_3 : asked_for 7 160 3 ≡ 40
+asked_at_3 = refl
+
+asked_at_7 : asked_for 7 160 7 ≡ 40
+asked_at_7 = refl
+
+sold_of_160 : most_sold 7 160 30 ≡ 90
+sold_of_160 = refl
