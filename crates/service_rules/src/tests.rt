@@ -140,7 +140,7 @@ fn refuses_exchanges_by_their_ids(rt: HostRuntime) -> Result<(), Fail> {
     let alloc = rt.alloc();
     let cat = read_catalogue(alloc, EXAMPLE.as_bytes()).expect(&rt, "a catalogue");
     let now = at(&rt, SIX);
-    let too_old = Problem::OfferTooOld {
+    let stale = Problem::OfferTooOld {
         made: at(&rt, 1_780_292_699),
         now,
     };
@@ -188,7 +188,7 @@ fn refuses_exchanges_by_their_ids(rt: HostRuntime) -> Result<(), Fail> {
         (
             Some(RowNo(0)),
             "X0-1780292699-C-m750-O1780292699-1-0-2-0-1.0.1",
-            Some(too_old),
+            Some(stale),
         ),
         (
             Some(RowNo(0)),
@@ -200,6 +200,10 @@ fn refuses_exchanges_by_their_ids(rt: HostRuntime) -> Result<(), Fail> {
         let found = command_problem(&cat, &Command::AcceptExchange { row, code }, now);
         assert_eq!(rt; found, want, "{id}");
     }
+    let too_old = Problem::OfferTooOld {
+        made: at(&rt, 1_780_292_699),
+        now,
+    };
     for (row, id, want) in [
         (
             None,
