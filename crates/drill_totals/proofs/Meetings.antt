@@ -12,7 +12,6 @@ use Rattle.claim_rule.proofs.Views.{each_in}
 use Rattle.drill_totals.specs.Meeting.{IsFirst, OfWorker, IsOneOf, AreAll, AreAnswered}
 use Rattle.drill_totals.specs.Totals.{times, times_in, refused_line, no_memory_line, busy_line}
 
-
 mets_after : (old new : List Entry) → AllByRecursion (λ e. e.step ≡ Met) old → new ≡ old ++ entry 0 Met ∷ [] → AllByRecursion (λ e. e.step ≡ Met) new
 mets_after old new all is =
     subst (λ (es : List Entry). AllByRecursion (λ e. e.step ≡ Met) es) (sym is) (All-append (λ e. e.step ≡ Met) old (entry 0 Met ∷ []) all (refl, tt))
@@ -49,11 +48,13 @@ first_meets old other new n k first number met = record {
     by : (j : ℕ) → (j ≡ k + 1) ⊎ (k + 1 < j) → j ≤ n → In j (old.taken ++ other.number ∷ other.taken)
     by j (inl is) few = subst (λ (m : ℕ). In j (old.taken ++ m ∷ other.taken)) (is ∙ sym number) (in_last j old.taken other.taken)
     by j (inr more) few = in_front j old.taken (other.number ∷ other.taken) (first.taken j more few)
+
     cases : (j : ℕ) → k < j → (j ≡ k + 1) ⊎ (k + 1 < j)
     cases j more = ⊎_elim (λ less. absurd (let e : ⊥ = omega (arith, less, more) in e)) at_least (cases_lt j (k + 1))
       where
         at_least : k + 1 ≤ j → (j ≡ k + 1) ⊎ (k + 1 < j)
         at_least e = ⊎_elim inl (λ (other : j ≡ k + 1 → ⊥). inr (let f : k + 1 < j = omega (arith, e, other) in f)) (cases_eq j (k + 1))
+
     taken : (j : ℕ) → k < j → j ≤ n → In j new.taken
     taken j more few = subst (λ (js : List ℕ). In j js) (sym met.taken) (by j (cases j more) few)
 
@@ -66,9 +67,10 @@ module _ (So : OfWorker) (old other new : DeskView) (n k : ℕ) (first : IsFirst
   all_stay (a ∷ rest) l more few all =
       let one = all.0 in
       let here : own new.seen (l + 1) ≡ own old.seen (l + 1) =
-          stays (l + 1) (let e : k + 1 < l + 1 = omega (arith, more) in e) (let e : l + 1 ≤ n = omega (arith, few) in e) in
-      (record { desk = one.desk; is = one.is; own = here ∙ one.own },
-      all_stay rest (l + 1) (let e : k + 1 ≤ l + 1 = omega (arith, more) in e) (let e : l + 1 + length rest ≤ n = omega (arith, few) in e) all.1)
+      stays (l + 1) (let e : k + 1 < l + 1 = omega (arith, more) in e) (let e : l + 1 ≤ n = omega (arith, few) in e) in (
+        record { desk = one.desk; is = one.is; own = here ∙ one.own },
+        all_stay rest (l + 1) (let e : k + 1 ≤ l + 1 = omega (arith, more) in e) (let e : l + 1 + length rest ≤ n = omega (arith, few) in e) all.1,
+      )
 
   -- and is counted with those behind it
   pub one_more : (refused busy : ℕ) (answered : List ℕ) → AreAnswered So old.seen n (k + 1) refused busy → So k other answered
@@ -77,8 +79,10 @@ module _ (So : OfWorker) (old other new : DeskView) (n k : ℕ) (first : IsFirst
   one_more refused busy answered behind so none = record {
     answered = answered ∷ behind.answered;
     number = (let e : k + suc (length behind.answered) ≡ k + 1 + length behind.answered = omega arith in e) ∙ behind.number;
-    each = (record { desk = other; is = so; own = subst (λ (d : ℕ). own new.seen d ≡ own other.seen d) number met.theirs.0 },
-        all_stay behind.answered (k + 1) (let e : k + 1 ≤ k + 1 = omega arith in e) (let e : k + 1 + length behind.answered ≤ n = omega (arith, behind.number) in e) behind.each);
+    each = (
+      record { desk = other; is = so; own = subst (λ (d : ℕ). own new.seen d ≡ own other.seen d) number met.theirs.0 },
+      all_stay behind.answered (k + 1) (let e : k + 1 ≤ k + 1 = omega arith in e) (let e : k + 1 + length behind.answered ≤ n = omega (arith, behind.number) in e) behind.each,
+    );
     refused_is = (let e : refused + times refused_line answered ≡ times refused_line answered + refused = omega arith in e)
         ∙ ap (λ (m : ℕ). times refused_line answered + m) behind.refused_is;
     busy_is = (let e : busy + times busy_line answered ≡ times busy_line answered + busy = omega arith in e)

@@ -46,7 +46,10 @@ pub fn count_times(line: &[u8], text: &[u8]) -> usize
 fn is_live_phase(phase: Phase) -> bool
     ensures { result ≡ is_live phase }
 {
-    matches!(phase, Phase::Prebooked | Phase::Confirmed | Phase::Fulfilled)
+    matches!(
+        phase,
+        Phase::Prebooked | Phase::Confirmed | Phase::Fulfilled
+    )
 }
 
 // Whether the row's booking is live.

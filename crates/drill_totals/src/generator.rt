@@ -8,12 +8,17 @@ use std::alloc::{AllocError, Global};
 const LEGS: u64 = 8;
 
 /// What stands before, between and behind the two stations of a request.
-const REQUEST_FRONT: &[u8] = b"POST /reservations HTTP/1.1\r\nHost: drill\r\nRetailer-Key: drill\r\nContent-Length: 31\r\n\r\n{\"from\":\"D";
+const REQUEST_FRONT: &[u8] =
+    b"POST /reservations HTTP/1.1\r\nHost: drill\r\nRetailer-Key: drill\r\nContent-Length: 31\r\n\r\n{\"from\":\"D";
+
 const REQUEST_MIDDLE: &[u8] = b"\",\"run\":0,\"to\":\"D";
+
 const REQUEST_END: &[u8] = b"\"}";
 
 /// What stands before and behind the number of places in the catalogue.
-const CATALOGUE_FRONT: &[u8] = b"{\"currency\":\"EUR\",\"rows\":32768,\"retailers\":[{\"number\":1,\"key\":\"drill\"}],\"stations\":[{\"code\":\"D0\"},{\"code\":\"D1\"},{\"code\":\"D2\"},{\"code\":\"D3\"},{\"code\":\"D4\"},{\"code\":\"D5\"},{\"code\":\"D6\"},{\"code\":\"D7\"},{\"code\":\"D8\"}],\"refundSteps\":[{\"before\":0,\"fee\":10000}],\"runs\":[{\"train\":1,\"stops\":[{\"station\":\"D0\",\"depart\":\"2026-06-01T08:00:00Z\"},{\"station\":\"D1\",\"arrive\":\"2026-06-01T08:10:00Z\",\"depart\":\"2026-06-01T08:10:00Z\"},{\"station\":\"D2\",\"arrive\":\"2026-06-01T08:20:00Z\",\"depart\":\"2026-06-01T08:20:00Z\"},{\"station\":\"D3\",\"arrive\":\"2026-06-01T08:30:00Z\",\"depart\":\"2026-06-01T08:30:00Z\"},{\"station\":\"D4\",\"arrive\":\"2026-06-01T08:40:00Z\",\"depart\":\"2026-06-01T08:40:00Z\"},{\"station\":\"D5\",\"arrive\":\"2026-06-01T08:50:00Z\",\"depart\":\"2026-06-01T08:50:00Z\"},{\"station\":\"D6\",\"arrive\":\"2026-06-01T09:00:00Z\",\"depart\":\"2026-06-01T09:00:00Z\"},{\"station\":\"D7\",\"arrive\":\"2026-06-01T09:10:00Z\",\"depart\":\"2026-06-01T09:10:00Z\"},{\"station\":\"D8\",\"arrive\":\"2026-06-01T09:20:00Z\"}],\"fares\":{\"first\":{\"base\":100,\"perLeg\":10},\"second\":{\"base\":100,\"perLeg\":10}},\"coaches\":[{\"coach\":1,\"class\":\"SECOND\",\"places\":[{\"first\":1,\"last\":";
+const CATALOGUE_FRONT: &[u8] =
+    b"{\"currency\":\"EUR\",\"rows\":32768,\"retailers\":[{\"number\":1,\"key\":\"drill\"}],\"stations\":[{\"code\":\"D0\"},{\"code\":\"D1\"},{\"code\":\"D2\"},{\"code\":\"D3\"},{\"code\":\"D4\"},{\"code\":\"D5\"},{\"code\":\"D6\"},{\"code\":\"D7\"},{\"code\":\"D8\"}],\"refundSteps\":[{\"before\":0,\"fee\":10000}],\"runs\":[{\"train\":1,\"stops\":[{\"station\":\"D0\",\"depart\":\"2026-06-01T08:00:00Z\"},{\"station\":\"D1\",\"arrive\":\"2026-06-01T08:10:00Z\",\"depart\":\"2026-06-01T08:10:00Z\"},{\"station\":\"D2\",\"arrive\":\"2026-06-01T08:20:00Z\",\"depart\":\"2026-06-01T08:20:00Z\"},{\"station\":\"D3\",\"arrive\":\"2026-06-01T08:30:00Z\",\"depart\":\"2026-06-01T08:30:00Z\"},{\"station\":\"D4\",\"arrive\":\"2026-06-01T08:40:00Z\",\"depart\":\"2026-06-01T08:40:00Z\"},{\"station\":\"D5\",\"arrive\":\"2026-06-01T08:50:00Z\",\"depart\":\"2026-06-01T08:50:00Z\"},{\"station\":\"D6\",\"arrive\":\"2026-06-01T09:00:00Z\",\"depart\":\"2026-06-01T09:00:00Z\"},{\"station\":\"D7\",\"arrive\":\"2026-06-01T09:10:00Z\",\"depart\":\"2026-06-01T09:10:00Z\"},{\"station\":\"D8\",\"arrive\":\"2026-06-01T09:20:00Z\"}],\"fares\":{\"first\":{\"base\":100,\"perLeg\":10},\"second\":{\"base\":100,\"perLeg\":10}},\"coaches\":[{\"coach\":1,\"class\":\"SECOND\",\"places\":[{\"first\":1,\"last\":";
+
 const CATALOGUE_END: &[u8] = b"}]}]}]}";
 
 /// The leg that a request asks for.
@@ -39,7 +44,12 @@ fn push_request(bytes: &mut Vec<u8>, leg: u8) -> Result<(), AllocError>
 }
 
 /// The requests of a worker, one after the other.
-pub fn worker_requests(alloc: Global, seed: u32, size: u32, worker: u32) -> Result<Vec<u8>, AllocError>
+pub fn worker_requests(
+    alloc: Global,
+    seed: u32,
+    size: u32,
+    worker: u32,
+) -> Result<Vec<u8>, AllocError>
     requires size { size ≤ 2_000 }
     requires worker { worker < 16 }
     ensures { IfOk result (λ v. v.items ≡ requests_of seed size worker) }

@@ -61,12 +61,16 @@ done_served books cat said worker old new ready of idle served = record {
   where
     before : ServiceView
     before = record { desk = old.desk; first = None; clock = Some (script_reading old.clock.next old.clock.tick) }
+
     after : ServiceView
     after = record { desk = new.desk; first = served.2; clock = Some (script_reading new.clock.next new.clock.tick) }
+
     told : Option (List ℕ)
     told = Some (source_left new.source)
+
     desk : (new.desk.number ≡ old.desk.number) × (new.desk.taken ≡ old.desk.taken)
     desk = same_desk cat before after served.0 told served.1 new.end served.5
+
     answered : served.1 ≡ sink_taken new.sink
     answered = sym (served.4 ∙ ap (λ (l : List ℕ). l ++ served.1) ready.fresh)
 

@@ -68,7 +68,7 @@ takes_one books cat said desk new left rest connection refused busy refused_now 
     let first = subst (λ (n : ℕ). IsFirst desk said.workers n) size taking.first in
     let behind = subst (λ (n : ℕ). AreAnswered (connection_of cat said) desk.seen said.workers n refused busy) size taking.answered in
     let counted = one_more (connection_of cat said) desk connection.desk new said.workers (length rest) first both.1.number met
-        refused busy (sink_taken connection.sink) behind (both.1.connection done) none in
+    refused busy (sink_taken connection.sink) behind (both.1.connection done) none in
     record {
       of = of;
       idle = idle;

@@ -13,8 +13,8 @@ ghost use Rattle.host_drill.specs.Connections.{IsReady, Serves};
 ghost use Rattle.host_drill.specs.Drilled.{IsDone, connection_of};
 
 use crate::connection::Connection;
-use drill_totals::{count_times, worker_requests};
 use claim_rule::{Books, Desk};
+use drill_totals::{count_times, worker_requests};
 use host_words::DrillWords;
 use rail_catalogue::Catalogue;
 use rail_io::{BytesSource, ScriptClock, VecSink};
@@ -26,7 +26,9 @@ use std::thread::Threads;
 
 /// The lines with which the answers 409, 500 and 503 begin.
 const REFUSED: &[u8] = b"HTTP/1.1 409 Conflict\r\n";
+
 const NO_MEMORY: &[u8] = b"HTTP/1.1 500 Internal Server Error\r\n";
+
 const BUSY: &[u8] = b"HTTP/1.1 503 Service Unavailable\r\n";
 
 /// The moment of all requests.

@@ -71,7 +71,14 @@ fn other_ends(rt: HostRuntime) -> Result<(), Fail> {
         "drill --seed 7 --workers 17 --size 40 --places 30",
         "replay --seed 7 --workers 4 --size 40 --places 30",
     ] {
-        check(&rt, words, Vec::new(rt.alloc()), 2, "", "rail_host: words refused\n")?;
+        check(
+            &rt,
+            words,
+            Vec::new(rt.alloc()),
+            2,
+            "",
+            "rail_host: words refused\n",
+        )?;
     }
     check(
         &rt,
