@@ -207,11 +207,11 @@ module _ (words : List (List ℕ)) (files : Files) (input left output sent : Opt
 
 -- what a replay's end was caused by, from the causes of each
 pub caused : (e : ReplayEnd) (failed fails missed misses : ℕ) → (e ≡ end.NoCatalogue load.Failed → Rose failed fails) → (e ≡ end.NoCatalogue load.Missing → Rose missed misses)
-    → (e ≡ end.NoCatalogue load.TooLarge → Rose missed misses) → HasCause e failed fails missed misses
-caused (end.NoCatalogue load.Failed) failed fails missed misses a b c = a refl
-caused (end.NoCatalogue load.Missing) failed fails missed misses a b c = b refl
-caused (end.NoCatalogue load.TooLarge) failed fails missed misses a b c = c refl
-caused (end.NoCatalogue (load.Refused fault)) failed fails missed misses a b c = tt
-caused (end.NoCatalogue load.NoMemory) failed fails missed misses a b c = tt
-caused (end.Served e) failed fails missed misses a b c = tt
-caused end.NoMemory failed fails missed misses a b c = tt
+    → (e ≡ end.NoCatalogue load.TooLarge → Rose missed misses) → ((e ≡ end.NoCatalogue load.Failed → ⊥) → fails ≡ failed) → HasCause e failed fails missed misses
+caused (end.NoCatalogue load.Failed) failed fails missed misses a b c steady = a refl
+caused (end.NoCatalogue load.Missing) failed fails missed misses a b c steady = (b refl, steady (λ e. absurd cc))
+caused (end.NoCatalogue load.TooLarge) failed fails missed misses a b c steady = (c refl, steady (λ e. absurd cc))
+caused (end.NoCatalogue (load.Refused fault)) failed fails missed misses a b c steady = steady (λ e. absurd cc)
+caused (end.NoCatalogue load.NoMemory) failed fails missed misses a b c steady = steady (λ e. absurd cc)
+caused (end.Served e) failed fails missed misses a b c steady = steady (λ no. absurd cc)
+caused end.NoMemory failed fails missed misses a b c steady = steady (λ e. absurd cc)
