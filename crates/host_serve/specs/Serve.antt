@@ -91,14 +91,15 @@ Runs words files left end.Served = (said : ServeView) × IsServe words said × E
 Runs words files left end.ListenerFailed = (said : ServeView) × IsServe words said × Ends files said left end.ListenerFailed
 Runs words files left (end.NoCatalogue fault) = (said : ServeView) × IsServe words said × Ends files said left (end.NoCatalogue fault)
 
--- where the shelf gave no file, it failed or missed in this call
+-- The shelf failed in this call where that is the end, and at every other end its count of faults is as it was. Where it has no such file,
+-- or one too large, its misses rose.
 abbrev pub HasCause : ServeOutcome → ℕ → ℕ → ℕ → ℕ → Type 0
 HasCause (end.NoCatalogue load.Failed) failed fails missed misses = Rose failed fails
-HasCause (end.NoCatalogue load.Missing) failed fails missed misses = Rose missed misses
-HasCause (end.NoCatalogue load.TooLarge) failed fails missed misses = Rose missed misses
-HasCause (end.NoCatalogue (load.Refused fault)) failed fails missed misses = Unit {0}
-HasCause (end.NoCatalogue load.NoMemory) failed fails missed misses = Unit {0}
-HasCause end.Served failed fails missed misses = Unit {0}
-HasCause end.ListenerFailed failed fails missed misses = Unit {0}
-HasCause end.NoMemory failed fails missed misses = Unit {0}
-HasCause end.Refused failed fails missed misses = Unit {0}
+HasCause (end.NoCatalogue load.Missing) failed fails missed misses = (fails ≡ failed) × Rose missed misses
+HasCause (end.NoCatalogue load.TooLarge) failed fails missed misses = (fails ≡ failed) × Rose missed misses
+HasCause (end.NoCatalogue (load.Refused fault)) failed fails missed misses = fails ≡ failed
+HasCause (end.NoCatalogue load.NoMemory) failed fails missed misses = fails ≡ failed
+HasCause end.Served failed fails missed misses = fails ≡ failed
+HasCause end.ListenerFailed failed fails missed misses = fails ≡ failed
+HasCause end.NoMemory failed fails missed misses = fails ≡ failed
+HasCause end.Refused failed fails missed misses = fails ≡ failed

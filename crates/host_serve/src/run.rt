@@ -177,6 +177,7 @@ fn open<F: Shelf>(
     ensures opening { IfOk result (λ t. t.1.layout.opening ≡ []) }
     ensures first { IfOk result (λ t. IsFirst t.1 0 t.2) }
     ensures same { F.told shelf.new ≡ F.told shelf.old }
+    ensures steady { (result ≡ Err load.Failed → ⊥) → F.faults shelf.new ≡ F.faults shelf.old }
     ensures failed { result ≡ Err load.Failed → Rose (F.faults shelf.old) (F.faults shelf.new) }
     ensures missing { result ≡ Err load.Missing → Rose (F.misses shelf.old) (F.misses shelf.new) }
     ensures too_large { result ≡ Err load.TooLarge → Rose (F.misses shelf.old) (F.misses shelf.new) }
