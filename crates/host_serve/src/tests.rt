@@ -405,8 +405,7 @@ fn sweeps_twice(rt: HostRuntime) -> Result<(), Fail> {
         worker: sweeping,
     }];
     run_workers(&rt, &books, sweepers.as_mut_slice(), &Open);
-    let [Member { desk: _, worker }] = sweepers;
-    let Post::Sweeping(sweeper) = worker else {
+    let Post::Sweeping(sweeper) = &sweepers[0].worker else {
         return Err(Fail::from("another post"));
     };
     assert!(rt; sweeper.ended);
