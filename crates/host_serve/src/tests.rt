@@ -67,10 +67,9 @@ fn words_of(alloc: Global, line: &str) -> Result<Vec<String>, AllocError> {
 fn clocks_of(alloc: Global, next: Moment) -> Result<Vec<ScriptClock>, AllocError>
     ensures { IfOk result (λ clocks. length clocks.items ≡ 17) }
 {
-    let clock = ScriptClock { next, tick: 0 };
     let mut clocks = Vec::new(alloc);
     for _number in 0..17u32 {
-        clocks.push(clock)?;
+        clocks.push(ScriptClock { next, tick: 0 })?;
     }
     Ok(clocks)
 }
