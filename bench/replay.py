@@ -1,9 +1,9 @@
 #!/usr/bin/env python3
 """Replays generated connections of four mixes, and reports the processor time of a request and the memory.
 
-  bench/replay.py [--requests N]
+  bench/replay.py [--requests N] [--program PATH]
 
-The program is the built one: `rt run rail_host` builds it. Each mix is one input of N requests (50,000). In the same run another program, in
+The program is the built one: `rt run` in crates/rail_host builds it. Each mix is one input of N requests (50,000). In the same run another program, in
 Python, only reads the same input and writes the same output bytes, and does nothing else; its figures stand beside.
 """
 import argparse
@@ -106,9 +106,11 @@ def measured(words, folder, source, sink):
 def main():
     words = argparse.ArgumentParser(description=__doc__, formatter_class=argparse.RawDescriptionHelpFormatter)
     words.add_argument("--requests", type=int, default=50_000)
+    words.add_argument("--program", default=str(PROGRAM))
     given = words.parse_args()
-    if not PROGRAM.exists():
-        sys.exit("%s is not built: rt run rail_host builds it" % PROGRAM)
+    if not pathlib.Path(given.program).is_file():
+        sys.exit("%s is not built: rt run in crates/rail_host builds it" % given.program)
+    program = str(pathlib.Path(given.program).resolve())
     with tempfile.TemporaryDirectory() as name:
         folder = pathlib.Path(name)
         baseline = folder / "baseline.py"
@@ -118,17 +120,18 @@ def main():
             source, sink, copy = folder / "input", folder / "output", folder / "copy"
             with open(source, "w", newline="") as file:
                 file.writelines(mix(given.requests))
-            alone, room = measured([str(PROGRAM), "replay", "catalogue.json"], folder, "/dev/null", sink)
+            alone, room = measured([program, "replay", "catalogue.json"], folder, "/dev/null", sink)
             start = ["--start", moment(0)]
-            seconds, memory = measured([str(PROGRAM), "replay", "catalogue.json"] + start, folder, source, sink)
+            seconds, memory = measured([program, "replay", "catalogue.json"] + start, folder, source, sink)
             plain, least = measured([sys.executable, str(baseline), str(sink)], folder, source, copy)
             with open(sink, "rb") as answers:
                 good = answers.read(10) == b"HTTP/1.1 2"
             print(
-                "%-20s %8.1f us a request, %d MB (without requests %.2f s, %d MB); %d MB in, %d MB out; read and written alone %.1f us, %d MB%s"
+                "%-20s %8.1f us a request, %.0f times as much as read and written alone, %d MB (without requests %.2f s, %d MB); %d MB in, %d MB out; alone %.1f us, %d MB%s"
                 % (
                     label,
                     (seconds - alone) * 1e6 / given.requests,
+                    (seconds - alone) / max(plain, 0.001),
                     memory // 1_000_000,
                     alone,
                     room // 1_000_000,
@@ -143,4 +146,5 @@ def main():
             sink.unlink()
 
 
-main()
+if __name__ == "__main__":
+    main()
