@@ -22,7 +22,6 @@ mod tiny_host;
 mod wish;
 mod words;
 
-use host_drill::run_drill;
 use rail_io::{FileShelf, ReaderSource, WriterSink};
 use std::alloc::AllocError;
 use std::env;
@@ -45,14 +44,6 @@ fn given_words(rt: &(impl Env + AllocGlobal)) -> Result<Vec<String>, AllocError>
     Ok(words)
 }
 
-/// Whether they are the words of `drill`, whose connections run in threads.
-fn are_for_drill(words: &[String]) -> bool {
-    match words.first() {
-        Some(name) => name.as_str() == "drill",
-        None => false,
-    }
-}
-
 fn main(rt: HostRuntime) -> ExitCode {
     let alloc = rt.alloc();
     let mut shelf = FileShelf::new(&rt);
@@ -62,9 +53,6 @@ fn main(rt: HostRuntime) -> ExitCode {
     let status = match given_words(&rt) {
         Ok(words) if host_serve::is_for_serve(&words) => {
             serve::serve_port(&rt, alloc, &words, &mut shelf, &mut notes)
-        }
-        Ok(words) if are_for_drill(&words) => {
-            run_drill(&rt, alloc, &words, &mut output, &mut notes).status
         }
         Ok(words) => host::run_plain(
             alloc,
