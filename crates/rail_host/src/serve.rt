@@ -14,13 +14,16 @@ use std::time;
 /// How many clocks serving takes: one for each of 16 members that serve, and one for the member that sweeps.
 const CLOCKS: u8 = 17;
 
-/// Clocks of the system, as many as serving takes.
-fn system_clocks<R: time::Clock>(rt: &R, alloc: Global) -> Result<Vec<SystemClock<&R>>, AllocError>
+/// Clocks that read this one, as many as serving takes.
+fn system_clocks<C: time::Clock + Copy + Drop>(
+    clock: C,
+    alloc: Global,
+) -> Result<Vec<SystemClock<C>>, AllocError>
     ensures { IfOk result (λ clocks. length clocks.items ≡ 17) }
 {
     let mut clocks = Vec::new(alloc);
     for _number in 0..CLOCKS {
-        clocks.push(SystemClock::new(rt))?;
+        clocks.push(SystemClock::new(clock))?;
     }
     Ok(clocks)
 }
