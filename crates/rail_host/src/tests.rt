@@ -83,15 +83,9 @@ const EXAMPLE: &str = r#"{"currency":"EUR",
 /// A piece that holds any input whole.
 const WHOLE: usize = 1_000_000;
 
-/// A run of the words over an input that fails nowhere, and over a shelf with these catalogues.
-fn run<S: Source>(
-    alloc: Global,
-    words: &[&str],
-    input: &mut S,
-    output: &mut VecSink,
-    notes: &mut VecSink,
-) -> Result<u8, AllocError> {
-    let mut shelf = MapShelf::new(alloc, Vec::new(alloc));
+/// A shelf with these catalogues, of which these fetches fail.
+fn shelf_of(alloc: Global, fails: Vec<u64>) -> Result<MapShelf, AllocError> {
+    let mut shelf = MapShelf::new(alloc, fails);
     for (name, text) in [
         ("k1.json", EXAMPLE),
         ("list.json", "[]"),
@@ -100,11 +94,35 @@ fn run<S: Source>(
         let name = String::from_str(alloc, name)?;
         shelf.put(name, text.as_bytes().to_vec(alloc)?)?;
     }
+    Ok(shelf)
+}
+
+/// A run of the words over a shelf that fails nowhere.
+fn run<S: Source>(
+    alloc: Global,
+    words: &[&str],
+    input: &mut S,
+    output: &mut VecSink,
+    notes: &mut VecSink,
+) -> Result<u8, AllocError> {
+    let mut shelf = shelf_of(alloc, Vec::new(alloc))?;
+    run_over(alloc, words, &mut shelf, input, output, notes)
+}
+
+/// A run of the words over this shelf.
+fn run_over<S: Source>(
+    alloc: Global,
+    words: &[&str],
+    shelf: &mut MapShelf,
+    input: &mut S,
+    output: &mut VecSink,
+    notes: &mut VecSink,
+) -> Result<u8, AllocError> {
     let mut given = Vec::new(alloc);
     for word in words {
         given.push(String::from_str(alloc, word)?)?;
     }
-    Ok(run_plain(alloc, &given, &mut shelf, input, output, notes))
+    Ok(run_plain(alloc, &given, shelf, input, output, notes))
 }
 
 /// What a run over these bytes gives, whatever pieces they come in.
@@ -676,5 +694,67 @@ fn replays_end(rt: HostRuntime) -> Result<(), Fail> {
             (status, note),
         )?;
     }
+    Ok(())
+}
+
+/// A replay of one request, whose fetch, read and write of these numbers fail, each counted from 1: its status, what it wrote, its note.
+#[test]
+fn replay_devices_fail(rt: HostRuntime) -> Result<(), Fail> {
+    let alloc = rt.alloc();
+    let request = request_of(alloc, "GET /bookings/B000000", "")?;
+    let head = &UNKNOWN[..UNKNOWN.len() - 64];
+    for (fetch, read, write, status, output, note) in [
+        (1, 0, 0, 3, "", "rail_host: read fault\n"),
+        (0, 1, 0, 3, "", "rail_host: read fault\n"),
+        (0, 2, 0, 3, UNKNOWN, "rail_host: read fault\n"),
+        (0, 0, 1, 4, "", "rail_host: write fault\n"),
+        (0, 0, 2, 4, head, "rail_host: write fault\n"),
+        (2, 0, 0, 0, UNKNOWN, ""),
+    ] {
+        let mut shelf = shelf_of(alloc, vec![in alloc; fetch]?)?;
+        let mut source = BytesSource::new(request.as_bytes().to_vec(alloc)?, vec![in alloc; read]?);
+        let mut sink = VecSink::new(alloc, vec![in alloc; write]?);
+        let mut notes = VecSink::new(alloc, Vec::new(alloc));
+        let words = ["replay", "k1.json"];
+        let got = run_over(
+            alloc,
+            &words,
+            &mut shelf,
+            &mut source,
+            &mut sink,
+            &mut notes,
+        )?;
+        assert_eq!(rt; got, status, "{fetch} {read} {write}");
+        assert_eq!(rt; sink.taken(), output.as_bytes(), "{fetch} {read} {write}");
+        assert_eq!(rt; notes.taken(), note.as_bytes(), "{fetch} {read} {write}");
+    }
+    Ok(())
+}
+
+/// A catalogue of one byte more than may be is too large, and nothing is read.
+#[test]
+fn replay_of_too_large_a_file(rt: HostRuntime) -> Result<(), Fail> {
+    let alloc = rt.alloc();
+    let mut shelf = MapShelf::new(alloc, Vec::new(alloc));
+    let name = String::from_str(alloc, "large.json")?;
+    shelf.put(name, Vec::from_elem(alloc, b' ', 33_554_433)?)?;
+    let mut source = BytesSource::new(FIRST.as_bytes().to_vec(alloc)?, Vec::new(alloc));
+    let mut sink = VecSink::new(alloc, Vec::new(alloc));
+    let mut notes = VecSink::new(alloc, Vec::new(alloc));
+    let words = ["replay", "large.json"];
+    let got = run_over(
+        alloc,
+        &words,
+        &mut shelf,
+        &mut source,
+        &mut sink,
+        &mut notes,
+    )?;
+    assert_eq!(rt; got, 1);
+    assert_eq!(rt; sink.taken(), b"".as_slice());
+    assert_eq!(rt;
+        notes.taken(),
+        b"rail_host: catalogue too large\n".as_slice()
+    );
     Ok(())
 }
