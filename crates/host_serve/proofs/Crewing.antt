@@ -4,18 +4,31 @@ use Rattle.std.proofs.Math.Logic.{⊎_elim}
 use Rattle.std.proofs.lemmas.Bool.{cases_lt}
 use Rattle.std.proofs.lemmas.List.{drop_all, get_or_append_left, length-append, take_all}
 use Rattle.std.proofs.Math.Seq.{get_or-append_seam}
-use Rattle.std.specs.List.{All}
+use Rattle.std.specs.List.{All, AllByRecursion}
 use Rattle.std.proofs.lemmas.List.Elements.{All-from_get_or}
 use mathlib.Core.List.{IsPrefix}
-use Rattle.history_model.specs.History.{own}
+use Rattle.history_model.specs.History.{entry, own}
+use Rattle.history_model.specs.declared.entry.Entry.{Entry}
+use Rattle.history_model.proofs.ListLemmas.{All-append}
 use Rattle.claim_rule.specs.Rule.{BooksView, DeskView, In, Each, IsWhole}
 use Rattle.history_model.specs.declared.entry.Step.TheVariants.{Met}
 use Rattle.claim_rule.specs.Seats.{IsOf, IsNew, HasMet, Stepped}
 use Rattle.claim_rule.specs.Out.{IsTidy}
+use Rattle.claim_rule.proofs.Shapes.{step_shape}
 use Rattle.claim_rule.proofs.Views.{each_in}
 use Rattle.worker_pool.specs.Turns.{KeepsDesk, EachMember}
 use Rattle.worker_pool.specs.declared.member.Member.{Member}
-use Rattle.host_serve.specs.Crews.{IsFirst, IsDesk, IsMember, IsCrew, HasIn, HasMetAll}
+use Rattle.host_serve.specs.Crews.{OnlyMet, IsFirst, IsDesk, IsMember, IsCrew, HasIn, HasMetAll}
+
+-- what begins a beginning begins the whole
+pub begins : (a b c : List Entry) → IsPrefix a b → IsPrefix b c → IsPrefix a c
+begins a b c p q = (p.0 ++ q.0, sym (append_assoc a p.0 q.0) ∙ (ap (λ l. l ++ q.0) p.1 ∙ q.1))
+
+-- one meeting more
+pub one_more : (n : ℕ) (old new : List Entry) → n ≡ 0 → own new n ≡ own old n ++ entry n Met ∷ [] → OnlyMet old → OnlyMet new
+one_more n old new first added meets =
+    let here : own new 0 ≡ own old 0 ++ entry 0 Met ∷ [] = subst (λ (k : ℕ). own new k ≡ own old k ++ entry k Met ∷ []) first added in
+    subst (λ (es : List Entry). AllByRecursion (λ e. e.step ≡ Met) es) (sym here) (All-append (λ e. e.step ≡ Met) (own old 0) (entry 0 Met ∷ []) meets (refl, tt {0}))
 
 in_left : (j : ℕ) (a b : List ℕ) → In j a → In j (a ++ b)
 in_left j [] b i = elim i [ ]
@@ -26,17 +39,21 @@ in_right : (j : ℕ) (a b : List ℕ) → In j b → In j (a ++ b)
 in_right j [] b i = i
 in_right j (k ∷ ks) b i = inr (in_right j ks b i)
 
+-- what is so of each, by its place, is so with one more
+pub joined_each : {M : Type 0} (so : ℕ → M → Type 0) (crew : List M) (m : M) → ((i : ℕ) (none : M) → i < length crew → so i (slice_index_or crew i none)) → so (length crew) m
+    → (i : ℕ) (none : M) → i < length (crew ++ m ∷ []) → so i (slice_index_or (crew ++ m ∷ []) i none)
+joined_each {M} so crew m is new i none lt = ⊎_elim
+    (λ (here : i < length crew). subst (so i) (sym (get_or_append_left crew (m ∷ []) none i here)) (is i none here))
+    (λ (past : length crew ≤ i).
+    let count : length (crew ++ m ∷ []) ≡ length crew + 1 = length-append crew (m ∷ []) in
+    let at : length crew ≡ i = omega (arith, lt, past, count) in
+    subst (λ (k : ℕ). so k (slice_index_or (crew ++ m ∷ []) k none)) at (subst (so (length crew)) (sym (get_or-append_seam crew m [] none)) new))
+    (cases_lt i (length crew))
+
 module _ {W : Type 0} (Fits : W → BooksView → Type 0) (books : BooksView) where
   -- one member more
   pub joined : (crew : List (Member W)) (m : Member W) → IsCrew Fits books crew → IsMember Fits books (length crew + 1) m → IsCrew Fits books (crew ++ m ∷ [])
-  joined crew m is new i none lt = ⊎_elim
-      (λ (here : i < length crew). subst (λ (n : Member W). IsMember Fits books (i + 1) n) (sym (get_or_append_left crew (m ∷ []) none i here)) (is i none here))
-      (λ (past : length crew ≤ i).
-      let count : length (crew ++ m ∷ []) ≡ length crew + 1 = length-append crew (m ∷ []) in
-      let at : length crew ≡ i = omega (arith, lt, past, count) in
-      subst (λ (k : ℕ). IsMember Fits books (k + 1) (slice_index_or (crew ++ m ∷ []) k none)) at
-      (subst (λ (n : Member W). IsMember Fits books (length crew + 1) n) (sym (get_or-append_seam crew m [] none)) new))
-      (cases_lt i (length crew))
+  joined crew m is new = joined_each (λ i n. IsMember Fits books (i + 1) n) crew m is new
 
   -- what holds of each member holds of all
   pub all_of : (P : Member W → Type 0) (crew : List (Member W)) → ((i : ℕ) (none : Member W) → i < length crew → P (slice_index_or crew i none)) → All P crew
@@ -70,6 +87,7 @@ none_met books crew desk first = record {
   tidy = first.tidy;
   number = first.number;
   made = first.made;
+  meets = first.meets;
   met = λ i none low high. absurd (omega (arith, low, high));
 }
 
@@ -82,11 +100,13 @@ met_one {W} Fits books all crew m old new front is before met of tidy = record {
   tidy = tidy;
   number = met.same.2 ∙ before.number;
   made = met.same.3 ∙ before.made;
+  meets = one_more old.number old.seen new.seen before.number met.mine before.meets;
   met = λ i none low high. ⊎_elim
       (λ (later : length crew < i).
       let was = before.met i none (omega (arith, later)) high in (
         subst (λ (ks : List ℕ). In (i + 1) ks) (sym met.taken) (in_left (i + 1) old.taken (m.desk.number ∷ m.desk.taken) was.0),
         each_in (λ (j : ℕ). own new.seen j ≡ own old.seen j) old.taken (i + 1) met.before was.0 ∙ was.1,
+        begins (slice_index_or all i none).desk.seen old.seen new.seen was.2 met.front,
       ))
       (λ (not_later : i ≤ length crew).
       let at : length crew ≡ i = omega (arith, low, not_later) in
@@ -95,6 +115,7 @@ met_one {W} Fits books all crew m old new front is before met of tidy = record {
         subst (λ (ks : List ℕ). In (i + 1) ks) (sym met.taken) (in_right (i + 1) old.taken (m.desk.number ∷ m.desk.taken) (inl number)),
         subst (λ (n : Member W). own new.seen (i + 1) ≡ own n.desk.seen (i + 1)) (sym member)
             (subst (λ (k : ℕ). own new.seen k ≡ own m.desk.seen k) (sym number) met.theirs.0),
+        subst (λ (n : Member W). IsPrefix n.desk.seen new.seen) (sym member) met.other_front,
       ))
       (cases_lt (length crew) i);
 }
@@ -108,6 +129,7 @@ parted_first books n old new first of met made tidy = record {
   number = met.same.2 ∙ first.number;
   made = made ∙ ap (λ (k : ℕ). k + 1) first.made;
   taken = met.same.3 ∙ first.taken;
+  meets = one_more old.number old.seen new.seen first.number (step_shape Met old (record new { made = old.made }) met).mine first.meets;
 }
 
 pub parted_desk : (books : BooksView) (n : ℕ) (old new desk : DeskView) → IsFirst books n old → new.made ≡ old.made + 1 → IsNew desk new.made new.seen
@@ -118,6 +140,11 @@ parted_desk books n old new desk first made is of tidy = record {
   number = is.number ∙ (made ∙ ap (λ (k : ℕ). k + 1) first.made);
   taken = is.taken;
 }
+
+-- it has no entries of its own
+pub parted_empty : (n : ℕ) (new desk : DeskView) → new.made ≡ n + 1 → IsNew desk new.made new.seen → own new.seen new.made ≡ [] → own desk.seen (n + 1) ≡ []
+parted_empty n new desk made is none =
+    subst (λ (k : ℕ). own desk.seen k ≡ []) made (ap (λ (es : List Entry). own es new.made) is.seen ∙ none)
 
 -- the members of a crew that has run stand at their desks
 pub after_run : {W : Type 0} (Fits : W → BooksView → Type 0) (books : BooksView) (old crew : List (Member W)) → IsCrew Fits books old → length crew ≡ length old
@@ -155,6 +182,16 @@ complete {W} books crew none first other new all met number =
             (cases_lt 1 j)),
       ),
       made,
+    )
+
+-- the first desk has then seen what each of them had seen, and of its entries no more
+pub has_in : {W : Type 0} (books : BooksView) (crew : List (Member W)) (first other new : DeskView) → HasMetAll books crew 1 first → HasMet first other new
+    → (i : ℕ) (none : Member W) → 1 ≤ i → i < length crew
+    → (own new.seen (i + 1) ≡ own (slice_index_or crew i none).desk.seen (i + 1)) × IsPrefix (slice_index_or crew i none).desk.seen new.seen
+has_in books crew first other new all met i none low high =
+    let was = all.met i none low high in (
+      each_in (λ (j : ℕ). own new.seen j ≡ own first.seen j) first.taken (i + 1) met.before was.0 ∙ was.1,
+      begins (slice_index_or crew i none).desk.seen first.seen new.seen was.2 met.front,
     )
 
 -- what is so of the members of a crew that is the same

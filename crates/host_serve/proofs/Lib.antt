@@ -1,3 +1,4 @@
+pub mod Chaining
 pub mod Crewing
 pub mod Leaving
 pub mod Closing

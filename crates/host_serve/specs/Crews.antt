@@ -1,19 +1,31 @@
 -- Crews and the first desk.
 use Rattle.std.specs.Prelude.{◌≡◌, ◌<◌, ◌≤◌, ◌+◌, ℕ, List, [], length, slice_index_or}
+use mathlib.Core.List.{IsPrefix}
+use Rattle.std.specs.List.{AllByRecursion}
 use Rattle.history_model.specs.History.{own}
+use Rattle.history_model.specs.declared.entry.Entry.{Entry}
+use Rattle.history_model.specs.declared.entry.Step.TheVariants.{Met}
 use Rattle.claim_rule.specs.Rule.{BooksView, DeskView, In}
 use Rattle.claim_rule.specs.Seats.{IsOf}
 use Rattle.claim_rule.specs.Out.{IsTidy}
-use Rattle.worker_pool.specs.Turns.{Doing, RunsToEnd, EachMember}
+use Rattle.worker_pool.specs.Turns.{Doing, KeepsDesk, RunsToEnd, EachMember}
 use Rattle.worker_pool.specs.declared.member.Member.{Member}
+use Rattle.rail_catalogue.specs.Contents.{CatalogueView}
+use Rattle.host_serve.specs.Turns.{IsPosted}
+use Rattle.host_serve.specs.declared.member.Post.{Post}
 
--- the first desk of the books, which has parted so many others, and has taken in none
+-- in the history the first desk has nothing but meetings
+abbrev pub OnlyMet : List Entry → Type 0
+OnlyMet history = AllByRecursion (λ e. e.step ≡ Met) (own history 0)
+
+-- the first desk of the books, which has parted so many others, has taken in none, and has done nothing else
 pub record IsFirst (books : BooksView) (parted : ℕ) (desk : DeskView) : Type 0 where
   pub own : IsOf books desk
   pub tidy : IsTidy desk
   pub number : desk.number ≡ 0
   pub made : desk.made ≡ parted
   pub taken : desk.taken ≡ []
+  pub meets : OnlyMet desk.seen
 
 -- a desk of the books with this number, which has taken in none
 pub record IsDesk (books : BooksView) (n : ℕ) (desk : DeskView) : Type 0 where
@@ -31,16 +43,25 @@ pub record IsMember {W : Type 0} (Fits : W → BooksView → Type 0) (books : Bo
 abbrev pub IsCrew : {W : Type 0} → (W → BooksView → Type 0) → BooksView → List (Member W) → Type 0
 IsCrew {W} Fits books crew = (i : ℕ) (none : Member W) → i < length crew → IsMember Fits books (i + 1) (slice_index_or crew i none)
 
--- the desk has taken in this one: all its entries stand in what it has seen
-abbrev pub HasIn : DeskView → ℕ → DeskView → Type 0
-HasIn first number desk = In number first.taken × (own first.seen number ≡ own desk.seen number)
+-- a member that stands ready at its post, at a desk without entries of its own
+pub record IsReady {S T C : Type 0} (cat : CatalogueView) (workers : ℕ) (i : ℕ) (m : Member (Post S T C)) : Type 0 where
+  pub post : IsPosted cat workers i m.worker
+  pub none : own m.desk.seen (i + 1) ≡ []
 
--- the first desk has taken in all members' desks behind the first `left`
+abbrev pub AreReady : {S T C : Type 0} → CatalogueView → ℕ → List (Member (Post S T C)) → Type 0
+AreReady {S} {T} {C} cat workers crew = (i : ℕ) (none : Member (Post S T C)) → i < length crew → IsReady cat workers i (slice_index_or crew i none)
+
+-- the desk has taken in this one: it has seen all that this one had seen, and of this one's entries no more
+abbrev pub HasIn : DeskView → ℕ → DeskView → Type 0
+HasIn first number desk = In number first.taken × (own first.seen number ≡ own desk.seen number) × IsPrefix desk.seen first.seen
+
+-- the first desk has taken in all members' desks behind the first `left`, and has done nothing else
 pub record HasMetAll {W : Type 0} (books : BooksView) (crew : List (Member W)) (left : ℕ) (desk : DeskView) : Type 0 where
   pub own : IsOf books desk
   pub tidy : IsTidy desk
   pub number : desk.number ≡ 0
   pub made : desk.made ≡ length crew
+  pub meets : OnlyMet desk.seen
   pub met : (i : ℕ) (none : Member W) → left ≤ i → i < length crew → HasIn desk (i + 1) (slice_index_or crew i none).desk
 
 -- The members of a crew took their turns to their ends; the first desk has taken in the desks of all but the first, which is left.
@@ -48,6 +69,7 @@ pub record HasRun {W : Type 0} (Fits : W → BooksView → Type 0) (does : Doing
   pub crew : List (Member W)
   pub count : length crew ≡ length old
   pub turns : EachMember (λ m n. RunsToEnd does ended m.worker m.desk n.worker n.desk) old crew
+  pub keeps : EachMember (λ m n. KeepsDesk m.desk n.desk) old crew
   pub met : HasMetAll books crew 1 desk
   pub is : IsMember Fits books 1 member
   pub left : (none : Member W) → member ≡ slice_index_or crew 0 none

@@ -1,9 +1,10 @@
 -- What `serve` promises.
-use Rattle.std.specs.Prelude.{◌≡◌, ◌⊎◌, ◌<◌, ◌+◌, ℕ, List, [], Option, Some, None, IsSomeAnd, IfSome, Ok, Err, slice_get, codes}
+use Rattle.std.specs.Prelude.{◌≡◌, ◌⊎◌, ◌<◌, ◌≤◌, ◌+◌, ℕ, List, [], Option, Some, None, IsSomeAnd, IfSome, Ok, Err, slice_get, codes}
 use Rattle.rail_io.specs.Faults.{Rose}
-use Rattle.history_model.specs.History.{IsLegal, state_of}
+use mathlib.Core.List.{IsPrefix}
+use Rattle.history_model.specs.History.{IsLegal, own, state_of}
 use Rattle.history_model.specs.Words.{AreWordsOf}
-use Rattle.claim_rule.specs.Rule.{DeskView, IsWhole}
+use Rattle.history_model.specs.declared.entry.Entry.{Entry}
 use Rattle.claim_rule.specs.Walls.{WallView}
 use Rattle.rail_catalogue.specs.Contents.{CatalogueView, legs_in}
 use Rattle.host_io.specs.Listeners.{ListenerView}
@@ -12,6 +13,8 @@ use Rattle.host_words.specs.declared.serve.Serving.{Serving}
 use Rattle.host_words.specs.declared.serve.ServeWords.{ServeWords}
 use Rattle.host_catalogue.specs.Loading.{Files, Loads}
 use Rattle.host_catalogue.specs.declared.load.LoadFault.TheVariants as load
+use Rattle.host_serve.specs.Crews.{OnlyMet}
+use Rattle.host_serve.specs.Turns.{Stand, OneTurn, Chain, Connection, Sweep}
 use Rattle.host_serve.specs.declared.end.ServeOutcome.{ServeOutcome}
 use Rattle.host_serve.specs.declared.end.ServeOutcome.TheVariants as end
 
@@ -32,16 +35,26 @@ IsNoServe words = (said : ServeView) → IsServe words said → ⊥
 abbrev pub said_in : ServeWords → ServeView
 said_in words = record { catalogue = words.catalogue.now; numbers = words.numbers }
 
--- The wall's words are those of its history, which is legal, of the catalogue's places and rows, and what a first desk has seen that took in
--- the desk of each member: so no entry is left out.
+-- The entries of desk n in the history are those of turns that were made one after the other, from a desk of that number without any.
+pub record HasWorked (Does : OneTurn) (history : List Entry) (n : ℕ) : Type 0 where
+  pub began : Stand
+  pub number : began.desk.number ≡ n
+  pub none : own began.desk.seen n ≡ []
+  pub began_front : IsPrefix began.desk.seen history
+  pub ended : Stand
+  pub ended_front : IsPrefix ended.desk.seen history
+  pub turns : Chain Does began ended
+  pub entries : own history n ≡ own ended.desk.seen n
+
+-- The wall's words are those of its history, which is legal, of the catalogue's places and rows. In it the first desk only met others. The
+-- desks 1 to the number of workers served connections, and the one behind them swept: their entries there are those of all their turns.
 pub record IsServedWall (cat : CatalogueView) (said : Serving) (wall : WallView) : Type 0 where
   pub layout : wall.layout ≡ record { legs = legs_in cat; rows = cat.rows; opening = [] }
   pub legal : IsLegal wall.layout wall.history
   pub words : AreWordsOf wall.layout (state_of wall.layout wall.history) wall.words
-  pub desk : DeskView
-  pub seen : wall.history ≡ desk.seen
-  pub complete : IsWhole desk.number desk.made desk.taken
-  pub members : desk.made ≡ said.workers + 1
+  pub first : OnlyMet wall.history
+  pub serving : (n : ℕ) → 1 ≤ n → n ≤ said.workers → HasWorked (Connection cat) wall.history n
+  pub sweeping : HasWorked Sweep wall.history (said.workers + 1)
 
 -- what was served, of the catalogue of the words' file
 pub record HasWall (files : Files) (said : ServeView) (wall : Option WallView) : Type 0 where
@@ -71,7 +84,8 @@ abbrev pub Ends : Files → ServeView → Left → ServeOutcome → Type 0
 Ends files said left end.Served = IsSpent said.numbers left.after × HasWall files said left.wall
 Ends files said left end.ListenerFailed =
     HasFailed said.numbers left.faults_before left.faults_after left.after × ((left.wall ≡ None) ⊎ HasWall files said left.wall)
-Ends files said left (end.NoCatalogue fault) = Loads files said.catalogue (Err fault) × (left.after ≡ left.before) × (left.wall ≡ None)
+Ends files said left (end.NoCatalogue fault) =
+    Loads files said.catalogue (Err fault) × (left.after ≡ left.before) × (left.faults_after ≡ left.faults_before) × (left.wall ≡ None)
 Ends files said left end.NoMemory = left.wall ≡ None
 Ends files said left end.Refused = ⊥
 

@@ -1,5 +1,5 @@
 -- What the turns of members do.
-use Rattle.std.specs.Prelude.{◌≡◌, ◌⊎◌, ℕ, ◌+◌, zero, suc, Bool, true, false, List, Option, None}
+use Rattle.std.specs.Prelude.{◌≡◌, ◌<◌, ◌⊎◌, ℕ, ◌+◌, zero, suc, Bool, true, false, List, [], ◌∷◌, Option, None}
 use Rattle.rail_ids.specs.declared.RetailerNo.{RetailerNo}
 use Rattle.rail_io.specs.Told.{with_front, with_end}
 use Rattle.session_loop.specs.declared.end.ConnEnd.{ConnEnd}
@@ -44,6 +44,32 @@ pub record Rests (clock : Readings) (old : DeskView) (later : Readings) (new : D
   pub same : new ≡ old
   pub unread : later ≡ clock
 
+-- a desk, beside the readings to come of the clock that it is worked by
+pub record Stand : Type 0 where
+  pub desk : DeskView
+  pub clock : Readings
+
+-- what a turn does, from one stand to the next
+abbrev pub OneTurn : Type 1
+OneTurn = Stand → Stand → Type 0
+
+-- one connection of the catalogue; one sweep
+abbrev pub Connection : CatalogueView → OneTurn
+Connection cat old new = ServesOne cat old.clock old.desk new.clock new.desk
+
+abbrev pub Sweep : OneTurn
+Sweep old new = SweepsOnce old.clock old.desk new.clock new.desk
+
+-- each turn leads from one stand to the next of these, and the last to the end
+abbrev pub Leads : OneTurn → Stand → List Stand → Stand → Type 0
+Leads Does old [] new = new ≡ old
+Leads Does old (next ∷ later) new = Does old next × Leads Does next later new
+
+-- turns one after the other, from stand to stand
+pub record Chain (Does : OneTurn) (old new : Stand) : Type 0 where
+  pub stands : List Stand
+  pub leads : Leads Does old stands new
+
 -- a serving member's turn: one connection, or nothing, where it has then ended
 abbrev pub ServesTurn : CatalogueView → Readings → DeskView → Readings → DeskView → Bool → Type 0
 ServesTurn cat clock old later new true = Rests clock old later new
@@ -75,3 +101,17 @@ module _ {S T C : Type 0} where
   DoesTurn told (Sweeping w) old (Sweeping v) new = SweepsTurn (told w.clock) old (told v.clock) new v.ended
   DoesTurn told (Serving w) old (Sweeping v) new = ⊥
   DoesTurn told (Sweeping w) old (Serving v) new = ⊥
+
+  -- all turns of a member up to its end are a chain: of connections of its catalogue, or of sweeps
+  abbrev pub HasChain : (C → Readings) → Post S T C → DeskView → Post S T C → DeskView → Type 0
+  HasChain told (Serving w) old (Serving v) new =
+      (v.common.cat.now ≡ w.common.cat.now)
+      × Chain (Connection w.common.cat.now) (record { desk = old; clock = told w.clock }) (record { desk = new; clock = told v.clock })
+  HasChain told (Sweeping w) old (Sweeping v) new = Chain Sweep (record { desk = old; clock = told w.clock }) (record { desk = new; clock = told v.clock })
+  HasChain told (Serving w) old (Sweeping v) new = ⊥
+  HasChain told (Sweeping w) old (Serving v) new = ⊥
+
+  -- the post of member i, from 0, of so many that serve the catalogue and a last one that sweeps
+  abbrev pub IsPosted : CatalogueView → ℕ → ℕ → Post S T C → Type 0
+  IsPosted cat workers i (Serving w) = (i < workers) × (w.common.cat.now ≡ cat)
+  IsPosted cat workers i (Sweeping w) = i ≡ workers

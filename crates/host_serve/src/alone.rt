@@ -4,13 +4,13 @@ ghost use Rattle.rail_io.specs.Faults.{Rose};
 ghost use Rattle.claim_rule.specs.Seats.{IsOf};
 ghost use Rattle.claim_rule.specs.Out.{IsTidy};
 ghost use Rattle.worker_pool.specs.Turns.{KeepsDesk};
-ghost use Rattle.host_serve.specs.Turns.{HasCatalogue};
+ghost use Rattle.host_serve.specs.Turns.{HasCatalogue, Chain, Connection};
 
 use crate::member::Common;
+use crate::one::serve_one;
 use claim_rule::{Books, Desk};
 use host_io::{Accepted, Listener};
 use rail_io::Clock;
-use rail_service::serve_waiting;
 
 /// Serves a listener's streams one after the other, until as many as its limit were handed out, and answers true, or until an accept
 /// failed, and answers false.
@@ -30,6 +30,7 @@ pub fn serve_alone<L: Listener + Drop, C: Clock>(
     ensures own { IsOf books.now desk.new }
     ensures tidy { IsTidy desk.new }
     ensures keeps { KeepsDesk desk.old desk.new }
+    ensures turns { Chain (Connection common.entry.cat.now) (record { desk = desk.old; clock = C.told clock.old }) (record { desk = desk.new; clock = C.told clock.new }) }
     ensures port { (L.told listener.new).port ≡ (L.told listener.old).port }
     ensures limit { (L.told listener.new).limit ≡ limit }
     ensures within { (L.told listener.new).handed ≤ limit }
@@ -39,16 +40,7 @@ pub fn serve_alone<L: Listener + Drop, C: Clock>(
 {
     for _served in 0..limit {
         match listener.accept() {
-            Accepted::Stream(waiting) => {
-                let _finished = serve_waiting(
-                    common.alloc,
-                    common.cat,
-                    books,
-                    desk,
-                    waiting,
-                    clock,
-                );
-            }
+            Accepted::Stream(waiting) => serve_one(common, books, desk, waiting, clock),
             Accepted::Failed => return false,
             Accepted::Closed => return true,
         }

@@ -2,7 +2,7 @@
 ghost use Rattle.std.specs.Prelude.{◌≡◌, ◌≤◌, ◌+◌, [], length, IfOk};
 ghost use Rattle.claim_rule.specs.Seats.{IsOf};
 ghost use Rattle.claim_rule.specs.Out.{IsTidy};
-ghost use Rattle.host_serve.specs.Crews.{IsCrew, IsFirst};
+ghost use Rattle.host_serve.specs.Crews.{AreReady, IsCrew, IsFirst};
 ghost use Rattle.host_serve.specs.Turns.{FitsBooks, HasCatalogue};
 
 use crate::member::{Common, Post};
@@ -37,6 +37,7 @@ pub fn crew_of<'s, R: Wait, L: Listener + Drop, N: Named, T: Ticker + Drop, C: C
     requires clocks { said.workers + 1 ≤ length clocks.items }
     ensures first { IfOk result (λ crew. IsFirst books.now (length crew.items) first.new) }
     ensures crew { IfOk result (λ crew. IsCrew FitsBooks books.now crew.items) }
+    ensures ready { IfOk result (λ crew. AreReady common.entry.cat.now said.workers crew.items) }
     ensures count { IfOk result (λ crew. length crew.items ≡ said.workers + 1) }
 {
     let mut crew = Vec::new(common.alloc);

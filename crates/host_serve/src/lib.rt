@@ -10,6 +10,7 @@ mod crew;
 mod end;
 mod meeting;
 mod member;
+mod one;
 mod run;
 mod serving;
 mod streams;

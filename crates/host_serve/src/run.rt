@@ -14,7 +14,7 @@ ghost use Rattle.host_notes.specs.Noted.{IsNoted};
 ghost use Rattle.host_serve.specs.Crews.{IsCrew, IsFirst, HasRun};
 ghost use Rattle.host_serve.specs.Ends.{status_of_serve, note_of_serve};
 ghost use Rattle.host_serve.specs.Serve.{IsForServe, IsServe, IsNoServe, Ends, Runs, BooksEnd, HasCause, said_in};
-ghost use Rattle.host_serve.specs.Turns.{HasCatalogue};
+ghost use Rattle.host_serve.specs.Turns.{HasCatalogue, Chain, Connection};
 ghost use Rattle.host_serve.specs.declared.end.ServeOutcome.{ServeOutcome};
 ghost use Rattle.host_serve.specs.declared.end.ServeOutcome.TheVariants as outcome;
 
@@ -83,6 +83,8 @@ fn serve_left<N: Named, L: Listener + Drop, C: Clock>(
     ensures own { IsOf books.now desk.new }
     ensures tidy { IsTidy desk.new }
     ensures keeps { KeepsDesk desk.old desk.new }
+    ensures turns { Chain (Connection common.entry.cat.now) (record { desk = desk.old; clock = C.told clock.old }) (record { desk = desk.new; clock = C.told clock.new }) }
+    ensures never_falls { L.faults listener.old ≤ L.faults listener.new }
     ensures spent { result ≡ true → L.told listener.new ≡ record { port = N.port; limit = N.limit; handed = N.limit } }
     ensures failed { result ≡ false → Rose N.faults (L.faults listener.new) × ((L.told listener.new).handed < N.limit) }
 {
@@ -122,6 +124,8 @@ where
     requires view { L.told listener ≡ record { port = N.port; limit = N.limit; handed = 0 } }
     requires port { N.port ≡ said.port }
     requires limit { N.limit ≡ said.connections }
+    requires workers { 1 ≤ said.workers }
+    ensures never_falls { L.faults listener ≤ L.faults result.listener }
     ensures ends { BooksEnd cat.now said (L.faults listener) (L.faults result.listener) (L.told result.listener) result.wall result.outcome }
 {
     let closed = AtomicBool::new(false);
@@ -227,6 +231,7 @@ where
     requires clocks { length clocks.items ≡ 17 }
     requires fresh { (L.told listener).handed ≡ 0 }
     requires ranges { IsInRange said.now.numbers }
+    ensures never_falls { L.faults listener ≤ L.faults result.listener }
     ensures ends { Ends (F.told shelf.old) (said_in said.now)
         (record { faults_before = L.faults listener; before = L.told listener; faults_after = L.faults result.listener; after = L.told result.listener; wall = result.wall })
         result.outcome }
@@ -298,6 +303,7 @@ where
     L::Output: Send,
     requires clocks { length clocks.items ≡ 17 }
     requires fresh { (L.told listener).handed ≡ 0 }
+    ensures never_falls { L.faults listener ≤ L.faults result.listener }
     ensures runs { Runs (words_texts words.now) (F.told shelf.old)
         (record { faults_before = L.faults listener; before = L.told listener; faults_after = L.faults result.listener; after = L.told result.listener; wall = result.wall })
         result.outcome }
@@ -366,6 +372,10 @@ where
         × IsNoted (E.told notes.old) (E.told notes.new) (E.faults notes.old) (E.faults notes.new) (note_of_serve outcome)
         × HasCause outcome (F.faults shelf.old) (F.faults shelf.new) (F.misses shelf.old) (F.misses shelf.new) }
     ensures wall { result.status ≡ 0 → result.wall ≡ None → ⊥ }
+
+    // The listener's count of faults never falls. Where nothing was heard, for a catalogue that is missing or refused, it is as it was.
+    ensures never_falls { L.faults listener ≤ L.faults result.listener }
+    ensures steady { result.status ≡ 1 → L.faults result.listener ≡ L.faults listener }
     ensures files { F.told shelf.new ≡ F.told shelf.old }
 {
     let run = run_words(rt, alloc, words, shelf, listener, ticker, clocks);

@@ -7,10 +7,10 @@ ghost use Rattle.worker_pool.specs.declared.worker.TurnEnd.TheVariants.{End};
 ghost use Rattle.host_serve.specs.Turns.{HasCatalogue, ServesTurn};
 
 use crate::member::Common;
+use crate::one::serve_one;
 use crate::streams::Streams;
 use claim_rule::{Books, Desk};
 use rail_io::Clock;
-use rail_service::serve_waiting;
 use std::sync::atomic::Ordering;
 use worker_pool::TurnEnd;
 
@@ -42,15 +42,7 @@ impl<S: Streams, C: Clock> Server<'_, S, C> {
             self.ended = true;
             return TurnEnd::End;
         };
-        let common = self.common;
-        let _finished = serve_waiting(
-            common.alloc,
-            common.cat,
-            books,
-            desk,
-            waiting,
-            &mut self.clock,
-        );
+        serve_one(self.common, books, desk, waiting, &mut self.clock);
         self.ended = false;
         TurnEnd::Again
     }

@@ -1,8 +1,8 @@
-use Rattle.std.proofs.Common.{◌≡◌, ◌∙◌, ◌+◌, ◌++◌, ◌∷◌, [], ℕ, List, length, sym, subst, ap, arith, rules}
+use Rattle.std.proofs.Common.{◌≡◌, ◌∙◌, ◌+◌, ◌++◌, ◌∷◌, [], ℕ, List, length, refl, sym, subst, ap, arith, rules}
 use Rattle.std.proofs.lemmas.List.{length-append}
-use Rattle.host_serve.specs.Crews.{IsCrew, IsFirst, IsMember}
+use Rattle.host_serve.specs.Crews.{AreReady, IsCrew, IsFirst, IsMember, IsReady}
 use Rattle.host_serve.specs.Turns.{FitsBooks}
-use Rattle.host_serve.proofs.Crewing.{joined, parted_first, parted_desk}
+use Rattle.host_serve.proofs.Crewing.{joined, joined_each, parted_first, parted_desk, parted_empty}
 use Rattle.host_serve.proofs.crew.crew_of.Goals as goal
 
 pub loop-number-preserved : goal.loop-number-preserved
@@ -23,6 +23,11 @@ loop-number-preserved g c =
           (joined FitsBooks books crew _ inv.crew (record {
             fits = c.requires.has;
             desk = parted_desk books n c.loop-number.first c.part.new.desk c.part.result inv.first part.made part.new.0 part.own.1 part.tidy;
+          }));
+      ready = subst (λ l. AreReady c.args.common.cat.now c.args.said.workers l) (sym items)
+          (joined_each (λ i m. IsReady c.args.common.cat.now c.args.said.workers i m) crew _ inv.ready (record {
+            post = (omega (arith, inv.count, c.loop-number-test.true), refl);
+            none = parted_empty n c.part.new.desk c.part.result (part.made ∙ ap (λ (k : ℕ). k + 1) inv.first.made) part.new.0 part.new.1;
           }));
       count = omega (arith, many, inv.count);
       clocks = omega (arith, inv.clocks, popped, c.loop-number-test.true);
@@ -48,4 +53,16 @@ returns-clause-crew g c =
     (joined FitsBooks books crew _ inv.crew (record {
       fits = tt {0};
       desk = parted_desk books (length crew) c.loop-number.first c.part-2.new.desk c.part-2.result inv.first part.made part.new.0 part.own.1 part.tidy;
+    }))
+
+pub returns-clause-ready : goal.returns-clause-ready
+returns-clause-ready g c =
+    let inv = c.loop-number.invariant in
+    let crew = c.loop-number.crew.items in
+    let part = c.part-2.ensures in
+    let at : length crew ≡ c.args.said.workers = search (rules, arith) in
+    subst (λ l. AreReady c.args.common.cat.now c.args.said.workers l) (sym c.in_ok-push-2.ensures.items)
+    (joined_each (λ i m. IsReady c.args.common.cat.now c.args.said.workers i m) crew _ inv.ready (record {
+      post = at;
+      none = parted_empty (length crew) c.part-2.new.desk c.part-2.result (part.made ∙ ap (λ (k : ℕ). k + 1) inv.first.made) part.new.0 part.new.1;
     }))

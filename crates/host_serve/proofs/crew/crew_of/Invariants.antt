@@ -1,5 +1,5 @@
 use Rattle.std.proofs.Common.{◌≡◌, ◌≤◌, ◌+◌, length}
-use Rattle.host_serve.specs.Crews.{IsCrew, IsFirst}
+use Rattle.host_serve.specs.Crews.{AreReady, IsCrew, IsFirst}
 use Rattle.host_serve.specs.Turns.{FitsBooks}
 use Rattle.host_serve.proofs.crew.crew_of.Given as goal
 
@@ -7,6 +7,7 @@ abbrev pub invariant-loop-number : goal.invariant-loop-number
 invariant-loop-number g l = record {
   first : IsFirst l.books (length l.crew.items) l.first;
   crew : IsCrew FitsBooks l.books l.crew.items;
+  ready : AreReady l.common.cat.now l.said.workers l.crew.items;
   count : length l.crew.items ≡ l._number;
   clocks : l.said.workers + 1 ≤ l._number + length l.clocks.items;
 }

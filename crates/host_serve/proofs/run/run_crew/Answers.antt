@@ -33,6 +33,7 @@ returns g c =
         crew = crew;
         count = count;
         turns = since (λ m n. RunsToEnd g.W.Worker.does g.W.Worker.ended m.worker m.desk n.worker n.desk) was old crew same ran.turns;
+        keeps = since (λ m n. KeepsDesk m.desk n.desk) was old crew same ran.keeps;
         met = subst (λ (l : List (Member g.row.W.Denot)). HasMetAll books l 1 c.meet_others.new.first) written c.meet_others.ensures.first;
         is = subst (λ (m : Member g.row.W.Denot). IsMember g.W.Worker.fits books 1 m) (sym (left none))
             (subst (λ (k : ℕ). IsMember g.W.Worker.fits books k (slice_index_or crew 0 none)) one (is 0 none some));

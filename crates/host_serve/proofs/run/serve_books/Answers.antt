@@ -1,9 +1,9 @@
-use Rattle.std.proofs.Common.{◌≡◌, ◌∙◌, ◌+◌, ◌<◌, ℕ, Option, Some, sym, subst, ap}
+use Rattle.std.proofs.Common.{◌≡◌, ◌∙◌, ◌+◌, ◌<◌, ◌≤◌, ℕ, Option, Some, sym, subst, ap, arith}
 use Rattle.rail_io.specs.Faults.{Rose}
 use Rattle.host_serve.specs.declared.end.ServeOutcome.{ServeOutcome}
 use Rattle.host_serve.specs.Serve.{IsServedWall, BooksEnd}
-use Rattle.host_serve.proofs.Crewing.{complete}
-use Rattle.host_serve.proofs.Closing.{served_wall}
+use Rattle.host_serve.proofs.Crewing.{complete, one_more}
+use Rattle.host_serve.proofs.Closing.{served_wall, all_worked}
 use Rattle.host_serve.proofs.run.serve_books.Goals as goal
 use Rattle.host_serve.proofs.run.serve_books.Goals.{then-all, else-all}
 
@@ -14,11 +14,17 @@ returns g c =
     let left = c.serve_left-all.ensures in
     let whole = complete c.args.books run.crew c.run_crew-desk.result c.run_crew-desk.new.first c.serve_left-all.new.desk c.meet.new.desk run.met c.meet.ensures.met
     (left.keeps.number ∙ run.is.desk.number) in
+    let members = c.in-Ok.ensures in
+    let worked = all_worked g.C.Clock.told c.args.cat.now said c.args.books c.in-Ok.crew.items c.run_crew-desk.new.first c.serve_left-all.new.desk c.meet.new.desk
+    (g.C.Clock.told c.into_clock-clock.result) (g.C.Clock.told c.serve_left-all.new.clock)
+    c.run_crew-desk.result members.crew members.ready members.count c.requires.workers run (ap g.C.Clock.told c.into_clock-clock.ensures) left.keeps left.turns c.meet.ensures.met in
     let wall = served_wall c.args.cat.now said c.args.books c.meet.new.desk c.finish.result c.requires.has c.requires.opening c.finish.ensures.layout c.finish.ensures.history
-    whole.0 (whole.1 ∙ (run.count ∙ c.in-Ok.ensures.count)) in
+    whole.0 (one_more c.run_crew-desk.new.first.number c.run_crew-desk.new.first.seen c.meet.new.desk.seen run.met.number c.meet.ensures.met.mine run.met.meets)
+    worked.0 worked.1 in
     let view = g.L.Listener.told c.serve_left-all.new.listener in
     let faults = g.L.Listener.faults c.serve_left-all.new.listener in
     record {
+      never_falls = omega (arith, c.requires.faults, c.into_listener-listener-2.ensures.faults, left.never_falls);
       ends = elim c.if-all.branch [
         | then-all w ↦ subst (λ (o : ServeOutcome). BooksEnd c.args.cat.now said (g.L.Listener.faults c.args.listener) faults view (Some c.finish.result) o) (sym w.result-is) (
           left.spent w.if-all.true
