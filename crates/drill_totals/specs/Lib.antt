@@ -1,3 +1,4 @@
 pub mod Generator
 pub mod Totals
+pub mod Doubles
 pub mod Meeting

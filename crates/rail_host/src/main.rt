@@ -54,6 +54,9 @@ fn main(rt: HostRuntime) -> ExitCode {
         Ok(words) if host_serve::is_for_serve(&words) => {
             serve::serve_port(&rt, alloc, &words, &mut shelf, &mut notes)
         }
+        Ok(words) if host_drill::is_for_drill(&words) => {
+            host_drill::run_drill(&rt, alloc, &words, &mut output, &mut notes).status
+        }
         Ok(words) => host::run_plain(
             alloc,
             &words,

@@ -1,0 +1,50 @@
+-- The statuses of a drill, their notes, and what was written.
+use Rattle.std.specs.Prelude.{◌≡◌, ℕ, List, [], ◌++◌, Option, Some, None, IsSomeAnd, slice_get, codes}
+use Rattle.rail_io.specs.Told.{with_end}
+use Rattle.claim_rule.specs.Walls.{WallView}
+use Rattle.host_words.specs.Drill.{drill_words}
+use Rattle.host_words.specs.declared.drill.DrillWords.{DrillWords}
+use Rattle.drill_totals.specs.Totals.{totals_line}
+use Rattle.host_drill.specs.declared.drill.Cause.{Cause}
+use Rattle.host_drill.specs.declared.drill.Cause.TheVariants.{Whole, Words, Write, Memory}
+use Rattle.drill_totals.specs.declared.line.Totals.{Totals}
+use Rattle.host_drill.specs.Drilled.{IsDrilled}
+
+-- the command is `drill`
+abbrev pub IsForDrill : List (List ℕ) → Type 0
+IsForDrill words = slice_get words 0 ≡ Some (codes "drill")
+
+-- the words are those of `drill`, and say this
+pub record IsDrill (words : List (List ℕ)) (said : DrillWords) : Type 0 where
+  pub command : IsForDrill words
+  pub is : drill_words words ≡ Some said
+
+abbrev pub IsNoDrill : List (List ℕ) → Type 0
+IsNoDrill words = (said : DrillWords) → IsDrill words said → ⊥
+
+abbrev pub printed : Totals → List ℕ
+printed t = totals_line t.requests t.sold t.refused t.busy t.double
+
+abbrev pub status_of : Cause → ℕ
+status_of Whole = 0
+status_of Words = 2
+status_of Write = 4
+status_of Memory = 5
+
+abbrev pub note_of : Cause → List ℕ
+note_of Whole = []
+note_of Words = codes "rail_host: words refused\n"
+note_of Write = codes "rail_host: write fault\n"
+note_of Memory = codes "rail_host: no memory\n"
+
+-- What a drill that ended so wrote, and the books that it hands back: the whole line of what the books and the answers came to; a front
+-- of it, where the output failed; or nothing.
+abbrev pub Leaves : List (List ℕ) → Option (List ℕ) → Option (List ℕ) → Option WallView → Cause → Type 0
+Leaves words before after wall Whole =
+    (said : DrillWords) × (totals : Totals) × IsDrill words said × IsSomeAnd wall (λ w. IsDrilled said w totals)
+    × (after ≡ with_end before (printed totals))
+Leaves words before after wall Words = IsNoDrill words × (wall ≡ None) × (after ≡ before)
+Leaves words before after wall Write =
+    (said : DrillWords) × (totals : Totals) × (front : List ℕ) × (rest : List ℕ) × IsDrill words said
+    × IsSomeAnd wall (λ w. IsDrilled said w totals) × (printed totals ≡ front ++ rest) × (after ≡ with_end before front)
+Leaves words before after wall Memory = IsForDrill words × (wall ≡ None) × (after ≡ before)

@@ -1,0 +1,16 @@
+//! `drill`: many connections at once, from memory to memory, and what they come to.
+//!
+//! `run_drill` makes a catalogue and the requests of each worker out of its words, serves each worker's requests as one connection at a
+//! desk of its own and in a thread of its own, takes all desks in, and prints one line of counts. It promises that each connection was
+//! served as every connection is, whatever the other threads did; that the finished books hold just these connections' entries, in one
+//! legal history; and that the line counts what the books then hold and what the connections were answered.
+#![tactic(auto)]
+
+mod connection;
+mod crew;
+mod drill;
+mod ends;
+#[cfg(test)]
+mod tests;
+
+pub use drill::{DrillEnd, is_for_drill, run_drill};
