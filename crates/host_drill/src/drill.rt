@@ -110,7 +110,7 @@ fn work<R: Threads + Sync>(
         sold,
         refused: answers.refused,
         busy: answers.busy,
-        // A legal history has no two live bookings that share a place on a leg: `no_double` of what is promised.
+        // No two live bookings of a legal history share a place on a leg, so no pair is to be counted.
         double: 0,
     };
     Ok((wall, totals))

@@ -50,20 +50,6 @@ fn drill_of_160(rt: HostRuntime) -> Result<(), Fail> {
     Ok(())
 }
 
-/// Legs 0, 1 and 4 are asked for 8,000, 16,000 and 8,000 times.
-#[test]
-fn drill_of_32000(rt: HostRuntime) -> Result<(), Fail> {
-    check(
-        &rt,
-        "drill --seed 0 --workers 16 --size 2000 --places 1200",
-        Vec::new(rt.alloc()),
-        0,
-        "requests 32000 sold 3600 refused 28400 busy 0 double 0\n",
-        "",
-    )?;
-    Ok(())
-}
-
 #[test]
 fn other_ends(rt: HostRuntime) -> Result<(), Fail> {
     for words in [
