@@ -4,7 +4,7 @@ use Rattle.claim_rule.specs.Rule.{DeskView}
 use Rattle.rail_catalogue.specs.Contents.{CatalogueView}
 use Rattle.worker_pool.specs.Turns.{RunsToEnd}
 use Rattle.worker_pool.proofs.Chains.{whole_run}
-use Rattle.host_serve.specs.Turns.{Readings, ServesOne, SweepsOnce, ServesTurn, SweepsTurn, Stand, OneTurn, Connection, Sweep, Leads, Chain, HasEnded, DoesTurn, HasChain, IsPosted, clock_of}
+use Rattle.host_serve.specs.Turns.{Readings, ServesTurn, SweepsTurn, Stand, OneTurn, Connection, Sweep, Leads, Chain, HasEnded, DoesTurn, HasChain, IsPosted, clock_of}
 use Rattle.host_serve.specs.declared.member.Post.{Post}
 use Rattle.host_serve.specs.declared.member.Post.TheVariants.{Serving, Sweeping}
 

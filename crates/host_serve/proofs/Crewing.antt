@@ -1,5 +1,5 @@
 -- Crews that gain and lose a member.
-use Rattle.std.proofs.Common.{◌≡◌, ◌∙◌, ◌<◌, ◌≤◌, ◌+◌, ◌-◌, ◌⊎◌, ℕ, zero, suc, List, [], ◌∷◌, ◌++◌, length, take, drop, slice_index_or, refl, sym, ap, subst, inl, inr, arith, append-nil, append_assoc}
+use Rattle.std.proofs.Common.{◌≡◌, ◌∙◌, ◌<◌, ◌≤◌, ◌+◌, ◌-◌, ℕ, List, [], ◌∷◌, ◌++◌, length, take, drop, slice_index_or, refl, sym, ap, subst, inl, inr, arith, append-nil, append_assoc}
 use Rattle.std.proofs.Math.Logic.{⊎_elim}
 use Rattle.std.proofs.lemmas.Bool.{cases_lt}
 use Rattle.std.proofs.lemmas.List.{drop_all, get_or_append_left, length-append, take_all}
@@ -10,7 +10,7 @@ use mathlib.Core.List.{IsPrefix}
 use Rattle.history_model.specs.History.{entry, own}
 use Rattle.history_model.specs.declared.entry.Entry.{Entry}
 use Rattle.history_model.proofs.ListLemmas.{All-append}
-use Rattle.claim_rule.specs.Rule.{BooksView, DeskView, In, Each, IsWhole}
+use Rattle.claim_rule.specs.Rule.{BooksView, DeskView, In, IsWhole}
 use Rattle.history_model.specs.declared.entry.Step.TheVariants.{Met}
 use Rattle.claim_rule.specs.Seats.{IsOf, IsNew, HasMet, Stepped}
 use Rattle.claim_rule.specs.Out.{IsTidy}
@@ -18,7 +18,7 @@ use Rattle.claim_rule.proofs.Shapes.{step_shape}
 use Rattle.claim_rule.proofs.Views.{each_in}
 use Rattle.worker_pool.specs.Turns.{KeepsDesk, EachMember}
 use Rattle.worker_pool.specs.declared.member.Member.{Member}
-use Rattle.host_serve.specs.Crews.{OnlyMet, IsFirst, IsDesk, IsMember, IsCrew, HasIn, HasMetAll}
+use Rattle.host_serve.specs.Crews.{OnlyMet, IsFirst, IsDesk, IsMember, IsCrew, HasMetAll}
 
 -- what begins a beginning begins the whole
 pub begins : (a b c : List Entry) → IsPrefix a b → IsPrefix b c → IsPrefix a c

@@ -1,5 +1,5 @@
 -- A listener that is left.
-use Rattle.std.proofs.Common.{◌≡◌, ◌≤◌, ◌<◌, ◌⊎◌, ◌∙◌, ℕ, refl, ap, inl, inr, arith}
+use Rattle.std.proofs.Common.{◌≡◌, ◌≤◌, ◌∙◌, ℕ, ap, inl, inr, arith}
 use Rattle.rail_io.specs.Faults.{Rose}
 use Rattle.host_io.specs.Listeners.{ListenerView}
 

@@ -1,5 +1,5 @@
 -- What `serve` promises.
-use Rattle.std.specs.Prelude.{◌≡◌, ◌⊎◌, ◌<◌, ◌≤◌, ◌+◌, ℕ, List, [], Option, Some, None, IsSomeAnd, IfSome, Ok, Err, slice_get, codes}
+use Rattle.std.specs.Prelude.{◌≡◌, ◌⊎◌, ◌<◌, ◌≤◌, ◌+◌, ℕ, List, [], Option, Some, None, IsSomeAnd, Ok, Err, slice_get, codes}
 use Rattle.rail_io.specs.Faults.{Rose}
 use mathlib.Core.List.{IsPrefix}
 use Rattle.history_model.specs.History.{IsLegal, own, state_of}

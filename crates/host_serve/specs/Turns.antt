@@ -1,7 +1,7 @@
 -- What the turns of members do.
-use Rattle.std.specs.Prelude.{◌≡◌, ◌<◌, ◌⊎◌, ℕ, ◌+◌, zero, suc, Bool, true, false, List, [], ◌∷◌, Option, None}
+use Rattle.std.specs.Prelude.{◌≡◌, ◌<◌, ℕ, Bool, true, false, List, [], ◌∷◌, Option, None}
 use Rattle.rail_ids.specs.declared.RetailerNo.{RetailerNo}
-use Rattle.rail_io.specs.Told.{with_front, with_end}
+use Rattle.rail_io.specs.Told.{with_front}
 use Rattle.session_loop.specs.declared.end.ConnEnd.{ConnEnd}
 use Rattle.claim_rule.specs.Rule.{BooksView, DeskView}
 use Rattle.claim_rule.specs.Calls.{ShapeBy}

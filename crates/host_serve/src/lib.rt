@@ -2,7 +2,8 @@
 //!
 //! A serving member's turn takes the next stream, for which alone the lock is held, and adds to its desk the entries of that one
 //! connection. One further member sweeps the rows at each tick. `run_serve` starts them, waits for them, takes in their desks and
-//! closes the books: the history of the wall that it hands back is what the first desk has seen, which has all entries there are.
+//! closes the books. In the history of the wall that it hands back each member's entries are just those of the connections that it
+//! served, one after the other, or of its sweeps, and the first desk, which took them in, has done nothing else.
 #![tactic(auto)]
 
 mod alone;

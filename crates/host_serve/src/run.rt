@@ -333,8 +333,8 @@ where
 /// | 5 | there was no memory to begin with | `rail_host: no memory` |
 ///
 /// The end of one connection changes no status, and neither does a failing note. It may wait, so all this is said where it returns.
-/// Wherever members ran, the books are finished and handed back: the wall's history is what the first desk has seen, which has taken in
-/// the desks of all members.
+/// Wherever members ran, the books are finished and handed back. In the wall's history the first desk only met others, each serving member's
+/// entries are those of the connections that it served, and the last member's those of its sweeps.
 pub fn run_serve<
     R: Threads + Wait + Sync,
     F: Shelf,

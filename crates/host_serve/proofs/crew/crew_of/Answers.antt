@@ -1,6 +1,6 @@
-use Rattle.std.proofs.Common.{◌≡◌, ◌∙◌, ◌+◌, ◌++◌, ◌∷◌, [], ℕ, List, length, refl, sym, subst, ap, arith, rules}
+use Rattle.std.proofs.Common.{◌≡◌, ◌∙◌, ◌+◌, ◌++◌, ◌∷◌, [], ℕ, length, refl, sym, subst, ap, arith, rules}
 use Rattle.std.proofs.lemmas.List.{length-append}
-use Rattle.host_serve.specs.Crews.{AreReady, IsCrew, IsFirst, IsMember, IsReady}
+use Rattle.host_serve.specs.Crews.{AreReady, IsCrew, IsFirst, IsReady}
 use Rattle.host_serve.specs.Turns.{FitsBooks}
 use Rattle.host_serve.proofs.Crewing.{joined, joined_each, parted_first, parted_desk, parted_empty}
 use Rattle.host_serve.proofs.crew.crew_of.Goals as goal

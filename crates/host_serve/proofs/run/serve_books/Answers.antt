@@ -1,7 +1,7 @@
-use Rattle.std.proofs.Common.{◌≡◌, ◌∙◌, ◌+◌, ◌<◌, ◌≤◌, ℕ, Option, Some, sym, subst, ap, arith}
+use Rattle.std.proofs.Common.{◌∙◌, ◌<◌, ℕ, Some, sym, subst, ap, arith}
 use Rattle.rail_io.specs.Faults.{Rose}
 use Rattle.host_serve.specs.declared.end.ServeOutcome.{ServeOutcome}
-use Rattle.host_serve.specs.Serve.{IsServedWall, BooksEnd}
+use Rattle.host_serve.specs.Serve.{BooksEnd}
 use Rattle.host_serve.proofs.Crewing.{complete, one_more}
 use Rattle.host_serve.proofs.Closing.{served_wall, all_worked}
 use Rattle.host_serve.proofs.run.serve_books.Goals as goal
