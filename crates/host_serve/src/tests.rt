@@ -8,16 +8,13 @@ use crate::run::run_serve;
 use crate::serving::Server;
 use crate::streams::Streams;
 use crate::sweeping::Sweeper;
-use claim_rule::{Books, Desk, Wall};
+use claim_rule::Wall;
 use history_model::phase::{EndKind, Phase, phase_word};
 use host_catalogue::{load_catalogue, open_books};
 use host_io::{Accepted, Bound, CountTicker, ListListener, Listener, Waiting};
-use rail_catalogue::Catalogue;
 use rail_ids::RowNo;
 use rail_io::{BytesSource, MapShelf, Pulled, Pushed, ScriptClock, Sink, Source, VecSink};
-use rail_service::{Finished, serve_waiting};
 use rail_time::Moment;
-use session_loop::ConnEnd;
 use std::alloc::{AllocError, Global};
 use std::process::Abort;
 use std::sync::Wait;
@@ -25,7 +22,7 @@ use std::sync::atomic::{AtomicBool, Ordering};
 use std::test::Fail;
 use std::thread;
 use std::thread::Threads;
-use worker_pool::{Member, Open, TurnEnd, Worker, run_workers};
+use worker_pool::{Member, Open, run_workers};
 
 const CATALOGUE: &str = r#"{"currency":"EUR",
  "retailers":[{"number":1,"key":"north"}],
@@ -336,78 +333,6 @@ fn two_connections_at_once(rt: HostRuntime) -> Result<(), Fail> {
     let end = serve_line(&rt, alloc, line, listener, &mut notes)?;
     assert_eq!(rt; end.status, 0);
     assert!(rt; has_two_bookings(&end.wall));
-    Ok(())
-}
-
-/// Serves one reservation from memory, and keeps what comes of it.
-#[derive(Drop)]
-struct Keeper<'a> {
-    alloc: Global,
-    cat: &'a Catalogue,
-    clock: ScriptClock,
-    finished: Option<Finished<BytesSource, VecSink>>,
-}
-
-impl Worker for Keeper<'_> {
-    ghost use Rattle.host_serve.specs.Turns.{HasCatalogue};
-
-    ghost fits = { λ w books. HasCatalogue books w.cat.now };
-
-    ghost ended = { λ _. Unit {0} };
-
-    ghost does = { λ _ _ _ _. Unit {0} };
-
-    fn turn(&mut self, books: &Books, desk: &mut Desk) -> TurnEnd {
-        let alloc = self.alloc;
-        if let Ok(bytes) = RESERVES.as_bytes().to_vec(alloc) {
-            let input = BytesSource::new(bytes, Vec::new(alloc));
-            let waiting = Waiting::of(input, VecSink::new(alloc, Vec::new(alloc)));
-            let clock = &mut self.clock;
-            self.finished = Some(serve_waiting(alloc, self.cat, books, desk, waiting, clock));
-        }
-        TurnEnd::End
-    }
-}
-
-/// Two members, each with one reservation and a sink that it keeps: both connections are done, and their bookings differ.
-#[test]
-fn two_members(rt: HostRuntime) -> Result<(), Fail> {
-    let alloc = rt.alloc();
-    let mut shelf = shelf_of(alloc)?;
-    let Ok(cat) = load_catalogue(alloc, &mut shelf, "k1.json") else {
-        return Err(Fail::from("no catalogue"));
-    };
-    let (books, mut first) = open_books(alloc, &cat)?;
-    let next = Moment::of(SIX).expect(&rt, "a moment");
-    let mut crew = [
-        Member {
-            desk: books.part(&mut first),
-            worker: Keeper {
-                alloc,
-                cat: &cat,
-                clock: ScriptClock { next, tick: 0 },
-                finished: None,
-            },
-        },
-        Member {
-            desk: books.part(&mut first),
-            worker: Keeper {
-                alloc,
-                cat: &cat,
-                clock: ScriptClock { next, tick: 0 },
-                finished: None,
-            },
-        },
-    ];
-    run_workers(&rt, &books, crew.as_mut_slice(), &Open);
-    let (Some(one), Some(other)) = (&crew[0].worker.finished, &crew[1].worker.finished) else {
-        return Err(Fail::from("no connection"));
-    };
-    assert_eq!(rt; one.end, ConnEnd::Done);
-    assert_eq!(rt; other.end, ConnEnd::Done);
-    let (one, other) = (one.output.taken(), other.output.taken());
-    assert!(rt; one.starts_with(b"HTTP/1.1 201") && other.starts_with(b"HTTP/1.1 201"));
-    assert!(rt; one != other);
     Ok(())
 }
 
