@@ -38,6 +38,11 @@ unchanged : (d : ℕ) (seen now : List Entry) (js : List ℕ) → Each (λ j. ow
 unchanged d seen now js p q = each_map (λ j. (own now j ≡ own seen j ++ own (entry d Met ∷ []) j) × (j ≡ d → ⊥)) (λ j. own now j ≡ own seen j)
     (λ j r. r.0 ∙ (ap (λ l. own seen j ++ l) (own_other j d Met r.1) ∙ append-nil (own seen j))) js (each_both (λ j. own now j ≡ own seen j ++ own (entry d Met ∷ []) j) (λ j. j ≡ d → ⊥) js p q)
 
+-- a list with a number in it isn't empty
+none_left : (l : List ℕ) (n : ℕ) (rest : List ℕ) → l ++ n ∷ rest ≡ [] → ⊥
+none_left [] n rest e = let no : ◌≡◌ {A = List ℕ} (n ∷ rest) [] = e in cc
+none_left (m ∷ l) n rest e = let no : ◌≡◌ {A = List ℕ} (m ∷ (l ++ n ∷ rest)) [] = e in cc
+
 met_at : (lay : Layout) (a o b : Seat ℕ View) (kept other_kept : Option ℕ) (past other_past : ℕ) → a.me.0.plan ≡ lay → b.table_id ≡ a.table_id → Added lay Met (joined a.me.0 o.me.0) b.me.0 → HasMet (desk_view a kept past) (desk_view o other_kept other_past) (desk_view b kept past)
 met_at lay a o b kept other_kept past other_past plan table m =
     let s = m.same in
@@ -52,6 +57,7 @@ met_at lay a o b kept other_kept past other_past plan table m =
       theirs = unchanged v.number w.seen b.me.0.seen (w.number ∷ w.taken) m.olds.1.0.1 apart.1;
       before = unchanged v.number v.seen b.me.0.seen v.taken m.olds.0.1.1 apart.0;
       taken = s.3;
+      parted = λ number made. none_left v.taken w.number w.taken (m.first number made);
       same = (table, s.0, s.2, s.4, refl, refl);
     }
 

@@ -1,5 +1,5 @@
 -- What the last state says.
-use Rattle.std.proofs.Common.{Option, ◌≡◌, ℕ, zero, suc, Some, slice_get, List, [], ◌∷◌, ◌++◌, false, sym, ap, ◌∙◌, subst, append-nil, refl}
+use Rattle.std.proofs.Common.{Option, ◌≡◌, ℕ, zero, suc, Some, slice_get, List, [], ◌∷◌, ◌++◌, false, sym, ap, ◌∙◌, subst, append-nil, arith, refl}
 use mathlib.Core.Option.{some, some-injective, some-ne-none}
 use lib.ListN.{get_elem?}
 use Rattle.atomic_table.specs.Table.{Final, Seen}
@@ -9,7 +9,7 @@ use Rattle.claim_rule.specs.declared.chronicle.Story.{Story}
 use Rattle.claim_rule.specs.Rule.{Kept, DeskView}
 use Rattle.claim_rule.specs.Seats.{desk_view}
 use Rattle.claim_rule.specs.Walls.{Ends}
-use Rattle.claim_rule.proofs.Adds.{whole}
+use Rattle.claim_rule.proofs.Adds.{counts, whole}
 use Rattle.history_model.specs.Booking.{Layout}
 use Rattle.history_model.specs.History.{state_of}
 use Rattle.history_model.specs.Words.{AreWordsOf}
@@ -23,6 +23,7 @@ ends lay a kept past ws xs fresh (s, (k, at), is, _, _) =
         legal = k.legal;
         front = f.front;
         are = subst (AreWordsOf lay (state_of lay k.history)) is k.words;
+        no_others = λ zero j past. let many = counts lay s k a.me.0 (ap (get_elem? s.views) f.number ∙ at) fresh zero in k.later j (omega (arith, many, past));
         whole = λ w. sym f.front.1 ∙ (ap (λ l. a.me.0.seen ++ l) (whole lay s k a.me.0 (ap (get_elem? s.views) f.number ∙ at) fresh w f.front.0 f.front.1) ∙ append-nil a.me.0.seen);
       },
     )

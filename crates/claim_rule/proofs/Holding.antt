@@ -107,16 +107,16 @@ allowed_then st old new did number =
 
 -- the work that a desk has while it is alone
 abbrev HasWork : DeskView → Type 0
-HasWork desk = desk.number ≡ 0 → desk.made ≡ 0 → desk.taken ≡ [] → IsOwnWork (state_of desk.layout desk.seen)
+HasWork desk = desk.number ≡ 0 → desk.made ≡ 0 → IsOwnWork (state_of desk.layout desk.seen)
 
 -- is its own after each step that keeps it
 work_by : (st : Step) (old new : DeskView) (did : Stepped st old new)
     → (old.number ≡ 0 → IsOwnWork (state_of old.layout (old.seen ++ did.between)) → IsOwnWork (apply_step (state_of old.layout (old.seen ++ did.between)) 0 st)) → HasWork old → HasWork new
-work_by st old new did keeps work number made taken =
+work_by st old new did keeps work number made =
     let n : old.number ≡ 0 = sym did.same.2 ∙ number in
     let m : old.made ≡ 0 = sym did.same.4 ∙ made in
     let s = state_of old.layout (old.seen ++ did.between) in
-    let had : IsOwnWork s = subst (λ (l : List Entry). IsOwnWork (state_of old.layout l)) (sym (alone_before st old new did n m)) (work n m (sym did.same.3 ∙ taken)) in
+    let had : IsOwnWork s = subst (λ (l : List Entry). IsOwnWork (state_of old.layout l)) (sym (alone_before st old new did n m)) (work n m) in
     subst IsOwnWork (sym (state_then st old new did ∙ ap (λ (d : ℕ). apply_step s d st) n)) (keeps n had)
 
 work_on : (st : Step) (old new : DeskView) → is_start st ≡ false → Stepped st old new → HasWork old → HasWork new
@@ -149,14 +149,14 @@ still_alone st books old new none alone did of = still_of st books old new none 
 pub still_started : (row : ℕ) (books : BooksView) (old new : DeskView) → old.kept ≡ None → HoldsNone old → Stepped (Start row) old new → IsOf books old → IsOf books new
 still_started row books old new alone holds did of =
     still_by (Start row) books old new (λ r e. none_kept old.kept r (is_quiet r (Start row) ≡ true) alone e) did of
-    (λ number made taken.
+    (λ number made.
     let before = alone_before (Start row) old new did (sym did.same.2 ∙ number) (sym did.same.4 ∙ made) in
     work_by (Start row) old new did
     (λ n. start_keeps old.layout (state_of old.layout (old.seen ++ did.between)) row
     (is_sound old.layout (old.seen ++ did.between) (legal-front old.layout (old.seen ++ did.between) (entry old.number (Start row) ∷ []) (legal_before (Start row) old new did)))
     (λ r on. none_kept old.kept r ⊥ alone (holds r
     (subst (λ (d : ℕ). OnRow (state_of old.layout old.seen) r (IsMadeBy d)) (sym n) (subst (λ (l : List Entry). OnRow (state_of old.layout l) r (IsMadeBy 0)) before on)))))
-    of.work number made taken)
+    of.work number made)
 
 -- a kept row is no row that was sealed
 pub kept_apart : (books : BooksView) (desk : DeskView) (r q : ℕ) (P : Booking → Type 0) → ((b : Booking) → P b → b.phase ≡ Making → ⊥) → IsOf books desk → OnRow (state_of desk.layout desk.seen) q P → desk.kept ≡ Some r → not (eqb q r) ≡ true
@@ -307,10 +307,6 @@ met_kept books old other new (Some r) met is =
       within = tt;
     }
 
-none_left : (l : List ℕ) (n : ℕ) (rest : List ℕ) → l ++ n ∷ rest ≡ [] → ⊥
-none_left [] n rest e = let no : ◌≡◌ {A = List ℕ} (n ∷ rest) [] = e in cc
-none_left (m ∷ l) n rest e = let no : ◌≡◌ {A = List ℕ} (m ∷ (l ++ n ∷ rest)) [] = e in cc
-
 pub still_met : (books : BooksView) (old other new : DeskView) → HasMet old other new → IsOf books old → IsOf books new
 still_met books old other new met of = record {
   table = met.same.0 ∙ of.table;
@@ -319,7 +315,7 @@ still_met books old other new met of = record {
   kept = subst (λ (o : Option ℕ). IfSome o (λ r. StandsFor new (empty_hold r))) (sym met.same.4) (met_kept books old other new old.kept met of.kept);
   past = past_on old new met.front met.legal met.same.1 met.same.5 of.past;
   within = within_on old new met.same.1 met.same.5 of.within;
-  work = λ number made taken. absurd (none_left old.taken other.number other.taken (sym met.taken ∙ taken));
+  work = λ number made. absurd (met.parted (sym met.same.2 ∙ number) (sym met.same.3 ∙ made));
 }
 
 -- how many desks a desk has parted is nothing to its rows
@@ -337,7 +333,7 @@ still_parted books old new did more of =
       kept = made_kept new old.made new.kept is.kept;
       past = is.past;
       within = is.within;
-      work = λ number made taken. absurd (omega (arith, more, made));
+      work = λ number made. absurd (omega (arith, more, made));
     }
 
 pub newly_of : (books : BooksView) (old : DeskView) (new : DeskView) → IsOf books old → new.table ≡ old.table → new.layout ≡ old.layout → new.seen ≡ old.seen → new.kept ≡ None → new.past ≡ old.past → (new.number ≡ 0 → ⊥) → IsOf books new
@@ -348,7 +344,7 @@ newly_of books old new of table layout seen kept past other = record {
   kept = subst (λ (o : Option ℕ). IfSome o (λ r. StandsFor new (empty_hold r))) (sym kept) tt;
   past = λ r l. subst (λ (x : Layout × List Entry). 1 ≤ stage (phase_of_row (state_of x.0 x.1) r)) (λ i. (sym layout i, sym seen i)) (of.past r (subst (λ (n : ℕ). r < n) past l));
   within = within_on old new layout past of.within;
-  work = λ number made taken. absurd (other number);
+  work = λ number made. absurd (other number);
 }
 
 -- a turn of a row that was sealed leaves a kept row

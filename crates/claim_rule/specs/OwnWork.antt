@@ -1,5 +1,5 @@
 -- What a lone desk's own work leaves, whatever its calls were.
-use Rattle.std.specs.Prelude.{◌≡◌, true, List, [], ◌∷◌}
+use Rattle.std.specs.Prelude.{◌≡◌, true, [], ◌∷◌}
 use Rattle.std.specs.List.{AllByRecursion}
 use Rattle.history_model.specs.declared.phase.Phase.TheVariants.{Making}
 use Rattle.history_model.specs.Booking.{State}

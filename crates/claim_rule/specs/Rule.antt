@@ -88,6 +88,7 @@ pub record Added (layout : Layout) (st : Step) (v w : View) : Type 0 where
   pub same : (w.plan ≡ v.plan) × (w.spent ≡ v.spent) × (w.number ≡ v.number) × (w.taken ≡ v.taken) × (w.made ≡ v.made) × (w.olds ≡ [])
   pub apart : Each (λ j. j ≡ v.number → ⊥) v.taken
   pub later : v.number ≡ 0 → (k : ℕ) → v.made < k → own w.seen k ≡ []
+  pub first : v.number ≡ 0 → v.made ≡ 0 → v.taken ≡ []
   pub olds : Each (λ (o : Old). IsPrefix o.seen w.seen × Each (λ j. own w.seen j ≡ own o.seen j ++ own (entry v.number st ∷ []) j) o.whole) v.olds
 
 -- whatever the history is, the step is allowed, and makes the word a become f of what it was

@@ -1,5 +1,5 @@
 -- A seat at the table, as the steps see it.
-use Rattle.std.specs.Prelude.{◌≡◌, ℤ, true, Option, Some, None, IfSome, ℕ, map, ◌+◌, ◌<◌, ◌≤◌, length, false, [], cond, eqb, List, ◌++◌, ◌∷◌, slice_get}
+use Rattle.std.specs.Prelude.{◌≡◌, ◌≢◌, ℤ, true, Option, Some, None, IfSome, ℕ, map, ◌+◌, ◌<◌, ◌≤◌, length, false, [], cond, eqb, List, ◌++◌, ◌∷◌, slice_get}
 use mathlib.Core.List.{IsPrefix}
 use Rattle.atomic_table.specs.declared.shared.Seat.{Seat}
 use Rattle.claim_rule.specs.declared.rule.View.{View}
@@ -56,7 +56,7 @@ pub record IsOf (books : BooksView) (desk : DeskView) : Type 0 where
   pub kept : IfSome desk.kept (λ row. StandsFor desk (empty_hold row))
   pub past : (row : ℕ) → row < desk.past → 1 ≤ stage (phase_of_row (state_of desk.layout desk.seen) row)
   pub within : desk.past ≤ desk.layout.rows
-  pub work : desk.number ≡ 0 → desk.made ≡ 0 → desk.taken ≡ [] → IsOwnWork (state_of desk.layout desk.seen)
+  pub work : desk.number ≡ 0 → desk.made ≡ 0 → IsOwnWork (state_of desk.layout desk.seen)
 
 -- the desk has made this one step behind all that it had seen, and has now seen no more than that
 pub record Stepped (st : Step) (old new : DeskView) : Type 0 where
@@ -79,7 +79,8 @@ pub record IsNew (desk : DeskView) (n : ℕ) (h : List Entry) : Type 0 where
   pub made : desk.made ≡ 0
   pub kept : desk.kept ≡ None
 
--- the desk has taken in the other: it has seen what both had seen, with all entries of both and of those that they had taken in, and has made a Met
+-- the desk has taken in the other: it has seen what both had seen, with all entries of both and of those that they had taken in, and has
+-- made a Met. Where it is the first desk it has parted one
 pub record HasMet (old other new : DeskView) : Type 0 where
   pub front : IsPrefix old.seen new.seen
   pub other_front : IsPrefix other.seen new.seen
@@ -88,6 +89,7 @@ pub record HasMet (old other new : DeskView) : Type 0 where
   pub theirs : Each (λ j. own new.seen j ≡ own other.seen j) (other.number ∷ other.taken)
   pub before : Each (λ j. own new.seen j ≡ own old.seen j) old.taken
   pub taken : new.taken ≡ old.taken ++ other.number ∷ other.taken
+  pub parted : old.number ≡ 0 → old.made ≢ 0
   pub same : (new.table ≡ old.table) × (new.layout ≡ old.layout) × (new.number ≡ old.number) × (new.made ≡ old.made) × (new.kept ≡ old.kept) × (new.past ≡ old.past)
 
 -- the row is this seat's, and this is its item k, which may be given back

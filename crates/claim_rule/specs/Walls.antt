@@ -1,9 +1,9 @@
 -- The closed table.
-use Rattle.std.specs.Prelude.{◌≡◌, ℕ, List}
+use Rattle.std.specs.Prelude.{◌≡◌, ℕ, ◌<◌, List, []}
 use mathlib.Core.List.{IsPrefix}
 use Rattle.claim_rule.specs.Rule.{DeskView, IsWhole}
 use Rattle.history_model.specs.Booking.{Layout}
-use Rattle.history_model.specs.History.{IsLegal, state_of}
+use Rattle.history_model.specs.History.{IsLegal, own, state_of}
 use Rattle.history_model.specs.Words.{AreWordsOf}
 use Rattle.history_model.specs.declared.entry.Entry.{Entry}
 
@@ -13,9 +13,11 @@ pub record WallView : Type 0 where
   pub words : List ℕ
   pub history : List Entry
 
--- the words are those of this history, which is legal and goes on from what the desk had seen
+-- The words are those of this history, which is legal and goes on from what the desk had seen. The first desk knows that no desk beyond
+-- those that it parted has an entry
 pub record Ends (layout : Layout) (desk : DeskView) (words : List ℕ) (h : List Entry) : Type 0 where
   pub legal : IsLegal layout h
   pub front : IsPrefix desk.seen h
   pub are : AreWordsOf layout (state_of layout h) words
   pub whole : IsWhole desk.number desk.made desk.taken → h ≡ desk.seen
+  pub no_others : desk.number ≡ 0 → (k : ℕ) → desk.made < k → own h k ≡ []

@@ -21,5 +21,5 @@ shape_follows old new steps alone did =
       legal = legal-rest old.layout old.seen more legal;
       state = ap (λ (g : Layout). state_of g new.seen) layout ∙ (ap (state_of old.layout) seen ∙ state_of-append old.layout old.seen more);
       layout = layout;
-      alone = record { number = did.same.2 ∙ alone.number; made = did.same.4 ∙ alone.made; taken = did.same.3 ∙ alone.taken };
+      alone = record { number = did.same.2 ∙ alone.number; made = did.same.4 ∙ alone.made };
     }

@@ -10,11 +10,10 @@ use Rattle.claim_rule.specs.Rule.{DeskView, state_seen}
 use Rattle.claim_rule.specs.Out.{Makes}
 use Rattle.booking_rows.specs.Starts.{IsLeastFree, MakesNone}
 
--- the first desk of its books, which has parted no other, and so has taken in none
+-- the first desk of its books, which has parted no other
 pub record IsAlone (desk : DeskView) : Type 0 where
   pub number : desk.number ≡ 0
   pub made : desk.made ≡ 0
-  pub taken : desk.taken ≡ []
 
 -- the entries of a desk's steps
 abbrev pub entries_of : ℕ → List Step → List Entry

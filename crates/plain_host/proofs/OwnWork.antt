@@ -86,7 +86,7 @@ settles_from desk front (b ∷ rest) well kept alone idle is sound owned last =
 alone_settles : (books : BooksView) (desk : DeskView) → IsOf books desk → IsAlone desk → IsIdle desk → IsSettled (state_seen desk)
 alone_settles books desk of alone idle =
     let well = is_sound desk.layout desk.seen of.legal in
-    let work = of.work alone.number alone.made alone.taken in
+    let work = of.work alone.number alone.made in
     settles_from desk [] (state_seen desk) well of.kept alone idle refl well.each work.owned work.last
 
 -- So it is a lone one.
