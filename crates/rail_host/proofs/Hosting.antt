@@ -15,28 +15,10 @@ use Rattle.session_loop.proofs.Views.{end_seen}
 use Rattle.rail_host.specs.Reservations.{Held}
 use Rattle.rail_host.specs.Run.{RunView}
 use Rattle.rail_host.specs.declared.responder.Tiny.{Tiny}
-use Rattle.rail_host.specs.Ends.{status_of_end, IsNoted}
+use Rattle.rail_host.specs.Ends.{status_of_end}
 use Rattle.rail_host.specs.Host.{IsHostEnd}
 use Rattle.rail_host.specs.Responding.{Responds, Declines}
 use Rattle.rail_host.specs.Tiny.{Answers, Refuses, IsOneThread, IsOneThreadCut}
-
--- what was written of a note
-pub noted : (before after : Option (List ℕ)) (faults_before faults_after : ℕ) (text : List ℕ) (all : Bool) → Writes before after text all
-    → (all ≡ false → Rose faults_before faults_after) → IsNoted before after faults_before faults_after text
-noted before after faults_before faults_after text true w cause = record {
-  written = w.written;
-  left = w.left;
-  told = w.told;
-  is = w.is;
-  whole = inl (w.whole refl);
-}
-noted before after faults_before faults_after text false w cause = record {
-  written = w.written;
-  left = w.left;
-  told = w.told;
-  is = w.is;
-  whole = inr (cause refl);
-}
 
 pub never_two : (end : ConnEnd) → status_of_end end ≡ 2 → ⊥
 never_two Done e = absurd (omega (arith, e))

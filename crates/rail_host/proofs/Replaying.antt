@@ -22,7 +22,8 @@ use Rattle.host_catalogue.specs.declared.load.LoadFault.TheVariants as load
 use Rattle.host_words.specs.Replay.{ReplayView}
 use Rattle.rail_host.specs.Ends.{status_of_end}
 use Rattle.rail_host.specs.Plain.{IsTaken}
-use Rattle.rail_host.specs.Replay.{HasCause, IsFirstDesk, IsReplay, IsReplayOf, IsReplayRun, IsReplayed, IsReplayCut, IsReplayEnd, IsUntouched, Ends, Replays, opening, plain_opening, status_of_fault, status_of_replay}
+use Rattle.rail_host.specs.Replay.{HasCause, IsFirstDesk, IsReplay, IsReplayOf, IsReplayRun, IsReplayed, IsReplayCut, IsReplayEnd, IsUntouched, Ends, Replays, opening, plain_opening, status_of_replay}
+use Rattle.host_notes.specs.Statuses.{status_of_fault}
 use Rattle.rail_host.specs.declared.replay.ReplayEnd.{ReplayEnd}
 use Rattle.rail_host.specs.declared.replay.ReplayEnd.TheVariants as end
 use Rattle.rail_host.proofs.Ending.{stream_is, done_from, cut_from, read_from, write_from}

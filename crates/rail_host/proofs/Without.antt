@@ -9,7 +9,8 @@ use Rattle.host_catalogue.specs.declared.load.LoadFault.{LoadFault}
 use Rattle.host_catalogue.specs.declared.load.LoadFault.TheVariants as load
 use Rattle.host_words.specs.Replay.{ReplayView}
 use Rattle.rail_host.specs.Ends.{status_of_end}
-use Rattle.rail_host.specs.Replay.{IsReplay, IsNoCatalogue, HasNone, IsWithoutCatalogue, Replays, status_of_fault, status_of_replay}
+use Rattle.rail_host.specs.Replay.{IsReplay, IsNoCatalogue, HasNone, IsWithoutCatalogue, Replays, status_of_replay}
+use Rattle.host_notes.specs.Statuses.{status_of_fault}
 use Rattle.rail_host.specs.declared.replay.ReplayEnd.{ReplayEnd}
 use Rattle.rail_host.specs.declared.replay.ReplayEnd.TheVariants as end
 use Rattle.session_loop.specs.declared.end.ConnEnd.{ConnEnd}

@@ -1,7 +1,5 @@
 -- The statuses and notes of ends.
-use Rattle.std.specs.Prelude.{◌≡◌, ◌⊎◌, ℕ, List, [], ◌++◌, Option, codes}
-use Rattle.rail_io.specs.Faults.{Rose}
-use Rattle.rail_io.specs.Told.{with_end}
+use Rattle.std.specs.Prelude.{ℕ, List, [], codes}
 use Rattle.session_loop.specs.declared.end.ConnEnd.{ConnEnd}
 use Rattle.session_loop.specs.declared.end.ConnEnd.TheVariants.{Done, Cut, Refused, ReadFault, WriteFault, NoMemory}
 
@@ -22,11 +20,3 @@ note_of_end (Refused fault) = codes "rail_host: input refused\n"
 note_of_end ReadFault = codes "rail_host: read fault\n"
 note_of_end WriteFault = codes "rail_host: write fault\n"
 note_of_end NoMemory = codes "rail_host: no memory\n"
-
--- a front of the note was written into the notes: all of it, unless these failed
-pub record IsNoted (before after : Option (List ℕ)) (faults_before faults_after : ℕ) (text : List ℕ) : Type 0 where
-  pub written : List ℕ
-  pub left : List ℕ
-  pub told : after ≡ with_end before written
-  pub is : text ≡ written ++ left
-  pub whole : (left ≡ []) ⊎ Rose faults_before faults_after

@@ -18,6 +18,7 @@ use Rattle.rail_service.specs.OneThread.{PlainView, plain_answers_of, plain_refu
 use Rattle.plain_host.specs.Plainly.{IsLone}
 use Rattle.host_catalogue.specs.declared.load.LoadFault.{LoadFault}
 use Rattle.host_catalogue.specs.declared.load.LoadFault.TheVariants as load
+use Rattle.host_notes.specs.Statuses.{status_of_fault}
 use Rattle.host_catalogue.specs.Loading.{Files, IsText, IsTooLarge, Loads}
 use Rattle.host_catalogue.specs.Notes.{load_note}
 use Rattle.host_words.specs.Replay.{ReplayView, replay_words}
@@ -40,13 +41,6 @@ abbrev pub IsNoReplay : List (List ℕ) → Type 0
 IsNoReplay words = (said : ReplayView) → IsReplay words said → ⊥
 
 -- the status of an end
-abbrev pub status_of_fault : LoadFault → ℕ
-status_of_fault load.Missing = 1
-status_of_fault load.TooLarge = 1
-status_of_fault (load.Refused fault) = 1
-status_of_fault load.Failed = 3
-status_of_fault load.NoMemory = 5
-
 abbrev pub status_of_replay : ReplayEnd → ℕ
 status_of_replay end.NoMemory = 5
 status_of_replay (end.NoCatalogue fault) = status_of_fault fault

@@ -1,17 +1,12 @@
 // The statuses and notes of ends.
 ghost use Rattle.std.specs.Prelude.{◌≡◌};
 ghost use Rattle.session_loop.specs.declared.end.ConnEnd.TheVariants.{NoMemory};
-ghost use Rattle.rail_host.specs.Ends.{status_of_end, note_of_end, IsNoted};
+ghost use Rattle.rail_host.specs.Ends.{status_of_end, note_of_end};
+ghost use Rattle.host_notes.specs.Noted.{IsNoted};
 
+use host_notes::note;
 use rail_io::Sink;
-use session_loop::{ConnEnd, write_all};
-
-/// Writes as much of a note as the sink takes.
-pub fn note<E: Sink>(notes: &mut E, text: &[u8])
-    ensures { IsNoted (E.told notes.old) (E.told notes.new) (E.faults notes.old) (E.faults notes.new) text.now }
-{
-    let _whole = write_all(notes, text);
-}
+use session_loop::ConnEnd;
 
 /// The status of a connection's end.
 pub fn status(end: ConnEnd) -> u8

@@ -2,7 +2,8 @@
 ghost use Rattle.std.specs.Prelude.{◌≡◌, ◌++◌, ◌⊎◌, ℕ, List, Option, Some, codes};
 ghost use Rattle.rail_io.specs.Faults.{Rose};
 ghost use Rattle.session_loop.specs.declared.end.ConnEnd.{ConnEnd};
-ghost use Rattle.rail_host.specs.Ends.{status_of_end, note_of_end, IsNoted};
+ghost use Rattle.rail_host.specs.Ends.{status_of_end, note_of_end};
+ghost use Rattle.host_notes.specs.Noted.{IsNoted};
 ghost use Rattle.rail_host.specs.Host.{IsTinyRun};
 ghost use Rattle.rail_host.specs.Plain.{IsRefusedWords, AnswersAll, AnswersCut, AnswersTaken, AnswersPart};
 ghost use Rattle.host_words.specs.Replay.{ReplayView};

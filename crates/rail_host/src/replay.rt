@@ -6,19 +6,20 @@ ghost use Rattle.session_loop.specs.Writes.{Writes};
 ghost use Rattle.session_loop.specs.declared.end.ConnEnd.TheVariants.{ReadFault, WriteFault};
 ghost use Rattle.host_catalogue.specs.declared.load.LoadFault.{LoadFault};
 ghost use Rattle.host_catalogue.specs.declared.load.LoadFault.TheVariants as load;
-ghost use Rattle.rail_host.specs.Ends.{IsNoted};
-ghost use Rattle.rail_host.specs.Replay.{Ends, HasCause, IsForReplay, IsNoReplay, IsRefusedText, IsReplayEnd, Replays, note_of_replay, said_of, status_of_replay, status_of_fault};
+ghost use Rattle.host_notes.specs.Noted.{IsNoted};
+ghost use Rattle.rail_host.specs.Replay.{Ends, HasCause, IsForReplay, IsNoReplay, IsRefusedText, IsReplayEnd, Replays, note_of_replay, said_of, status_of_replay};
 ghost use Rattle.rail_host.specs.Words.{words_bytes};
 ghost use Rattle.rail_host.specs.declared.replay.ReplayEnd.{ReplayEnd};
 ghost use Rattle.rail_host.specs.declared.replay.ReplayEnd.TheVariants.{NoCatalogue, Served};
 
-use crate::ends::{end_without_memory, note, note_text, status};
-use host_catalogue::{LoadFault, NoteText, load_catalogue, open_books};
+use crate::ends::{end_without_memory, note_text, status};
+use host_catalogue::{LoadFault, load_catalogue, open_books};
+use host_notes::{note, note_parts, status_of_fault};
 use host_words::{ReplayWords, WordsFault, read_replay};
 use rail_catalogue::Catalogue;
 use rail_io::{ScriptClock, Shelf, Sink, Source};
 use rail_service::serve_connection;
-use session_loop::{ConnEnd, write_all};
+use session_loop::ConnEnd;
 use std::alloc::Global;
 
 /// How a replay ended.
@@ -85,39 +86,6 @@ fn replay<F: Shelf, S: Source, K: Sink>(
         Err(fault) => return ReplayEnd::NoCatalogue(fault),
     };
     ReplayEnd::Served(serve(alloc, &catalogue, said, input, output))
-}
-
-fn status_of_fault(fault: &LoadFault) -> u8
-    ensures { result ≡ status_of_fault fault.now }
-{
-    match fault {
-        LoadFault::Missing | LoadFault::TooLarge | LoadFault::Refused(_) => 1,
-        LoadFault::Failed => 3,
-        LoadFault::NoMemory => 5,
-    }
-}
-
-/// Writes all of both pieces, and answers true, or a front of them, where the sink fails.
-fn write_both<K: Sink>(sink: &mut K, first: &[u8], second: &[u8]) -> bool
-    ensures writes { Writes (K.told sink.old) (K.told sink.new) (first.now ++ second.now) result }
-    ensures cause { result ≡ false → Rose (K.faults sink.old) (K.faults sink.new) }
-    ensures steady { result ≡ true → K.faults sink.new ≡ K.faults sink.old }
-{
-    if !write_all(sink, first) {
-        return false;
-    }
-    write_all(sink, second)
-}
-
-/// Writes as much of a note in parts as the sink takes.
-fn note_parts<E: Sink>(notes: &mut E, text: NoteText<'_>)
-    ensures { IsNoted (E.told notes.old) (E.told notes.new) (E.faults notes.old) (E.faults notes.new)
-        (text.entry.front.now ++ (text.entry.path.now ++ text.entry.end.now)) }
-{
-    if !write_all(notes, text.front) {
-        return;
-    }
-    let _whole = write_both(notes, text.path, text.end);
 }
 
 /// Writes the note of an end, and answers its status.

@@ -4,11 +4,13 @@ ghost use Rattle.rail_io.specs.Told.{with_front, with_end};
 ghost use Rattle.rail_io.specs.Faults.{Rose};
 ghost use Rattle.session_loop.specs.declared.end.ConnEnd.{ConnEnd};
 ghost use Rattle.session_loop.specs.declared.end.ConnEnd.TheVariants.{ReadFault, WriteFault};
-ghost use Rattle.rail_host.specs.Ends.{status_of_end, note_of_end, IsNoted};
+ghost use Rattle.rail_host.specs.Ends.{status_of_end, note_of_end};
+ghost use Rattle.host_notes.specs.Noted.{IsNoted};
 ghost use Rattle.rail_host.specs.Host.{IsNoTiny, IsTinyRun, IsHostEnd, IsServed, IsCutOrRefused, IsReadFault, IsWriteFault};
 ghost use Rattle.rail_host.specs.Words.{words_bytes};
 
-use crate::ends::{note, note_text, status};
+use crate::ends::{note_text, status};
+use host_notes::note;
 use crate::responder::Tiny;
 use crate::words::tiny_words;
 use http_wire::Intake;
