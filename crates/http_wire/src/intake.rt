@@ -23,6 +23,9 @@ use std::marker::Model;
 /// A head and a body.
 const ROOM: usize = 278_528;
 
+/// The most that one read asks for: what is read ahead is moved to the front with each request, so it is kept small.
+const READ_ROOM: usize = 16_384;
+
 /// The most requests of a connection.
 const MOST: u32 = 65_536;
 
@@ -207,7 +210,7 @@ fn to_front(memory: &mut [u8], at: usize, filled: usize)
     memory.copy_within(at..filled, 0);
 }
 
-/// Reads behind the bytes that are there.
+/// Reads some bytes behind those that are there.
 fn pull<S: Source>(memory: &mut [u8], filled: usize, source: &mut S) -> Pulled
     requires { filled < length memory.old }
     ensures pulls { PullsBehind (S.told source.old) (S.told source.new) memory.old memory.new filled result }
@@ -215,7 +218,8 @@ fn pull<S: Source>(memory: &mut [u8], filled: usize, source: &mut S) -> Pulled
     ensures cause { result ≡ Failed → Rose (S.faults source.old) (S.faults source.new) }
     ensures steady { Stays result (S.faults source.old) (S.faults source.new) }
 {
-    source.read(&mut memory[filled..])
+    let room = (memory.len() - filled).min(READ_ROOM);
+    source.read(&mut memory[filled..filled + room])
 }
 
 impl Intake {
