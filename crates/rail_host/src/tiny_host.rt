@@ -10,9 +10,9 @@ ghost use Rattle.rail_host.specs.Host.{IsNoTiny, IsTinyRun, IsHostEnd, IsServed,
 ghost use Rattle.rail_host.specs.Words.{words_bytes};
 
 use crate::ends::{note_text, status};
-use host_notes::note;
 use crate::responder::Tiny;
 use crate::words::tiny_words;
+use host_notes::note;
 use http_wire::Intake;
 use rail_io::{Sink, Source};
 use session_loop::{ConnEnd, run_session};
