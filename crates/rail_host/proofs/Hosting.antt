@@ -1,7 +1,6 @@
 -- What a run's status says of its bytes.
-use Rattle.std.proofs.Common.{◌≡◌, ℕ, Bool, true, false, List, [], ◌++◌, Option, Some, None, refl, sym, ◌∙◌, ap, subst, arith, append-nil, inl, inr}
+use Rattle.std.proofs.Common.{◌≡◌, ℕ, List, [], ◌++◌, Option, Some, None, refl, sym, ◌∙◌, ap, subst, arith, append-nil, inl, inr}
 use Rattle.std.specs.Prelude.{◌⊎◌}
-use Rattle.rail_io.specs.Faults.{Rose}
 use Rattle.rail_io.specs.Told.{with_front}
 use Rattle.http_wire.specs.declared.request.WireFault.{WireFault}
 use Rattle.http_wire.specs.Next.{AtEnd}
@@ -10,7 +9,6 @@ use Rattle.http_wire.proofs.StreamLemmas.{closed_longer, spells_longer}
 use Rattle.session_loop.specs.declared.end.ConnEnd.{ConnEnd}
 use Rattle.session_loop.specs.declared.end.ConnEnd.TheVariants.{Done, Cut, Refused, ReadFault, WriteFault, NoMemory}
 use Rattle.session_loop.specs.Session.{IsEnd}
-use Rattle.session_loop.specs.Writes.{Writes}
 use Rattle.session_loop.proofs.Views.{end_seen}
 use Rattle.rail_host.specs.Reservations.{Held}
 use Rattle.rail_host.specs.Run.{RunView}

@@ -38,7 +38,7 @@ invariant_of-result c =
       numbers = c.in_ok-numbers.ensures ∙ ap (range_with_len 0) (sym count);
       layout = b.layout ∙ ap (λ (ls : List ℕ). record { legs = ls; rows = 1024; opening = [] }) legs;
       own = b.own;
-      alone = record { number = b.desk.number; made = b.desk.made; taken = b.desk.taken };
+      alone = record { number = b.desk.number; made = b.desk.made };
       none = b.tidy.0.0;
       settled = record {
         sold = [];
