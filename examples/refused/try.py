@@ -1,8 +1,9 @@
 #!/usr/bin/env python3
-"""Tries the programs beside this file, each as a crate over host_io in a copy of the repository.
+"""Tries the programs beside this file, each as a crate over rail_service in a copy of the repository.
 
-A program that drops a stream which a listener handed out has to be refused, and just for that; the same program that spends it has to be
-accepted. No must-fail edit can say this, since such a program never reaches the prover. Ends with status 1 where one of them doesn't go so.
+A program that drops a stream which a listener handed out has to be refused, and just for that; so has one that takes the stream apart. The
+same program that serves it has to be accepted. No must-fail edit can say this, since such a program never reaches the prover. Ends with
+status 1 where one of them doesn't go so.
 """
 import pathlib
 import shutil
@@ -12,7 +13,9 @@ import tempfile
 
 HERE = pathlib.Path(__file__).resolve().parent
 ROOT = HERE.parent.parent
-LET_GO = "error[linear-value-let-go]"
+# why a program is refused, by the first word of its name
+WHY = {"drops": "error[linear-value-let-go]", "takes": "error[private-field]"}
+LIBRARIES = "rail_service rail_io rail_catalogue claim_rule"
 
 
 def name_of(program):
@@ -28,7 +31,7 @@ def tried(copy, program):
     (crate / "src").mkdir()
     shutil.copy(program, crate / "src" / "lib.rt")
     with open(copy / "crates.txt", "a") as lines:
-        lines.write("%s: host_io\n" % name_of(program))
+        lines.write("%s: %s\n" % (name_of(program), LIBRARIES))
     return subprocess.run(["rt", "check"], cwd=crate, capture_output=True, text=True)
 
 
@@ -41,8 +44,9 @@ def main():
         for program in sorted(HERE.glob("*.rt.txt")):
             check = tried(copy, program)
             said = check.stdout + check.stderr
-            if name_of(program).startswith("drops_"):
-                good = check.returncode != 0 and said.count(": error[") == 1 and LET_GO in said
+            why = WHY.get(name_of(program).split("_")[0])
+            if why:
+                good = check.returncode != 0 and said.count(": error[") == 1 and why in said
             else:
                 good = check.returncode == 0
             print("%s: %s" % (program.name, "as it must be" if good else "NOT as it must be\n" + said[-2000:]))

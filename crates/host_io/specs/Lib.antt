@@ -1,4 +1,2 @@
-pub mod Listeners
-pub mod Memory
 pub mod Tcp
 pub mod Risen

@@ -4,8 +4,7 @@ ghost use Rattle.rail_io.specs.Faults.{Rose};
 ghost use Rattle.host_io.specs.Risen.{has_risen};
 ghost use Rattle.host_io.specs.declared.shared_listener.ListenerEnd.TheVariants.{Open, Closed, Failed};
 
-use crate::listener::{Accepted, Listener};
-use crate::waiting::Waiting;
+use rail_service::{Accepted, Listener, Waiting};
 use std::marker::{Brand, PhantomData};
 
 /// What is named of a listener while it stands behind a lock: its count of faults when it was handed in, its port and its limit.

@@ -3,9 +3,8 @@ ghost use Rattle.std.specs.Prelude.{◌≡◌, ◌≤◌};
 ghost use Rattle.rail_io.specs.Faults.{Rose};
 ghost use Rattle.host_io.specs.Tcp.{tcp_view, tcp_faults};
 
-use crate::listener::{Accepted, Bound, Listener};
-use crate::waiting::Waiting;
 use rail_io::{ReaderSource, WriterSink};
+use rail_service::{Accepted, Bound, Listener, Waiting};
 use std::io;
 use std::io::ErrorKind;
 use std::net::{Ipv4Addr, Net, SocketAddr, TcpListener, TcpStream};

@@ -29,9 +29,9 @@ layout_is cat books has none =
 
 pub served_wall : (cat : CatalogueView) (said : Serving) (books : BooksView) (desk : DeskView) (wall : WallView) → HasCatalogue books cat → books.layout.opening ≡ []
     → wall.layout ≡ books.layout → Ends books.layout desk wall.words wall.history → IsWhole desk.number desk.made desk.taken
-    → OnlyMet desk.seen → ((n : ℕ) → 1 ≤ n → n ≤ said.workers → HasWorked (Connection cat) desk.seen n) → HasWorked Sweep desk.seen (said.workers + 1)
+    → desk.made ≡ said.workers + 1 → OnlyMet desk.seen → ((n : ℕ) → 1 ≤ n → n ≤ said.workers → HasWorked (Connection cat) desk.seen n) → HasWorked Sweep desk.seen (said.workers + 1)
     → IsServedWall cat said wall
-served_wall cat said books desk wall has none same ends whole meets serving sweeping =
+served_wall cat said books desk wall has none same ends whole made meets serving sweeping =
     let seen : desk.seen ≡ wall.history = sym (ends.whole whole) in
     record {
       layout = same ∙ layout_is cat books has none;
@@ -40,6 +40,7 @@ served_wall cat said books desk wall has none same ends whole meets serving swee
       first = subst (λ (h : List Entry). OnlyMet h) seen meets;
       serving = λ n low high. subst (λ (h : List Entry). HasWorked (Connection cat) h n) seen (serving n low high);
       sweeping = subst (λ (h : List Entry). HasWorked Sweep h (said.workers + 1)) seen sweeping;
+      no_others = λ n beyond. ends.no_others whole.0 n (omega (arith, made, beyond));
     }
 
 -- a member has worked, from the desk that it stood at to the one that was taken in

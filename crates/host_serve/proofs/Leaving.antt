@@ -1,7 +1,7 @@
 -- A listener that is left.
 use Rattle.std.proofs.Common.{◌≡◌, ◌≤◌, ◌∙◌, ℕ, ap, inl, inr, arith}
 use Rattle.rail_io.specs.Faults.{Rose}
-use Rattle.host_io.specs.Listeners.{ListenerView}
+use Rattle.rail_service.specs.Listeners.{ListenerView}
 
 -- a count that rose from a later value rose
 pub rose_since : (first old new : ℕ) → first ≤ old → Rose old new → Rose first new

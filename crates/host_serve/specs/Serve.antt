@@ -7,7 +7,7 @@ use Rattle.history_model.specs.Words.{AreWordsOf}
 use Rattle.history_model.specs.declared.entry.Entry.{Entry}
 use Rattle.claim_rule.specs.Walls.{WallView}
 use Rattle.rail_catalogue.specs.Contents.{CatalogueView, legs_in}
-use Rattle.host_io.specs.Listeners.{ListenerView}
+use Rattle.rail_service.specs.Listeners.{ListenerView}
 use Rattle.host_words.specs.Serve.{ServeView, serve_words}
 use Rattle.host_words.specs.declared.serve.Serving.{Serving}
 use Rattle.host_words.specs.declared.serve.ServeWords.{ServeWords}
@@ -47,7 +47,8 @@ pub record HasWorked (Does : OneTurn) (history : List Entry) (n : ℕ) : Type 0 
   pub entries : own history n ≡ own ended.desk.seen n
 
 -- The wall's words are those of its history, which is legal, of the catalogue's places and rows. In it the first desk only met others. The
--- desks 1 to the number of workers served connections, and the one behind them swept: their entries there are those of all their turns.
+-- desks 1 to the number of workers served connections, and the one behind them swept: their entries there are those of all their turns. No
+-- desk beyond these has any.
 pub record IsServedWall (cat : CatalogueView) (said : Serving) (wall : WallView) : Type 0 where
   pub layout : wall.layout ≡ record { legs = legs_in cat; rows = cat.rows; opening = [] }
   pub legal : IsLegal wall.layout wall.history
@@ -55,6 +56,7 @@ pub record IsServedWall (cat : CatalogueView) (said : Serving) (wall : WallView)
   pub first : OnlyMet wall.history
   pub serving : (n : ℕ) → 1 ≤ n → n ≤ said.workers → HasWorked (Connection cat) wall.history n
   pub sweeping : HasWorked Sweep wall.history (said.workers + 1)
+  pub no_others : (n : ℕ) → said.workers + 1 < n → own wall.history n ≡ []
 
 -- what was served, of the catalogue of the words' file
 pub record HasWall (files : Files) (said : ServeView) (wall : Option WallView) : Type 0 where

@@ -9,8 +9,8 @@ ghost use Rattle.host_serve.specs.Turns.{HasCatalogue, Chain, Connection};
 use crate::member::Common;
 use crate::one::serve_one;
 use claim_rule::{Books, Desk};
-use host_io::{Accepted, Listener};
 use rail_io::Clock;
+use rail_service::{Accepted, Listener};
 
 /// Serves a listener's streams one after the other, until as many as its limit were handed out, and answers true, or until an accept
 /// failed, and answers false.

@@ -6,9 +6,8 @@ ghost use Rattle.host_serve.specs.Turns.{HasCatalogue, ServesOne};
 
 use crate::member::Common;
 use claim_rule::{Books, Desk};
-use host_io::Waiting;
 use rail_io::{Clock, Sink, Source};
-use rail_service::serve_waiting;
+use rail_service::{Waiting, serve_waiting};
 
 /// Serves a stream that was handed out to its connection's end, and closes it.
 pub fn serve_one<I: Source + Drop, O: Sink + Drop, C: Clock>(

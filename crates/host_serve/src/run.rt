@@ -25,10 +25,11 @@ use crate::meeting::meet_others;
 use crate::member::Common;
 use claim_rule::{Books, Desk, Wall};
 use host_catalogue::{LoadFault, load_catalogue, open_books};
-use host_io::{Bound, Listener, ListenerEnd, Named, SharedListener, Ticker};
+use host_io::{ListenerEnd, Named, SharedListener, Ticker};
 use host_words::{ServeWords, Serving, WordsFault, read_serve};
 use rail_catalogue::Catalogue;
 use rail_io::{Clock, Shelf, Sink};
+use rail_service::{Bound, Listener};
 use std::alloc::Global;
 use std::marker::Brand;
 use std::sync::atomic::AtomicBool;
@@ -334,7 +335,7 @@ where
 ///
 /// The end of one connection changes no status, and neither does a failing note. It may wait, so all this is said where it returns.
 /// Wherever members ran, the books are finished and handed back. In the wall's history the first desk only met others, each serving member's
-/// entries are those of the connections that it served, and the last member's those of its sweeps.
+/// entries are those of the connections that it served, and the last member's those of its sweeps; no other desk has any.
 pub fn run_serve<
     R: Threads + Wait + Sync,
     F: Shelf,

@@ -1,6 +1,7 @@
 // Where serving members take their streams.
-use host_io::{Listener, Named, SharedListener, Waiting};
+use host_io::{Named, SharedListener};
 use rail_io::{Sink, Source};
+use rail_service::{Listener, Waiting};
 use std::sync::{Mutex, Wait};
 
 /// Hands out streams one after the other, and none once it has ended.

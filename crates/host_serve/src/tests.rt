@@ -1,6 +1,9 @@
 // Serving from memory: two connections at once, sweeping, and how serving ends.
 ghost use Rattle.std.specs.Prelude.{◌≡◌, None, IfOk, length};
-ghost use Rattle.host_io.specs.Memory.{list_view, list_faults};
+ghost use Rattle.claim_rule.specs.Seats.{IsOf};
+ghost use Rattle.claim_rule.specs.Out.{IsTidy};
+ghost use Rattle.worker_pool.specs.Turns.{KeepsDesk};
+ghost use Rattle.host_serve.specs.Turns.{HasCatalogue};
 
 use crate::end::ServeEnd;
 use crate::member::{Common, Post};
@@ -8,13 +11,16 @@ use crate::run::run_serve;
 use crate::serving::Server;
 use crate::streams::Streams;
 use crate::sweeping::Sweeper;
-use claim_rule::Wall;
+use claim_rule::{Books, Desk, Wall};
 use history_model::phase::{EndKind, Phase, phase_word};
 use host_catalogue::{load_catalogue, open_books};
-use host_io::{Accepted, Bound, CountTicker, ListListener, Listener, Waiting};
+use host_io::CountTicker;
+use rail_catalogue::Catalogue;
 use rail_ids::RowNo;
 use rail_io::{BytesSource, MapShelf, Pulled, Pushed, ScriptClock, Sink, Source, VecSink};
+use rail_service::{Accepted, Bound, Finished, ListListener, Listener, Waiting, serve_waiting};
 use rail_time::Moment;
+use session_loop::ConnEnd;
 use std::alloc::{AllocError, Global};
 use std::process::Abort;
 use std::sync::Wait;
@@ -22,7 +28,7 @@ use std::sync::atomic::{AtomicBool, Ordering};
 use std::test::Fail;
 use std::thread;
 use std::thread::Threads;
-use worker_pool::{Member, Open, run_workers};
+use worker_pool::{Member, Open, TurnEnd, Worker, run_workers};
 
 const CATALOGUE: &str = r#"{"currency":"EUR",
  "retailers":[{"number":1,"key":"north"}],
@@ -266,55 +272,57 @@ impl Sink for GateSink<'_> {
     }
 }
 
-/// Hands out listed streams, of which the first waits for the second.
+/// Hands out streams with one reservation each, of which the first waits for the second.
 #[derive(Drop)]
 struct GateListener<'a> {
-    streams: ListListener,
-    first: bool,
+    alloc: Global,
+    port: u16,
+    limit: u32,
+    handed: u32,
+    faults: u64,
     answered: &'a AtomicBool,
 }
 
 impl<'a> Listener for GateListener<'a> {
-    ghost use Rattle.host_io.specs.Memory.{list_view, list_faults};
-
     type Input = GateSource<'a>;
 
     type Output = GateSink<'a>;
 
-    ghost told = { λ l. list_view l.streams };
+    ghost told = { λ l. record { port = l.port; limit = l.limit; handed = l.handed } };
 
-    ghost faults = { λ l. list_faults l.streams };
+    ghost faults = { λ l. l.faults };
 
     fn bind(&mut self, port: u16) -> Bound {
-        self.streams.bind(port)
+        self.port = port;
+        Bound::Ready
     }
 
     fn accept(&mut self) -> Accepted<GateSource<'a>, GateSink<'a>> {
-        match self.streams.accept() {
-            Accepted::Stream(waiting) => {
-                let (bytes, taken) = waiting.into_streams();
-                let input = GateSource {
-                    bytes,
-                    waits: self.first,
-                    answered: self.answered,
-                    faults: 0,
-                };
-                let output = GateSink {
-                    taken,
-                    marks: !self.first,
-                    answered: self.answered,
-                    faults: 0,
-                };
-                self.first = false;
-                Accepted::Stream(Waiting::of(input, output))
-            }
-            Accepted::Failed => Accepted::Failed,
-            Accepted::Closed => Accepted::Closed,
+        if self.handed >= self.limit {
+            return Accepted::Closed;
         }
+        let Ok(bytes) = RESERVES.as_bytes().to_vec(self.alloc) else {
+            self.faults = self.faults.saturating_add(1);
+            return Accepted::Failed;
+        };
+        let input = GateSource {
+            bytes: BytesSource::new(bytes, Vec::new(self.alloc)),
+            waits: self.handed == 0,
+            answered: self.answered,
+            faults: 0,
+        };
+        let output = GateSink {
+            taken: VecSink::new(self.alloc, Vec::new(self.alloc)),
+            marks: self.handed > 0,
+            answered: self.answered,
+            faults: 0,
+        };
+        self.handed += 1;
+        Accepted::Stream(Waiting::of(input, output))
     }
 
     fn set_limit(&mut self, connections: u32) {
-        self.streams.set_limit(connections);
+        self.limit = connections;
     }
 }
 
@@ -324,8 +332,11 @@ fn two_connections_at_once(rt: HostRuntime) -> Result<(), Fail> {
     let alloc = rt.alloc();
     let answered = AtomicBool::new(false);
     let listener = GateListener {
-        streams: ListListener::new(alloc, two_streams(alloc)?, Vec::new(alloc)),
-        first: true,
+        alloc,
+        port: 0,
+        limit: 0,
+        handed: 0,
+        faults: 0,
         answered: &answered,
     };
     let mut notes = VecSink::new(alloc, Vec::new(alloc));
@@ -333,6 +344,97 @@ fn two_connections_at_once(rt: HostRuntime) -> Result<(), Fail> {
     let end = serve_line(&rt, alloc, line, listener, &mut notes)?;
     assert_eq!(rt; end.status, 0);
     assert!(rt; has_two_bookings(&end.wall));
+    Ok(())
+}
+
+// Serves a stream, and gives what comes of it.
+fn finished(
+    alloc: Global,
+    cat: &Catalogue,
+    books: &Books,
+    desk: &mut Desk,
+    waiting: Waiting<BytesSource, VecSink>,
+    clock: &mut ScriptClock,
+) -> Finished<BytesSource, VecSink>
+    requires has { HasCatalogue books.now cat.now }
+    requires own { IsOf books.now desk.old }
+    requires tidy { IsTidy desk.old }
+    ensures own { IsOf books.now desk.new }
+    ensures tidy { IsTidy desk.new }
+    ensures keeps { KeepsDesk desk.old desk.new }
+{
+    serve_waiting(alloc, cat, books, desk, waiting, clock)
+}
+
+/// Serves one reservation from memory, and keeps what comes of it.
+#[derive(Drop)]
+struct Keeper<'a> {
+    alloc: Global,
+    cat: &'a Catalogue,
+    clock: ScriptClock,
+    finished: Option<Finished<BytesSource, VecSink>>,
+}
+
+impl Worker for Keeper<'_> {
+    ghost use Rattle.host_serve.specs.Turns.{HasCatalogue};
+
+    ghost fits = { λ w books. HasCatalogue books w.cat.now };
+
+    ghost ended = { λ _. Unit {0} };
+
+    ghost does = { λ _ _ _ _. Unit {0} };
+
+    fn turn(&mut self, books: &Books, desk: &mut Desk) -> TurnEnd {
+        let alloc = self.alloc;
+        if let Ok(bytes) = RESERVES.as_bytes().to_vec(alloc) {
+            let input = BytesSource::new(bytes, Vec::new(alloc));
+            let waiting = Waiting::of(input, VecSink::new(alloc, Vec::new(alloc)));
+            let clock = &mut self.clock;
+            self.finished = Some(finished(alloc, self.cat, books, desk, waiting, clock));
+        }
+        TurnEnd::End
+    }
+}
+
+/// Two members, each with one reservation and a sink that it keeps: both connections are done, and their bookings differ.
+#[test]
+fn two_members(rt: HostRuntime) -> Result<(), Fail> {
+    let alloc = rt.alloc();
+    let mut shelf = shelf_of(alloc)?;
+    let Ok(cat) = load_catalogue(alloc, &mut shelf, "k1.json") else {
+        return Err(Fail::from("no catalogue"));
+    };
+    let (books, mut first) = open_books(alloc, &cat)?;
+    let next = Moment::of(SIX).expect(&rt, "a moment");
+    let mut crew = [
+        Member {
+            desk: books.part(&mut first),
+            worker: Keeper {
+                alloc,
+                cat: &cat,
+                clock: ScriptClock { next, tick: 0 },
+                finished: None,
+            },
+        },
+        Member {
+            desk: books.part(&mut first),
+            worker: Keeper {
+                alloc,
+                cat: &cat,
+                clock: ScriptClock { next, tick: 0 },
+                finished: None,
+            },
+        },
+    ];
+    run_workers(&rt, &books, crew.as_mut_slice(), &Open);
+    let (Some(one), Some(other)) = (&crew[0].worker.finished, &crew[1].worker.finished) else {
+        return Err(Fail::from("no connection"));
+    };
+    assert_eq!(rt; one.end, ConnEnd::Done);
+    assert_eq!(rt; other.end, ConnEnd::Done);
+    let (one, other) = (one.output.taken(), other.output.taken());
+    assert!(rt; one.starts_with(b"HTTP/1.1 201") && other.starts_with(b"HTTP/1.1 201"));
+    assert!(rt; one != other);
     Ok(())
 }
 

@@ -1,19 +1,18 @@
 -- A desk that is alone serves as a host of one thread.
-use Rattle.std.proofs.Common.{◌≡◌, ◌⊎◌, inl, inr, ℕ, List, [], Option, Result, Ok, Err, refl, sym, ap, subst}
+use Rattle.std.proofs.Common.{◌≡◌, inl, inr, ℕ, List, [], Option, Result, Ok, Err, sym, ap, subst}
 use Rattle.rail_ids.specs.declared.RetailerNo.{RetailerNo}
 use Rattle.http_wire.specs.declared.request.WireFault.{WireFault}
 use Rattle.http_wire.specs.Requests.{RequestText, Rest}
 use Rattle.session_loop.specs.declared.end.ConnEnd.{ConnEnd}
 use Rattle.session_loop.specs.Session.{IsAnswered, IsCutShort, IsEnd}
 use Rattle.session_loop.proofs.Views.{end_seen, answered_seen, cut_seen}
-use Rattle.claim_rule.specs.Rule.{DeskView, state_seen}
+use Rattle.claim_rule.specs.Rule.{DeskView}
 use Rattle.rail_catalogue.specs.Contents.{CatalogueView}
 use Rattle.osdm_texts.specs.declared.problem.Problem.{Problem}
 use Rattle.osdm_answers.specs.Replies.{Reply}
 use Rattle.osdm_json.specs.declared.command.Command.{Command}
 use Rattle.osdm_json.specs.declared.route.Route.{Route}
 use Rattle.osdm_json.specs.Readable.{IsReadable}
-use Rattle.plain_host.specs.Plain.{Plain}
 use Rattle.lone_desk.proofs.Following.{shape_follows}
 use Rattle.service_rules.specs.Performing.{DoesNothing}
 use Rattle.plain_host.specs.PlainOf.{plain_in, plain_of}
@@ -26,7 +25,7 @@ use Rattle.rail_service.specs.Responding.{view_of}
 use Rattle.rail_service.specs.Serving.{AsksFor, AsksAdmitted, AsksAt, admitted, retailer_of, AnswersAsked}
 use Rattle.rail_service.specs.Connections.{ServiceView, IsAnswer, answers_of, refusals_of, IsServed, HasServed}
 use Rattle.rail_service.proofs.Connecting.{served_there}
-use Rattle.rail_service.specs.OneThread.{PlainView, plain_view, AnswersPlain, IsPlainAnswer, plain_answers_of, plain_refusals_of, IsOneThread}
+use Rattle.rail_service.specs.OneThread.{plain_view, AnswersPlain, IsPlainAnswer, plain_answers_of, plain_refusals_of, IsOneThread}
 
 -- a command that was asked for can be read
 readable_at : (cat : CatalogueView) (retailer : RetailerNo) (body : List ℕ) (found : Result Route Problem) (a : RetailerNo × Command)

@@ -1,7 +1,5 @@
 -- A connection, from the answers of its service.
-use Rattle.std.proofs.Common.{◌≡◌, ℕ, true, List, ◌++◌, Option, refl, sym, ◌∙◌, subst}
-use mathlib.Core.List.{IsPrefix}
-use Rattle.history_model.specs.declared.entry.Entry.{Entry}
+use Rattle.std.proofs.Common.{◌≡◌, ℕ, true, List, Option, refl, sym, ◌∙◌, subst}
 use Rattle.history_model.specs.History.{IsLegal}
 use Rattle.history_model.proofs.Legal.{NoDouble-from_WellFormed, WellFormed-history}
 use Rattle.history_model.proofs.Seen.{legal-front}

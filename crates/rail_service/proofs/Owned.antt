@@ -1,6 +1,6 @@
 -- Every answer is a list of the desk's own steps.
-use Rattle.std.proofs.Common.{◌≡◌, ℕ, List, [], ◌∷◌, ◌++◌, Option, Some, None, Ok, Err, refl, sym, ap, subst, inl, inr}
-use Rattle.std.specs.Prelude.{Result, ◌⊎◌}
+use Rattle.std.proofs.Common.{◌≡◌, ℕ, List, [], ◌∷◌, ◌++◌, Option, Some, None, Ok, Err, sym, subst, inl, inr}
+use Rattle.std.specs.Prelude.{Result}
 use Rattle.leg_masks.specs.Interval.{PlacedSpan as Item}
 use Rattle.offer_codes.specs.declared.code.Segment.{Segment}
 use Rattle.offer_codes.specs.Offers.{OfferView, offer_view}
@@ -20,15 +20,14 @@ use Rattle.rail_catalogue.specs.Contents.{CatalogueView}
 use Rattle.http_wire.specs.Requests.{RequestText}
 use Rattle.booking_rows.specs.Views.{RowSeen}
 use Rattle.osdm_texts.specs.declared.problem.Problem.{Problem}
-use Rattle.osdm_texts.specs.declared.problem.Problem.TheVariants.{NoMemory}
-use Rattle.osdm_answers.specs.Replies.{Reply, problem}
+use Rattle.osdm_answers.specs.Replies.{Reply}
 use Rattle.osdm_json.specs.declared.command.Command.{Command}
 use Rattle.osdm_json.specs.declared.command.Command.TheVariants as command
 use Rattle.booking_service.specs.Deciding.{Replying, OnBooking, shows, ConfirmsIt, FulfilsIt, ReleasesIt}
 use Rattle.reservation_service.specs.declared.holding.Placing.{Placing}
 use Rattle.reservation_service.specs.Holding.{HoldsPlaces, PlacesAll}
-use Rattle.reservation_service.specs.Reserving.{reserved, Prebooks, FailsToHold, Falters, Reserves}
-use Rattle.search_service.specs.Searching.{SearchesOffers, ListsPlaces, SweepsRows}
+use Rattle.reservation_service.specs.Reserving.{reserved, FailsToHold, Reserves}
+use Rattle.search_service.specs.Searching.{SearchesOffers, ListsPlaces}
 use Rattle.service_rules.specs.Checks.{command_fault}
 use Rattle.service_rules.specs.Performing.{Performs}
 use Rattle.service_rules.specs.Answering.{AnswersBy, Answers}

@@ -6,3 +6,5 @@ pub mod Connections
 pub mod OneThread
 pub mod Readiness
 pub mod Responding
+pub mod Listeners
+pub mod Memory

@@ -1,4 +1,5 @@
 mod conversation;
+mod listeners;
 mod lives;
 mod refusals;
 mod trades;

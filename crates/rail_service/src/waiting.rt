@@ -14,11 +14,36 @@ ghost use Rattle.rail_service.specs.OneThread.{IsOneThread};
 
 use crate::connection::serve_connection;
 use claim_rule::{Books, Desk};
-use host_io::Waiting;
 use rail_catalogue::Catalogue;
 use rail_io::{Clock, Sink, Source};
 use session_loop::ConnEnd;
 use std::alloc::Global;
+
+/// A stream that a listener handed out and that isn't served yet. It can't be dropped: whoever has it has to spend it, which only
+/// `serve_waiting` does. Contracts see its source and its sink.
+pub struct Waiting<I, O> {
+    input: I,
+    output: O,
+}
+
+impl<I, O> Waiting<I, O> {
+    /// A stream of this source and this sink. For listeners.
+    pub fn of(input: I, output: O) -> Waiting<I, O>
+        ensures input { result.input ≡ input }
+        ensures output { result.output ≡ output }
+    {
+        Waiting { input, output }
+    }
+
+    /// Takes the stream apart, and so spends it.
+    pub(crate) fn into_streams(self) -> (I, O)
+        ensures input { result.0 ≡ self.input }
+        ensures output { result.1 ≡ self.output }
+    {
+        let Waiting { input, output } = self;
+        (input, output)
+    }
+}
 
 /// A stream whose connection has ended.
 #[derive(Drop)]

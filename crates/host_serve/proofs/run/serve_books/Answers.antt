@@ -19,7 +19,7 @@ returns g c =
     (g.C.Clock.told c.into_clock-clock.result) (g.C.Clock.told c.serve_left-all.new.clock)
     c.run_crew-desk.result members.crew members.ready members.count c.requires.workers run (ap g.C.Clock.told c.into_clock-clock.ensures) left.keeps left.turns c.meet.ensures.met in
     let wall = served_wall c.args.cat.now said c.args.books c.meet.new.desk c.finish.result c.requires.has c.requires.opening c.finish.ensures.layout c.finish.ensures.history
-    whole.0 (one_more c.run_crew-desk.new.first.number c.run_crew-desk.new.first.seen c.meet.new.desk.seen run.met.number c.meet.ensures.met.mine run.met.meets)
+    whole.0 (whole.1 ∙ (run.count ∙ members.count)) (one_more c.run_crew-desk.new.first.number c.run_crew-desk.new.first.seen c.meet.new.desk.seen run.met.number c.meet.ensures.met.mine run.met.meets)
     worked.0 worked.1 in
     let view = g.L.Listener.told c.serve_left-all.new.listener in
     let faults = g.L.Listener.faults c.serve_left-all.new.listener in

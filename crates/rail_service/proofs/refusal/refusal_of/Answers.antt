@@ -1,4 +1,4 @@
-use Rattle.std.proofs.Common.{◌≡◌, true, ap, ◌∙◌}
+use Rattle.std.proofs.Common.{true, ap, ◌∙◌}
 use Rattle.osdm_texts.specs.declared.problem.Problem.{Problem}
 use Rattle.osdm_answers.specs.Replies.{problem, reply_bytes}
 use Rattle.osdm_answers.proofs.Answering.{of_problem}

@@ -1,8 +1,6 @@
-use Rattle.std.proofs.Common.{List, ℕ, Some, sym, ap, ◌∙◌, subst}
-use Rattle.std.specs.Prelude.{option_map}
-use Rattle.matchit.specs.Rows.{RowsOf}
+use Rattle.std.proofs.Common.{List, ℕ, sym, ap, ◌∙◌}
 use Rattle.matchit.specs.Seek.{first}
-use Rattle.rail_service.specs.Paths.{Rows, all_rows}
+use Rattle.rail_service.specs.Paths.{Rows}
 use Rattle.rail_service.proofs.Naming.{names_none, names}
 use Rattle.rail_service.proofs.resource.resource_at.Goals as goal
 

@@ -1,4 +1,4 @@
-use Rattle.std.proofs.Common.{ℕ, Bool, Option, Ok, Err, refl, ap, ◌∙◌}
+use Rattle.std.proofs.Common.{Bool, Option, Ok, Err, refl, ap, ◌∙◌}
 use Rattle.rail_ids.specs.declared.RetailerNo.{RetailerNo}
 use Rattle.http_wire.specs.Pieces.{request_text}
 use Rattle.claim_rule.proofs.Shapes.{shape_none}

@@ -3,10 +3,10 @@ use Rattle.std.specs.Prelude.{◌≡◌, ℕ, List, [], ◌∷◌, map}
 use Rattle.rail_io.specs.declared.memory_source.BytesSource.{BytesSource}
 use Rattle.rail_io.specs.declared.memory_sink.VecSink.{VecSink}
 use Rattle.rail_io.specs.Memory.{source_left, sink_taken}
-use Rattle.host_io.specs.declared.memory_listener.ListListener.{ListListener}
-use Rattle.host_io.specs.declared.listener.Accepted.{Accepted}
-use Rattle.host_io.specs.declared.listener.Accepted.TheVariants.{Stream, Failed, Closed}
-use Rattle.host_io.specs.Listeners.{ListenerView}
+use Rattle.rail_service.specs.declared.memory_listener.ListListener.{ListListener}
+use Rattle.rail_service.specs.declared.listener.Accepted.{Accepted}
+use Rattle.rail_service.specs.declared.listener.Accepted.TheVariants.{Stream, Failed, Closed}
+use Rattle.rail_service.specs.Listeners.{ListenerView}
 
 abbrev pub list_view : ListListener → ListenerView
 list_view l = record { port = l.port; limit = l.limit; handed = l.handed }

@@ -1,9 +1,9 @@
 -- What a listener tells, and how its calls change that.
 use Rattle.std.specs.Prelude.{◌≡◌, ◌<◌, ◌≤◌, ◌+◌, ℕ, ⊤}
-use Rattle.host_io.specs.declared.listener.Bound.{Bound}
-use Rattle.host_io.specs.declared.listener.Bound.TheVariants.{Ready, Failed as NotBound}
-use Rattle.host_io.specs.declared.listener.Accepted.{Accepted}
-use Rattle.host_io.specs.declared.listener.Accepted.TheVariants.{Stream, Failed, Closed}
+use Rattle.rail_service.specs.declared.listener.Bound.{Bound}
+use Rattle.rail_service.specs.declared.listener.Bound.TheVariants.{Ready, Failed as NotBound}
+use Rattle.rail_service.specs.declared.listener.Accepted.{Accepted}
+use Rattle.rail_service.specs.declared.listener.Accepted.TheVariants.{Stream, Failed, Closed}
 
 -- its port, its limit, and how many streams it has handed out
 pub record ListenerView : Type 0 where

@@ -22,7 +22,7 @@ pub struct ListListener {
 }
 
 impl ListListener {
-    ghost use Rattle.host_io.specs.Memory.{list_view, list_streams, list_faults, list_calls, list_fails};
+    ghost use Rattle.rail_service.specs.Memory.{list_view, list_streams, list_faults, list_calls, list_fails};
     ghost use Rattle.rail_io.specs.Faults.{Rose};
 
     /// A listener at port 0 with limit 0 that has handed out nothing, and whose listed calls fail.
@@ -60,11 +60,11 @@ impl ListListener {
 
 impl Listener for ListListener {
     ghost use Rattle.std.specs.Prelude.{◌↔◌, ◌⊎◌, ◌<◌, [], Contains};
-    ghost use Rattle.host_io.specs.declared.listener.Bound.TheVariants.{Failed};
+    ghost use Rattle.rail_service.specs.declared.listener.Bound.TheVariants.{Failed};
     ghost use Rattle.rail_io.specs.Faults.{Rose};
     ghost use Rattle.rail_io.specs.Memory.{IsOneCallMore};
-    ghost use Rattle.host_io.specs.Listeners.{Binds, Accepts, HasFailed};
-    ghost use Rattle.host_io.specs.Memory.{list_view, list_streams, list_faults, list_calls, list_fails, HandsOut};
+    ghost use Rattle.rail_service.specs.Listeners.{Binds, Accepts, HasFailed};
+    ghost use Rattle.rail_service.specs.Memory.{list_view, list_streams, list_faults, list_calls, list_fails, HandsOut};
 
     type Input = BytesSource;
 

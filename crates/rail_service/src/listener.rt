@@ -1,8 +1,8 @@
 // Where connections come from.
 ghost use Rattle.std.specs.Prelude.{◌≡◌, ◌≤◌, ℕ};
 ghost use Rattle.rail_io.specs.Faults.{Rose};
-ghost use Rattle.host_io.specs.Listeners.{ListenerView, Binds, Accepts, HasFailed};
-ghost use Rattle.host_io.specs.declared.listener.Bound.TheVariants.{Failed};
+ghost use Rattle.rail_service.specs.Listeners.{ListenerView, Binds, Accepts, HasFailed};
+ghost use Rattle.rail_service.specs.declared.listener.Bound.TheVariants.{Failed};
 
 use crate::waiting::Waiting;
 use rail_io::{Sink, Source};
