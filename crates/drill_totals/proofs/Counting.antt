@@ -1,5 +1,5 @@
 -- Steps of counting.
-use Rattle.std.proofs.Common.{◌≡◌, ◌+◌, ◌≤◌, ℕ, zero, suc, arith}
+use Rattle.std.proofs.Common.{◌+◌, ◌≤◌, ℕ, zero, suc, arith}
 use Rattle.std.specs.Prelude.{Bool, true, false}
 use Rattle.drill_totals.specs.Totals.{count_below, one_if}
 

@@ -1,5 +1,5 @@
 -- Where no two live bookings share a place on a leg, there is no pair to count.
-use Rattle.std.proofs.Common.{◌≡◌, ◌≢◌, ◌∙◌, ◌+◌, ◌<◌, ◌⊎◌, inl, inr, ℕ, zero, suc, List, [], ◌∷◌, Option, Some, None, Bool, true, false, ◌&&◌, ◌||◌, cond, refl, sym, ap, subst, arith}
+use Rattle.std.proofs.Common.{◌≡◌, ◌≢◌, ◌∙◌, ◌+◌, ◌⊎◌, inl, inr, ℕ, zero, suc, List, [], ◌∷◌, Option, Some, None, Bool, true, false, ◌&&◌, ◌||◌, cond, refl, sym, subst, arith}
 use Rattle.std.specs.List.{AllByRecursion, list_any, find}
 use Rattle.std.specs.Option.{option_map_or}
 use Rattle.std.proofs.lemmas.Bool.{eqb-true, ltb-true, leb-true}
@@ -10,8 +10,9 @@ use Rattle.history_model.specs.Booking.{Booking, State, present, stands_in}
 use Rattle.history_model.specs.Lists.{Pairwise, Across}
 use Rattle.history_model.specs.Laws.{AreClear, NoDouble}
 use Rattle.history_model.proofs.ListLemmas.{All-found}
-use Rattle.drill_totals.specs.Totals.{count_below, one_if}
-use Rattle.drill_totals.specs.Doubles.{any_below, share_a_leg, live_items, are_double, doubled_of}
+use Rattle.drill_totals.specs.Totals.{count_below}
+use Rattle.drill_totals.proofs.Sums.{count_none}
+use Rattle.drill_totals.specs.Doubles.{any_below, share_a_leg, are_double, doubled_of}
 
 and_both : (a b : Bool) → (a && b) ≡ true → (a ≡ true) × (b ≡ true)
 and_both true b e = (refl, e)
@@ -131,13 +132,6 @@ none_double s row other differ clear =
   where
     apart : (x : Booking) → stands_in s row x ≡ true → stands_in s other x ≡ false
     apart x here = not_true (stands_in s other x) (λ there. differ (sym (eqb-true x.row row here) ∙ eqb-true x.row other there))
-
-count_none : (test : ℕ → Bool) (n : ℕ) → ((k : ℕ) → k < n → test k ≡ false) → count_below test n ≡ 0
-count_none test zero none = refl
-count_none test (suc n) none =
-    let before = count_none test n (λ k less. none k (let e : k < suc n = omega (arith, less) in e)) in
-    let here : one_if (test n) ≡ 0 = ap one_if (none n (let e : n < suc n = omega arith in e)) in
-    let e : count_below test n + one_if (test n) ≡ 0 = omega (arith, before, here) in e
 
 -- no two live bookings share a place on a leg, so no pair does
 pub no_doubles : (s : State) (rows : ℕ) → NoDouble s → doubled_of s rows ≡ 0

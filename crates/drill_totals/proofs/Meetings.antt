@@ -1,20 +1,24 @@
 -- The first desk parts others, and takes them in.
-use Rattle.std.proofs.Common.{◌≡◌, ◌∙◌, ◌+◌, ◌<◌, ◌≤◌, ◌⊎◌, ⊎_elim, inl, inr, ℕ, zero, suc, List, [], ◌∷◌, ◌++◌, length, refl, sym, ap, subst, arith}
+use Rattle.std.proofs.Common.{◌≡◌, ◌∙◌, ◌+◌, ◌<◌, ◌≤◌, ◌⊎◌, ⊎_elim, inl, inr, ℕ, suc, List, [], ◌∷◌, ◌++◌, length, refl, sym, ap, subst, arith, append_assoc}
 use Rattle.std.specs.List.{AllByRecursion}
+use mathlib.Core.List.{IsPrefix}
 use Rattle.std.proofs.lemmas.Bool.{cases_eq, cases_lt}
 use Rattle.history_model.specs.declared.entry.Entry.{Entry}
 use Rattle.history_model.specs.declared.entry.Step.TheVariants.{Met}
 use Rattle.history_model.specs.History.{entry, own}
-use Rattle.claim_rule.specs.Rule.{DeskView, Each, In}
+use Rattle.claim_rule.specs.Rule.{DeskView, In}
 use Rattle.claim_rule.specs.Seats.{HasMet}
 use Rattle.history_model.proofs.ListLemmas.{All-append}
 use Rattle.claim_rule.proofs.Views.{each_in}
-use Rattle.drill_totals.specs.Meeting.{IsFirst, OfWorker, IsOneOf, AreAll, AreAnswered}
+use Rattle.drill_totals.specs.Meeting.{IsFirst, OfWorker, AreAll, AreAnswered}
 use Rattle.drill_totals.specs.Totals.{times, times_in, refused_line, no_memory_line, busy_line}
 
 mets_after : (old new : List Entry) → AllByRecursion (λ e. e.step ≡ Met) old → new ≡ old ++ entry 0 Met ∷ [] → AllByRecursion (λ e. e.step ≡ Met) new
 mets_after old new all is =
     subst (λ (es : List Entry). AllByRecursion (λ e. e.step ≡ Met) es) (sym is) (All-append (λ e. e.step ≡ Met) old (entry 0 Met ∷ []) all (refl, tt))
+
+pub prefix_on : (a b c : List Entry) → IsPrefix a b → IsPrefix b c → IsPrefix a c
+prefix_on a b c p q = (p.0 ++ q.0, sym (append_assoc a p.0 q.0) ∙ (ap (λ (l : List Entry). l ++ q.0) p.1 ∙ q.1))
 
 in_front : (j : ℕ) (xs ys : List ℕ) → In j xs → In j (xs ++ ys)
 in_front j [] ys found = absurd found
@@ -68,7 +72,7 @@ module _ (So : OfWorker) (old other new : DeskView) (n k : ℕ) (first : IsFirst
       let one = all.0 in
       let here : own new.seen (l + 1) ≡ own old.seen (l + 1) =
       stays (l + 1) (let e : k + 1 < l + 1 = omega (arith, more) in e) (let e : l + 1 ≤ n = omega (arith, few) in e) in (
-        record { desk = one.desk; is = one.is; own = here ∙ one.own },
+        record { desk = one.desk; is = one.is; own = here ∙ one.own; front = prefix_on one.desk.seen old.seen new.seen one.front met.front },
         all_stay rest (l + 1) (let e : k + 1 ≤ l + 1 = omega (arith, more) in e) (let e : l + 1 + length rest ≤ n = omega (arith, few) in e) all.1,
       )
 
@@ -80,7 +84,7 @@ module _ (So : OfWorker) (old other new : DeskView) (n k : ℕ) (first : IsFirst
     answered = answered ∷ behind.answered;
     number = (let e : k + suc (length behind.answered) ≡ k + 1 + length behind.answered = omega arith in e) ∙ behind.number;
     each = (
-      record { desk = other; is = so; own = subst (λ (d : ℕ). own new.seen d ≡ own other.seen d) number met.theirs.0 },
+      record { desk = other; is = so; own = subst (λ (d : ℕ). own new.seen d ≡ own other.seen d) number met.theirs.0; front = met.other_front },
       all_stay behind.answered (k + 1) (let e : k + 1 ≤ k + 1 = omega arith in e) (let e : k + 1 + length behind.answered ≤ n = omega (arith, behind.number) in e) behind.each,
     );
     refused_is = (let e : refused + times refused_line answered ≡ times refused_line answered + refused = omega arith in e)

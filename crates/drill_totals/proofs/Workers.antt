@@ -1,5 +1,5 @@
 -- What is so of each worker of a list that grows or shrinks at its end.
-use Rattle.std.proofs.Common.{◌≡◌, ◌+◌, ◌<◌, ℕ, zero, suc, List, [], ◌∷◌, ◌++◌, length, slice_index_or, arith}
+use Rattle.std.proofs.Common.{◌<◌, ℕ, zero, suc, List, [], ◌∷◌, ◌++◌, length, arith}
 use Rattle.drill_totals.specs.Meeting.{EachAt}
 
 pub each_push : {X : Type 0} (So : ℕ → X → Type 0) (xs : List X) (y : X) → EachAt So xs → So (length xs) y → EachAt So (xs ++ y ∷ [])

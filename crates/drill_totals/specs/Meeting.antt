@@ -1,6 +1,7 @@
 -- The first desk of a drill, and the workers' desks that it takes in.
 use Rattle.std.specs.Prelude.{◌≡◌, ℕ, ◌+◌, ◌<◌, ◌≤◌, List, [], ◌∷◌, length, slice_index_or}
 use Rattle.std.specs.List.{AllByRecursion}
+use mathlib.Core.List.{IsPrefix}
 use Rattle.history_model.specs.declared.entry.Entry.{Entry}
 use Rattle.history_model.specs.declared.entry.Step.TheVariants.{Met}
 use Rattle.history_model.specs.History.{own}
@@ -26,11 +27,12 @@ EachPair {A} So xs ys = (i : ℕ) (none : A) → i < length xs → So (slice_ind
 abbrev pub OfWorker : Type 1
 OfWorker = ℕ → DeskView → List ℕ → Type 0
 
--- the history holds of a worker's desk just the entries that the desk had at the end
+-- the history goes on from what a worker's desk had seen at the end, and holds of the desk just the entries that it had then
 pub record IsOneOf (So : OfWorker) (history : List Entry) (worker : ℕ) (answered : List ℕ) : Type 0 where
   pub desk : DeskView
   pub is : So worker desk answered
   pub own : own history (worker + 1) ≡ own desk.seen (worker + 1)
+  pub front : IsPrefix desk.seen history
 
 -- so of each worker from the k-th on, in order, by what they were answered
 abbrev pub AreAll : OfWorker → List Entry → ℕ → List (List ℕ) → Type 0

@@ -15,7 +15,7 @@ use Rattle.host_words.specs.declared.drill.DrillWords.{DrillWords}
 use Rattle.drill_totals.specs.Generator.{requests_of}
 use Rattle.drill_totals.specs.Meeting.{EachAt, EachPair, IsFirst}
 use Rattle.host_drill.specs.declared.connection.Connection.{Connection}
-use Rattle.host_drill.specs.Connections.{IsReady, Serves, beginning}
+use Rattle.host_drill.specs.Connections.{IsReady, Serves, beginning, layout_of}
 use Rattle.host_drill.specs.Drilled.{IsDone}
 
 -- a connection at a desk that was just parted is ready
@@ -55,8 +55,9 @@ was_served cat before after taken told written end (inr served) done = subst (λ
 
 -- a connection that was ready and was served is done
 pub done_served : (books : BooksView) (cat : CatalogueView) (said : DrillWords) (worker : ℕ) (old new : Connection)
-    → IsReady books said.seed said.size worker old → IsOf books new.desk → IsIdle new.desk → Serves cat old new → IsDone books cat said worker new
-done_served books cat said worker old new ready of idle served = record {
+    → books.layout ≡ layout_of cat → IsReady books said.seed said.size worker old → IsOf books new.desk → IsIdle new.desk → Serves cat old new
+    → IsDone books cat said worker new
+done_served books cat said worker old new layout ready of idle served = record {
   of = of;
   idle = idle;
   number = desk.0 ∙ ready.number;
@@ -67,6 +68,7 @@ done_served books cat said worker old new ready of idle served = record {
     clock = Some (script_reading new.clock.next new.clock.tick);
     number = ready.number;
     none = ready.none;
+    layout = of.layout ∙ layout;
     taken = served.0;
     left = source_left new.source;
     requests = sym ready.requests ∙ served.3;
@@ -93,12 +95,12 @@ done_served books cat said worker old new ready of idle served = record {
     answered = sym (served.4 ∙ ap (λ (l : List ℕ). l ++ served.1) ready.fresh)
 
 -- so of all connections
-pub all_done : (books : BooksView) (cat : CatalogueView) (said : DrillWords) (old new : List Connection) → length new ≡ length old
-    → EachAt (IsReady books said.seed said.size) old → EachPair (λ _ c. IsOf books c.desk) old new → EachPair (λ _ c. IsIdle c.desk) old new
+pub all_done : (books : BooksView) (cat : CatalogueView) (said : DrillWords) (old new : List Connection) → books.layout ≡ layout_of cat
+    → length new ≡ length old → EachAt (IsReady books said.seed said.size) old → EachPair (λ _ c. IsOf books c.desk) old new → EachPair (λ _ c. IsIdle c.desk) old new
     → EachPair (Serves cat) old new → EachAt (IsDone books cat said) new
-all_done books cat said old new same ready of idle served i none less =
+all_done books cat said old new layout same ready of idle served i none less =
     let within : i < length old = subst (λ (n : ℕ). i < n) same less in
-    done_served books cat said i (slice_index_or old i none) (slice_index_or new i none) (ready i none within) (of i none within) (idle i none within) (served i none within)
+    done_served books cat said i (slice_index_or old i none) (slice_index_or new i none) layout (ready i none within) (of i none within) (idle i none within) (served i none within)
 
 -- a list that is written over another of its length stands alone
 pub all_written : {A : Type 0} (n : ℕ) (old new : List A) → length new ≡ n → length new ≡ length old → take n (new ++ drop (length new) old) ≡ new

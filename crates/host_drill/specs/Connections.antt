@@ -4,14 +4,19 @@ use Rattle.rail_ids.specs.declared.RetailerNo.{RetailerNo}
 use Rattle.rail_io.specs.Clocks.{script_reading}
 use Rattle.rail_io.specs.Memory.{source_left, sink_taken}
 use Rattle.session_loop.specs.declared.end.ConnEnd.TheVariants.{Done}
+use Rattle.history_model.specs.Booking.{Layout}
 use Rattle.history_model.specs.History.{own}
 use Rattle.claim_rule.specs.Rule.{BooksView, DeskView}
 use Rattle.claim_rule.specs.Seats.{IsOf}
 use Rattle.claim_rule.specs.Out.{IsIdle}
-use Rattle.rail_catalogue.specs.Contents.{CatalogueView}
+use Rattle.rail_catalogue.specs.Contents.{CatalogueView, legs_in}
 use Rattle.rail_service.specs.Connections.{ServiceView, HasServed, IsServed}
 use Rattle.drill_totals.specs.Generator.{requests_of}
 use Rattle.host_drill.specs.declared.connection.Connection.{Connection}
+
+-- the books of a catalogue, as they are opened
+abbrev pub layout_of : CatalogueView → Layout
+layout_of cat = record { legs = legs_in cat; rows = cat.rows; opening = [] }
 
 -- a connection begins at this desk, with no known retailer and at moment 0
 abbrev pub beginning : DeskView → ServiceView
@@ -40,13 +45,14 @@ pub record IsReady (books : BooksView) (seed size worker : ℕ) (c : Connection)
   pub tick : c.clock.tick ≡ 0
 
 -- A worker's connection, over its requests and up to its end: the bytes that it was answered are the defined replies, as of every
--- connection, and the desk that it began at had no entry before.
+-- connection, and the desk that it began at, which is of the catalogue's books, had no entry before.
 pub record IsConnection (cat : CatalogueView) (seed size worker : ℕ) (desk : DeskView) (answered : List ℕ) : Type 0 where
   pub begins : DeskView
   pub first : Option RetailerNo
   pub clock : Option (ℕ → ℕ)
   pub number : begins.number ≡ worker + 1
   pub none : own begins.seen (worker + 1) ≡ []
+  pub layout : desk.layout ≡ layout_of cat
   pub taken : List ℕ
   pub left : List ℕ
   pub requests : requests_of seed size worker ≡ taken ++ left

@@ -1,3 +1,5 @@
 pub mod Connections
 pub mod Drilled
 pub mod Ends
+pub mod Fits
+pub mod Worked

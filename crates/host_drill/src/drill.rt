@@ -7,11 +7,13 @@ ghost use Rattle.drill_totals.specs.Generator.{catalogue_text};
 ghost use Rattle.rail_catalogue.specs.Format.{catalogue_of};
 ghost use Rattle.session_loop.specs.Writes.{Writes};
 ghost use Rattle.host_drill.specs.Drilled.{IsDrilled};
+ghost use Rattle.host_drill.specs.Fits.{FitsDrill};
 ghost use Rattle.host_drill.specs.Ends.{IsForDrill, IsDrill, IsNoDrill, Leaves, note_of, printed, status_of};
 ghost use Rattle.host_notes.specs.Noted.{IsNoted};
 
 use crate::crew::{meet_all, open_crew, serve_all};
 use crate::ends::{note_text, status};
+use crate::fit::fits;
 use claim_rule::Wall;
 use drill_totals::{Totals, catalogue_bytes, count_sold, line_of};
 use host_catalogue::open_books;
@@ -76,13 +78,27 @@ fn said_of(alloc: Global, words: &[String]) -> Result<DrillWords, Cause>
 }
 
 /// The catalogue of the drill.
-fn drill_catalogue(alloc: Global, places: u32) -> Result<Catalogue, AllocError>
+fn read_drill_catalogue(alloc: Global, places: u32) -> Result<Catalogue, AllocError>
     ensures { IfOk result (λ c. catalogue_of (catalogue_text places) ≡ Ok c) }
 {
     let text = catalogue_bytes(alloc, places)?;
     match read_catalogue(alloc, text.as_slice()) {
         Ok(catalogue) => Ok(catalogue),
         Err(_) => Err(AllocError),
+    }
+}
+
+/// The catalogue of the drill, which has all that the requests name.
+fn drill_catalogue(alloc: Global, places: u32) -> Result<Catalogue, AllocError>
+    ensures catalogue { IfOk result (λ c. catalogue_of (catalogue_text places) ≡ Ok c) }
+    ensures fits { IfOk result (λ c. FitsDrill c places) }
+{
+    let catalogue = read_drill_catalogue(alloc, places)?;
+    // It always fits, by its text. The law of the printed line rests on that, so it is checked here and not only by eye.
+    if fits(alloc, &catalogue, places)? {
+        Ok(catalogue)
+    } else {
+        Err(AllocError)
     }
 }
 

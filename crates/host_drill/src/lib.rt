@@ -3,13 +3,16 @@
 //! `run_drill` makes a catalogue and the requests of each worker out of its words, serves each worker's requests as one connection at a
 //! desk of its own and in a thread of its own, takes all desks in, and prints one line of counts. It promises that each connection was
 //! served as every connection is, whatever the other threads did; that the finished books hold just these connections' entries, in one
-//! legal history; and that the line counts what the books then hold and what the connections were answered.
+//! legal history; and that the line counts what the books then hold and what the connections were answered. The words alone determine
+//! these counts, whatever the threads did: on each leg as many places are sold as are asked for, or all of them; every other request is
+//! refused, and none is answered busy.
 #![tactic(auto)]
 
 mod connection;
 mod crew;
 mod drill;
 mod ends;
+mod fit;
 #[cfg(test)]
 mod tests;
 

@@ -1,4 +1,4 @@
-use Rattle.std.proofs.Common.{◌≡◌, ◌≤◌, ℕ}
+use Rattle.std.proofs.Common.{◌≡◌, ◌≤◌}
 use Rattle.history_model.specs.History.{state_of}
 use Rattle.drill_totals.specs.Totals.{sold_of}
 use Rattle.drill_totals.proofs.counts.count_sold.Given as goal

@@ -1,4 +1,4 @@
-use Rattle.std.proofs.Common.{◌≡◌, ◌≤◌, ◌+◌, length, ℕ}
+use Rattle.std.proofs.Common.{◌≡◌, ◌≤◌, ◌+◌, length}
 use Rattle.drill_totals.specs.Totals.{times}
 use Rattle.drill_totals.proofs.counts.count_times.Given as goal
 

@@ -1,4 +1,4 @@
-use Rattle.std.proofs.Common.{◌≡◌, length, ℕ}
+use Rattle.std.proofs.Common.{◌≡◌, length}
 use Rattle.drill_totals.specs.Totals.{begins}
 use Rattle.drill_totals.proofs.counts.is_front.Given as goal
 

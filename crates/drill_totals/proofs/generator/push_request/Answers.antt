@@ -1,5 +1,5 @@
-use Rattle.std.proofs.Common.{◌≡◌, ◌∙◌, ◌+◌, ◌++◌, ◌∷◌, [], List, ℕ, ap, sym, refl, append_assoc, arith}
-use Rattle.drill_totals.specs.Generator.{digit, request_front, request_middle, request_end, request_bytes}
+use Rattle.std.proofs.Common.{◌≡◌, ◌∙◌, ◌+◌, ◌++◌, ◌∷◌, [], List, ℕ, ap, append_assoc, arith}
+use Rattle.drill_totals.specs.Generator.{request_front, request_middle, request_end}
 use Rattle.drill_totals.proofs.generator.push_request.Goals as goal
 
 joined : (old front middle end : List ℕ) (a b : ℕ)

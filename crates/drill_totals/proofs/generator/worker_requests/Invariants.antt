@@ -1,4 +1,4 @@
-use Rattle.std.proofs.Common.{◌≡◌, ℕ}
+use Rattle.std.proofs.Common.{◌≡◌}
 use Rattle.drill_totals.specs.Generator.{requests_from}
 use Rattle.drill_totals.proofs.generator.worker_requests.Given as goal
 

@@ -8,6 +8,7 @@ use Rattle.drill_totals.specs.Totals.{sold_of}
 use Rattle.host_drill.specs.Drilled.{IsDone, state_at}
 use Rattle.host_drill.proofs.Serving.{all_done, all_written}
 use Rattle.host_drill.proofs.Drilling.{drilled}
+use Rattle.host_drill.proofs.Work.{worked}
 use Rattle.host_drill.proofs.drill.work.Goals as goal
 
 pub meet_all-requires-clause-done : goal.meet_all-requires-clause-done
@@ -23,7 +24,7 @@ meet_all-requires-clause-done g c =
     let same_len : length crew ≡ c.in_ok-crew.crew.len = search rules in
     let written : take c.in_ok-crew.crew.len (crew ++ drop (length crew) old) ≡ crew = all_written c.in_ok-crew.crew.len old crew same_len count in
     let ran = c.serve_all.ensures in
-    let done : EachAt (IsDone books cat said) crew = all_done books cat said old crew count c.in_ok-crew.ensures.ready
+    let done : EachAt (IsDone books cat said) crew = all_done books cat said old crew c.in_ok-books.ensures.layout count c.in_ok-crew.ensures.ready
     (subst (λ (l : List Connection). EachPair (λ _ d. IsOf books d.desk) l crew) same ran.own)
     (subst (λ (l : List Connection). EachPair (λ _ d. IsIdle d.desk) l crew) same ran.idle)
     (subst (λ (l : List Connection). EachPair (Serves cat) l crew) same ran.served) in
@@ -31,9 +32,13 @@ meet_all-requires-clause-done g c =
 
 pub returns : goal.returns
 returns g c =
+    let said = c.args.said in
+    let cat = c.in_ok-catalogue.catalogue in
+    let made = c.in_ok-catalogue.ensures in
     let sold = c.count_sold-sold.result in
     let answers = c.in-Some.answers in
-    drilled c.args.said c.in_ok-catalogue.catalogue c.in_ok-books.books.layout c.meet_all.new.desk c.finish-wall.result
-    (record { requests = c.args.said.workers * c.args.said.size; sold = sold; refused = answers.refused; busy = answers.busy; double = 0 })
-    c.in_ok-catalogue.ensures c.in_ok-books.ensures.layout c.finish-wall.ensures.layout c.finish-wall.ensures.history c.in-Some.ensures.first c.in-Some.ensures.answered
-    refl (c.count_sold-sold.ensures ∙ ap (λ (n : ℕ). sold_of (state_at c.finish-wall.result) n) c.rows.ensures.rows) refl
+    drilled said cat c.in_ok-books.books.layout c.meet_all.new.desk c.finish-wall.result
+    (record { requests = said.workers * said.size; sold = sold; refused = answers.refused; busy = answers.busy; double = 0 })
+    made.catalogue made.fits.has (λ worker desk answered. worked cat said.places said.seed said.size worker desk answered made.fits c.requires.size)
+    c.requires.size c.requires.workers c.in_ok-books.ensures.layout c.finish-wall.ensures.layout c.finish-wall.ensures.history c.in-Some.ensures.first
+    c.in-Some.ensures.answered refl (c.count_sold-sold.ensures ∙ ap (λ (n : ℕ). sold_of (state_at c.finish-wall.result) n) c.rows.ensures.rows) refl
