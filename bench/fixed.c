@@ -14,6 +14,8 @@
 #include <sys/socket.h>
 #include <unistd.h>
 
+#include "message.h"
+
 enum { ROOM = 1 << 19 };
 
 static int listener;
@@ -21,15 +23,6 @@ static long left;
 static char *answer;
 static size_t answer_length;
 static pthread_mutex_t lock = PTHREAD_MUTEX_INITIALIZER;
-
-static size_t message(const char *at, size_t length) {
-    const char *end = memmem(at, length, "\r\n\r\n", 4);
-    if (!end)
-        return 0;
-    const char *field = memmem(at, end - at, "Content-Length: ", 16);
-    size_t whole = end - at + 4 + (field ? strtoul(field + 16, NULL, 10) : 0);
-    return whole <= length ? whole : 0;
-}
 
 static void serve(int stream, char *room) {
     size_t held = 0, size;

@@ -16,6 +16,8 @@
 #include <time.h>
 #include <unistd.h>
 
+#include "message.h"
+
 enum { ROOM = 1 << 20 };
 
 struct client {
@@ -40,16 +42,6 @@ static double now(void) {
 static void fail(const char *what) {
     perror(what);
     exit(1);
-}
-
-/* The length of the message that begins there, or 0 where it isn't whole. */
-static size_t message(const char *at, size_t length) {
-    const char *end = memmem(at, length, "\r\n\r\n", 4);
-    if (!end)
-        return 0;
-    const char *field = memmem(at, end - at, "Content-Length: ", 16);
-    size_t whole = end - at + 4 + (field ? strtoul(field + 16, NULL, 10) : 0);
-    return whole <= length ? whole : 0;
 }
 
 static void send_all(int stream, const char *data, size_t length) {

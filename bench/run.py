@@ -6,7 +6,6 @@
 Without --program it is the proved one, which `rt run` builds here first where it isn't there. (`rt run` proves what isn't kept, which takes hours
 of processor time on a machine that has proved nothing yet.) --requests and --seconds are those of replay.py and serve.py.
 """
-import argparse
 import datetime
 import os
 import pathlib
@@ -15,6 +14,7 @@ import subprocess
 import sys
 
 from replay import PROGRAM
+from serve import load_words
 
 HERE = pathlib.Path(__file__).resolve().parent
 
@@ -32,11 +32,7 @@ def part(title, words):
 
 
 def main():
-    words = argparse.ArgumentParser(description=__doc__, formatter_class=argparse.RawDescriptionHelpFormatter)
-    words.add_argument("--program", default=str(PROGRAM))
-    words.add_argument("--requests", type=int, default=20_000)
-    words.add_argument("--seconds", type=int, default=10)
-    given = words.parse_args()
+    given = load_words(__doc__)
     if not pathlib.Path(given.program).is_file():
         if given.program != str(PROGRAM):
             sys.exit("%s is not there" % given.program)

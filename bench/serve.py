@@ -137,12 +137,17 @@ def measure(program, folder, load, fixed, number, seconds):
             )
 
 
-def main():
-    words = argparse.ArgumentParser(description=__doc__, formatter_class=argparse.RawDescriptionHelpFormatter)
+def load_words(text):
+    """The words of a command that loads the program, which its text describes."""
+    words = argparse.ArgumentParser(description=text, formatter_class=argparse.RawDescriptionHelpFormatter)
     words.add_argument("--program", default=str(PROGRAM))
     words.add_argument("--requests", type=int, default=20_000)
     words.add_argument("--seconds", type=int, default=10)
-    given = words.parse_args()
+    return words.parse_args()
+
+
+def main():
+    given = load_words(__doc__)
     if not pathlib.Path(given.program).is_file():
         sys.exit("%s is not built: rt run in crates/rail_host builds it" % given.program)
     with tempfile.TemporaryDirectory() as name:
