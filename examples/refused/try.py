@@ -2,8 +2,9 @@
 """Tries the programs beside this file, each as a crate over rail_service in a copy of the repository.
 
 A program that drops a stream which a listener handed out has to be refused, and just for that; so has one that takes the stream apart. The
-same program that serves it has to be accepted. No must-fail edit can say this, since such a program never reaches the prover. Ends with
-status 1 where one of them doesn't go so.
+same program that serves it has to be built. No must-fail edit can say this, since such a program never reaches the prover: the compiler
+refuses it, so a build without proofs (`rt try`) tells, and no crate below is proved once more. Ends with status 1 where one of them doesn't
+go so.
 """
 import pathlib
 import shutil
@@ -16,6 +17,8 @@ ROOT = HERE.parent.parent
 # why a program is refused, by the first word of its name
 WHY = {"drops": "error[linear-value-let-go]", "takes": "error[private-field]"}
 LIBRARIES = "rail_service rail_io rail_catalogue claim_rule"
+# `rt try` builds a library with its tests alone
+TEST = "\n#[test]\nfn is_built() {}\n"
 
 
 def name_of(program):
@@ -23,16 +26,16 @@ def name_of(program):
 
 
 def tried(copy, program):
-    """What a check says of the program as a crate of the copy."""
+    """What a build says of the program as a crate of the copy."""
     crate = copy / "crates" / name_of(program)
     for part in ["specs", "proofs"]:
         (crate / part).mkdir(parents=True)
         (crate / part / "Lib.antt").write_text("")
     (crate / "src").mkdir()
-    shutil.copy(program, crate / "src" / "lib.rt")
+    (crate / "src" / "lib.rt").write_text(program.read_text() + TEST)
     with open(copy / "crates.txt", "a") as lines:
         lines.write("%s: %s\n" % (name_of(program), LIBRARIES))
-    return subprocess.run(["rt", "check"], cwd=crate, capture_output=True, text=True)
+    return subprocess.run(["rt", "try", "--test"], cwd=crate, capture_output=True, text=True)
 
 
 def main():
@@ -42,13 +45,13 @@ def main():
         subprocess.run(["git", "init", "-q"], cwd=copy, check=True)
         failed = False
         for program in sorted(HERE.glob("*.rt.txt")):
-            check = tried(copy, program)
-            said = check.stdout + check.stderr
+            build = tried(copy, program)
+            said = build.stdout + build.stderr
             why = WHY.get(name_of(program).split("_")[0])
             if why:
-                good = check.returncode != 0 and said.count(": error[") == 1 and why in said
+                good = build.returncode != 0 and said.count(": error[") == 1 and why in said
             else:
-                good = check.returncode == 0
+                good = build.returncode == 0
             print("%s: %s" % (program.name, "as it must be" if good else "NOT as it must be\n" + said[-2000:]))
             failed |= not good
         sys.exit(1 if failed else 0)
