@@ -44,7 +44,8 @@ pub struct SharedListener<L: Listener + Drop, N: Named> {
     ghost port: { (L.told listener).port ≡ N.port },
     ghost limit: { (L.told listener).limit ≡ N.limit },
     ghost within: { (L.told listener).handed ≤ N.limit },
-    ghost faults: { N.faults ≤ L.faults listener },
+    ghost never_falls: { N.faults ≤ L.faults listener },
+    ghost steady: { end ≢ Failed → L.faults listener ≡ N.faults },
     ghost rose: { end ≡ Failed → has_risen N.faults (L.faults listener) ≡ true },
     ghost failed: { end ≡ Failed → (L.told listener).handed < N.limit },
     ghost closed: { end ≡ Closed → N.limit ≤ (L.told listener).handed },
@@ -56,7 +57,7 @@ impl<L: Listener + Drop, N: Named> SharedListener<L, N> {
         requires port { (L.told listener).port ≡ N.port }
         requires limit { (L.told listener).limit ≡ N.limit }
         requires within { (L.told listener).handed ≤ N.limit }
-        requires faults { N.faults ≤ L.faults listener }
+        requires faults { L.faults listener ≡ N.faults }
         ensures listener { result.listener ≡ listener }
         ensures open { result.end ≡ Open }
     {
@@ -96,7 +97,8 @@ impl<L: Listener + Drop, N: Named> SharedListener<L, N> {
         ensures port { (L.told result.0).port ≡ N.port }
         ensures limit { (L.told result.0).limit ≡ N.limit }
         ensures within { (L.told result.0).handed ≤ N.limit }
-        ensures faults { N.faults ≤ L.faults result.0 }
+        ensures never_falls { N.faults ≤ L.faults result.0 }
+        ensures steady { result.1 ≢ Failed → L.faults result.0 ≡ N.faults }
         ensures rose { result.1 ≡ Failed → Rose N.faults (L.faults result.0) }
         ensures failed { result.1 ≡ Failed → (L.told result.0).handed < N.limit }
         ensures closed { result.1 ≡ Closed → N.limit ≤ (L.told result.0).handed }

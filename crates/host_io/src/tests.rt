@@ -1,5 +1,5 @@
 // Tickers, a port of this machine, and a listener that two threads share. What is handed out is served.
-ghost use Rattle.std.specs.Prelude.{◌≡◌, ◌≤◌, IfOk};
+ghost use Rattle.std.specs.Prelude.{◌≡◌, ◌≢◌, ◌≤◌, IfOk};
 ghost use Rattle.rail_io.specs.Faults.{Rose};
 ghost use Rattle.rail_service.specs.Memory.{list_view, list_faults};
 ghost use Rattle.host_io.specs.declared.shared_listener.ListenerEnd.TheVariants.{Closed, Failed};
@@ -176,10 +176,11 @@ fn served_by_two<N: Named + Send, R: Threads + Wait + Abort + Sync>(
     requires port { (list_view listener).port ≡ N.port }
     requires limit { (list_view listener).limit ≡ N.limit }
     requires within { (list_view listener).handed ≤ N.limit }
-    requires faults { N.faults ≤ list_faults listener }
+    requires faults { list_faults listener ≡ N.faults }
     ensures limit { (list_view result.1).limit ≡ N.limit }
     ensures closed { result.2 ≡ Closed → N.limit ≤ (list_view result.1).handed }
     ensures failed { result.2 ≡ Failed → Rose N.faults (list_faults result.1) }
+    ensures steady { result.2 ≢ Failed → list_faults result.1 ≡ N.faults }
 {
     let shared: Mutex<SharedListener<ListListener, N>> = Mutex::new(SharedListener::new(listener));
     let (first, second) = thread::join(

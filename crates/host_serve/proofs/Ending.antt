@@ -36,9 +36,12 @@ module _ (words : List (List ℕ)) (files : Files) (left : Left) where
   pub refused_runs : (o : ServeOutcome) → o ≡ end.Refused → IsNoServe words → left.after ≡ left.before → left.wall ≡ None → Runs words files left o
   refused_runs o is unsaid same none = subst (λ (p : ServeOutcome). Runs words files left p) (sym is) (unsaid, same, none)
 
-  pub not_heard : (o : ServeOutcome) → Runs words files left o → status_of_serve o ≡ 1 → left.faults_after ≡ left.faults_before
-  not_heard end.Refused r e = absurd (omega (arith, e))
-  not_heard end.NoMemory r e = absurd (omega (arith, e))
-  not_heard (end.NoCatalogue fault) r e = r.2.2
-  not_heard end.ListenerFailed r e = absurd (omega (arith, e))
-  not_heard end.Served r e = absurd (omega (arith, e))
+  pub stays : (o : ServeOutcome) → Runs words files left o → (status_of_serve o ≡ 0) ⊎ (status_of_serve o ≡ 1) → left.faults_after ≡ left.faults_before
+  stays end.Refused r (inl e) = absurd (omega (arith, e))
+  stays end.Refused r (inr e) = absurd (omega (arith, e))
+  stays end.NoMemory r (inl e) = absurd (omega (arith, e))
+  stays end.NoMemory r (inr e) = absurd (omega (arith, e))
+  stays (end.NoCatalogue fault) r e = r.2.2
+  stays end.ListenerFailed r (inl e) = absurd (omega (arith, e))
+  stays end.ListenerFailed r (inr e) = absurd (omega (arith, e))
+  stays end.Served r e = r.2.0.steady

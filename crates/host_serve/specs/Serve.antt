@@ -64,9 +64,10 @@ pub record HasWall (files : Files) (said : ServeView) (wall : Option WallView) :
   pub loads : Loads files said.catalogue (Ok cat)
   pub closed : IsSomeAnd wall (IsServedWall cat said.numbers)
 
--- the listener listens at the port, and has handed out as many streams as its limit, which is the words'
-abbrev pub IsSpent : Serving → ListenerView → Type 0
-IsSpent said view = view ≡ record { port = said.port; limit = said.connections; handed = said.connections }
+-- The listener listens at the port, and has handed out as many streams as its limit, which is the words'. It hasn't failed.
+pub record IsSpent (said : Serving) (faults_before faults_after : ℕ) (view : ListenerView) : Type 0 where
+  pub handed : view ≡ record { port = said.port; limit = said.connections; handed = said.connections }
+  pub steady : faults_after ≡ faults_before
 
 -- the listener failed, before it had handed out as many
 pub record HasFailed (said : Serving) (faults_before faults_after : ℕ) (view : ListenerView) : Type 0 where
@@ -83,7 +84,7 @@ pub record Left : Type 0 where
 
 -- what the words ask for ended so
 abbrev pub Ends : Files → ServeView → Left → ServeOutcome → Type 0
-Ends files said left end.Served = IsSpent said.numbers left.after × HasWall files said left.wall
+Ends files said left end.Served = IsSpent said.numbers left.faults_before left.faults_after left.after × HasWall files said left.wall
 Ends files said left end.ListenerFailed =
     HasFailed said.numbers left.faults_before left.faults_after left.after × ((left.wall ≡ None) ⊎ HasWall files said left.wall)
 Ends files said left (end.NoCatalogue fault) =
@@ -93,7 +94,7 @@ Ends files said left end.Refused = ⊥
 
 -- the books were served and closed so, from a count of faults of the listener to one with what it then told
 abbrev pub BooksEnd : CatalogueView → Serving → ℕ → ℕ → ListenerView → Option WallView → ServeOutcome → Type 0
-BooksEnd cat said before after view wall end.Served = IsSpent said view × IsSomeAnd wall (IsServedWall cat said)
+BooksEnd cat said before after view wall end.Served = IsSpent said before after view × IsSomeAnd wall (IsServedWall cat said)
 BooksEnd cat said before after view wall end.ListenerFailed = HasFailed said before after view × IsSomeAnd wall (IsServedWall cat said)
 BooksEnd cat said before after view wall end.NoMemory = wall ≡ None
 BooksEnd cat said before after view wall (end.NoCatalogue fault) = ⊥

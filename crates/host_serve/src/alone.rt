@@ -35,6 +35,7 @@ pub fn serve_alone<L: Listener + Drop, C: Clock>(
     ensures limit { (L.told listener.new).limit ≡ limit }
     ensures within { (L.told listener.new).handed ≤ limit }
     ensures never_falls { L.faults listener.old ≤ L.faults listener.new }
+    ensures steady { result ≡ true → L.faults listener.new ≡ L.faults listener.old }
     ensures closed { result ≡ true → limit ≤ (L.told listener.new).handed }
     ensures failed { result ≡ false → Rose (L.faults listener.old) (L.faults listener.new) × ((L.told listener.new).handed < limit) }
 {

@@ -1,5 +1,5 @@
 // `serve` by its words.
-ghost use Rattle.std.specs.Prelude.{◌≡◌, ◌⊎◌, ◌≤◌, ◌<◌, ◌+◌, [], true, false, Some, None, Ok, IfOk, IfErr, Err, length};
+ghost use Rattle.std.specs.Prelude.{◌≡◌, ◌≢◌, ◌⊎◌, ◌≤◌, ◌<◌, ◌+◌, [], true, false, Some, None, Ok, IfOk, IfErr, Err, length};
 ghost use Rattle.rail_io.specs.Faults.{Rose};
 ghost use Rattle.host_words.specs.Options.{words_texts};
 ghost use Rattle.host_words.specs.Serve.{IsInRange};
@@ -78,6 +78,7 @@ fn serve_left<N: Named, L: Listener + Drop, C: Clock>(
     requires limit { ((L.told listener.old).limit ≡ N.limit) × (N.limit ≡ limit) }
     requires within { (L.told listener.old).handed ≤ N.limit }
     requires faults { N.faults ≤ L.faults listener.old }
+    requires steady { end ≢ ended.Failed → L.faults listener.old ≡ N.faults }
     requires rose { end ≡ ended.Failed → Rose N.faults (L.faults listener.old) }
     requires failed { end ≡ ended.Failed → (L.told listener.old).handed < N.limit }
     requires closed { end ≡ ended.Closed → N.limit ≤ (L.told listener.old).handed }
@@ -86,6 +87,7 @@ fn serve_left<N: Named, L: Listener + Drop, C: Clock>(
     ensures keeps { KeepsDesk desk.old desk.new }
     ensures turns { Chain (Connection common.entry.cat.now) (record { desk = desk.old; clock = C.told clock.old }) (record { desk = desk.new; clock = C.told clock.new }) }
     ensures never_falls { L.faults listener.old ≤ L.faults listener.new }
+    ensures steady { result ≡ true → L.faults listener.new ≡ N.faults }
     ensures spent { result ≡ true → L.told listener.new ≡ record { port = N.port; limit = N.limit; handed = N.limit } }
     ensures failed { result ≡ false → Rose N.faults (L.faults listener.new) × ((L.told listener.new).handed < N.limit) }
 {
@@ -374,9 +376,10 @@ where
         × HasCause outcome (F.faults shelf.old) (F.faults shelf.new) (F.misses shelf.old) (F.misses shelf.new) }
     ensures wall { result.status ≡ 0 → result.wall ≡ None → ⊥ }
 
-    // The listener's count of faults never falls. Where nothing was heard, for a catalogue that is missing or refused, it is as it was.
+    // The listener's count of faults never falls. Where all was served, and where nothing was heard, for a catalogue that is missing or
+    // refused, it is as it was.
     ensures never_falls { L.faults listener ≤ L.faults result.listener }
-    ensures steady { result.status ≡ 1 → L.faults result.listener ≡ L.faults listener }
+    ensures steady { (result.status ≡ 0) ⊎ (result.status ≡ 1) → L.faults result.listener ≡ L.faults listener }
     ensures files { F.told shelf.new ≡ F.told shelf.old }
 {
     let run = run_words(rt, alloc, words, shelf, listener, ticker, clocks);

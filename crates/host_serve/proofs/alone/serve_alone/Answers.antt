@@ -21,6 +21,6 @@ loop-served-preserved g c =
       port = search (rules, arith);
       limit = search (rules, arith);
       within = search (rules, arith);
-      never_falls = search (rules, arith);
+      steady = search (rules, arith);
       handed = search (rules, arith);
     }

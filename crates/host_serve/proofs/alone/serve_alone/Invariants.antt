@@ -14,6 +14,6 @@ invariant-loop-served g l = record {
   port : (g.L.Listener.told l.listener).port ≡ (g.L.Listener.told l.fn.listener).port;
   limit : (g.L.Listener.told l.listener).limit ≡ l.limit;
   within : (g.L.Listener.told l.listener).handed ≤ l.limit;
-  never_falls : g.L.Listener.faults l.fn.listener ≤ g.L.Listener.faults l.listener;
+  steady : g.L.Listener.faults l.listener ≡ g.L.Listener.faults l.fn.listener;
   handed : l._served ≤ (g.L.Listener.told l.listener).handed;
 }

@@ -1,6 +1,6 @@
 use Rattle.std.proofs.Common.{◌≡◌, ◌⊎◌, ◌∙◌, ℕ, sym, subst}
 use Rattle.host_words.specs.Options.{words_texts}
-use Rattle.host_serve.proofs.Ending.{no_words, not_heard, when_refused}
+use Rattle.host_serve.proofs.Ending.{no_words, stays, when_refused}
 use Rattle.host_serve.proofs.run.run_serve.Goals as goal
 
 pub returns-clause-words : goal.returns-clause-words
@@ -15,5 +15,5 @@ returns-clause-refused_words g c none =
 
 pub returns-clause-steady : goal.returns-clause-steady
 returns-clause-steady g c is =
-    not_heard (words_texts c.args.words.now) (g.F.Shelf.told c.args.shelf.now) _ c.run_words-run.result.outcome c.run_words-run.ensures.runs
-    (sym c.end_serve-status.ensures.status ∙ is)
+    stays (words_texts c.args.words.now) (g.F.Shelf.told c.args.shelf.now) _ c.run_words-run.result.outcome c.run_words-run.ensures.runs
+    (subst (λ (n : ℕ). (n ≡ 0) ⊎ (n ≡ 1)) c.end_serve-status.ensures.status is)

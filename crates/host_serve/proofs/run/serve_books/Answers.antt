@@ -24,12 +24,15 @@ returns g c =
     let view = g.L.Listener.told c.serve_left-all.new.listener in
     let faults = g.L.Listener.faults c.serve_left-all.new.listener in
     record {
-      never_falls = omega (arith, c.requires.faults, c.into_listener-listener-2.ensures.faults, left.never_falls);
+      never_falls = omega (arith, c.requires.faults, c.into_listener-listener-2.ensures.never_falls, left.never_falls);
       ends = elim c.if-all.branch [
         | then-all w ↦ subst (λ (o : ServeOutcome). BooksEnd c.args.cat.now said (g.L.Listener.faults c.args.listener) faults view (Some c.finish.result) o) (sym w.result-is) (
-          left.spent w.if-all.true
-              ∙ (ap (λ (n : ℕ). record { port = n; limit = g.N.Named.limit; handed = g.N.Named.limit }) c.requires.port
-              ∙ ap (λ (n : ℕ). record { port = said.port; limit = n; handed = n }) c.requires.limit),
+          record {
+            handed = left.spent w.if-all.true
+                ∙ (ap (λ (n : ℕ). record { port = n; limit = g.N.Named.limit; handed = g.N.Named.limit }) c.requires.port
+                ∙ ap (λ (n : ℕ). record { port = said.port; limit = n; handed = n }) c.requires.limit);
+            steady = left.steady w.if-all.true ∙ c.requires.faults;
+          },
           wall,
         )
         | else-all w ↦ subst (λ (o : ServeOutcome). BooksEnd c.args.cat.now said (g.L.Listener.faults c.args.listener) faults view (Some c.finish.result) o) (sym w.result-is) (
