@@ -5,7 +5,7 @@ use Rattle.serde_json.specs.Data.{Data, unsigned, number, string, object, no_mem
 use Rattle.serde_json.proofs.OnLiterals.{serde_json_on_literals}
 use Rattle.rail_catalogue.specs.Json.{json_of}
 use Rattle.drill_totals.specs.Generator.{digit, request_front, request_middle, request_end, request_bytes}
-use Rattle.host_drill.specs.Fits.{station_code}
+use Rattle.drill_catalogue.specs.Fits.{station_code}
 use Rattle.host_drill.proofs.DrillHead.{head_bytes}
 
 abbrev body_front : List ℕ

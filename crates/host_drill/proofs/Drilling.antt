@@ -17,8 +17,9 @@ use Rattle.drill_totals.specs.declared.line.Totals.{Totals}
 use Rattle.drill_totals.proofs.Doubles.{no_doubles}
 use Rattle.drill_totals.specs.Parts.{IsWholeCount}
 use Rattle.host_drill.specs.Connections.{layout_of}
+use Rattle.drill_catalogue.specs.Fits.{HasPlaces}
 use Rattle.host_drill.specs.Drilled.{IsCatalogue, IsDrilled, connection_of, state_at}
-use Rattle.host_drill.specs.Worked.{HasPlaces, all_replies_with}
+use Rattle.host_drill.specs.Worked.{all_replies_with}
 use Rattle.host_drill.proofs.Summing.{AllWorked, AreCrew, crew_of, whole_of}
 
 -- a first desk that has taken in all has seen all

@@ -6,7 +6,6 @@ pub mod DrillPath
 pub mod Spelling
 pub mod Reserved
 pub mod Work
-pub mod Fitting
 pub mod Tries
 pub mod Parting
 pub mod Bodies

@@ -36,7 +36,8 @@ use Rattle.reservation_service.specs.declared.holding.Placing.TheVariants.{Whole
 use Rattle.reservation_service.specs.Holding.{In, FindsNoRow, candidates_in, PlacesAll, Stops, problem_of}
 use Rattle.reservation_service.specs.Reserving.{detail_of, reserved, Prebooks, FailsToHold}
 use Rattle.drill_totals.specs.Parts.{Outcome, Sold, TurnedAway, Busy, WithoutRow, Among, AllMinor, IsSale, IsTurnedAway, IsBusy, IsPart, on_leg, is_turned_away, is_busy, starts_in}
-use Rattle.host_drill.specs.Worked.{HasPlaces, ReservesLeg, drill_retailer, leg_segment, numbers_from}
+use Rattle.drill_catalogue.specs.Fits.{HasPlaces, drill_retailer, numbers_from}
+use Rattle.host_drill.specs.Worked.{ReservesLeg, leg_segment}
 use Rattle.host_drill.proofs.Tries.{AllRefused, AreMinor, IsWinning, all_lost, among_right, contended_last, last_tried, looks_minor, minor_append, refused_minor, seen_taken, starts_append, wins_last}
 
 -- the numbers of the places

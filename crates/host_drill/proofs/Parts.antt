@@ -15,7 +15,8 @@ use Rattle.drill_totals.specs.Generator.{drill_leg}
 use Rattle.drill_totals.specs.Totals.{one_if}
 use Rattle.drill_totals.specs.Parts.{Outcome, AreParts, HasWork, is_turned_away, is_busy, outcomes_in}
 use Rattle.drill_totals.proofs.Meetings.{prefix_on}
-use Rattle.host_drill.specs.Worked.{AnswersEach, HasPlaces, IsWorked, replies_with}
+use Rattle.drill_catalogue.specs.Fits.{HasPlaces}
+use Rattle.host_drill.specs.Worked.{AnswersEach, IsWorked, replies_with}
 use Rattle.host_drill.proofs.Parting.{one_part}
 
 -- a desk that goes on from what it had seen

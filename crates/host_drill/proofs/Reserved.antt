@@ -33,8 +33,8 @@ use Rattle.rail_service.specs.declared.resource.Resource.TheVariants.{Reservatio
 use Rattle.rail_service.specs.Paths.{resource_at}
 use Rattle.rail_service.specs.Routes.{RoutesTo, HasRoute, FindsRoute}
 use Rattle.rail_service.specs.Serving.{admitted, first_after, retailer_of, AsksAt, AsksAdmitted, AnswersAsked, AnswersRequest}
-use Rattle.host_drill.specs.Worked.{ReservesLeg, drill_retailer, leg_segment}
-use Rattle.host_drill.specs.Fits.{FitsDrill, HasLeg, station_code}
+use Rattle.drill_catalogue.specs.Fits.{FitsDrill, HasLeg, drill_retailer, station_code}
+use Rattle.host_drill.specs.Worked.{ReservesLeg, leg_segment}
 use Rattle.host_drill.proofs.DrillBody.{body_bytes, body_data, body_is}
 use Rattle.host_drill.proofs.DrillPath.{path_resource}
 use Rattle.host_drill.proofs.Spelling.{request_for}

@@ -13,8 +13,9 @@ use Rattle.drill_totals.specs.Parts.{Outcome, AllWork, IsWholeCount, all_outcome
 use Rattle.drill_totals.specs.Totals.{busy_line, no_memory_line, refused_line, sold_of, times, times_in}
 use Rattle.drill_totals.proofs.Law.{law}
 use Rattle.host_drill.specs.Connections.{IsConnection, layout_of}
+use Rattle.drill_catalogue.specs.Fits.{HasPlaces}
 use Rattle.host_drill.specs.Drilled.{AreWorkers, connection_of}
-use Rattle.host_drill.specs.Worked.{HasPlaces, IsWorked, all_replies_with, replies_with}
+use Rattle.host_drill.specs.Worked.{IsWorked, all_replies_with, replies_with}
 use Rattle.host_drill.proofs.Lines.{lines_counted}
 use Rattle.host_drill.proofs.Parts.{HasWorked, HaveMemory, have_memory, work_of}
 

@@ -12,8 +12,8 @@ use Rattle.osdm_answers.specs.Replies.{Reply}
 use Rattle.rail_service.specs.Connections.{ServiceView, IsAnswer, IsReading, answers_of, refusals_of}
 use Rattle.drill_totals.specs.Generator.{drill_leg, requests_from}
 use Rattle.host_drill.specs.Connections.{IsConnection, beginning}
+use Rattle.drill_catalogue.specs.Fits.{FitsDrill}
 use Rattle.host_drill.specs.Worked.{AnswersEach, IsWorked}
-use Rattle.host_drill.specs.Fits.{FitsDrill}
 use Rattle.host_drill.proofs.Spelling.{request_for, requests_for, spells}
 use Rattle.host_drill.proofs.Reserved.{IsFirstKnown, first_known, reserves_leg}
 

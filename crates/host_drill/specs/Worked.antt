@@ -1,34 +1,24 @@
 -- What a worker's requests did, one after the other, and what each was answered.
-use Rattle.std.specs.Prelude.{◌≡◌, ◌⊎◌, ℕ, zero, suc, ◌+◌, ◌*◌, ◌==◌, false, List, [], ◌∷◌, ◌++◌, map, replicate, length}
-use Rattle.place_map.specs.Candidates.{candidates_of}
+use Rattle.std.specs.Prelude.{◌≡◌, ◌⊎◌, ℕ, ◌+◌, ◌*◌, ◌==◌, false, List, [], ◌∷◌, ◌++◌, length}
 use Rattle.place_map.specs.declared.coach.Class.TheVariants.{Second}
 use Rattle.offer_codes.specs.declared.code.Segment.{Segment}
 use Rattle.history_model.specs.declared.entry.Step.{Step}
 use Rattle.claim_rule.specs.Rule.{DeskView}
 use Rattle.claim_rule.specs.Seats.{Shape}
 use Rattle.claim_rule.specs.Out.{IsIdle}
-use Rattle.rail_catalogue.specs.Contents.{CatalogueView, legs_in}
+use Rattle.rail_catalogue.specs.Contents.{CatalogueView}
 use Rattle.osdm_texts.specs.declared.problem.Problem.TheVariants.{NoMemory}
 use Rattle.osdm_answers.specs.Replies.{Reply, problem, status_of, reply_bytes}
-use Rattle.hold_core.specs.Tries.{place_number}
 use Rattle.reservation_service.specs.Reserving.{reserved, Reserves}
 use Rattle.service_rules.specs.Performing.{DoesNothing}
-use Rattle.drill_totals.specs.Generator.{drill_leg, drill_legs, drill_rows}
+use Rattle.drill_totals.specs.Generator.{drill_leg}
 use Rattle.drill_totals.specs.Totals.{one_if}
 use Rattle.drill_totals.specs.Parts.{on_leg}
-
--- the numbers from one on, so many
-abbrev pub numbers_from : ℕ → ℕ → List ℕ
-numbers_from first zero = []
-numbers_from first (suc n) = first ∷ numbers_from (first + 1) n
+use Rattle.drill_catalogue.specs.Fits.{drill_retailer}
 
 -- the one leg of the drill's one run
 abbrev pub leg_segment : ℕ → Segment
 leg_segment leg = record { run = record { 0 = 0 }; span = on_leg leg }
-
--- the drill's one retailer
-abbrev pub drill_retailer : ℕ
-drill_retailer = 1
 
 -- the request for the leg is carried out at moment 0, or there was no memory to read its body
 abbrev pub ReservesLeg : CatalogueView → ℕ → DeskView → DeskView → Reply → Type 0
@@ -46,12 +36,6 @@ AnswersEach cat seed k old (reply ∷ more) written new =
 pub record IsWorked (cat : CatalogueView) (seed size worker : ℕ) (begins desk : DeskView) (answered : List ℕ) (replies : List Reply) : Type 0 where
   pub number : length replies ≡ size
   pub each : AnswersEach cat seed (worker * size) begins replies answered desk
-
--- what the law of the totals needs of the catalogue: each place has the eight legs, and all of them are what a request may have, in order
-pub record HasPlaces (cat : CatalogueView) (places : ℕ) : Type 0 where
-  pub legs : legs_in cat ≡ replicate places drill_legs
-  pub rows : cat.rows ≡ drill_rows
-  pub candidates : map place_number (candidates_of 0 Second 0 cat.places) ≡ numbers_from 0 places
 
 -- how many of the replies have this status
 abbrev pub replies_with : ℕ → List Reply → ℕ

@@ -3,23 +3,19 @@ ghost use Rattle.std.specs.Prelude.{◌≡◌, ◌≤◌, ◌⊎◌, IfOk, IfErr
 ghost use Rattle.rail_io.specs.Faults.{Rose};
 ghost use Rattle.claim_rule.specs.Seats.{IsOf};
 ghost use Rattle.host_words.specs.Options.{words_texts};
-ghost use Rattle.drill_totals.specs.Generator.{catalogue_text};
-ghost use Rattle.rail_catalogue.specs.Format.{catalogue_of};
 ghost use Rattle.session_loop.specs.Writes.{Writes};
 ghost use Rattle.host_drill.specs.Drilled.{IsDrilled};
-ghost use Rattle.host_drill.specs.Fits.{FitsDrill};
 ghost use Rattle.host_drill.specs.Ends.{IsForDrill, IsDrill, IsNoDrill, Leaves, note_of, printed, status_of};
 ghost use Rattle.host_notes.specs.Noted.{IsNoted};
 
 use crate::crew::{meet_all, open_crew, serve_all};
 use crate::ends::{note_text, status};
-use crate::fit::fits;
 use claim_rule::Wall;
-use drill_totals::{Totals, catalogue_bytes, count_sold, line_of};
+use drill_catalogue::drill_catalogue;
+use drill_totals::{Totals, count_sold, line_of};
 use host_catalogue::open_books;
 use host_notes::note;
 use host_words::{DrillWords, WordsFault, read_drill};
-use rail_catalogue::{Catalogue, read_catalogue};
 use rail_io::Sink;
 use session_loop::write_all;
 use std::alloc::{AllocError, Global};
@@ -63,6 +59,7 @@ fn said_of(alloc: Global, words: &[String]) -> Result<DrillWords, Cause>
     ensures ok { IfOk result (λ said. IsDrill (words_texts words.now) said) }
     ensures size { IfOk result (λ said. said.size ≤ 2_000) }
     ensures workers { IfOk result (λ said. said.workers ≤ 16) }
+    ensures places { IfOk result (λ said. (1 ≤ said.places) × (said.places ≤ 1_200)) }
     ensures words { IfErr result (λ e. e ≡ Cause.Words → IsNoDrill (words_texts words.now)) }
     ensures memory { IfErr result (λ e. e ≡ Cause.Memory → IsForDrill (words_texts words.now)) }
     ensures causes { IfErr result (λ e. (e ≡ Cause.Words) ⊎ (e ≡ Cause.Memory)) }
@@ -77,31 +74,6 @@ fn said_of(alloc: Global, words: &[String]) -> Result<DrillWords, Cause>
     }
 }
 
-/// The catalogue of the drill.
-fn read_drill_catalogue(alloc: Global, places: u32) -> Result<Catalogue, AllocError>
-    ensures { IfOk result (λ c. catalogue_of (catalogue_text places) ≡ Ok c) }
-{
-    let text = catalogue_bytes(alloc, places)?;
-    match read_catalogue(alloc, text.as_slice()) {
-        Ok(catalogue) => Ok(catalogue),
-        Err(_) => Err(AllocError),
-    }
-}
-
-/// The catalogue of the drill, which has all that the requests name.
-fn drill_catalogue(alloc: Global, places: u32) -> Result<Catalogue, AllocError>
-    ensures catalogue { IfOk result (λ c. catalogue_of (catalogue_text places) ≡ Ok c) }
-    ensures fits { IfOk result (λ c. FitsDrill c places) }
-{
-    let catalogue = read_drill_catalogue(alloc, places)?;
-    // It always fits, by its text. The law of the printed line rests on that, so it is checked here and not only by eye.
-    if fits(alloc, &catalogue, places)? {
-        Ok(catalogue)
-    } else {
-        Err(AllocError)
-    }
-}
-
 /// Makes the connections, serves them all, and counts what they came to.
 fn work<R: Threads + Sync>(
     rt: &R,
@@ -110,6 +82,8 @@ fn work<R: Threads + Sync>(
 ) -> Result<(Wall, Totals), AllocError>
     requires size { said.size ≤ 2_000 }
     requires workers { said.workers ≤ 16 }
+    requires some_place { 1 ≤ said.places }
+    requires places { said.places ≤ 1_200 }
     ensures { IfOk result (λ t. IsDrilled said t.0 t.1) }
 {
     let catalogue = drill_catalogue(alloc, said.places)?;

@@ -12,7 +12,6 @@ mod connection;
 mod crew;
 mod drill;
 mod ends;
-mod fit;
 #[cfg(test)]
 mod tests;
 

@@ -1,8 +1,5 @@
 // Drills over memory.
-use crate::fit::fits;
 use crate::run_drill;
-use drill_totals::catalogue_bytes;
-use rail_catalogue::read_catalogue;
 use rail_io::VecSink;
 use std::alloc::{AllocError, Global};
 use std::process::Abort;
@@ -77,18 +74,5 @@ fn other_ends(rt: HostRuntime) -> Result<(), Fail> {
         "",
         "rail_host: write fault\n",
     )?;
-    Ok(())
-}
-
-/// A catalogue of three places is not one of four.
-#[test]
-fn fits_its_places(rt: HostRuntime) -> Result<(), Fail> {
-    let alloc = rt.alloc();
-    let text = catalogue_bytes(alloc, 3)?;
-    let catalogue = read_catalogue(alloc, text.as_slice())
-        .ok()
-        .ok_or("a catalogue")?;
-    assert_eq!(rt; fits(alloc, &catalogue, 3)?, true);
-    assert_eq!(rt; fits(alloc, &catalogue, 4)?, false);
     Ok(())
 }

@@ -1,13 +1,30 @@
 -- What a catalogue has to have, for the requests of a drill to be what they are meant to be.
-use Rattle.std.specs.Prelude.{◌≡◌, ℕ, ◌+◌, ◌<◌, List, [], ◌∷◌, Some, codes}
+use Rattle.std.specs.Prelude.{◌≡◌, ℕ, zero, suc, ◌+◌, ◌<◌, List, [], ◌∷◌, Some, codes, map, replicate}
 use Rattle.rail_ids.specs.declared.StationNo.{StationNo}
+use Rattle.place_map.specs.Candidates.{candidates_of}
+use Rattle.place_map.specs.declared.coach.Class.TheVariants.{Second}
 use Rattle.train_runs.specs.Stations.{station_with}
 use Rattle.train_runs.specs.Runs.{RunsView, span_of}
-use Rattle.rail_catalogue.specs.Contents.{CatalogueView}
+use Rattle.rail_catalogue.specs.Contents.{CatalogueView, legs_in}
 use Rattle.rail_catalogue.specs.Retailers.{retailer_with}
-use Rattle.drill_totals.specs.Generator.{digit, drill_legs}
+use Rattle.hold_core.specs.Tries.{place_number}
+use Rattle.drill_totals.specs.Generator.{digit, drill_legs, drill_rows}
 use Rattle.drill_totals.specs.Parts.{on_leg}
-use Rattle.host_drill.specs.Worked.{HasPlaces, drill_retailer}
+
+-- the numbers from one on, so many
+abbrev pub numbers_from : ℕ → ℕ → List ℕ
+numbers_from first zero = []
+numbers_from first (suc n) = first ∷ numbers_from (first + 1) n
+
+-- the drill's one retailer
+abbrev pub drill_retailer : ℕ
+drill_retailer = 1
+
+-- what the law of the totals needs of the catalogue: each place has the eight legs, and all of them are what a request may have, in order
+pub record HasPlaces (cat : CatalogueView) (places : ℕ) : Type 0 where
+  pub legs : legs_in cat ≡ replicate places drill_legs
+  pub rows : cat.rows ≡ drill_rows
+  pub candidates : map place_number (candidates_of 0 Second 0 cat.places) ≡ numbers_from 0 places
 
 -- the code of the station of this number
 abbrev pub station_code : ℕ → List ℕ
