@@ -35,6 +35,7 @@ impl<T: Ticker, C: Clock> Sweeper<'_, T, C> {
         ensures tidy { IsTidy desk.new }
         ensures keeps { KeepsDesk desk.old desk.new }
         ensures turn { SweepsTurn (C.told self.old.clock) desk.old (C.told self.new.clock) desk.new self.new.ended }
+        ensures interval { self.new.seconds ≡ self.old.seconds }
         ensures end { (result ≡ End) ↔ (self.new.ended ≡ true) }
     {
         if !self.ticker.next_tick(self.seconds) || self.closed.load(Ordering::SeqCst) {

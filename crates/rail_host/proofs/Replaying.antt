@@ -1,5 +1,5 @@
 -- What a replay's status says of its bytes, where the input and the output tell them.
-use Rattle.std.proofs.Common.{◌≡◌, ℕ, List, [], ◌++◌, Option, Some, None, refl, sym, ◌∙◌, ap, subst, arith, inl, inr}
+use Rattle.std.proofs.Common.{◌≡◌, ℕ, List, ◌++◌, Option, Some, None, refl, sym, ◌∙◌, ap, subst, arith, inl, inr}
 use Rattle.std.specs.Prelude.{◌⊎◌}
 use Rattle.rail_io.specs.Faults.{Rose}
 use Rattle.rail_io.specs.Told.{with_end}
@@ -22,7 +22,7 @@ use Rattle.host_catalogue.specs.declared.load.LoadFault.TheVariants as load
 use Rattle.host_words.specs.Replay.{ReplayView}
 use Rattle.rail_host.specs.Ends.{status_of_end}
 use Rattle.rail_host.specs.Plain.{IsTaken}
-use Rattle.rail_host.specs.Replay.{HasCause, IsFirstDesk, IsReplay, IsReplayOf, IsReplayRun, IsReplayed, IsReplayCut, IsReplayEnd, IsUntouched, Ends, Replays, opening, plain_opening, status_of_replay}
+use Rattle.rail_host.specs.Replay.{HasCause, IsFirstDesk, IsReplay, IsReplayOf, IsReplayRun, IsReplayed, IsReplayCut, IsReplayEnd, IsUntouched, Replays, opening, plain_opening, status_of_replay}
 use Rattle.host_notes.specs.Statuses.{status_of_fault}
 use Rattle.rail_host.specs.declared.replay.ReplayEnd.{ReplayEnd}
 use Rattle.rail_host.specs.declared.replay.ReplayEnd.TheVariants as end

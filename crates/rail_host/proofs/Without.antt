@@ -1,10 +1,10 @@
 -- What status 1 says of the shelf's files, and they of it.
-use Rattle.std.proofs.Common.{◌≡◌, ◌≤◌, ◌<◌, ℕ, List, Option, Some, None, length, refl, sym, ◌∙◌, ap, subst, arith, inl, inr}
-use Rattle.std.specs.Prelude.{◌⊎◌, IfSome, IsSomeAnd, Result, Ok, Err}
+use Rattle.std.proofs.Common.{◌≡◌, ◌≤◌, ℕ, List, Option, Some, None, length, refl, sym, ◌∙◌, ap, subst, arith, inl, inr}
+use Rattle.std.specs.Prelude.{◌⊎◌, IfSome, IsSomeAnd, Ok, Err}
 use Rattle.rail_catalogue.specs.Contents.{CatalogueView}
 use Rattle.rail_catalogue.specs.Faults.{Fault, fault_of}
 use Rattle.rail_catalogue.specs.Format.{catalogue_of}
-use Rattle.host_catalogue.specs.Loading.{Files, IsText, IsTooLarge, Loads}
+use Rattle.host_catalogue.specs.Loading.{Files, Loads}
 use Rattle.host_catalogue.specs.declared.load.LoadFault.{LoadFault}
 use Rattle.host_catalogue.specs.declared.load.LoadFault.TheVariants as load
 use Rattle.host_words.specs.Replay.{ReplayView}

@@ -1,11 +1,10 @@
 -- What the top call for plain commands does.
-use Rattle.std.specs.Prelude.{◌≡◌, ◌⊎◌, ℕ, List, [], ◌++◌, Option, Some, codes}
-use Rattle.rail_io.specs.Faults.{Rose}
+use Rattle.std.specs.Prelude.{◌≡◌, ◌⊎◌, ℕ, List, [], ◌++◌, Option, Some}
 use Rattle.rail_io.specs.Told.{with_front, with_end}
 use Rattle.http_wire.specs.declared.request.WireFault.{WireFault}
 use Rattle.http_wire.specs.Requests.{empty, unfinished, closed, refused}
 use Rattle.session_loop.specs.declared.end.ConnEnd.{ConnEnd}
-use Rattle.session_loop.specs.declared.end.ConnEnd.TheVariants.{Done, Cut, Refused, ReadFault, WriteFault, NoMemory}
+use Rattle.session_loop.specs.declared.end.ConnEnd.TheVariants.{NoMemory}
 use Rattle.session_loop.specs.Session.{IsEnd}
 use Rattle.rail_host.specs.Reservations.{Held}
 use Rattle.rail_host.specs.Tiny.{Answers, Refuses, IsOneThread, IsOneThreadCut}

@@ -1,6 +1,5 @@
 -- What `replay` does.
-use Rattle.std.specs.Prelude.{◌≡◌, ◌⊎◌, ℕ, List, [], ◌∷◌, Option, Some, None, IfSome, Ok, Err, slice_get, codes}
-use Rattle.rail_ids.specs.declared.RetailerNo.{RetailerNo}
+use Rattle.std.specs.Prelude.{◌≡◌, ◌⊎◌, ℕ, List, [], Option, Some, None, IfSome, Ok, Err, slice_get, codes}
 use Rattle.rail_io.specs.Clocks.{script_reading}
 use Rattle.rail_io.specs.Faults.{Rose}
 use Rattle.rail_io.specs.Told.{with_front, with_end}
@@ -16,7 +15,6 @@ use Rattle.rail_catalogue.specs.Format.{catalogue_of}
 use Rattle.rail_service.specs.Connections.{ServiceView, IsServed, answers_of, refusals_of}
 use Rattle.rail_service.specs.OneThread.{PlainView, plain_answers_of, plain_refusals_of}
 use Rattle.plain_host.specs.Plainly.{IsLone}
-use Rattle.host_catalogue.specs.declared.load.LoadFault.{LoadFault}
 use Rattle.host_catalogue.specs.declared.load.LoadFault.TheVariants as load
 use Rattle.host_notes.specs.Statuses.{status_of_fault}
 use Rattle.host_catalogue.specs.Loading.{Files, IsText, IsTooLarge, Loads}

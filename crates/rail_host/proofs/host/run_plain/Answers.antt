@@ -1,4 +1,4 @@
-use Rattle.std.proofs.Common.{◌≡◌, ◌∙◌, ℕ, List, Option, Some, refl, sym, subst, inl, inr, arith}
+use Rattle.std.proofs.Common.{◌∙◌, refl, sym, subst, inl, inr, arith}
 use Rattle.host_catalogue.specs.Loading.{Files}
 use Rattle.rail_host.specs.Words.{words_bytes}
 use Rattle.rail_host.proofs.Replaying.{done_replay, cut_replay, read_replay, write_replay}
