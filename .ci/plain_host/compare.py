@@ -8,7 +8,6 @@ prints how often each route, status, problem, state and fault was met, and fails
 import argparse
 import collections
 import dataclasses
-import json
 import os
 import subprocess
 import sys
@@ -149,18 +148,6 @@ def shortened(data: bytes) -> str:
 # What was met
 
 
-def split_answers(output: bytes) -> list:
-    """Status and body of each answer."""
-    answers, at = [], 0
-    while at < len(output):
-        body = output.index(b"\r\n\r\n", at) + 4
-        lines = output[at:body].split(b"\r\n")
-        length = next(int(line.split(b": ")[1]) for line in lines if line.startswith(b"Content-Length: "))
-        answers.append((int(lines[0][9:12]), json.loads(output[body:body + length])))
-        at = body + length
-    return answers
-
-
 class Met:
     """How often each thing that a run can show was met."""
 
@@ -178,7 +165,7 @@ class Met:
         if command not in ("tiny", "replay") or outcome.status not in (0, 6):
             return
         requests, rest = wire.read_requests(b"".join(case.pieces))
-        answers = split_answers(outcome.output)
+        answers = wire.split_answers(outcome.output)
         self.requests += len(answers)
         self.counts["rest", rest.value] += 1
         for status, body in answers:

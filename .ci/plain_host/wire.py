@@ -1,5 +1,6 @@
 """The wire: the whole requests that a list of bytes spells, what is left after them, and the bytes of answers."""
 import enum
+import json
 import re
 from dataclasses import dataclass
 
@@ -201,3 +202,15 @@ def write_problem(code: str, detail: str, last: bool) -> bytes:
 def write_fault(fault: Rest) -> bytes:
     """The answer to a fault of the wire, which ends its connection."""
     return write_problem(fault.value, None, True)
+
+
+def split_answers(output: bytes) -> list:
+    """Status and body of each answer."""
+    answers, at = [], 0
+    while at < len(output):
+        body = output.index(b"\r\n\r\n", at) + 4
+        lines = output[at:body].split(b"\r\n")
+        length = next(int(line.split(b": ")[1]) for line in lines if line.startswith(b"Content-Length: "))
+        answers.append((int(lines[0][9:12]), json.loads(output[body:body + length])))
+        at = body + length
+    return answers
