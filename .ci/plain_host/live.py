@@ -155,9 +155,15 @@ def sell(rng: random.Random, catalogue: Catalogue, port: int, connections: int) 
 
 
 def free_port() -> int:
-    with socket.socket() as probe:
-        probe.bind(("127.0.0.1", 0))
-        return probe.getsockname()[1]
+    """A port that is free, and below those that the system gives to connections: one that waits for the host could else meet itself."""
+    for port in random.sample(range(20_000, 32_000), 1_000):
+        with socket.socket() as probe:
+            try:
+                probe.bind(("127.0.0.1", port))
+                return port
+            except OSError:
+                continue
+    raise OSError("no port is free")
 
 
 def run(program: str, seed: int) -> collections.Counter:

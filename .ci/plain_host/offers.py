@@ -2,7 +2,7 @@
 import re
 from dataclasses import dataclass
 
-from catalogue import Catalogue, Fare, Run, Span, Terms, TravelClass
+from catalogue import LARGEST_NUMBER, Catalogue, Fare, Run, Span, Terms, TravelClass
 from moments import LAST_MOMENT
 
 LONGEST_WAIT = 14_400
@@ -13,7 +13,6 @@ LAST_RUN = 4_095
 LAST_STOP = 63
 LAST_CODED_ROW = 262_143
 LARGEST_AMOUNT = 99_999_999_999
-LARGEST_NUMBER = 4_294_967_295
 CLASS_DIGITS = {TravelClass.FIRST: "1", TravelClass.SECOND: "2"}
 
 
