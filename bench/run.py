@@ -36,7 +36,7 @@ def main():
     if not pathlib.Path(given.program).is_file():
         if given.program != str(PROGRAM):
             sys.exit("%s is not there" % given.program)
-        subprocess.run(["rt", "run"], cwd=PROGRAM.parent.parent, check=True)
+        subprocess.run(["rt", "run", "--", "tiny", "3", "2"], cwd=PROGRAM.parent.parent, stdin=subprocess.DEVNULL, check=True)
     now = datetime.datetime.now(datetime.timezone.utc).strftime("%Y-%m-%d %H:%M UTC")
     print("%s, %s, %d processors, load %.1f, %s" % (now, processor(), os.cpu_count(), os.getloadavg()[0], given.program))
     program = ["--program", str(pathlib.Path(given.program).resolve())]
