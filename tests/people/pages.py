@@ -11,6 +11,7 @@ import os
 import pathlib
 import re
 import shlex
+import shutil
 import signal
 import socket
 import subprocess
@@ -43,11 +44,25 @@ LIFE = [
     r'\{"places":\[\{"class":"FIRST","coach":1,"free":',
 ]
 # Pages whose commands end with the status beside them.
-PLAIN_PAGES = [("examples/README.md", 6), ("docs/catalogue.md", 0)]
+PLAIN_PAGES = [("examples/README.md", 6), ("docs/catalogue.md", 0), ("docs/operators.md", 0)]
+# From here on a page's commands want a system that runs systemd: tests/people/booted.
+ENDS = {"docs/operators.md": "## As a service"}
+# What has to stand in the output of docs/operators.md, in this order.
+OPERATION = [
+    r"the host takes this catalogue: 1 runs, 92 places",
+    r"the catalogue is taken",
+    r'\{"expired":0,"lost":0,"waiting":0\}',
+    r'\{"places":\[',
+    r"status 0",
+    r"[0-9a-f]{64}  ",
+    r"north 404\nsouth 404\neast 401\nnorth 404\nsouth 404\n",
+    r"pool=unkept .*\n.*pool=retailer_1 .*\n.*pool=retailer_2 ",
+]
 
 
 def commands_of(page):
-    return "\n".join(re.findall(r"^```sh\n(.*?)^```$", (ROOT / page).read_text(), re.MULTILINE | re.DOTALL))
+    text = (ROOT / page).read_text().split(ENDS.get(page, "\0"))[0]
+    return "\n".join(re.findall(r"^```sh\n(.*?)^```$", text, re.MULTILINE | re.DOTALL))
 
 
 def free_port():
@@ -63,11 +78,23 @@ def executable(path, text):
 
 def run_page(page, program, folder, path=None):
     """The output of the page's commands, and their status."""
-    text = commands_of(page).replace("8080", str(free_port())).replace("/tmp/", str(folder) + "/").replace(BUILT, shlex.quote(str(program)))
+    folder = pathlib.Path(folder)
+    ports = {port: str(free_port()) for port in ["8080", "8081", "8443"]}
+    text = commands_of(page).replace("/tmp/", str(folder) + "/").replace(BUILT, shlex.quote(str(program)))
+    # The examples with the same other ports, beside what else a page's commands look at.
+    tree = folder / "tree"
+    shutil.copytree(ROOT / "examples", tree / "examples")
+    (tree / "bench").symlink_to(ROOT / "bench")
+    proxy = tree / "examples" / "nginx.conf"
+    settings = proxy.read_text()
+    for port, other in ports.items():
+        text, settings = text.replace(port, other), settings.replace(port, other)
+    proxy.write_text(settings)
+    # The workers of an nginx that root has started are another user's, and have to reach the page.
+    folder.chmod(0o755)
     env = dict(os.environ, PATH="%s:%s" % (path, os.environ["PATH"]) if path else os.environ["PATH"])
-    script = "set -eu\n" + text
     # A group of its own, so that nothing that a failing page has started is left.
-    done = subprocess.Popen(["bash", "-c", script], cwd=ROOT, env=env, stdout=subprocess.PIPE, stderr=subprocess.STDOUT, text=True, start_new_session=True)
+    done = subprocess.Popen(["bash", "-c", "set -eu\n" + text], cwd=tree, env=env, stdout=subprocess.PIPE, stderr=subprocess.STDOUT, text=True, start_new_session=True)
     try:
         said, _ = done.communicate(timeout=300)
         return said, done.returncode
@@ -83,8 +110,12 @@ def faults_of_life(said, status):
         yield "status %d\n%s" % (status, said[-1500:])
     if '"code":"' in said:
         yield "a refusal: %s" % re.search(r'\{"code":.*', said).group(0)
+    yield from missing(LIFE, said)
+
+
+def missing(wished, said):
     at = 0
-    for wanted in LIFE:
+    for wanted in wished:
         found = re.compile(wanted).search(said, at)
         if not found:
             yield "%s doesn't come, or not in its turn" % wanted
@@ -123,10 +154,15 @@ def main():
     with tempfile.TemporaryDirectory() as name:
         found += ["docs/retailers.md over serve: %s" % fault for fault in faults_of_life(*run_page("docs/retailers.md", program, name))]
     for page, wanted in PLAIN_PAGES:
+        if page == "docs/operators.md" and not shutil.which("nginx"):
+            print("pages: no nginx here, so the commands of docs/operators.md are not run")
+            continue
         with tempfile.TemporaryDirectory() as name:
             said, status = run_page(page, program, name)
             if status != wanted:
                 found.append("%s: status %d\n%s" % (page, status, said[-1500:]))
+            if page == "docs/operators.md":
+                found += ["%s: %s" % (page, fault) for fault in missing(OPERATION, said)]
     for fault in found:
         print("pages: " + fault)
     print("pages: docs/retailers.md at %d clocks and over serve, and %d pages more: %d wrong" % (len(CLOCKS), len(PLAIN_PAGES), len(found)))
