@@ -5,7 +5,7 @@ use Rattle.rail_io.specs.Told.{Pulls}
 use Rattle.rail_io.specs.declared.source.Pulled.{Pulled}
 use Rattle.rail_io.specs.declared.source.Pulled.TheVariants.{Got, End, Failed}
 use Rattle.http_wire.specs.Next.{PullsBehind, Stays}
-use Rattle.http_wire.proofs.intake.pull.Goals as goal
+use Rattle.http_wire.proofs.room.pull.Goals as goal
 
 regroup : (f y z p : List ℕ) → f ++ ((y ++ z) ++ p) ≡ (f ++ y) ++ (z ++ p)
 regroup f y z p = simp append_assoc

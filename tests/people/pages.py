@@ -1,0 +1,172 @@
+#!/usr/bin/env python3
+"""Runs every command of docs/retailers.md as it stands, by a clock that is set, and once over `serve`; and the commands of other pages.
+
+  tests/people/pages.py PROGRAM
+
+The commands are those of the page's blocks marked `sh`, together one script of bash that stops at the first one that fails. Only the port, the
+folder /tmp and the program's path are others. By a set clock, `serve` is played by a `replay` whose clock the test sets (bridge.py), and
+`date` says that clock. What the page says that comes of it is looked for in the output.
+"""
+import os
+import pathlib
+import re
+import shlex
+import shutil
+import signal
+import socket
+import subprocess
+import sys
+import tempfile
+
+from bridge import Bridge
+
+ROOT = pathlib.Path(__file__).resolve().parents[2]
+BUILT = "crates/rail_host/out/rail_host"
+TODAY, TOMORROW = "2026-06-09", "2026-06-10"
+CLOCKS = ["00:30:00", "12:00:00", "23:30:00"]
+# What has to stand in the output of docs/retailers.md, in this order; `.*` may be anything.
+LIFE = [
+    r"ask for refund .* 201 ",
+    r"refund .* 200 +REFUNDED",
+    r"exchange .* 201 +CONFIRMED",
+    r"release .* 200 +RELEASED",
+    r'\{"offers":\[\{"id":"O',
+    r'"settled":false,"status":"PREBOOKED"',
+    r'"settled":false,"status":"CONFIRMED"',
+    r'"settled":true,"status":"RELEASED"',
+    r'\{"difference":.*"id":"X',
+    r'\{"booking":.*"status":"CONFIRMED".*"replaced":"B',
+    r'"settled":true,"status":"EXCHANGED","successor":"B',
+    r'"settled":false,"status":"FULFILLED"',
+    r'\{"amount":.*"id":"R',
+    r'"settled":true,"status":"REFUNDED"',
+    r'"status":"REFUNDED"',
+    r'\{"places":\[\{"class":"FIRST","coach":1,"free":',
+]
+# Pages whose commands end with the status beside them.
+PLAIN_PAGES = [("examples/README.md", 6), ("docs/catalogue.md", 0), ("docs/operators.md", 0)]
+# From here on a page's commands want a system that runs systemd: tests/people/booted.
+ENDS = {"docs/operators.md": "## As a service"}
+# What has to stand in the output of docs/operators.md, in this order.
+OPERATION = [
+    r"the host takes this catalogue: 1 runs, 92 places",
+    r"the catalogue is taken",
+    r'\{"expired":0,"lost":0,"waiting":0\}',
+    r'\{"places":\[',
+    r"status 0",
+    r"[0-9a-f]{64}  ",
+    r"north 404\nsouth 404\neast 401\nnorth 404\nsouth 404\n",
+    r"pool=unkept .*\n.*pool=retailer_1 .*\n.*pool=retailer_2 ",
+]
+
+
+def commands_of(page):
+    text = (ROOT / page).read_text().split(ENDS.get(page, "\0"))[0]
+    return "\n".join(re.findall(r"^```sh\n(.*?)^```$", text, re.MULTILINE | re.DOTALL))
+
+
+def free_port():
+    with socket.create_server(("127.0.0.1", 0)) as free:
+        return free.getsockname()[1]
+
+
+def executable(path, text):
+    path.write_text(text)
+    path.chmod(0o755)
+    return path
+
+
+def run_page(page, program, folder, path=None):
+    """The output of the page's commands, and their status."""
+    folder = pathlib.Path(folder)
+    ports = {port: str(free_port()) for port in ["8080", "8081", "8443"]}
+    text = commands_of(page).replace("/tmp/", str(folder) + "/").replace(BUILT, shlex.quote(str(program)))
+    # The examples with the same other ports, beside what else a page's commands look at.
+    tree = folder / "tree"
+    shutil.copytree(ROOT / "examples", tree / "examples")
+    (tree / "bench").symlink_to(ROOT / "bench")
+    proxy = tree / "examples" / "nginx.conf"
+    settings = proxy.read_text()
+    for port, other in ports.items():
+        text, settings = text.replace(port, other), settings.replace(port, other)
+    proxy.write_text(settings)
+    # The workers of an nginx that root has started are another user's, and have to reach the page.
+    folder.chmod(0o755)
+    env = dict(os.environ, PATH="%s:%s" % (path, os.environ["PATH"]) if path else os.environ["PATH"])
+    # A group of its own, so that nothing that a failing page has started is left.
+    done = subprocess.Popen(["bash", "-c", "set -eu\n" + text], cwd=tree, env=env, stdout=subprocess.PIPE, stderr=subprocess.STDOUT, text=True, start_new_session=True)
+    try:
+        said, _ = done.communicate(timeout=300)
+        return said, done.returncode
+    finally:
+        try:
+            os.killpg(done.pid, signal.SIGKILL)
+        except ProcessLookupError:
+            pass
+
+
+def faults_of_life(said, status):
+    if status not in (0, 128 + signal.SIGTERM):
+        yield "status %d\n%s" % (status, said[-1500:])
+    if '"code":"' in said:
+        yield "a refusal: %s" % re.search(r'\{"code":.*', said).group(0)
+    yield from missing(LIFE, said)
+
+
+def missing(wished, said):
+    at = 0
+    for wanted in wished:
+        found = re.compile(wanted).search(said, at)
+        if not found:
+            yield "%s doesn't come, or not in its turn" % wanted
+            break
+        at = found.end()
+
+
+def clocked(program, folder, clock):
+    """A program whose `serve` has the clock, and a `date` that says it."""
+    host = "#!/bin/sh\nexec %s %s --clock %s %sT%sZ \"$@\"\n" % (sys.executable, pathlib.Path(__file__).resolve(), shlex.quote(str(program)), TODAY, clock)
+    date = '#!/bin/sh\n[ "$*" = "-u -d tomorrow +%%F" ] && echo %s\n' % TOMORROW
+    bin_folder = folder / "bin"
+    bin_folder.mkdir()
+    executable(bin_folder / "date", date)
+    return executable(folder / "host", host), bin_folder
+
+
+def play_clock(words):
+    """`serve CATALOGUE --port N` by a clock that is set: what the program of `clocked` does."""
+    program, start, command, catalogue, _, port = words
+    assert command == "serve"
+    bridge = Bridge(program, catalogue, start, port=int(port))
+    signal.signal(signal.SIGTERM, lambda *_: os._exit(0))
+    signal.pause()
+    bridge.close()
+
+
+def main():
+    if sys.argv[1] == "--clock":
+        return play_clock(sys.argv[2:])
+    program, found = pathlib.Path(sys.argv[1]).resolve(), []
+    for clock in CLOCKS:
+        with tempfile.TemporaryDirectory() as name:
+            host, path = clocked(program, pathlib.Path(name), clock)
+            found += ["docs/retailers.md at %s: %s" % (clock, fault) for fault in faults_of_life(*run_page("docs/retailers.md", host, name, path))]
+    with tempfile.TemporaryDirectory() as name:
+        found += ["docs/retailers.md over serve: %s" % fault for fault in faults_of_life(*run_page("docs/retailers.md", program, name))]
+    for page, wanted in PLAIN_PAGES:
+        if page == "docs/operators.md" and not shutil.which("nginx"):
+            print("pages: no nginx here, so the commands of docs/operators.md are not run")
+            continue
+        with tempfile.TemporaryDirectory() as name:
+            said, status = run_page(page, program, name)
+            if status != wanted:
+                found.append("%s: status %d\n%s" % (page, status, said[-1500:]))
+            if page == "docs/operators.md":
+                found += ["%s: %s" % (page, fault) for fault in missing(OPERATION, said)]
+    for fault in found:
+        print("pages: " + fault)
+    print("pages: docs/retailers.md at %d clocks and over serve, and %d pages more: %d wrong" % (len(CLOCKS), len(PLAIN_PAGES), len(found)))
+    return 1 if found else 0
+
+
+sys.exit(main())
