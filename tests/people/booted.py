@@ -76,6 +76,7 @@ def provided(root, program):
     shutil.rmtree(work, ignore_errors=True)
     (work / "crates" / "rail_host" / "out").mkdir(parents=True)
     shutil.copytree(ROOT / "examples", work / "examples")
+    shutil.copytree(ROOT / "docs", work / "docs")
     shutil.copy(program, work / "crates" / "rail_host" / "out" / "rail_host")
     day = (datetime.date.today() + datetime.timedelta(days=2)).isoformat()
     (work / "country.json").write_bytes(subprocess.run([sys.executable, str(ROOT / "examples" / "country.py"), "--day", day], check=True, capture_output=True).stdout)

@@ -4,16 +4,17 @@
   tests/people/catalogues.py PROGRAM
 
 Each is examples/k1.json with one text in the place of another. docs/catalogue.schema.json has to take the two examples and to refuse those of
-the table that a schema can see (it is skipped where python3 has no jsonschema). Last, what the checker holds to be the host's first fault is compared with the plain
-model of the host, where that stands beside this folder, on catalogues of chance.
+the table that a schema can see. Last, what the checker holds to be the host's first fault is compared with the model of the host
+beside this folder, on catalogues of chance.
 """
 import json
 import pathlib
 import random
-import re
 import subprocess
 import sys
 import tempfile
+
+import jsonschema
 
 ROOT = pathlib.Path(__file__).resolve().parents[2]
 CHECKER = ROOT / "examples" / "check_catalogue.py"
@@ -95,11 +96,6 @@ def faults_of_hints(path, text):
 
 
 def faults_of_schema(text):
-    try:
-        import jsonschema
-    except ImportError:
-        print("catalogues: python3 has no jsonschema here, so the schema is not tried")
-        return
     schema = json.loads((ROOT / "docs" / "catalogue.schema.json").read_text())
     jsonschema.Draft202012Validator.check_schema(schema)
     validator = jsonschema.Draft202012Validator(schema)
@@ -117,11 +113,7 @@ def faults_of_schema(text):
 
 def faults_of_chance():
     """The checker's verdict beside that of the plain model, on catalogues of chance, most of them wrong in one place."""
-    model = next((path for path in [ROOT / "tests" / "model", ROOT / ".ci" / "plain_host"] if path.is_dir()), None)
-    if model is None:
-        print("catalogues: the plain model is not here, so nothing is compared with it")
-        return
-    sys.path[:0] = [str(model), str(ROOT / "examples")]
+    sys.path[:0] = [str(ROOT / "tests" / "model"), str(ROOT / "examples")]
     import catalogue
     import check_catalogue
     import moments

@@ -180,7 +180,9 @@ def main():
     for name in ("chromium", "nginx"):
         if not shutil.which(name):
             words.error("it needs %s: apt-get install chromium nginx" % name)
-    with tempfile.TemporaryDirectory() as folder, tempfile.TemporaryDirectory(ignore_cleanup_errors=True) as profile:
+    # Chromium's last files may come while its folder goes, and none of them is wanted.
+    profile = tempfile.mkdtemp()
+    with tempfile.TemporaryDirectory() as folder:
         proxy = Proxy(given.program.resolve(), pathlib.Path(folder), workers=8)
         browser = None
         try:
@@ -189,6 +191,7 @@ def main():
         finally:
             if browser:
                 browser.close()
+            shutil.rmtree(profile, ignore_errors=True)
             proxy.close()
     for fault in found:
         print("counter: " + fault)

@@ -1,7 +1,8 @@
 #!/usr/bin/env python3
 """Runs every command of docs/retailers.md as it stands, by a clock that is set, and once over `serve`; and the commands of other pages.
 
-  tests/people/pages.py PROGRAM
+  tests/people/pages.py PROGRAM                 docs/retailers.md, docs/catalogue.md, examples/README.md
+  tests/people/pages.py PROGRAM --operators     docs/operators.md, which needs nginx
 
 The commands are those of the page's blocks marked `sh`, together one script of bash that stops at the first one that fails. Only the port, the
 folder /tmp and the program's path are others. By a set clock, `serve` is played by a `replay` whose clock the test sets (bridge.py), and
@@ -44,9 +45,10 @@ LIFE = [
     r'\{"places":\[\{"class":"FIRST","coach":1,"free":',
 ]
 # Pages whose commands end with the status beside them.
-PLAIN_PAGES = [("examples/README.md", 6), ("docs/catalogue.md", 0), ("docs/operators.md", 0)]
+PLAIN_PAGES = [("examples/README.md", 6), ("docs/catalogue.md", 0)]
+OPERATORS = "docs/operators.md"
 # From here on a page's commands want a system that runs systemd: tests/people/booted.
-ENDS = {"docs/operators.md": "## As a service"}
+ENDS = {OPERATORS: "## As a service"}
 # What has to stand in the output of docs/operators.md, in this order.
 OPERATION = [
     r"the host takes this catalogue: 1 runs, 92 places",
@@ -143,29 +145,36 @@ def play_clock(words):
     bridge.close()
 
 
-def main():
-    if sys.argv[1] == "--clock":
-        return play_clock(sys.argv[2:])
-    program, found = pathlib.Path(sys.argv[1]).resolve(), []
+def faults_of_retailers(program):
     for clock in CLOCKS:
         with tempfile.TemporaryDirectory() as name:
             host, path = clocked(program, pathlib.Path(name), clock)
-            found += ["docs/retailers.md at %s: %s" % (clock, fault) for fault in faults_of_life(*run_page("docs/retailers.md", host, name, path))]
+            yield from ["docs/retailers.md at %s: %s" % (clock, fault) for fault in faults_of_life(*run_page("docs/retailers.md", host, name, path))]
     with tempfile.TemporaryDirectory() as name:
-        found += ["docs/retailers.md over serve: %s" % fault for fault in faults_of_life(*run_page("docs/retailers.md", program, name))]
-    for page, wanted in PLAIN_PAGES:
-        if page == "docs/operators.md" and not shutil.which("nginx"):
-            print("pages: no nginx here, so the commands of docs/operators.md are not run")
-            continue
-        with tempfile.TemporaryDirectory() as name:
-            said, status = run_page(page, program, name)
-            if status != wanted:
-                found.append("%s: status %d\n%s" % (page, status, said[-1500:]))
-            if page == "docs/operators.md":
-                found += ["%s: %s" % (page, fault) for fault in missing(OPERATION, said)]
+        yield from ["docs/retailers.md over serve: %s" % fault for fault in faults_of_life(*run_page("docs/retailers.md", program, name))]
+
+
+def faults_of_page(program, page, wanted, wished):
+    with tempfile.TemporaryDirectory() as name:
+        said, status = run_page(page, program, name)
+    if status != wanted:
+        yield "%s: status %d\n%s" % (page, status, said[-1500:])
+    yield from ["%s: %s" % (page, fault) for fault in missing(wished, said)]
+
+
+def main():
+    if sys.argv[1] == "--clock":
+        return play_clock(sys.argv[2:])
+    program = pathlib.Path(sys.argv[1]).resolve()
+    if sys.argv[2:] == ["--operators"]:
+        tried, found = OPERATORS, list(faults_of_page(program, OPERATORS, 0, OPERATION))
+    else:
+        tried, found = "docs/retailers.md at %d clocks and over serve, and %d pages more" % (len(CLOCKS), len(PLAIN_PAGES)), list(faults_of_retailers(program))
+        for page, wanted in PLAIN_PAGES:
+            found += faults_of_page(program, page, wanted, [])
     for fault in found:
         print("pages: " + fault)
-    print("pages: docs/retailers.md at %d clocks and over serve, and %d pages more: %d wrong" % (len(CLOCKS), len(PLAIN_PAGES), len(found)))
+    print("pages: %s: %d wrong" % (tried, len(found)))
     return 1 if found else 0
 
 

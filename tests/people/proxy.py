@@ -134,8 +134,8 @@ def faults_of(proxy):
 def main():
     program, found = pathlib.Path(sys.argv[1]).resolve(), []
     if not shutil.which("nginx") or not shutil.which("openssl"):
-        print("proxy: skipped, no nginx or no openssl here")
-        return 0
+        print("proxy: it needs nginx and openssl: apt-get install nginx openssl")
+        return 1
     with tempfile.TemporaryDirectory() as folder:
         proxy = Proxy(program, pathlib.Path(folder))
         try:
