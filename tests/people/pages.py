@@ -3,6 +3,7 @@
 
   tests/people/pages.py PROGRAM                 docs/retailers.md, docs/catalogue.md, examples/README.md
   tests/people/pages.py PROGRAM --operators     docs/operators.md, which needs nginx
+  tests/people/pages.py PROGRAM --trial         docs/retailers.md over the host without proofs that it shows, which takes some minutes
 
 The commands are those of the page's blocks marked `sh`, together one script of bash that stops at the first one that fails. Only the port, the
 folder /tmp and the program's path are others. By a set clock, `serve` is played by a `replay` whose clock the test sets (bridge.py), and
@@ -78,15 +79,23 @@ def executable(path, text):
     return path
 
 
-def run_page(page, program, folder, path=None):
+def with_trial(commands):
+    """The commands of docs/retailers.md with the host that `rt try` starts in the place of the proved one."""
+    trial = re.search(r"^    (\(cd crates/rail_host && rt try .*\) &)$", (ROOT / "docs" / "retailers.md").read_text(), re.MULTILINE).group(1)
+    proved = re.search(r"^%s serve .* &$" % re.escape(BUILT), commands, re.MULTILINE).group(0)
+    return commands.replace(proved, trial)
+
+
+def run_page(page, program, folder, path=None, change=lambda commands: commands):
     """The output of the page's commands, and their status."""
     folder = pathlib.Path(folder)
     ports = {port: str(free_port()) for port in ["8080", "8081", "8443"]}
-    text = commands_of(page).replace("/tmp/", str(folder) + "/").replace(BUILT, shlex.quote(str(program)))
+    text = change(commands_of(page)).replace("/tmp/", str(folder) + "/").replace(BUILT, shlex.quote(str(program)))
     # The examples with the same other ports, beside what else a page's commands look at.
     tree = folder / "tree"
     shutil.copytree(ROOT / "examples", tree / "examples")
-    (tree / "bench").symlink_to(ROOT / "bench")
+    for name in ("bench", "crates"):
+        (tree / name).symlink_to(ROOT / name)
     proxy = tree / "examples" / "nginx.conf"
     settings = proxy.read_text()
     for port, other in ports.items():
@@ -98,7 +107,7 @@ def run_page(page, program, folder, path=None):
     # A group of its own, so that nothing that a failing page has started is left.
     done = subprocess.Popen(["bash", "-c", "set -eu\n" + text], cwd=tree, env=env, stdout=subprocess.PIPE, stderr=subprocess.STDOUT, text=True, start_new_session=True)
     try:
-        said, _ = done.communicate(timeout=300)
+        said, _ = done.communicate(timeout=900)
         return said, done.returncode
     finally:
         try:
@@ -166,7 +175,12 @@ def main():
     if sys.argv[1] == "--clock":
         return play_clock(sys.argv[2:])
     program = pathlib.Path(sys.argv[1]).resolve()
-    if sys.argv[2:] == ["--operators"]:
+    if sys.argv[2:] == ["--trial"]:
+        tried = "docs/retailers.md without proofs"
+        with tempfile.TemporaryDirectory() as name:
+            said, status = run_page("docs/retailers.md", program, name, change=with_trial)
+        found = list(faults_of_life(said, status)) + list(missing([r"run=fault proved=no"], said))
+    elif sys.argv[2:] == ["--operators"]:
         tried, found = OPERATORS, list(faults_of_page(program, OPERATORS, 0, OPERATION))
     else:
         tried, found = "docs/retailers.md at %d clocks and over serve, and %d pages more" % (len(CLOCKS), len(PLAIN_PAGES)), list(faults_of_retailers(program))
