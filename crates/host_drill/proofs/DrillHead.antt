@@ -9,8 +9,7 @@ use Rattle.std.proofs.lemmas.List.Sums.{AllPass-from_list_all}
 use Rattle.std.proofs.lemmas.List.Elements.{All-nil, All-cons}
 use Rattle.httparse.specs.Grammar.{crlf, is_token_byte, is_uri_byte, is_value_byte, Field, IsField, RequestHead, IsRequestHead, print_request}
 use Rattle.httparse.proofs.OnLiterals.{httparse_on_literals}
-use Rattle.http_wire.specs.declared.scan.HeadSearch.TheVariants.{Ended}
-use Rattle.http_wire.specs.Scan.{search_head}
+use Rattle.http_wire.proofs.Search.{Ended, search_head}
 use Rattle.http_wire.specs.HeadLines.{IsNumeral, IsLength, IsServedHead, codings_of, lengths_of, lines_of, closes_in, is_last}
 use Rattle.http_wire.specs.Requests.{RequestText, HeadAt, IsRequest, request_of}
 use Rattle.http_wire.proofs.Fronts.{head_at_found}

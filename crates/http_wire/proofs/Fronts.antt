@@ -1,20 +1,16 @@
 -- What stands at the front of a text, by its head.
-use Rattle.std.proofs.Common.{◌≡◌, ℕ, ◌+◌, ◌<◌, ◌≤◌, Bool, true, false, not, ◌&&◌, cond, List, [], ◌∷◌, ◌++◌, length, take, drop, refl, sym, ◌∙◌, ap, subst, arith, inl, inr, min}
-use Rattle.std.specs.Prelude.{◌==◌}
+use Rattle.std.proofs.Common.{◌≡◌, ℕ, ◌+◌, ◌<◌, ◌≤◌, true, false, List, [], ◌∷◌, ◌++◌, length, take, drop, refl, sym, ◌∙◌, ap, subst, arith, inl, inr, min}
 use Rattle.std.proofs.lemmas.List.{append-nil, length-append, length-take, take-take, take_all, take_at, take-append-drop, append_cancel_left}
-use Rattle.std.proofs.lemmas.Bool.Decides.{Decides-eqb}
 use Rattle.httparse.specs.Grammar.{LineEnd, crlf, lf, print_blank, RequestHead, print_request}
 use Rattle.httparse.proofs.GrammarLemmas.{request_unique}
 use Rattle.http_wire.specs.declared.request.WireFault.{WireFault}
 use Rattle.http_wire.specs.declared.request.WireFault.TheVariants.{BadHead, HeadTooLarge, BodyTooLarge, Coding, BadLength}
 use Rattle.http_wire.specs.Heads.{IsHead, HasLines}
-use Rattle.http_wire.specs.declared.scan.HeadSearch.TheVariants.{Nothing, Ended, Many}
 use Rattle.http_wire.specs.HeadLines.{IsHeadOf, IsServedHead, IsNumeral, IsLength, lengths_of, codings_of}
 use Rattle.http_wire.specs.Requests.{HeadAt, HasNoEnd, IsFault, IsBlank, IsUnfinished}
 use Rattle.http_wire.specs.HeadRead.{IsHeadFault}
-use Rattle.http_wire.specs.Scan.{search_head, only_ends}
-use Rattle.http_wire.proofs.Scanning.{found_head, found_many, at_start, head_found, head_once, many_found, past_blank}
-use Rattle.http_wire.proofs.RequestHeads.{lines_longer}
+use Rattle.http_wire.proofs.Search.{Nothing, Ended, search_head, only_ends}
+use Rattle.http_wire.proofs.Scanning.{found_head, at_start, head_found, head_once, many_found, past_blank}
 
 -- ---- heads
 
@@ -74,12 +70,6 @@ no_lines_at text head rest at many =
     let found = head_found head rest at.ends at.few in
     absurd cc
 
--- too many lines in the first bytes
-pub lines_at : (text : List ℕ) (room : ℕ) → search_head 0 false true false (take room text) ≡ Many → HasLines 66 text
-lines_at text room e =
-    subst (HasLines 66) (take-append-drop room text)
-    (lines_longer (take room text) (drop room text) (found_many (take room text) [] 0 false true false at_start e))
-
 -- where the search over all of the text finds nothing, there are no 66 lines
 pub no_lines_in : (text : List ℕ) (room : ℕ) → length text ≤ room → search_head 0 false true false (take room text) ≡ Nothing → HasLines 66 text → ⊥
 no_lines_in text room all none many =
@@ -117,41 +107,10 @@ blank_has_no_lines text (es, is, short) many =
     let other = ap (search_head 0 false true false) (sym (append-nil text)) ∙ many_found text [] many in
     absurd cc
 
-abbrev carriage_bytes : Bool → List ℕ
-carriage_bytes true = 13 ∷ []
-carriage_bytes false = []
-
 only_ends_blank : (es : List LineEnd) → only_ends false (print_blank es) ≡ true
 only_ends_blank [] = refl
 only_ends_blank (crlf ∷ es) = only_ends_blank es
 only_ends_blank (lf ∷ es) = only_ends_blank es
-
-blank_byte : (b : ℕ) (text : List ℕ) (carriage t u : Bool) → (t ≡ true → b ≡ 10) → (u ≡ true → b ≡ 13)
-    → ((c : Bool) → only_ends c text ≡ true → (es : List LineEnd) × (carriage_bytes c ++ text ≡ print_blank es))
-    → cond t (only_ends false text) (cond (u && not carriage) (only_ends true text) false) ≡ true
-    → (es : List LineEnd) × (carriage_bytes carriage ++ b ∷ text ≡ print_blank es)
-blank_byte b text true true u feed cr more e =
-    let rest = more false e in
-    (crlf ∷ rest.0, ap (λ (x : ℕ). 13 ∷ x ∷ text) (feed refl) ∙ ap (λ (l : List ℕ). 13 ∷ 10 ∷ l) rest.1)
-blank_byte b text false true u feed cr more e =
-    let rest = more false e in
-    (lf ∷ rest.0, ap (λ (x : ℕ). x ∷ text) (feed refl) ∙ ap (λ (l : List ℕ). 10 ∷ l) rest.1)
-blank_byte b text true false true feed cr more e = absurd cc
-blank_byte b text true false false feed cr more e = absurd cc
-blank_byte b text false false true feed cr more e =
-    let rest = more true e in
-    (rest.0, ap (λ (x : ℕ). x ∷ text) (cr refl) ∙ rest.1)
-blank_byte b text false false false feed cr more e = absurd cc
-
-blank_from : (text : List ℕ) (carriage : Bool) → only_ends carriage text ≡ true
-    → (es : List LineEnd) × (carriage_bytes carriage ++ text ≡ print_blank es)
-blank_from [] true e = absurd cc
-blank_from [] false e = ([], refl)
-blank_from (b ∷ text) carriage e =
-    blank_byte b text carriage (b == 10) (b == 13) (Decides-eqb b 10).0 (Decides-eqb b 13).0 (λ c h. blank_from text c h) e
-
-pub is_blank : (text : List ℕ) → only_ends false text ≡ true → length text < 16384 → IsBlank text
-is_blank text e short = let found = blank_from text false e in (found.0, found.1, short)
 
 pub not_blank : (text : List ℕ) → only_ends false text ≡ false → IsBlank text → ⊥
 not_blank text e (es, is, short) = let yes = ap (only_ends false) is ∙ only_ends_blank es in absurd cc

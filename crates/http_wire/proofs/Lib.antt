@@ -1,3 +1,4 @@
+pub mod Search
 pub mod Fronts
 pub mod NamedLemmas
 pub mod RequestHeads

@@ -8,10 +8,8 @@ use Rattle.std.proofs.lemmas.List.Concat.{flat_map-append}
 use Rattle.std.proofs.lemmas.Bool.Decides.{Decides-eqb}
 use Rattle.std.proofs.lemmas.Bool.{false_from_ne_true}
 use Rattle.httparse.specs.Grammar.{LineEnd, crlf, lf, print_end, print_blank}
-use Rattle.http_wire.specs.Heads.{HasNoFeed, IsLine, print_line, print_lines, IsHead, HasLines}
-use Rattle.http_wire.specs.declared.scan.HeadSearch.{HeadSearch}
-use Rattle.http_wire.specs.declared.scan.HeadSearch.TheVariants.{Nothing, Ended, Many}
-use Rattle.http_wire.specs.Scan.{on, search_head}
+use Rattle.http_wire.specs.Heads.{HasNoFeed, IsLine, print_line, print_lines, IsHead, IsHeadOfLines, HasLines}
+use Rattle.http_wire.proofs.Search.{HeadSearch, Nothing, Ended, Many, on, search_head}
 
 -- the line in progress, by what the search knows of it
 abbrev pub PartKind : Bool → Bool → List ℕ → Type 0
@@ -65,25 +63,25 @@ pub record Stands (count : ℕ) (begun empty carriage : Bool) (pre : List ℕ) :
 pub at_start : Stands 0 false true false []
 at_start = record { blank = []; lines = []; part = []; each = tt; begun_is = refl; count_is = refl; one = tt; kind = refl; is = refl }
 
-all_push : {X : Type 0} (P : X → Type 0) (xs : List X) (x : X) → AllByRecursion P xs → P x → AllByRecursion P (xs ++ x ∷ [])
+pub all_push : {X : Type 0} (P : X → Type 0) (xs : List X) (x : X) → AllByRecursion P xs → P x → AllByRecursion P (xs ++ x ∷ [])
 all_push P [] x h p = (p, tt)
 all_push P (y ∷ xs) x h p = (h.0, all_push P xs x h.1 p)
 
 -- an empty line's end
-abbrev line_end_of : Bool → LineEnd
+abbrev pub line_end_of : Bool → LineEnd
 line_end_of true = crlf
 line_end_of false = lf
 
-print_line_end_of : (carriage : Bool) (part : List ℕ) → PartKind true carriage part
+pub print_line_end_of : (carriage : Bool) (part : List ℕ) → PartKind true carriage part
     → part ++ 10 ∷ [] ≡ print_end (line_end_of carriage)
 print_line_end_of true part e = ap (λ (p : List ℕ). p ++ 10 ∷ []) e
 print_line_end_of false part e = ap (λ (p : List ℕ). p ++ 10 ∷ []) e
 
-empty_line : (blank : List LineEnd) (part : List ℕ) (e : LineEnd) → part ++ 10 ∷ [] ≡ print_end e
+pub empty_line : (blank : List LineEnd) (part : List ℕ) (e : LineEnd) → part ++ 10 ∷ [] ≡ print_end e
     → (print_lines blank [] ++ part) ++ 10 ∷ [] ≡ print_lines (blank ++ e ∷ []) [] ++ []
 empty_line blank part e h = simp (append-nil, append_assoc, flat_map-append) (ap (λ (p : List ℕ). print_blank blank ++ p) h)
 
-whole_line : (blank : List LineEnd) (lines : List (List ℕ)) (part : List ℕ)
+pub whole_line : (blank : List LineEnd) (lines : List (List ℕ)) (part : List ℕ)
     → (print_lines blank lines ++ part) ++ 10 ∷ [] ≡ print_lines blank (lines ++ part ∷ []) ++ []
 whole_line blank lines part = simp (append-nil, append_assoc, flat_map-append)
 
@@ -166,11 +164,6 @@ on_ended k Nothing n e = absurd cc
 on_ended k (Ended m) n e = (m, refl, cc)
 on_ended k Many n e = absurd cc
 
-on_many : (k : ℕ) (found : HeadSearch) → on k found ≡ Many → found ≡ Many
-on_many k Nothing e = absurd cc
-on_many k (Ended m) e = absurd cc
-on_many k Many e = refl
-
 on_on : (m n : ℕ) (o : HeadSearch) → on m (on n o) ≡ on (m + n) o
 on_on m n Nothing = refl
 on_on m n (Ended k) = ap (λ (j : ℕ). Ended j) (omega arith)
@@ -227,58 +220,6 @@ found_head (b ∷ text) pre count begun empty carriage n s e = by_byte (found_he
         (subst (λ (x : ℕ). search_head count begun empty carriage (x ∷ text) ≡ Ended n) feed e))
     by_byte later false is =
         found_next b text pre count begun (empty && not carriage && (b == 13)) (b == 13) n later
-        (byte_more count begun empty carriage pre b is s) (sym (search_other count begun empty carriage b text is) ∙ e)
-
--- ---- too many lines
-
-abbrev ManyFrom : List ℕ → Type 0
-ManyFrom text = (pre : List ℕ) (count : ℕ) (begun empty carriage : Bool) → Stands count begun empty carriage pre
-    → search_head count begun empty carriage text ≡ Many → HasLines 66 (pre ++ text)
-
-many_next : (b : ℕ) (text pre : List ℕ) (count : ℕ) (begun empty carriage : Bool) → ManyFrom text
-    → Stands count begun empty carriage (pre ++ b ∷ []) → on 1 (search_head count begun empty carriage text) ≡ Many
-    → HasLines 66 (pre ++ b ∷ text)
-many_next b text pre count begun empty carriage rest s e =
-    subst (HasLines 66) (append_assoc pre (b ∷ []) text) (rest (pre ++ b ∷ []) count begun empty carriage s (on_many 1 _ e))
-
-many_here : (text pre : List ℕ) (count : ℕ) (begun carriage : Bool) → count ≡ 65 → Stands count begun false carriage pre
-    → HasLines 66 (pre ++ 10 ∷ text)
-many_here text pre count begun carriage full s = (
-  s.blank,
-  s.lines ++ s.part ∷ [],
-  text,
-  omega (arith, length-append s.lines (s.part ∷ []), s.count_is, full),
-  all_push IsLine s.lines s.part s.each (record { one = s.one; some = s.kind.0; more = s.kind.1 }),
-  sym (append_assoc pre (10 ∷ []) text)
-      ∙ ap (λ (p : List ℕ). (p ++ 10 ∷ []) ++ text) s.is
-      ∙ ap (λ (p : List ℕ). p ++ text) (whole_line s.blank s.lines s.part ∙ append-nil (print_lines s.blank (s.lines ++ s.part ∷ []))),
-)
-
-many_feed : (text pre : List ℕ) (count : ℕ) (begun empty carriage : Bool) → ManyFrom text
-    → Stands count begun empty carriage pre → search_head count begun empty carriage (10 ∷ text) ≡ Many
-    → HasLines 66 (pre ++ 10 ∷ text)
-many_feed text pre count true true carriage rest s e = absurd cc
-many_feed text pre count false true carriage rest s e =
-    many_next 10 text pre count false true false rest (blank_more count carriage pre s) e
-many_feed text pre count begun false carriage rest s e = by_count (count == 65) refl
-  where
-    by_count : (t : Bool) → (count == 65) ≡ t → HasLines 66 (pre ++ 10 ∷ text)
-    by_count true is = many_here text pre count begun carriage ((Decides-eqb count 65).0 is) s
-    by_count false is = many_next 10 text pre (count + 1) true true false rest (line_more count begun carriage pre s)
-        (sym (search_line count begun carriage text is) ∙ e)
-
-pub found_many : (text : List ℕ) → ManyFrom text
-found_many [] pre count begun empty carriage s e = absurd cc
-found_many (b ∷ text) pre count begun empty carriage s e = by_byte (found_many text) (b == 10) refl
-  where
-    by_byte : ManyFrom text → (t : Bool) → (b == 10) ≡ t → HasLines 66 (pre ++ b ∷ text)
-    by_byte later true is =
-        let feed : b ≡ 10 = (Decides-eqb b 10).0 is in
-        subst (λ (x : ℕ). HasLines 66 (pre ++ x ∷ text)) (sym feed)
-        (many_feed text pre count begun empty carriage later s
-        (subst (λ (x : ℕ). search_head count begun empty carriage (x ∷ text) ≡ Many) feed e))
-    by_byte later false is =
-        many_next b text pre count begun (empty && not carriage && (b == 13)) (b == 13) later
         (byte_more count begun empty carriage pre b is s) (sym (search_other count begun empty carriage b text is) ∙ e)
 
 -- ---- a head is found
@@ -404,28 +345,70 @@ pub front_is : (blank : List LineEnd) (front back : List (List ℕ)) (l : List �
     → print_lines blank (front ++ back) ++ l ≡ print_lines blank front ++ (flat_map print_line back ++ l)
 front_is blank front back l = simp (append_assoc, flat_map-append)
 
+-- so many lines, where there are no fewer
+pub has_lines : (n : ℕ) (blank : List LineEnd) (lines : List (List ℕ)) (rest : List ℕ) → n ≤ length lines → AllByRecursion IsLine lines
+    → HasLines n (print_lines blank lines ++ rest)
+has_lines n blank lines rest le each =
+    let f = lines_front n lines le each in (
+      blank,
+      f.0,
+      flat_map print_line f.1 ++ rest,
+      f.3,
+      f.4,
+      ap (λ (ls : List (List ℕ)). print_lines blank ls ++ rest) f.2 ∙ front_is blank f.0 f.1 rest,
+    )
+
 -- The search finds the end of a head of at most 65 lines, whatever follows.
-pub head_found : (head rest : List ℕ) → IsHead head → (HasLines 66 head → ⊥) → search_head 0 false true false (head ++ rest) ≡ Ended (length head)
-head_found head rest (blank, lines, last, some, each, is) few =
+pub head_found_of : (head rest : List ℕ) (blank : List LineEnd) (lines : List (List ℕ)) (last : LineEnd) → 0 < length lines → length lines ≤ 65
+    → AllByRecursion IsLine lines → head ≡ print_lines blank lines ++ print_end last
+    → search_head 0 false true false (head ++ rest) ≡ Ended (length head)
+head_found_of head rest blank lines last some count each is =
     let b = print_blank blank in
     let f = flat_map print_line lines in
     let l = print_end last in
-    let other : 66 ≤ length lines → ⊥ = λ h.
-    let f = lines_front 66 lines h each in
-    few (
-      blank,
-      f.0,
-      flat_map print_line f.1 ++ l,
-      f.3,
-      f.4,
-      is ∙ ap (λ (ls : List (List ℕ)). print_lines blank ls ++ l) f.2 ∙ front_is blank f.0 f.1 l,
-    ) in
-    let count : length lines ≤ 65 = omega (arith, other) in
     ap (λ (h : List ℕ). search_head 0 false true false (h ++ rest)) is
     ∙ ap (search_head 0 false true false) (three b f l rest)
     ∙ past_blank blank (f ++ (l ++ rest))
     ∙ ap (on (length b)) (some_lines lines (l ++ rest) some count each ∙ ap (on (length f)) (past_last (length lines) last rest))
     ∙ ap (λ (k : ℕ). Ended k) (sym (ap length is ∙ three_long b f l))
+
+pub head_found : (head rest : List ℕ) → IsHead head → (HasLines 66 head → ⊥) → search_head 0 false true false (head ++ rest) ≡ Ended (length head)
+head_found head rest (blank, lines, last, some, each, is) few =
+    let other : 66 ≤ length lines → ⊥ = λ h. few (subst (HasLines 66) (sym is) (has_lines 66 blank lines (print_end last) h each)) in
+    head_found_of head rest blank lines last some (omega (arith, other)) each is
+
+-- a head of at most 65 lines has no 66
+pub head_of_few : (head : List ℕ) (count : ℕ) → IsHeadOfLines (count + 1) head → count ≤ 64 → IsHead head × (HasLines 66 head → ⊥)
+head_of_few head count (blank, lines, last, size, each, is) few =
+    let some : 0 < length lines = omega (arith, size) in (
+      (blank, lines, last, some, each, is),
+      λ many.
+          let found = head_found_of head [] blank lines last some (omega (arith, size, few)) each is in
+          let other = many_found head [] many in
+          absurd cc,
+    )
+
+nothing_in : (part : List ℕ) (count : ℕ) (begun empty carriage : Bool) → HasNoFeed part → search_head count begun empty carriage part ≡ Nothing
+nothing_in [] count begun empty carriage one = refl
+nothing_in (b ∷ part) count begun empty carriage one =
+    let other : (b == 10) ≡ false = false_from_ne_true (b == 10) (λ e. one.0 ((Decides-eqb b 10).0 e)) in
+    search_other count begun empty carriage b part other
+    ∙ ap (on 1) (nothing_in part count begun (empty && not carriage && (b == 13)) (b == 13) one.1)
+
+nothing_behind : (lines : List (List ℕ)) (part : List ℕ) → length lines ≤ 65 → AllByRecursion IsLine lines → HasNoFeed part
+    → search_head 0 false true false (flat_map print_line lines ++ part) ≡ Nothing
+nothing_behind [] part few each one = nothing_in part 0 false true false one
+nothing_behind (line ∷ lines) part few each one =
+    some_lines (line ∷ lines) part (omega arith) few each
+    ∙ ap (on (length (flat_map print_line (line ∷ lines)))) (nothing_in part (length (line ∷ lines)) true true false one)
+
+-- The search finds nothing in lines and a line in progress.
+pub nothing_found : (blank : List LineEnd) (lines : List (List ℕ)) (part : List ℕ) → length lines ≤ 65 → AllByRecursion IsLine lines → HasNoFeed part
+    → search_head 0 false true false (print_lines blank lines ++ part) ≡ Nothing
+nothing_found blank lines part few each one =
+    ap (search_head 0 false true false) (append_assoc (print_blank blank) (flat_map print_line lines) part)
+    ∙ past_blank blank (flat_map print_line lines ++ part)
+    ∙ ap (on (length (print_blank blank))) (nothing_behind lines part few each one)
 
 -- a stream has one such head at its front
 pub head_once : (a b x y : List ℕ) → IsHead a → (HasLines 66 a → ⊥) → IsHead b → (HasLines 66 b → ⊥) → a ++ x ≡ b ++ y → a ≡ b

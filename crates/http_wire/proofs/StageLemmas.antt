@@ -1,21 +1,18 @@
 -- The reading goes on where it stood, with more bytes behind.
-use Rattle.std.proofs.Common.{◌≡◌, ℕ, List, [], ◌++◌, length, take, drop, sym, ◌∙◌, ap, subst, arith, append_assoc, length-append}
+use Rattle.std.proofs.Common.{◌≡◌, ℕ, ◌≤◌, List, [], ◌++◌, length, take, drop, sym, ◌∙◌, ap, subst, arith, append_assoc, length-append}
 use Rattle.std.proofs.lemmas.List.{take-append-le, drop-append-le}
 use Rattle.http_wire.specs.declared.intake.Stage.{Stage}
 use Rattle.http_wire.specs.declared.intake.Stage.TheVariants.{Head, Body}
 use Rattle.http_wire.specs.declared.scan.HeadScan.{HeadScan}
-use Rattle.http_wire.specs.declared.scan.HeadSearch.TheVariants.{Nothing}
 use Rattle.http_wire.specs.HeadRead.{IsServedRead, IsServedWithin}
 use Rattle.http_wire.specs.Requests.{HeadAt}
 use Rattle.http_wire.specs.Scan.{StandsFor}
-use Rattle.http_wire.specs.Stages.{IsStage}
+use Rattle.http_wire.specs.Stages.{IsStage, searched}
 
 pub stage_more : (number : ℕ) (text more : List ℕ) (stage : Stage) → IsStage number text stage → IsStage number (text ++ more) stage
 stage_more number text more (Head scan) s = record {
   within = omega (arith, s.within, length-append text more);
   short = s.short;
-  few = s.few;
-  nothing = s.nothing;
   stands = subst (StandsFor scan) (sym (take-append-le scan.at text more s.within)) s.stands;
 }
 stage_more number text more (Body end head) s =
@@ -36,12 +33,14 @@ stage_more number text more (Body end head) s =
     }
 
 -- a fresh search stands at the front of any bytes
-pub stage_start : (number : ℕ) (text : List ℕ) (scan : HeadScan) → scan.at ≡ 0 → scan.lines ≡ 0 → scan.found ≡ Nothing → StandsFor scan []
-    → IsStage number text (Head scan)
-stage_start number text scan at lines none s = record {
+pub stage_start : (number : ℕ) (text : List ℕ) (scan : HeadScan) → scan.at ≡ 0 → StandsFor scan [] → IsStage number text (Head scan)
+stage_start number text scan at s = record {
   within = omega (arith, at);
   short = omega (arith, at);
-  few = omega (arith, lines);
-  nothing = none;
   stands = subst (λ (k : ℕ). StandsFor scan (take k text)) (sym at) s;
 }
+
+-- what was searched is there
+pub searched_within : (number : ℕ) (text : List ℕ) (stage : Stage) → IsStage number text stage → searched stage ≤ length text
+searched_within number text (Head scan) s = s.within
+searched_within number text (Body end head) s = s.within

@@ -1,7 +1,7 @@
 -- A whole request by the places of its parts.
 use Rattle.std.proofs.Common.{◌≡◌, ℕ, ◌+◌, ◌-◌, ◌≤◌, List, ◌++◌, length, take, drop, Option, Some, None, [], refl, sym, ◌∙◌, ap, subst, arith, option_map, append_assoc}
 use Rattle.std.specs.Prelude.{slice_range, IfSome}
-use Rattle.std.proofs.lemmas.List.{length-take, length-drop, take-take, take-append-drop, drop-drop, drop-take, take_at}
+use Rattle.std.proofs.lemmas.List.{length-take, length-drop, take-take, take-append-drop, drop-drop, drop-take}
 use Rattle.httparse.specs.declared.spans.Span.{Span}
 use Rattle.httparse.specs.Spans.{IsWithin, span_bytes}
 use Rattle.http_wire.specs.declared.head.ServedHead.{ServedHead}
@@ -105,7 +105,7 @@ request_in_front text n r within = λ i. record {
 }
 
 -- The next request, given in the front of a memory.
-pub next_whole : (number filled end : ℕ) (memory bytes : List ℕ) (r : Request) → filled ≤ length memory
+next_whole : (number filled end : ℕ) (memory bytes : List ℕ) (r : Request) → filled ≤ length memory
     → take filled memory ≡ bytes → IsWhole number (take filled memory) r end
     → ArePiecesWithin (length (take end memory)) r
     × IsRequest number bytes (request_text (take end memory) r) (drop end (take filled memory))
@@ -120,12 +120,26 @@ next_whole number filled end memory bytes r within is whole =
           (subst (λ (q : RequestText). IsRequest number (take filled memory) q (drop end (take filled memory))) same whole.is),
     )
 
--- The bytes held, moved to the front of a memory.
-pub start_held : (items new : List ℕ) (len at filled : ℕ) → length new ≡ length items → len ≡ length items
-    → take (filled - at) new ≡ drop at (take filled items)
-    → take (filled - at) (take len (new ++ drop (length new) items)) ≡ drop at (take filled items)
-start_held items new len at filled same all is =
-    ap (take (filled - at)) (take_at new (drop (length new) items) len (same ∙ sym all)) ∙ is
+-- The next request, given in the bytes held in a part of a memory.
+pub next_in_range : (number start filled size : ℕ) (memory bytes : List ℕ) (r : Request) → start ≤ filled → filled ≤ length memory
+    → slice_range memory start filled ≡ bytes → IsWhole number (slice_range memory start filled) r size
+    → ArePiecesWithin (length (slice_range memory start (start + size))) r
+    × IsRequest number bytes (request_text (slice_range memory start (start + size)) r) (slice_range memory (start + size) filled)
+next_in_range number start filled size memory bytes r ordered within is whole =
+    let room = drop start memory in
+    let held = filled - start in
+    let fits : size ≤ held = omega (arith, whole.within, length-take held room) in
+    let found = next_whole number held size room bytes r (omega (arith, length-drop start memory, ordered, within)) is whole in
+    let front : take size room ≡ slice_range memory start (start + size) = ap (λ (n : ℕ). take n room) (omega arith) in
+    let back : drop size (take held room) ≡ slice_range memory (start + size) filled =
+    ap (λ (n : ℕ). drop size (take n room)) (omega (arith, fits))
+    ∙ drop-take size (held - size) room
+    ∙ ap (take (held - size)) (drop-drop size start memory)
+    ∙ ap (λ (n : ℕ). take n (drop (start + size) memory)) (omega (arith, fits, ordered)) in (
+      subst (λ (t : List ℕ). ArePiecesWithin (length t) r) front found.0,
+      subst (λ (t : List ℕ). IsRequest number bytes (request_text t r) (slice_range memory (start + size) filled)) front
+          (subst (λ (l : List ℕ). IsRequest number bytes (request_text (take size room) r) l) back found.1),
+    )
 
 pub nothing_pulled : (told : Option (List ℕ)) → told ≡ with_front [] told
 nothing_pulled None = refl

@@ -27,6 +27,12 @@ IsHead head =
     (blank : List LineEnd) × (lines : List (List ℕ)) × (last : LineEnd)
     × (0 < length lines) × AllByRecursion IsLine lines × (head ≡ print_lines blank lines ++ print_end last)
 
+-- the same, of so many lines that aren't empty
+abbrev pub IsHeadOfLines : ℕ → List ℕ → Type 0
+IsHeadOfLines count head =
+    (blank : List LineEnd) × (lines : List (List ℕ)) × (last : LineEnd)
+    × (length lines ≡ count) × AllByRecursion IsLine lines × (head ≡ print_lines blank lines ++ print_end last)
+
 -- `count` lines that aren't empty, each with its line end, stand before any end of a head
 abbrev pub HasLines : ℕ → List ℕ → Type 0
 HasLines count stream =

@@ -37,6 +37,22 @@ PullsBehind before after old new filled (Got n) =
 PullsBehind before after old new filled SourceEnd = (after ≡ before) × AtEnd before × (take filled new ≡ take filled old)
 PullsBehind before after old new filled Failed = (after ≡ before) × (take filled new ≡ take filled old)
 
+-- where the bytes held end behind a read
+abbrev pub end_behind : ℕ → Pulled → ℕ
+end_behind filled (Got n) = filled + n
+end_behind filled SourceEnd = filled
+end_behind filled Failed = filled
+
+abbrev pub EndsWithin : ℕ → Pulled → ℕ → Type 0
+EndsWithin filled answer room = end_behind filled answer < room
+
+-- What a read does to the bytes held: those that it got stand behind them.
+abbrev pub Draws : Option (List ℕ) → Option (List ℕ) → List ℕ → List ℕ → Pulled → Type 0
+Draws before after held now (Got n) =
+    (pulled : List ℕ) × (0 < length pulled) × (before ≡ with_front pulled after) × (now ≡ held ++ pulled)
+Draws before after held now SourceEnd = (after ≡ before) × AtEnd before × (now ≡ held)
+Draws before after held now Failed = (after ≡ before) × (now ≡ held)
+
 -- The count of faults of a read is as before, unless the read failed.
 abbrev pub Stays : Pulled → ℕ → ℕ → Type 0
 Stays (Got n) before after = after ≡ before

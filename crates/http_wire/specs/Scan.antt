@@ -1,52 +1,56 @@
--- The search for the end of a head, byte by byte.
-use Rattle.std.specs.Prelude.{◌≡◌, ℕ, ◌+◌, Bool, true, false, not, ◌&&◌, ◌||◌, ◌==◌, List, [], ◌∷◌, ◌++◌, length, if◌then◌else◌}
+-- What a search for the end of a head stands for, by the rules on heads: where a head ends, and how many lines it has.
+use Rattle.std.specs.Prelude.{◌≡◌, ◌≢◌, ◌⊎◌, ℕ, ◌+◌, ◌-◌, ◌<◌, ◌≤◌, Bool, true, false, not, ◌&&◌, List, [], ◌∷◌, ◌++◌, length, take, Option, Some, None}
+use Rattle.std.specs.List.{AllByRecursion}
+use Rattle.httparse.specs.Grammar.{LineEnd}
+use Rattle.http_wire.specs.Heads.{HasNoFeed, IsLine, print_lines, IsHeadOfLines}
 use Rattle.http_wire.specs.declared.scan.HeadScan.{HeadScan}
-use Rattle.http_wire.specs.declared.scan.HeadSearch.{HeadSearch}
-use Rattle.http_wire.specs.declared.scan.HeadSearch.TheVariants.{Nothing, Ended, Many}
 
--- so many bytes more
-abbrev pub on : ℕ → HeadSearch → HeadSearch
-on n Nothing = Nothing
-on n (Ended m) = Ended (n + m)
-on n Many = Many
+-- whether the line in progress has no byte, or one CR alone
+abbrev pub IsLineEmpty : Bool → List ℕ → Type 0
+IsLineEmpty true part = (part ≡ []) ⊎ (part ≡ 13 ∷ [])
+IsLineEmpty false part = (part ≢ []) × (part ≢ 13 ∷ [])
 
--- What is found: the head's end after so many bytes, or too many lines. `count`: how many lines that
--- aren't empty have ended. `begun`: one has. `blank`: the line in progress has no byte, or one CR.
--- `carriage`: the last byte was a CR.
-abbrev pub search_head : ℕ → Bool → Bool → Bool → List ℕ → HeadSearch
-search_head count begun blank carriage [] = Nothing
-search_head count begun blank carriage (b ∷ bytes) =
-    if (b == 10) && blank && begun then Ended 1
-    else (if (b == 10) && not blank && (count == 65) then Many
-    else on 1 (search_head
-    (if (b == 10) && not blank then count + 1 else count)
-    (begun || (b == 10 && not blank))
-    (b == 10 || (blank && not carriage && b == 13))
-    (b == 13)
-    bytes))
+-- whether the last byte is a CR
+abbrev pub IsCarriageLast : Bool → List ℕ → Type 0
+IsCarriageLast true bytes = (front : List ℕ) × (bytes ≡ front ++ 13 ∷ [])
+IsCarriageLast false bytes = (front : List ℕ) → bytes ≢ front ++ 13 ∷ []
 
--- The bytes are empty lines. `carriage`: a CR stands before them.
-abbrev pub only_ends : Bool → List ℕ → Bool
-only_ends carriage [] = not carriage
-only_ends carriage (b ∷ bytes) =
-    if b == 10 then only_ends false bytes
-    else (if b == 13 && not carriage then only_ends true bytes else false)
+-- whether the request line has ended, by the lines that have
+abbrev pub HasBegun : Bool → List (List ℕ) → Type 0
+HasBegun true lines = 0 < length lines
+HasBegun false lines = lines ≡ []
 
--- ---- where a search stands
+-- The bytes are empty lines, lines that aren't empty, and a line in progress: no head has ended in them.
+pub record IsOpenWith (scan : HeadScan) (bytes : List ℕ) (blank : List LineEnd) (lines : List (List ℕ)) (part : List ℕ) : Type 0 where
+  pub is : bytes ≡ print_lines blank lines ++ part
+  pub each : AllByRecursion IsLine lines
+  pub one : HasNoFeed part
+  pub begun : HasBegun scan.begun lines
+  pub count : scan.lines ≡ length lines - 1
+  pub empty : IsLineEmpty scan.line_empty part
+  pub carriage : IsCarriageLast scan.carriage bytes
+  pub at : scan.at ≡ length bytes
 
--- what is found with more bytes behind those searched
-abbrev pub found_with : HeadScan → HeadSearch → List ℕ → HeadSearch
-found_with scan Nothing more = on scan.at (search_head scan.lines scan.begun scan.line_empty scan.carriage more)
-found_with scan (Ended n) more = Ended n
-found_with scan Many more = Many
+abbrev pub IsOpen : HeadScan → List ℕ → Type 0
+IsOpen scan bytes = (blank : List LineEnd) × (lines : List (List ℕ)) × (part : List ℕ) × IsOpenWith scan bytes blank lines part
+
+-- The first bytes are a head, and nothing was searched past it.
+pub record IsEnded (scan : HeadScan) (bytes : List ℕ) (end : ℕ) : Type 0 where
+  pub within : end ≤ length bytes
+  pub head : IsHeadOfLines (scan.lines + 1) (take end bytes)
+  pub begun : scan.begun ≡ true
+  pub empty : scan.line_empty ≡ true
+  pub carriage : scan.carriage ≡ false
+  pub at : scan.at ≡ end
+
+abbrev pub StandsWith : HeadScan → List ℕ → Option ℕ → Type 0
+StandsWith scan bytes None = IsOpen scan bytes
+StandsWith scan bytes (Some end) = IsEnded scan bytes end
+
+-- The search stands for these bytes.
+abbrev pub StandsFor : HeadScan → List ℕ → Type 0
+StandsFor scan bytes = StandsWith scan bytes scan.ended
 
 -- all bytes searched are empty lines
 abbrev pub is_blank : HeadScan → Bool
 is_blank scan = scan.line_empty && not scan.begun && not scan.carriage
-
--- A search stands for these bytes: with any bytes behind them it finds what a search from the start does.
-pub record StandsFor (scan : HeadScan) (bytes : List ℕ) : Type 0 where
-  pub search : (more : List ℕ) → search_head 0 false true false (bytes ++ more) ≡ found_with scan scan.found more
-  pub blank : scan.found ≡ Nothing → (more : List ℕ)
-      → only_ends false (bytes ++ more) ≡ (if scan.line_empty && not scan.begun then only_ends scan.carriage more else false)
-  pub at : scan.found ≡ Nothing → scan.at ≡ length bytes

@@ -1,12 +1,9 @@
 -- How far the reading of a request has come.
-use Rattle.std.specs.Prelude.{◌≡◌, ℕ, ◌≤◌, List, length, take, drop, min}
-use Rattle.http_wire.specs.declared.intake.Front.{Front}
-use Rattle.http_wire.specs.declared.intake.Front.TheVariants.{Blank, Open}
+use Rattle.std.specs.Prelude.{◌≡◌, ℕ, ◌≤◌, List, length, take, drop, min, IfNone}
 use Rattle.http_wire.specs.declared.head.ServedHead.{ServedHead}
 use Rattle.http_wire.specs.declared.intake.Stage.{Stage}
 use Rattle.http_wire.specs.declared.intake.Stage.TheVariants.{Head, Body}
 use Rattle.http_wire.specs.declared.scan.HeadScan.{HeadScan}
-use Rattle.http_wire.specs.declared.scan.HeadSearch.TheVariants.{Nothing}
 use Rattle.http_wire.specs.HeadRead.{IsServedRead, IsServedWithin}
 use Rattle.http_wire.specs.Requests.{HeadAt}
 use Rattle.http_wire.specs.Scan.{StandsFor}
@@ -15,9 +12,11 @@ use Rattle.http_wire.specs.Scan.{StandsFor}
 pub record IsSearched (text : List ℕ) (scan : HeadScan) : Type 0 where
   pub within : scan.at ≤ length text
   pub short : scan.at ≤ 16384
-  pub few : scan.lines ≤ 65
-  pub nothing : scan.found ≡ Nothing
   pub stands : StandsFor scan (take scan.at text)
+
+-- the search stands at a head's end, or behind all bytes that a head may have
+abbrev pub IsSearchOver : List ℕ → HeadScan → Type 0
+IsSearchOver text scan = IfNone scan.ended (scan.at ≡ min (length text) 16384)
 
 -- the text begins with a head that says this
 pub record IsHeadSaid (number : ℕ) (text : List ℕ) (end : ℕ) (head : ServedHead) : Type 0 where
@@ -26,12 +25,11 @@ pub record IsHeadSaid (number : ℕ) (text : List ℕ) (end : ℕ) (head : Serve
   pub read : IsServedRead number (take end text) head
   pub places : IsServedWithin (length (take end text)) head
 
--- where there is no head yet, all bytes that one may have are searched, and the search is kept
-abbrev pub IsSearchKept : List ℕ → Front → Stage → Type 0
-IsSearchKept text Blank (Head scan) = scan.at ≡ min (length text) 16384
-IsSearchKept text Open (Head scan) = scan.at ≡ min (length text) 16384
-IsSearchKept text _ _ = Unit {0}
-
 abbrev pub IsStage : ℕ → List ℕ → Stage → Type 0
 IsStage number text (Head scan) = IsSearched text scan
 IsStage number text (Body end head) = IsHeadSaid number text end head
+
+-- how many bytes of the text were searched
+abbrev pub searched : Stage → ℕ
+searched (Head scan) = scan.at
+searched (Body end head) = end

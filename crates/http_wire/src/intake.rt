@@ -1,30 +1,29 @@
 // The wire's memory.
-ghost use Rattle.std.specs.Prelude.{◌≡◌, ◌≤◌, ◌<◌, ◌+◌, ◌-◌, ◌^◌, ℕ, List, [], min, ◌++◌, length, take, drop, option_map, IfSome, IfOk};
+ghost use Rattle.std.specs.Prelude.{◌≡◌, ◌≤◌, ◌<◌, ◌+◌, ◌-◌, ◌^◌, ℕ, List, [], ◌++◌, length, take, drop, slice_range, min, option_map, IfSome, IfOk, None};
 ghost use Rattle.httparse.specs.Spans.{IsWithin, span_bytes};
 ghost use Rattle.rail_io.specs.Faults.{Rose};
 ghost use Rattle.rail_io.specs.Told.{with_front};
-ghost use Rattle.rail_io.specs.declared.source.Pulled.TheVariants.{Failed};
 ghost use Rattle.http_wire.specs.declared.request.Next.TheVariants.{ReadFault};
 ghost use Rattle.http_wire.specs.Pieces.{piece_bytes, IsPieceWithin, IsFront};
-ghost use Rattle.http_wire.specs.Next.{IsNext, PullsBehind, Stays};
+ghost use Rattle.http_wire.specs.Next.{IsNext};
 ghost use Rattle.http_wire.specs.Requests.{HeadAt};
-ghost use Rattle.http_wire.specs.Stages.{IsStage, IsSearchKept};
+ghost use Rattle.http_wire.specs.Stages.{IsStage, IsSearchOver, searched};
 ghost use Rattle.http_wire.specs.declared.intake.Stage.TheVariants.{Head, Body};
 
-use crate::head::{HEAD_ROOM, ServedHead};
+use crate::head::{HEAD_LINES, HEAD_ROOM, ServedHead};
 use crate::request::{Next, Piece, Request, WireFault};
-use crate::scan::{HeadScan, HeadSearch};
+use crate::room::{draw, next_start};
+use crate::scan::HeadScan;
 use crate::served::served_head;
 use httparse::spans::Span;
 use rail_io::{Pulled, Source};
 use std::alloc::{AllocError, Global};
-use std::marker::Model;
+use std::marker::{Brand, Model};
+use std::sync::ledger::{Blank, Ledger};
+use step_count::Steps;
 
 /// A head and a body.
 const ROOM: usize = 278_528;
-
-/// The most that one read asks for: what is read ahead is moved to the front with each request, so it is kept small.
-const READ_ROOM: usize = 16_384;
 
 /// The most requests of a connection.
 const MOST: u32 = 65_536;
@@ -36,24 +35,27 @@ const MOST: u32 = 65_536;
 pub struct Intake {
     memory: Vec<u8>,
     filled: usize,
+    /// Where the last request starts.
+    start: usize,
+    /// Where it ends, and the bytes held unread start.
     at: usize,
     given: u32,
     stage: Stage,
 }
 
 impl Model for Intake {
-    ghost use Rattle.std.specs.Prelude.{take, drop};
+    ghost use Rattle.std.specs.Prelude.{slice_range};
     ghost use Rattle.http_wire.specs.View.{IntakeView, IsIntake};
 
     ghost Value = { IntakeView };
 
     ghost view = { λ a. record {
-      taken = take a.at a.memory.items;
-      unread = drop a.at (take a.filled a.memory.items);
+      taken = slice_range a.memory.items a.start a.at;
+      unread = slice_range a.memory.items a.at a.filled;
       given = a.given;
     } };
 
-    ghost invariant = { λ a. IsIntake a.memory.items a.filled a.at a.given a.stage };
+    ghost invariant = { λ a. IsIntake a.memory.items a.filled a.start a.at a.given a.stage };
 }
 
 /// What stands at the front of some bytes.
@@ -104,15 +106,15 @@ pub struct Examined {
     pub stage: Stage,
 }
 
-/// What stands at the front of the text, which isn't known to be all of the stream.
-fn examine(text: &[u8], number: u32, stage: Stage) -> Examined
+/// What stands at the front of the text, which isn't known to be all of the stream. A step is one byte looked at.
+fn examine<L: Ledger>(text: &[u8], number: u32, stage: Stage, steps: &mut Steps<L>) -> Examined
     requires { IsStage number text.now stage }
     ensures front { IsFront number text.now result.front }
     ensures stage { IsStage number text.now result.stage }
-    ensures kept { IsSearchKept text.now result.front result.stage }
+    ensures steps { steps.new + searched stage ≤ steps.old + searched result.stage }
 {
     match stage {
-        Stage::Head(scan) => search_on(text, number, scan),
+        Stage::Head(scan) => search_on(text, number, scan, steps),
         Stage::Body(end, head) => Examined {
             front: body_after(text, number, end, head),
             stage,
@@ -120,31 +122,51 @@ fn examine(text: &[u8], number: u32, stage: Stage) -> Examined
     }
 }
 
-/// The same, where no end of the head was found yet.
-fn search_on(text: &[u8], number: u32, before: HeadScan) -> Examined
+/// The same, where what the head says isn't known yet.
+fn search_on<L: Ledger>(
+    text: &[u8],
+    number: u32,
+    before: HeadScan,
+    steps: &mut Steps<L>,
+) -> Examined
     requires { IsStage number text.now (Head before) }
     ensures front { IsFront number text.now result.front }
     ensures stage { IsStage number text.now result.stage }
-    ensures kept { IsSearchKept text.now result.front result.stage }
+    ensures steps { steps.new + before.at ≤ steps.old + searched result.stage }
 {
     let room = text.len().min(HEAD_ROOM);
-    let scan = before.feed(&text[before.at..room]);
-    match scan.found {
-        HeadSearch::Ended(end) => after_head(text, number, end, before),
-        HeadSearch::Many => Examined {
+    let scan = before.feed(&text[before.at as usize..room], steps);
+    after_search(text, number, scan)
+}
+
+/// The same, where the search stands behind all bytes that a head may have, or behind the head's end.
+fn after_search(text: &[u8], number: u32, scan: HeadScan) -> Examined
+    requires stage { IsStage number text.now (Head scan) }
+    requires all { IsSearchOver text.now scan }
+    ensures front { IsFront number text.now result.front }
+    ensures stage { IsStage number text.now result.stage }
+    ensures searched { searched result.stage ≡ scan.at }
+{
+    if scan.lines as usize > HEAD_LINES {
+        return Examined {
             front: Front::Fault(WireFault::HeadTooLarge),
-            stage: Stage::Head(before),
-        },
-        HeadSearch::Nothing => Examined {
+            stage: Stage::Head(scan),
+        };
+    }
+    match scan.ended {
+        Some(end) => after_head(text, number, end as usize, scan),
+        None => Examined {
             front: without_head(text, number, scan),
             stage: Stage::Head(scan),
         },
     }
 }
 
-/// The same, where the search went over all of the text, or over all that a head may have.
+/// The same, where no head has ended in the bytes searched.
 fn without_head(text: &[u8], number: u32, scan: HeadScan) -> Front
     requires stage { IsStage number text.now (Head scan) }
+    requires open { scan.ended ≡ None }
+    requires few { scan.lines ≤ 64 }
     requires all { scan.at ≡ min (length text.now) 16384 }
     ensures { IsFront number text.now result }
 {
@@ -159,13 +181,14 @@ fn without_head(text: &[u8], number: u32, scan: HeadScan) -> Front
 }
 
 /// The same, where the head ends.
-fn after_head(text: &[u8], number: u32, end: usize, before: HeadScan) -> Examined
+fn after_head(text: &[u8], number: u32, end: usize, scan: HeadScan) -> Examined
     requires at { HeadAt text.now (take end text.now) (drop end text.now) }
     requires within { end ≤ length text.now }
-    requires stage { IsStage number text.now (Head before) }
+    requires stage { IsStage number text.now (Head scan) }
+    requires searched { scan.at ≡ end }
     ensures front { IsFront number text.now result.front }
     ensures stage { IsStage number text.now result.stage }
-    ensures kept { IsSearchKept text.now result.front result.stage }
+    ensures searched { searched result.stage ≡ end }
 {
     match served_head(&text[..end], number) {
         Ok(head) => Examined {
@@ -174,7 +197,7 @@ fn after_head(text: &[u8], number: u32, end: usize, before: HeadScan) -> Examine
         },
         Err(fault) => Examined {
             front: Front::Fault(fault),
-            stage: Stage::Head(before),
+            stage: Stage::Head(scan),
         },
     }
 }
@@ -201,27 +224,6 @@ fn body_after(text: &[u8], number: u32, end: usize, head: ServedHead) -> Front
     Front::Whole(request, end + length)
 }
 
-/// Moves the bytes from `at` to `filled` to the front.
-fn to_front(memory: &mut [u8], at: usize, filled: usize)
-    requires ordered { at ≤ filled }
-    requires within { filled ≤ length memory.old }
-    ensures { take (filled - at) memory.new ≡ drop at (take filled memory.old) }
-{
-    memory.copy_within(at..filled, 0);
-}
-
-/// Reads some bytes behind those that are there.
-fn pull<S: Source>(memory: &mut [u8], filled: usize, source: &mut S) -> Pulled
-    requires { filled < length memory.old }
-    ensures pulls { PullsBehind (S.told source.old) (S.told source.new) memory.old memory.new filled result }
-    ensures never_falls { S.faults source.old ≤ S.faults source.new }
-    ensures cause { result ≡ Failed → Rose (S.faults source.old) (S.faults source.new) }
-    ensures steady { Stays result (S.faults source.old) (S.faults source.new) }
-{
-    let room = (memory.len() - filled).min(READ_ROOM);
-    source.read(&mut memory[filled..filled + room])
-}
-
 impl Intake {
     /// Takes all the wire's memory. Nothing is held, and no request was given.
     pub fn start(alloc: Global) -> Result<Intake, AllocError>
@@ -234,6 +236,7 @@ impl Intake {
         Ok(Intake {
             memory,
             filled: 0,
+            start: 0,
             at: 0,
             given: 0,
             stage: Stage::Head(HeadScan::start()),
@@ -252,16 +255,58 @@ impl Intake {
         ensures cause { result ≡ ReadFault → Rose (S.faults source.old) (S.faults source.new) }
         ensures steady { (result ≡ ReadFault → ⊥) → S.faults source.new ≡ S.faults source.old }
     {
-        to_front(&mut self.memory, self.at, self.filled);
-        self.filled -= self.at;
-        self.at = 0;
+        self.next_of_ledger::<Brand, S>(source, Blank::new(1))
+    }
+
+    /// The same, with the ledger of steps that no one reads.
+    fn next_of_ledger<L: Ledger, S: Source>(&mut self, source: &mut S, blank: Blank) -> Next
+        requires few { self.old.given < 65536 }
+        requires name { blank.name ≡ L.name }
+        requires parts { blank.parts ≡ L.parts }
+        requires some { 0 < blank.parts }
+        ensures next { (pulled : List ℕ)
+            × (S.told source.old ≡ with_front pulled (S.told source.new))
+            × IsNext (self.old.given + 1) (self.old.unread ++ pulled) self.new (S.told source.new) result }
+        ensures never_falls { S.faults source.old ≤ S.faults source.new }
+        ensures cause { result ≡ ReadFault → Rose (S.faults source.old) (S.faults source.new) }
+        ensures steady { (result ≡ ReadFault → ⊥) → S.faults source.new ≡ S.faults source.old }
+    {
+        let mut steps = Steps::<L>::start(blank);
+        self.next_request_counted(source, &mut steps)
+    }
+
+    /// `next_request`, whose steps are counted: a step is one byte looked at in the search for a head's end. In all
+    /// the calls for one request no byte is looked at twice.
+    pub fn next_request_counted<S: Source, L: Ledger>(
+        &mut self,
+        source: &mut S,
+        steps: &mut Steps<L>,
+    ) -> Next
+        requires few { self.old.given < 65536 }
+        ensures next { (pulled : List ℕ)
+            × (S.told source.old ≡ with_front pulled (S.told source.new))
+            × (steps.new ≤ steps.old + (length self.old.unread + length pulled))
+            × IsNext (self.old.given + 1) (self.old.unread ++ pulled) self.new (S.told source.new) result }
+        ensures never_falls { S.faults source.old ≤ S.faults source.new }
+        ensures cause { result ≡ ReadFault → Rose (S.faults source.old) (S.faults source.new) }
+        ensures steady { (result ≡ ReadFault → ⊥) → S.faults source.new ≡ S.faults source.old }
+    {
+        let start = next_start(self.at, self.filled);
+        self.filled = start + (self.filled - self.at);
+        self.start = start;
+        self.at = start;
         let number = self.given + 1;
         'reads: loop {
-            let examined = examine(&self.memory[..self.filled], number, self.stage);
+            let examined = examine(
+                &self.memory[self.at..self.filled],
+                number,
+                self.stage,
+                steps,
+            );
             self.stage = examined.stage;
             let blank = match examined.front {
-                Front::Whole(request, end) => {
-                    self.at = end;
+                Front::Whole(request, size) => {
+                    self.at += size;
                     self.given = number;
                     self.stage = Stage::Head(HeadScan::start());
                     return Next::Request(request);
@@ -270,8 +315,12 @@ impl Intake {
                 Front::Blank => true,
                 Front::Open => false,
             };
-            match pull(&mut self.memory, self.filled, source) {
-                Pulled::Got(count) => self.filled += count,
+            let drawn = draw(&mut self.memory, self.start, self.filled, source);
+            self.start = drawn.start;
+            self.at = drawn.start;
+            self.filled = drawn.filled;
+            match drawn.answer {
+                Pulled::Got(_) => {}
                 Pulled::End => return if blank { Next::End } else { Next::Cut },
                 Pulled::Failed => return Next::ReadFault,
             }
@@ -283,7 +332,7 @@ impl Intake {
         requires within { IsPieceWithin (length self.now.taken) piece }
         ensures bytes { result.now ≡ piece_bytes self.now.taken piece }
     {
-        let start = piece.start as usize;
+        let start = self.start + piece.start as usize;
         &self.memory[start..start + piece.len as usize]
     }
 }

@@ -14,6 +14,7 @@ mod answer;
 mod head;
 mod intake;
 mod request;
+mod room;
 mod scan;
 mod served;
 
@@ -23,6 +24,7 @@ ghost use Rattle.http_wire.specs.Requests.{RequestText, Rest, Spells};
 pub use answer::{Answer, Body, append, append_number, write_head};
 pub use intake::Intake;
 pub use request::{Next, Piece, Request, WireFault};
+pub use scan::HeadScan;
 
 /// A stream spells one list of requests, and ends in one way: there is no second reading, and none
 /// without any.

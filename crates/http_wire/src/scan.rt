@@ -1,115 +1,131 @@
 // The search for the end of a head, which goes on from where it stood.
-ghost use Rattle.std.specs.Prelude.{◌≡◌, ◌<◌, ◌≤◌, ◌+◌, ◌^◌, ℕ, List, [], ◌∷◌, ◌++◌, true, false, length, not, ◌&&◌, if◌then◌else◌};
-ghost use Rattle.http_wire.specs.declared.scan.HeadSearch.TheVariants.{Nothing};
+ghost use Rattle.std.specs.Prelude.{◌≡◌, ◌<◌, ◌≤◌, ◌+◌, ◌-◌, ◌^◌, ℕ, List, [], ◌∷◌, ◌++◌, length, min, None, not, ◌&&◌, if◌then◌else◌};
 ghost use Rattle.http_wire.specs.Scan.{StandsFor, is_blank};
 
-/// What the search for a head's end has found.
-#[derive(Clone, Copy, Debug, PartialEq, Eq)]
-pub enum HeadSearch {
-    Nothing,
-    /// The head has so many bytes.
-    Ended(usize),
-    /// 66 lines that aren't empty stand before any end of the head.
-    Many,
-}
+use std::sync::ledger::Ledger;
+use step_count::Steps;
 
-/// Where the search for a head's end stands: each byte is looked at once, whatever pieces they come in.
-#[derive(Clone, Copy)]
+/// Where the search for the end of a head (RFC 9112, section 2.1) stands: each byte is looked at once, whatever
+/// pieces the bytes come in. Empty lines before the request line are skipped.
+#[derive(Clone, Copy, Debug, PartialEq, Eq)]
 pub struct HeadScan {
-    /// Nothing is searched past what was found.
-    pub found: HeadSearch,
+    /// The place after the head's end, which is that of the first empty line after a line that isn't empty.
+    /// Nothing is searched past it.
+    pub ended: Option<u32>,
+    /// How many lines after the request line have ended and aren't empty.
+    pub lines: u32,
     /// How many bytes were searched.
-    pub at: usize,
-    /// How many lines that aren't empty have ended, the request line among them.
-    pub lines: usize,
+    pub at: u32,
+    /// Whether the line in progress has no byte, or one carriage return alone.
+    pub line_empty: bool,
+    /// Whether the last byte searched is a carriage return.
+    pub carriage: bool,
     /// Whether the request line has ended.
     pub begun: bool,
-    /// Whether the line in progress has no byte, or a carriage return alone.
-    pub line_empty: bool,
-    /// Whether the last byte was a carriage return.
-    pub carriage: bool,
 }
 
-/// One line more, where it has ended.
-fn count_line(lines: usize, ended: bool) -> usize
-    requires { lines < 2 ^ 32 }
-    ensures { result ≡ (if ended then lines + 1 else lines) }
+/// One line more after the request line, where that has ended before.
+fn count_line(lines: u32, begun: bool) -> u32
+    ensures { result ≡ (if begun then min (lines + 1) (2 ^ 32 - 1) else lines) }
 {
-    if ended { lines + 1 } else { lines }
+    if begun {
+        lines.saturating_add(1)
+    } else {
+        lines
+    }
+}
+
+/// Whether a line is empty after one more byte, which is no line feed: after a carriage return in an empty one.
+fn still_empty(line_empty: bool, carriage: bool, byte_carriage: bool) -> bool
+    ensures { result ≡ (line_empty && not carriage && byte_carriage) }
+{
+    line_empty && !carriage && byte_carriage
 }
 
 impl HeadScan {
     /// The search of no bytes.
-    pub fn start() -> Self
+    pub fn start() -> HeadScan
         ensures stands { StandsFor result [] }
         ensures at { result.at ≡ 0 }
-        ensures lines { result.lines ≡ 0 }
-        ensures nothing { result.found ≡ Nothing }
     {
         HeadScan {
-            found: HeadSearch::Nothing,
-            at: 0,
+            ended: None,
             lines: 0,
-            begun: false,
+            at: 0,
             line_empty: true,
             carriage: false,
+            begun: false,
         }
     }
 
-    fn is_open(&self) -> bool
-        ensures open { result ≡ true → self.now.found ≡ Nothing }
-        ensures found { result ≡ false → self.now.found ≡ Nothing → ⊥ }
-    {
-        matches!(self.found, HeadSearch::Nothing)
-    }
-
-    fn with_byte(self, byte: u8) -> Self
-        requires nothing { self.found ≡ Nothing }
-        requires small { self.at < 2 ^ 32 }
-        requires few { self.lines ≤ 65 }
-        ensures stands { (bytes : List ℕ) → StandsFor self bytes → StandsFor result (bytes ++ byte ∷ []) }
+    /// The search with a line feed behind what was searched.
+    fn with_feed(self) -> HeadScan
+        requires open { self.ended ≡ None }
+        requires small { self.at < 2 ^ 32 - 1 }
+        ensures stands { (bytes : List ℕ) → StandsFor self bytes → StandsFor result (bytes ++ 10 ∷ []) }
         ensures at { result.at ≡ self.at + 1 }
-        ensures few { result.lines ≤ 65 }
     {
         let at = self.at + 1;
-        let feed = byte == b'\n';
-        if feed && self.line_empty && self.begun {
+        if !self.line_empty {
             return HeadScan {
-                found: HeadSearch::Ended(at),
+                lines: count_line(self.lines, self.begun),
                 at,
+                line_empty: true,
+                carriage: false,
+                begun: true,
                 ..self
             };
         }
-        if feed && !self.line_empty && self.lines == 65 {
+        if !self.begun {
             return HeadScan {
-                found: HeadSearch::Many,
                 at,
+                carriage: false,
                 ..self
             };
         }
         HeadScan {
-            found: HeadSearch::Nothing,
+            ended: Some(at),
             at,
-            lines: count_line(self.lines, feed && !self.line_empty),
-            begun: self.begun || (feed && !self.line_empty),
-            line_empty: feed || (self.line_empty && !self.carriage && byte == b'\r'),
-            carriage: byte == b'\r',
+            carriage: false,
+            ..self
         }
     }
 
-    /// The search with the piece behind what was searched.
-    pub fn feed(self, piece: &[u8]) -> Self
+    /// The search with one more byte, which is looked at here alone.
+    fn with_byte<L: Ledger>(self, byte: u8, steps: &mut Steps<L>) -> HeadScan
+        requires open { self.ended ≡ None }
+        requires small { self.at < 2 ^ 32 - 1 }
+        ensures stands { (bytes : List ℕ) → StandsFor self bytes → StandsFor result (bytes ++ byte ∷ []) }
+        ensures at { result.at ≡ self.at + 1 }
+        ensures step { steps.new ≡ steps.old + 1 }
+    {
+        steps.tick();
+        if byte == b'\n' {
+            return self.with_feed();
+        }
+        let carriage = byte == b'\r';
+        HeadScan {
+            at: self.at + 1,
+            line_empty: still_empty(self.line_empty, self.carriage, carriage),
+            carriage,
+            ..self
+        }
+    }
+
+    /// The search with the piece behind what was searched, for every list of bytes that was searched. A step is one
+    /// byte looked at: no byte is looked at twice, and none past the head's end.
+    pub fn feed<L: Ledger>(self, piece: &[u8], steps: &mut Steps<L>) -> HeadScan
         requires small { self.at + length piece.now ≤ 278528 }
-        requires few { self.lines ≤ 65 }
         ensures stands { (bytes : List ℕ) → StandsFor self bytes → StandsFor result (bytes ++ piece.now) }
-        ensures few { result.lines ≤ 65 }
+        ensures steps { steps.new ≤ steps.old + length piece.now }
+        ensures each_once { steps.new + self.at ≡ steps.old + result.at }
     {
         let mut scan = self;
         for byte in piece {
-            if !scan.is_open() {
+            if scan.ended.is_some() {
                 return scan;
             }
-            scan = scan.with_byte(*byte);
+            scan = scan.with_byte(*byte, steps);
         }
         scan
     }

@@ -1,36 +1,34 @@
-use Rattle.std.proofs.Common.{◌≡◌, ◌≤◌, false, length, take, inl, sym, ◌∙◌, ap, arith}
+use Rattle.std.proofs.Common.{◌≡◌, ◌≤◌, length, take, inl, sym, ◌∙◌, subst, arith}
 use Rattle.std.proofs.lemmas.List.{take_all}
-use Rattle.http_wire.specs.Scan.{only_ends}
-use Rattle.http_wire.specs.declared.scan.HeadSearch.TheVariants.{Nothing}
-use Rattle.http_wire.proofs.Fronts.{no_head_at, no_end, no_lines_in, is_blank, not_blank, unfinished_head}
-use Rattle.http_wire.proofs.ScanLemmas.{found_in, blank_in}
+use Rattle.http_wire.specs.Scan.{IsOpen}
+use Rattle.http_wire.proofs.Fronts.{no_head_at, no_end, no_lines_in, unfinished_head}
+use Rattle.http_wire.proofs.ScanLemmas.{open_of, open_search, open_is_blank, open_not_blank}
 use Rattle.http_wire.proofs.intake.without_head.Goals as goal
 
 pub returns-then-text-ge-HEAD_ROOM : goal.returns-then-text-ge-HEAD_ROOM
 returns-then-text-ge-HEAD_ROOM c =
-    let at = c.requires.stage in
-    inl (no_end c.args.text.now c.args.scan.at c.requires.all
-    (found_in c.args.scan (take c.args.scan.at c.args.text.now) Nothing at.nothing at.stands) (omega arith))
+    let scan = c.args.scan in
+    let searched = take scan.at c.args.text.now in
+    let open' = open_of scan searched c.requires.open c.requires.stage.stands in
+    inl (no_end c.args.text.now scan.at c.requires.all (open_search scan searched c.requires.few open') (omega arith))
 
 pub returns-then-is_blank : goal.returns-then-is_blank
 returns-then-is_blank c =
-    let at = c.requires.stage in
+    let scan = c.args.scan in
     let text = c.args.text.now in
-    let all : take c.args.scan.at text ≡ text = take_all c.args.scan.at text (omega (arith, c.requires.all)) in
-    is_blank text
-    (ap (only_ends false) (sym all) ∙ blank_in c.args.scan (take c.args.scan.at text) at.nothing at.stands ∙ sym c.is_blank.ensures ∙ c.if-is_blank.true)
-    (omega arith)
+    let all : take scan.at text ≡ text = take_all scan.at text (omega (arith, c.requires.all)) in
+    let open' : IsOpen scan text = subst (IsOpen scan) all (open_of scan (take scan.at text) c.requires.open c.requires.stage.stands) in
+    open_is_blank scan text open' (sym c.is_blank.ensures ∙ c.if-is_blank.true) (omega arith)
 
 pub returns-else-is_blank : goal.returns-else-is_blank
 returns-else-is_blank c =
-    let at = c.requires.stage in
-    let text = c.args.text.now in
     let scan = c.args.scan in
+    let text = c.args.text.now in
     let past : length text ≤ scan.at = omega (arith, c.requires.all) in
-    let nothing = found_in scan (take scan.at text) Nothing at.nothing at.stands in (
+    let searched = open_of scan (take scan.at text) c.requires.open c.requires.stage.stands in
+    let nothing = open_search scan (take scan.at text) c.requires.few searched in
+    let open' : IsOpen scan text = subst (IsOpen scan) (take_all scan.at text past) searched in (
       unfinished_head text (no_head_at text scan.at c.requires.all nothing) (no_lines_in text scan.at past nothing) (omega arith)
-          (not_blank text
-          (ap (only_ends false) (sym (take_all scan.at text past)) ∙ blank_in scan (take scan.at text) at.nothing at.stands ∙ sym c.is_blank.ensures
-          ∙ c.if-is_blank.false)),
+          (open_not_blank scan text open' (sym c.is_blank.ensures ∙ c.if-is_blank.false)),
       omega arith,
     )

@@ -1,23 +1,4 @@
-use Rattle.std.proofs.Common.{◌≡◌, ℕ, ◌+◌, ◌-◌, ◌≤◌, List, ◌++◌, length, take}
-use Rattle.rail_io.specs.Told.{with_front}
-use Rattle.http_wire.specs.Stages.{IsStage}
 use Rattle.http_wire.proofs.intake.Intake.next_request.Given as goal
 
--- what is held is what was held, and what was pulled since
-abbrev pub invariant-reads : goal.invariant-reads
-invariant-reads g l = record {
-  pulled : List ℕ;
-  told : g.S.Source.told l.fn.source ≡ with_front pulled (g.S.Source.told l.source);
-  held : take l.self-inside.filled l.self-inside.memory.items ≡ l.fn.self.unread ++ pulled;
-  front : l.self-inside.at ≡ 0;
-  within : l.self-inside.filled ≤ 278528;
-  room : length l.self-inside.memory.items ≡ 278528;
-  number : l.number ≡ l.fn.self.given + 1;
-  stage : IsStage l.number (take l.self-inside.filled l.self-inside.memory.items) l.self-inside.stage;
-  given : l.self-inside.given ≡ l.fn.self.given;
-  faults : g.S.Source.faults l.fn.source ≤ g.S.Source.faults l.source;
-  steady : g.S.Source.faults l.source ≤ g.S.Source.faults l.fn.source;
-}
-
-abbrev pub decreases-reads : goal.decreases-reads
-decreases-reads g l = 278528 - l.self-inside.filled
+abbrev pub ghosts-next_of_ledger : goal.ghosts-next_of_ledger
+ghosts-next_of_ledger g a = record { name = a.blank.name; parts = a.blank.parts }

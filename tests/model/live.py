@@ -1,0 +1,209 @@
+"""Compares `serve` with the plain model over TCP: connections of several retailers, one after the other, on one worker.
+
+  tests/model/live.py PROGRAM [--seeds N] [--from N]
+
+What one retailer sold is there for the next one, who tries the same ids. The second at which a request is answered isn't known
+beforehand: the model is asked at each one from before the request went out until its answer was there, and has to give the
+answer at one of them. A connection sends its next request only then.
+"""
+import argparse
+import collections
+import copy
+import os
+import random
+import socket
+import subprocess
+import sys
+import tempfile
+import time
+
+import random_requests
+import service
+import wire
+from bookings import Books
+from catalogue import Catalogue, read_catalogue
+from random_catalogues import catalogue_bytes, random_catalogue
+from random_requests import ACTIONS, Stream
+
+# No booking comes to its limit while a run lasts, so that the sweeps of the host change nothing.
+LEAST_CONFIRM_SECONDS = 900
+LIMIT_SECONDS = 60
+
+
+class Difference(Exception):
+    """The host answered what the model doesn't."""
+
+
+class SystemClock:
+    """The system's clock, in whole seconds. No request moves it on."""
+    tick = 0
+
+    @property
+    def next_moment(self) -> int:
+        return int(time.time())
+
+    def now(self) -> int:
+        return self.next_moment
+
+
+class Connection:
+    """The bytes of one connection."""
+
+    def __init__(self, port: int):
+        self.socket = connect(port)
+        self.held = b""
+
+    def send(self, data: bytes):
+        self.socket.sendall(data)
+
+    def read_answer(self) -> bytes:
+        """The next answer: its head, and as many bytes as the head says."""
+        end = self.read_to(lambda: self.held.find(b"\r\n\r\n") + 4 if b"\r\n\r\n" in self.held else None)
+        lines = self.held[:end].split(b"\r\n")
+        length = next(int(line.split(b": ")[1]) for line in lines if line.startswith(b"Content-Length: "))
+        end = self.read_to(lambda: end + length if len(self.held) >= end + length else None)
+        answer, self.held = self.held[:end], self.held[end:]
+        return answer
+
+    def read_to(self, find_end) -> int:
+        while (end := find_end()) is None:
+            data = self.socket.recv(1 << 16)
+            if not data:
+                raise Difference("the connection ended after %r" % self.held)
+            self.held += data
+        return end
+
+    def close(self, ended: bool):
+        """Where the host has to have ended it, nothing more comes."""
+        if ended and (self.held or self.socket.recv(1)):
+            raise Difference("something came behind the last answer")
+        self.socket.close()
+
+
+def connect(port: int) -> socket.socket:
+    """A connection, as soon as the host listens."""
+    end = time.monotonic() + LIMIT_SECONDS
+    while True:
+        try:
+            return socket.create_connection(("127.0.0.1", port), timeout=LIMIT_SECONDS)
+        except ConnectionRefusedError:
+            if time.monotonic() > end:
+                raise
+            time.sleep(0.02)
+
+
+class LiveStream(Stream):
+    """Requests of one retailer, each answered by the host and by the model at once."""
+
+    def __init__(self, rng: random.Random, catalogue: Catalogue, connection: Connection, before: Stream = None):
+        super().__init__(rng, catalogue, 0, 0)
+        self.clock = SystemClock()
+        self.connection = connection
+        self.statuses = collections.Counter()
+        if before is not None:
+            self.host.books = before.host.books
+            self.offers, self.refunds, self.exchanges = before.offers, before.refunds, before.exchanges
+
+    def send(self, method: str, path: str, body: bytes = b"", key: str = None):
+        piece = random_requests.request_bytes(self.rng, method, path, body, self.key if key is None else key)
+        (request,), rest = wire.read_requests(piece)
+        first = self.clock.now()
+        self.connection.send(piece)
+        answer = self.connection.read_answer()
+        self.follow(request, answer, range(first, self.clock.now() + 1))
+        self.closed = rest is not wire.Rest.END
+        (status, reply), = wire.split_answers(answer)
+        self.statuses[status] += 1
+        self.learn(reply)
+
+    def follow(self, request: wire.Request, answer: bytes, seconds: range):
+        """Takes the model to where it gives this answer."""
+        books, retailer, wanted = self.host.books, self.host.retailer, b""
+        for second in seconds:
+            self.host.books, self.host.retailer = books_like(books), retailer
+            wanted = self.host.answer(request, second)
+            if wanted == answer:
+                return
+        raise Difference("%r\nhost  %r\nmodel %r" % (request, answer, wanted))
+
+
+def books_like(books: Books) -> Books:
+    alike = Books(books.catalogue)
+    alike.bookings = copy.deepcopy(books.bookings)
+    alike.kept_row = books.kept_row
+    return alike
+
+
+def sellable_catalogue(rng: random.Random) -> bytes:
+    catalogue = random_catalogue(rng, int(time.time()), 0)
+    if catalogue.get("confirmSeconds", LEAST_CONFIRM_SECONDS) < LEAST_CONFIRM_SECONDS:
+        catalogue["confirmSeconds"] = LEAST_CONFIRM_SECONDS
+    return catalogue_bytes(rng, catalogue)
+
+
+def sell(rng: random.Random, catalogue: Catalogue, port: int, connections: int) -> collections.Counter:
+    """So many connections, each with a few requests. How often each status was answered."""
+    statuses, stream = collections.Counter(), None
+    for _ in range(connections):
+        stream = LiveStream(rng, catalogue, Connection(port), stream)
+        for _ in range(rng.choice([5, 15, 30])):
+            if not stream.closed:
+                rng.choices([action for action, _ in ACTIONS], [weight for _, weight in ACTIONS])[0](stream)
+        stream.connection.close(stream.closed)
+        statuses += stream.statuses
+    return statuses
+
+
+def free_port() -> int:
+    """A port that is free, and below those that the system gives to connections: one that waits for the host could else meet itself."""
+    for port in random.sample(range(20_000, 32_000), 1_000):
+        with socket.socket() as probe:
+            try:
+                probe.bind(("127.0.0.1", port))
+                return port
+            except OSError:
+                continue
+    raise OSError("no port is free")
+
+
+def run(program: str, seed: int) -> collections.Counter:
+    """One host from its start to its end."""
+    rng = random.Random(seed)
+    data = sellable_catalogue(rng)
+    connections, port = rng.randint(2, 8), free_port()
+    with tempfile.NamedTemporaryFile(suffix=".json") as file:
+        file.write(data)
+        file.flush()
+        words = ["serve", file.name, "--port", str(port), "--workers", "1", "--connections", str(connections), "--sweep", "1"]
+        host = subprocess.Popen([program] + words, stdout=subprocess.PIPE, stderr=subprocess.PIPE)
+        try:
+            statuses = sell(rng, read_catalogue(data), port, connections)
+            output, notes = host.communicate(timeout=LIMIT_SECONDS)
+        finally:
+            host.kill()
+            host.communicate()
+    if (output, notes, host.returncode) != (b"", b"", 0):
+        raise Difference("it ended with status %r, %r and %r" % (host.returncode, output, notes))
+    return statuses
+
+
+def main() -> int:
+    parser = argparse.ArgumentParser(description=__doc__, formatter_class=argparse.RawDescriptionHelpFormatter)
+    parser.add_argument("program")
+    parser.add_argument("--seeds", type=int, default=20)
+    parser.add_argument("--from", dest="first", type=int, default=0)
+    given = parser.parse_args()
+    statuses = collections.Counter()
+    for seed in range(given.first, given.first + given.seeds):
+        try:
+            statuses += run(os.path.abspath(given.program), seed)
+        except (Difference, OSError, subprocess.TimeoutExpired) as difference:
+            print("seed %d: %s" % (seed, difference))
+            return 1
+    print("  " + ", ".join("%d %d" % entry for entry in sorted(statuses.items())))
+    print("%d hosts with %d answers compared, 0 differ" % (given.seeds, sum(statuses.values())))
+    return 0
+
+
+if __name__ == "__main__":
+    sys.exit(main())

@@ -1,0 +1,117 @@
+#!/usr/bin/env python3
+"""Runs the commands of "As a service" in docs/operators.md in a booted Debian 12, and then kills the host, refuses it a catalogue and its port.
+
+  tests/people/booted.py PROGRAM [--root FOLDER]
+
+It needs root, `debootstrap`, `systemd-nspawn` (`apt-get install debootstrap systemd-container`) and a mirror of Debian, and takes some minutes
+the first time; with --root it keeps the system and begins with it the next time. So it is not a part of the gate.
+"""
+import argparse
+import datetime
+import os
+import pathlib
+import re
+import shutil
+import subprocess
+import sys
+import tempfile
+import time
+
+ROOT = pathlib.Path(__file__).resolve().parents[2]
+PACKAGES = "systemd,systemd-sysv,dbus,curl,iproute2,procps,python3-minimal"
+PATH = "PATH=/usr/local/sbin:/usr/local/bin:/usr/sbin:/usr/bin:/sbin:/bin"
+AGAIN = "cp /tmp/country.json /etc/sumacgate/catalogue.json; chmod 600 /etc/sumacgate/catalogue.json"
+WAIT = "for try in $(seq 60); do systemctl is-active -q sumacgate && break; sleep 1; done"
+# After the page's own commands: what is done, what the last lines of the output have to be.
+STEPS = [
+    ("the file stays root's", "stat -c '%a %U' /etc/sumacgate/catalogue.json", "600 root"),
+    ("the host has no rights", "grep -E '^(CapEff|NoNewPrivs|Seccomp):' /proc/$(systemctl show -P MainPID sumacgate)/status | tr -s '\\t\\n' ' '", "CapEff: 0000000000000000 NoNewPrivs: 1 Seccomp: 2 "),
+    ("a kill", "systemctl kill -s KILL sumacgate; sleep 3; " + WAIT + "; systemctl is-active sumacgate; systemctl show -P NRestarts sumacgate", "active\n1"),
+    ("a refused catalogue", "echo '{' > /etc/sumacgate/catalogue.json; systemctl restart sumacgate; sleep 4; systemctl is-active sumacgate; journalctl -u sumacgate -o cat --no-pager | grep -q 'catalogue fault 1' && echo told", "failed\ntold"),
+    (
+        "a taken port",
+        AGAIN + "; systemctl reset-failed sumacgate; (python3 -c 'import socket, time; s = socket.create_server((\"127.0.0.1\", 8080)); time.sleep(25)' &); sleep 1; systemctl start sumacgate; sleep 15; "
+        "systemctl is-active sumacgate; sleep 12; " + WAIT + "; sleep 3; systemctl is-active sumacgate; journalctl -u sumacgate -o cat --no-pager | grep -q 'read fault' && echo tried",
+        "activating\nactive\ntried",
+    ),
+]
+
+
+def page_commands():
+    section = re.search(r"^## As a service\n(.*?)^## ", (ROOT / "docs" / "operators.md").read_text(), re.MULTILINE | re.DOTALL).group(1)
+    marked = re.findall(r"^```sh\n(.*?)^```$", section, re.MULTILINE | re.DOTALL)
+    indented = [line[4:] for line in section.splitlines() if line.startswith("    ")]
+    return "\n".join(marked + indented)
+
+
+class Booted:
+    def __init__(self, root):
+        words = ["systemd-nspawn", "-b", "-D", str(root), "--register=no", "--keep-unit", "--private-network"]
+        self.machine = subprocess.Popen(words, stdin=subprocess.DEVNULL, stdout=subprocess.DEVNULL, stderr=subprocess.DEVNULL, start_new_session=True)
+        self.init = None
+        for _ in range(60):
+            children = pathlib.Path("/proc/%d/task/%d/children" % (self.machine.pid, self.machine.pid)).read_text().split()
+            if children:
+                self.init = children[0]
+                if self.run("systemctl is-system-running")[1].strip() in ("running", "degraded"):
+                    return
+            time.sleep(1)
+        raise SystemExit("booted: it doesn't come up")
+
+    def run(self, script):
+        words = ["nsenter", "-t", self.init, "-m", "-u", "-i", "-n", "-p", "-r", "-w", "env", "-i", PATH, "bash", "-c", script]
+        done = subprocess.run(words, stdin=subprocess.DEVNULL, capture_output=True, text=True, timeout=300)
+        return done.returncode, done.stdout, done.stderr
+
+    def close(self):
+        self.run("systemctl poweroff")
+        self.machine.wait(timeout=60)
+
+
+def provided(root, program):
+    """A Debian with the repository's part and the catalogue where the page's commands look for them."""
+    if not (root / "usr").is_dir():
+        subprocess.run(["debootstrap", "--variant=minbase", "--include=" + PACKAGES, "bookworm", str(root)], check=True, stdout=subprocess.DEVNULL)
+    work = root / "work"
+    shutil.rmtree(work, ignore_errors=True)
+    (work / "crates" / "rail_host" / "out").mkdir(parents=True)
+    shutil.copytree(ROOT / "examples", work / "examples")
+    shutil.copytree(ROOT / "docs", work / "docs")
+    shutil.copy(program, work / "crates" / "rail_host" / "out" / "rail_host")
+    day = (datetime.date.today() + datetime.timedelta(days=2)).isoformat()
+    (work / "country.json").write_bytes(subprocess.run([sys.executable, str(ROOT / "examples" / "country.py"), "--day", day], check=True, capture_output=True).stdout)
+    for left in [root / "etc" / "sumacgate", root / "etc/systemd/system/sumacgate.service", root / "etc/systemd/system/multi-user.target.wants/sumacgate.service"]:
+        shutil.rmtree(left) if left.is_dir() else left.unlink(missing_ok=True)
+
+
+def main():
+    words = argparse.ArgumentParser(description=__doc__, formatter_class=argparse.RawDescriptionHelpFormatter)
+    words.add_argument("program", type=pathlib.Path)
+    words.add_argument("--root", type=pathlib.Path)
+    given = words.parse_args()
+    if os.getuid() != 0 or not shutil.which("debootstrap") or not shutil.which("systemd-nspawn"):
+        words.error("it needs root, debootstrap and systemd-nspawn")
+    root = given.root or pathlib.Path(tempfile.mkdtemp())
+    provided(root, given.program)
+    system, wrong = Booted(root), 0
+    try:
+        status, said, faults = system.run("set -eu; cp /work/country.json /tmp/; cd /work\n" + page_commands())
+        print(said)
+        for wanted in ["the unit is in order", "Overall exposure level", "\nactive\n", '{"expired":0,"lost":0,"waiting":0}']:
+            if wanted not in said:
+                wrong += 1
+                print("booted: status %d, and no %r in the page's output: %s" % (status, wanted, faults))
+        for what, script, wanted in STEPS:
+            _, said, faults = system.run(script)
+            if not said.rstrip("\n").endswith(wanted):
+                wrong += 1
+                print("booted: %s: %r, %s" % (what, said, faults))
+    finally:
+        system.close()
+        if not given.root:
+            shutil.rmtree(root)
+    print("booted: the page's commands and %d steps more: %d wrong" % (len(STEPS), wrong))
+    return 1 if wrong else 0
+
+
+sys.exit(main())

@@ -1,0 +1,195 @@
+#!/usr/bin/env python3
+"""Runs every command of docs/retailers.md as it stands, by a clock that is set, and once over `serve`; and the commands of other pages.
+
+  tests/people/pages.py PROGRAM                 docs/retailers.md, docs/catalogue.md, examples/README.md
+  tests/people/pages.py PROGRAM --operators     docs/operators.md, which needs nginx
+  tests/people/pages.py PROGRAM --trial         docs/retailers.md over the host without proofs that it shows, which takes some minutes
+
+The commands are those of the page's blocks marked `sh`, together one script of bash that stops at the first one that fails. Only the port, the
+folder /tmp and the program's path are others. By a set clock, `serve` is played by a `replay` whose clock the test sets (bridge.py), and
+`date` says that clock. What the page says that comes of it is looked for in the output.
+"""
+import os
+import pathlib
+import re
+import shlex
+import shutil
+import signal
+import socket
+import subprocess
+import sys
+import tempfile
+
+from bridge import Bridge
+
+ROOT = pathlib.Path(__file__).resolve().parents[2]
+BUILT = "crates/rail_host/out/rail_host"
+TODAY, TOMORROW = "2026-06-09", "2026-06-10"
+CLOCKS = ["00:30:00", "12:00:00", "23:30:00"]
+# What has to stand in the output of docs/retailers.md, in this order; `.*` may be anything.
+LIFE = [
+    r"ask for refund .* 201 ",
+    r"refund .* 200 +REFUNDED",
+    r"exchange .* 201 +CONFIRMED",
+    r"release .* 200 +RELEASED",
+    r'\{"offers":\[\{"id":"O',
+    r'"settled":false,"status":"PREBOOKED"',
+    r'"settled":false,"status":"CONFIRMED"',
+    r'"settled":true,"status":"RELEASED"',
+    r'\{"difference":.*"id":"X',
+    r'\{"booking":.*"status":"CONFIRMED".*"replaced":"B',
+    r'"settled":true,"status":"EXCHANGED","successor":"B',
+    r'"settled":false,"status":"FULFILLED"',
+    r'\{"amount":.*"id":"R',
+    r'"settled":true,"status":"REFUNDED"',
+    r'"status":"REFUNDED"',
+    r'\{"places":\[\{"class":"FIRST","coach":1,"free":',
+]
+# Pages whose commands end with the status beside them.
+PLAIN_PAGES = [("examples/README.md", 6), ("docs/catalogue.md", 0)]
+OPERATORS = "docs/operators.md"
+# From here on a page's commands want a system that runs systemd: tests/people/booted.
+ENDS = {OPERATORS: "## As a service"}
+# What has to stand in the output of docs/operators.md, in this order.
+OPERATION = [
+    r"the host takes this catalogue: 1 runs, 92 places",
+    r"the catalogue is taken",
+    r'\{"expired":0,"lost":0,"waiting":0\}',
+    r'\{"places":\[',
+    r"status 0",
+    r"[0-9a-f]{64}  ",
+    r"north 404\nsouth 404\neast 401\nnorth 404\nsouth 404\n",
+    r"pool=unkept .*\n.*pool=retailer_1 .*\n.*pool=retailer_2 ",
+]
+
+
+def commands_of(page):
+    text = (ROOT / page).read_text().split(ENDS.get(page, "\0"))[0]
+    return "\n".join(re.findall(r"^```sh\n(.*?)^```$", text, re.MULTILINE | re.DOTALL))
+
+
+def free_port():
+    with socket.create_server(("127.0.0.1", 0)) as free:
+        return free.getsockname()[1]
+
+
+def executable(path, text):
+    path.write_text(text)
+    path.chmod(0o755)
+    return path
+
+
+def with_trial(commands):
+    """The commands of docs/retailers.md with the host that `rt try` starts in the place of the proved one."""
+    trial = re.search(r"^    (\(cd crates/rail_host && rt try .*\) &)$", (ROOT / "docs" / "retailers.md").read_text(), re.MULTILINE).group(1)
+    proved = re.search(r"^%s serve .* &$" % re.escape(BUILT), commands, re.MULTILINE).group(0)
+    return commands.replace(proved, trial)
+
+
+def run_page(page, program, folder, path=None, change=lambda commands: commands):
+    """The output of the page's commands, and their status."""
+    folder = pathlib.Path(folder)
+    ports = {port: str(free_port()) for port in ["8080", "8081", "8443"]}
+    text = change(commands_of(page)).replace("/tmp/", str(folder) + "/").replace(BUILT, shlex.quote(str(program)))
+    # The examples with the same other ports, beside what else a page's commands look at.
+    tree = folder / "tree"
+    shutil.copytree(ROOT / "examples", tree / "examples")
+    for name in ("bench", "crates"):
+        (tree / name).symlink_to(ROOT / name)
+    proxy = tree / "examples" / "nginx.conf"
+    settings = proxy.read_text()
+    for port, other in ports.items():
+        text, settings = text.replace(port, other), settings.replace(port, other)
+    proxy.write_text(settings)
+    # The workers of an nginx that root has started are another user's, and have to reach the page.
+    folder.chmod(0o755)
+    env = dict(os.environ, PATH="%s:%s" % (path, os.environ["PATH"]) if path else os.environ["PATH"])
+    # A group of its own, so that nothing that a failing page has started is left.
+    done = subprocess.Popen(["bash", "-c", "set -eu\n" + text], cwd=tree, env=env, stdout=subprocess.PIPE, stderr=subprocess.STDOUT, text=True, start_new_session=True)
+    try:
+        said, _ = done.communicate(timeout=900)
+        return said, done.returncode
+    finally:
+        try:
+            os.killpg(done.pid, signal.SIGKILL)
+        except ProcessLookupError:
+            pass
+
+
+def faults_of_life(said, status):
+    if status not in (0, 128 + signal.SIGTERM):
+        yield "status %d\n%s" % (status, said[-1500:])
+    if '"code":"' in said:
+        yield "a refusal: %s" % re.search(r'\{"code":.*', said).group(0)
+    yield from missing(LIFE, said)
+
+
+def missing(wished, said):
+    at = 0
+    for wanted in wished:
+        found = re.compile(wanted).search(said, at)
+        if not found:
+            yield "%s doesn't come, or not in its turn" % wanted
+            break
+        at = found.end()
+
+
+def clocked(program, folder, clock):
+    """A program whose `serve` has the clock, and a `date` that says it."""
+    host = "#!/bin/sh\nexec %s %s --clock %s %sT%sZ \"$@\"\n" % (sys.executable, pathlib.Path(__file__).resolve(), shlex.quote(str(program)), TODAY, clock)
+    date = '#!/bin/sh\n[ "$*" = "-u -d tomorrow +%%F" ] && echo %s\n' % TOMORROW
+    bin_folder = folder / "bin"
+    bin_folder.mkdir()
+    executable(bin_folder / "date", date)
+    return executable(folder / "host", host), bin_folder
+
+
+def play_clock(words):
+    """`serve CATALOGUE --port N` by a clock that is set: what the program of `clocked` does."""
+    program, start, command, catalogue, _, port = words
+    assert command == "serve"
+    bridge = Bridge(program, catalogue, start, port=int(port))
+    signal.signal(signal.SIGTERM, lambda *_: os._exit(0))
+    signal.pause()
+    bridge.close()
+
+
+def faults_of_retailers(program):
+    for clock in CLOCKS:
+        with tempfile.TemporaryDirectory() as name:
+            host, path = clocked(program, pathlib.Path(name), clock)
+            yield from ["docs/retailers.md at %s: %s" % (clock, fault) for fault in faults_of_life(*run_page("docs/retailers.md", host, name, path))]
+    with tempfile.TemporaryDirectory() as name:
+        yield from ["docs/retailers.md over serve: %s" % fault for fault in faults_of_life(*run_page("docs/retailers.md", program, name))]
+
+
+def faults_of_page(program, page, wanted, wished):
+    with tempfile.TemporaryDirectory() as name:
+        said, status = run_page(page, program, name)
+    if status != wanted:
+        yield "%s: status %d\n%s" % (page, status, said[-1500:])
+    yield from ["%s: %s" % (page, fault) for fault in missing(wished, said)]
+
+
+def main():
+    if sys.argv[1] == "--clock":
+        return play_clock(sys.argv[2:])
+    program = pathlib.Path(sys.argv[1]).resolve()
+    if sys.argv[2:] == ["--trial"]:
+        tried = "docs/retailers.md without proofs"
+        with tempfile.TemporaryDirectory() as name:
+            said, status = run_page("docs/retailers.md", program, name, change=with_trial)
+        found = list(faults_of_life(said, status)) + list(missing([r"run=fault proved=no"], said))
+    elif sys.argv[2:] == ["--operators"]:
+        tried, found = OPERATORS, list(faults_of_page(program, OPERATORS, 0, OPERATION))
+    else:
+        tried, found = "docs/retailers.md at %d clocks and over serve, and %d pages more" % (len(CLOCKS), len(PLAIN_PAGES)), list(faults_of_retailers(program))
+        for page, wanted in PLAIN_PAGES:
+            found += faults_of_page(program, page, wanted, [])
+    for fault in found:
+        print("pages: " + fault)
+    print("pages: %s: %d wrong" % (tried, len(found)))
+    return 1 if found else 0
+
+
+sys.exit(main())
