@@ -9,7 +9,7 @@ ghost use Rattle.rail_host.specs.Commands.{IsNoCommand};
 use crate::host::run_plain;
 use crate::serve::serve_port;
 use host_drill::run_drill;
-use host_words::{CommandName, command_of};
+use host_words::{CommandName, is_for};
 use rail_io::{Shelf, Sink, Source};
 use std::alloc::Global;
 use std::net::{Net, TcpListener, TcpStream};
@@ -46,9 +46,11 @@ pub fn run_command<
     ensures ended { (end : CommandEnd) × (result ≡ status_of end)
         × IsNoted (E.told notes.old) (E.told notes.new) (E.faults notes.old) (E.faults notes.new) (note_of end) }
 {
-    match command_of(words) {
-        Some(CommandName::Serve) => serve_port(rt, alloc, words, shelf, notes),
-        Some(CommandName::Drill) => run_drill(rt, alloc, words, output, notes).status,
-        _ => run_plain(alloc, words, shelf, input, output, notes),
+    if is_for(words, CommandName::Serve) {
+        serve_port(rt, alloc, words, shelf, notes)
+    } else if is_for(words, CommandName::Drill) {
+        run_drill(rt, alloc, words, output, notes).status
+    } else {
+        run_plain(alloc, words, shelf, input, output, notes)
     }
 }
