@@ -3,11 +3,13 @@
 
   bench/replay.py [--requests N] [--program PATH]
 
-The program is the built one: `rt run` in crates/rail_host builds it. Each mix is one input of N requests (50,000). In the same run another program, in
-Python, only reads the same input and writes the same output bytes, and does nothing else; its figures stand beside.
+The program is the built one: `rt run` in crates/rail_host builds it. Each mix is one input of N requests (50,000). Beside it, in the same
+run, stand the peer (peer.rs, a plain host that gives the same bytes, built by rustc), and a program in Python that only reads the same input
+and writes the same output. What a program takes without requests is taken off its time.
 """
 import argparse
 import datetime
+import filecmp
 import pathlib
 import subprocess
 import sys
@@ -15,6 +17,7 @@ import tempfile
 
 from common import ROOT
 
+HERE = pathlib.Path(__file__).resolve().parent
 PROGRAM = ROOT / "crates" / "rail_host" / "out" / "rail_host"
 START = datetime.datetime(2026, 6, 1, 6)
 PIECE = 1 << 16
@@ -28,6 +31,9 @@ while sys.stdin.buffer.read(%d):
 while piece := answers.read(%d):
     sys.stdout.buffer.write(piece)
 """ % (PIECE, PIECE)
+
+
+TITLES = ("mix", "us a request", "the peer's", "ratio", "read and written alone", "MB", "without requests", "the peer's MB", "in MB", "out MB")
 
 
 def moment(seconds):
@@ -103,6 +109,52 @@ def measured(words, folder, source, sink):
     return float(user) + float(system), int(memory) * 1024
 
 
+def built_peer(folder):
+    peer = folder / "peer"
+    try:
+        subprocess.run(["rustc", "-O", "--edition", "2021", "-o", str(peer), str(HERE / "peer.rs")], check=True)
+    except FileNotFoundError:
+        sys.exit("the peer is built by rustc, which isn't there")
+    return str(peer)
+
+
+def of_requests(words, folder, sink):
+    """A program's seconds for the requests alone, and its memory with and without them."""
+    without, room = measured(words, folder, "/dev/null", sink)
+    seconds, memory = measured(words, folder, folder / "input", sink)
+    return seconds - without, memory, room
+
+
+def mix_row(program, peer, folder, label, number):
+    ours, theirs, copy = folder / "output", folder / "peers", folder / "copy"
+    seconds, memory, room = of_requests([program, "replay", "catalogue.json", "--start", moment(0)], folder, ours)
+    plain, plain_memory, _ = of_requests([peer, "replay", "catalogue.json", moment(0)], folder, theirs)
+    alone, _ = measured([sys.executable, str(folder / "baseline.py"), str(ours)], folder, folder / "input", copy)
+    if not filecmp.cmp(ours, theirs, shallow=False):
+        sys.exit("%s: the two programs' answers differ" % label)
+    each = 1e6 / number
+    return (
+        label,
+        "%.1f" % (seconds * each),
+        "%.1f" % (plain * each),
+        "%.1f" % (seconds / max(plain, 0.001)),
+        "%.1f" % (alone * each),
+        memory // 1_000_000,
+        room // 1_000_000,
+        plain_memory // 1_000_000,
+        (folder / "input").stat().st_size // 1_000_000,
+        ours.stat().st_size // 1_000_000,
+    )
+
+
+def shown(titles, rows):
+    """A table, printed once all rows are there."""
+    rows = [tuple(map(str, row)) for row in [titles] + rows]
+    widths = [max(len(row[n]) for row in rows) for n in range(len(titles))]
+    for row in rows:
+        print("  ".join(text.ljust(width) if n == 0 else text.rjust(width) for n, (text, width) in enumerate(zip(row, widths))))
+
+
 def main():
     words = argparse.ArgumentParser(description=__doc__, formatter_class=argparse.RawDescriptionHelpFormatter)
     words.add_argument("--requests", type=int, default=50_000)
@@ -110,40 +162,17 @@ def main():
     given = words.parse_args()
     if not pathlib.Path(given.program).is_file():
         sys.exit("%s is not built: rt run in crates/rail_host builds it" % given.program)
-    program = str(pathlib.Path(given.program).resolve())
+    program, rows = str(pathlib.Path(given.program).resolve()), []
     with tempfile.TemporaryDirectory() as name:
         folder = pathlib.Path(name)
-        baseline = folder / "baseline.py"
-        baseline.write_text(BASELINE)
+        (folder / "baseline.py").write_text(BASELINE)
+        peer = built_peer(folder)
         for label, text, mix in MIXES:
             (folder / "catalogue.json").write_text(text)
-            source, sink, copy = folder / "input", folder / "output", folder / "copy"
-            with open(source, "w", newline="") as file:
+            with open(folder / "input", "w", newline="") as file:
                 file.writelines(mix(given.requests))
-            alone, room = measured([program, "replay", "catalogue.json"], folder, "/dev/null", sink)
-            start = ["--start", moment(0)]
-            seconds, memory = measured([program, "replay", "catalogue.json"] + start, folder, source, sink)
-            plain, least = measured([sys.executable, str(baseline), str(sink)], folder, source, copy)
-            with open(sink, "rb") as answers:
-                good = answers.read(10) == b"HTTP/1.1 2"
-            print(
-                "%-20s %8.1f us a request, %.0f times as much as read and written alone, %d MB (without requests %.2f s, %d MB); %d MB in, %d MB out; alone %.1f us, %d MB%s"
-                % (
-                    label,
-                    (seconds - alone) * 1e6 / given.requests,
-                    (seconds - alone) / max(plain, 0.001),
-                    memory // 1_000_000,
-                    alone,
-                    room // 1_000_000,
-                    source.stat().st_size // 1_000_000,
-                    sink.stat().st_size // 1_000_000,
-                    plain * 1e6 / given.requests,
-                    least // 1_000_000,
-                    "" if good else "; the first answer is no success",
-                )
-            )
-            copy.unlink()
-            sink.unlink()
+            rows.append(mix_row(program, peer, folder, label, given.requests))
+    shown(TITLES, rows)
 
 
 if __name__ == "__main__":

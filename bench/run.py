@@ -1,5 +1,5 @@
 #!/usr/bin/env python3
-"""All figures of the built program in one go: `replay` and `serve` beside their baselines, and the memory of rows and places.
+"""All figures of the built program in one go: `replay` and `serve` beside the peer and their baselines, and the memory of rows and places.
 
   bench/run.py [--program PATH] [--requests N] [--seconds N]
 

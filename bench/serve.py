@@ -1,11 +1,11 @@
 #!/usr/bin/env python3
-"""Loads `serve` over 1, 2 and 4 connections, beside a server that answers a fixed text on the same sockets.
+"""Loads `serve` over 1, 2 and 4 connections, beside the peer and beside a server that answers a fixed text, on the same sockets.
 
   bench/serve.py [--program PATH] [--requests N] [--seconds N]
 
 Each connection sends its requests one after another, each after the answer of the one before: N of them (20,000), for at most so many seconds
-(10). There is a worker for each connection. load.c sends and measures, for both servers alike; fixed.c answers every request with the first
-answer that the host gave in that mix, so as many bytes over the same sockets.
+(10). There is a worker for each connection. load.c sends and measures, for all servers alike. The peer (peer.rs) is a plain host of the same
+job; fixed.c answers every request with the first answer that the host gave in that mix, so as many bytes over the same sockets.
 """
 import argparse
 import os
@@ -16,7 +16,7 @@ import sys
 import tempfile
 import time
 
-from replay import PROGRAM, catalogue, lists, offers, reservation
+from replay import PROGRAM, built_peer, catalogue, lists, offers, reservation, shown
 
 HERE = pathlib.Path(__file__).resolve().parent
 
@@ -40,7 +40,7 @@ MIXES = [
 MOST_ROWS = 262_144
 # The host ends at a tick of its sweeping member, so this is how long its end may take; one sweep in so many seconds is part of the load.
 SWEEP_SECONDS = 3
-TITLES = ("mix", "connections", "answers/s", "by fixed text", "p50 us", "p90", "p99", "greatest", "fixed p50", "refused", "memory MB")
+TITLES = ("mix", "connections", "answers/s", "by the peer", "by fixed text", "p50 us", "p90", "p99", "greatest", "peer p50", "fixed p50", "refused", "memory MB")
 
 
 def built(folder, name):
@@ -100,14 +100,7 @@ def first_answer(program, folder, given):
     return subprocess.run(words, input=given.encode(), capture_output=True).stdout
 
 
-def shown(rows):
-    rows = [tuple(map(str, row)) for row in [TITLES] + rows]
-    widths = [max(len(row[n]) for row in rows) for n in range(len(TITLES))]
-    for row in rows:
-        print("  ".join(text.ljust(width) if n == 0 else text.rjust(width) for n, (text, width) in enumerate(zip(row, widths))))
-
-
-def measure(program, folder, load, fixed, number, seconds):
+def measure(program, peer, folder, load, fixed, number, seconds):
     for label, text, mix in MIXES:
         rows = min(MOST_ROWS, 4 * number)
         (folder / "catalogue.json").write_text(text.replace('"rows":65536', '"rows":%d' % rows))
@@ -123,15 +116,20 @@ def measure(program, folder, load, fixed, number, seconds):
             ours = [program, "serve", str(folder / "catalogue.json"), "--port", str(port), "--workers", str(connections)]
             told, memory = loaded(ours + ["--connections", str(connections), "--sweep", str(SWEEP_SECONDS)], port, load, seconds, files)
             port = free_port()
-            plain, _ = loaded([fixed, str(port), str(connections), str(connections), str(folder / "answer")], port, load, seconds, files)
-            rate, base = told[0] / told[2], plain[0] / plain[2]
+            theirs = [peer, "serve", str(folder / "catalogue.json"), str(port), str(connections), str(connections)]
+            plain, _ = loaded(theirs, port, load, seconds, files)
+            port = free_port()
+            text_alone, _ = loaded([fixed, str(port), str(connections), str(connections), str(folder / "answer")], port, load, seconds, files)
+            rate = told[0] / told[2]
             yield (
                 label,
                 connections,
                 "%.0f" % rate,
-                "%.2f" % (rate / base),
+                "%.2f" % (rate * plain[2] / plain[0]),
+                "%.2f" % (rate * text_alone[2] / text_alone[0]),
                 *("%.0f" % told[n] for n in range(3, 7)),
                 "%.0f" % plain[3],
+                "%.0f" % text_alone[3],
                 "%.0f" % told[1],
                 memory // 1_000_000,
             )
@@ -152,8 +150,8 @@ def main():
         sys.exit("%s is not built: rt run in crates/rail_host builds it" % given.program)
     with tempfile.TemporaryDirectory() as name:
         folder = pathlib.Path(name)
-        load, fixed = built(folder, "load"), built(folder, "fixed")
-        shown(list(measure(given.program, folder, load, fixed, given.requests, given.seconds)))
+        load, fixed, peer = built(folder, "load"), built(folder, "fixed"), built_peer(folder)
+        shown(TITLES, list(measure(given.program, peer, folder, load, fixed, given.requests, given.seconds)))
 
 
 if __name__ == "__main__":
