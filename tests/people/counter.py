@@ -155,9 +155,8 @@ def walk(proxy, browser, picture):
     browser.until("!!(%s)" % button("Pay back", "by('B000001')"))
     browser.click(button("Pay back", "by('B000001')"))
     browser.until("by('B000001').innerText.includes('REFUNDED')")
-    browser.until(cells("mine") + " === 0", 20)
-    if browser.value(cells("sold")) != 8 * 5:
-        yield "what the other retailer sold isn't there any more"
+    # What was sold here is free again, and what the other retailer sold stands.
+    browser.until(cells("mine") + " === 0 && " + cells("sold") + " === 8 * 5", 20)
     # Refusals are told.
     browser.write("origin", "NOWHERE")
     browser.click("by('find')")

@@ -21,11 +21,16 @@ use Rattle.refund_core.specs.declared.releasing.Released.TheVariants as released
 use Rattle.refund_core.specs.Releasing.{Releases}
 use Rattle.osdm_texts.specs.declared.problem.Problem.TheVariants.{UnknownBooking, TooLate, WrongState, NoMemory}
 use Rattle.booking_service.specs.Finding.{FindsBooking}
-use Rattle.osdm_answers.specs.Replies.{Reply, booking, problem}
+use Rattle.osdm_texts.specs.Answers.{Reply, booking, problem, Told, reply_told}
+use Rattle.rail_catalogue.specs.Contents.{CatalogueView}
 
 -- which steps and replies a call may have, from what a desk has seen to what it has then seen
 abbrev pub Replying : Type 1
 Replying = DeskView → DeskView → Reply → Type 0
+
+-- a command has such a reply, and this is told of it
+abbrev pub Answered : CatalogueView → Replying → DeskView → DeskView → Told → Type 0
+Answered cat Does old new said = (reply : Reply) × Does old new reply × (said ≡ reply_told cat reply)
 
 -- A look for the booking. None is answered as unknown; with one, this is done, or there is no memory and nothing more is done.
 abbrev pub OnBooking : ℕ → ℕ → ℕ → (RowSeen → Replying) → Replying

@@ -10,7 +10,7 @@ use rail_ids::{RetailerNo, RowNo};
 
 /// This retailer's booking on the row, as one look shows it. `None` where the row is past the last, or has no sealed booking, or another
 /// retailer's.
-pub(crate) fn find_booking(
+pub fn find_booking(
     books: &Books,
     desk: &mut Desk,
     row: RowNo,

@@ -7,7 +7,8 @@
 
 mod deciding;
 mod finding;
-#[cfg(test)]
-mod tests;
 
-pub use deciding::{confirm_booking, fulfil_booking, release_booking, show_booking};
+pub use deciding::{
+    booking_answer, confirm_booking, fulfil_booking, release_booking, show_booking,
+};
+pub use finding::find_booking;

@@ -7,7 +7,8 @@ use Rattle.rail_catalogue.specs.Contents.{CatalogueView}
 use Rattle.osdm_texts.specs.declared.problem.Problem.{Problem}
 use Rattle.osdm_texts.specs.declared.problem.Problem.TheVariants.{BadHead}
 use Rattle.osdm_texts.specs.Problems.{problem_line}
-use Rattle.osdm_answers.specs.Replies.{Reply, offer_list, created, booking, refund_offer, exchange_offer, exchanged, place_list, swept, problem, status_of, is_problem, tree_of, reply_bytes}
+use Rattle.osdm_texts.specs.Answers.{Reply, offer_list, created, booking, refund_offer, exchange_offer, exchanged, place_list, swept, problem, status_of, is_problem, tree_of}
+use Rattle.rail_service.specs.Bytes.{reply_bytes}
 use Rattle.drill_totals.specs.Totals.{one_if, times, refused_line, no_memory_line, busy_line}
 use Rattle.drill_totals.proofs.LineSearch.{StartsWith, has}
 use Rattle.host_drill.specs.Worked.{AnswersEach, replies_with}

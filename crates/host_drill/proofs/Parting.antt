@@ -30,7 +30,7 @@ use Rattle.hold_core.specs.Tries.{Try, IsTry, IsOutcome, looks_at}
 use Rattle.hold_core.specs.Places.{Adds, IsAdding, items_won, tried, tries_steps, gives_back}
 use Rattle.osdm_texts.specs.declared.problem.Problem.{Problem}
 use Rattle.osdm_texts.specs.declared.problem.Problem.TheVariants as problems
-use Rattle.osdm_answers.specs.Replies.{Reply, problem, status_of}
+use Rattle.osdm_texts.specs.Answers.{Reply, problem, status_of}
 use Rattle.reservation_service.specs.declared.holding.Placing.{Placing}
 use Rattle.reservation_service.specs.declared.holding.Placing.TheVariants.{Whole, Short, Contended, NoMemory}
 use Rattle.reservation_service.specs.Holding.{In, FindsNoRow, candidates_in, PlacesAll, Stops, problem_of}

@@ -10,7 +10,7 @@ use Rattle.history_model.specs.History.{entry, own}
 use Rattle.claim_rule.specs.Rule.{DeskView}
 use Rattle.rail_catalogue.specs.Contents.{CatalogueView}
 use Rattle.osdm_texts.specs.declared.problem.Problem.TheVariants.{NoMemory}
-use Rattle.osdm_answers.specs.Replies.{Reply, problem, status_of}
+use Rattle.osdm_texts.specs.Answers.{Reply, problem, status_of}
 use Rattle.drill_totals.specs.Generator.{drill_leg}
 use Rattle.drill_totals.specs.Totals.{one_if}
 use Rattle.drill_totals.specs.Parts.{Outcome, AreParts, HasWork, is_turned_away, is_busy, outcomes_in}

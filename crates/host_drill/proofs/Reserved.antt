@@ -16,7 +16,7 @@ use Rattle.rail_catalogue.specs.Contents.{CatalogueView}
 use Rattle.osdm_texts.specs.declared.problem.Problem.{Problem}
 use Rattle.osdm_texts.specs.declared.problem.Problem.TheVariants.{NoMemory}
 use Rattle.osdm_texts.specs.declared.field.FieldName.TheVariants.{Run, From, To}
-use Rattle.osdm_answers.specs.Replies.{Reply, problem}
+use Rattle.osdm_texts.specs.Answers.{Reply, problem}
 use Rattle.osdm_json.specs.declared.route.Route.{Route}
 use Rattle.osdm_json.specs.declared.route.Route.TheVariants as route
 use Rattle.osdm_json.specs.declared.command.Command.{Command}

@@ -6,7 +6,7 @@ use Rattle.history_model.specs.declared.entry.Step.TheVariants.{Met}
 use Rattle.history_model.specs.History.{IsLegal, own, state_of}
 use Rattle.claim_rule.specs.Rule.{DeskView}
 use Rattle.rail_catalogue.specs.Contents.{CatalogueView}
-use Rattle.osdm_answers.specs.Replies.{Reply}
+use Rattle.osdm_texts.specs.Answers.{Reply}
 use Rattle.host_words.specs.declared.drill.DrillWords.{DrillWords}
 use Rattle.drill_totals.specs.Meeting.{AreAll, IsOneOf}
 use Rattle.drill_totals.specs.Parts.{Outcome, AllWork, IsWholeCount, all_outcomes_in, is_busy, is_turned_away, outcomes_in}

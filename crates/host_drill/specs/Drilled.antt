@@ -21,7 +21,7 @@ use Rattle.drill_totals.specs.Doubles.{doubled_of}
 use Rattle.drill_totals.specs.Meeting.{OfWorker, IsOneOf, AreAnswered, IsFirst}
 use Rattle.host_drill.specs.declared.connection.Connection.{Connection}
 use Rattle.drill_totals.specs.declared.line.Totals.{Totals}
-use Rattle.osdm_answers.specs.Replies.{Reply}
+use Rattle.osdm_texts.specs.Answers.{Reply}
 use Rattle.host_drill.specs.Connections.{IsConnection, layout_of}
 use Rattle.host_drill.specs.Worked.{IsWorked, all_replies_with}
 

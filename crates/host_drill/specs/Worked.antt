@@ -8,7 +8,8 @@ use Rattle.claim_rule.specs.Seats.{Shape}
 use Rattle.claim_rule.specs.Out.{IsIdle}
 use Rattle.rail_catalogue.specs.Contents.{CatalogueView}
 use Rattle.osdm_texts.specs.declared.problem.Problem.TheVariants.{NoMemory}
-use Rattle.osdm_answers.specs.Replies.{Reply, problem, status_of, reply_bytes}
+use Rattle.osdm_texts.specs.Answers.{Reply, problem, status_of}
+use Rattle.rail_service.specs.Bytes.{reply_bytes}
 use Rattle.reservation_service.specs.Reserving.{reserved, Reserves}
 use Rattle.service_rules.specs.Performing.{DoesNothing}
 use Rattle.drill_totals.specs.Generator.{drill_leg}

@@ -14,8 +14,6 @@ mod reader;
 mod route;
 mod spellings;
 mod stretches;
-#[cfg(test)]
-mod tests;
 
 pub use command::Command;
 pub use fault::BodyFault;

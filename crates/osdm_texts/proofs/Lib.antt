@@ -3,3 +3,4 @@ pub mod SmallLemmas
 pub mod Chains
 pub mod Ascii
 pub mod BookingTokens
+pub mod Telling

@@ -14,3 +14,4 @@ pub mod Places
 pub mod Replies
 pub mod Appends
 pub mod EndTokens
+pub mod Answers

@@ -19,8 +19,10 @@ mod small;
 mod spots;
 #[cfg(test)]
 mod tests;
+mod written;
 
 pub use field::FieldName;
 pub use problem::Problem;
 pub use reply::{Reply, reply_text};
 pub use small::{small_text, swept_text};
+pub use written::{Success, Text, Written, write_reply, write_swept};

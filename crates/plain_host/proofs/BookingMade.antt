@@ -25,7 +25,7 @@ use Rattle.booking_rows.specs.SealedRows.{FitWords}
 use Rattle.hold_core.specs.Places.{gives_back}
 use Rattle.osdm_texts.specs.declared.problem.Problem.{Problem}
 use Rattle.osdm_texts.specs.declared.problem.Problem.TheVariants as problem
-use Rattle.osdm_answers.specs.Replies.{Reply, problem}
+use Rattle.osdm_texts.specs.Answers.{Reply, problem}
 use Rattle.lone_desk.specs.Lone.{IsAlone}
 use Rattle.lone_desk.proofs.Following.{shape_follows}
 use Rattle.reservation_service.specs.declared.holding.Placing.{Placing}

@@ -14,7 +14,7 @@ use Rattle.booking_rows.proofs.ViewLemmas.{row_all_looks}
 use Rattle.rail_ids.specs.declared.RowNo.{RowNo}
 use Rattle.rail_catalogue.specs.Contents.{CatalogueView}
 use Rattle.osdm_texts.specs.declared.problem.Problem.TheVariants.{NoMemory}
-use Rattle.osdm_answers.specs.Replies.{Reply, problem}
+use Rattle.osdm_texts.specs.Answers.{Reply, problem}
 use Rattle.osdm_json.specs.declared.command.Command.TheVariants as command
 use Rattle.booking_service.specs.Finding.{FindsBooking}
 use Rattle.booking_service.specs.Deciding.{Replying, OnBooking, shows, confirm_reply, ConfirmsIt, fulfil_reply, FulfilsIt, release_reply, ReleasesIt}

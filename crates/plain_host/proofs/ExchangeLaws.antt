@@ -17,7 +17,7 @@ use Rattle.exchange_core.specs.Exchanges.{difference_at}
 use Rattle.exchange_core.specs.declared.readying.Readied.TheVariants as readied
 use Rattle.osdm_texts.specs.declared.problem.Problem.{Problem}
 use Rattle.osdm_texts.specs.declared.problem.Problem.TheVariants.{UnknownOffer, WrongState, QuoteWrong, NoMemory}
-use Rattle.osdm_answers.specs.Replies.{Reply, problem}
+use Rattle.osdm_texts.specs.Answers.{Reply, problem}
 use Rattle.osdm_json.specs.declared.command.Command.TheVariants as command
 use Rattle.osdm_json.specs.Readable.{IsReadable}
 use Rattle.trade_service.specs.Exchanges.{ExchangesIt}

@@ -26,7 +26,7 @@ use Rattle.offer_codes.specs.Exchanges.{ExchangeView}
 use Rattle.refund_core.specs.Quotes.{phase_named}
 use Rattle.exchange_core.specs.Ready.{ReadyView}
 use Rattle.exchange_core.specs.Accepting.{exchange_end, exchange_steps}
-use Rattle.osdm_answers.specs.Replies.{Reply}
+use Rattle.osdm_texts.specs.Answers.{Reply}
 use Rattle.booking_service.specs.Deciding.{at_end}
 use Rattle.reservation_service.specs.declared.holding.Placing.TheVariants.{Whole}
 use Rattle.reservation_service.specs.Reserving.{detail_of, made_view}

@@ -28,7 +28,7 @@ use Rattle.offer_engine.specs.declared.wish.OfferWish.{OfferWish}
 use Rattle.offer_engine.specs.Offers.{raised}
 use Rattle.osdm_texts.specs.declared.problem.Problem.{Problem}
 use Rattle.osdm_texts.specs.declared.problem.Problem.TheVariants.{UnknownOffer, NoMemory}
-use Rattle.osdm_answers.specs.Replies.{Reply, offer_list, place_list, problem}
+use Rattle.osdm_texts.specs.Answers.{Reply, offer_list, place_list, problem}
 use Rattle.osdm_json.specs.declared.command.Command.TheVariants as command
 use Rattle.osdm_json.specs.Readable.{IsWithinRun, IsReadable}
 use Rattle.reservation_service.specs.Holding.{candidates_in}

@@ -1,5 +1,5 @@
 -- What the looks of a quote show at a desk that is alone.
-use Rattle.std.proofs.Common.{◌≡◌, ℕ, true, Option, Some, None, List, sym, ap, ◌∙◌, subst}
+use Rattle.std.proofs.Common.{◌≡◌, inl, inr, ℕ, true, Option, Some, None, List, sym, ap, ◌∙◌, subst}
 use Rattle.history_model.specs.declared.entry.Step.{Step}
 use Rattle.history_model.specs.Phase.{is_sealed}
 use Rattle.history_model.specs.Booking.{Booking, Layout, State, present, word_at}
@@ -16,8 +16,8 @@ use Rattle.booking_rows.proofs.ViewLemmas.{row_all_looks}
 use Rattle.rail_catalogue.specs.Contents.{CatalogueView}
 use Rattle.refund_core.specs.Quotes.{SeesOwn, SeesNone}
 use Rattle.osdm_texts.specs.declared.problem.Problem.TheVariants.{UnknownBooking}
-use Rattle.osdm_answers.specs.Replies.{Reply, problem}
-use Rattle.trade_service.proofs.Calm.{found_so}
+use Rattle.osdm_texts.specs.Answers.{Reply, problem}
+use Rattle.booking_service.specs.Finding.{FindsBooking}
 use Rattle.lone_desk.specs.Lone.{entries_of, after_steps}
 use Rattle.lone_desk.proofs.Following.{shape_follows}
 use Rattle.plain_host.specs.Plain.{Outcome, outcome, own_view}
@@ -87,10 +87,17 @@ seen_by cat row retailer v does r old new reply lone has is told = (
 )
 
 -- none was seen, and there is none
+-- a look that shows no booking of the retailer's, as the look for a booking has it
+none_found : (rows row retailer : ℕ) (es : List Step) → SeesNone rows row retailer es → FindsBooking rows row retailer None es
+none_found rows row retailer es (inl is) = inl is
+none_found rows row retailer es (inr (here, shown, inl (not_so, is))) = inr (here, inl (shown, not_so, is))
+none_found rows row retailer es (inr (here, shown, inr (sealed, who, ne, (v, seen, phase, mine, is)))) =
+    inr (here, inr (v, (λ same. ne (sym mine ∙ same)), (seen, is)))
+
 pub unseen_by : (cat : CatalogueView) (row retailer : ℕ) (does : RowSeen → Outcome) (old new : DeskView) (reply : Reply) → IsLone cat old → ShapeBy (SeesNone cat.rows row retailer) old new
     → reply ≡ problem UnknownBooking → IsBy (on_own (plain_of old) row retailer does) new reply × IsLone cat new
 unseen_by cat row retailer does old new reply lone did told =
-    let none = unknown_comes cat row retailer old new lone (found_so cat.rows row retailer None old new did) in (
+    let none = unknown_comes cat row retailer old new lone (did.0, none_found cat.rows row retailer did.0 did.1, did.2) in (
       subst (λ (o : Option RowSeen). IsBy (on_view does (plain_of old) o) new reply) (sym none.0) (told, ap plain_in none.1),
       still_lone cat old new lone none.2 (subst IsSettled (sym none.1) lone.settled),
     )

@@ -15,7 +15,7 @@ use Rattle.expiry_sweeper.specs.declared.sweeps.Swept.{Swept}
 use Rattle.expiry_sweeper.specs.AllRows.{sweeps_steps}
 use Rattle.rail_catalogue.specs.Contents.{CatalogueView}
 use Rattle.osdm_texts.specs.declared.problem.Problem.{Problem}
-use Rattle.osdm_answers.specs.Replies.{Reply, swept, problem}
+use Rattle.osdm_texts.specs.Answers.{Reply, swept, problem}
 use Rattle.osdm_json.specs.declared.command.Command.{Command}
 use Rattle.osdm_json.specs.declared.command.Command.TheVariants as command
 use Rattle.search_service.specs.Searching.{SweepsRows}

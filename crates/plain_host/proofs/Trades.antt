@@ -40,7 +40,7 @@ use Rattle.exchange_core.specs.Exchanges.{difference_at}
 use Rattle.exchange_core.specs.declared.quoting.QuotedExchange.TheVariants as offered
 use Rattle.osdm_texts.specs.declared.problem.Problem.{Problem}
 use Rattle.osdm_texts.specs.declared.problem.Problem.TheVariants.{UnknownBooking, UnknownOffer, OfferTooOld, WrongState, QuoteWrong, NoMemory}
-use Rattle.osdm_answers.specs.Replies.{Reply, booking, refund_offer, exchange_offer, problem}
+use Rattle.osdm_texts.specs.Answers.{Reply, booking, refund_offer, exchange_offer, problem}
 use Rattle.osdm_json.specs.declared.command.Command.TheVariants as command
 use Rattle.booking_service.specs.Deciding.{OnBooking, at_end}
 use Rattle.trade_service.specs.Refunds.{QuotesIt, RefundsIt, refund_reply}

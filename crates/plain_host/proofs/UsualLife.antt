@@ -14,7 +14,7 @@ use Rattle.offer_codes.specs.declared.code.Segment.{Segment}
 use Rattle.offer_codes.specs.Offers.{OfferView}
 use Rattle.rail_catalogue.specs.Contents.{CatalogueView}
 use Rattle.osdm_texts.specs.declared.problem.Problem.TheVariants.{NoPlace, RowsFull, TooLate, WrongState, UnknownBooking}
-use Rattle.osdm_answers.specs.Replies.{created, booking, place_list, swept, problem}
+use Rattle.osdm_texts.specs.Answers.{created, booking, place_list, swept, problem}
 use Rattle.osdm_json.specs.declared.command.Command.TheVariants as command
 use Rattle.plain_host.specs.Plain.{Plain, Outcome}
 use Rattle.plain_host.specs.Outcomes.{booked, outcome_of}

@@ -21,7 +21,7 @@ use Rattle.osdm_texts.specs.declared.problem.Problem.{Problem}
 use Rattle.refund_core.specs.Quotes.{phase_named, refund_at}
 use Rattle.exchange_core.specs.Exchanges.{difference_at}
 use Rattle.osdm_texts.specs.declared.problem.Problem.TheVariants.{UnknownBooking, UnknownOffer, RowsFull, NoPlace, TooLate, WrongState, QuoteWrong}
-use Rattle.osdm_answers.specs.Replies.{offer_list, created, booking, refund_offer, exchange_offer, exchanged, place_list, swept, problem}
+use Rattle.osdm_texts.specs.Answers.{offer_list, created, booking, refund_offer, exchange_offer, exchanged, place_list, swept, problem}
 use Rattle.osdm_json.specs.declared.command.Command.{Command}
 use Rattle.osdm_json.specs.declared.command.Command.TheVariants as command
 use Rattle.booking_service.specs.Deciding.{in_phase, at_end}

@@ -8,7 +8,7 @@ use Rattle.booking_rows.specs.Views.{RowSeen}
 use Rattle.offer_codes.specs.declared.code.Segment.{Segment}
 use Rattle.offer_codes.specs.Offers.{OfferView}
 use Rattle.rail_catalogue.specs.Contents.{CatalogueView}
-use Rattle.osdm_answers.specs.Replies.{Reply}
+use Rattle.osdm_texts.specs.Answers.{Reply}
 use Rattle.reservation_service.specs.Holding.{count_of, candidates_in}
 
 -- a booking in its row

@@ -5,7 +5,7 @@ use Rattle.claim_rule.specs.Rule.{DeskView, state_seen}
 use Rattle.booking_rows.specs.SealedRows.{FitWords}
 use Rattle.rail_catalogue.specs.Contents.{CatalogueView, legs_in}
 use Rattle.osdm_texts.specs.declared.problem.Problem.TheVariants.{NoMemory}
-use Rattle.osdm_answers.specs.Replies.{Reply, problem}
+use Rattle.osdm_texts.specs.Answers.{Reply, problem}
 use Rattle.osdm_json.specs.declared.command.Command.{Command}
 use Rattle.osdm_json.specs.declared.command.Command.TheVariants as command
 use Rattle.service_rules.specs.Answering.{Answers}

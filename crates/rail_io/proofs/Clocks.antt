@@ -1,5 +1,5 @@
 -- How readings move up.
-use Rattle.std.proofs.Common.{◌≡◌, ◌<◌, ℕ, zero, suc, ◌+◌, ◌*◌, min, List, [], ◌∷◌, drop, length, ap, ◌∙◌, arith}
+use Rattle.std.proofs.Common.{◌≡◌, ◌<◌, ℕ, zero, suc, ◌+◌, min, List, [], ◌∷◌, drop, length, ap, ◌∙◌, arith}
 use Rattle.rail_time.specs.Moments.{last_second}
 use Rattle.rail_io.specs.Clocks.{script_reading, listed_reading}
 

@@ -1,9 +1,11 @@
 -- What a source has left and what a sink has taken, where the object tells it.
-use Rattle.std.specs.Prelude.{◌≡◌, ◌≤◌, ◌<◌, ℕ, List, [], ◌++◌, length, take, Option, option_map, IfSome}
+use Rattle.std.specs.Prelude.{◌≡◌, ◌≤◌, ◌<◌, ℕ, List, [], ◌++◌, length, take, Option, option_map, IfSome, ⊤}
 use Rattle.rail_io.specs.declared.source.Pulled.{Pulled}
 use Rattle.rail_io.specs.declared.source.Pulled.TheVariants.{Got, End, Failed}
 use Rattle.rail_io.specs.declared.sink.Pushed.{Pushed}
 use Rattle.rail_io.specs.declared.sink.Pushed.TheVariants.{Took, Failed as SinkFailed}
+use Rattle.rail_io.specs.declared.sink.PushedBoth.{PushedBoth}
+use Rattle.rail_io.specs.declared.sink.PushedBoth.TheVariants.{Took as TookBoth, Failed as FailedBoth}
 
 -- these bytes, and then those told
 abbrev pub with_front : List ℕ → Option (List ℕ) → Option (List ℕ)
@@ -23,3 +25,13 @@ Pulls before after room Failed = after ≡ before
 abbrev pub Pushes : Option (List ℕ) → Option (List ℕ) → List ℕ → Pushed → Type 0
 Pushes before after piece (Took n) = (0 < n) × (n ≤ length piece) × (after ≡ with_end before (take n piece))
 Pushes before after piece SinkFailed = after ≡ before
+
+-- What a write of two pieces takes of them, one behind the other: the first bytes, or nothing.
+abbrev pub PushesBoth : Option (List ℕ) → Option (List ℕ) → List ℕ → PushedBoth → Type 0
+PushesBoth before after pieces (TookBoth n) = (0 < n) × (n ≤ length pieces) × (after ≡ with_end before (take n pieces))
+PushesBoth before after pieces (FailedBoth n) = (n < length pieces) × (after ≡ with_end before (take n pieces))
+
+-- the sink failed in it
+abbrev pub HasFailed : PushedBoth → Type 0
+HasFailed (TookBoth n) = ⊥
+HasFailed (FailedBoth n) = ⊤

@@ -29,7 +29,7 @@ pub use memory_shelf::MapShelf;
 pub use memory_sink::VecSink;
 pub use memory_source::BytesSource;
 pub use shelf::{Fetched, Shelf};
-pub use sink::{Pushed, Sink};
+pub use sink::{Pushed, PushedBoth, Sink};
 pub use source::{Pulled, Source};
 pub use standard::{ReaderSource, WriterSink};
 pub use system_clock::SystemClock;

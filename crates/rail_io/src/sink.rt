@@ -1,8 +1,8 @@
 // Where bytes go.
-ghost use Rattle.std.specs.Prelude.{◌≡◌, ◌≤◌, ◌<◌, ℕ, List, Option, length};
+ghost use Rattle.std.specs.Prelude.{◌≡◌, ◌≤◌, ◌<◌, ◌++◌, ℕ, List, Option, length};
 ghost use Rattle.rail_io.specs.declared.sink.Pushed.TheVariants.{Failed};
 ghost use Rattle.rail_io.specs.Faults.{Rose};
-ghost use Rattle.rail_io.specs.Told.{Pushes};
+ghost use Rattle.rail_io.specs.Told.{Pushes, PushesBoth, HasFailed};
 
 /// What a write answers.
 #[derive(Clone, Copy, Debug, PartialEq, Eq)]
@@ -11,6 +11,15 @@ pub enum Pushed {
     Took(usize),
     /// The write failed, and nothing was taken. A write that takes nothing counts as failed.
     Failed,
+}
+
+/// What a write of two pieces answers.
+#[derive(Clone, Copy, Debug, PartialEq, Eq)]
+pub enum PushedBoth {
+    /// So many bytes of the front of both were taken, at least one.
+    Took(usize),
+    /// So many bytes of the front of both were taken, maybe none and not all, and then the sink failed.
+    Failed(usize),
 }
 
 /// Takes bytes one after another.
@@ -29,4 +38,25 @@ pub trait Sink {
         ensures never_falls { faults self.old ≤ faults self.new }
         ensures cause { result ≡ Failed → Rose (faults self.old) (faults self.new) }
         ensures steady { (result ≡ Failed → ⊥) → faults self.new ≡ faults self.old };
+
+    /// Takes some of the bytes at the front of `first`, which isn't empty, and `second` behind it, without joining
+    /// them. A sink that has no better way writes one after the other.
+    fn write_both(&mut self, first: &[u8], second: &[u8]) -> PushedBoth
+        requires { 0 < length first.now }
+        ensures pushes { PushesBoth (told self.old) (told self.new) (first.now ++ second.now) result }
+        ensures never_falls { faults self.old ≤ faults self.new }
+        ensures cause { HasFailed result → Rose (faults self.old) (faults self.new) }
+        ensures steady { (HasFailed result → ⊥) → faults self.new ≡ faults self.old }
+    {
+        let Pushed::Took(count) = self.write(first) else {
+            return PushedBoth::Failed(0);
+        };
+        if count < first.len() || second.is_empty() {
+            return PushedBoth::Took(count);
+        }
+        match self.write(second) {
+            Pushed::Took(more) => PushedBoth::Took(count + more),
+            Pushed::Failed => PushedBoth::Failed(count),
+        }
+    }
 }

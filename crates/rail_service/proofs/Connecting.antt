@@ -12,7 +12,8 @@ use Rattle.session_loop.specs.Session.{IsEnd}
 use Rattle.session_loop.proofs.Keeping.{end_keeps}
 use Rattle.session_loop.proofs.Views.{end_seen}
 use Rattle.rail_catalogue.specs.Contents.{CatalogueView}
-use Rattle.osdm_answers.specs.Replies.{problem, reply_bytes}
+use Rattle.osdm_texts.specs.Answers.{problem}
+use Rattle.rail_service.specs.Bytes.{reply_bytes}
 use Rattle.rail_service.specs.declared.service.Service.{Service}
 use Rattle.rail_service.specs.Refusals.{problem_of_wire}
 use Rattle.rail_service.specs.Connections.{ServiceView, IsAnswer, answers_of, refusals_of, NeverDouble, IsServed}

@@ -1,3 +1,4 @@
+mod Telling
 pub mod Naming
 pub mod Owned
 pub mod Replying

@@ -20,7 +20,7 @@ use Rattle.rail_catalogue.specs.Contents.{CatalogueView}
 use Rattle.http_wire.specs.Requests.{RequestText}
 use Rattle.booking_rows.specs.Views.{RowSeen}
 use Rattle.osdm_texts.specs.declared.problem.Problem.{Problem}
-use Rattle.osdm_answers.specs.Replies.{Reply}
+use Rattle.osdm_texts.specs.Answers.{Reply}
 use Rattle.osdm_json.specs.declared.command.Command.{Command}
 use Rattle.osdm_json.specs.declared.command.Command.TheVariants as command
 use Rattle.booking_service.specs.Deciding.{Replying, OnBooking, shows, ConfirmsIt, FulfilsIt, ReleasesIt}

@@ -5,7 +5,8 @@ use Rattle.history_model.specs.History.{IsLegal}
 use Rattle.claim_rule.specs.Out.{IsIdle}
 use Rattle.http_wire.specs.Requests.{RequestText}
 use Rattle.rail_catalogue.specs.Contents.{CatalogueView}
-use Rattle.osdm_answers.specs.Replies.{Reply, reply_bytes}
+use Rattle.osdm_texts.specs.Answers.{Reply}
+use Rattle.rail_service.specs.Bytes.{reply_bytes}
 use Rattle.rail_service.specs.Serving.{retailer_of, first_after, AnswersRequest}
 use Rattle.rail_service.specs.Connections.{ServiceView, IsReading, IsAnswer}
 use Rattle.rail_service.proofs.Owned.{request_own}

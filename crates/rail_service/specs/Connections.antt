@@ -14,7 +14,8 @@ use Rattle.claim_rule.specs.Rule.{DeskView}
 use Rattle.claim_rule.specs.Seats.{Shape}
 use Rattle.claim_rule.specs.Out.{IsIdle}
 use Rattle.rail_catalogue.specs.Contents.{CatalogueView}
-use Rattle.osdm_answers.specs.Replies.{Reply, problem, reply_bytes}
+use Rattle.osdm_texts.specs.Answers.{Reply, problem}
+use Rattle.rail_service.specs.Bytes.{reply_bytes}
 use Rattle.rail_service.specs.Refusals.{problem_of_wire}
 use Rattle.rail_service.specs.Serving.{retailer_of, first_after, AnswersRequest}
 

@@ -1,3 +1,4 @@
+pub mod Bytes
 pub mod Paths
 pub mod Routes
 pub mod Serving
@@ -8,3 +9,4 @@ pub mod Readiness
 pub mod Responding
 pub mod Listeners
 pub mod Memory
+pub mod Commands

@@ -8,7 +8,8 @@ use Rattle.session_loop.specs.Session.{Answering, Refusing, IsEnd}
 use Rattle.rail_catalogue.specs.Contents.{CatalogueView}
 use Rattle.osdm_texts.specs.declared.problem.Problem.{Problem}
 use Rattle.osdm_texts.specs.declared.problem.Problem.TheVariants as refused
-use Rattle.osdm_answers.specs.Replies.{Reply, problem, reply_bytes}
+use Rattle.osdm_texts.specs.Answers.{Reply, problem}
+use Rattle.rail_service.specs.Bytes.{reply_bytes}
 use Rattle.osdm_json.specs.declared.command.Command.{Command}
 use Rattle.plain_host.specs.Plain.{Plain}
 use Rattle.plain_host.specs.Outcomes.{outcome_of}

@@ -3,7 +3,8 @@ use Rattle.std.specs.Prelude.{◌≡◌, ℕ, true, List, Option}
 use Rattle.http_wire.specs.declared.request.WireFault.{WireFault}
 use Rattle.http_wire.specs.Requests.{RequestText}
 use Rattle.claim_rule.specs.Out.{IsTidy}
-use Rattle.osdm_answers.specs.Replies.{problem, reply_bytes}
+use Rattle.osdm_texts.specs.Answers.{problem}
+use Rattle.rail_service.specs.Bytes.{reply_bytes}
 use Rattle.rail_service.specs.declared.service.Service.{Service}
 use Rattle.rail_service.specs.Refusals.{problem_of_wire}
 use Rattle.rail_service.specs.Connections.{ServiceView, IsAnswer}

@@ -7,7 +7,7 @@ use Rattle.rail_catalogue.specs.Contents.{CatalogueView}
 use Rattle.claim_rule.specs.Rule.{DeskView}
 use Rattle.osdm_texts.specs.declared.problem.Problem.{Problem}
 use Rattle.osdm_texts.specs.declared.problem.Problem.TheVariants.{NoRetailer, OtherRetailer, NoMemory}
-use Rattle.osdm_answers.specs.Replies.{Reply, problem}
+use Rattle.osdm_texts.specs.Answers.{Reply, problem}
 use Rattle.osdm_json.specs.declared.route.Route.{Route}
 use Rattle.osdm_json.specs.declared.command.Command.{Command}
 use Rattle.osdm_json.specs.declared.fault.BodyFault.{BodyFault}

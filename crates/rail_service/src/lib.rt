@@ -5,6 +5,7 @@
 //! `serve_waiting` alone spends it: no stream that was handed out is dropped unserved. `ListListener` stands in memory.
 #![tactic(auto)]
 
+mod answering;
 mod asking;
 mod connection;
 mod listener;
@@ -23,6 +24,3 @@ pub use listener::{Accepted, Bound, Listener};
 pub use memory_listener::ListListener;
 pub use performing::perform;
 pub use waiting::{Finished, Waiting, serve_waiting};
-
-#[cfg(test)]
-mod tests;

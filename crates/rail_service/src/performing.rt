@@ -4,27 +4,30 @@ ghost use Rattle.session_loop.specs.Answered.{answer_bytes};
 ghost use Rattle.rail_catalogue.specs.Contents.{legs_in};
 ghost use Rattle.claim_rule.specs.Seats.{IsOf};
 ghost use Rattle.claim_rule.specs.Out.{IsIdle, IsTidy};
-ghost use Rattle.osdm_answers.specs.Replies.{Reply, reply_bytes};
+ghost use Rattle.osdm_texts.specs.Answers.{Reply, told_of};
 ghost use Rattle.osdm_json.specs.declared.command.Command.TheVariants as command;
 ghost use Rattle.osdm_json.specs.Readable.{IsReadable};
 ghost use Rattle.service_rules.specs.Checks.{command_fault};
-ghost use Rattle.service_rules.specs.Performing.{Performs};
 ghost use Rattle.service_rules.specs.Answering.{Answers, BooksAllOrNone};
+ghost use Rattle.rail_service.specs.Bytes.{reply_bytes};
+ghost use Rattle.rail_service.specs.Commands.{SaysOf, CarriesOut};
 
+use crate::answering::answer_of;
 use crate::trading::{accept_exchange, accept_refund, quote_exchange};
 use booking_service::{confirm_booking, fulfil_booking, release_booking, show_booking};
 use claim_rule::{Books, Desk};
 use http_wire::Answer;
 use offer_codes::OfferCode;
 use offer_engine::OfferWish;
-use osdm_answers::problem_answer;
-use osdm_json::Command;
+use osdm_json::{Command, Problem};
+use osdm_texts::Written;
 use rail_catalogue::Catalogue;
 use rail_ids::RetailerNo;
 use rail_time::Moment;
-use reservation_service::{book_offer, reserve_places};
+use reservation_service::{Reservation, book_offer, reserve_places};
 use search_service::{list_places, search_offers, sweep_bookings};
 use service_rules::command_problem;
+use shop::{Asker, Shop};
 use std::alloc::Global;
 use trade_service::quote_refund_booking;
 
@@ -54,35 +57,58 @@ pub fn perform(
         × BooksAllOrNone cat.now now command.now desk.old desk.new reply
         × (answer_bytes result ≡ reply_bytes cat.now last reply) }
 {
-    match command_problem(cat, command, now) {
-        Some(problem) => problem_answer(&problem, last),
-        None => carry_out(alloc, cat, books, desk, retailer, command, now, last),
+    let shop = Shop { alloc, cat, books };
+    let said = say(&shop, desk, retailer, command, now);
+    answer_of(said, last)
+}
+
+// What the services answer to a command.
+fn say(
+    shop: &Shop<'_>,
+    desk: &mut Desk,
+    retailer: RetailerNo,
+    command: &Command,
+    now: Moment,
+) -> Result<Written, Problem>
+    requires own { IsOf shop.now.books.now desk.old }
+    requires legs { shop.now.books.now.layout.legs ≡ legs_in shop.now.cat.now }
+    requires rows { shop.now.books.now.layout.rows ≡ shop.now.cat.now.rows }
+    requires idle { IsIdle desk.old }
+    requires command { IsReadable shop.now.cat.now command.now }
+    ensures own { IsOf shop.now.books.now desk.new }
+    ensures idle { IsIdle desk.new }
+    ensures tidy { IsTidy desk.old → IsTidy desk.new }
+    ensures said { SaysOf shop.now.cat.now retailer.0 now command.now desk.old desk.new (told_of result) }
+{
+    match command_problem(shop.cat, command, now) {
+        Some(problem) => Err(problem),
+        None => {
+            let asker = Asker {
+                retailer,
+                moment: now,
+            };
+            carry_out(shop, desk, asker, command)
+        }
     }
 }
 
 // Does what a command asks that its ids and codes don't refuse.
 fn carry_out(
-    alloc: Global,
-    cat: &Catalogue,
-    books: &Books,
+    shop: &Shop<'_>,
     desk: &mut Desk,
-    retailer: RetailerNo,
+    asker: Asker,
     command: &Command,
-    now: Moment,
-    last: bool,
-) -> Answer
-    requires own { IsOf books.now desk.old }
-    requires legs { books.now.layout.legs ≡ legs_in cat.now }
-    requires rows { books.now.layout.rows ≡ cat.now.rows }
+) -> Result<Written, Problem>
+    requires own { IsOf shop.now.books.now desk.old }
+    requires legs { shop.now.books.now.layout.legs ≡ legs_in shop.now.cat.now }
+    requires rows { shop.now.books.now.layout.rows ≡ shop.now.cat.now.rows }
     requires idle { IsIdle desk.old }
-    requires command { IsReadable cat.now command.now }
-    requires sound { command_fault cat.now now command.now ≡ None }
-    ensures own { IsOf books.now desk.new }
+    requires command { IsReadable shop.now.cat.now command.now }
+    requires sound { command_fault shop.now.cat.now asker.moment command.now ≡ None }
+    ensures own { IsOf shop.now.books.now desk.new }
     ensures idle { IsIdle desk.new }
     ensures tidy { IsTidy desk.old → IsTidy desk.new }
-    ensures answer { (reply : Reply) × Performs cat.now retailer.0 now command.now desk.old desk.new reply
-        × BooksAllOrNone cat.now now command.now desk.old desk.new reply
-        × (answer_bytes result ≡ reply_bytes cat.now last reply) }
+    ensures answer { CarriesOut shop.now.cat.now asker.retailer.0 asker.moment command.now desk.old desk.new (told_of result) }
 {
     match command {
         Command::Offers {
@@ -99,71 +125,55 @@ fn carry_out(
                 class: *class,
                 wanted: *wanted,
             };
-            search_offers(alloc, cat, books, desk, &wish, now, last)
+            search_offers(shop, desk, &wish, asker.moment)
         }
-        Command::Book { offer } => book(alloc, cat, books, desk, retailer, offer, now, last),
+        Command::Book { offer } => book(shop, desk, asker, offer),
         Command::Reserve {
             segment,
             class,
             count,
             wanted,
-        } => reserve_places(
-            alloc, cat, books, desk, retailer, *segment, *class, *count, *wanted, now, last,
-        ),
-        Command::Show { row } => {
-            show_booking(alloc, cat, books, desk, retailer, row.unwrap(), last)
+        } => {
+            let reservation = Reservation {
+                segment: *segment,
+                class: *class,
+                count: *count,
+                traits: *wanted,
+            };
+            reserve_places(shop, desk, asker, reservation)
         }
-        Command::Release { row } => {
-            release_booking(alloc, cat, books, desk, retailer, row.unwrap(), now, last)
-        }
-        Command::Confirm { row } => {
-            confirm_booking(alloc, cat, books, desk, retailer, row.unwrap(), now, last)
-        }
-        Command::Fulfil { row } => {
-            fulfil_booking(alloc, cat, books, desk, retailer, row.unwrap(), last)
-        }
-        Command::QuoteRefund { row } => {
-            quote_refund_booking(alloc, cat, books, desk, retailer, row.unwrap(), now, last)
-        }
-        Command::AcceptRefund { row, code } => {
-            accept_refund(alloc, cat, books, desk, retailer, *row, code, now, last)
-        }
-        Command::QuoteExchange { row, offer } => {
-            quote_exchange(alloc, cat, books, desk, retailer, *row, offer, now, last)
-        }
-        Command::AcceptExchange { row, code } => {
-            accept_exchange(alloc, cat, books, desk, retailer, *row, code, now, last)
-        }
-        Command::Places { segment } => list_places(alloc, cat, books, desk, *segment, last),
-        Command::Sweep => sweep_bookings(books, desk, now, last),
+        Command::Show { row } => show_booking(shop, desk, asker.retailer, row.unwrap()),
+        Command::Release { row } => release_booking(shop, desk, asker, row.unwrap()),
+        Command::Confirm { row } => confirm_booking(shop, desk, asker, row.unwrap()),
+        Command::Fulfil { row } => fulfil_booking(shop, desk, asker.retailer, row.unwrap()),
+        Command::QuoteRefund { row } => quote_refund_booking(shop, desk, asker, row.unwrap()),
+        Command::AcceptRefund { row, code } => accept_refund(shop, desk, asker, *row, code),
+        Command::QuoteExchange { row, offer } => quote_exchange(shop, desk, asker, *row, offer),
+        Command::AcceptExchange { row, code } => accept_exchange(shop, desk, asker, *row, code),
+        Command::Places { segment } => list_places(shop, desk, *segment),
+        Command::Sweep => Ok(sweep_bookings(shop.books, desk, asker.moment)),
     }
 }
 
 // Books an offer whose id is a spelling.
 fn book(
-    alloc: Global,
-    cat: &Catalogue,
-    books: &Books,
+    shop: &Shop<'_>,
     desk: &mut Desk,
-    retailer: RetailerNo,
+    asker: Asker,
     offer: &Option<OfferCode>,
-    now: Moment,
-    last: bool,
-) -> Answer
-    requires own { IsOf books.now desk.old }
-    requires legs { books.now.layout.legs ≡ legs_in cat.now }
+) -> Result<Written, Problem>
+    requires own { IsOf shop.now.books.now desk.old }
+    requires legs { shop.now.books.now.layout.legs ≡ legs_in shop.now.cat.now }
     requires idle { IsIdle desk.old }
-    requires command { IsReadable cat.now (command.Book offer.now) }
-    requires sound { command_fault cat.now now (command.Book offer.now) ≡ None }
-    ensures own { IsOf books.now desk.new }
+    requires command { IsReadable shop.now.cat.now (command.Book offer.now) }
+    requires sound { command_fault shop.now.cat.now asker.moment (command.Book offer.now) ≡ None }
+    ensures own { IsOf shop.now.books.now desk.new }
     ensures idle { IsIdle desk.new }
     ensures tidy { IsTidy desk.old → IsTidy desk.new }
-    ensures answer { (reply : Reply) × Performs cat.now retailer.0 now (command.Book offer.now) desk.old desk.new reply
-        × BooksAllOrNone cat.now now (command.Book offer.now) desk.old desk.new reply
-        × (answer_bytes result ≡ reply_bytes cat.now last reply) }
+    ensures answer { CarriesOut shop.now.cat.now asker.retailer.0 asker.moment (command.Book offer.now) desk.old desk.new (told_of result) }
 {
     let Some(code) = offer else {
         unreachable!();
     };
-    book_offer(alloc, cat, books, desk, retailer, code, now, last)
+    book_offer(shop, desk, asker, code)
 }

@@ -2,11 +2,12 @@
 ghost use Rattle.std.specs.Prelude.{◌≡◌, true};
 ghost use Rattle.session_loop.specs.Answered.{answer_bytes};
 ghost use Rattle.rail_catalogue.specs.Contents.{CatalogueView};
-ghost use Rattle.osdm_answers.specs.Replies.{problem, reply_bytes};
+ghost use Rattle.osdm_texts.specs.Answers.{problem};
+ghost use Rattle.rail_service.specs.Bytes.{reply_bytes};
 ghost use Rattle.rail_service.specs.Refusals.{problem_of_wire as problem_of};
 
+use crate::answering::problem_answer;
 use http_wire::{Answer, WireFault};
-use osdm_answers::problem_answer;
 use osdm_texts::Problem;
 
 fn problem_of_wire(fault: WireFault) -> Problem

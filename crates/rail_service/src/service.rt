@@ -1,4 +1,5 @@
 //! The service as it answers the requests of one connection.
+use crate::answering::problem_answer;
 use crate::asking::{asked, first_after, retailer_of};
 use crate::performing::perform;
 use crate::refusal::refusal_of;
@@ -6,7 +7,6 @@ use crate::resource::Resource;
 use claim_rule::{Books, Desk};
 use http_wire::{Answer, Intake, Request, WireFault};
 use matchit::Router;
-use osdm_answers::problem_answer;
 use rail_catalogue::Catalogue;
 use rail_ids::RetailerNo;
 use rail_io::Clock;

@@ -21,19 +21,14 @@ use Rattle.offer_codes.specs.Offers.{OfferView}
 use Rattle.rail_catalogue.specs.Contents.{CatalogueView}
 use Rattle.osdm_texts.specs.declared.problem.Problem.{Problem}
 use Rattle.osdm_texts.specs.declared.problem.Problem.TheVariants as reason
-use Rattle.osdm_answers.specs.Replies.{Reply, created, problem, reply_bytes}
-use Rattle.osdm_answers.proofs.Answering.{problem_bytes, of_problem}
+use Rattle.osdm_texts.specs.Answers.{Reply, created, problem, Told, refused, reply_told}
+use Rattle.osdm_texts.proofs.Telling.{of_problem}
 use Rattle.reservation_service.specs.declared.holding.Placing.{Placing}
 use Rattle.reservation_service.specs.declared.holding.Placing.TheVariants.{Whole, Short, Contended, NoMemory}
 use Rattle.reservation_service.specs.Holding.{count_of, HoldsPlaces, FindsNoRow, GivesUp, HasAllPlaces, problem_of}
-use Rattle.reservation_service.specs.Reserving.{detail_of, made_view, Reserves, SealsHold, HasAllOrNone}
+use Rattle.reservation_service.specs.Reserving.{detail_of, made_view, Reserves, SealsHold, HasAllOrNone, AnswersReserving}
 use Rattle.reservation_service.proofs.Placed.{whole_places, places_many}
 use Rattle.reservation_service.proofs.Calm.{held_calmly, reserves_tidy}
-
--- what is answered, with its bytes
-abbrev pub Answered : CatalogueView → ℕ → ℕ → OfferView → Bool → DeskView → DeskView → List ℕ → Type 0
-Answered cat retailer now o last old new written =
-    (reply : Reply) × Reserves cat retailer now o old new reply × HasAllOrNone cat o old new reply × (written ≡ reply_bytes cat last reply)
 
 pub whole_of : (p : Placing) → problem_of p ≡ None → p ≡ Whole
 whole_of Whole e = refl
@@ -41,12 +36,15 @@ whole_of Short e = absurd (let no : ◌≡◌ {A = Option Problem} (Some reason.
 whole_of Contended e = absurd (let no : ◌≡◌ {A = Option Problem} (Some reason.Contended) None = e in cc)
 whole_of NoMemory e = absurd (let no : ◌≡◌ {A = Option Problem} (Some reason.NoMemory) None = e in cc)
 
-pub no_row : (cat : CatalogueView) (retailer now : ℕ) (o : OfferView) (last : Bool) (old new : DeskView) (written : List ℕ) → FindsNoRow old new → written ≡ problem_bytes reason.RowsFull last → Answered cat retailer now o last old new written
-no_row cat retailer now o last old new written did is = (problem reason.RowsFull, inr (inl (inl (did, refl))), tt, is ∙ of_problem cat last reason.RowsFull)
+pub no_row : (cat : CatalogueView) (retailer now : ℕ) (o : OfferView) (old new : DeskView) → FindsNoRow old new
+    → AnswersReserving cat retailer now o old new (refused reason.RowsFull)
+no_row cat retailer now o old new did = (problem reason.RowsFull, inr (inl (inl (did, refl))), tt, of_problem cat reason.RowsFull)
 
-pub given_up : (cat : CatalogueView) (retailer now : ℕ) (o : OfferView) (last : Bool) (row : ℕ) (p : Placing) (why : Problem) (items : List Item) (old mid new : DeskView) (written : List ℕ) → HoldsPlaces cat o o.segments row p items old mid
-    → problem_of p ≡ Some why → GivesUp row items mid new → written ≡ reply_bytes cat last (problem why) → Answered cat retailer now o last old new written
-given_up cat retailer now o last row p why items old mid new written placed is gave bytes = (problem why, inr (inl (inr (row, p, why, items, mid, placed, is, gave, refl))), tt, bytes)
+pub given_up : (cat : CatalogueView) (retailer now : ℕ) (o : OfferView) (row : ℕ) (p : Placing) (why : Problem) (items : List Item) (old mid new : DeskView)
+    → HoldsPlaces cat o o.segments row p items old mid → problem_of p ≡ Some why → GivesUp row items mid new
+    → AnswersReserving cat retailer now o old new (refused why)
+given_up cat retailer now o row p why items old mid new placed is gave =
+    (problem why, inr (inl (inr (row, p, why, items, mid, placed, is, gave, refl))), tt, of_problem cat why)
 
 -- a whole placing of some segments holds some items
 pub some_held : (cat : CatalogueView) (o : OfferView) (row : ℕ) (p : Placing) (items : List Item) (old mid : DeskView) → HoldsPlaces cat o o.segments row p items old mid → problem_of p ≡ None → 1 ≤ count_of o → count_of o ≤ 8 → 1 ≤ length o.segments
@@ -89,22 +87,22 @@ seals_hold hold noted d old mid new reply same notes seal items is = inl (
   is,
 )
 
-sealed : (cat : CatalogueView) (retailer now : ℕ) (o : OfferView) (last : Bool) (row : ℕ) (items : List Item) (old mid new : DeskView) (reply : Reply) → HoldsPlaces cat o o.segments row Whole items old mid
+sealed : (cat : CatalogueView) (retailer now : ℕ) (o : OfferView) (row : ℕ) (items : List Item) (old mid new : DeskView) (reply : Reply) → HoldsPlaces cat o o.segments row Whole items old mid
     → SealsHold row items (detail_of cat o retailer now) mid new reply → Reserves cat retailer now o old new reply × HasAllOrNone cat o old new reply
-sealed cat retailer now o last row items old mid new reply placed (inl (did, seals, is)) =
+sealed cat retailer now o row items old mid new reply placed (inl (did, seals, is)) =
     let held = held_calmly cat o o.segments row Whole items old mid placed in (
       inl (row, items, mid, placed, did, is),
       subst (HasAllOrNone cat o old new) (sym is) (seals_since old mid new row phase.Prebooked items held.0 held.2 seals, has_places cat o row items old mid placed),
     )
-sealed cat retailer now o last row items old mid new reply placed (inr (gave, is)) =
+sealed cat retailer now o row items old mid new reply placed (inr (gave, is)) =
     (inr (inr ((row, items, mid, placed, gave), is)), subst (HasAllOrNone cat o old new) (sym is) tt)
 
-pub prebooked : (cat : CatalogueView) (retailer now : ℕ) (o : OfferView) (last : Bool) (row : ℕ) (p : Placing) (items : List Item) (old mid new : DeskView) (reply : Reply) (written : List ℕ) → HoldsPlaces cat o o.segments row p items old mid
-    → problem_of p ≡ None → SealsHold row items (detail_of cat o retailer now) mid new reply → written ≡ reply_bytes cat last reply → Answered cat retailer now o last old new written
-prebooked cat retailer now o last row p items old mid new reply written placed none did bytes =
+pub prebooked : (cat : CatalogueView) (retailer now : ℕ) (o : OfferView) (row : ℕ) (p : Placing) (items : List Item) (old mid new : DeskView) (reply : Reply) (written : Told) → HoldsPlaces cat o o.segments row p items old mid
+    → problem_of p ≡ None → SealsHold row items (detail_of cat o retailer now) mid new reply → written ≡ reply_told cat reply → AnswersReserving cat retailer now o old new written
+prebooked cat retailer now o row p items old mid new reply written placed none did bytes =
     let whole = subst (λ (q : Placing). HoldsPlaces cat o o.segments row q items old mid) (whole_of p none) placed in
-    let s = sealed cat retailer now o last row items old mid new reply whole did in
+    let s = sealed cat retailer now o row items old mid new reply whole did in
     (reply, s.0, s.1, bytes)
 
-pub answered_tidy : (cat : CatalogueView) (retailer now : ℕ) (o : OfferView) (last : Bool) (old new : DeskView) (written : List ℕ) → Answered cat retailer now o last old new written → IsIdle new → IsTidy old → IsTidy new
-answered_tidy cat retailer now o last old new written a = reserves_tidy cat retailer now o old new a.0 a.1
+pub answered_tidy : (cat : CatalogueView) (retailer now : ℕ) (o : OfferView) (old new : DeskView) (written : Told) → AnswersReserving cat retailer now o old new written → IsIdle new → IsTidy old → IsTidy new
+answered_tidy cat retailer now o old new written a = reserves_tidy cat retailer now o old new a.0 a.1

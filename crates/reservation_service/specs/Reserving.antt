@@ -18,7 +18,7 @@ use Rattle.booking_rows.specs.Notes.{detail_notes}
 use Rattle.booking_rows.specs.Views.{RowSeen}
 use Rattle.osdm_texts.specs.declared.problem.Problem.{Problem}
 use Rattle.osdm_texts.specs.declared.problem.Problem.TheVariants.{RowsFull, NoMemory}
-use Rattle.osdm_answers.specs.Replies.{Reply, created, exchanged, problem}
+use Rattle.osdm_texts.specs.Answers.{Reply, created, exchanged, problem, Told, reply_told}
 use Rattle.reservation_service.specs.declared.holding.Placing.{Placing}
 use Rattle.reservation_service.specs.declared.holding.Placing.TheVariants.{Whole}
 use Rattle.reservation_service.specs.Holding.{HoldsPlaces, FindsNoRow, GivesUp, problem_of, HasAllPlaces}
@@ -74,3 +74,8 @@ abbrev pub HasAllOrNone : CatalogueView → OfferView → DeskView → DeskView 
 HasAllOrNone cat o old new (created row v) = SealsItems old new row phase.Prebooked v.items × HasAllPlaces cat o o.segments v.items
 HasAllOrNone cat o old new (exchanged row v difference replaced) = SealsItems old new row phase.Confirmed v.items × HasAllPlaces cat o o.segments v.items
 HasAllOrNone cat o old new reply = Unit {0}
+
+-- such a reply, which has all places or none, and what is told of it
+abbrev pub AnswersReserving : CatalogueView → ℕ → ℕ → OfferView → DeskView → DeskView → Told → Type 0
+AnswersReserving cat retailer now o old new said =
+    (reply : Reply) × Reserves cat retailer now o old new reply × HasAllOrNone cat o old new reply × (said ≡ reply_told cat reply)

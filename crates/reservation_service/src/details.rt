@@ -8,19 +8,18 @@ use booking_rows::Detail;
 use offer_codes::OfferCode;
 use offer_engine::price_of_offer;
 use rail_catalogue::Catalogue;
-use rail_ids::RetailerNo;
-use rail_time::Moment;
+use shop::Asker;
 
-/// The detail of a booking of the offer that is made now: its retailer, the sum of the prices of its segments, and the moment up to which
+/// The detail of a booking of the offer that is made at the asker's moment: its retailer, the sum of the prices of its segments, and the moment up to which
 /// it can be confirmed. There are one to eight passengers.
-pub fn detail_for(cat: &Catalogue, offer: &OfferCode, retailer: RetailerNo, now: Moment) -> Detail
+pub fn detail_for(cat: &Catalogue, offer: &OfferCode, asker: Asker) -> Detail
     requires party { is_party offer.now.adults offer.now.children ≡ true }
-    ensures detail { result ≡ detail_of cat.now (offer_view offer.now) retailer.0 now }
+    ensures detail { result ≡ detail_of cat.now (offer_view offer.now) asker.retailer.0 asker.moment }
     ensures total { result.total ≤ greatest_amount }
 {
     Detail {
-        retailer,
-        limit: now.later(cat.terms().confirm_seconds()),
+        retailer: asker.retailer,
+        limit: asker.moment.later(cat.terms().confirm_seconds()),
         total: price_of_offer(cat, offer),
     }
 }

@@ -10,12 +10,11 @@ ghost use Rattle.claim_rule.specs.Out.{IsHolding, HasNotedItems, HoldsNone, Keep
 ghost use Rattle.reservation_service.specs.Holding.{PlacesAll, HoldsPlaces, FindsNoRow, count_of, problem_of};
 
 use booking_rows::start_hold;
-use claim_rule::{Books, Desk, Hold};
+use claim_rule::{Desk, Hold};
 use hold_core::{Added, add_places};
 use offer_codes::{OfferCode, Segment};
 use osdm_texts::Problem;
-use rail_catalogue::Catalogue;
-use std::alloc::Global;
+use shop::Shop;
 
 /// How the placing of an offer ended.
 #[derive(Clone, Copy, Debug, PartialEq, Eq)]
@@ -55,56 +54,43 @@ pub struct Held {
 ///
 /// The books have the catalogue's places, each segment's run holds its span, and there are one to eight passengers. A hold keeps what it
 /// won: after another placing than `Whole` the caller abandons it.
-pub fn hold_places(
-    alloc: Global,
-    cat: &Catalogue,
-    books: &Books,
-    desk: &mut Desk,
-    offer: &OfferCode,
-) -> Option<Held>
-    requires own { IsOf books.now desk.old }
-    requires legs { books.now.layout.legs ≡ legs_in cat.now }
+pub fn hold_places(shop: &Shop<'_>, desk: &mut Desk, offer: &OfferCode) -> Option<Held>
+    requires own { IsOf shop.now.books.now desk.old }
+    requires legs { shop.now.books.now.layout.legs ≡ legs_in shop.now.cat.now }
     requires none { HoldsNone desk.old }
     requires party { is_party offer.now.adults offer.now.children ≡ true }
-    requires runs { list_all (is_of_runs cat.now.runs) offer.now.segments.items ≡ true }
-    ensures own { IsOf books.now desk.new }
-    ensures placed { IfSome result (λ held. HoldsPlaces cat.now (offer_view offer.now) offer.now.segments.items held.hold.row held.placing held.hold.items desk.old desk.new) }
+    requires runs { list_all (is_of_runs shop.now.cat.now.runs) offer.now.segments.items ≡ true }
+    ensures own { IsOf shop.now.books.now desk.new }
+    ensures placed { IfSome result (λ held. HoldsPlaces shop.now.cat.now (offer_view offer.now) offer.now.segments.items held.hold.row held.placing held.hold.items desk.old desk.new) }
     ensures hold { IfSome result (λ held. IsHolding desk.new held.hold) }
     ensures noted { IfSome result (λ held. HasNotedItems desk.new held.hold) }
     ensures no_row { IfNone result (FindsNoRow desk.old desk.new) }
     ensures none_out { IfNone result (HoldsNone desk.new) }
     ensures endings { KeepsEndings desk.old desk.new }
 {
-    let mut hold = start_hold(books, desk)?;
-    let placing = place_segments(alloc, cat, books, desk, &mut hold, offer);
+    let mut hold = start_hold(shop.books, desk)?;
+    let placing = place_segments(shop, desk, &mut hold, offer);
     Some(Held { hold, placing })
 }
 
 // Adds places for each segment to a hold without items.
-fn place_segments(
-    alloc: Global,
-    cat: &Catalogue,
-    books: &Books,
-    desk: &mut Desk,
-    hold: &mut Hold,
-    offer: &OfferCode,
-) -> Placing
-    requires own { IsOf books.now desk.old }
-    requires legs { books.now.layout.legs ≡ legs_in cat.now }
+fn place_segments(shop: &Shop<'_>, desk: &mut Desk, hold: &mut Hold, offer: &OfferCode) -> Placing
+    requires own { IsOf shop.now.books.now desk.old }
+    requires legs { shop.now.books.now.layout.legs ≡ legs_in shop.now.cat.now }
     requires hold { IsHolding desk.old hold.old }
     requires noted { HasNotedItems desk.old hold.old }
     requires empty { hold.old.items ≡ [] }
     requires party { is_party offer.now.adults offer.now.children ≡ true }
-    requires runs { list_all (is_of_runs cat.now.runs) offer.now.segments.items ≡ true }
-    ensures own { IsOf books.now desk.new }
+    requires runs { list_all (is_of_runs shop.now.cat.now.runs) offer.now.segments.items ≡ true }
+    ensures own { IsOf shop.now.books.now desk.new }
     ensures row { hold.new.row ≡ hold.old.row }
-    ensures placed { PlacesAll cat.now (offer_view offer.now) hold.old.row [] offer.now.segments.items result hold.new.items desk.old desk.new }
+    ensures placed { PlacesAll shop.now.cat.now (offer_view offer.now) hold.old.row [] offer.now.segments.items result hold.new.items desk.old desk.new }
     ensures hold { IsHolding desk.new hold.new }
     ensures noted { HasNotedItems desk.new hold.new }
     ensures endings { KeepsEndings desk.old desk.new }
 {
     for segment in offer.segments.as_slice() {
-        match place_segment(alloc, cat, books, desk, hold, offer, *segment) {
+        match place_segment(shop, desk, hold, offer, *segment) {
             Placing::Whole => {}
             stopped => return stopped,
         }
@@ -114,37 +100,36 @@ fn place_segments(
 
 // Adds places for one segment to the hold.
 fn place_segment(
-    alloc: Global,
-    cat: &Catalogue,
-    books: &Books,
+    shop: &Shop<'_>,
     desk: &mut Desk,
     hold: &mut Hold,
     offer: &OfferCode,
     segment: Segment,
 ) -> Placing
-    requires own { IsOf books.now desk.old }
-    requires legs { books.now.layout.legs ≡ legs_in cat.now }
+    requires own { IsOf shop.now.books.now desk.old }
+    requires legs { shop.now.books.now.layout.legs ≡ legs_in shop.now.cat.now }
     requires hold { IsHolding desk.old hold.old }
     requires noted { HasNotedItems desk.old hold.old }
     requires party { is_party offer.now.adults offer.now.children ≡ true }
-    requires run { is_of_runs cat.now.runs segment ≡ true }
+    requires run { is_of_runs shop.now.cat.now.runs segment ≡ true }
     requires room { length hold.old.items + count_of (offer_view offer.now) ≤ most_items }
-    ensures own { IsOf books.now desk.new }
+    ensures own { IsOf shop.now.books.now desk.new }
     ensures row { hold.new.row ≡ hold.old.row }
-    ensures placed { PlacesAll cat.now (offer_view offer.now) hold.old.row hold.old.items (segment ∷ []) result hold.new.items desk.old desk.new }
+    ensures placed { PlacesAll shop.now.cat.now (offer_view offer.now) hold.old.row hold.old.items (segment ∷ []) result hold.new.items desk.old desk.new }
     ensures hold { IsHolding desk.new hold.new }
     ensures noted { HasNotedItems desk.new hold.new }
     ensures endings { KeepsEndings desk.old desk.new }
 {
-    let found = cat
+    let found = shop
+        .cat
         .places()
-        .candidates(alloc, segment.run, offer.class, offer.wanted);
+        .candidates(shop.alloc, segment.run, offer.class, offer.wanted);
     let Ok(candidates) = found else {
         return Placing::NoMemory;
     };
     let count = offer.adults + offer.children;
     match add_places(
-        books,
+        shop.books,
         desk,
         hold,
         candidates.as_slice(),

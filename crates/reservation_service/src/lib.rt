@@ -8,9 +8,7 @@
 mod booking;
 mod details;
 mod holding;
-#[cfg(test)]
-mod tests;
 
-pub use booking::{book_offer, give_up, new_view, reserve_places};
+pub use booking::{Reservation, book_offer, new_view, reserve_places};
 pub use details::detail_for;
 pub use holding::{Held, Placing, hold_places};

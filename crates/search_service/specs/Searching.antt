@@ -14,7 +14,7 @@ use Rattle.expiry_sweeper.specs.AllRows.{Sweeps}
 use Rattle.claim_rule.specs.Rule.{DeskView}
 use Rattle.claim_rule.specs.Calls.{ShapeBy}
 use Rattle.osdm_texts.specs.declared.problem.Problem.TheVariants.{NoMemory}
-use Rattle.osdm_answers.specs.Replies.{Reply, offer_list, place_list, swept, problem}
+use Rattle.osdm_texts.specs.Answers.{Reply, offer_list, place_list, swept, problem}
 
 -- told, or without memory for the answer
 abbrev pub ToldOr : Reply → Reply → Type 0

@@ -9,8 +9,6 @@ mod place_list;
 mod place_numbers;
 mod ranges;
 mod sweeping;
-#[cfg(test)]
-mod tests;
 
 pub use offer_search::search_offers;
 pub use place_list::list_places;

@@ -5,7 +5,7 @@ use Rattle.offer_codes.specs.Exchanges.{exchange_view}
 use Rattle.rail_catalogue.specs.Contents.{CatalogueView}
 use Rattle.claim_rule.specs.Rule.{DeskView}
 use Rattle.claim_rule.specs.Seats.{Shape}
-use Rattle.osdm_answers.specs.Replies.{Reply}
+use Rattle.osdm_texts.specs.Answers.{Reply}
 use Rattle.osdm_json.specs.declared.command.Command.{Command}
 use Rattle.osdm_json.specs.declared.command.Command.TheVariants as command
 use Rattle.booking_service.specs.Deciding.{OnBooking, shows, ConfirmsIt, FulfilsIt, ReleasesIt}

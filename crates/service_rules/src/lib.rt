@@ -5,7 +5,5 @@
 #![tactic(auto)]
 
 mod checks;
-#[cfg(test)]
-mod tests;
 
 pub use checks::command_problem;

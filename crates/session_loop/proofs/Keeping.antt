@@ -5,7 +5,7 @@ use Rattle.http_wire.specs.declared.request.WireFault.{WireFault}
 use Rattle.http_wire.specs.Requests.{RequestText, Rest, IsRequest, IsFault}
 use Rattle.session_loop.specs.declared.end.ConnEnd.{ConnEnd}
 use Rattle.session_loop.specs.declared.end.ConnEnd.TheVariants.{Done, Cut, Refused, ReadFault, WriteFault, NoMemory}
-use Rattle.session_loop.specs.Session.{Answering, Refusing, Chain, IsAnswered, IsCutShort, IsEnd}
+use Rattle.session_loop.specs.Session.{Answering, Refusing, Chain, IsAnswered, IsEnd}
 
 module _ {R : Type 0} (answers : Answering R) (refuses : Refusing R) (Keeps : R → Type 0)
     (kept : (before : R) (request : RequestText) (text : List ℕ) (after : R) → Keeps before → answers before request text after → Keeps after) where

@@ -1,5 +1,5 @@
 -- One write after another.
-use Rattle.std.proofs.Common.{◌≡◌, ℕ, Bool, true, false, List, [], ◌++◌, Option, Some, None, refl, sym, ◌∙◌, ap, append_assoc, append-nil}
+use Rattle.std.proofs.Common.{◌≡◌, ℕ, Bool, false, List, [], ◌∷◌, ◌++◌, length, take, drop, Option, Some, None, refl, sym, ◌∙◌, ap, arith, append_assoc, append-nil, take-append-drop}
 use Rattle.rail_io.specs.Told.{with_end}
 use Rattle.session_loop.specs.Writes.{Writes}
 
@@ -11,26 +11,33 @@ pub end_none : (told : Option (List ℕ)) → told ≡ with_end told []
 end_none None = refl
 end_none (Some t) = ap (λ (l : List ℕ). Some l) (sym (append-nil t))
 
--- a piece, whole, and then another
-pub writes_two : (before mid after : Option (List ℕ)) (p q : List ℕ) (ok : Bool)
-    → Writes before mid p true → Writes mid after q ok → Writes before after (p ++ q) ok
-writes_two before mid after p q ok first second =
-    let all : p ≡ first.written = first.is ∙ ap (λ (l : List ℕ). first.written ++ l) (first.whole refl) ∙ append-nil first.written in
-    record {
-      written = first.written ++ second.written;
-      left = second.left;
-      told = second.told ∙ ap (λ (t : Option (List ℕ)). with_end t second.written) first.told ∙ end_more before first.written second.written;
-      is = ap (λ (l : List ℕ). l ++ q) all ∙ ap (λ (l : List ℕ). first.written ++ l) second.is
-          ∙ sym (append_assoc first.written second.written second.left);
-      whole = second.whole;
-    }
+-- the first bytes of what was left, and what is left then
+pub left_more : (all before left : List ℕ) (n : ℕ) → all ≡ before ++ left → all ≡ (before ++ take n left) ++ drop n left
+left_more all before left n is =
+    is ∙ ap (λ (l : List ℕ). before ++ l) (sym (take-append-drop n left)) ∙ sym (append_assoc before (take n left) (drop n left))
 
--- a part of the first piece is a part of both
-pub writes_part : (before mid : Option (List ℕ)) (p q : List ℕ) → Writes before mid p false → Writes before mid (p ++ q) false
-writes_part before mid p q first = record {
-  written = first.written;
-  left = first.left ++ q;
-  told = first.told;
-  is = ap (λ (l : List ℕ). l ++ q) first.is ∙ append_assoc first.written first.left q;
+pub told_more : (start mid after : Option (List ℕ)) (before more : List ℕ) → mid ≡ with_end start before → after ≡ with_end mid more
+    → after ≡ with_end start (before ++ more)
+told_more start mid after before more e f = f ∙ ap (λ (t : Option (List ℕ)). with_end t more) e ∙ end_more start before more
+
+-- a front of both pieces, and then what was written of the second
+pub writes_last : (start mid after : Option (List ℕ)) (all before rest left : List ℕ) (ok : Bool) → mid ≡ with_end start before
+    → all ≡ before ++ (rest ++ left) → length rest ≡ 0 → Writes mid after left ok → Writes start after all ok
+writes_last start mid after all before [] left ok told is none w = record {
+  written = before ++ w.written;
+  left = w.left;
+  told = told_more start mid after before w.written told w.told;
+  is = is ∙ ap (λ (l : List ℕ). before ++ l) w.is ∙ sym (append_assoc before w.written w.left);
+  whole = w.whole;
+}
+writes_last start mid after all before (b ∷ rest) left ok told is none w = absurd (omega (arith, none))
+
+pub writes_failed : (start mid after : Option (List ℕ)) (all before left : List ℕ) (n : ℕ) → mid ≡ with_end start before
+    → all ≡ before ++ left → after ≡ with_end mid (take n left) → Writes start after all false
+writes_failed start mid after all before left n told is more = record {
+  written = before ++ take n left;
+  left = drop n left;
+  told = told_more start mid after before (take n left) told more;
+  is = left_more all before left n is;
   whole = λ e. absurd cc;
 }

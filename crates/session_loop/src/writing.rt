@@ -1,11 +1,11 @@
 // Whole pieces into a sink.
-ghost use Rattle.std.specs.Prelude.{◌≡◌, ◌≤◌, ◌++◌, true, false};
+ghost use Rattle.std.specs.Prelude.{◌≡◌, ◌≤◌, ◌+◌, ◌++◌, ◌⊎◌, drop, length, true, false};
 ghost use Rattle.rail_io.specs.Faults.{Rose};
 ghost use Rattle.session_loop.specs.Answered.{answer_bytes, body_bytes};
 ghost use Rattle.session_loop.specs.Writes.{Writes};
 
 use http_wire::{Answer, Body};
-use rail_io::{Pushed, Sink};
+use rail_io::{Pushed, PushedBoth, Sink};
 
 /// Writes all of the piece, and answers true, or a front of it, where the sink fails.
 pub fn write_all<K: Sink>(sink: &mut K, piece: &[u8]) -> bool
@@ -24,16 +24,34 @@ pub fn write_all<K: Sink>(sink: &mut K, piece: &[u8]) -> bool
     true
 }
 
+/// What is left of both pieces behind so many bytes of them.
+fn behind<'a>(first: &'a [u8], second: &'a [u8], count: usize) -> (&'a [u8], &'a [u8])
+    requires { count ≤ length (first.now ++ second.now) }
+    ensures left { result.0.now ++ result.1.now ≡ drop count (first.now ++ second.now) }
+    ensures less { length result.0.now + count ≤ length first.now ⊎ length result.0.now ≡ 0 }
+{
+    if count < first.len() {
+        return (&first[count..], second);
+    }
+    (&first[first.len()..], &second[count - first.len()..])
+}
+
+/// Writes both pieces, one behind the other, without joining them: together where the sink can.
 fn write_two<K: Sink>(sink: &mut K, first: &[u8], second: &[u8]) -> bool
     ensures writes { Writes (K.told sink.old) (K.told sink.new) (first.now ++ second.now) result }
     ensures never_falls { K.faults sink.old ≤ K.faults sink.new }
     ensures cause { result ≡ false → Rose (K.faults sink.old) (K.faults sink.new) }
     ensures steady { result ≡ true → K.faults sink.new ≡ K.faults sink.old }
 {
-    if !write_all(sink, first) {
-        return false;
+    let mut rest = first;
+    let mut left = second;
+    while !rest.is_empty() {
+        match sink.write_both(rest, left) {
+            PushedBoth::Took(count) => (rest, left) = behind(rest, left, count),
+            PushedBoth::Failed(_) => return false,
+        }
     }
-    write_all(sink, second)
+    write_all(sink, left)
 }
 
 fn body(answer: &Answer) -> &[u8]

@@ -1,5 +1,5 @@
 -- Calls on refunds leave a tidy desk tidy.
-use Rattle.std.proofs.Common.{◌≡◌, inl, inr, ℕ, suc, zero, true, false, List, [], ◌∷◌, ◌++◌, length, Option, Some, None, refl, sym, ◌∙◌, subst}
+use Rattle.std.proofs.Common.{◌≡◌, inl, inr, ℕ, suc, zero, true, false, List, [], ◌∷◌, ◌++◌, length, refl, sym, subst}
 use Rattle.leg_masks.specs.Interval.{PlacedSpan as Item}
 use Rattle.history_model.specs.declared.entry.Step.{Step}
 use Rattle.history_model.specs.declared.phase.Phase.{Phase}
@@ -17,13 +17,12 @@ use Rattle.booking_rows.specs.declared.turns.Aim.TheVariants as aim
 use Rattle.booking_rows.proofs.ViewLemmas.{row_all_looks}
 use Rattle.rail_catalogue.specs.Contents.{CatalogueView}
 use Rattle.offer_codes.specs.declared.code.RefundCode.{RefundCode}
-use Rattle.refund_core.specs.Quotes.{SeesOwn, SeesNone, FindsBooking, phase_named}
+use Rattle.refund_core.specs.Quotes.{SeesOwn, SeesNone, phase_named}
 use Rattle.refund_core.specs.Refunding.{QuotesRefund, AcceptsRefund}
 use Rattle.refund_core.specs.declared.quoting.Quoted.{Quoted}
 use Rattle.refund_core.specs.declared.quoting.Quoted.TheVariants as quoted
 use Rattle.refund_core.specs.declared.refunding.Refunded.{Refunded}
 use Rattle.refund_core.specs.declared.refunding.Refunded.TheVariants as refunded
-use Rattle.booking_service.specs.Finding.{FindsBooking as FindsForService}
 use Rattle.booking_service.proofs.Calm.{AreCalm, calm_looks, calm_append, tidy_by, tidy_after}
 
 calm_row : (row : ℕ) (v : RowSeen) → NoStep exchanges (saw_row row v)
@@ -36,10 +35,6 @@ pub calm_none : (rows row retailer : ℕ) → AreCalm (SeesNone rows row retaile
 calm_none rows row retailer es (inl is) = subst (NoStep exchanges) (sym is.1) tt
 calm_none rows row retailer es (inr (here, shown, inl is)) = subst (NoStep exchanges) (sym is.1) (refl, tt)
 calm_none rows row retailer es (inr (here, shown, inr (sealed, who, ne, (v, seen, phase, mine, is)))) = subst (NoStep exchanges) (sym is) (calm_row row v)
-
-pub calm_find : (rows row retailer : ℕ) (o : Option RowSeen) → AreCalm (FindsBooking rows row retailer o)
-calm_find rows row retailer None es is = calm_none rows row retailer es is
-calm_find rows row retailer (Some v) es is = calm_own row retailer v es is.1
 
 calm_quotes : (cat : CatalogueView) (rows row retailer now : ℕ) (a : Quoted) → AreCalm (QuotesRefund cat rows row retailer now a)
 calm_quotes cat rows row retailer now (quoted.Done code) es (here, (v, saw, phase, is)) = calm_own row retailer v es saw
@@ -69,23 +64,8 @@ calm_accepts cat rows retailer code now refunded.QuoteWrong es (fresh, here, (v,
 
 -- the calls
 
-pub found_tidy : (rows row retailer : ℕ) (o : Option RowSeen) (old new : DeskView) → ShapeBy (FindsBooking rows row retailer o) old new → KeepsHolds old new → KeepsEndings old new → IsTidy old → IsTidy new
-found_tidy rows row retailer o old new = tidy_by (FindsBooking rows row retailer o) old new (calm_find rows row retailer o)
-
 pub quoted_tidy : (cat : CatalogueView) (rows row retailer now : ℕ) (a : Quoted) (old new : DeskView) → ShapeBy (QuotesRefund cat rows row retailer now a) old new → KeepsHolds old new → KeepsEndings old new → IsTidy old → IsTidy new
 quoted_tidy cat rows row retailer now a old new = tidy_by (QuotesRefund cat rows row retailer now a) old new (calm_quotes cat rows row retailer now a)
 
 pub accepted_tidy : (cat : CatalogueView) (rows retailer : ℕ) (code : RefundCode) (now : ℕ) (a : Refunded) (old new : DeskView) → ShapeBy (AcceptsRefund cat rows retailer code now a) old new → KeepsHolds old new → EndsNone new → IsTidy old → IsTidy new
 accepted_tidy cat rows retailer code now a old new = tidy_after (AcceptsRefund cat rows retailer code now a) old new (calm_accepts cat rows retailer code now a)
-
--- the look for a booking is that of all commands on a booking
-
-finds_so : (rows row retailer : ℕ) (o : Option RowSeen) (es : List Step) → FindsBooking rows row retailer o es → FindsForService rows row retailer o es
-finds_so rows row retailer (Some v) es (here, saw) = (here, saw.mine, (saw.seen, saw.steps))
-finds_so rows row retailer None es (inl is) = inl is
-finds_so rows row retailer None es (inr (here, shown, inl (not_so, is))) = inr (here, inl (shown, not_so, is))
-finds_so rows row retailer None es (inr (here, shown, inr (sealed, who, ne, (v, seen, phase, mine, is)))) =
-    inr (here, inr (v, (λ same. ne (sym mine ∙ same)), (seen, is)))
-
-pub found_so : (rows row retailer : ℕ) (o : Option RowSeen) (old new : DeskView) → ShapeBy (FindsBooking rows row retailer o) old new → ShapeBy (FindsForService rows row retailer o) old new
-found_so rows row retailer o old new did = (did.0, finds_so rows row retailer o did.0 did.1, did.2)

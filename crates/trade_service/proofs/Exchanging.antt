@@ -27,8 +27,8 @@ use Rattle.exchange_core.specs.declared.accepting.Exchanged.TheVariants as accep
 use Rattle.exchange_core.proofs.Kept.{ready_on}
 use Rattle.osdm_texts.specs.declared.problem.Problem.{Problem}
 use Rattle.osdm_texts.specs.declared.problem.Problem.TheVariants.{UnknownBooking, WrongState, RowsFull, NoMemory}
-use Rattle.osdm_answers.specs.Replies.{Reply, offer_list, created, booking, refund_offer, exchange_offer, exchanged, place_list, swept, problem, reply_bytes}
-use Rattle.osdm_answers.proofs.Answering.{problem_bytes, of_problem}
+use Rattle.osdm_texts.specs.Answers.{Reply, offer_list, created, booking, refund_offer, exchange_offer, exchanged, place_list, swept, problem, Told, refused as refused_told, reply_told}
+use Rattle.osdm_texts.proofs.Telling.{of_problem}
 use Rattle.history_model.specs.declared.phase.Phase.TheVariants as phase
 use Rattle.reservation_service.specs.declared.holding.Placing.{Placing}
 use Rattle.reservation_service.specs.declared.holding.Placing.TheVariants.{Whole}
@@ -37,24 +37,31 @@ use Rattle.reservation_service.specs.Reserving.{detail_of, made_view, HasAllOrNo
 use Rattle.reservation_service.proofs.Calm.{held_calmly}
 use Rattle.reservation_service.proofs.Placed.{both}
 use Rattle.reservation_service.proofs.Replying.{whole_of, seals_since, has_places}
-use Rattle.trade_service.specs.Exchanges.{QuotesExchangeOfIt, Decides, DecidesOrNot, CarriesOut, ExchangesIt, IsUnready, ready_of}
-use Rattle.trade_service.proofs.Replying.{Answered}
+use Rattle.trade_service.specs.Exchanges.{QuotesExchangeOfIt, Decides, DecidesOrNot, ExchangesIt, IsUnready, ready_of, AnswersReady, AnswersExchange}
+use Rattle.booking_service.specs.Deciding.{Answered}
 use Rattle.trade_service.proofs.Settling.{exchanges_settles}
 
 -- the replies to a quote
 
-pub offers_exchange : (cat : CatalogueView) (last : Bool) (rows row retailer : ℕ) (offer : OfferView) (now : ℕ) (code : ExchangeCode) (old new : DeskView) (written : List ℕ) → ShapeBy (QuotesExchange cat rows row retailer offer now (quoted.Done code)) old new
-    → (written ≡ reply_bytes cat last (exchange_offer code)) ⊎ (written ≡ reply_bytes cat last (problem NoMemory)) → Answered cat last (QuotesExchangeOfIt cat rows row retailer offer now) old new written
-offers_exchange cat last rows row retailer offer now code old new written did is =
-    ⊎_elim (λ e. (exchange_offer code, (quoted.Done code, did, inl refl), e)) (λ e. (problem NoMemory, (quoted.Done code, did, inr refl), e)) is
+pub offers_exchange : (cat : CatalogueView) (rows row retailer : ℕ) (offer : OfferView) (now : ℕ) (code : ExchangeCode) (old new : DeskView) (said : Told)
+    → ShapeBy (QuotesExchange cat rows row retailer offer now (quoted.Done code)) old new → said ≡ reply_told cat (exchange_offer code)
+    → Answered cat (QuotesExchangeOfIt cat rows row retailer offer now) old new said
+offers_exchange cat rows row retailer offer now code old new said did is = (exchange_offer code, (quoted.Done code, did, inl refl), is)
 
-pub offers_unknown : (cat : CatalogueView) (last : Bool) (rows row retailer : ℕ) (offer : OfferView) (now : ℕ) (old new : DeskView) (written : List ℕ) → ShapeBy (QuotesExchange cat rows row retailer offer now quoted.Unknown) old new
-    → written ≡ problem_bytes UnknownBooking last → Answered cat last (QuotesExchangeOfIt cat rows row retailer offer now) old new written
-offers_unknown cat last rows row retailer offer now old new written did is = (problem UnknownBooking, (quoted.Unknown, did, refl), is ∙ of_problem cat last UnknownBooking)
+pub offers_none : (cat : CatalogueView) (rows row retailer : ℕ) (offer : OfferView) (now : ℕ) (code : ExchangeCode) (old new : DeskView)
+    → ShapeBy (QuotesExchange cat rows row retailer offer now (quoted.Done code)) old new
+    → Answered cat (QuotesExchangeOfIt cat rows row retailer offer now) old new (refused_told NoMemory)
+offers_none cat rows row retailer offer now code old new did = (problem NoMemory, (quoted.Done code, did, inr refl), of_problem cat NoMemory)
 
-pub offers_wrong : (cat : CatalogueView) (last : Bool) (rows row retailer : ℕ) (offer : OfferView) (now : ℕ) (shown : Phase) (old new : DeskView) (written : List ℕ) → ShapeBy (QuotesExchange cat rows row retailer offer now (quoted.WrongState shown)) old new
-    → written ≡ problem_bytes (WrongState shown) last → Answered cat last (QuotesExchangeOfIt cat rows row retailer offer now) old new written
-offers_wrong cat last rows row retailer offer now shown old new written did is = (problem (WrongState shown), (quoted.WrongState shown, did, refl), is ∙ of_problem cat last (WrongState shown))
+pub offers_unknown : (cat : CatalogueView) (rows row retailer : ℕ) (offer : OfferView) (now : ℕ) (old new : DeskView)
+    → ShapeBy (QuotesExchange cat rows row retailer offer now quoted.Unknown) old new
+    → Answered cat (QuotesExchangeOfIt cat rows row retailer offer now) old new (refused_told UnknownBooking)
+offers_unknown cat rows row retailer offer now old new did = (problem UnknownBooking, (quoted.Unknown, did, refl), of_problem cat UnknownBooking)
+
+pub offers_wrong : (cat : CatalogueView) (rows row retailer : ℕ) (offer : OfferView) (now : ℕ) (shown : Phase) (old new : DeskView)
+    → ShapeBy (QuotesExchange cat rows row retailer offer now (quoted.WrongState shown)) old new
+    → Answered cat (QuotesExchangeOfIt cat rows row retailer offer now) old new (refused_told (WrongState shown))
+offers_wrong cat rows row retailer offer now shown old new did = (problem (WrongState shown), (quoted.WrongState shown, did, refl), of_problem cat (WrongState shown))
 
 -- an offer of a spelling has passengers and segments
 
@@ -105,19 +112,17 @@ lost ready hold then back d shown old noted last new same kept notes did gave = 
 )
 
 -- the bytes that show it
-pub shown_by : (cat : CatalogueView) (last : Bool) (p row : ℕ) (v w : RowSeen) (x y : ℤ) (q r : ℕ) (written : List ℕ) → p ≡ row → v ≡ w → x ≡ y → q ≡ r → written ≡ reply_bytes cat last (exchanged p v x q) → written ≡ reply_bytes cat last (exchanged row w y r)
-shown_by cat last p row v w x y q r written rows views differences replaced is = is ∙ (λ i. reply_bytes cat last (exchanged (rows i) (views i) (differences i) (replaced i)))
+pub shown_by : (cat : CatalogueView) (p row : ℕ) (v w : RowSeen) (x y : ℤ) (q r : ℕ) (written : Told) → p ≡ row → v ≡ w → x ≡ y → q ≡ r → written ≡ reply_told cat (exchanged p v x q) → written ≡ reply_told cat (exchanged row w y r)
+shown_by cat p row v w x y q r written rows views differences replaced is = is ∙ (λ i. reply_told cat (exchanged (rows i) (views i) (differences i) (replaced i)))
 
--- what is answered, with its bytes and the places of the new booking
-abbrev pub Carried : CatalogueView → Bool → ReadyView → DeskView → DeskView → List ℕ → Type 0
-Carried cat last ready old new written = (reply : Reply) × CarriesOut cat ready old new reply × HasAllOrNone cat ready.code.offer old new reply × (written ≡ reply_bytes cat last reply)
+pub no_row : (cat : CatalogueView) (ready : ReadyView) (old new : DeskView) → FindsNoRow old new → AnswersReady cat ready old new (refused_told RowsFull)
+no_row cat ready old new did = (problem RowsFull, inl (inl (did, refl)), tt, of_problem cat RowsFull)
 
-pub no_row : (cat : CatalogueView) (last : Bool) (ready : ReadyView) (old new : DeskView) (written : List ℕ) → FindsNoRow old new → written ≡ problem_bytes RowsFull last → Carried cat last ready old new written
-no_row cat last ready old new written did is = (problem RowsFull, inl (inl (did, refl)), tt, is ∙ of_problem cat last RowsFull)
-
-pub given_up : (cat : CatalogueView) (last : Bool) (ready : ReadyView) (row : ℕ) (p : Placing) (why : Problem) (items : List Item) (old mid new : DeskView) (written : List ℕ) → HoldsPlaces cat ready.code.offer ready.code.offer.segments row p items old mid
-    → problem_of p ≡ Some why → GivesUp row items mid new → written ≡ reply_bytes cat last (problem why) → Carried cat last ready old new written
-given_up cat last ready row p why items old mid new written placed is gave bytes = (problem why, inl (inr (row, p, why, items, mid, placed, is, gave, refl)), tt, bytes)
+pub given_up : (cat : CatalogueView) (ready : ReadyView) (row : ℕ) (p : Placing) (why : Problem) (items : List Item) (old mid new : DeskView)
+    → HoldsPlaces cat ready.code.offer ready.code.offer.segments row p items old mid → problem_of p ≡ Some why → GivesUp row items mid new
+    → AnswersReady cat ready old new (refused_told why)
+given_up cat ready row p why items old mid new placed is gave =
+    (problem why, inl (inr (row, p, why, items, mid, placed, is, gave, refl)), tt, of_problem cat why)
 
 has_all : (cat : CatalogueView) (ready : ReadyView) (row : ℕ) (items : List Item) (d : Detail) (old mid new : DeskView) (reply : Reply) → HoldsPlaces cat ready.code.offer ready.code.offer.segments row Whole items old mid → DecidesOrNot ready row items d mid new reply
     → HasAllOrNone cat ready.code.offer old new reply
@@ -128,19 +133,15 @@ has_all cat ready row items d old mid new reply placed (inl (noted, notes, inl (
 has_all cat ready row items d old mid new reply placed (inl (noted, notes, inr (shown, hold, last, did, gave, is))) = subst (HasAllOrNone cat ready.code.offer old new) (sym is) tt
 has_all cat ready row items d old mid new reply placed (inr (gave, is)) = subst (HasAllOrNone cat ready.code.offer old new) (sym is) tt
 
-pub decided : (cat : CatalogueView) (last : Bool) (ready was : ReadyView) (row : ℕ) (p : Placing) (items : List Item) (d : Detail) (old mid new : DeskView) (reply : Reply) (written : List ℕ) → HoldsPlaces cat ready.code.offer ready.code.offer.segments row p items old mid
-    → problem_of p ≡ None → was ≡ ready → d ≡ detail_of cat ready.code.offer ready.retailer ready.moment → DecidesOrNot was row items d mid new reply → written ≡ reply_bytes cat last reply → Carried cat last ready old new written
-decided cat last ready was row p items d old mid new reply written placed none same detail did bytes =
+pub decided : (cat : CatalogueView) (ready was : ReadyView) (row : ℕ) (p : Placing) (items : List Item) (d : Detail) (old mid new : DeskView) (reply : Reply) (written : Told) → HoldsPlaces cat ready.code.offer ready.code.offer.segments row p items old mid
+    → problem_of p ≡ None → was ≡ ready → d ≡ detail_of cat ready.code.offer ready.retailer ready.moment → DecidesOrNot was row items d mid new reply → written ≡ reply_told cat reply → AnswersReady cat ready old new written
+decided cat ready was row p items d old mid new reply written placed none same detail did bytes =
     let o = ready.code.offer in
     let whole = subst (λ (q : Placing). HoldsPlaces cat o o.segments row q items old mid) (whole_of p none) placed in
     let go = subst (λ (x : ReadyView). DecidesOrNot x row items (detail_of cat o ready.retailer ready.moment) mid new reply) same (subst (λ (x : Detail). DecidesOrNot was row items x mid new reply) detail did) in
     (reply, inr (row, items, mid, whole, go), has_all cat ready row items (detail_of cat o ready.retailer ready.moment) old mid new reply whole go, bytes)
 
 -- the whole command
-
-abbrev pub Exchanged : CatalogueView → Bool → ℕ → ℕ → ExchangeView → ℕ → DeskView → DeskView → List ℕ → Type 0
-Exchanged cat last rows retailer code now old new written =
-    (reply : Reply) × ExchangesIt cat rows retailer code now old new reply × HasAllOrNone cat code.offer old new reply × (written ≡ reply_bytes cat last reply)
 
 -- the booking of a seal is so of what went before
 has_all_since : (cat : CatalogueView) (o : OfferView) (old mid new : DeskView) (es : _) (reply : Reply) → Shape old mid es → HasAllOrNone cat o mid new reply → HasAllOrNone cat o old new reply
@@ -157,18 +158,19 @@ has_all_since cat o old mid new es (problem p) did is = tt
 pub is_ready_of : (cat : CatalogueView) (rows retailer : ℕ) (code : ExchangeView) (now : ℕ) (ready : ReadyView) (old mid : DeskView) → ShapeBy (Readies cat rows retailer code now (readied.Fine ready)) old mid → ready ≡ ready_of retailer code now
 is_ready_of cat rows retailer code now ready old mid did = did.1.0
 
-pub carried : (cat : CatalogueView) (last : Bool) (rows retailer : ℕ) (code : ExchangeView) (now : ℕ) (ready : ReadyView) (old mid new : DeskView) (written : List ℕ) → ShapeBy (Readies cat rows retailer code now (readied.Fine ready)) old mid
-    → Carried cat last (ready_of retailer code now) mid new written → Exchanged cat last rows retailer code now old new written
-carried cat last rows retailer code now ready old mid new written did (reply, go, all, bytes) = (
+pub carried : (cat : CatalogueView) (rows retailer : ℕ) (code : ExchangeView) (now : ℕ) (ready : ReadyView) (old mid new : DeskView) (written : Told) → ShapeBy (Readies cat rows retailer code now (readied.Fine ready)) old mid
+    → AnswersReady cat (ready_of retailer code now) mid new written → AnswersExchange cat rows retailer code now old new written
+carried cat rows retailer code now ready old mid new written did (reply, go, all, bytes) = (
   reply,
   inr (mid, subst (λ (r : ReadyView). ShapeBy (Readies cat rows retailer code now (readied.Fine r)) old mid) did.1.0 did, go),
   has_all_since cat code.offer old mid new did.0 reply did.2 all,
   bytes,
 )
 
-pub refused : (cat : CatalogueView) (last : Bool) (rows retailer : ℕ) (code : ExchangeView) (now : ℕ) (p : Problem) (old new : DeskView) (written : List ℕ) → ((a : Readied) × ShapeBy (Readies cat rows retailer code now a) old new × IsUnready a p)
-    → written ≡ problem_bytes p last → Exchanged cat last rows retailer code now old new written
-refused cat last rows retailer code now p old new written (a, did, un) bytes = (problem p, inl (a, p, did, un, refl), tt, bytes ∙ of_problem cat last p)
+pub refused : (cat : CatalogueView) (rows retailer : ℕ) (code : ExchangeView) (now : ℕ) (p : Problem) (old new : DeskView)
+    → ((a : Readied) × ShapeBy (Readies cat rows retailer code now a) old new × IsUnready a p)
+    → AnswersExchange cat rows retailer code now old new (refused_told p)
+refused cat rows retailer code now p old new (a, did, un) = (problem p, inl (a, p, did, un, refl), tt, of_problem cat p)
 
-pub exchanged_tidy : (cat : CatalogueView) (last : Bool) (rows retailer : ℕ) (code : ExchangeView) (now : ℕ) (old new : DeskView) (written : List ℕ) → Exchanged cat last rows retailer code now old new written → IsIdle new → IsTidy old → IsTidy new
-exchanged_tidy cat last rows retailer code now old new written a idle tidy = (idle, exchanges_settles cat rows retailer code now old new a.0 a.1 tidy.1)
+pub exchanged_tidy : (cat : CatalogueView) (rows retailer : ℕ) (code : ExchangeView) (now : ℕ) (old new : DeskView) (written : Told) → AnswersExchange cat rows retailer code now old new written → IsIdle new → IsTidy old → IsTidy new
+exchanged_tidy cat rows retailer code now old new written a idle tidy = (idle, exchanges_settles cat rows retailer code now old new a.0 a.1 tidy.1)

@@ -23,7 +23,7 @@ use Rattle.exchange_core.specs.declared.quoting.QuotedExchange.TheVariants as qu
 use Rattle.exchange_core.specs.declared.readying.Readied.{Readied}
 use Rattle.exchange_core.specs.declared.readying.Readied.TheVariants as readied
 use Rattle.exchange_core.proofs.Exchanging.{settled_done, settled_lost}
-use Rattle.osdm_answers.specs.Replies.{Reply}
+use Rattle.osdm_texts.specs.Answers.{Reply}
 use Rattle.reservation_service.specs.Holding.{HoldsPlaces, GivesUp}
 use Rattle.reservation_service.specs.Reserving.{FailsToHold}
 use Rattle.reservation_service.specs.declared.holding.Placing.TheVariants.{Whole}

@@ -24,10 +24,10 @@ use Rattle.exchange_core.specs.declared.readying.Readied.TheVariants as readied
 use Rattle.exchange_core.specs.declared.accepting.Exchanged.TheVariants as accepted
 use Rattle.osdm_texts.specs.declared.problem.Problem.{Problem}
 use Rattle.osdm_texts.specs.declared.problem.Problem.TheVariants.{UnknownBooking, WrongState, OfferTooOld, QuoteWrong, NoMemory}
-use Rattle.osdm_answers.specs.Replies.{Reply, exchange_offer, exchanged, problem}
+use Rattle.osdm_texts.specs.Answers.{Reply, exchange_offer, exchanged, problem, Told, reply_told}
 use Rattle.booking_service.specs.Deciding.{Replying}
 use Rattle.reservation_service.specs.Holding.{HoldsPlaces, GivesUp}
-use Rattle.reservation_service.specs.Reserving.{detail_of, made_view, FailsToHold}
+use Rattle.reservation_service.specs.Reserving.{detail_of, made_view, FailsToHold, HasAllOrNone}
 use Rattle.reservation_service.specs.declared.holding.Placing.TheVariants.{Whole}
 
 -- the quote, or that there is no memory for it; a refusal takes none
@@ -79,3 +79,13 @@ ExchangesIt cat rows retailer code now old new reply =
     ((a : Readied) × (p : Problem) × ShapeBy (Readies cat rows retailer code now a) old new × IsUnready a p × (reply ≡ problem p))
     ⊎ ((mid : DeskView) × ShapeBy (Readies cat rows retailer code now (readied.Fine (ready_of retailer code now))) old mid
     × CarriesOut cat (ready_of retailer code now) mid new reply)
+
+-- such a reply to a quote that was checked, which has all places or none, and what is told of it
+abbrev pub AnswersReady : CatalogueView → ReadyView → DeskView → DeskView → Told → Type 0
+AnswersReady cat ready old new said =
+    (reply : Reply) × CarriesOut cat ready old new reply × HasAllOrNone cat ready.code.offer old new reply × (said ≡ reply_told cat reply)
+
+-- the same of the whole command
+abbrev pub AnswersExchange : CatalogueView → ℕ → ℕ → ExchangeView → ℕ → DeskView → DeskView → Told → Type 0
+AnswersExchange cat rows retailer code now old new said =
+    (reply : Reply) × ExchangesIt cat rows retailer code now old new reply × HasAllOrNone cat code.offer old new reply × (said ≡ reply_told cat reply)

@@ -1,7 +1,6 @@
 //! Exchanges: offered, and carried out.
-ghost use Rattle.std.specs.Prelude.{◌≡◌, ◌⊎◌, ◌≤◌, true, length, IfSome, IfOk, IfErr};
+ghost use Rattle.std.specs.Prelude.{◌≡◌, ◌≤◌, true, length, Ok, IfSome, IfOk, IfErr};
 ghost use Rattle.std.specs.List.{list_all};
-ghost use Rattle.session_loop.specs.Answered.{answer_bytes};
 ghost use Rattle.claim_rule.specs.Seats.{IsOf};
 ghost use Rattle.claim_rule.specs.Calls.{ShapeBy};
 ghost use Rattle.claim_rule.specs.Out.{IsTidy, IsIdle, IsHolding, HasNotedItems, HoldsNone, EndsNone, KeepsHolds, KeepsEndings};
@@ -14,66 +13,71 @@ ghost use Rattle.exchange_core.specs.Ready.{IsReadyFor};
 ghost use Rattle.exchange_core.specs.Exchanges.{Readies};
 ghost use Rattle.exchange_core.specs.declared.readying.Readied.{Readied as ReadiedBy};
 ghost use Rattle.exchange_core.specs.declared.readying.Readied.TheVariants as readied;
-ghost use Rattle.osdm_texts.specs.declared.problem.Problem.TheVariants.{NoMemory as NoMemoryProblem};
-ghost use Rattle.osdm_answers.specs.Replies.{Reply as Replied, exchange_offer, exchanged, problem as problem_reply, reply_bytes};
-ghost use Rattle.reservation_service.specs.Reserving.{HasAllOrNone};
-ghost use Rattle.trade_service.specs.Exchanges.{QuotesExchangeOfIt, ExchangesIt, CarriesOut, DecidesOrNot, IsUnready, ready_of};
+ghost use Rattle.osdm_texts.specs.Answers.{Reply as Replied, exchange_offer, exchanged, reply_told, told_of};
+ghost use Rattle.booking_service.specs.Deciding.{Answered};
+ghost use Rattle.trade_service.specs.Exchanges.{QuotesExchangeOfIt, AnswersExchange, AnswersReady, DecidesOrNot, IsUnready, ready_of};
 
 use booking_rows::{Detail, RowView, note_detail};
-use claim_rule::{Books, Desk, Hold};
+use claim_rule::{Desk, Hold};
 use exchange_core::{
     ExchangeReady, Exchanged, QuotedExchange, Readied, accept_exchange, quote_exchange,
     ready_exchange,
 };
 use history_model::phase::Phase;
-use http_wire::Answer;
+use hold_core::abandon;
 use offer_codes::{ExchangeCode, OfferCode};
-use osdm_answers::{problem_answer, reply_answer};
-use osdm_texts::{Problem, Reply};
-use rail_catalogue::Catalogue;
+use osdm_texts::{Problem, Reply, Success, Written, write_reply};
 use rail_ids::{RetailerNo, RowNo};
 use rail_time::Moment;
-use reservation_service::{Held, detail_for, give_up, hold_places, new_view};
-use std::alloc::Global;
+use reservation_service::{Held, detail_for, hold_places, new_view};
+use shop::{Asker, Shop};
 
-// The answer that offers an exchange, or that there is no memory for it.
-fn exchange_offer_answer(alloc: Global, cat: &Catalogue, code: ExchangeCode, last: bool) -> Answer
+// The text that offers an exchange, or `None` where there is no memory for it.
+fn exchange_offer_answer(shop: &Shop<'_>, code: ExchangeCode) -> Option<Written>
     requires range { is_exchange (exchange_view code) ≡ true }
-    ensures bytes { (answer_bytes result ≡ reply_bytes cat.now last (exchange_offer code)) ⊎ (answer_bytes result ≡ reply_bytes cat.now last (problem_reply NoMemoryProblem)) }
+    ensures told { IfSome result (λ written. told_of (Ok written) ≡ reply_told shop.now.cat.now (exchange_offer code)) }
 {
-    match reply_answer(alloc, cat, 201, &Reply::ExchangeOffer { code }, last) {
-        Some(answer) => answer,
-        None => problem_answer(&Problem::NoMemory, last),
-    }
+    write_reply(
+        shop.alloc,
+        shop.cat,
+        Success::Created,
+        &Reply::ExchangeOffer { code },
+    )
 }
 
 /// Offers an exchange of a booking for an offer (OSDM's exchange offer). The offer is in the ranges of its spelling.
 pub fn quote_exchange_booking(
-    alloc: Global,
-    cat: &Catalogue,
-    books: &Books,
+    shop: &Shop<'_>,
     desk: &mut Desk,
-    retailer: RetailerNo,
+    asker: Asker,
     row: RowNo,
     offer: &OfferCode,
-    now: Moment,
-    last: bool,
-) -> Answer
-    requires own { IsOf books.now desk.old }
+) -> Result<Written, Problem>
+    requires own { IsOf shop.now.books.now desk.old }
     requires idle { IsIdle desk.old }
     requires offer { is_offer (offer_view offer.now) ≡ true }
-    ensures own { IsOf books.now desk.new }
+    ensures own { IsOf shop.now.books.now desk.new }
     ensures idle { IsIdle desk.new }
     ensures tidy { IsTidy desk.old → IsTidy desk.new }
-    ensures answer { (reply : Replied) × QuotesExchangeOfIt cat.now books.now.layout.rows row.0 retailer.0 (offer_view offer.now) now desk.old desk.new reply × (answer_bytes result ≡ reply_bytes cat.now last reply) }
+    ensures answer { Answered shop.now.cat.now (QuotesExchangeOfIt shop.now.cat.now shop.now.books.now.layout.rows
+        row.0 asker.retailer.0 (offer_view offer.now) asker.moment) desk.old desk.new (told_of result) }
 {
-    match quote_exchange(cat, books, desk, row, retailer, offer, now) {
-        QuotedExchange::Done(code) => exchange_offer_answer(alloc, cat, code, last),
-        QuotedExchange::Unknown => problem_answer(&Problem::UnknownBooking, last),
-        QuotedExchange::WrongState { shown } => problem_answer(
-            &Problem::WrongState { shown },
-            last,
-        ),
+    let quoted = quote_exchange(
+        shop.cat,
+        shop.books,
+        desk,
+        row,
+        asker.retailer,
+        offer,
+        asker.moment,
+    );
+    match quoted {
+        QuotedExchange::Done(code) => match exchange_offer_answer(shop, code) {
+            Some(quoted) => Ok(quoted),
+            None => Err(Problem::NoMemory),
+        },
+        QuotedExchange::Unknown => Err(Problem::UnknownBooking),
+        QuotedExchange::WrongState { shown } => Err(Problem::WrongState { shown }),
     }
 }
 
@@ -83,50 +87,48 @@ pub fn quote_exchange_booking(
 /// The new booking is confirmed at once. The books have the catalogue's places, each segment's run holds its span, and the code is in the
 /// ranges of its spelling.
 pub fn accept_exchange_booking(
-    alloc: Global,
-    cat: &Catalogue,
-    books: &Books,
+    shop: &Shop<'_>,
     desk: &mut Desk,
-    retailer: RetailerNo,
+    asker: Asker,
     code: &ExchangeCode,
-    now: Moment,
-    last: bool,
-) -> Answer
-    requires own { IsOf books.now desk.old }
-    requires legs { books.now.layout.legs ≡ legs_in cat.now }
+) -> Result<Written, Problem>
+    requires own { IsOf shop.now.books.now desk.old }
+    requires legs { shop.now.books.now.layout.legs ≡ legs_in shop.now.cat.now }
     requires idle { IsIdle desk.old }
     requires offer { is_offer (offer_view code.now.offer) ≡ true }
-    requires runs { list_all (is_of_runs cat.now.runs) code.now.offer.segments.items ≡ true }
-    ensures own { IsOf books.now desk.new }
+    requires runs { list_all (is_of_runs shop.now.cat.now.runs) code.now.offer.segments.items ≡ true }
+    ensures own { IsOf shop.now.books.now desk.new }
     ensures idle { IsIdle desk.new }
     ensures tidy { IsTidy desk.old → IsTidy desk.new }
-    ensures answer { (reply : Replied) × ExchangesIt cat.now books.now.layout.rows retailer.0 (exchange_view code.now) now desk.old desk.new reply × HasAllOrNone cat.now (offer_view code.now.offer) desk.old desk.new reply × (answer_bytes result ≡ reply_bytes cat.now last reply) }
+    ensures answer { AnswersExchange shop.now.cat.now shop.now.books.now.layout.rows asker.retailer.0
+        (exchange_view code.now) asker.moment desk.old desk.new (told_of result) }
 {
-    match check(cat, books, desk, retailer, code, now) {
-        Ok(ready) => carry_out(alloc, cat, books, desk, retailer, code, now, ready, last),
-        Err(problem) => problem_answer(&problem, last),
+    match check(shop, desk, asker.retailer, code, asker.moment) {
+        Ok(ready) => carry_out(shop, desk, asker, code, ready),
+        Err(problem) => Err(problem),
     }
 }
 
 // The quote as it was checked, or what is wrong with it.
 fn check(
-    cat: &Catalogue,
-    books: &Books,
+    shop: &Shop<'_>,
     desk: &mut Desk,
     retailer: RetailerNo,
     code: &ExchangeCode,
     now: Moment,
 ) -> Result<ExchangeReady, Problem>
-    requires own { IsOf books.now desk.old }
+    requires own { IsOf shop.now.books.now desk.old }
     requires offer { is_offer (offer_view code.now.offer) ≡ true }
-    ensures own { IsOf books.now desk.new }
-    ensures fine { IfOk result (λ ready. ShapeBy (Readies cat.now books.now.layout.rows retailer.0 (exchange_view code.now) now (readied.Fine ready)) desk.old desk.new) }
+    ensures own { IsOf shop.now.books.now desk.new }
+    ensures fine { IfOk result (λ ready. ShapeBy (Readies shop.now.cat.now shop.now.books.now.layout.rows retailer.0
+        (exchange_view code.now) now (readied.Fine ready)) desk.old desk.new) }
     ensures ready { IfOk result (IsReadyFor desk.new) }
-    ensures unready { IfErr result (λ p. (a : ReadiedBy) × ShapeBy (Readies cat.now books.now.layout.rows retailer.0 (exchange_view code.now) now a) desk.old desk.new × IsUnready a p) }
+    ensures unready { IfErr result (λ p. (a : ReadiedBy) × ShapeBy (Readies shop.now.cat.now shop.now.books.now.layout.rows
+        retailer.0 (exchange_view code.now) now a) desk.old desk.new × IsUnready a p) }
     ensures holds { KeepsHolds desk.old desk.new }
     ensures endings { KeepsEndings desk.old desk.new }
 {
-    match ready_exchange(cat, books, desk, retailer, code, now) {
+    match ready_exchange(shop.cat, shop.books, desk, retailer, code, now) {
         Readied::Fine(ready) => Ok(ready),
         Readied::Unknown => Err(Problem::UnknownBooking),
         Readied::WrongState { shown } => Err(Problem::WrongState { shown }),
@@ -137,35 +139,35 @@ fn check(
 
 // Holds the places of the new booking and carries the exchange out, by a quote that was checked.
 fn carry_out(
-    alloc: Global,
-    cat: &Catalogue,
-    books: &Books,
+    shop: &Shop<'_>,
     desk: &mut Desk,
-    retailer: RetailerNo,
+    asker: Asker,
     code: &ExchangeCode,
-    now: Moment,
     ready: ExchangeReady,
-    last: bool,
-) -> Answer
-    requires own { IsOf books.now desk.old }
-    requires legs { books.now.layout.legs ≡ legs_in cat.now }
+) -> Result<Written, Problem>
+    requires own { IsOf shop.now.books.now desk.old }
+    requires legs { shop.now.books.now.layout.legs ≡ legs_in shop.now.cat.now }
     requires idle { IsIdle desk.old }
     requires offer { is_offer (offer_view code.now.offer) ≡ true }
-    requires runs { list_all (is_of_runs cat.now.runs) code.now.offer.segments.items ≡ true }
+    requires runs { list_all (is_of_runs shop.now.cat.now.runs) code.now.offer.segments.items ≡ true }
     requires ready { IsReadyFor desk.old ready }
-    requires same { ready ≡ ready_of retailer.0 (exchange_view code.now) now }
-    ensures own { IsOf books.now desk.new }
+    requires same { ready ≡ ready_of asker.retailer.0 (exchange_view code.now) asker.moment }
+    ensures own { IsOf shop.now.books.now desk.new }
     ensures idle { IsIdle desk.new }
-    ensures answer { (reply : Replied) × CarriesOut cat.now (ready_of retailer.0 (exchange_view code.now) now) desk.old desk.new reply × HasAllOrNone cat.now (offer_view code.now.offer) desk.old desk.new reply × (answer_bytes result ≡ reply_bytes cat.now last reply) }
+    ensures answer { AnswersReady shop.now.cat.now (ready_of asker.retailer.0 (exchange_view code.now) asker.moment)
+        desk.old desk.new (told_of result) }
 {
-    let Some(Held { hold, placing }) = hold_places(alloc, cat, books, desk, &code.offer) else {
-        return problem_answer(&Problem::RowsFull, last);
+    let Some(Held { hold, placing }) = hold_places(shop, desk, &code.offer) else {
+        return Err(Problem::RowsFull);
     };
     match placing.problem() {
-        Some(problem) => give_up(books, desk, hold, problem, last),
+        Some(problem) => {
+            abandon(shop.books, desk, hold);
+            Err(problem)
+        }
         None => {
-            let detail = detail_for(cat, &code.offer, retailer, now);
-            decide(alloc, cat, books, desk, hold, detail, code, ready, last)
+            let detail = detail_for(shop.cat, &code.offer, asker);
+            decide(shop, desk, hold, detail, code, ready)
         }
     }
 }
@@ -173,17 +175,14 @@ fn carry_out(
 // Decides the exchange for a hold with all its places, once the whole answer is written. Where there is no memory for it, or the turn of
 // the old booking is lost, all is given back.
 fn decide(
-    alloc: Global,
-    cat: &Catalogue,
-    books: &Books,
+    shop: &Shop<'_>,
     desk: &mut Desk,
     mut hold: Hold,
     detail: Detail,
     code: &ExchangeCode,
     ready: ExchangeReady,
-    last: bool,
-) -> Answer
-    requires own { IsOf books.now desk.old }
+) -> Result<Written, Problem>
+    requires own { IsOf shop.now.books.now desk.old }
     requires hold { IsHolding desk.old hold }
     requires noted { HasNotedItems desk.old hold }
     requires some { 1 ≤ length hold.items }
@@ -191,57 +190,46 @@ fn decide(
     requires none { EndsNone desk.old }
     requires ready { IsReadyFor desk.old ready }
     requires same { ready.code ≡ exchange_view code.now }
-    ensures own { IsOf books.now desk.new }
+    ensures own { IsOf shop.now.books.now desk.new }
     ensures holds_none { HoldsNone desk.new }
     ensures none { EndsNone desk.new }
-    ensures answer { (reply : Replied) × DecidesOrNot ready hold.row hold.items detail desk.old desk.new reply × (answer_bytes result ≡ reply_bytes cat.now last reply) }
+    ensures answer { (reply : Replied) × DecidesOrNot ready hold.row hold.items detail desk.old desk.new reply
+        × (told_of result ≡ reply_told shop.now.cat.now reply) }
 {
     let view = new_view(Phase::Confirmed, hold.items(), &detail);
-    let Some(answer) = exchanged_answer(
-        alloc,
-        cat,
-        hold.row(),
-        view,
-        code.difference,
-        code.row,
-        last,
-    ) else {
-        return give_up(books, desk, hold, Problem::NoMemory, last);
+    let Some(answer) = exchanged_answer(shop, hold.row(), view, code.difference, code.row) else {
+        abandon(shop.books, desk, hold);
+        return Err(Problem::NoMemory);
     };
-    note_detail(books, desk, &mut hold, detail);
-    match accept_exchange(books, desk, hold, ready) {
+    note_detail(shop.books, desk, &mut hold, detail);
+    match accept_exchange(shop.books, desk, hold, ready) {
         Exchanged::Done {
             new: _,
             difference: _,
-        } => answer,
+        } => Ok(answer),
         Exchanged::WrongState { shown, hold } => {
-            give_up(books, desk, hold, Problem::WrongState { shown }, last)
+            abandon(shop.books, desk, hold);
+            Err(Problem::WrongState { shown })
         }
     }
 }
 
-// The answer that shows the new booking of an exchange, or `None` where there is no memory for it.
+// The text that shows the new booking of an exchange, or `None` where there is no memory for it.
 fn exchanged_answer(
-    alloc: Global,
-    cat: &Catalogue,
+    shop: &Shop<'_>,
     row: RowNo,
     view: RowView,
     difference: i64,
     replaced: RowNo,
-    last: bool,
-) -> Option<Answer>
-    ensures bytes { IfSome result (λ answer. answer_bytes answer ≡ reply_bytes cat.now last (exchanged row.0 view difference replaced.0)) }
+) -> Option<Written>
+    ensures told { IfSome result (λ written. told_of (Ok written)
+        ≡ reply_told shop.now.cat.now (exchanged row.0 view difference replaced.0)) }
 {
-    reply_answer(
-        alloc,
-        cat,
-        201,
-        &Reply::Exchange {
-            row,
-            view,
-            difference,
-            replaced,
-        },
-        last,
-    )
+    let reply = Reply::Exchange {
+        row,
+        view,
+        difference,
+        replaced,
+    };
+    write_reply(shop.alloc, shop.cat, Success::Created, &reply)
 }

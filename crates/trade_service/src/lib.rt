@@ -6,8 +6,6 @@
 
 mod exchanges;
 mod refunds;
-#[cfg(test)]
-mod tests;
 
 pub use exchanges::{accept_exchange_booking, quote_exchange_booking};
 pub use refunds::{accept_refund_booking, quote_refund_booking};

@@ -1,7 +1,8 @@
 use Rattle.std.proofs.Common.{true, ap, ◌∙◌}
 use Rattle.osdm_texts.specs.declared.problem.Problem.{Problem}
-use Rattle.osdm_answers.specs.Replies.{problem, reply_bytes}
-use Rattle.osdm_answers.proofs.Answering.{of_problem}
+use Rattle.osdm_texts.specs.Answers.{problem}
+use Rattle.rail_service.specs.Bytes.{reply_bytes}
+use Rattle.rail_service.proofs.Telling.{of_problem}
 use Rattle.rail_service.proofs.refusal.refusal_of.Goals as goal
 
 pub returns : goal.returns

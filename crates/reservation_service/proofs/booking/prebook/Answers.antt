@@ -4,13 +4,14 @@ use Rattle.leg_masks.specs.Interval.{PlacedSpan as Item}
 use Rattle.booking_rows.specs.Views.{RowSeen}
 use Rattle.claim_rule.proofs.Out.{endings_then}
 use Rattle.osdm_texts.specs.declared.problem.Problem.TheVariants.{NoMemory}
-use Rattle.osdm_answers.specs.Replies.{created, problem, reply_bytes}
+use Rattle.osdm_texts.specs.Answers.{created, problem, reply_told}
+use Rattle.osdm_texts.proofs.Telling.{of_problem}
 use Rattle.reservation_service.specs.Reserving.{made_view}
 use Rattle.reservation_service.proofs.Replying.{seals_hold}
 use Rattle.reservation_service.proofs.booking.prebook.Goals as goal
 
 pub returns-in_default-clause-answer : goal.returns-in_default-clause-answer
-returns-in_default-clause-answer c = (problem NoMemory, inr (c.give_up.ensures.given, refl), c.give_up.ensures.bytes c.args.cat.now)
+returns-in_default-clause-answer c = (problem NoMemory, inr (c.abandon.ensures.entries, refl), of_problem c.args.shop.now.cat.now NoMemory)
 
 pub returns-clause-endings : goal.returns-clause-endings
 returns-clause-endings c = endings_then c.args.desk.now c.note_detail.new.desk c.seal-row.new.desk c.note_detail.ensures.endings c.seal-row.ensures.endings
@@ -22,7 +23,7 @@ returns-clause-answer c =
     let reply = created h.row (made_view phase.Prebooked c.args.detail h.items) in (
       reply,
       seals_hold h c.note_detail.new.hold c.args.detail c.args.desk.now c.note_detail.new.desk c.seal-row.new.desk reply c.note_detail.ensures.same c.note_detail.ensures.entries c.seal-row.ensures.entries c.seal-row.ensures.items refl,
-      c.in-Some.ensures.bytes
-          ∙ (ap (λ (r : ℕ). reply_bytes c.args.cat.now c.args.last (created r c.new_view-view.result)) c.row.ensures
-          ∙ ap (λ (v : RowSeen). reply_bytes c.args.cat.now c.args.last (created h.row v)) view),
+      c.in-Some.ensures.told
+          ∙ (ap (λ (r : ℕ). reply_told c.args.shop.now.cat.now (created r c.new_view-view.result)) c.row.ensures
+          ∙ ap (λ (v : RowSeen). reply_told c.args.shop.now.cat.now (created h.row v)) view),
     )

@@ -1,11 +1,12 @@
 use Rattle.std.proofs.Common.{◌∙◌, List, [], ◌∷◌, ◌++◌, ap, subst}
-use Rattle.session_loop.specs.Answered.{answer_bytes}
+use Rattle.osdm_texts.specs.Answers.{told_of}
 use Rattle.offer_codes.specs.declared.code.Segment.{Segment}
-use Rattle.reservation_service.specs.Reserving.{reserved}
-use Rattle.reservation_service.proofs.Replying.{Answered}
+use Rattle.reservation_service.specs.Reserving.{reserved, AnswersReserving}
 use Rattle.reservation_service.proofs.booking.reserve_places.Goals as goal
 
 pub returns-clause-answer : goal.returns-clause-answer
 returns-clause-answer c =
-    subst (λ (l : List Segment). Answered c.args.cat.now c.args.retailer.0 c.args.now (record (reserved c.args.segment c.args.class c.args.count c.args.wanted c.args.now) { segments = l }) c.args.last c.args.desk.now c.book_offer.new.desk (answer_bytes c.book_offer.result))
-    (c.push.ensures.items ∙ ap (λ (l : List Segment). l ++ c.args.segment ∷ []) c.new-segments.ensures) c.book_offer.ensures.answer
+    let r = c.args.reservation in
+    let asker = c.args.asker in
+    subst (λ (l : List Segment). AnswersReserving c.args.shop.now.cat.now asker.retailer.0 asker.moment (record (reserved r.segment r.class r.count r.traits asker.moment) { segments = l }) c.args.desk.now c.book_offer.new.desk (told_of c.book_offer.result))
+    (c.push.ensures.items ∙ ap (λ (l : List Segment). l ++ r.segment ∷ []) c.new-segments.ensures) c.book_offer.ensures.answer

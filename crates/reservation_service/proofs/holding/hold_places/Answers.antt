@@ -13,7 +13,7 @@ returns-clause-placed c =
     let did = c.place_segments-placing in (
       mid,
       subst (λ (r : ℕ). ShapeBy (StartsHold old mid (Some r)) old mid) (sym did.ensures.row) c.in_ok-hold.ensures.entries,
-      subst (λ (r : ℕ). PlacesAll c.args.cat.now (offer_view c.args.offer.now) r [] c.args.offer.now.segments.items did.result did.new.hold.items mid did.new.desk) (sym did.ensures.row) did.ensures.placed,
+      subst (λ (r : ℕ). PlacesAll c.args.shop.now.cat.now (offer_view c.args.offer.now) r [] c.args.offer.now.segments.items did.result did.new.hold.items mid did.new.desk) (sym did.ensures.row) did.ensures.placed,
     )
 
 pub returns-clause-endings : goal.returns-clause-endings

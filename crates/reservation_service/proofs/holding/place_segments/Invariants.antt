@@ -8,10 +8,10 @@ use Rattle.reservation_service.proofs.holding.place_segments.Given as goal
 
 abbrev pub invariant-loop-segment : goal.invariant-loop-segment
 invariant-loop-segment l = record {
-  own : IsOf l.books l.desk;
+  own : IsOf l.shop.books.now l.desk;
   hold : IsHolding l.desk l.hold;
   noted : HasNotedItems l.desk l.hold;
   row : l.hold.row ≡ l.fn.hold.row;
-  placed : PlacesAll l.cat (offer_view l.offer) l.fn.hold.row [] (take l.segment-index l.offer.segments.items) Whole l.hold.items l.fn.desk l.desk;
+  placed : PlacesAll l.shop.cat.now (offer_view l.offer) l.fn.hold.row [] (take l.segment-index l.offer.segments.items) Whole l.hold.items l.fn.desk l.desk;
   endings : KeepsEndings l.fn.desk l.desk;
 }

@@ -6,13 +6,13 @@ use Rattle.search_service.proofs.Answers.{search_begun, searched_untold}
 use Rattle.search_service.proofs.offer_search.search_offers.Goals as goal
 
 pub returns-in_default-clause-answer : goal.returns-in_default-clause-answer
-returns-in_default-clause-answer c = search_begun c.args.cat.now c.args.wish.now c.args.now c.args.last c.args.desk.now c.offers.new.desk _ c.in_default.ensures.begun c.problem_answer.ensures.bytes
+returns-in_default-clause-answer c = search_begun c.args.shop.now.cat.now c.args.wish.now c.args.now c.args.desk.now c.offers.new.desk c.in_default.ensures.begun
 
 pub offer_answer-requires : goal.offer_answer-requires
 offer_answer-requires c = record {
-  writable = rw (c.as_slice.ensures.value) (offers_writable c.args.cat.now c.args.wish.now c.args.now (trips_of c.args.cat.now.runs (raised c.args.wish.now.trip c.args.now)) c.in-Ok.found.items c.in-Ok.ensures.entries.0 c.know_ranges.ensures.in_years c.requires.party c.requires.traits
+  writable = rw (c.as_slice.ensures.value) (offers_writable c.args.shop.now.cat.now c.args.wish.now c.args.now (trips_of c.args.shop.now.cat.now.runs (raised c.args.wish.now.trip c.args.now)) c.in-Ok.found.items c.in-Ok.ensures.entries.0 c.know_ranges.ensures.in_years c.requires.party c.requires.traits
       (rw (sym c.runs.ensures.value) (trips_spelled c.runs.result.now (raised c.args.wish.now.trip c.args.now) c.know_ranges.ensures.runs c.know_ranges.ensures.stops)) c.in-Ok.ensures.entries.1);
 }
 
 pub returns-clause-answer : goal.returns-clause-answer
-returns-clause-answer c = searched_untold c.args.cat.now c.args.wish.now c.args.now c.args.last c.in-Ok.found.items c.args.desk.now c.offers.new.desk _ c.in-Ok.ensures.entries c.problem_answer-in-None.ensures.bytes
+returns-clause-answer c = searched_untold c.args.shop.now.cat.now c.args.wish.now c.args.now c.in-Ok.found.items c.args.desk.now c.offers.new.desk c.in-Ok.ensures.entries

@@ -13,24 +13,24 @@ are_numbers : (cat : CatalogueView) (run : ℕ) (places : List Place) (numbers s
 are_numbers cat run places numbers shown a b same = a ∙ (b ∙ ap (λ (l : List Place). numbers_of (λ p. p.run.0 == run) 0 l) same)
 
 pub returns-in_default-clause-answer : goal.returns-in_default-clause-answer
-returns-in_default-clause-answer c = unlisted c.args.cat.now c.args.segment c.args.last c.args.desk.now c.args.desk.now _ refl c.problem_answer.ensures.bytes
+returns-in_default-clause-answer c = unlisted c.args.shop.now.cat.now c.args.segment c.args.desk.now c.args.desk.now refl
 
 pub place_states-requires-clause-places : goal.place_states-requires-clause-places
 place_states-requires-clause-places c =
-    of_books c.args.cat.now c.args.segment.run.0 c.args.books.now.layout.legs c.as_slice.result.now c.requires.legs
-    (are_numbers c.args.cat.now c.args.segment.run.0 c.places.result.now c.in-Ok.numbers.items c.as_slice.result.now c.as_slice.ensures.value c.in-Ok.ensures.numbers c.places.ensures.value)
+    of_books c.args.shop.now.cat.now c.args.segment.run.0 c.args.shop.now.books.now.layout.legs c.as_slice.result.now c.requires.legs
+    (are_numbers c.args.shop.now.cat.now c.args.segment.run.0 c.places.result.now c.in-Ok.numbers.items c.as_slice.result.now c.as_slice.ensures.value c.in-Ok.ensures.numbers c.places.ensures.value)
 
 pub returns-in_default-place_states-clause-answer :
     goal.returns-in_default-place_states-clause-answer
-returns-in_default-place_states-clause-answer c = unlisted c.args.cat.now c.args.segment c.args.last c.args.desk.now c.place_states.new.desk _ c.in_default-place_states.ensures.untouched c.problem_answer-in_default-place_states.ensures.bytes
+returns-in_default-place_states-clause-answer c = unlisted c.args.shop.now.cat.now c.args.segment c.args.desk.now c.place_states.new.desk c.in_default-place_states.ensures.untouched
 
 pub place_answer-requires : goal.place_answer-requires
 place_answer-requires c = record {
-  one_each = ap length c.as_slice-2.ensures.value ∙ one_each c.args.cat.now c.args.segment.run.0 c.as_slice.result.now c.args.segment.span c.in-Ok-place_states.free.items c.in-Ok-place_states.ensures.entries.0
-      (are_numbers c.args.cat.now c.args.segment.run.0 c.places.result.now c.in-Ok.numbers.items c.as_slice.result.now c.as_slice.ensures.value c.in-Ok.ensures.numbers c.places.ensures.value) c.in-Ok-place_states.ensures.entries.1;
+  one_each = ap length c.as_slice-2.ensures.value ∙ one_each c.args.shop.now.cat.now c.args.segment.run.0 c.as_slice.result.now c.args.segment.span c.in-Ok-place_states.free.items c.in-Ok-place_states.ensures.entries.0
+      (are_numbers c.args.shop.now.cat.now c.args.segment.run.0 c.places.result.now c.in-Ok.numbers.items c.as_slice.result.now c.as_slice.ensures.value c.in-Ok.ensures.numbers c.places.ensures.value) c.in-Ok-place_states.ensures.entries.1;
 }
 
 pub returns-clause-answer : goal.returns-clause-answer
 returns-clause-answer c =
-    listed_untold c.args.cat.now c.args.segment c.args.last c.as_slice.result.now c.in-Ok-place_states.free.items c.args.desk.now c.place_states.new.desk _
-    (are_numbers c.args.cat.now c.args.segment.run.0 c.places.result.now c.in-Ok.numbers.items c.as_slice.result.now c.as_slice.ensures.value c.in-Ok.ensures.numbers c.places.ensures.value) c.in-Ok-place_states.ensures.entries c.problem_answer-in-None.ensures.bytes
+    listed_untold c.args.shop.now.cat.now c.args.segment c.as_slice.result.now c.in-Ok-place_states.free.items c.args.desk.now c.place_states.new.desk
+    (are_numbers c.args.shop.now.cat.now c.args.segment.run.0 c.places.result.now c.in-Ok.numbers.items c.as_slice.result.now c.as_slice.ensures.value c.in-Ok.ensures.numbers c.places.ensures.value) c.in-Ok-place_states.ensures.entries

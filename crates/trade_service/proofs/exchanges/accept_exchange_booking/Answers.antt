@@ -3,21 +3,21 @@ use Rattle.trade_service.proofs.Exchanging.{is_ready_of, carried, refused, excha
 use Rattle.trade_service.proofs.exchanges.accept_exchange_booking.Goals as goal
 
 pub carry_out-requires-clause-same : goal.carry_out-requires-clause-same
-carry_out-requires-clause-same c = is_ready_of c.args.cat.now c.args.books.now.layout.rows c.args.retailer.0 (exchange_view c.args.code.now) c.args.now c.in-Ok.ready c.args.desk.now c.check.new.desk c.in-Ok.ensures.fine
+carry_out-requires-clause-same c = is_ready_of c.args.shop.now.cat.now c.args.shop.now.books.now.layout.rows c.args.asker.retailer.0 (exchange_view c.args.code.now) c.args.asker.moment c.in-Ok.ready c.args.desk.now c.check.new.desk c.in-Ok.ensures.fine
 
 pub returns-in-Ok-clause-answer : goal.returns-in-Ok-clause-answer
 returns-in-Ok-clause-answer c =
-    carried c.args.cat.now c.args.last c.args.books.now.layout.rows c.args.retailer.0 (exchange_view c.args.code.now) c.args.now c.in-Ok.ready c.args.desk.now c.check.new.desk c.carry_out.new.desk _ c.in-Ok.ensures.fine c.carry_out.ensures.answer
+    carried c.args.shop.now.cat.now c.args.shop.now.books.now.layout.rows c.args.asker.retailer.0 (exchange_view c.args.code.now) c.args.asker.moment c.in-Ok.ready c.args.desk.now c.check.new.desk c.carry_out.new.desk _ c.in-Ok.ensures.fine c.carry_out.ensures.answer
 
 pub returns-in-Ok-clause-tidy : goal.returns-in-Ok-clause-tidy
 returns-in-Ok-clause-tidy c =
-    exchanged_tidy c.args.cat.now c.args.last c.args.books.now.layout.rows c.args.retailer.0 (exchange_view c.args.code.now) c.args.now c.args.desk.now c.carry_out.new.desk _ (returns-in-Ok-clause-answer c) c.carry_out.ensures.idle
+    exchanged_tidy c.args.shop.now.cat.now c.args.shop.now.books.now.layout.rows c.args.asker.retailer.0 (exchange_view c.args.code.now) c.args.asker.moment c.args.desk.now c.carry_out.new.desk _ (returns-in-Ok-clause-answer c) c.carry_out.ensures.idle
 
 pub returns-in-Err-clause-answer : goal.returns-in-Err-clause-answer
 returns-in-Err-clause-answer c =
-    refused c.args.cat.now c.args.last c.args.books.now.layout.rows c.args.retailer.0 (exchange_view c.args.code.now) c.args.now c.in-Err.problem c.args.desk.now c.check.new.desk _ c.in-Err.ensures.unready c.problem_answer.ensures.bytes
+    refused c.args.shop.now.cat.now c.args.shop.now.books.now.layout.rows c.args.asker.retailer.0 (exchange_view c.args.code.now) c.args.asker.moment c.in-Err.problem c.args.desk.now c.check.new.desk c.in-Err.ensures.unready
 
 pub returns-in-Err-clause-tidy : goal.returns-in-Err-clause-tidy
 returns-in-Err-clause-tidy c =
-    exchanged_tidy c.args.cat.now c.args.last c.args.books.now.layout.rows c.args.retailer.0 (exchange_view c.args.code.now) c.args.now c.args.desk.now c.check.new.desk _ (returns-in-Err-clause-answer c)
+    exchanged_tidy c.args.shop.now.cat.now c.args.shop.now.books.now.layout.rows c.args.asker.retailer.0 (exchange_view c.args.code.now) c.args.asker.moment c.args.desk.now c.check.new.desk _ (returns-in-Err-clause-answer c)
     (c.check.ensures.holds.none c.requires.idle.0, c.check.ensures.endings.none c.requires.idle.1)

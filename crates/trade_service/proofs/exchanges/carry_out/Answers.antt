@@ -8,26 +8,26 @@ use Rattle.trade_service.proofs.Exchanging.{has_party, has_segments, ready_held,
 use Rattle.trade_service.proofs.exchanges.carry_out.Goals as goal
 
 pub returns-in_default-clause-answer : goal.returns-in_default-clause-answer
-returns-in_default-clause-answer c = no_row c.args.cat.now c.args.last (ready_of c.args.retailer.0 (exchange_view c.args.code.now) c.args.now) c.args.desk.now c.hold_places.new.desk _ c.in_default.ensures.no_row c.problem_answer.ensures.bytes
+returns-in_default-clause-answer c = no_row c.args.shop.now.cat.now (ready_of c.args.asker.retailer.0 (exchange_view c.args.code.now) c.args.asker.moment) c.args.desk.now c.hold_places.new.desk c.in_default.ensures.no_row
 
 pub decide-requires-clause-some : goal.decide-requires-clause-some
 decide-requires-clause-some c =
     let o = c.args.code.now.offer in
     let party = has_party (offer_view o) c.requires.offer in
-    some_held c.args.cat.now (offer_view o) c.in-Some.field-0.hold.row c.in-Some.field-0.placing c.in-Some.field-0.hold.items c.args.desk.now c.hold_places.new.desk c.in-Some.ensures.placed (sym c.problem.ensures ∙ c.in-None.is)
+    some_held c.args.shop.now.cat.now (offer_view o) c.in-Some.field-0.hold.row c.in-Some.field-0.placing c.in-Some.field-0.hold.items c.args.desk.now c.hold_places.new.desk c.in-Some.ensures.placed (sym c.problem.ensures ∙ c.in-None.is)
     (some_of o.adults o.children party) (few_of o.adults o.children party) (has_segments (offer_view o) c.requires.offer)
 
 pub decide-requires-clause-ready : goal.decide-requires-clause-ready
 decide-requires-clause-ready c =
-    ready_held c.args.cat.now (offer_view c.args.code.now.offer) c.in-Some.field-0.hold.row c.in-Some.field-0.placing c.in-Some.field-0.hold.items c.args.ready c.args.desk.now c.hold_places.new.desk c.in-Some.ensures.placed c.requires.ready
+    ready_held c.args.shop.now.cat.now (offer_view c.args.code.now.offer) c.in-Some.field-0.hold.row c.in-Some.field-0.placing c.in-Some.field-0.hold.items c.args.ready c.args.desk.now c.hold_places.new.desk c.in-Some.ensures.placed c.requires.ready
 
 pub returns-in-Some-problem-clause-answer : goal.returns-in-Some-problem-clause-answer
 returns-in-Some-problem-clause-answer c =
-    given_up c.args.cat.now c.args.last (ready_of c.args.retailer.0 (exchange_view c.args.code.now) c.args.now) c.in-Some.field-0.hold.row c.in-Some.field-0.placing c.in-Some-problem.problem c.in-Some.field-0.hold.items c.args.desk.now c.hold_places.new.desk c.give_up.new.desk _
-    c.in-Some.ensures.placed (sym c.problem.ensures ∙ c.in-Some-problem.is) c.give_up.ensures.given (c.give_up.ensures.bytes c.args.cat.now)
+    given_up c.args.shop.now.cat.now (ready_of c.args.asker.retailer.0 (exchange_view c.args.code.now) c.args.asker.moment) c.in-Some.field-0.hold.row c.in-Some.field-0.placing c.in-Some-problem.problem c.in-Some.field-0.hold.items c.args.desk.now c.hold_places.new.desk c.abandon.new.desk
+    c.in-Some.ensures.placed (sym c.problem.ensures ∙ c.in-Some-problem.is) c.abandon.ensures.entries
 
 pub returns-in-None-clause-answer : goal.returns-in-None-clause-answer
 returns-in-None-clause-answer c =
     let a = c.decide.ensures.answer in
-    decided c.args.cat.now c.args.last (ready_of c.args.retailer.0 (exchange_view c.args.code.now) c.args.now) c.args.ready c.in-Some.field-0.hold.row c.in-Some.field-0.placing c.in-Some.field-0.hold.items _ c.args.desk.now c.hold_places.new.desk c.decide.new.desk a.0 _
+    decided c.args.shop.now.cat.now (ready_of c.args.asker.retailer.0 (exchange_view c.args.code.now) c.args.asker.moment) c.args.ready c.in-Some.field-0.hold.row c.in-Some.field-0.placing c.in-Some.field-0.hold.items _ c.args.desk.now c.hold_places.new.desk c.decide.new.desk a.0 _
     c.in-Some.ensures.placed (sym c.problem.ensures ∙ c.in-None.is) c.requires.same c.detail_for-detail.ensures.detail a.1 a.2

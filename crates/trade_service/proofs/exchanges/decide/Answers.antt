@@ -5,13 +5,14 @@ use Rattle.booking_rows.specs.Notes.{detail_notes}
 use Rattle.offer_codes.specs.Exchanges.{ExchangeView}
 use Rattle.exchange_core.proofs.Kept.{ready_on}
 use Rattle.osdm_texts.specs.declared.problem.Problem.TheVariants.{NoMemory, WrongState}
-use Rattle.osdm_answers.specs.Replies.{exchanged, problem}
+use Rattle.osdm_texts.specs.Answers.{exchanged, problem}
+use Rattle.osdm_texts.proofs.Telling.{of_problem}
 use Rattle.reservation_service.specs.Reserving.{made_view}
 use Rattle.trade_service.proofs.Exchanging.{made, lost, shown_by}
 use Rattle.trade_service.proofs.exchanges.decide.Goals as goal
 
 pub returns-in_default-clause-answer : goal.returns-in_default-clause-answer
-returns-in_default-clause-answer c = (problem NoMemory, inr (c.give_up.ensures.given, refl), c.give_up.ensures.bytes c.args.cat.now)
+returns-in_default-clause-answer c = (problem NoMemory, inr (c.abandon.ensures.entries, refl), of_problem c.args.shop.now.cat.now NoMemory)
 
 pub accept_exchange-requires-clause-ready : goal.accept_exchange-requires-clause-ready
 accept_exchange-requires-clause-ready c = ready_on c.args.desk.now c.note_detail.new.desk _ c.args.ready c.note_detail.ensures.entries c.requires.ready
@@ -23,14 +24,14 @@ returns-in-Done-clause-answer c =
     let view = c.new_view-view.ensures.view ∙ ap (λ (l : List Item). made_view phase.Confirmed c.args.detail l) c.items.ensures.items in (
       exchanged h.row (made_view phase.Confirmed c.args.detail h.items) c.args.ready.code.difference c.args.ready.code.row,
       made c.args.ready h c.note_detail.new.hold c.args.detail _ _ c.args.desk.now c.note_detail.new.desk c.accept_exchange.new.desk c.note_detail.ensures.same c.note_detail.ensures.entries c.in-Done.ensures.entries c.in-Done.ensures.items,
-      shown_by c.args.cat.now c.args.last c.row.result.0 h.row c.new_view-view.result (made_view phase.Confirmed c.args.detail h.items) _ c.args.ready.code.difference _ c.args.ready.code.row _
-          c.row.ensures view (amount ∙ sym (ap (λ (x : ExchangeView). x.difference) c.requires.same)) (sym (ap (λ (x : ExchangeView). x.row) c.requires.same)) c.in-Some.ensures.bytes,
+      shown_by c.args.shop.now.cat.now c.row.result.0 h.row c.new_view-view.result (made_view phase.Confirmed c.args.detail h.items) _ c.args.ready.code.difference _ c.args.ready.code.row _
+          c.row.ensures view (amount ∙ sym (ap (λ (x : ExchangeView). x.difference) c.requires.same)) (sym (ap (λ (x : ExchangeView). x.row) c.requires.same)) c.in-Some.ensures.told,
     )
 
 pub returns-in-WrongState-clause-answer : goal.returns-in-WrongState-clause-answer
 returns-in-WrongState-clause-answer c = (
   problem (WrongState c.in-WrongState.shown),
-  lost c.args.ready c.args.hold c.note_detail.new.hold c.in-WrongState.hold c.args.detail c.in-WrongState.shown c.args.desk.now c.note_detail.new.desk c.accept_exchange.new.desk c.give_up-in-WrongState.new.desk
-      c.note_detail.ensures.same c.in-WrongState.ensures.lost.0 c.note_detail.ensures.entries c.in-WrongState.ensures.entries c.give_up-in-WrongState.ensures.given,
-  c.give_up-in-WrongState.ensures.bytes c.args.cat.now,
+  lost c.args.ready c.args.hold c.note_detail.new.hold c.in-WrongState.hold c.args.detail c.in-WrongState.shown c.args.desk.now c.note_detail.new.desk c.accept_exchange.new.desk c.abandon-in-WrongState.new.desk
+      c.note_detail.ensures.same c.in-WrongState.ensures.lost.0 c.note_detail.ensures.entries c.in-WrongState.ensures.entries c.abandon-in-WrongState.ensures.entries,
+  of_problem c.args.shop.now.cat.now (WrongState c.in-WrongState.shown),
 )

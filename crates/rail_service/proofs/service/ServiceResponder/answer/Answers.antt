@@ -2,8 +2,9 @@ use Rattle.std.proofs.Common.{Bool, Option, Ok, Err, refl, ap, ◌∙◌}
 use Rattle.rail_ids.specs.declared.RetailerNo.{RetailerNo}
 use Rattle.http_wire.specs.Pieces.{request_text}
 use Rattle.claim_rule.proofs.Shapes.{shape_none}
-use Rattle.osdm_answers.specs.Replies.{problem, reply_bytes}
-use Rattle.osdm_answers.proofs.Answering.{of_problem}
+use Rattle.osdm_texts.specs.Answers.{problem}
+use Rattle.rail_service.specs.Bytes.{reply_bytes}
+use Rattle.rail_service.proofs.Telling.{of_problem}
 use Rattle.rail_service.specs.Serving.{first_after}
 use Rattle.rail_service.specs.Responding.{view_of}
 use Rattle.rail_service.proofs.Replying.{reading_of, answer_by}

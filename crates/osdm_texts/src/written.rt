@@ -1,0 +1,85 @@
+//! Replies as they are told: a problem, or a status with a text that is written before it is known whether it will be told.
+ghost use Rattle.std.specs.Prelude.{◌≡◌, Ok, IfSome};
+ghost use Rattle.serde_json.specs.Written.{compact_text};
+ghost use Rattle.osdm_texts.specs.Replies.{tree_of as written_tree, CanBeWritten};
+ghost use Rattle.osdm_texts.specs.Sweeps.{swept_tree};
+ghost use Rattle.osdm_texts.specs.Answers.{status_told, telling, told_of};
+
+use crate::reply::{Reply, reply_text};
+use crate::small::swept_text;
+use arrayvec::ArrayVec;
+use expiry_sweeper::Swept;
+use rail_catalogue::Catalogue;
+use std::alloc::Global;
+
+/// The status (RFC 9110) of a reply that is no problem.
+#[derive(Debug, Clone, Copy, PartialEq, Eq)]
+pub enum Success {
+    /// 200 OK.
+    Done,
+    /// 201 Created.
+    Created,
+}
+
+impl Success {
+    /// The number of the status: 200 or 201.
+    pub fn status(self) -> u16
+        ensures { result ≡ status_told self }
+    {
+        match self {
+            Success::Done => 200,
+            Success::Created => 201,
+        }
+    }
+}
+
+/// A JSON text (RFC 8259).
+#[derive(Drop)]
+pub enum Text {
+    /// At most 256 bytes, which took no memory.
+    Small(ArrayVec<u8, 256>),
+    /// Any number of bytes.
+    Large(Vec<u8>),
+}
+
+/// A reply that is no problem, as it is told: its status and its text, whose length fits a head's `Content-Length`.
+#[derive(Drop)]
+pub struct Written {
+    pub success: Success,
+    pub length: u32,
+    pub text: Text,
+}
+
+/// Writes a reply that is told with this status. `None` where there is no memory for its text, or where its length doesn't fit a head.
+///
+/// The reply is one that `reply_text` can write.
+pub fn write_reply(
+    alloc: Global,
+    cat: &Catalogue,
+    success: Success,
+    reply: &Reply<'_>,
+) -> Option<Written>
+    requires writable { CanBeWritten cat.now reply.now }
+    ensures told { IfSome result (λ written. told_of (Ok written)
+        ≡ telling (status_told success) (compact_text (written_tree cat.now reply.now))) }
+{
+    let text = reply_text(alloc, cat, reply).ok()?;
+    let length = u32::try_from(text.len()).ok()?;
+    Some(Written {
+        success,
+        length,
+        text: Text::Large(text),
+    })
+}
+
+/// Writes what a sweep did. No memory is taken.
+pub fn write_swept(swept: Swept) -> Written
+    ensures told { told_of (Ok result) ≡ telling 200 (compact_text (swept_tree swept)) }
+{
+    let text = swept_text(swept);
+    Written {
+        success: Success::Done,
+        length: text.len() as u32,
+        text: Text::Small(text),
+    }
+}

@@ -1,5 +1,0 @@
-mod conversation;
-mod listeners;
-mod lives;
-mod refusals;
-mod trades;

@@ -1,0 +1,25 @@
+//! What a service works with, and who asks it.
+//!
+//! It is a room of its own so that the services stand beside each other on it, each with no more than it needs.
+#![tactic(auto)]
+
+use claim_rule::Books;
+use rail_catalogue::Catalogue;
+use rail_ids::RetailerNo;
+use rail_time::Moment;
+use std::alloc::Global;
+
+/// What is sold: a catalogue, the books of its places and rows, and the memory that answers are written in.
+#[derive(Clone, Copy)]
+pub struct Shop<'s> {
+    pub alloc: Global,
+    pub cat: &'s Catalogue,
+    pub books: &'s Books,
+}
+
+/// A retailer that asks, and the moment of its command.
+#[derive(Clone, Copy, Debug, PartialEq, Eq)]
+pub struct Asker {
+    pub retailer: RetailerNo,
+    pub moment: Moment,
+}
