@@ -4,3 +4,5 @@ pub mod Pruning
 pub mod Rising
 pub mod Searching
 pub mod Finishing
+pub mod StrictOrder
+pub mod FirstSixteen
