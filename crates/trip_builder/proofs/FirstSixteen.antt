@@ -5,13 +5,8 @@ use Rattle.offer_codes.specs.declared.code.Segment.{Segment}
 use Rattle.train_runs.specs.Runs.{RunsView}
 use Rattle.trip_builder.specs.Order.{stands_before, sorted_in, sorted}
 use Rattle.trip_builder.specs.Trips.{most_trips}
-use Rattle.trip_builder.specs.Best.{IsAmong, AllStandBefore, AreInOrder, IsDecided}
+use Rattle.trip_builder.specs.Best.{IsAmong, AreApart, AllStandBefore, AreInOrder, IsDecided}
 use Rattle.trip_builder.proofs.StrictOrder.{Strict, trips_strict}
-
--- no two of them are the same
-abbrev pub AreApart : List (List Segment) → Type 0
-AreApart [] = Unit {0}
-AreApart (t ∷ ts) = (¬ IsAmong ts t) × AreApart ts
 
 module _ (r : RunsView) where
   order : Strict (stands_before r) (λ a b. a ≡ b)

@@ -6,3 +6,5 @@ pub mod Searching
 pub mod Finishing
 pub mod StrictOrder
 pub mod FirstSixteen
+pub mod Members
+pub mod AllLists

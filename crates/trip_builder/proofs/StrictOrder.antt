@@ -16,7 +16,7 @@ pub record Strict {X : Type 0} (before : X → X → Bool) (Equal : X → X → 
 abbrev pub by_number : {X : Type 0} → (X → ℕ) → (X → X → Bool) → X → X → Bool
 by_number number before a b = if number a == number b then before a b else nat_lt (number a) (number b)
 
-three_ways : (m n : ℕ) → (m ≡ n) ⊎ ((m < n) ⊎ (n < m))
+pub three_ways : (m n : ℕ) → (m ≡ n) ⊎ ((m < n) ⊎ (n < m))
 three_ways m n = from (cases_lt m n)
   where
     later : n ≤ m → (n < m) ⊎ (m ≤ n) → (m ≡ n) ⊎ ((m < n) ⊎ (n < m))
@@ -128,7 +128,7 @@ by_one number = record {
 }
 
 -- the run, the first stop and the last are all that a segment has
-one_segment : (s t : Segment) → (s.run.0 ≡ t.run.0) × ((s.span.from ≡ t.span.from) × (s.span.to ≡ t.span.to)) → s ≡ t
+pub one_segment : (s t : Segment) → (s.run.0 ≡ t.run.0) × ((s.span.from ≡ t.span.from) × (s.span.to ≡ t.span.to)) → s ≡ t
 one_segment s t (e, (f, g)) =
     ap (λ a. segment a s.span.from s.span.to) e ∙ (ap (λ b. segment t.run.0 b s.span.to) f ∙ ap (λ c. segment t.run.0 t.span.from c) g)
 
