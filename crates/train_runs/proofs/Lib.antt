@@ -1,2 +1,4 @@
 pub mod Stopping
 pub mod Coding
+pub mod Departing
+pub mod Posting

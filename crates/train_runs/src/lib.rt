@@ -2,17 +2,19 @@
 //!
 //! A run stops at two to 64 stations, each once, and its times rise from stop to stop; between two neighbouring stops lies
 //! a leg. `Runs` takes stations and runs one after the other, with the first fault of each named, and is as before after a
-//! refusal. Then it is only asked: for a station by its code, for a run, and for the legs between two stations.
+//! refusal. Then it is only asked: for a station by its code, for a run, for the legs between two stations, and for the
+//! departures of a station from one moment to another. These are found by two binary searches, since `Runs` keeps a
+//! list of its departures in order for each station.
 #![tactic(auto)]
 
 mod crossing;
+mod departure;
 mod run;
 mod runs;
 mod station;
-#[cfg(test)]
-mod tests;
 
 pub use crossing::crosses;
+pub use departure::Departure;
 pub use run::{MOST_STOPS, Run, RunFault, Stop};
 pub use runs::{MOST_RUNS, Runs};
 pub use station::{MOST_STATIONS, StationFault};

@@ -1,19 +1,26 @@
-ghost use Rattle.std.specs.Prelude.{◌≡◌, ◌<◌, ◌≤◌, ◌++◌, [], ◌∷◌, List, ℕ, length, All, IfOk, IfErr, OnErr, OnOk, Ok, Err, Some, None, true, IfSome, option_map, slice_get, string_bytes};
+ghost use Rattle.std.specs.Prelude.{◌≡◌, ◌<◌, ◌≤◌, ◌+◌, ◌-◌, ◌*◌, ◌++◌, [], ◌∷◌, List, ℕ, length, All, IfOk, IfErr, OnErr, OnOk, Ok, Err, Some, None, true, IfSome, option_map, slice_get, string_bytes};
 ghost use Rattle.std.specs.BTreeMap.{get_by_text};
 ghost use Rattle.train_runs.specs.declared.station.StationFault.TheVariants as station_fault;
 ghost use Rattle.train_runs.specs.declared.run.RunFault.TheVariants as run_fault;
 ghost use Rattle.train_runs.specs.Stations.{with_station, station_with, is_code as is_code_of, most_stations};
 ghost use Rattle.train_runs.specs.Stops.{IsRun};
 ghost use Rattle.train_runs.specs.Runs.{AreSound, most_runs, run_fault as run_fault_of, span_of};
+ghost use Rattle.train_runs.specs.Departures.{AreDepartures, departure_count};
+ghost use Rattle.train_runs.specs.Boards.{HasBoards, ArePosted};
+ghost use Rattle.std.specs.Int.Digits.{digits_of};
 
+use crate::departure::{Board, Departure};
 use crate::run::{MOST_STOPS, Run, RunFault, Stop, first_repeated, first_unrisen, stop_of};
 use crate::station::{MOST_STATIONS, Station, StationFault, is_code};
 use leg_masks::Span;
 use rail_ids::{RunNo, StationNo};
+use rail_time::Moment;
 use std::alloc::{AllocError, Global};
 use std::collections::BTreeMap;
 use std::marker::Model;
 use std::str;
+use std::sync::ledger::Ledger;
+use step_count::Steps;
 
 /// How many runs there may be.
 pub const MOST_RUNS: usize = 4_096;
@@ -24,6 +31,7 @@ pub struct Runs {
     stations: Vec<Station>,
     numbers: BTreeMap<String, StationNo>,
     runs: Vec<Run>,
+    boards: Vec<Board>,
 }
 
 impl Model for Runs {
@@ -31,13 +39,15 @@ impl Model for Runs {
     ghost use Rattle.std.specs.BTreeMap.{get_by_text};
     ghost use Rattle.train_runs.specs.Stations.{station_with};
     ghost use Rattle.train_runs.specs.Runs.{RunsView, AreSound};
+    ghost use Rattle.train_runs.specs.Boards.{HasBoards};
 
     ghost Value = { RunsView };
 
     ghost view = { λ r. record { stations = r.stations.items; runs = r.runs.items } };
 
     ghost invariant = { λ r. AreSound (record { stations = r.stations.items; runs = r.runs.items })
-        × ((code : List ℕ) → get_by_text r.numbers code ≡ station_with code r.stations.items) };
+        × ((code : List ℕ) → get_by_text r.numbers code ≡ station_with code r.stations.items)
+        × HasBoards (record { stations = r.stations.items; runs = r.runs.items }) r.boards.items };
 }
 
 impl Runs {
@@ -49,6 +59,7 @@ impl Runs {
             stations: Vec::new(alloc),
             numbers: BTreeMap::new(alloc),
             runs: Vec::new(alloc),
+            boards: Vec::new(alloc),
         }
     }
 
@@ -92,9 +103,14 @@ impl Runs {
         let key = String::from_str(alloc, code)?;
         self.stations
             .push(Station::new(String::from_str(alloc, code)?, change))?;
+        if let Err(error) = self.boards.push(Board::new(alloc)) {
+            self.stations.pop();
+            return Err(error.into());
+        }
         match self.numbers.insert(key, number) {
             Ok(_) => Ok(()),
             Err(error) => {
+                self.boards.pop();
                 self.stations.pop();
                 Err(error.into())
             }
@@ -113,9 +129,24 @@ impl Runs {
             return Err(fault);
         }
         let number = RunNo(self.runs.len() as u32);
-        match self.runs.push(run) {
+        match self.insert_run(run) {
             Ok(()) => Ok(number),
             Err(_) => Err(RunFault::NoMemory),
+        }
+    }
+
+    // Adds a run that has no fault.
+    fn insert_run(&mut self, run: Run) -> Result<(), AllocError>
+        requires known { All (λ s. s.station.0 < length self.old.stations) run.stops }
+        requires faultless { run_fault_of self.old.runs run ≡ None }
+        ensures ok { OnOk result (self.new ≡ record self.old { runs = self.old.runs ++ run ∷ [] }) }
+        ensures kept { OnErr result (self.new ≡ self.old) }
+    {
+        self.runs.reserve(1)?;
+        post_from(self.boards.as_mut_slice(), self.runs.as_slice(), &run, 0)?;
+        match self.runs.push(run) {
+            Ok(()) => Ok(()),
+            Err(error) => Err(error.into()),
         }
     }
 
@@ -153,6 +184,26 @@ impl Runs {
         ensures most { result ≤ most_runs }
     {
         self.runs.len() as u32
+    }
+
+    /// The departures of the station from the one moment to the other, both included, at stops that aren't a run's last, in
+    /// the order of moment, run and stop. A station that isn't known has none. Takes no memory.
+    ///
+    /// A step is one comparison of moments: at most twice the binary digits of the station's count of departures, and two.
+    pub fn departures<L: Ledger>(
+        &self,
+        station: StationNo,
+        from: Moment,
+        to: Moment,
+        steps: &mut Steps<L>,
+    ) -> &[Departure]
+        ensures departures { AreDepartures self.now.runs station from to result.now }
+        ensures cost { steps.new ≤ steps.old + (2 * length (digits_of 2 (departure_count station self.now.runs)) + 2) }
+    {
+        match self.boards.get(station.0 as usize) {
+            Some(board) => board.between(from, to, steps),
+            None => &[],
+        }
     }
 
     /// The code of the station with the number.
@@ -216,4 +267,36 @@ fn fault_of(runs: &[Run], run: &Run) -> Option<RunFault>
     }
     let stop = first_repeated(stops)?;
     Some(RunFault::StationRepeated { stop })
+}
+
+// Posts the departures of the run at its stops from the n-th on, where those before are posted. After want of memory the
+// boards are as before.
+fn post_from(boards: &mut [Board], runs: &[Run], run: &Run, n: usize) -> Result<(), AllocError>
+    requires posted { ArePosted runs.now run.now n boards.old }
+    requires known { All (λ s. s.station.0 < length boards.old) run.now.stops }
+    requires stops { n < length run.now.stops }
+    requires few { length run.now.stops ≤ 64 }
+    requires runs { length runs.now < most_runs }
+    ensures same { length boards.new ≡ length boards.old }
+    ensures ok { OnOk result (ArePosted runs.now run.now (length run.now.stops - 1) boards.new) }
+    ensures kept { OnErr result (boards.new ≡ boards.old) }
+{
+    let stops = run.stops();
+    if n + 1 == stops.len() {
+        return Ok(());
+    }
+    let stop = stops[n];
+    let station = stop.station.0 as usize;
+    let place = boards[station].post(Departure {
+        moment: stop.depart,
+        run: RunNo(runs.len() as u32),
+        stop: n as u8,
+    })?;
+    match post_from(boards, runs, run, n + 1) {
+        Ok(()) => Ok(()),
+        Err(error) => {
+            boards[station].withdraw(place);
+            Err(error)
+        }
+    }
 }

@@ -5,7 +5,10 @@ use Rattle.std.specs.BTreeMap.{get_by_text}
 use Rattle.std.proofs.lemmas.Map.Text.{btree_map_updates_text}
 use Rattle.train_runs.specs.Stations.{StationView, station_with}
 use Rattle.train_runs.specs.Runs.{RunsView, AreSound}
+use Rattle.train_runs.specs.declared.departure.Departure.{Departure}
+use Rattle.train_runs.specs.Boards.{HasBoards}
 use Rattle.train_runs.proofs.Coding.{finds, grows}
+use Rattle.train_runs.proofs.Posting.{boards_grow}
 use Rattle.train_runs.proofs.runs.Runs.insert_station.Goals as goal
 
 pub invariant_of-self-in-Ok : goal.invariant_of-self-in-Ok
@@ -14,6 +17,7 @@ invariant_of-self-in-Ok c =
     let was : c.self.inside.stations.items ≡ c.args.self.now.stations = ap (λ (r : RunsView). r.stations) c.self.view_is in
     let made : c.new.result ≡ last = c.new.ensures ∙ ap (λ (code : List ℕ). record { code = code; change = c.args.change }) c.in_ok-from_str.ensures.ok in
     let stations : c.push.new.self.items ≡ c.self.inside.stations.items ++ last ∷ [] = c.in_ok-push.ensures.items ∙ ap (λ (s : StationView). c.self.inside.stations.items ++ s ∷ []) made in
+    let boards : c.push-2.new.self.items ≡ c.self.inside.boards.items ++ [] ∷ [] = c.in_default.ensures.items ∙ ap (λ (b : List Departure). c.self.inside.boards.items ++ b ∷ []) c.new-2.ensures in
     let count : c.len.result ≡ length c.self.inside.stations.items = search rules in
     let fresh : station_with c.args.code.now c.self.inside.stations.items ≡ None = ap (station_with c.args.code.now) was ∙ c.requires.fresh in (
       subst (λ (ss : List StationView). AreSound (record { stations = ss; runs = c.self.inside.runs.items })) (sym stations)
@@ -23,4 +27,7 @@ invariant_of-self-in-Ok c =
           (subst (λ (bs : List ℕ). get_by_text c.insert.new.self code ≡ cond (bytes_eq bs code) (Some (record { 0 = length c.self.inside.stations.items })) (get_by_text c.self.inside.numbers code)) c.in_ok-key.ensures.ok
           (subst (λ (n : ℕ). get_by_text c.insert.new.self code ≡ cond (bytes_eq (string_bytes c.in_ok-key.key) code) (Some (record { 0 = n })) (get_by_text c.self.inside.numbers code)) count
           (btree_map_updates_text (string_bytes c.in_ok-key.key) c.self.inside.numbers c.insert.new.self (Some (record { 0 = c.len.result })) c.in-Ok.ensures.updates code)))),
+      subst (λ (ss : List StationView). HasBoards (record { stations = ss; runs = c.self.inside.runs.items }) c.push-2.new.self.items) (sym stations)
+          (subst (λ (bs : List (List Departure)). HasBoards (record { stations = c.self.inside.stations.items ++ last ∷ []; runs = c.self.inside.runs.items }) bs) (sym boards)
+          (boards_grow (record { stations = c.self.inside.stations.items; runs = c.self.inside.runs.items }) last c.self.inside.boards.items c.self.invariant.0 c.self.invariant.2)),
     )
