@@ -1,5 +1,5 @@
 -- Which lists of segments are among all lists of one to three known segments: each once.
-use Rattle.std.proofs.Common.{◌≡◌, ◌∙◌, ℕ, zero, suc, ◌+◌, ◌<◌, ◌≤◌, ◌⊎◌, inl, inr, ⊎_elim, List, [], ◌∷◌, ◌++◌, length, length-append, append_assoc, append-nil, Some, None, refl, sym, ap, subst, arith, get_or}
+use Rattle.std.proofs.Common.{◌≡◌, ◌∙◌, ℕ, zero, suc, ◌+◌, ◌<◌, ◌≤◌, ◌⊎◌, inl, inr, List, [], ◌∷◌, ◌++◌, length, length-append, append_assoc, append-nil, Some, None, refl, sym, ap, subst, arith, get_or}
 use Rattle.std.specs.Prelude.{slice_get, Option}
 use Rattle.std.specs.Option.{option_map_or}
 use Rattle.std.specs.List.{flat_map, AllByRecursion}
@@ -12,7 +12,7 @@ use Rattle.trip_builder.specs.Segments.{segment, segments_to, segments_from, seg
 use Rattle.trip_builder.specs.Trips.{longer, all_lists}
 use Rattle.trip_builder.specs.Best.{IsAmong, AreApart, IsKnown}
 use Rattle.trip_builder.proofs.Members.{among_append, append_among, among_pieces, pieces_among, apart_append, apart_pieces}
-use Rattle.trip_builder.proofs.StrictOrder.{one_segment, three_ways}
+use Rattle.trip_builder.proofs.StrictOrder.{three_ways}
 
 -- ---- segments
 

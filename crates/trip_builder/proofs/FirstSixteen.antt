@@ -1,5 +1,5 @@
 -- The first sixteen of the trips are determined by which trips there are: the order in which they are found doesn't matter.
-use Rattle.std.proofs.Common.{◌≡◌, ◌≢◌, ◌∙◌, ℕ, zero, suc, ◌≤◌, ◌⊎◌, inl, inr, ⊎_elim, Bool, true, false, List, [], ◌∷◌, length, refl, sym, ap, ap₂, subst, arith, true≢false, take, ◌↔◌, if◌then◌else◌}
+use Rattle.std.proofs.Common.{◌≡◌, ◌∙◌, ℕ, zero, suc, ◌≤◌, ◌⊎◌, inl, inr, ⊎_elim, Bool, true, false, List, [], ◌∷◌, length, refl, sym, ap₂, subst, arith, true≢false, take, if◌then◌else◌}
 use Rattle.std.specs.List.{fold, AllByRecursion}
 use Rattle.offer_codes.specs.declared.code.Segment.{Segment}
 use Rattle.train_runs.specs.Runs.{RunsView}
@@ -22,7 +22,7 @@ module _ (r : RunsView) where
 
   -- ---- a trip put into its place
 
-  all_put : (P : List Segment → Type 0) (ts : List (List Segment)) (t : List Segment) → AllByRecursion P ts → P t → AllByRecursion P (sorted_in r ts t)
+  pub all_put : (P : List Segment → Type 0) (ts : List (List Segment)) (t : List Segment) → AllByRecursion P ts → P t → AllByRecursion P (sorted_in r ts t)
   all_put P [] t all here = (here, tt)
   all_put P (u ∷ us) t all here = by_test (stands_before r t u) (all_put P us t all.1 here)
     where
@@ -173,11 +173,11 @@ module _ (r : RunsView) where
       ap₂ (λ (x : List Segment) (xs : List (List Segment)). x ∷ xs) e
       (first_of_order n best all (omega (arith, few)) ordered.1 sorts.1 (rest_among b z best all e ordered.0 among.1) (rest_in b z best all n e sorts.0 each.1))
 
-  all_map : (P Q : List Segment → Type 0) → ((t : List Segment) → P t → Q t) → (ts : List (List Segment)) → AllByRecursion P ts → AllByRecursion Q ts
+  pub all_map : (P Q : List Segment → Type 0) → ((t : List Segment) → P t → Q t) → (ts : List (List Segment)) → AllByRecursion P ts → AllByRecursion Q ts
   all_map P Q f [] all = tt
   all_map P Q f (t ∷ ts) all = (f t all.0, all_map P Q f ts all.1)
 
-  all_among : (ts : List (List Segment)) (P : List Segment → Type 0) → ((t : List Segment) → IsAmong ts t → P t) → AllByRecursion P ts
+  pub all_among : (ts : List (List Segment)) (P : List Segment → Type 0) → ((t : List Segment) → IsAmong ts t → P t) → AllByRecursion P ts
   all_among [] P each = tt
   all_among (t ∷ ts) P each = (each t (inl refl), all_among ts P (λ u among. each u (inr among)))
 

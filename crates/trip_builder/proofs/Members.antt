@@ -1,5 +1,5 @@
 -- What is among a list that is put together from others, and that no element stands in it twice.
-use Rattle.std.proofs.Common.{◌≡◌, ◌∙◌, ◌⊎◌, inl, inr, ⊎_elim, Bool, true, false, List, [], ◌∷◌, ◌++◌, refl, sym, ap, subst, true≢false, if◌then◌else◌}
+use Rattle.std.proofs.Common.{◌≡◌, ◌∙◌, ℕ, zero, suc, ◌<◌, arith, get_or, length, ◌⊎◌, inl, inr, ⊎_elim, Bool, true, false, List, [], ◌∷◌, ◌++◌, refl, sym, ap, subst, true≢false, if◌then◌else◌}
 use Rattle.std.specs.List.{filter, flat_map}
 use Rattle.trip_builder.specs.Best.{IsAmong, AreApart}
 
@@ -44,6 +44,16 @@ pub pieces_among : {X Y : Type 0} (f : X → List Y) (xs : List X) (x : X) (t : 
 pieces_among f [] x t is has = absurd is
 pieces_among f (y ∷ xs) x t (inl e) has = append_among (f y) (flat_map f xs) t (inl (subst (λ z. IsAmong (f z) t) (sym e) has))
 pieces_among f (y ∷ xs) x t (inr is) has = append_among (f y) (flat_map f xs) t (inr (pieces_among f xs x t is has))
+
+pub among_at : {X : Type 0} (xs : List X) (k : ℕ) (d : X) → k < length xs → IsAmong xs (get_or xs k d)
+among_at [] k d h = absurd (omega (arith, h))
+among_at (x ∷ xs) zero d h = inl refl
+among_at (x ∷ xs) (suc k) d h = inr (among_at xs k d (omega (arith, h)))
+
+pub at_among : {X : Type 0} (xs : List X) (x : X) → IsAmong xs x → (k : ℕ) × ((k < length xs) × (get_or xs k x ≡ x))
+at_among [] x is = absurd is
+at_among (y ∷ xs) x (inl e) = (0, (omega arith, e))
+at_among (y ∷ xs) x (inr is) = let more = at_among xs x is in (suc more.0, (omega (arith, more.1.0), more.1.1))
 
 -- ---- no element twice
 

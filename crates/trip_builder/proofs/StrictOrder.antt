@@ -140,7 +140,7 @@ segments_strict =
     let at_last = by_one (λ (s : Segment). s.span.to) in
     let at_first = number_first (λ (s : Segment). s.span.from) (λ s t. nat_lt s.span.to t.span.to) (λ s t. s.span.to ≡ t.span.to) at_last in
     let at_run = number_first (λ (s : Segment). s.run.0) (by_number (λ (s : Segment). s.span.from) (λ s t. nat_lt s.span.to t.span.to))
-        (λ s t. (s.span.from ≡ t.span.from) × (s.span.to ≡ t.span.to)) at_first in
+    (λ s t. (s.span.from ≡ t.span.from) × (s.span.to ≡ t.span.to)) at_first in
     weaker is_lower (λ s t. (s.run.0 ≡ t.run.0) × ((s.span.from ≡ t.span.from) × (s.span.to ≡ t.span.to))) (λ s t. s ≡ t) one_segment at_run
 
 -- ---- lists of segments
@@ -222,7 +222,7 @@ lists_go_on (s ∷ ss) (t ∷ ts) (u ∷ us) ab bc = by_tests (is_same s t) (is_
             by_test false g = g
             by_test true g = absurd (is_lower-irreflexive x z (same_segment x z g) low)
 
-lists_tell : (a b : List Segment) → are_lower a b ≡ false → are_lower b a ≡ false → a ≡ b
+pub lists_tell : (a b : List Segment) → are_lower a b ≡ false → are_lower b a ≡ false → a ≡ b
 lists_tell [] [] ab ba = refl
 lists_tell [] (t ∷ ts) ab ba = absurd (true≢false ab)
 lists_tell (s ∷ ss) [] ab ba = absurd (true≢false ba)
@@ -236,6 +236,10 @@ lists_tell (s ∷ ss) (t ∷ ts) ab ba = by_test (is_same s t) refl (lists_tell 
         let one = segments_strict.tells s t (sym (differ s t ss ts e) ∙ ab) (sym (differ t s ts ss (apart_back s t e)) ∙ ba) in
         absurd (true≢false (sym (ap (λ (x : Segment). is_same x t) one ∙ is_same-refl t) ∙ e))
 
+-- a list that stands before another isn't the same
+pub lists_differ : (a b : List Segment) → are_lower a b ≡ true → ¬ (a ≡ b)
+lists_differ a b low e = true≢false (sym low ∙ (ap (λ (x : List Segment). are_lower x b) e ∙ (ap (are_lower b) (sym e) ∙ lists_one_way a b low)))
+
 lists_strict : Strict are_lower (λ a b. a ≡ b)
 lists_strict = record { one_way = lists_one_way; goes_on = lists_go_on; tells = lists_tell }
 
@@ -246,6 +250,6 @@ trips_strict r =
     let by_length = number_first (λ (t : List Segment). length t) are_lower (λ a b. a ≡ b) lists_strict in
     let by_departure = greater_first (first_departure r) (by_number (λ (t : List Segment). length t) are_lower) (λ a b. (length a ≡ length b) × (a ≡ b)) by_length in
     let by_arrival = number_first (last_arrival r) (by_greater (first_departure r) (by_number (λ (t : List Segment). length t) are_lower))
-        (λ a b. (first_departure r b ≡ first_departure r a) × ((length a ≡ length b) × (a ≡ b))) by_departure in
+    (λ a b. (first_departure r b ≡ first_departure r a) × ((length a ≡ length b) × (a ≡ b))) by_departure in
     weaker (stands_before r) (λ a b. (last_arrival r a ≡ last_arrival r b) × ((first_departure r b ≡ first_departure r a) × ((length a ≡ length b) × (a ≡ b))))
     (λ a b. a ≡ b) (λ a b all. all.1.1.1) by_arrival
