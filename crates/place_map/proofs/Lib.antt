@@ -1,3 +1,4 @@
 pub mod Adding
 pub mod Numbers
 pub mod OwnPlaces
+pub mod Classes

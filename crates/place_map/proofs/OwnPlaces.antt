@@ -7,28 +7,28 @@ use Rattle.std.proofs.lemmas.Bool.Decides.{nat_tests}
 use Rattle.place_map.specs.declared.coach.Place.{Place}
 use Rattle.place_map.specs.Places.{run_number, places_of}
 
-step : (passes : Place → Bool) (p : Place) (b : Bool) (rest : List Place) → passes p ≡ b → filter passes (p ∷ rest) ≡ (if b then p ∷ filter passes rest else filter passes rest)
+step : {X : Type 0} (passes : X → Bool) (p : X) (b : Bool) (rest : List X) → passes p ≡ b → filter passes (p ∷ rest) ≡ (if b then p ∷ filter passes rest else filter passes rest)
 step passes p b rest is = ap (λ (c : Bool). if c then p ∷ filter passes rest else filter passes rest) is
 
 -- the places before the n-th, of which none passes
-filter_skip : (passes : Place → Bool) (n : ℕ) (places : List Place) → ((i : ℕ) (d : Place) → i < n → i < length places → passes (get_or places i d) ≡ false) → filter passes (drop n places) ≡ filter passes places
+pub filter_skip : {X : Type 0} (passes : X → Bool) (n : ℕ) (places : List X) → ((i : ℕ) (d : X) → i < n → i < length places → passes (get_or places i d) ≡ false) → filter passes (drop n places) ≡ filter passes places
 filter_skip passes zero places h = refl
 filter_skip passes (suc n) [] h = refl
 filter_skip passes (suc n) (p ∷ places) h =
     filter_skip passes n places (λ i d small within. h (suc i) d (omega arith) (omega arith))
     ∙ sym (step passes p false places (h 0 p (omega arith) (omega arith)))
 
-filter_none : (passes : Place → Bool) (places : List Place) → ((i : ℕ) (d : Place) → i < length places → passes (get_or places i d) ≡ false) → filter passes places ≡ []
+filter_none : {X : Type 0} (passes : X → Bool) (places : List X) → ((i : ℕ) (d : X) → i < length places → passes (get_or places i d) ≡ false) → filter passes places ≡ []
 filter_none passes [] h = refl
 filter_none passes (p ∷ places) h = step passes p false places (h 0 p (omega arith)) ∙ filter_none passes places (λ i d small. h (suc i) d (omega arith))
 
 -- the first n places, which all pass, where none after them does
-filter_front : (passes : Place → Bool) (n : ℕ) (places : List Place) → ((i : ℕ) (d : Place) → i < n → i < length places → passes (get_or places i d) ≡ true)
-    → ((i : ℕ) (d : Place) → n ≤ i → i < length places → passes (get_or places i d) ≡ false) → take n places ≡ filter passes places
+pub filter_front : {X : Type 0} (passes : X → Bool) (n : ℕ) (places : List X) → ((i : ℕ) (d : X) → i < n → i < length places → passes (get_or places i d) ≡ true)
+    → ((i : ℕ) (d : X) → n ≤ i → i < length places → passes (get_or places i d) ≡ false) → take n places ≡ filter passes places
 filter_front passes zero places front after = sym (filter_none passes places (λ i d small. after i d (omega arith) small))
 filter_front passes (suc n) [] front after = refl
 filter_front passes (suc n) (p ∷ places) front after =
-    ap (λ (rest : List Place). p ∷ rest) (filter_front passes n places (λ i d small within. front (suc i) d (omega arith) (omega arith)) (λ i d from small. after (suc i) d (omega arith) (omega arith)))
+    ap (λ rest. p ∷ rest) (filter_front passes n places (λ i d small within. front (suc i) d (omega arith) (omega arith)) (λ i d from small. after (suc i) d (omega arith) (omega arith)))
     ∙ sym (step passes p true places (front 0 p (omega arith) (omega arith)))
 
 earlier : (a run : ℕ) → nat_lt a run ≡ true → (a == run) ≡ false

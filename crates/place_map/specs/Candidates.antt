@@ -22,6 +22,14 @@ numbers_of passes k [] = []
 numbers_of passes k (p ∷ rest) =
     if passes p then (record { 0 = k }) ∷ numbers_of passes (k + 1) rest else numbers_of passes (k + 1) rest
 
+-- a place of the run and the class
+abbrev pub is_of_class : ℕ → Class → Place → Bool
+is_of_class run class p = p.run.0 == run && is_class p.class class
+
+-- the numbers of the run's places of the class
+abbrev pub class_places_of : ℕ → Class → List Place → List PlaceNo
+class_places_of run class places = numbers_of (is_of_class run class) 0 places
+
 abbrev pub candidates_of : ℕ → Class → ℕ → List Place → List PlaceNo
 candidates_of run class wanted places = numbers_of (is_candidate run class wanted) 0 places
 

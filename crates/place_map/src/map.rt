@@ -1,9 +1,11 @@
-ghost use Rattle.std.specs.Prelude.{◌≡◌, ◌≤◌, ◌<◌, ◌==◌, ◌+◌, ◌++◌, ◌||◌, [], List, IfOk, OnOk, OnErr, IfErr, Ok, length, min, sum_by, slice_get, option_copied, All, true, false, nat_lt, nat_le};
+ghost use Rattle.std.specs.Prelude.{filter, ◌≡◌, ◌≤◌, ◌<◌, ◌==◌, ◌+◌, ◌++◌, ◌||◌, [], List, IfOk, OnOk, OnErr, IfErr, Ok, length, min, sum_by, slice_get, option_copied, All, true, false, nat_lt, nat_le};
 ghost use Rattle.std.specs.List.{AllByRecursion};
 ghost use Rattle.std.specs.List.Sorted.{IsPartitionPoint};
 ghost use Rattle.place_map.specs.Places.{places_of as places_of_run, coach_places, group_places, group_size, has_place, first_repeat as first_repeat_of, with_places, run_number, EndsWithRun, AreByRun};
-ghost use Rattle.place_map.specs.Candidates.{is_class as is_class_of, is_candidate as is_candidate_of, candidates_of, numbers_of, IsOfRun, AreRising};
+ghost use Rattle.place_map.specs.Candidates.{candidates_of, class_places_of, IsOfRun, AreRising};
+ghost use Rattle.place_map.specs.ByClass.{AreByClass, has_traits};
 
+use crate::class_numbers::{ClassNumbers, numbers_between};
 use crate::coach::{Class, Coach, Group, Place, PlaceFault};
 use rail_ids::{PlaceNo, RunNo};
 use std::alloc::{AllocError, Global};
@@ -17,18 +19,21 @@ const MOST_PLACES: usize = 4_194_304;
 #[derive(Debug, Drop)]
 pub struct PlaceMap {
     places: Vec<Place>,
+    by_class: ClassNumbers,
 }
 
 impl Model for PlaceMap {
     ghost use Rattle.std.specs.Prelude.{◌≤◌, List, length};
     ghost use Rattle.place_map.specs.declared.coach.Place.{Place};
     ghost use Rattle.place_map.specs.Places.{AreByRun};
+    ghost use Rattle.place_map.specs.ByClass.{AreByClass};
 
     ghost Value = { List Place };
 
     ghost view = { λ m. m.places.items };
 
-    ghost invariant = { λ m. (length m.places.items ≤ 4_194_304) × AreByRun m.places.items };
+    ghost invariant = { λ m. (length m.places.items ≤ 4_194_304) × AreByRun m.places.items
+        × AreByClass m.places.items m.by_class };
 }
 
 impl PlaceMap {
@@ -38,6 +43,7 @@ impl PlaceMap {
     {
         PlaceMap {
             places: Vec::new(alloc),
+            by_class: ClassNumbers::new(alloc),
         }
     }
 
@@ -55,6 +61,13 @@ impl PlaceMap {
     {
         let alloc = *self.places.allocator();
         let fresh = fresh_places(alloc, self.places.as_slice(), run, coach)?;
+        let first = self.places.len();
+        let Ok(_room) = self.places.reserve(fresh.len()) else {
+            return Err(PlaceFault::NoMemory);
+        };
+        let Ok(_numbered) = self.by_class.add(coach.class, first, fresh.len()) else {
+            return Err(PlaceFault::NoMemory);
+        };
         match self.places.extend_from_slice(fresh.as_slice()) {
             Ok(()) => Ok(()),
             Err(_) => Err(PlaceFault::NoMemory),
@@ -104,7 +117,22 @@ impl PlaceMap {
         ensures of_run { IfOk result (λ v. AllByRecursion (IsOfRun run.0 self.now) v.items) }
         ensures rising { IfOk result (λ v. AreRising 0 v.items) }
     {
-        candidates_among(alloc, self.places.as_slice(), run, class, wanted)
+        let numbers = self.class_places(run, class);
+        with_traits(alloc, self.places.as_slice(), numbers, wanted)
+    }
+
+    /// The places of the run and the class, in rising number. They are found by four binary searches, and no memory is
+    /// taken.
+    pub fn class_places(&self, run: RunNo, class: Class) -> &[PlaceNo]
+        ensures places { result.now ≡ class_places_of run.0 class self.now }
+        ensures untraited { result.now ≡ candidates_of run.0 class 0 self.now }
+        ensures of_run { AllByRecursion (IsOfRun run.0 self.now) result.now }
+        ensures rising { AreRising 0 result.now }
+    {
+        let places = self.places.as_slice();
+        let first = first_of_run(places, run);
+        let end = first + end_of_run(&places[first..], run);
+        numbers_between(self.by_class.of(class), first, end)
     }
 }
 
@@ -153,23 +181,6 @@ fn are_too_many(in_run: usize, in_all: usize, more: usize) -> bool
     in_run + more > MOST_IN_RUN || in_all + more > MOST_PLACES
 }
 
-fn candidates_among(
-    alloc: Global,
-    places: &[Place],
-    run: RunNo,
-    class: Class,
-    wanted: u8,
-) -> Result<Vec<PlaceNo>, AllocError>
-    requires by_run { AreByRun places.now }
-    requires few { length places.now ≤ 4_194_304 }
-    ensures { IfOk result (λ v. v.items ≡ candidates_of run.0 class wanted places.now) }
-{
-    let first = first_of_run(places, run);
-    let rest = &places[first..];
-    let own = &rest[..end_of_run(rest, run)];
-    numbers_from(alloc, own, first, run, class, wanted)
-}
-
 // The places of the run among these.
 fn own_places(places: &[Place], run: RunNo) -> &[Place]
     requires by_run { AreByRun places.now }
@@ -179,25 +190,21 @@ fn own_places(places: &[Place], run: RunNo) -> &[Place]
     &rest[..end_of_run(rest, run)]
 }
 
-// The numbers of the candidates among these places, of which the first has this number.
-fn numbers_from(
+// The numbers among these whose places have all wanted traits.
+fn with_traits(
     alloc: Global,
     places: &[Place],
-    first: usize,
-    run: RunNo,
-    class: Class,
+    numbers: &[PlaceNo],
     wanted: u8,
 ) -> Result<Vec<PlaceNo>, AllocError>
-    requires { first + length places.now ≤ 4_194_304 }
-    ensures { IfOk result (λ v. v.items ≡ numbers_of (is_candidate_of run.0 class wanted) first places.now) }
+    requires { All (λ n. n.0 < length places.now) numbers.now }
+    ensures { IfOk result (λ v. v.items ≡ filter (has_traits wanted places.now) numbers.now) }
 {
     let mut found = Vec::new(alloc);
-    let mut number = first as u32;
-    for place in places {
-        if is_candidate(place, run, class, wanted) {
-            found.push(PlaceNo(number))?;
+    for number in numbers {
+        if places[number.0 as usize].traits & wanted == wanted {
+            found.push(*number)?;
         }
-        number += 1;
     }
     Ok(found)
 }
@@ -285,155 +292,4 @@ fn holds(places: &[Place], place: &Place) -> bool
         }
     }
     false
-}
-
-fn is_candidate(place: &Place, run: RunNo, class: Class, wanted: u8) -> bool
-    ensures { result ≡ is_candidate_of run.0 class wanted place.now }
-{
-    place.run.0 == run.0 && is_class(place.class, class) && place.traits & wanted == wanted
-}
-
-fn is_class(class: Class, other: Class) -> bool
-    ensures { result ≡ is_class_of class other }
-{
-    match (class, other) {
-        (Class::First, Class::First) | (Class::Second, Class::Second) => true,
-        (Class::First, Class::Second) | (Class::Second, Class::First) => false,
-    }
-}
-
-#[cfg(test)]
-mod tests {
-    use super::*;
-    use std::test::Fail;
-
-    const WINDOW: u8 = 1;
-
-    const AISLE: u8 = 2;
-
-    fn coach(
-        alloc: Global,
-        number: u16,
-        class: Class,
-        groups: &[(u16, u16, u8)],
-    ) -> Result<Coach, Fail> {
-        let mut made = Vec::new(alloc);
-        for &(first, last, traits) in groups {
-            if first <= last {
-                made.push(Group {
-                    first,
-                    last,
-                    traits,
-                })?;
-            }
-        }
-        Ok(Coach {
-            number,
-            class,
-            groups: made,
-        })
-    }
-
-    #[test]
-    fn numbers_places_over_all_runs(rt: HostRuntime) -> Result<(), Fail> {
-        let alloc = rt.alloc();
-        let mut map = PlaceMap::new(alloc);
-        let first = coach(alloc, 1, Class::First, &[(1, 4, 0)])?;
-        let second = coach(
-            alloc,
-            2,
-            Class::Second,
-            &[(11, 14, WINDOW), (15, 18, AISLE)],
-        )?;
-        let third = coach(
-            alloc,
-            1,
-            Class::Second,
-            &[(11, 14, WINDOW), (15, 16, AISLE)],
-        )?;
-        assert!(rt; map.add_coach(RunNo(0), &first).is_ok());
-        assert!(rt; map.add_coach(RunNo(0), &second).is_ok());
-        assert!(rt; map.add_coach(RunNo(1), &third).is_ok());
-        assert_eq!(rt; map.count(), 18);
-        for (number, run, coach, seat, traits) in [
-            (3, 0, 1, 4, 0),
-            (4, 0, 2, 11, WINDOW),
-            (11, 0, 2, 18, AISLE),
-            (12, 1, 1, 11, WINDOW),
-            (17, 1, 1, 16, AISLE),
-        ] {
-            let place = map.place(PlaceNo(number)).ok_or("a place")?;
-            assert_eq!(rt; (place.run.0, place.coach), (run, coach));
-            assert_eq!(rt; (place.number, place.traits), (seat, traits));
-        }
-        assert_eq!(rt; map.place(PlaceNo(18)), None);
-        for (run, from, end) in [(0, 0, 12), (1, 12, 18), (2, 18, 18)] {
-            assert_eq!(rt; map.of_run(RunNo(run)), &map.all()[from..end]);
-        }
-        for (run, class, wanted, from, end) in [
-            (0, Class::First, 0, 0, 4),
-            (0, Class::Second, 0, 4, 12),
-            (0, Class::Second, WINDOW, 4, 8),
-            (0, Class::Second, AISLE, 8, 12),
-            (0, Class::Second, WINDOW + AISLE, 0, 0),
-            (1, Class::Second, WINDOW, 12, 16),
-            (1, Class::First, 0, 0, 0),
-            (2, Class::Second, 0, 0, 0),
-        ] {
-            let found = map.candidates(alloc, RunNo(run), class, wanted)?;
-            let mut want = Vec::new(alloc);
-            for number in from..end {
-                want.push(PlaceNo(number))?;
-            }
-            assert_eq!(rt; found.as_slice(), want.as_slice());
-        }
-        Ok(())
-    }
-
-    #[test]
-    fn refuses_coaches(rt: HostRuntime) -> Result<(), Fail> {
-        let alloc = rt.alloc();
-        let mut map = PlaceMap::new(alloc);
-        let full = coach(alloc, 7, Class::First, &[(1, 600, 0), (601, 1199, 0)])?;
-        assert!(rt; map.add_coach(RunNo(0), &full).is_ok());
-        for (number, groups, want) in [
-            (7, &[(1200, 1201, 0)][..], Err(PlaceFault::TooManyPlaces)),
-            (
-                7,
-                &[(0, 65_535, 0), (0, 65_535, 0)][..],
-                Err(PlaceFault::TooManyPlaces),
-            ),
-            (
-                7,
-                &[(1199, 1199, 0)][..],
-                Err(PlaceFault::DoublePlace {
-                    coach: 7,
-                    number: 1199,
-                }),
-            ),
-            (7, &[][..], Ok(())),
-            (8, &[(1199, 1199, 0)][..], Ok(())),
-            (8, &[(1, 1, 0)][..], Err(PlaceFault::TooManyPlaces)),
-        ] {
-            let more = coach(alloc, number, Class::Second, groups)?;
-            let before = map.count();
-            assert!(rt; map.places.as_slice().iter().all(|p| p.run.0 == 0));
-            let added = map.add_coach(RunNo(0), &more);
-            assert_eq!(rt; added, want, "{number} {groups:?}");
-            if added.is_err() {
-                assert_eq!(rt; map.count(), before);
-            }
-        }
-        let twice = coach(alloc, 3, Class::First, &[(5, 9, 0), (8, 9, 0), (5, 5, 0)])?;
-        let mut map = PlaceMap::new(alloc);
-        let other = map.add_coach(RunNo(1), &twice);
-        assert_eq!(rt;
-            other,
-            Err(PlaceFault::DoublePlace {
-                coach: 3,
-                number: 8
-            })
-        );
-        Ok(())
-    }
 }

@@ -1,7 +1,7 @@
 -- The lists of departures that are kept, as departures are added and looked up.
-use Rattle.std.proofs.Common.{◌≡◌, ℕ, zero, suc, ◌+◌, ◌-◌, ◌*◌, ◌/◌, ◌<◌, ◌≤◌, ◌⊎◌, inl, inr, Bool, true, false, List, [], ◌∷◌, ◌++◌, length, take, drop, get_or, refl, sym, ap, ◌∙◌, subst, arith, leb, Option, Some, None, insert, if◌then◌else◌, All}
-use Rattle.std.specs.Prelude.{slice_get, count_by, sum_by, ◌↔◌}
-use Rattle.std.specs.List.{AllPairs, AllWithin, Contains}
+use Rattle.std.proofs.Common.{◌≡◌, ℕ, zero, suc, ◌+◌, ◌-◌, ◌/◌, ◌<◌, ◌≤◌, ◌⊎◌, inl, inr, Bool, true, false, List, [], ◌∷◌, ◌++◌, length, take, drop, get_or, refl, sym, ap, ◌∙◌, subst, arith, leb, insert, if◌then◌else◌, All}
+use Rattle.std.specs.Prelude.{◌↔◌}
+use Rattle.std.specs.List.{AllPairs, Contains}
 use Rattle.std.specs.Int.Digits.{digits_of}
 use Rattle.std.proofs.lemmas.Int.Digits.{length-digits_of_step}
 use Rattle.std.specs.List.Sorted.{IsPartitionedBy, IsPartitionPoint}

@@ -1,7 +1,7 @@
 -- The lists of departures of all stations, as the stops of a run are posted one after the other.
 use Rattle.std.proofs.Common.{◌≡◌, ◌≢◌, ℕ, zero, suc, ◌+◌, ◌-◌, ◌<◌, ◌≤◌, ◌⊎◌, inl, inr, List, [], ◌∷◌, ◌++◌, length, take, get_or, set, cond, refl, sym, ap, ◌∙◌, subst, arith, Option, Some, None, insert, remove, Bool, true, false, nat_lt, nat_le, if◌then◌else◌, ltb, true≢false}
 use Rattle.std.proofs.lemmas.Bool.{ltb-true, lt-ltb}
-use Rattle.std.specs.Prelude.{slice_get, count_by, sum_by, ◌↔◌, All, option_map}
+use Rattle.std.specs.Prelude.{slice_get, sum_by, All, option_map}
 use Rattle.std.specs.Option.{option_or}
 use Rattle.std.specs.List.{AllPairs, Contains}
 use Rattle.std.proofs.lemmas.Bool.Decides.{nat_tests}
@@ -17,7 +17,7 @@ use Rattle.train_runs.specs.Stations.{StationView}
 use Rattle.train_runs.specs.declared.run.RunFault.TheVariants.{TooFewStops, TooManyStops, TimesNotRising, TooManyRuns, StationRepeated}
 use Rattle.train_runs.specs.Stops.{RunView, IsRun, stop_at, no_stop, stands_at, first_unrisen, first_repeated}
 use Rattle.train_runs.specs.Runs.{RunsView, AreSound, run_fault, most_runs}
-use Rattle.train_runs.specs.Departures.{IsDeparture, IsBefore, AreExactly, AreDepartures, times_left, departure_count}
+use Rattle.train_runs.specs.Departures.{IsDeparture, IsBefore, AreDepartures, times_left, departure_count}
 use Rattle.train_runs.specs.Boards.{IsBoard, HasBoards, IsPosted, IsPartBoard, ArePosted, IsWindow}
 use Rattle.train_runs.proofs.Departing.{members_insert, less_or_equal, window_exact}
 

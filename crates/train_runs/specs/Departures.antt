@@ -4,7 +4,6 @@ use Rattle.std.specs.List.{AllPairs, Contains}
 use Rattle.rail_ids.specs.declared.StationNo.{StationNo}
 use Rattle.train_runs.specs.declared.departure.Departure.{Departure}
 use Rattle.train_runs.specs.Stops.{RunView, stop_at, stands_at}
-use Rattle.train_runs.specs.Runs.{RunsView}
 
 -- the run leaves the station at this moment from this stop, which isn't its last
 pub record IsDeparture (runs : List RunView) (station : StationNo) (d : Departure) : Type 0 where

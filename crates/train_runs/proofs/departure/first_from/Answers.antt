@@ -1,4 +1,4 @@
-use Rattle.std.proofs.Common.{◌≡◌, ◌+◌, ◌-◌, ◌/◌, ◌<◌, ◌≤◌, length, arith, sym, ap}
+use Rattle.std.proofs.Common.{◌+◌, ◌/◌, ◌<◌, ◌≤◌, length, arith, ap}
 use Rattle.train_runs.specs.declared.departure.Departure.{Departure}
 use Rattle.train_runs.proofs.Departing.{earlier_side, later_side, digit_less}
 use Rattle.train_runs.proofs.departure.first_from.Goals as goal

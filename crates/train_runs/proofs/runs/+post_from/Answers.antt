@@ -1,6 +1,5 @@
-use Rattle.std.proofs.Common.{rules, tests, ◌≡◌, ◌+◌, ◌-◌, ◌<◌, List, length, arith, sym, ap, subst, ◌∙◌, slice_set, insert}
+use Rattle.std.proofs.Common.{rules, tests, ◌+◌, ◌<◌, length, arith, ap}
 use Rattle.std.proofs.lemmas.List.{length-set}
-use Rattle.train_runs.specs.declared.departure.Departure.{Departure}
 use Rattle.train_runs.specs.declared.run.Stop.{Stop}
 use Rattle.train_runs.specs.Stops.{no_stop}
 use Rattle.train_runs.proofs.Posting.{read_stop, behind_stop, step_stop, put_back}

@@ -1,4 +1,4 @@
-use Rattle.std.proofs.Common.{rules, tests, leb, ◌∙◌, sym, ap, subst, List, ◌≡◌, Bool, true, false, insert, if◌then◌else◌}
+use Rattle.std.proofs.Common.{rules, tests, leb, sym, subst, List, ◌≡◌, true, false}
 use Rattle.std.specs.Prelude.{All}
 use Rattle.std.specs.List.{AllPairs}
 use Rattle.std.specs.List.Sorted.{IsPartitionPoint}

@@ -1,4 +1,4 @@
-use Rattle.std.proofs.Common.{◌≡◌, ◌≤◌, ◌+◌, ◌*◌, List, [], length, arith, sym, ap, subst, ◌∙◌}
+use Rattle.std.proofs.Common.{[], subst}
 use Rattle.train_runs.specs.Runs.{RunsView}
 use Rattle.train_runs.specs.Departures.{AreDepartures}
 use Rattle.train_runs.proofs.Posting.{looked_up, none_there}
