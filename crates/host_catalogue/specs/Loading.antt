@@ -1,7 +1,8 @@
 -- What is loaded from a shelf.
-use Rattle.std.specs.Prelude.{◌≡◌, ◌≤◌, ◌<◌, ⊤, ℕ, List, length, Option, Some, None, IfSome, IsSomeAnd, Result, Ok, Err}
+use Rattle.std.specs.Prelude.{◌≡◌, ◌⊎◌, ◌≤◌, ◌<◌, ⊤, ℕ, List, length, Option, Some, None, IfSome, IsSomeAnd, Result, Ok, Err}
+use Rattle.rail_io.specs.Faults.{Rose}
 use Rattle.rail_catalogue.specs.Contents.{CatalogueView}
-use Rattle.rail_catalogue.specs.Faults.{fault_of}
+use Rattle.rail_catalogue.specs.Faults.{Fault, fault_of}
 use Rattle.rail_catalogue.specs.Format.{catalogue_of}
 use Rattle.host_catalogue.specs.declared.load.LoadFault.{LoadFault}
 use Rattle.host_catalogue.specs.declared.load.LoadFault.TheVariants.{Missing, TooLarge, Refused, Failed, NoMemory}
@@ -41,3 +42,31 @@ Loads told name (Err TooLarge) = IfSome told (λ files. IsTooLarge files name)
 Loads told name (Err (Refused fault)) = (text : List ℕ) × IfSome told (λ files. IsText files name text) × Reads text (Err (Refused fault))
 Loads told name (Err Failed) = ⊤
 Loads told name (Err NoMemory) = ⊤
+
+-- What a load did to the shelf's counts of faults and of misses, each before and after: a failure of the shelf is answered where its faults
+-- rose, and else they are as they were. A missing or too large file is answered where its misses rose.
+abbrev pub HasCause : Result CatalogueView LoadFault → ℕ → ℕ → ℕ → ℕ → Type 0
+HasCause (Ok cat) failed fails missed misses = fails ≡ failed
+HasCause (Err Missing) failed fails missed misses = (fails ≡ failed) × Rose missed misses
+HasCause (Err TooLarge) failed fails missed misses = (fails ≡ failed) × Rose missed misses
+HasCause (Err (Refused fault)) failed fails missed misses = fails ≡ failed
+HasCause (Err Failed) failed fails missed misses = Rose failed fails
+HasCause (Err NoMemory) failed fails missed misses = fails ≡ failed
+
+-- the text is no catalogue
+abbrev pub IsNoCatalogue : List ℕ → Type 0
+IsNoCatalogue text = (fault : Fault) × (catalogue_of text ≡ Err fault)
+
+-- there is no catalogue of the name: no file, one that is too large, or a text that is none
+abbrev pub HasNone : (List ℕ → Option (List ℕ)) → List ℕ → Type 0
+HasNone files name = (files name ≡ None) ⊎ IsTooLarge files name ⊎ ((text : List ℕ) × IsText files name text × IsNoCatalogue text)
+
+-- so of a shelf, where it tells its files
+abbrev pub LacksCatalogue : Files → List ℕ → Type 0
+LacksCatalogue told name = IfSome told (λ files. HasNone files name)
+
+-- a text of the file was refused
+pub record IsRefusedText (told : Files) (name : List ℕ) : Type 0 where
+  pub text : List ℕ
+  pub is : IfSome told (λ files. IsText files name text)
+  pub none : IsNoCatalogue text

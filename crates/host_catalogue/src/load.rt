@@ -1,8 +1,6 @@
 // A catalogue out of a shelf.
-ghost use Rattle.std.specs.Prelude.{◌≡◌, ◌≤◌, Err};
-ghost use Rattle.rail_io.specs.Faults.{Rose};
-ghost use Rattle.host_catalogue.specs.Loading.{Loads, Reads};
-ghost use Rattle.host_catalogue.specs.declared.load.LoadFault.TheVariants.{Missing, TooLarge, Failed};
+ghost use Rattle.std.specs.Prelude.{◌≡◌};
+ghost use Rattle.host_catalogue.specs.Loading.{HasCause, Loads, Reads};
 
 use rail_catalogue::{Catalogue, CatalogueFault, read_catalogue};
 use rail_io::{Fetched, Shelf};
@@ -36,7 +34,7 @@ fn read(alloc: Global, text: &[u8]) -> Result<Catalogue, LoadFault>
     }
 }
 
-/// The catalogue of the file with the name.
+/// The catalogue of the file with the name, of at most 33,554,432 bytes. The shelf is asked once.
 pub fn load_catalogue<F: Shelf>(
     alloc: Global,
     shelf: &mut F,
@@ -44,13 +42,7 @@ pub fn load_catalogue<F: Shelf>(
 ) -> Result<Catalogue, LoadFault>
     ensures loads { Loads (F.told shelf.old) name.now result }
     ensures same { F.told shelf.new ≡ F.told shelf.old }
-
-    // A shelf's failure is answered where its count of faults rose in this call, and else that count is as it was. A missing or too
-    // large file is answered where its misses rose.
-    ensures steady { (result ≡ Err Failed → ⊥) → F.faults shelf.new ≡ F.faults shelf.old }
-    ensures failed { result ≡ Err Failed → Rose (F.faults shelf.old) (F.faults shelf.new) }
-    ensures missing { result ≡ Err Missing → Rose (F.misses shelf.old) (F.misses shelf.new) }
-    ensures too_large { result ≡ Err TooLarge → Rose (F.misses shelf.old) (F.misses shelf.new) }
+    ensures cause { HasCause result (F.faults shelf.old) (F.faults shelf.new) (F.misses shelf.old) (F.misses shelf.new) }
 {
     match shelf.fetch(alloc, name, MOST_BYTES) {
         Fetched::Got(text) => read(alloc, text.as_slice()),

@@ -14,13 +14,16 @@ pub struct NoteText<'a> {
     pub end: &'static [u8],
 }
 
-fn plain(front: &'static [u8]) -> NoteText<'static>
-    ensures { result.front.now ++ (result.path.now ++ result.end.now) ≡ front.now }
-{
-    NoteText {
-        front,
-        path: b"",
-        end: b"",
+impl NoteText<'static> {
+    /// The note that is this text alone.
+    pub fn of(text: &'static [u8]) -> NoteText<'static>
+        ensures { result.front.now ++ (result.path.now ++ result.end.now) ≡ text.now }
+    {
+        NoteText {
+            front: text,
+            path: b"",
+            end: b"",
+        }
     }
 }
 
@@ -28,18 +31,18 @@ fn fault_note(fault: &CatalogueFault) -> NoteText<'_>
     ensures { result.front.now ++ (result.path.now ++ result.end.now) ≡ fault_note fault.now }
 {
     match fault {
-        CatalogueFault::NotJson => plain(b"rail_host: catalogue fault 1\n"),
+        CatalogueFault::NotJson => NoteText::of(b"rail_host: catalogue fault 1\n"),
         CatalogueFault::Field { path } => NoteText {
             front: b"rail_host: catalogue fault 2 at ",
             path: path.as_str().as_bytes(),
             end: b"\n",
         },
-        CatalogueFault::Run(_) => plain(b"rail_host: catalogue fault 3\n"),
-        CatalogueFault::Place(_) => plain(b"rail_host: catalogue fault 4\n"),
-        CatalogueFault::Tariff(_) => plain(b"rail_host: catalogue fault 5\n"),
-        CatalogueFault::UnknownStation { .. } => plain(b"rail_host: catalogue fault 6\n"),
-        CatalogueFault::DoubleKey => plain(b"rail_host: catalogue fault 7\n"),
-        CatalogueFault::NoMemory => plain(b"rail_host: no memory\n"),
+        CatalogueFault::Run(_) => NoteText::of(b"rail_host: catalogue fault 3\n"),
+        CatalogueFault::Place(_) => NoteText::of(b"rail_host: catalogue fault 4\n"),
+        CatalogueFault::Tariff(_) => NoteText::of(b"rail_host: catalogue fault 5\n"),
+        CatalogueFault::UnknownStation { .. } => NoteText::of(b"rail_host: catalogue fault 6\n"),
+        CatalogueFault::DoubleKey => NoteText::of(b"rail_host: catalogue fault 7\n"),
+        CatalogueFault::NoMemory => NoteText::of(b"rail_host: no memory\n"),
     }
 }
 
@@ -49,11 +52,11 @@ impl LoadFault {
         ensures { result.front.now ++ (result.path.now ++ result.end.now) ≡ load_note self.now }
     {
         match self {
-            LoadFault::Missing => plain(b"rail_host: catalogue missing\n"),
-            LoadFault::TooLarge => plain(b"rail_host: catalogue too large\n"),
+            LoadFault::Missing => NoteText::of(b"rail_host: catalogue missing\n"),
+            LoadFault::TooLarge => NoteText::of(b"rail_host: catalogue too large\n"),
             LoadFault::Refused(fault) => fault_note(fault),
-            LoadFault::Failed => plain(b"rail_host: read fault\n"),
-            LoadFault::NoMemory => plain(b"rail_host: no memory\n"),
+            LoadFault::Failed => NoteText::of(b"rail_host: read fault\n"),
+            LoadFault::NoMemory => NoteText::of(b"rail_host: no memory\n"),
         }
     }
 }

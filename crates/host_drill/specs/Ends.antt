@@ -1,9 +1,13 @@
 -- The statuses of a drill, their notes, and what was written.
-use Rattle.std.specs.Prelude.{◌≡◌, ℕ, List, [], ◌++◌, Option, Some, None, IsSomeAnd, slice_get, codes}
+use Rattle.std.specs.Prelude.{◌≡◌, ℕ, List, ◌++◌, Option, Some, None, IsSomeAnd}
 use Rattle.rail_io.specs.Told.{with_end}
 use Rattle.claim_rule.specs.Walls.{WallView}
+use Rattle.host_words.specs.Commands.{IsFor}
+use Rattle.host_words.specs.declared.command.CommandName.TheVariants as command
 use Rattle.host_words.specs.Drill.{drill_words}
 use Rattle.host_words.specs.declared.drill.DrillWords.{DrillWords}
+use Rattle.host_notes.specs.declared.ending.CommandEnd.{CommandEnd}
+use Rattle.host_notes.specs.declared.ending.CommandEnd.TheVariants as ended
 use Rattle.drill_totals.specs.Totals.{totals_line}
 use Rattle.host_drill.specs.declared.drill.Cause.{Cause}
 use Rattle.host_drill.specs.declared.drill.Cause.TheVariants.{Whole, Words, Write, Memory}
@@ -12,7 +16,7 @@ use Rattle.host_drill.specs.Drilled.{IsDrilled}
 
 -- the command is `drill`
 abbrev pub IsForDrill : List (List ℕ) → Type 0
-IsForDrill words = slice_get words 0 ≡ Some (codes "drill")
+IsForDrill words = IsFor command.Drill words
 
 -- the words are those of `drill`, and say this
 pub record IsDrill (words : List (List ℕ)) (said : DrillWords) : Type 0 where
@@ -25,17 +29,12 @@ IsNoDrill words = (said : DrillWords) → IsDrill words said → ⊥
 abbrev pub printed : Totals → List ℕ
 printed t = totals_line t.requests t.sold t.refused t.busy t.double
 
-abbrev pub status_of : Cause → ℕ
-status_of Whole = 0
-status_of Words = 2
-status_of Write = 4
-status_of Memory = 5
-
-abbrev pub note_of : Cause → List ℕ
-note_of Whole = []
-note_of Words = codes "rail_host: words refused\n"
-note_of Write = codes "rail_host: write fault\n"
-note_of Memory = codes "rail_host: no memory\n"
+-- the command's end
+abbrev pub end_of_drill : Cause → CommandEnd
+end_of_drill Whole = ended.Done
+end_of_drill Words = ended.WordsRefused
+end_of_drill Write = ended.WriteFault
+end_of_drill Memory = ended.NoMemory
 
 -- What a drill that ended so wrote, and the books that it hands back: the whole line of what the books and the answers came to; a front
 -- of it, where the output failed; or nothing.

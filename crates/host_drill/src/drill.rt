@@ -1,21 +1,21 @@
 // The top call of `drill`.
-ghost use Rattle.std.specs.Prelude.{◌≡◌, ◌≤◌, ◌⊎◌, IfOk, IfErr, Some, None, option_map, codes, slice_get, false, true};
+ghost use Rattle.std.specs.Prelude.{◌≡◌, ◌≤◌, ◌⊎◌, IfOk, IfErr, option_map, false, true};
 ghost use Rattle.rail_io.specs.Faults.{Rose};
 ghost use Rattle.claim_rule.specs.Seats.{IsOf};
 ghost use Rattle.host_words.specs.Options.{words_texts};
 ghost use Rattle.session_loop.specs.Writes.{Writes};
 ghost use Rattle.host_drill.specs.Drilled.{IsDrilled};
-ghost use Rattle.host_drill.specs.Ends.{IsForDrill, IsDrill, IsNoDrill, Leaves, note_of, printed, status_of};
+ghost use Rattle.host_drill.specs.Ends.{IsForDrill, IsDrill, IsNoDrill, Leaves, end_of_drill, printed};
+ghost use Rattle.host_notes.specs.Ends.{note_of, status_of};
 ghost use Rattle.host_notes.specs.Noted.{IsNoted};
 
 use crate::crew::{meet_all, open_crew, serve_all};
-use crate::ends::{note_text, status};
 use claim_rule::Wall;
 use drill_catalogue::drill_catalogue;
 use drill_totals::{Totals, count_sold, line_of};
 use host_catalogue::open_books;
-use host_notes::note;
-use host_words::{DrillWords, WordsFault, read_drill};
+use host_notes::{CommandEnd, end_command};
+use host_words::{CommandName, DrillWords, WordsFault, is_for, read_drill};
 use rail_io::Sink;
 use session_loop::write_all;
 use std::alloc::{AllocError, Global};
@@ -43,14 +43,15 @@ pub enum Cause {
     Memory,
 }
 
-/// Whether the words are for `drill`.
-pub fn is_for_drill(words: &[String]) -> bool
-    ensures yes { result ≡ true → IsForDrill (words_texts words.now) }
-    ensures no { result ≡ false → IsForDrill (words_texts words.now) → ⊥ }
+/// The command's end.
+fn command_end(cause: Cause) -> CommandEnd
+    ensures { result ≡ end_of_drill cause }
 {
-    match words.first() {
-        Some(command) => command.as_str() == "drill",
-        None => false,
+    match cause {
+        Cause::Whole => CommandEnd::Done,
+        Cause::Words => CommandEnd::WordsRefused,
+        Cause::Write => CommandEnd::WriteFault,
+        Cause::Memory => CommandEnd::NoMemory,
     }
 }
 
@@ -64,7 +65,7 @@ fn said_of(alloc: Global, words: &[String]) -> Result<DrillWords, Cause>
     ensures memory { IfErr result (λ e. e ≡ Cause.Memory → IsForDrill (words_texts words.now)) }
     ensures causes { IfErr result (λ e. (e ≡ Cause.Words) ⊎ (e ≡ Cause.Memory)) }
 {
-    if !is_for_drill(words) {
+    if !is_for(words, CommandName::Drill) {
         return Err(Cause::Words);
     }
     match read_drill(alloc, words) {
@@ -131,6 +132,7 @@ fn drill<R: Threads + Sync, K: Sink>(
     ensures leaves { Leaves (words_texts words.now) (K.told output.old) (K.told output.new) (option_map (λ w. w) result.1) result.0 }
     ensures write_cause { result.0 ≡ Cause.Write → Rose (K.faults output.old) (K.faults output.new) }
     ensures write_steady { (result.0 ≡ Cause.Write → ⊥) → K.faults output.new ≡ K.faults output.old }
+    ensures nothing_written { result.0 ≡ Cause.Words → output.new ≡ output.old }
 {
     let said = match said_of(alloc, words) {
         Ok(said) => said,
@@ -145,14 +147,14 @@ fn drill<R: Threads + Sync, K: Sink>(
 /// Runs a drill by its words, of which the first is `drill`: `--seed N` (0 to 65,535), `--workers N` (1 to 16), `--size N` (1 to 2,000)
 /// and `--places N` (1 to 1,200), all required.
 ///
-/// | status | where | note |
-/// |---|---|---|
-/// | 0 | all requests were answered, and the line is printed | none |
-/// | 2 | the words are refused | `rail_host: words refused` |
-/// | 4 | the output failed in this call | `rail_host: write fault` |
-/// | 5 | there was no memory for some part of it | `rail_host: no memory` |
+/// | status | where |
+/// |---|---|
+/// | 0 | all requests were answered, and the line is printed |
+/// | 2 | the words are refused |
+/// | 4 | the output failed in this call |
+/// | 5 | there was no memory for some part of it |
 ///
-/// A failing note changes no status. Threads are started for the connections, and all are joined.
+/// Each has the note of its end, and a failing note changes no status. Threads are started for the connections, and all are joined.
 pub fn run_drill<R: Threads + Sync, K: Sink, E: Sink>(
     rt: &R,
     alloc: Global,
@@ -161,21 +163,21 @@ pub fn run_drill<R: Threads + Sync, K: Sink, E: Sink>(
     notes: &mut E,
 ) -> DrillEnd
     // How it ended, by its status; and what it leaves: the line printed, and the books that it counts.
-    ensures ends { (cause : Cause) × (result.status ≡ status_of cause)
+    ensures ends { (cause : Cause) × (result.status ≡ status_of (end_of_drill cause))
         × Leaves (words_texts words.now) (K.told output.old) (K.told output.new) (option_map (λ w. w) result.wall) cause
-        × IsNoted (E.told notes.old) (E.told notes.new) (E.faults notes.old) (E.faults notes.new) (note_of cause) }
+        × IsNoted (E.told notes.old) (E.told notes.new) (E.faults notes.old) (E.faults notes.new) (note_of (end_of_drill cause)) }
 
-    // Status 2 comes exactly where the words are refused.
-    ensures refused { IsNoDrill (words_texts words.now) → (result.status ≡ 2) ⊎ ((result.status ≡ 5) × IsForDrill (words_texts words.now)) }
+    // Status 2 comes exactly where the words are refused. Nothing is then written.
+    ensures refused { IsNoDrill (words_texts words.now)
+        → (result.status ≡ 2) ⊎ ((result.status ≡ 5) × IsForDrill (words_texts words.now)) }
+    ensures words { result.status ≡ 2 → IsNoDrill (words_texts words.now) }
+    ensures nothing_written { result.status ≡ 2 → output.new ≡ output.old }
 
     // A failure of the output is answered where its count of faults rose in this call, and at every other status that count is as it was.
     ensures write_cause { result.status ≡ 4 → Rose (K.faults output.old) (K.faults output.new) }
     ensures write_steady { (result.status ≡ 4 → ⊥) → K.faults output.new ≡ K.faults output.old }
 {
     let (cause, wall) = drill(rt, alloc, words, output);
-    note(notes, note_text(cause));
-    DrillEnd {
-        status: status(cause),
-        wall,
-    }
+    let status = end_command(notes, &command_end(cause));
+    DrillEnd { status, wall }
 }

@@ -6,13 +6,12 @@
 //! legal history; and that the line counts what the books then hold and what the connections were answered. The words alone determine
 //! these counts, whatever the threads did: on each leg as many places are sold as are asked for, or all of them; every other request is
 //! refused, and none is answered busy.
+//!
+//! It is a room of its own since it alone plays retailers, in threads, against the service.
 #![tactic(auto)]
 
 mod connection;
 mod crew;
 mod drill;
-mod ends;
-#[cfg(test)]
-mod tests;
 
-pub use drill::{DrillEnd, is_for_drill, run_drill};
+pub use drill::{Cause, DrillEnd, run_drill};

@@ -3,15 +3,17 @@
 //!
 //! `SharedListener` stands in a lock, `TcpPort` before a port of this machine. Of the tickers `CountTicker` stands in memory, and
 //! `SleepTicker` before the machine's clock.
+//!
+//! It is a room of its own since `TcpPort`, its streams and `SleepTicker` are the edge of the proof: what the system does is trusted there,
+//! and what is made of each answer is proved.
 #![tactic(auto)]
 
 mod shared_listener;
+mod socket;
 mod tcp_port;
 mod ticker;
 
 pub use shared_listener::{ListenerEnd, Named, SharedListener};
-pub use tcp_port::TcpPort;
+pub use socket::{SocketReader, SocketWriter, make_ready};
+pub use tcp_port::{AfterRefusal, TcpPort, after_refusal};
 pub use ticker::{CountTicker, SleepTicker, Ticker};
-
-#[cfg(test)]
-mod tests;

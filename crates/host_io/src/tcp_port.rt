@@ -1,25 +1,48 @@
 // A port of this machine as a listener. Its streams tell no content.
 ghost use Rattle.std.specs.Prelude.{◌≡◌, ◌≤◌};
 ghost use Rattle.rail_io.specs.Faults.{Rose};
-ghost use Rattle.host_io.specs.Tcp.{tcp_view, tcp_faults};
+ghost use Rattle.host_io.specs.Tcp.{after_refusal as after_of, tcp_view, tcp_faults};
 
+use crate::socket::{SocketReader, SocketWriter, halves_of};
 use rail_io::{ReaderSource, WriterSink};
 use rail_service::{Accepted, Bound, Listener, Waiting};
-use std::io;
-use std::io::ErrorKind;
+use std::alloc::Global;
 use std::net::{Ipv4Addr, Net, SocketAddr, TcpListener, TcpStream};
 use std::time::Duration;
+use std::{io, thread, time};
 
-/// How many seconds a read and a write of a stream may take.
-const STREAM_SECONDS: u64 = 30;
+/// How long accepting pauses where handles or memory are wanting.
+const PAUSE_MILLISECONDS: u64 = 100;
 
-/// How many connections that were given up before they were accepted are passed over in one call.
-const RETRIES: u32 = 1_000;
+/// What an accept does that the system gave no stream.
+#[derive(Clone, Copy, Debug, PartialEq, Eq)]
+pub enum AfterRefusal {
+    /// It fails: the listener is gone.
+    Fail,
+    /// It asks again: a connection was given up before it was accepted, or the call was interrupted.
+    Again,
+    /// It asks again after a pause: handles of files, memory or something else is wanting that comes back.
+    Pause,
+}
 
-/// Listens on 127.0.0.1. Its streams send without delay, and a read or a write of more than 30 seconds fails.
+/// What an accept does after this error of Linux: EBADF, EINVAL, ENOTSOCK and EOPNOTSUPP say that the listener is gone; EINTR, EPROTO and
+/// ECONNABORTED concern one connection alone.
+pub fn after_refusal(code: u32) -> AfterRefusal
+    ensures { result ≡ after_of code }
+{
+    match code {
+        9 | 22 | 88 | 95 => AfterRefusal::Fail,
+        4 | 71 | 103 => AfterRefusal::Again,
+        _ => AfterRefusal::Pause,
+    }
+}
+
+/// Listens on 127.0.0.1. Its streams send without delay. A read fails that waits for more than 5 seconds between two requests, or for more
+/// than 30 inside one, and a write that waits for more than 30.
 #[derive(Drop)]
-pub struct TcpPort<N: Net<Listener = TcpListener, Stream = TcpStream> + Drop> {
+pub struct TcpPort<N: Net<Listener = TcpListener, Stream = TcpStream> + time::Clock + Drop> {
     net: N,
+    alloc: Global,
     listener: Option<TcpListener>,
     port: u16,
     limit: u32,
@@ -27,14 +50,29 @@ pub struct TcpPort<N: Net<Listener = TcpListener, Stream = TcpStream> + Drop> {
     faults: u64,
 }
 
-impl<N: Net<Listener = TcpListener, Stream = TcpStream> + Drop> TcpPort<N> {
+// The next connection, made ready.
+fn accept_one(alloc: Global, listener: &TcpListener) -> io::Result<(SocketReader, SocketWriter)> {
+    let (stream, _) = listener.accept()?;
+    halves_of(alloc, stream)
+}
+
+// The number of the system's error, or 0 for one of our own.
+fn code_of(error: io::Error) -> u32 {
+    match error.raw_os_error() {
+        Some(code) => u32::try_from(code).unwrap_or(0),
+        None => 0,
+    }
+}
+
+impl<N: Net<Listener = TcpListener, Stream = TcpStream> + time::Clock + Drop> TcpPort<N> {
     /// A listener at port 0 with limit 0 that has handed out nothing and hasn't failed.
-    pub fn new(net: N) -> Self
+    pub fn new(net: N, alloc: Global) -> Self
         ensures view { tcp_view result ≡ record { port = 0; limit = 0; handed = 0 } }
         ensures faults { tcp_faults result ≡ 0 }
     {
         TcpPort {
             net,
+            alloc,
             listener: None,
             port: 0,
             limit: 0,
@@ -52,41 +90,31 @@ impl<N: Net<Listener = TcpListener, Stream = TcpStream> + Drop> TcpPort<N> {
         self.faults = self.faults.saturating_add(1);
     }
 
-    // The next stream, made ready, and a second handle of it.
-    fn next_stream(&self) -> io::Result<(TcpStream, TcpStream)> {
-        let Some(listener) = &self.listener else {
-            return Err(io::Error::from(ErrorKind::NotConnected));
-        };
-        let stream = accept_one(listener)?;
-        make_ready(&stream)?;
-        let second = stream.try_clone()?;
-        Ok((stream, second))
-    }
-}
-
-// The next connection that wasn't given up meanwhile.
-fn accept_one(listener: &TcpListener) -> io::Result<TcpStream> {
-    for _ in 0..RETRIES {
-        match listener.accept() {
-            Ok((stream, _)) => return Ok(stream),
-            Err(error) if error.kind() == ErrorKind::ConnectionAborted => {}
-            Err(error) => return Err(error),
+    // The next connection, for which it may wait, also until handles and memory are there again. None where the listener is gone.
+    fn next_stream(&self) -> Option<(SocketReader, SocketWriter)> {
+        let listener = self.listener.as_ref()?;
+        for _ in 0..u64::MAX {
+            let error = match accept_one(self.alloc, listener) {
+                Ok(halves) => return Some(halves),
+                Err(error) => error,
+            };
+            match after_refusal(code_of(error)) {
+                AfterRefusal::Fail => return None,
+                AfterRefusal::Again => {}
+                AfterRefusal::Pause => {
+                    thread::sleep(&self.net, Duration::from_millis(PAUSE_MILLISECONDS));
+                }
+            }
         }
+        None
     }
-    Err(io::Error::from(ErrorKind::ConnectionAborted))
 }
 
-pub(crate) fn make_ready(stream: &TcpStream) -> io::Result<()> {
-    stream.set_nodelay(true)?;
-    let limit = Duration::from_secs(STREAM_SECONDS);
-    stream.set_read_timeout(Some(limit))?;
-    stream.set_write_timeout(Some(limit))
-}
+impl<N: Net<Listener = TcpListener, Stream = TcpStream> + time::Clock + Drop> Listener
+    for TcpPort<N> {
+    type Input = ReaderSource<SocketReader>;
 
-impl<N: Net<Listener = TcpListener, Stream = TcpStream> + Drop> Listener for TcpPort<N> {
-    type Input = ReaderSource<TcpStream>;
-
-    type Output = WriterSink<TcpStream>;
+    type Output = WriterSink<SocketWriter>;
 
     ghost told = { tcp_view };
 
@@ -106,16 +134,16 @@ impl<N: Net<Listener = TcpListener, Stream = TcpStream> + Drop> Listener for Tcp
         }
     }
 
-    fn accept(&mut self) -> Accepted<ReaderSource<TcpStream>, WriterSink<TcpStream>> {
+    fn accept(&mut self) -> Accepted<ReaderSource<SocketReader>, WriterSink<SocketWriter>> {
         if self.handed >= self.limit {
             return Accepted::Closed;
         }
         match self.next_stream() {
-            Ok((input, output)) => {
+            Some((input, output)) => {
                 self.handed += 1;
                 Accepted::Stream(Waiting::of(ReaderSource::new(input), WriterSink::new(output)))
             }
-            Err(_) => {
+            None => {
                 self.fail();
                 Accepted::Failed
             }

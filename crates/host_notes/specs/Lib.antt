@@ -1,2 +1,2 @@
+pub mod Ends
 pub mod Noted
-pub mod Statuses

@@ -1,8 +1,9 @@
-//! The notes of a command, written to a sink that may fail, and the status that stands for a catalogue that can't be had.
+//! How a command ends: its status and its note, in one table for all commands, and the notes written to a sink that may fail.
+//!
+//! It is a room of its own since every command ends by it, and only here a status meets its note.
 #![tactic(auto)]
 
+mod ending;
 mod noting;
-mod status;
 
-pub use noting::{note, note_parts};
-pub use status::status_of_fault;
+pub use ending::{CommandEnd, end_command};

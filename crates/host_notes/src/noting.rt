@@ -8,14 +8,7 @@ use host_catalogue::NoteText;
 use rail_io::Sink;
 use session_loop::write_all;
 
-/// Writes as much of a note as the sink takes.
-pub fn note<E: Sink>(notes: &mut E, text: &[u8])
-    ensures { IsNoted (E.told notes.old) (E.told notes.new) (E.faults notes.old) (E.faults notes.new) text.now }
-{
-    let _whole = write_all(notes, text);
-}
-
-/// Writes all of both pieces, and answers true, or a front of them, where the sink fails.
+/// Writes all of both pieces, and answers true, or a front of them, where the sink fails, and answers false.
 fn write_both<K: Sink>(sink: &mut K, first: &[u8], second: &[u8]) -> bool
     ensures writes { Writes (K.told sink.old) (K.told sink.new) (first.now ++ second.now) result }
     ensures cause { result ≡ false → Rose (K.faults sink.old) (K.faults sink.new) }

@@ -3,6 +3,7 @@ use Rattle.std.proofs.Common.{◌≡◌, ◌∙◌, ◌<◌, ℕ, Bool, true, fa
 use Rattle.claim_rule.specs.Rule.{DeskView}
 use Rattle.rail_catalogue.specs.Contents.{CatalogueView}
 use Rattle.worker_pool.specs.Turns.{RunsToEnd}
+use Rattle.host_words.specs.declared.serve.Serving.{Serving as Numbers}
 use Rattle.worker_pool.proofs.Chains.{whole_run}
 use Rattle.host_serve.specs.Turns.{Readings, ServesTurn, SweepsTurn, Stand, OneTurn, Connection, Sweep, Leads, Chain, HasEnded, DoesTurn, HasChain, IsPosted, clock_of}
 use Rattle.host_serve.specs.declared.member.Post.{Post}
@@ -72,15 +73,15 @@ module _ {S T C : Type 0} (told : C → Readings) where
   all_turns before old after new run = whole_run (DoesTurn told) HasEnded (HasChain told) still next each before old after new run
 
   -- of a member that serves, and of the one that sweeps
-  pub serving_chain : (cat : CatalogueView) (workers i : ℕ) (w : Post S T C) (old : DeskView) (v : Post S T C) (new : DeskView) → i < workers → IsPosted cat workers i w
+  pub serving_chain : (cat : CatalogueView) (said : Numbers) (i : ℕ) (w : Post S T C) (old : DeskView) (v : Post S T C) (new : DeskView) → i < said.workers → IsPosted cat said i w
       → HasChain told w old v new → Chain (Connection cat) (record { desk = old; clock = told (clock_of w) }) (record { desk = new; clock = told (clock_of v) })
-  serving_chain cat workers i (Serving w) old (Serving v) new lt post chain =
+  serving_chain cat said i (Serving w) old (Serving v) new lt post chain =
       subst (λ (c : CatalogueView). Chain (Connection c) (record { desk = old; clock = told w.clock }) (record { desk = new; clock = told v.clock })) post.1 chain.1
-  serving_chain cat workers i (Serving w) old (Sweeping v) new lt post chain = absurd chain
-  serving_chain cat workers i (Sweeping w) old v new lt post chain = absurd (omega (arith, lt, post))
+  serving_chain cat said i (Serving w) old (Sweeping v) new lt post chain = absurd chain
+  serving_chain cat said i (Sweeping w) old v new lt post chain = absurd (omega (arith, lt, post.0))
 
-  pub sweeping_chain : (cat : CatalogueView) (workers i : ℕ) (w : Post S T C) (old : DeskView) (v : Post S T C) (new : DeskView) → workers ≡ i → IsPosted cat workers i w
+  pub sweeping_chain : (cat : CatalogueView) (said : Numbers) (i : ℕ) (w : Post S T C) (old : DeskView) (v : Post S T C) (new : DeskView) → said.workers ≡ i → IsPosted cat said i w
       → HasChain told w old v new → Chain Sweep (record { desk = old; clock = told (clock_of w) }) (record { desk = new; clock = told (clock_of v) })
-  sweeping_chain cat workers i (Sweeping w) old (Sweeping v) new at post chain = chain
-  sweeping_chain cat workers i (Sweeping w) old (Serving v) new at post chain = absurd chain
-  sweeping_chain cat workers i (Serving w) old v new at post chain = absurd (omega (arith, at, post.0))
+  sweeping_chain cat said i (Sweeping w) old (Sweeping v) new at post chain = chain
+  sweeping_chain cat said i (Sweeping w) old (Serving v) new at post chain = absurd chain
+  sweeping_chain cat said i (Serving w) old v new at post chain = absurd (omega (arith, at, post.0))

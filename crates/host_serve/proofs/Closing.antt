@@ -60,7 +60,7 @@ has_worked Does n old new history number none keeps turns entries front = record
 module _ {S T C : Type 0} (told : C → Readings) (cat : CatalogueView) (said : Serving) (books : BooksView) (old : List (Member (Post S T C))) (first other new : DeskView)
     (clock later : Readings) where
   -- All that the members of a crew did stands in what the first desk has seen. The first member's desk served on, and was taken in last.
-  pub all_worked : (member : Member (Post S T C)) → IsCrew FitsBooks books old → AreReady cat said.workers old → length old ≡ said.workers + 1 → 1 ≤ said.workers
+  pub all_worked : (member : Member (Post S T C)) → IsCrew FitsBooks books old → AreReady cat said old → length old ≡ said.workers + 1 → 1 ≤ said.workers
       → HasRun FitsBooks (DoesTurn told) HasEnded books old first member → clock ≡ told (clock_of member.worker)
       → KeepsDesk member.desk other → Chain (Connection cat) (record { desk = member.desk; clock = clock }) (record { desk = other; clock = later })
       → HasMet first other new → ((n : ℕ) → 1 ≤ n → n ≤ said.workers → HasWorked (Connection cat) new.seen n) × HasWorked Sweep new.seen (said.workers + 1)
@@ -84,7 +84,7 @@ module _ {S T C : Type 0} (told : C → Readings) (cat : CatalogueView) (said : 
           let is = slice_index_or run.crew i member in
           has_worked Sweep (i + 1) (record { desk = was.desk; clock = told (clock_of was.worker) }) (record { desk = is.desk; clock = told (clock_of is.worker) }) new.seen
           (crew i member lt).desk.number (ready i member lt).none (run.keeps i member lt)
-          (sweeping_chain told cat said.workers i was.worker was.desk is.worker is.desk refl (ready i member lt).post (chain i lt))
+          (sweeping_chain told cat said i was.worker was.desk is.worker is.desk refl (ready i member lt).post (chain i lt))
           (entries i some lt).0 (entries i some lt).1
 
       later_one : (i : ℕ) → 1 ≤ i → i < said.workers → HasWorked (Connection cat) new.seen (i + 1)
@@ -94,7 +94,7 @@ module _ {S T C : Type 0} (told : C → Readings) (cat : CatalogueView) (said : 
           let is = slice_index_or run.crew i member in
           has_worked (Connection cat) (i + 1) (record { desk = was.desk; clock = told (clock_of was.worker) }) (record { desk = is.desk; clock = told (clock_of is.worker) }) new.seen
           (crew i member lt).desk.number (ready i member lt).none (run.keeps i member lt)
-          (serving_chain told cat said.workers i was.worker was.desk is.worker is.desk less (ready i member lt).post (chain i lt))
+          (serving_chain told cat said i was.worker was.desk is.worker is.desk less (ready i member lt).post (chain i lt))
           (entries i low lt).0 (entries i low lt).1
 
       first_one : HasWorked (Connection cat) new.seen (0 + 1)
@@ -105,7 +105,7 @@ module _ {S T C : Type 0} (told : C → Readings) (cat : CatalogueView) (said : 
           let keeps : KeepsDesk was.desk member.desk = subst (λ (m : Member (Post S T C)). KeepsDesk was.desk m.desk) left_is (run.keeps 0 member lt) in
           let did : HasChain told was.worker was.desk member.worker member.desk =
           subst (λ (m : Member (Post S T C)). HasChain told was.worker was.desk m.worker m.desk) left_is (chain 0 lt) in
-          let before = serving_chain told cat said.workers 0 was.worker was.desk member.worker member.desk some (ready 0 member lt).post did in
+          let before = serving_chain told cat said 0 was.worker was.desk member.worker member.desk some (ready 0 member lt).post did in
           let behind_it = subst (λ (r : Readings). Chain (Connection cat) (record { desk = member.desk; clock = r }) (record { desk = other; clock = later })) read left in
           let number : other.number ≡ 1 = kept.number ∙ run.is.desk.number in
           has_worked (Connection cat) (0 + 1) (record { desk = was.desk; clock = told (clock_of was.worker) }) (record { desk = other; clock = later }) new.seen

@@ -11,6 +11,7 @@ use Rattle.claim_rule.specs.Out.{IsTidy}
 use Rattle.worker_pool.specs.Turns.{Doing, KeepsDesk, RunsToEnd, EachMember}
 use Rattle.worker_pool.specs.declared.member.Member.{Member}
 use Rattle.rail_catalogue.specs.Contents.{CatalogueView}
+use Rattle.host_words.specs.declared.serve.Serving.{Serving}
 use Rattle.host_serve.specs.Turns.{IsPosted}
 use Rattle.host_serve.specs.declared.member.Post.{Post}
 
@@ -44,12 +45,12 @@ abbrev pub IsCrew : {W : Type 0} → (W → BooksView → Type 0) → BooksView 
 IsCrew {W} Fits books crew = (i : ℕ) (none : Member W) → i < length crew → IsMember Fits books (i + 1) (slice_index_or crew i none)
 
 -- a member that stands ready at its post, at a desk without entries of its own
-pub record IsReady {S T C : Type 0} (cat : CatalogueView) (workers : ℕ) (i : ℕ) (m : Member (Post S T C)) : Type 0 where
-  pub post : IsPosted cat workers i m.worker
+pub record IsReady {S T C : Type 0} (cat : CatalogueView) (said : Serving) (i : ℕ) (m : Member (Post S T C)) : Type 0 where
+  pub post : IsPosted cat said i m.worker
   pub none : own m.desk.seen (i + 1) ≡ []
 
-abbrev pub AreReady : {S T C : Type 0} → CatalogueView → ℕ → List (Member (Post S T C)) → Type 0
-AreReady {S} {T} {C} cat workers crew = (i : ℕ) (none : Member (Post S T C)) → i < length crew → IsReady cat workers i (slice_index_or crew i none)
+abbrev pub AreReady : {S T C : Type 0} → CatalogueView → Serving → List (Member (Post S T C)) → Type 0
+AreReady {S} {T} {C} cat said crew = (i : ℕ) (none : Member (Post S T C)) → i < length crew → IsReady cat said i (slice_index_or crew i none)
 
 -- the desk has taken in this one: it has seen all that this one had seen, and of this one's entries no more
 abbrev pub HasIn : DeskView → ℕ → DeskView → Type 0

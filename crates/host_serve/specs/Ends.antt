@@ -1,20 +1,20 @@
--- The statuses and notes of `serve`.
-use Rattle.std.specs.Prelude.{ℕ, List, [], codes}
-use Rattle.host_catalogue.specs.Notes.{load_note}
-use Rattle.host_notes.specs.Statuses.{status_of_fault}
+-- The ends of `serve`.
+use Rattle.std.specs.Prelude.{ℕ}
+use Rattle.host_notes.specs.Ends.{status_of}
+use Rattle.host_notes.specs.declared.ending.CommandEnd.{CommandEnd}
+use Rattle.host_notes.specs.declared.ending.CommandEnd.TheVariants as ended
 use Rattle.host_serve.specs.declared.end.ServeOutcome.{ServeOutcome}
 use Rattle.host_serve.specs.declared.end.ServeOutcome.TheVariants as end
 
-abbrev pub status_of_serve : ServeOutcome → ℕ
-status_of_serve end.Refused = 2
-status_of_serve end.NoMemory = 5
-status_of_serve (end.NoCatalogue fault) = status_of_fault fault
-status_of_serve end.ListenerFailed = 3
-status_of_serve end.Served = 0
+-- the command's end
+abbrev pub end_of_serve : ServeOutcome → CommandEnd
+end_of_serve end.Refused = ended.WordsRefused
+end_of_serve end.NoMemory = ended.NoMemory
+end_of_serve (end.NoCatalogue fault) = ended.NoCatalogue fault
+end_of_serve end.NotBound = ended.ReadFault
+end_of_serve end.AcceptFailed = ended.ReadFault
+end_of_serve end.Served = ended.Done
 
-abbrev pub note_of_serve : ServeOutcome → List ℕ
-note_of_serve end.Refused = codes "rail_host: words refused\n"
-note_of_serve end.NoMemory = codes "rail_host: no memory\n"
-note_of_serve (end.NoCatalogue fault) = load_note fault
-note_of_serve end.ListenerFailed = codes "rail_host: read fault\n"
-note_of_serve end.Served = []
+-- its status
+abbrev pub status_of_serve : ServeOutcome → ℕ
+status_of_serve outcome = status_of (end_of_serve outcome)

@@ -1,5 +1,5 @@
 -- What `serve` promises.
-use Rattle.std.specs.Prelude.{◌≡◌, ◌⊎◌, ◌<◌, ◌≤◌, ◌+◌, ℕ, List, [], Option, Some, None, IsSomeAnd, Ok, Err, slice_get, codes}
+use Rattle.std.specs.Prelude.{◌≡◌, ◌<◌, ◌≤◌, ◌+◌, ℕ, List, [], Option, Some, None, IsSomeAnd, Ok, Err}
 use Rattle.rail_io.specs.Faults.{Rose}
 use mathlib.Core.List.{IsPrefix}
 use Rattle.history_model.specs.History.{IsLegal, own, state_of}
@@ -11,8 +11,9 @@ use Rattle.rail_service.specs.Listeners.{ListenerView}
 use Rattle.host_words.specs.Serve.{ServeView, serve_words}
 use Rattle.host_words.specs.declared.serve.Serving.{Serving}
 use Rattle.host_words.specs.declared.serve.ServeWords.{ServeWords}
-use Rattle.host_catalogue.specs.Loading.{Files, Loads}
-use Rattle.host_catalogue.specs.declared.load.LoadFault.TheVariants as load
+use Rattle.host_catalogue.specs.Loading.{Files, HasCause, IsRefusedText, LacksCatalogue, Loads}
+use Rattle.host_words.specs.Commands.{IsFor}
+use Rattle.host_words.specs.declared.command.CommandName.TheVariants as command
 use Rattle.host_serve.specs.Crews.{OnlyMet}
 use Rattle.host_serve.specs.Turns.{Stand, OneTurn, Chain, Connection, Sweep}
 use Rattle.host_serve.specs.declared.end.ServeOutcome.{ServeOutcome}
@@ -20,7 +21,7 @@ use Rattle.host_serve.specs.declared.end.ServeOutcome.TheVariants as end
 
 -- the command is `serve`
 abbrev pub IsForServe : List (List ℕ) → Type 0
-IsForServe words = slice_get words 0 ≡ Some (codes "serve")
+IsForServe words = IsFor command.Serve words
 
 -- the words are those of `serve`, and say this
 pub record IsServe (words : List (List ℕ)) (said : ServeView) : Type 0 where
@@ -69,10 +70,17 @@ pub record IsSpent (said : Serving) (faults_before faults_after : ℕ) (view : L
   pub handed : view ≡ record { port = said.port; limit = said.connections; handed = said.connections }
   pub steady : faults_after ≡ faults_before
 
--- the listener failed, before it had handed out as many
+-- An accept failed: the listener listens at the port, with the words' limit, and has handed out fewer.
 pub record HasFailed (said : Serving) (faults_before faults_after : ℕ) (view : ListenerView) : Type 0 where
   pub rose : Rose faults_before faults_after
+  pub port : view.port ≡ said.port
+  pub limit : view.limit ≡ said.connections
   pub fewer : view.handed < said.connections
+
+-- A bind failed: the listener is as it was but for its limit, which is the words'.
+pub record IsUnbound (said : Serving) (faults_before faults_after : ℕ) (before after : ListenerView) : Type 0 where
+  pub rose : Rose faults_before faults_after
+  pub only : after ≡ record before { limit = said.connections }
 
 -- what the listener told and how often it had failed, before and after, and the wall
 pub record Left : Type 0 where
@@ -82,11 +90,13 @@ pub record Left : Type 0 where
   pub after : ListenerView
   pub wall : Option WallView
 
--- what the words ask for ended so
+-- What the words ask for ended so. Only a failed bind, and want of memory, hand back no wall where there is a catalogue.
 abbrev pub Ends : Files → ServeView → Left → ServeOutcome → Type 0
 Ends files said left end.Served = IsSpent said.numbers left.faults_before left.faults_after left.after × HasWall files said left.wall
-Ends files said left end.ListenerFailed =
-    HasFailed said.numbers left.faults_before left.faults_after left.after × ((left.wall ≡ None) ⊎ HasWall files said left.wall)
+Ends files said left end.AcceptFailed =
+    HasFailed said.numbers left.faults_before left.faults_after left.after × HasWall files said left.wall
+Ends files said left end.NotBound =
+    IsUnbound said.numbers left.faults_before left.faults_after left.before left.after × (left.wall ≡ None)
 Ends files said left (end.NoCatalogue fault) =
     Loads files said.catalogue (Err fault) × (left.after ≡ left.before) × (left.faults_after ≡ left.faults_before) × (left.wall ≡ None)
 Ends files said left end.NoMemory = left.wall ≡ None
@@ -95,7 +105,8 @@ Ends files said left end.Refused = ⊥
 -- the books were served and closed so, from a count of faults of the listener to one with what it then told
 abbrev pub BooksEnd : CatalogueView → Serving → ℕ → ℕ → ListenerView → Option WallView → ServeOutcome → Type 0
 BooksEnd cat said before after view wall end.Served = IsSpent said before after view × IsSomeAnd wall (IsServedWall cat said)
-BooksEnd cat said before after view wall end.ListenerFailed = HasFailed said before after view × IsSomeAnd wall (IsServedWall cat said)
+BooksEnd cat said before after view wall end.AcceptFailed = HasFailed said before after view × IsSomeAnd wall (IsServedWall cat said)
+BooksEnd cat said before after view wall end.NotBound = ⊥
 BooksEnd cat said before after view wall end.NoMemory = wall ≡ None
 BooksEnd cat said before after view wall (end.NoCatalogue fault) = ⊥
 BooksEnd cat said before after view wall end.Refused = ⊥
@@ -105,18 +116,33 @@ abbrev pub Runs : List (List ℕ) → Files → Left → ServeOutcome → Type 0
 Runs words files left end.Refused = IsNoServe words × (left.after ≡ left.before) × (left.wall ≡ None)
 Runs words files left end.NoMemory = left.wall ≡ None
 Runs words files left end.Served = (said : ServeView) × IsServe words said × Ends files said left end.Served
-Runs words files left end.ListenerFailed = (said : ServeView) × IsServe words said × Ends files said left end.ListenerFailed
+Runs words files left end.AcceptFailed = (said : ServeView) × IsServe words said × Ends files said left end.AcceptFailed
+Runs words files left end.NotBound = (said : ServeView) × IsServe words said × Ends files said left end.NotBound
 Runs words files left (end.NoCatalogue fault) = (said : ServeView) × IsServe words said × Ends files said left (end.NoCatalogue fault)
 
--- The shelf failed in this call where that is the end, and at every other end its count of faults is as it was. Where it has no such file,
--- or one too large, its misses rose.
-abbrev pub HasCause : ServeOutcome → ℕ → ℕ → ℕ → ℕ → Type 0
-HasCause (end.NoCatalogue load.Failed) failed fails missed misses = Rose failed fails
-HasCause (end.NoCatalogue load.Missing) failed fails missed misses = (fails ≡ failed) × Rose missed misses
-HasCause (end.NoCatalogue load.TooLarge) failed fails missed misses = (fails ≡ failed) × Rose missed misses
-HasCause (end.NoCatalogue (load.Refused fault)) failed fails missed misses = fails ≡ failed
-HasCause (end.NoCatalogue load.NoMemory) failed fails missed misses = fails ≡ failed
-HasCause end.Served failed fails missed misses = fails ≡ failed
-HasCause end.ListenerFailed failed fails missed misses = fails ≡ failed
-HasCause end.NoMemory failed fails missed misses = fails ≡ failed
-HasCause end.Refused failed fails missed misses = fails ≡ failed
+-- Where the shelf gave no catalogue, its counts show why; and at every other end its count of faults is as it was.
+abbrev pub HasShelfCause : ServeOutcome → ℕ → ℕ → ℕ → ℕ → Type 0
+HasShelfCause (end.NoCatalogue fault) failed fails missed misses = HasCause (Err fault) failed fails missed misses
+HasShelfCause end.Served failed fails missed misses = fails ≡ failed
+HasShelfCause end.AcceptFailed failed fails missed misses = fails ≡ failed
+HasShelfCause end.NotBound failed fails missed misses = fails ≡ failed
+HasShelfCause end.NoMemory failed fails missed misses = fails ≡ failed
+HasShelfCause end.Refused failed fails missed misses = fails ≡ failed
+
+-- the words are those of `serve`, and the shelf, where it tells its files, has no catalogue of the name
+pub record IsWithoutCatalogue (words : List (List ℕ)) (files : Files) : Type 0 where
+  pub said : ServeView
+  pub words_are : IsServe words said
+  pub none : LacksCatalogue files said.catalogue
+
+-- the words are those of `serve`, and a text of their file was refused
+pub record IsOfRefusedText (words : List (List ℕ)) (files : Files) : Type 0 where
+  pub said : ServeView
+  pub words_are : IsServe words said
+  pub refused_text : IsRefusedText files said.catalogue
+
+-- the words are those of `serve`, and the listener is as it was but for its limit, which is theirs
+pub record IsOnlyLimited (words : List (List ℕ)) (before after : ListenerView) : Type 0 where
+  pub said : ServeView
+  pub words_are : IsServe words said
+  pub only : after ≡ record before { limit = said.numbers.connections }

@@ -1,7 +1,7 @@
 -- What the turns of members do.
 use Rattle.std.specs.Prelude.{◌≡◌, ◌<◌, ℕ, Bool, true, false, List, [], ◌∷◌, Option, None}
 use Rattle.rail_ids.specs.declared.RetailerNo.{RetailerNo}
-use Rattle.rail_io.specs.Told.{with_front}
+use Rattle.rail_io.specs.Told.{with_front, with_end}
 use Rattle.session_loop.specs.declared.end.ConnEnd.{ConnEnd}
 use Rattle.claim_rule.specs.Rule.{BooksView, DeskView}
 use Rattle.claim_rule.specs.Calls.{ShapeBy}
@@ -9,6 +9,7 @@ use Rattle.rail_catalogue.specs.Contents.{CatalogueView, legs_in}
 use Rattle.expiry_sweeper.specs.AllRows.{Sweeps}
 use Rattle.expiry_sweeper.specs.declared.sweeps.Swept.{Swept}
 use Rattle.rail_service.specs.Connections.{IsReading, HasServed}
+use Rattle.host_words.specs.declared.serve.Serving.{Serving as Numbers}
 use Rattle.host_serve.specs.declared.member.Post.{Post}
 use Rattle.host_serve.specs.declared.member.Post.TheVariants.{Serving, Sweeping}
 
@@ -21,16 +22,22 @@ pub record HasCatalogue (books : BooksView) (cat : CatalogueView) : Type 0 where
   pub legs : books.layout.legs ≡ legs_in cat
   pub rows : books.layout.rows ≡ cat.rows
 
--- One connection was served, from the bytes that its stream told to those that were written, by the desk's own entries.
-pub record ServesOne (cat : CatalogueView) (clock : Readings) (old : DeskView) (later : Readings) (new : DeskView) : Type 0 where
-  pub stream : Option (List ℕ)
+-- This stream's connection was served to its end: by the bytes that its source told, into its sink, by the desk's own entries.
+pub record ServesStream (cat : CatalogueView) (stream sent : Option (List ℕ)) (clock : Readings) (old : DeskView) (later : Readings) (new : DeskView) : Type 0 where
   pub left : Option (List ℕ)
   pub taken : List ℕ
   pub takes : stream ≡ with_front taken left
   pub written : List ℕ
+  pub after : Option (List ℕ)
+  pub writes : after ≡ with_end sent written
   pub first : Option RetailerNo
   pub end : ConnEnd
   pub served : HasServed cat (record { desk = old; first = None; clock = clock }) (record { desk = new; first = first; clock = later }) taken left written end
+
+-- one stream was served
+abbrev pub ServesOne : CatalogueView → Readings → DeskView → Readings → DeskView → Type 0
+ServesOne cat clock old later new =
+    (stream : Option (List ℕ)) × (sent : Option (List ℕ)) × ServesStream cat stream sent clock old later new
 
 -- All rows were swept once, at the clock's next reading.
 pub record SweepsOnce (clock : Readings) (old : DeskView) (later : Readings) (new : DeskView) : Type 0 where
@@ -111,7 +118,7 @@ module _ {S T C : Type 0} where
   HasChain told (Serving w) old (Sweeping v) new = ⊥
   HasChain told (Sweeping w) old (Serving v) new = ⊥
 
-  -- the post of member i, from 0, of so many that serve the catalogue and a last one that sweeps
-  abbrev pub IsPosted : CatalogueView → ℕ → ℕ → Post S T C → Type 0
-  IsPosted cat workers i (Serving w) = (i < workers) × (w.common.cat.now ≡ cat)
-  IsPosted cat workers i (Sweeping w) = i ≡ workers
+  -- the post of member i, from 0: as many as the words say serve the catalogue, and a last one asks for a sweep each so many seconds
+  abbrev pub IsPosted : CatalogueView → Numbers → ℕ → Post S T C → Type 0
+  IsPosted cat said i (Serving w) = (i < said.workers) × (w.common.cat.now ≡ cat)
+  IsPosted cat said i (Sweeping w) = (i ≡ said.workers) × (w.seconds ≡ said.sweep)

@@ -38,7 +38,7 @@ pub fn crew_of<'s, R: Wait, L: Listener + Drop, N: Named, T: Ticker + Drop, C: C
     requires clocks { said.workers + 1 ≤ length clocks.items }
     ensures first { IfOk result (λ crew. IsFirst books.now (length crew.items) first.new) }
     ensures crew { IfOk result (λ crew. IsCrew FitsBooks books.now crew.items) }
-    ensures ready { IfOk result (λ crew. AreReady common.entry.cat.now said.workers crew.items) }
+    ensures ready { IfOk result (λ crew. AreReady common.entry.cat.now said crew.items) }
     ensures count { IfOk result (λ crew. length crew.items ≡ said.workers + 1) }
 {
     let mut crew = Vec::new(common.alloc);

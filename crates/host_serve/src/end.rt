@@ -1,12 +1,10 @@
 // How `serve` ends.
 ghost use Rattle.std.specs.Prelude.{◌≡◌};
-ghost use Rattle.host_serve.specs.Ends.{status_of_serve, note_of_serve};
-ghost use Rattle.host_notes.specs.Noted.{IsNoted};
+ghost use Rattle.host_serve.specs.Ends.{end_of_serve};
 
 use claim_rule::Wall;
 use host_catalogue::LoadFault;
-use host_notes::{note, note_parts, status_of_fault};
-use rail_io::Sink;
+use host_notes::CommandEnd;
 
 /// Why serving ended.
 #[derive(Debug, Drop)]
@@ -17,8 +15,10 @@ pub enum ServeOutcome {
     NoMemory,
     /// There is no catalogue to serve.
     NoCatalogue(LoadFault),
-    /// A bind or an accept failed.
-    ListenerFailed,
+    /// The bind failed, and nothing was served.
+    NotBound,
+    /// An accept failed, behind the connections that were served.
+    AcceptFailed,
     /// As many connections as were asked for have ended.
     Served,
 }
@@ -34,31 +34,15 @@ pub struct ServeEnd<L> {
     pub wall: Option<Wall>,
 }
 
-/// Writes the note of an end, and answers its status.
-pub fn end_serve<E: Sink>(notes: &mut E, outcome: &ServeOutcome) -> u8
-    ensures status { result ≡ status_of_serve outcome.now }
-    ensures noted { IsNoted (E.told notes.old) (E.told notes.new) (E.faults notes.old) (E.faults notes.new) (note_of_serve outcome.now) }
+/// The command's end.
+pub fn command_end(outcome: ServeOutcome) -> CommandEnd
+    ensures { result ≡ end_of_serve outcome }
 {
     match outcome {
-        ServeOutcome::Refused => {
-            note(notes, b"rail_host: words refused\n");
-            2
-        }
-        ServeOutcome::NoMemory => {
-            note(notes, b"rail_host: no memory\n");
-            5
-        }
-        ServeOutcome::NoCatalogue(fault) => {
-            note_parts(notes, fault.note());
-            status_of_fault(fault)
-        }
-        ServeOutcome::ListenerFailed => {
-            note(notes, b"rail_host: read fault\n");
-            3
-        }
-        ServeOutcome::Served => {
-            note(notes, b"");
-            0
-        }
+        ServeOutcome::Refused => CommandEnd::WordsRefused,
+        ServeOutcome::NoMemory => CommandEnd::NoMemory,
+        ServeOutcome::NoCatalogue(fault) => CommandEnd::NoCatalogue(fault),
+        ServeOutcome::NotBound | ServeOutcome::AcceptFailed => CommandEnd::ReadFault,
+        ServeOutcome::Served => CommandEnd::Done,
     }
 }

@@ -4,25 +4,25 @@
 //! connection. One further member sweeps the rows at each tick. `run_serve` starts them, waits for them, takes in their desks and
 //! closes the books. In the history of the wall that it hands back each member's entries are just those of the connections that it
 //! served, one after the other, or of its sweeps, and the first desk, which took them in, has done nothing else.
+//!
+//! It is a room of its own since here alone threads meet the service.
 #![tactic(auto)]
 
-mod alone;
+mod books;
 mod crew;
+mod draining;
 mod end;
 mod meeting;
 mod member;
-mod one;
 mod run;
 mod serving;
+mod stream;
 mod streams;
 mod sweeping;
 
 pub use end::{ServeEnd, ServeOutcome};
 pub use member::{Common, Post};
-pub use run::{is_for_serve, run_serve};
+pub use run::run_serve;
 pub use serving::Server;
 pub use streams::Streams;
 pub use sweeping::Sweeper;
-
-#[cfg(test)]
-mod tests;

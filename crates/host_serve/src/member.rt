@@ -55,8 +55,8 @@ impl<S: Streams, T: Ticker, C: Clock> Worker for Post<'_, S, T, C> {
 
     fn turn(&mut self, books: &Books, desk: &mut Desk) -> TurnEnd {
         match self {
-            Post::Serving(server) => server.serve_next(books, desk),
-            Post::Sweeping(sweeper) => sweeper.sweep_next(books, desk),
+            Post::Serving(server) => server.take_turn(books, desk),
+            Post::Sweeping(sweeper) => sweeper.take_turn(books, desk),
         }
     }
 }

@@ -1,176 +1,34 @@
 // `serve` by its words.
-ghost use Rattle.std.specs.Prelude.{◌≡◌, ◌≢◌, ◌⊎◌, ◌≤◌, ◌<◌, ◌+◌, [], true, false, Some, None, Ok, IfOk, IfErr, Err, length};
+ghost use Rattle.std.specs.Prelude.{◌≡◌, ◌⊎◌, ◌≤◌, ℕ, [], List, Option, Some, None, Ok, IfOk, IfErr, Err, length};
 ghost use Rattle.rail_io.specs.Faults.{Rose};
 ghost use Rattle.host_words.specs.Options.{words_texts};
-ghost use Rattle.host_words.specs.Serve.{IsInRange};
+ghost use Rattle.host_words.specs.Serve.{IsInRange, ServeView};
 ghost use Rattle.host_words.specs.declared.fault.WordsFault.TheVariants as words_fault;
-ghost use Rattle.claim_rule.specs.Seats.{IsOf};
-ghost use Rattle.claim_rule.specs.Out.{IsTidy};
-ghost use Rattle.worker_pool.specs.Turns.{KeepsDesk};
-ghost use Rattle.host_io.specs.declared.shared_listener.ListenerEnd.TheVariants as ended;
-ghost use Rattle.host_catalogue.specs.Loading.{Loads};
-ghost use Rattle.host_catalogue.specs.declared.load.LoadFault.TheVariants as load;
+ghost use Rattle.host_catalogue.specs.Loading.{HasCause, HasNone, Loads};
+ghost use Rattle.host_notes.specs.Ends.{note_of};
 ghost use Rattle.host_notes.specs.Noted.{IsNoted};
-ghost use Rattle.host_serve.specs.Crews.{IsCrew, IsFirst, HasRun};
-ghost use Rattle.host_serve.specs.Ends.{status_of_serve, note_of_serve};
-ghost use Rattle.host_serve.specs.Serve.{IsForServe, IsServe, IsNoServe, Ends, Runs, BooksEnd, HasCause, said_in};
-ghost use Rattle.host_serve.specs.Turns.{HasCatalogue, Chain, Connection};
+ghost use Rattle.host_serve.specs.Crews.{IsFirst};
+ghost use Rattle.host_serve.specs.Ends.{end_of_serve, status_of_serve};
+ghost use Rattle.host_serve.specs.Serve.{Ends, HasShelfCause, IsNoServe, IsOfRefusedText, IsOnlyLimited, IsServe, IsWithoutCatalogue};
+ghost use Rattle.host_serve.specs.Serve.{Runs, said_in};
+ghost use Rattle.host_serve.specs.Turns.{HasCatalogue};
 ghost use Rattle.host_serve.specs.declared.end.ServeOutcome.{ServeOutcome};
 ghost use Rattle.host_serve.specs.declared.end.ServeOutcome.TheVariants as outcome;
 
-use crate::alone::serve_alone;
-use crate::crew::crew_of;
-use crate::end::{ServeEnd, ServeOutcome, end_serve};
-use crate::meeting::meet_others;
-use crate::member::Common;
-use claim_rule::{Books, Desk, Wall};
+use crate::books::{ServeRun, run_books};
+use crate::end::{ServeEnd, ServeOutcome, command_end};
+use claim_rule::{Books, Desk};
 use host_catalogue::{LoadFault, load_catalogue, open_books};
-use host_io::{ListenerEnd, Named, SharedListener, Ticker};
-use host_words::{ServeWords, Serving, WordsFault, read_serve};
+use host_io::Ticker;
+use host_notes::end_command;
+use host_words::{CommandName, ServeWords, WordsFault, is_for, read_serve};
 use rail_catalogue::Catalogue;
 use rail_io::{Clock, Shelf, Sink};
 use rail_service::{Bound, Listener};
 use std::alloc::Global;
 use std::marker::Brand;
-use std::sync::atomic::AtomicBool;
-use std::sync::{Mutex, Wait};
+use std::sync::Wait;
 use std::thread::Threads;
-use worker_pool::{Member, Open, Worker, run_workers};
-
-/// How serving ended, and what is left of it.
-struct ServeRun<L> {
-    outcome: ServeOutcome,
-    listener: L,
-    wall: Option<Wall>,
-}
-
-/// Runs a crew until its members have ended, takes in the desks of all but the first, and hands that one back.
-fn run_crew<R: Threads + Wait + Sync, W: Worker + Send + Drop>(
-    rt: &R,
-    books: &Books,
-    first: &mut Desk,
-    mut crew: Vec<Member<W>>,
-) -> Member<W>
-    requires some { 0 < length crew.items }
-    requires crew { IsCrew W.fits books.now crew.items }
-    requires first { IsFirst books.now (length crew.items) first.old }
-    ensures run { HasRun W.fits W.does W.ended books.now crew.items first.new result }
-{
-    run_workers(rt, books, crew.as_mut_slice(), &Open);
-    meet_others(books, first, crew)
-}
-
-/// Serves what is left of the listener's streams at the member's desk, where the listener hasn't ended: whether as many as its limit
-/// were then handed out, or an accept failed.
-fn serve_left<N: Named, L: Listener + Drop, C: Clock>(
-    common: Common<'_>,
-    books: &Books,
-    desk: &mut Desk,
-    listener: &mut L,
-    end: ListenerEnd,
-    limit: u32,
-    clock: &mut C,
-) -> bool
-    requires has { HasCatalogue books.now common.cat.now }
-    requires own { IsOf books.now desk.old }
-    requires tidy { IsTidy desk.old }
-    requires port { (L.told listener.old).port ≡ N.port }
-    requires limit { ((L.told listener.old).limit ≡ N.limit) × (N.limit ≡ limit) }
-    requires within { (L.told listener.old).handed ≤ N.limit }
-    requires faults { N.faults ≤ L.faults listener.old }
-    requires steady { end ≢ ended.Failed → L.faults listener.old ≡ N.faults }
-    requires rose { end ≡ ended.Failed → Rose N.faults (L.faults listener.old) }
-    requires failed { end ≡ ended.Failed → (L.told listener.old).handed < N.limit }
-    requires closed { end ≡ ended.Closed → N.limit ≤ (L.told listener.old).handed }
-    ensures own { IsOf books.now desk.new }
-    ensures tidy { IsTidy desk.new }
-    ensures keeps { KeepsDesk desk.old desk.new }
-    ensures turns { Chain (Connection common.entry.cat.now) (record { desk = desk.old; clock = C.told clock.old }) (record { desk = desk.new; clock = C.told clock.new }) }
-    ensures never_falls { L.faults listener.old ≤ L.faults listener.new }
-    ensures steady { result ≡ true → L.faults listener.new ≡ N.faults }
-    ensures spent { result ≡ true → L.told listener.new ≡ record { port = N.port; limit = N.limit; handed = N.limit } }
-    ensures failed { result ≡ false → Rose N.faults (L.faults listener.new) × ((L.told listener.new).handed < N.limit) }
-{
-    match end {
-        ListenerEnd::Closed => true,
-        ListenerEnd::Failed => false,
-        ListenerEnd::Open => serve_alone(common, books, desk, listener, limit, clock),
-    }
-}
-
-/// Serves the listener's streams by a crew, and closes the books.
-fn serve_books<
-    N: Named + Send,
-    R: Threads + Wait + Sync,
-    L: Listener + Drop + Send,
-    T: Ticker + Drop + Send,
-    C: Clock + Drop + Send,
->(
-    rt: &R,
-    alloc: Global,
-    cat: &Catalogue,
-    said: Serving,
-    books: Books,
-    mut first: Desk,
-    listener: L,
-    ticker: T,
-    clocks: Vec<C>,
-) -> ServeRun<L>
-where
-    L::Input: Send,
-    L::Output: Send,
-    requires has { HasCatalogue books cat.now }
-    requires opening { books.layout.opening ≡ [] }
-    requires first { IsFirst books 0 first }
-    requires clocks { said.workers + 1 ≤ length clocks.items }
-    requires faults { N.faults ≡ L.faults listener }
-    requires view { L.told listener ≡ record { port = N.port; limit = N.limit; handed = 0 } }
-    requires port { N.port ≡ said.port }
-    requires limit { N.limit ≡ said.connections }
-    requires workers { 1 ≤ said.workers }
-    ensures never_falls { L.faults listener ≤ L.faults result.listener }
-    ensures ends { BooksEnd cat.now said (L.faults listener) (L.faults result.listener) (L.told result.listener) result.wall result.outcome }
-{
-    let closed = AtomicBool::new(false);
-    let shared: Mutex<SharedListener<L, N>> = Mutex::new(SharedListener::new(listener));
-    let common = Common {
-        alloc,
-        cat,
-        closed: &closed,
-    };
-    let Ok(crew) = crew_of(
-        rt, &shared, common, &books, &mut first, said, ticker, clocks,
-    ) else {
-        let (listener, _) = shared.into_inner().into_listener();
-        return ServeRun {
-            outcome: ServeOutcome::NoMemory,
-            listener,
-            wall: None,
-        };
-    };
-    let Member { mut desk, worker } = run_crew(rt, &books, &mut first, crew);
-    let mut clock = worker.into_clock();
-    let (mut listener, end) = shared.into_inner().into_listener();
-    let all = serve_left::<N, L, C>(
-        common,
-        &books,
-        &mut desk,
-        &mut listener,
-        end,
-        said.connections,
-        &mut clock,
-    );
-    books.meet(&mut first, desk);
-    ServeRun {
-        outcome: if all {
-            ServeOutcome::Served
-        } else {
-            ServeOutcome::ListenerFailed
-        },
-        listener,
-        wall: Some(books.finish(first)),
-    }
-}
 
 /// The catalogue of the name, and its books with their first desk.
 fn open<F: Shelf>(
@@ -184,10 +42,8 @@ fn open<F: Shelf>(
     ensures opening { IfOk result (λ t. t.1.layout.opening ≡ []) }
     ensures first { IfOk result (λ t. IsFirst t.1 0 t.2) }
     ensures same { F.told shelf.new ≡ F.told shelf.old }
-    ensures steady { (result ≡ Err load.Failed → ⊥) → F.faults shelf.new ≡ F.faults shelf.old }
-    ensures failed { result ≡ Err load.Failed → Rose (F.faults shelf.old) (F.faults shelf.new) }
-    ensures missing { result ≡ Err load.Missing → Rose (F.misses shelf.old) (F.misses shelf.new) }
-    ensures too_large { result ≡ Err load.TooLarge → Rose (F.misses shelf.old) (F.misses shelf.new) }
+    ensures cause { IfErr result (λ e. HasCause (Err e) (F.faults shelf.old) (F.faults shelf.new) (F.misses shelf.old) (F.misses shelf.new)) }
+    ensures steady { IfOk result (λ _. F.faults shelf.new ≡ F.faults shelf.old) }
 {
     let cat = match load_catalogue(alloc, shelf, name) {
         Ok(cat) => cat,
@@ -212,8 +68,8 @@ fn without_books<L>(outcome: ServeOutcome, listener: L) -> ServeRun<L>
     }
 }
 
-/// Serves what the words say.
-fn serve_said<
+/// Serves what the words say: opens the books of their catalogue, listens at their port, and runs the members.
+fn listen_and_run<
     R: Threads + Wait + Sync,
     F: Shelf,
     L: Listener + Drop + Send,
@@ -236,10 +92,16 @@ where
     requires ranges { IsInRange said.now.numbers }
     ensures never_falls { L.faults listener ≤ L.faults result.listener }
     ensures ends { Ends (F.told shelf.old) (said_in said.now)
-        (record { faults_before = L.faults listener; before = L.told listener; faults_after = L.faults result.listener; after = L.told result.listener; wall = result.wall })
+        (record {
+          faults_before = L.faults listener;
+          before = L.told listener;
+          faults_after = L.faults result.listener;
+          after = L.told result.listener;
+          wall = result.wall;
+        })
         result.outcome }
     ensures same { F.told shelf.new ≡ F.told shelf.old }
-    ensures cause { HasCause result.outcome (F.faults shelf.old) (F.faults shelf.new) (F.misses shelf.old) (F.misses shelf.new) }
+    ensures cause { HasShelfCause result.outcome (F.faults shelf.old) (F.faults shelf.new) (F.misses shelf.old) (F.misses shelf.new) }
 {
     let (cat, books, first) = match open(alloc, shelf, said.catalogue) {
         Ok(opened) => opened,
@@ -247,9 +109,9 @@ where
     };
     listener.set_limit(said.numbers.connections);
     if let Bound::Failed = listener.bind(said.numbers.port) {
-        return without_books(ServeOutcome::ListenerFailed, listener);
+        return without_books(ServeOutcome::NotBound, listener);
     }
-    serve_books::<Brand, R, L, T, C>(
+    run_books::<Brand, R, L, T, C>(
         rt,
         alloc,
         &cat,
@@ -262,31 +124,20 @@ where
     )
 }
 
-/// Whether the words are for `serve`.
-pub fn is_for_serve(words: &[String]) -> bool
-    ensures yes { result ≡ true → IsForServe (words_texts words.now) }
-    ensures no { result ≡ false → IsForServe (words_texts words.now) → ⊥ }
-{
-    match words.first() {
-        Some(command) => command.as_str() == "serve",
-        None => false,
-    }
-}
-
 /// What the words of `serve` say.
 fn said_of<'a>(alloc: Global, words: &'a [String]) -> Result<ServeWords<'a>, WordsFault>
     ensures ok { IfOk result (λ said. IsServe (words_texts words.now) (said_in said)) }
     ensures ranges { IfOk result (λ said. IsInRange said.numbers) }
     ensures refused { IfErr result (λ e. e ≡ words_fault.Refused → IsNoServe (words_texts words.now)) }
 {
-    if !is_for_serve(words) {
+    if !is_for(words, CommandName::Serve) {
         return Err(WordsFault::Refused);
     }
     read_serve(alloc, words)
 }
 
 /// Serves what the words say, if they are those of the command.
-fn run_words<
+fn run_by_words<
     R: Threads + Wait + Sync,
     F: Shelf,
     L: Listener + Drop + Send,
@@ -308,15 +159,21 @@ where
     requires fresh { (L.told listener).handed ≡ 0 }
     ensures never_falls { L.faults listener ≤ L.faults result.listener }
     ensures runs { Runs (words_texts words.now) (F.told shelf.old)
-        (record { faults_before = L.faults listener; before = L.told listener; faults_after = L.faults result.listener; after = L.told result.listener; wall = result.wall })
+        (record {
+          faults_before = L.faults listener;
+          before = L.told listener;
+          faults_after = L.faults result.listener;
+          after = L.told result.listener;
+          wall = result.wall;
+        })
         result.outcome }
     ensures shelf { result.outcome ≡ outcome.Refused → shelf.new ≡ shelf.old }
     ensures listener { result.outcome ≡ outcome.Refused → result.listener ≡ listener }
     ensures same { F.told shelf.new ≡ F.told shelf.old }
-    ensures cause { HasCause result.outcome (F.faults shelf.old) (F.faults shelf.new) (F.misses shelf.old) (F.misses shelf.new) }
+    ensures cause { HasShelfCause result.outcome (F.faults shelf.old) (F.faults shelf.new) (F.misses shelf.old) (F.misses shelf.new) }
 {
     match said_of(alloc, words) {
-        Ok(said) => serve_said(rt, alloc, &said, shelf, listener, ticker, clocks),
+        Ok(said) => listen_and_run(rt, alloc, &said, shelf, listener, ticker, clocks),
         Err(WordsFault::NoMemory) => without_books(ServeOutcome::NoMemory, listener),
         Err(WordsFault::Refused) => without_books(ServeOutcome::Refused, listener),
     }
@@ -327,13 +184,15 @@ where
 /// name: `serve`, the name of the catalogue's file, `--port`, and with `--workers`, `--connections` and `--sweep` how many members serve,
 /// how many connections are taken, and the seconds from one sweep to the next.
 ///
-/// | status | where | note |
-/// |---|---|---|
-/// | 0 | as many connections as were asked for have been handed out and have ended | none |
-/// | 1 | the catalogue is missing, larger than 33,554,432 bytes, or refused | `rail_host: catalogue missing`, `rail_host: catalogue too large`, or `rail_host: catalogue fault` with its number, and with ` at` and the path of a member at fault |
-/// | 2 | the words are refused, before anything is read | `rail_host: words refused` |
-/// | 3 | the shelf failed in this call, or the listener did, and has handed out fewer connections than were asked for | `rail_host: read fault` |
-/// | 5 | there was no memory to begin with | `rail_host: no memory` |
+/// | status | where |
+/// |---|---|
+/// | 0 | as many connections as were asked for have been handed out and have ended |
+/// | 1 | the catalogue is missing, larger than 33,554,432 bytes, or refused |
+/// | 2 | the words are refused, before anything is read |
+/// | 3 | the shelf failed in this call, or the listener did, and has handed out fewer connections than were asked for |
+/// | 5 | there was no memory to begin with |
+///
+/// Each has the note of its end.
 ///
 /// The end of one connection changes no status, and neither does a failing note. It may wait, so all this is said where it returns.
 /// Wherever members ran, the books are finished and handed back. In the wall's history the first desk only met others, each serving member's
@@ -361,7 +220,7 @@ where
     requires clocks { length clocks.items ≡ 17 }
     requires fresh { (L.told listener).handed ≡ 0 }
 
-    // Status 2 comes exactly where the words are refused, but for want of memory to read them. Nothing is then touched.
+    // Status 2 comes exactly where the words are refused, but for want of memory to read them. Nothing is then touched but the notes.
     ensures words { result.status ≡ 2 → IsNoServe (words_texts words.now) }
     ensures refused_words { IsNoServe (words_texts words.now) → (result.status ≡ 2) ⊎ (result.status ≡ 5) }
     ensures nothing_fetched { result.status ≡ 2 → shelf.new ≡ shelf.old }
@@ -370,25 +229,47 @@ where
     // The status and the note are those of the end, and the command ran so.
     ensures run { (outcome : ServeOutcome) × (result.status ≡ status_of_serve outcome)
         × Runs (words_texts words.now) (F.told shelf.old)
-        (record { faults_before = L.faults listener; before = L.told listener; faults_after = L.faults result.listener; after = L.told result.listener; wall = result.wall })
+        (record {
+          faults_before = L.faults listener;
+          before = L.told listener;
+          faults_after = L.faults result.listener;
+          after = L.told result.listener;
+          wall = result.wall;
+        })
         outcome
-        × IsNoted (E.told notes.old) (E.told notes.new) (E.faults notes.old) (E.faults notes.new) (note_of_serve outcome)
-        × HasCause outcome (F.faults shelf.old) (F.faults shelf.new) (F.misses shelf.old) (F.misses shelf.new) }
-    ensures wall { result.status ≡ 0 → result.wall ≡ None → ⊥ }
+        × IsNoted (E.told notes.old) (E.told notes.new) (E.faults notes.old) (E.faults notes.new) (note_of (end_of_serve outcome))
+        × HasShelfCause outcome (F.faults shelf.old) (F.faults shelf.new) (F.misses shelf.old) (F.misses shelf.new) }
 
-    // The listener's count of faults never falls. Where all was served, and where nothing was heard, for a catalogue that is missing or
-    // refused, it is as it was.
+    // A wall is missing only at a status other than 0. At status 3 it is missing only where the shelf failed, or the bind did, which
+    // leaves the listener as it was but for its limit: a failed accept hands the wall back.
+    ensures wall { result.status ≡ 0 → result.wall ≡ None → ⊥ }
+    ensures no_wall { result.status ≡ 3 → result.wall ≡ None → Rose (F.faults shelf.old) (F.faults shelf.new)
+        ⊎ IsOnlyLimited (words_texts words.now) (L.told listener) (L.told result.listener) }
+
+    // Status 1 comes where the shelf has no catalogue of the name: no file, one too large, or a text that is refused. Where it has
+    // none, and tells so, no other status comes but for its failure and for want of memory.
+    ensures without { result.status ≡ 1 → IsWithoutCatalogue (words_texts words.now) (F.told shelf.old) }
+    ensures no_catalogue { (files : List ℕ → Option (List ℕ)) → F.told shelf.old ≡ Some files → (said : ServeView)
+        → IsServe (words_texts words.now) said → HasNone files said.catalogue
+        → (result.status ≡ 1) ⊎ (result.status ≡ 3) ⊎ (result.status ≡ 5) }
+    ensures missed { result.status ≡ 1 → Rose (F.misses shelf.old) (F.misses shelf.new)
+        ⊎ IsOfRefusedText (words_texts words.now) (F.told shelf.old) }
+
+    // A failure is answered where a count of faults rose in this call. The shelf's is as it was at every other status. The listener's
+    // never falls. Where all was served, and where nothing was heard, for a catalogue that is missing or refused, it is as it was.
+    ensures read_cause { result.status ≡ 3 → Rose (L.faults listener) (L.faults result.listener)
+        ⊎ Rose (F.faults shelf.old) (F.faults shelf.new) }
+    ensures shelf_steady { (result.status ≡ 3 → ⊥) → F.faults shelf.new ≡ F.faults shelf.old }
     ensures never_falls { L.faults listener ≤ L.faults result.listener }
     ensures steady { (result.status ≡ 0) ⊎ (result.status ≡ 1) → L.faults result.listener ≡ L.faults listener }
     ensures files { F.told shelf.new ≡ F.told shelf.old }
 {
-    let run = run_words(rt, alloc, words, shelf, listener, ticker, clocks);
-    let status = end_serve(notes, &run.outcome);
     let ServeRun {
-        outcome: _,
+        outcome,
         listener,
         wall,
-    } = run;
+    } = run_by_words(rt, alloc, words, shelf, listener, ticker, clocks);
+    let status = end_command(notes, &command_end(outcome));
     ServeEnd {
         status,
         listener,

@@ -7,7 +7,7 @@ ghost use Rattle.worker_pool.specs.declared.worker.TurnEnd.TheVariants.{End};
 ghost use Rattle.host_serve.specs.Turns.{HasCatalogue, ServesTurn};
 
 use crate::member::Common;
-use crate::one::serve_one;
+use crate::stream::serve_stream;
 use crate::streams::Streams;
 use claim_rule::{Books, Desk};
 use rail_io::Clock;
@@ -26,7 +26,7 @@ pub struct Server<'s, S, C> {
 
 impl<S: Streams, C: Clock> Server<'_, S, C> {
     /// Serves the next stream to its connection's end; or ends, and sets the mark, where there is none.
-    pub fn serve_next(&mut self, books: &Books, desk: &mut Desk) -> TurnEnd
+    pub fn take_turn(&mut self, books: &Books, desk: &mut Desk) -> TurnEnd
         requires has { HasCatalogue books.now self.old.common.cat.now }
         requires own { IsOf books.now desk.old }
         requires tidy { IsTidy desk.old }
@@ -34,7 +34,8 @@ impl<S: Streams, C: Clock> Server<'_, S, C> {
         ensures tidy { IsTidy desk.new }
         ensures keeps { KeepsDesk desk.old desk.new }
         ensures cat { self.new.common.cat.now ≡ self.old.common.cat.now }
-        ensures turn { ServesTurn self.old.common.cat.now (C.told self.old.clock) desk.old (C.told self.new.clock) desk.new self.new.ended }
+        ensures turn { ServesTurn self.old.common.cat.now (C.told self.old.clock) desk.old
+            (C.told self.new.clock) desk.new self.new.ended }
         ensures end { (result ≡ End) ↔ (self.new.ended ≡ true) }
     {
         let Some(waiting) = self.streams.next_stream() else {
@@ -42,7 +43,7 @@ impl<S: Streams, C: Clock> Server<'_, S, C> {
             self.ended = true;
             return TurnEnd::End;
         };
-        serve_one(self.common, books, desk, waiting, &mut self.clock);
+        serve_stream(self.common, books, desk, waiting, &mut self.clock);
         self.ended = false;
         TurnEnd::Again
     }

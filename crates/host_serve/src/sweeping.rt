@@ -28,7 +28,7 @@ pub struct Sweeper<'s, T, C> {
 
 impl<T: Ticker, C: Clock> Sweeper<'_, T, C> {
     /// Waits for the next tick and sweeps once; or ends.
-    pub fn sweep_next(&mut self, books: &Books, desk: &mut Desk) -> TurnEnd
+    pub fn take_turn(&mut self, books: &Books, desk: &mut Desk) -> TurnEnd
         requires own { IsOf books.now desk.old }
         requires tidy { IsTidy desk.old }
         ensures own { IsOf books.now desk.new }

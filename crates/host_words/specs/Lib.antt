@@ -1,4 +1,6 @@
+pub mod Commands
 pub mod Options
 pub mod Replay
 pub mod Serve
 pub mod Drill
+pub mod Tiny

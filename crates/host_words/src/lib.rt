@@ -1,20 +1,25 @@
-//! The words of the commands that `clap` reads: `replay CATALOGUE --start MOMENT --tick N`,
-//! `drill --seed N --workers N --size N --places N`, and `serve CATALOGUE --port N --workers N --connections N --sweep N`.
+//! The commands of the program: their names, and what their words say.
 //!
-//! Each command is read as a simple one by `clap`, and its contract is `clap`'s stated reading: the values are exactly those that it
-//! gives, and the words are refused exactly where it refuses them for another cause than memory, where a number is out of its range, or
-//! where the text of a moment is none. A wish for help or for a version is refused as well.
+//! `tiny LEGS PLACES` is read by hand. `replay CATALOGUE --start MOMENT --tick N`, `drill --seed N --workers N --size N --places N` and
+//! `serve CATALOGUE --port N --workers N --connections N --sweep N` are each read as a simple command by `clap`, and their contract is
+//! `clap`'s stated reading: the values are exactly those that it gives, and the words are refused exactly where it refuses them for
+//! another cause than memory, where a number is out of its range, or where the text of a moment is none. A wish for help or for a version
+//! is refused as well.
+//!
+//! It is a room of its own since every command and the program above them ask it which words are meant.
 #![tactic(auto)]
 
+mod command;
 mod drill;
 mod fault;
 mod options;
 mod replay;
 mod serve;
-#[cfg(test)]
-mod tests;
+mod tiny;
 
+pub use command::{CommandName, command_of, is_for};
 pub use drill::{DrillWords, read_drill};
 pub use fault::WordsFault;
 pub use replay::{ReplayWords, read_replay};
 pub use serve::{ServeWords, Serving, read_serve};
+pub use tiny::{TinyWords, read_tiny};

@@ -1,12 +1,2 @@
-pub mod Ends
-pub mod Host
 pub mod Plain
-pub mod Replay
-pub mod Json
-pub mod Replies
-pub mod Reservations
-pub mod Responding
-pub mod Run
-pub mod Tiny
-pub mod Wish
-pub mod Words
+pub mod Commands

@@ -1,27 +1,15 @@
 //! The reservation host. `main` makes the real objects, runs the command that the first word names,
 //! and ends with its status.
 //!
-//! `run_plain` promises of the command `tiny` that the bytes written are those of a plain host on the
-//! requests of the bytes read: a list of reserved places and spans, from which each request is given
-//! the least place that is free on its legs, or is refused. The program keeps no such list: it takes
-//! places on atomic words, by the calls of every service, at a desk that is alone.
+//! It is the one program. Each command stands in a room of its own below it; here they meet the machine: standard input, output and
+//! error, files, a port, the clock, and threads.
 #![tactic(auto)]
 
-mod ends;
 mod host;
-mod json;
-mod problem;
-mod refusal;
-mod replay;
-mod reply;
-mod responder;
-mod run;
+mod program;
 mod serve;
-mod tiny;
-mod tiny_host;
-mod wish;
-mod words;
 
+use host_notes::{CommandEnd, end_command};
 use rail_io::{FileShelf, ReaderSource, WriterSink};
 use std::alloc::AllocError;
 use std::env;
@@ -51,13 +39,8 @@ fn main(rt: HostRuntime) -> ExitCode {
     let mut output = WriterSink::new(rt.stdout());
     let mut notes = WriterSink::new(rt.stderr());
     let status = match given_words(&rt) {
-        Ok(words) if host_serve::is_for_serve(&words) => {
-            serve::serve_port(&rt, alloc, &words, &mut shelf, &mut notes)
-        }
-        Ok(words) if host_drill::is_for_drill(&words) => {
-            host_drill::run_drill(&rt, alloc, &words, &mut output, &mut notes).status
-        }
-        Ok(words) => host::run_plain(
+        Ok(words) => program::run_command(
+            &rt,
             alloc,
             &words,
             &mut shelf,
@@ -65,10 +48,7 @@ fn main(rt: HostRuntime) -> ExitCode {
             &mut output,
             &mut notes,
         ),
-        Err(_) => ends::end_without_memory(&mut notes),
+        Err(_) => end_command(&mut notes, &CommandEnd::NoMemory),
     };
     ExitCode::from(status)
 }
-
-#[cfg(test)]
-mod tests;

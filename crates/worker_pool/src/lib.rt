@@ -4,6 +4,8 @@
 //! worker has ended. It promises that each member's turns followed one another on its own desk, whatever the
 //! other threads do. Where no thread can be made, members run one after another. It waits for its members,
 //! and nothing is said of when they end.
+//!
+//! It is a room of its own since it knows threads and desks, and nothing of what the members do there.
 #![tactic(auto)]
 
 mod gate;
@@ -15,6 +17,3 @@ pub use gate::{Gate, Open};
 pub use member::Member;
 pub use running::run_workers;
 pub use worker::{TurnEnd, Worker};
-
-#[cfg(test)]
-mod tests;

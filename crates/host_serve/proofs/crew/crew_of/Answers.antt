@@ -24,8 +24,8 @@ loop-number-preserved g c =
             fits = c.requires.has;
             desk = parted_desk books n c.loop-number.first c.part.new.desk c.part.result inv.first part.made part.new.0 part.own.1 part.tidy;
           }));
-      ready = subst (λ l. AreReady c.args.common.cat.now c.args.said.workers l) (sym items)
-          (joined_each (λ i m. IsReady c.args.common.cat.now c.args.said.workers i m) crew _ inv.ready (record {
+      ready = subst (λ l. AreReady c.args.common.cat.now c.args.said l) (sym items)
+          (joined_each (λ i m. IsReady c.args.common.cat.now c.args.said i m) crew _ inv.ready (record {
             post = (omega (arith, inv.count, c.loop-number-test.true), refl);
             none = parted_empty n c.part.new.desk c.part.result (part.made ∙ ap (λ (k : ℕ). k + 1) inv.first.made) part.new.0 part.new.1;
           }));
@@ -61,8 +61,8 @@ returns-clause-ready g c =
     let crew = c.loop-number.crew.items in
     let part = c.part-2.ensures in
     let at : length crew ≡ c.args.said.workers = search (rules, arith) in
-    subst (λ l. AreReady c.args.common.cat.now c.args.said.workers l) (sym c.in_ok-push-2.ensures.items)
-    (joined_each (λ i m. IsReady c.args.common.cat.now c.args.said.workers i m) crew _ inv.ready (record {
-      post = at;
+    subst (λ l. AreReady c.args.common.cat.now c.args.said l) (sym c.in_ok-push-2.ensures.items)
+    (joined_each (λ i m. IsReady c.args.common.cat.now c.args.said i m) crew _ inv.ready (record {
+      post = (at, refl);
       none = parted_empty (length crew) c.part-2.new.desk c.part-2.result (part.made ∙ ap (λ (k : ℕ). k + 1) inv.first.made) part.new.0 part.new.1;
     }))

@@ -7,7 +7,7 @@ abbrev pub invariant-loop-number : goal.invariant-loop-number
 invariant-loop-number g l = record {
   first : IsFirst l.books (length l.crew.items) l.first;
   crew : IsCrew FitsBooks l.books l.crew.items;
-  ready : AreReady l.common.cat.now l.said.workers l.crew.items;
+  ready : AreReady l.common.cat.now l.said l.crew.items;
   count : length l.crew.items ≡ l._number;
   clocks : l.said.workers + 1 ≤ l._number + length l.clocks.items;
 }

@@ -1,0 +1,55 @@
+use Rattle.std.proofs.Common.{ap, sym, ◌∙◌, inr}
+use Rattle.host_words.specs.Options.{words_texts}
+use Rattle.host_notes.specs.Ends.{status_of}
+use Rattle.host_replay.specs.Replay.{said_of}
+use Rattle.host_replay.proofs.Replaying.{done_replay, cut_replay, read_replay, write_replay, without, missed}
+use Rattle.host_replay.proofs.command.run_replay.Goals as goal
+
+pub returns-in-Ok-clause-served : goal.returns-in-Ok-clause-served
+returns-in-Ok-clause-served g c stream before told shown zero =
+    done_replay (words_texts c.args.words.now) (g.F.Shelf.told c.args.shelf.now)
+    (g.S.Source.told c.args.input.now) (g.S.Source.told c.replay-end.new.input) (g.K.Sink.told c.args.output.now) (g.K.Sink.told c.replay-end.new.output)
+    stream before told shown c.replay-end.result
+    (inr (said_of c.in-Ok.said, record { command = c.requires.command; is = c.in-Ok.ensures.ok }, c.replay-end.ensures.ends))
+    (sym (c.end_command.ensures.status ∙ ap status_of c.command_end.ensures) ∙ zero)
+
+pub returns-in-Ok-clause-cut : goal.returns-in-Ok-clause-cut
+returns-in-Ok-clause-cut g c stream before told shown six =
+    cut_replay (words_texts c.args.words.now) (g.F.Shelf.told c.args.shelf.now)
+    (g.S.Source.told c.args.input.now) (g.S.Source.told c.replay-end.new.input) (g.K.Sink.told c.args.output.now) (g.K.Sink.told c.replay-end.new.output)
+    stream before told shown c.replay-end.result
+    (inr (said_of c.in-Ok.said, record { command = c.requires.command; is = c.in-Ok.ensures.ok }, c.replay-end.ensures.ends))
+    (sym (c.end_command.ensures.status ∙ ap status_of c.command_end.ensures) ∙ six)
+
+pub returns-in-Ok-clause-read_fault : goal.returns-in-Ok-clause-read_fault
+returns-in-Ok-clause-read_fault g c stream before told shown three =
+    read_replay (words_texts c.args.words.now) (g.F.Shelf.told c.args.shelf.now)
+    (g.S.Source.told c.args.input.now) (g.S.Source.told c.replay-end.new.input) (g.K.Sink.told c.args.output.now) (g.K.Sink.told c.replay-end.new.output)
+    stream before told shown c.replay-end.result
+    (inr (said_of c.in-Ok.said, record { command = c.requires.command; is = c.in-Ok.ensures.ok }, c.replay-end.ensures.ends))
+    (sym (c.end_command.ensures.status ∙ ap status_of c.command_end.ensures) ∙ three)
+
+pub returns-in-Ok-clause-write_fault : goal.returns-in-Ok-clause-write_fault
+returns-in-Ok-clause-write_fault g c stream before told shown four =
+    write_replay (words_texts c.args.words.now) (g.F.Shelf.told c.args.shelf.now)
+    (g.S.Source.told c.args.input.now) (g.S.Source.told c.replay-end.new.input) (g.K.Sink.told c.args.output.now) (g.K.Sink.told c.replay-end.new.output)
+    stream before told shown c.replay-end.result
+    (inr (said_of c.in-Ok.said, record { command = c.requires.command; is = c.in-Ok.ensures.ok }, c.replay-end.ensures.ends))
+    (sym (c.end_command.ensures.status ∙ ap status_of c.command_end.ensures) ∙ four)
+
+pub returns-in-Ok-clause-without : goal.returns-in-Ok-clause-without
+returns-in-Ok-clause-without g c one =
+    without (words_texts c.args.words.now) (g.F.Shelf.told c.args.shelf.now)
+    (g.S.Source.told c.args.input.now) (g.S.Source.told c.replay-end.new.input) (g.K.Sink.told c.args.output.now) (g.K.Sink.told c.replay-end.new.output)
+    c.replay-end.result
+    (inr (said_of c.in-Ok.said, record { command = c.requires.command; is = c.in-Ok.ensures.ok }, c.replay-end.ensures.ends))
+    (sym (c.end_command.ensures.status ∙ ap status_of c.command_end.ensures) ∙ one)
+
+pub returns-in-Ok-clause-missed : goal.returns-in-Ok-clause-missed
+returns-in-Ok-clause-missed g c one =
+    missed (words_texts c.args.words.now) (g.F.Shelf.told c.args.shelf.now)
+    (g.S.Source.told c.args.input.now) (g.S.Source.told c.replay-end.new.input) (g.K.Sink.told c.args.output.now) (g.K.Sink.told c.replay-end.new.output)
+    c.replay-end.result _ _ _ _
+    (inr (said_of c.in-Ok.said, record { command = c.requires.command; is = c.in-Ok.ensures.ok }, c.replay-end.ensures.ends))
+    c.replay-end.ensures.cause
+    (sym (c.end_command.ensures.status ∙ ap status_of c.command_end.ensures) ∙ one)

@@ -1,0 +1,180 @@
+// `replay` over one connection.
+ghost use Rattle.std.specs.Prelude.{◌≡◌, ◌++◌, ◌⊎◌, ℕ, List, Option, Some};
+ghost use Rattle.rail_io.specs.Told.{with_front, with_end};
+ghost use Rattle.rail_io.specs.Faults.{Rose};
+ghost use Rattle.session_loop.specs.declared.end.ConnEnd.TheVariants.{ReadFault, WriteFault};
+ghost use Rattle.host_words.specs.Options.{words_texts};
+ghost use Rattle.host_words.specs.Replay.{ReplayView};
+ghost use Rattle.host_catalogue.specs.Loading.{HasNone};
+ghost use Rattle.host_notes.specs.Ends.{note_of};
+ghost use Rattle.host_notes.specs.Noted.{IsNoted};
+ghost use Rattle.host_notes.specs.declared.ending.CommandEnd.TheVariants.{WordsRefused};
+ghost use Rattle.host_replay.specs.Replay.{Ends, HasShelfCause, IsForReplay, IsNoReplay, IsOfRefusedText, IsReplay, IsReplayEnd};
+ghost use Rattle.host_replay.specs.Replay.{IsUntouched, IsWithoutCatalogue, RepliesAll, RepliesCut, RepliesPart, RepliesTaken};
+ghost use Rattle.host_replay.specs.Replay.{Replays, end_of_replay, said_of, status_of_replay};
+ghost use Rattle.host_replay.specs.declared.command.ReplayEnd.{ReplayEnd};
+ghost use Rattle.host_replay.specs.declared.command.ReplayEnd.TheVariants.{Served};
+
+use host_catalogue::{LoadFault, load_catalogue, open_books};
+use host_notes::{CommandEnd, end_command};
+use host_words::{ReplayWords, WordsFault, read_replay};
+use rail_catalogue::Catalogue;
+use rail_io::{ScriptClock, Shelf, Sink, Source};
+use rail_service::serve_connection;
+use session_loop::ConnEnd;
+use std::alloc::Global;
+
+/// How a replay ended.
+#[derive(Debug, Drop)]
+pub enum ReplayEnd {
+    /// There was no memory for the words.
+    NoMemory,
+    /// There is no catalogue to serve.
+    NoCatalogue(LoadFault),
+    /// The connection ended so.
+    Served(ConnEnd),
+}
+
+/// One connection on new books, with the clock of the words.
+fn serve<S: Source, K: Sink>(
+    alloc: Global,
+    catalogue: &Catalogue,
+    said: &ReplayWords<'_>,
+    input: &mut S,
+    output: &mut K,
+) -> ConnEnd
+    ensures serves { (taken written : List ℕ)
+        × (S.told input.old ≡ with_front taken (S.told input.new))
+        × (K.told output.new ≡ with_end (K.told output.old) written)
+        × IsReplayEnd catalogue.now (said_of said.now) taken (S.told input.new) written result }
+    ensures read_cause { result ≡ ReadFault → Rose (S.faults input.old) (S.faults input.new) }
+    ensures write_cause { result ≡ WriteFault → Rose (K.faults output.old) (K.faults output.new) }
+    ensures read_steady { (result ≡ ReadFault → ⊥) → S.faults input.new ≡ S.faults input.old }
+    ensures write_steady { (result ≡ WriteFault → ⊥) → K.faults output.new ≡ K.faults output.old }
+{
+    let Ok((books, mut desk)) = open_books(alloc, catalogue) else {
+        return ConnEnd::NoMemory;
+    };
+    let mut clock = ScriptClock {
+        next: said.start,
+        tick: said.tick,
+    };
+    serve_connection(
+        alloc, catalogue, &books, &mut desk, input, output, &mut clock,
+    )
+}
+
+/// What the words ask for: the catalogue of their file, served to the input.
+fn replay<F: Shelf, S: Source, K: Sink>(
+    alloc: Global,
+    said: &ReplayWords<'_>,
+    shelf: &mut F,
+    input: &mut S,
+    output: &mut K,
+) -> ReplayEnd
+    ensures ends { Ends (said_of said.now) (F.told shelf.old) (S.told input.old) (S.told input.new)
+        (K.told output.old) (K.told output.new) result }
+    ensures same { F.told shelf.new ≡ F.told shelf.old }
+    ensures read_cause { result ≡ Served ReadFault → Rose (S.faults input.old) (S.faults input.new) }
+    ensures write_cause { result ≡ Served WriteFault → Rose (K.faults output.old) (K.faults output.new) }
+    ensures read_steady { (result ≡ Served ReadFault → ⊥) → S.faults input.new ≡ S.faults input.old }
+    ensures write_steady { (result ≡ Served WriteFault → ⊥) → K.faults output.new ≡ K.faults output.old }
+    ensures cause { HasShelfCause result (F.faults shelf.old) (F.faults shelf.new) (F.misses shelf.old) (F.misses shelf.new) }
+{
+    let catalogue = match load_catalogue(alloc, shelf, said.catalogue) {
+        Ok(catalogue) => catalogue,
+        Err(fault) => return ReplayEnd::NoCatalogue(fault),
+    };
+    ReplayEnd::Served(serve(alloc, &catalogue, said, input, output))
+}
+
+/// The command's end.
+fn command_end(end: ReplayEnd) -> CommandEnd
+    ensures { result ≡ end_of_replay end }
+{
+    match end {
+        ReplayEnd::NoMemory => CommandEnd::NoMemory,
+        ReplayEnd::NoCatalogue(fault) => CommandEnd::NoCatalogue(fault),
+        ReplayEnd::Served(end) => CommandEnd::of(end),
+    }
+}
+
+/// `replay` by its words, of which the first is the command's name: it serves the catalogue of the named file to the input as one
+/// connection, with the words' clock. Answers the status, and notes how it ended.
+///
+/// | status | where |
+/// |---|---|
+/// | 0 | all requests of the input are answered, to its end or to the last of the connection |
+/// | 1 | the catalogue is missing, larger than 33,554,432 bytes, or refused |
+/// | 2 | the words are refused; nothing is read, written or fetched |
+/// | 3 | the input or the shelf failed in this call |
+/// | 4 | the output failed in this call |
+/// | 5 | there was no memory to begin with |
+/// | 6 | the input ended inside a request, or was refused |
+pub fn run_replay<F: Shelf, S: Source, K: Sink, E: Sink>(
+    alloc: Global,
+    words: &[String],
+    shelf: &mut F,
+    input: &mut S,
+    output: &mut K,
+    notes: &mut E,
+) -> u8
+    requires command { IsForReplay (words_texts words.now) }
+
+    // Status 2 comes exactly where the words are refused, but for want of memory to read them. Nothing is then touched but the notes.
+    ensures words { result ≡ 2 → IsNoReplay (words_texts words.now) }
+    ensures refused_words { IsNoReplay (words_texts words.now) → (result ≡ 2) ⊎ (result ≡ 5) }
+    ensures nothing_read { result ≡ 2 → input.new ≡ input.old }
+    ensures nothing_written { result ≡ 2 → output.new ≡ output.old }
+    ensures nothing_fetched { result ≡ 2 → shelf.new ≡ shelf.old }
+    ensures refused { result ≡ 2 → IsNoted (E.told notes.old) (E.told notes.new) (E.faults notes.old) (E.faults notes.new)
+        (note_of WordsRefused) }
+
+    // Else it is that of the command's end, and the bytes written are the answers of the bytes taken.
+    ensures run { (result ≡ 2) ⊎ ((end : ReplayEnd) × (result ≡ status_of_replay end)
+        × Replays (words_texts words.now) (F.told shelf.old) (S.told input.old) (S.told input.new)
+        (K.told output.old) (K.told output.new) end
+        × IsNoted (E.told notes.old) (E.told notes.new) (E.faults notes.old) (E.faults notes.new) (note_of (end_of_replay end))
+        × HasShelfCause end (F.faults shelf.old) (F.faults shelf.new) (F.misses shelf.old) (F.misses shelf.new)) }
+
+    // Where the input and the output tell their bytes, those written are the defined answers of those to come.
+    ensures served { (stream before : List ℕ) → S.told input.old ≡ Some stream → K.told output.old ≡ Some before → result ≡ 0
+        → (written : List ℕ) × (K.told output.new ≡ Some (before ++ written))
+        × RepliesAll (words_texts words.now) (F.told shelf.old) stream written }
+    ensures cut { (stream before : List ℕ) → S.told input.old ≡ Some stream → K.told output.old ≡ Some before → result ≡ 6
+        → (written : List ℕ) × (K.told output.new ≡ Some (before ++ written))
+        × RepliesCut (words_texts words.now) (F.told shelf.old) stream written }
+    ensures read_fault { (stream before : List ℕ) → S.told input.old ≡ Some stream → K.told output.old ≡ Some before → result ≡ 3
+        → IsUntouched (S.told input.old) (S.told input.new) (K.told output.old) (K.told output.new)
+        ⊎ ((written : List ℕ) × (K.told output.new ≡ Some (before ++ written))
+        × RepliesTaken (words_texts words.now) (F.told shelf.old) stream (S.told input.new) written) }
+    ensures write_fault { (stream before : List ℕ) → S.told input.old ≡ Some stream → K.told output.old ≡ Some before → result ≡ 4
+        → (written : List ℕ) × (K.told output.new ≡ Some (before ++ written))
+        × RepliesPart (words_texts words.now) (F.told shelf.old) stream (S.told input.new) written }
+
+    // A device's failure is answered where its count of faults rose in this call, and at every other status that count is as it was.
+    ensures read_cause { result ≡ 3 → Rose (S.faults input.old) (S.faults input.new)
+        ⊎ Rose (F.faults shelf.old) (F.faults shelf.new) }
+    ensures write_cause { result ≡ 4 → Rose (K.faults output.old) (K.faults output.new) }
+    ensures read_steady { (result ≡ 3 → ⊥) → S.faults input.new ≡ S.faults input.old }
+    ensures write_steady { (result ≡ 4 → ⊥) → K.faults output.new ≡ K.faults output.old }
+    ensures shelf_steady { (result ≡ 3 → ⊥) → F.faults shelf.new ≡ F.faults shelf.old }
+
+    // Status 1 comes where the shelf has no catalogue of the name: no file, one too large, or a text that is refused. Where it has
+    // none, and tells so, no other status comes but for its failure and for want of memory.
+    ensures without { result ≡ 1 → IsWithoutCatalogue (words_texts words.now) (F.told shelf.old) }
+    ensures no_catalogue { (files : List ℕ → Option (List ℕ)) → F.told shelf.old ≡ Some files → (said : ReplayView)
+        → IsReplay (words_texts words.now) said → HasNone files said.catalogue → (result ≡ 1) ⊎ (result ≡ 3) ⊎ (result ≡ 5) }
+    ensures missed { result ≡ 1 → Rose (F.misses shelf.old) (F.misses shelf.new)
+        ⊎ IsOfRefusedText (words_texts words.now) (F.told shelf.old) }
+    ensures files { F.told shelf.new ≡ F.told shelf.old }
+{
+    match read_replay(alloc, words) {
+        Ok(said) => {
+            let end = replay(alloc, &said, shelf, input, output);
+            end_command(notes, &command_end(end))
+        }
+        Err(WordsFault::NoMemory) => end_command(notes, &CommandEnd::NoMemory),
+        Err(WordsFault::Refused) => end_command(notes, &CommandEnd::WordsRefused),
+    }
+}

@@ -1,0 +1,26 @@
+use Rattle.std.proofs.Common.{rules, arith}
+use Rattle.worker_pool.proofs.Chains.{keeps_on}
+use Rattle.host_serve.specs.Turns.{Stand, Connection}
+use Rattle.host_serve.proofs.Chaining.{chain_on, one}
+use Rattle.host_serve.proofs.draining.drain_listener.Goals as goal
+
+pub loop-served-preserved : goal.loop-served-preserved
+loop-served-preserved g c =
+    let cat = c.args.common.cat.now in
+    let told = g.C.Clock.told in
+    let inv = c.loop-served.invariant in
+    let did = c.serve_stream.ensures in
+    let old : Stand = record { desk = c.args.desk.now; clock = told c.args.clock.now } in
+    let at : Stand = record { desk = c.loop-served.desk; clock = told c.loop-served.clock } in
+    let new : Stand = record { desk = c.serve_stream.new.desk; clock = told c.serve_stream.new.clock } in
+    record {
+      own = did.own;
+      tidy = did.tidy;
+      keeps = keeps_on c.args.desk.now c.loop-served.desk c.serve_stream.new.desk inv.keeps did.keeps;
+      turns = chain_on (Connection cat) old at new inv.turns (one (Connection cat) at new (_, _, did.one));
+      port = search (rules, arith);
+      limit = search (rules, arith);
+      within = search (rules, arith);
+      steady = search (rules, arith);
+      handed = search (rules, arith);
+    }

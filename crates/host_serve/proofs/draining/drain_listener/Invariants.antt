@@ -1,0 +1,19 @@
+use Rattle.std.proofs.Common.{◌≡◌, ◌≤◌}
+use Rattle.claim_rule.specs.Seats.{IsOf}
+use Rattle.claim_rule.specs.Out.{IsTidy}
+use Rattle.worker_pool.specs.Turns.{KeepsDesk}
+use Rattle.host_serve.specs.Turns.{Chain, Connection}
+use Rattle.host_serve.proofs.draining.drain_listener.Given as goal
+
+abbrev pub invariant-loop-served : goal.invariant-loop-served
+invariant-loop-served g l = record {
+  own : IsOf l.books l.desk;
+  tidy : IsTidy l.desk;
+  keeps : KeepsDesk l.fn.desk l.desk;
+  turns : Chain (Connection l.common.cat.now) (record { desk = l.fn.desk; clock = g.C.Clock.told l.fn.clock }) (record { desk = l.desk; clock = g.C.Clock.told l.clock });
+  port : (g.L.Listener.told l.listener).port ≡ (g.L.Listener.told l.fn.listener).port;
+  limit : (g.L.Listener.told l.listener).limit ≡ l.limit;
+  within : (g.L.Listener.told l.listener).handed ≤ l.limit;
+  steady : g.L.Listener.faults l.listener ≡ g.L.Listener.faults l.fn.listener;
+  handed : l._served ≤ (g.L.Listener.told l.listener).handed;
+}

@@ -1,0 +1,166 @@
+// The books of a catalogue, served by the members.
+ghost use Rattle.std.specs.Prelude.{◌≡◌, ◌≢◌, ◌≤◌, ◌<◌, ◌+◌, [], true, false, length};
+ghost use Rattle.rail_io.specs.Faults.{Rose};
+ghost use Rattle.claim_rule.specs.Seats.{IsOf};
+ghost use Rattle.claim_rule.specs.Out.{IsTidy};
+ghost use Rattle.worker_pool.specs.Turns.{KeepsDesk};
+ghost use Rattle.host_io.specs.declared.shared_listener.ListenerEnd.TheVariants as ended;
+ghost use Rattle.host_serve.specs.Crews.{IsCrew, IsFirst, HasRun};
+ghost use Rattle.host_serve.specs.Serve.{BooksEnd};
+ghost use Rattle.host_serve.specs.Turns.{HasCatalogue, Chain, Connection};
+
+use crate::crew::crew_of;
+use crate::draining::drain_listener;
+use crate::end::ServeOutcome;
+use crate::meeting::meet_others;
+use crate::member::Common;
+use claim_rule::{Books, Desk, Wall};
+use host_io::{ListenerEnd, Named, SharedListener, Ticker};
+use host_words::Serving;
+use rail_catalogue::Catalogue;
+use rail_io::Clock;
+use rail_service::Listener;
+use std::alloc::Global;
+use std::sync::atomic::AtomicBool;
+use std::sync::{Mutex, Wait};
+use std::thread::Threads;
+use worker_pool::{Member, Open, Worker, run_workers};
+
+/// How serving ended, and what is left of it.
+pub struct ServeRun<L> {
+    pub outcome: ServeOutcome,
+    pub listener: L,
+    pub wall: Option<Wall>,
+}
+
+/// Runs a crew until its members have ended, takes in the desks of all but the first, and hands that one back.
+fn run_crew<R: Threads + Wait + Sync, W: Worker + Send + Drop>(
+    rt: &R,
+    books: &Books,
+    first: &mut Desk,
+    mut crew: Vec<Member<W>>,
+) -> Member<W>
+    requires some { 0 < length crew.items }
+    requires crew { IsCrew W.fits books.now crew.items }
+    requires first { IsFirst books.now (length crew.items) first.old }
+    ensures run { HasRun W.fits W.does W.ended books.now crew.items first.new result }
+{
+    run_workers(rt, books, crew.as_mut_slice(), &Open);
+    meet_others(books, first, crew)
+}
+
+/// Serves what is left of the listener's streams at the member's desk, where the listener hasn't ended: whether as many as its limit
+/// were then handed out, or an accept failed.
+fn finish_listener<N: Named, L: Listener + Drop, C: Clock>(
+    common: Common<'_>,
+    books: &Books,
+    desk: &mut Desk,
+    listener: &mut L,
+    end: ListenerEnd,
+    limit: u32,
+    clock: &mut C,
+) -> bool
+    requires has { HasCatalogue books.now common.cat.now }
+    requires own { IsOf books.now desk.old }
+    requires tidy { IsTidy desk.old }
+    requires port { (L.told listener.old).port ≡ N.port }
+    requires limit { ((L.told listener.old).limit ≡ N.limit) × (N.limit ≡ limit) }
+    requires within { (L.told listener.old).handed ≤ N.limit }
+    requires faults { N.faults ≤ L.faults listener.old }
+    requires steady { end ≢ ended.Failed → L.faults listener.old ≡ N.faults }
+    requires rose { end ≡ ended.Failed → Rose N.faults (L.faults listener.old) }
+    requires failed { end ≡ ended.Failed → (L.told listener.old).handed < N.limit }
+    requires closed { end ≡ ended.Closed → N.limit ≤ (L.told listener.old).handed }
+    ensures own { IsOf books.now desk.new }
+    ensures tidy { IsTidy desk.new }
+    ensures keeps { KeepsDesk desk.old desk.new }
+    ensures turns { Chain (Connection common.entry.cat.now) (record { desk = desk.old; clock = C.told clock.old })
+        (record { desk = desk.new; clock = C.told clock.new }) }
+    ensures never_falls { L.faults listener.old ≤ L.faults listener.new }
+    ensures steady { result ≡ true → L.faults listener.new ≡ N.faults }
+    ensures spent { result ≡ true → L.told listener.new ≡ record { port = N.port; limit = N.limit; handed = N.limit } }
+    ensures failed { result ≡ false → Rose N.faults (L.faults listener.new) × ((L.told listener.new).handed < N.limit) }
+    ensures port { (L.told listener.new).port ≡ N.port }
+    ensures limit { (L.told listener.new).limit ≡ N.limit }
+{
+    match end {
+        ListenerEnd::Closed => true,
+        ListenerEnd::Failed => false,
+        ListenerEnd::Open => drain_listener(common, books, desk, listener, limit, clock),
+    }
+}
+
+/// Serves the listener's streams by a crew, and closes the books.
+pub fn run_books<
+    N: Named + Send,
+    R: Threads + Wait + Sync,
+    L: Listener + Drop + Send,
+    T: Ticker + Drop + Send,
+    C: Clock + Drop + Send,
+>(
+    rt: &R,
+    alloc: Global,
+    cat: &Catalogue,
+    said: Serving,
+    books: Books,
+    mut first: Desk,
+    listener: L,
+    ticker: T,
+    clocks: Vec<C>,
+) -> ServeRun<L>
+where
+    L::Input: Send,
+    L::Output: Send,
+    requires has { HasCatalogue books cat.now }
+    requires opening { books.layout.opening ≡ [] }
+    requires first { IsFirst books 0 first }
+    requires clocks { said.workers + 1 ≤ length clocks.items }
+    requires faults { N.faults ≡ L.faults listener }
+    requires view { L.told listener ≡ record { port = N.port; limit = N.limit; handed = 0 } }
+    requires port { N.port ≡ said.port }
+    requires limit { N.limit ≡ said.connections }
+    requires workers { 1 ≤ said.workers }
+    ensures never_falls { L.faults listener ≤ L.faults result.listener }
+    ensures ends { BooksEnd cat.now said (L.faults listener) (L.faults result.listener) (L.told result.listener)
+        result.wall result.outcome }
+{
+    let closed = AtomicBool::new(false);
+    let shared: Mutex<SharedListener<L, N>> = Mutex::new(SharedListener::new(listener));
+    let common = Common {
+        alloc,
+        cat,
+        closed: &closed,
+    };
+    let Ok(crew) = crew_of(
+        rt, &shared, common, &books, &mut first, said, ticker, clocks,
+    ) else {
+        let (listener, _) = shared.into_inner().into_listener();
+        return ServeRun {
+            outcome: ServeOutcome::NoMemory,
+            listener,
+            wall: None,
+        };
+    };
+    let Member { mut desk, worker } = run_crew(rt, &books, &mut first, crew);
+    let mut clock = worker.into_clock();
+    let (mut listener, end) = shared.into_inner().into_listener();
+    let all = finish_listener::<N, L, C>(
+        common,
+        &books,
+        &mut desk,
+        &mut listener,
+        end,
+        said.connections,
+        &mut clock,
+    );
+    books.meet(&mut first, desk);
+    ServeRun {
+        outcome: if all {
+            ServeOutcome::Served
+        } else {
+            ServeOutcome::AcceptFailed
+        },
+        listener,
+        wall: Some(books.finish(first)),
+    }
+}

@@ -1,0 +1,6 @@
+pub mod Hosting
+pub mod JsonFacts
+mod WorkedBodies
+pub mod Selling
+pub mod Freeness
+pub mod Reserving

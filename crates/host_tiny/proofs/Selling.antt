@@ -1,0 +1,234 @@
+-- The rows of a run and the reservations in them, from one wish to the next.
+use Rattle.std.proofs.Common.{◌≡◌, ℕ, ◌+◌, ◌<◌, ◌≤◌, Bool, true, false, cond, eqb, eq-eqb, ne_eqb, List, [], ◌∷◌, ◌++◌, length, map, Option, Some, None, refl, sym, ap, ◌∙◌, subst, ⊎_elim, inl, inr, arith, append-nil, length-append}
+use Rattle.std.specs.Prelude.{◌⊎◌, IsSome}
+use Rattle.std.specs.Option.{option_or}
+use Rattle.std.proofs.lemmas.Bool.{cases_eq, cases_lt}
+use Rattle.std.proofs.lemmas.List.{length-map}
+use Rattle.std.specs.List.{AllByRecursion}
+use mathlib.Core.List.{map-append}
+use Rattle.history_model.specs.declared.booking.BookedItem.{BookedItem}
+use Rattle.history_model.specs.declared.entry.Step.TheVariants.{Note, Seal}
+use Rattle.history_model.specs.declared.phase.Phase.{Phase}
+use Rattle.history_model.specs.declared.phase.Phase.TheVariants.{Making, Prebooked}
+use Rattle.history_model.specs.Allowed.{IsMadeBy, OnRow}
+use Rattle.history_model.specs.Apply.{started, in_phase, noted}
+use Rattle.history_model.specs.Booking.{Booking, State, all_items, change, present, stands_in}
+use Rattle.history_model.proofs.Keeping.{found}
+use Rattle.history_model.proofs.ListLemmas.{All-append, All-found, find-push, flat_map-append}
+use Rattle.history_model.proofs.Owners.{on_row}
+use Rattle.claim_rule.specs.Rule.{DeskView, state_seen}
+use Rattle.booking_rows.specs.Starts.{IsLeastFree}
+use Rattle.lone_desk.specs.Lone.{StartsLeast, after_steps}
+use Rattle.lone_desk.proofs.OwnRow.{IsApart, change_last}
+use Rattle.host_tiny.specs.Run.{IsSold, IsEmptyRow, IsSettled, StandFrom, held_of, reservations}
+
+-- ---- rows in order
+
+rows_past : (row : ℕ) (s : State) (q : ℕ) → StandFrom row s → row + length s ≤ q → present s q ≡ None
+rows_past row [] q is past = refl
+rows_past row (b ∷ bs) q is past =
+    ap (λ (c : Bool). cond c (Some b) (present bs q)) (ne_eqb b.row q (λ e. omega (arith, e, is.0, past)))
+    ∙ rows_past (row + 1) bs q is.1 (omega (arith, past))
+
+found_first : (b : Booking) (o : Option Booking) (t : Bool) → t ≡ true → cond t (Some b) o ≡ None → ⊥
+found_first b o true is e = absurd (let no : Some b ≡ None = e in cc)
+found_first b o false is e = absurd cc
+
+found_later : (b : Booking) (o : Option Booking) (t : Bool) → t ≡ false → cond t (Some b) o ≡ None → o ≡ None
+found_later b o true is e = absurd cc
+found_later b o false is e = e
+
+rows_there : (row : ℕ) (s : State) (q : ℕ) → StandFrom row s → row ≤ q → q < row + length s → present s q ≡ None → ⊥
+rows_there row [] q is from to none = absurd (omega (arith, from, to))
+rows_there row (b ∷ bs) q is from to none = ⊎_elim
+    (λ (here : b.row ≡ q). found_first b (present bs q) (eqb b.row q) (eq-eqb b.row q here) none)
+    (λ (other : b.row ≡ q → ⊥). rows_there (row + 1) bs q is.1 (omega (arith, from, other, is.0)) (omega (arith, to))
+    (found_later b (present bs q) (eqb b.row q) (ne_eqb b.row q other) none))
+    (cases_eq b.row q)
+
+pub rows_apart : (row : ℕ) (s : State) (q : ℕ) → StandFrom row s → row + length s ≤ q → IsApart q s
+rows_apart row [] q is past = tt
+rows_apart row (b ∷ bs) q is past =
+    (ne_eqb b.row q (λ e. omega (arith, e, is.0, past)), rows_apart (row + 1) bs q is.1 (omega (arith, past)))
+
+stand_more : (row : ℕ) (s : State) (b : Booking) → StandFrom row s → b.row ≡ row + length s → StandFrom row (s ++ b ∷ [])
+stand_more row [] b is here = (omega (arith, here), tt)
+stand_more row (x ∷ xs) b is here = (is.0, stand_more (row + 1) xs b is.1 (omega (arith, here)))
+
+some_or_none : (s : State) (q : ℕ) → present s q ≡ None → IsSome (present s q) → ⊥
+some_or_none s q none some = absurd (let P : Option Booking → Type 0 = λ o. IsSome o in let no : false ≡ true = subst P none some in cc)
+
+-- the least row that is not in use is the next one
+next_row : (s : State) (row : ℕ) → StandFrom 0 s → present s row ≡ None → IsLeastFree s row → row ≡ length s
+next_row s row rows free least = ⊎_elim
+    (λ (below : row < length s). absurd (rows_there 0 s row rows (omega arith) (omega (arith, below)) free))
+    (λ (from : length s ≤ row). ⊎_elim
+    (λ (past : length s < row). absurd (some_or_none s (length s) (rows_past 0 s (length s) rows (omega arith)) (least (length s) past)))
+    (λ (to : row ≤ length s). omega (arith, from, to))
+    (cases_lt (length s) row))
+    (cases_lt row (length s))
+
+-- where so many rows are in use there are as many bookings
+all_rows : (s : State) (count : ℕ) → StandFrom 0 s → IsLeastFree s count → count ≤ length s
+all_rows s count rows least = ⊎_elim
+    (λ (few : length s < count). absurd (some_or_none s (length s) (rows_past 0 s (length s) rows (omega arith)) (least (length s) few)))
+    (λ (all : count ≤ length s). all)
+    (cases_lt (length s) count)
+
+-- ---- the row in the making
+
+pub found_last : (front : State) (b : Booking) (row : ℕ) → b.row ≡ row → IsApart row front → present (front ++ b ∷ []) row ≡ Some b
+found_last [] b row here apart = ap (λ (t : Bool). cond t (Some b) None) (eq-eqb b.row row here)
+found_last (x ∷ front) b row here apart =
+    ap (λ (t : Bool). cond t (Some x) (present (front ++ b ∷ []) row)) apart.0 ∙ found_last front b row here apart.1
+
+not_sold : (phase : Phase) → phase ≡ Making → phase ≡ Prebooked → ⊥
+not_sold phase making sold = absurd (let no : Making ≡ Prebooked = sym making ∙ sold in cc)
+
+none_made : (sold : State) (row : ℕ) (b : Booking) → AllByRecursion IsSold sold → present sold row ≡ Some b → b.phase ≡ Making → ⊥
+none_made sold row b each at making = not_sold b.phase making (All-found IsSold (stands_in sold row) sold b at each).phase
+
+or_none : {X : Type 0} (o : Option X) → option_or o None ≡ o
+or_none None = refl
+or_none (Some x) = refl
+
+present_before : (front : State) (b : Booking) (row : ℕ) → (b.row ≡ row → ⊥) → present (front ++ b ∷ []) row ≡ present front row
+present_before front b row other =
+    find-push (stands_in front row) front b
+    ∙ (ap (λ (c : Bool). option_or (present front row) (cond c (Some b) None)) (ne_eqb b.row row other) ∙ or_none (present front row))
+
+-- the empty row at the end, begun or kept
+pub record HasRow (s : State) (settled : IsSettled s) (now : State) (row : ℕ) : Type 0 where
+  pub last : Booking
+  pub empty : IsEmptyRow row last
+  pub row_is : row ≡ length settled.sold
+  pub now_is : now ≡ settled.sold ++ last ∷ []
+
+made_is_last : (s : State) (settled : IsSettled s) (row desk : ℕ) → OnRow s row (IsMadeBy desk) → HasRow s settled s row
+made_is_last s settled row desk on = by_rows settled.is
+  where
+    by_rows : (s ≡ settled.sold) ⊎ ((b : Booking) × IsEmptyRow (length settled.sold) b × (s ≡ settled.sold ++ b ∷ [])) → HasRow s settled s row
+    by_rows (inl none) =
+        let b = found (present s row) (IsMadeBy desk) on in
+        absurd (none_made settled.sold row b.0 settled.each (ap (λ (t : State). present t row) (sym none) ∙ b.1) b.2.0)
+    by_rows (inr (b, empty, is)) = ⊎_elim
+        (λ (here : b.row ≡ row). let at : row ≡ length settled.sold = sym here ∙ empty.row_is in
+        record {
+          last = b;
+          empty = record { phase = empty.phase; none = empty.none; owner = empty.owner; row_is = here };
+          row_is = at;
+          now_is = is;
+        })
+        (λ (other : b.row ≡ row → ⊥).
+        let x = found (present s row) (IsMadeBy desk) on in
+        absurd (none_made settled.sold row x.0 settled.each
+        (sym (present_before settled.sold b row other) ∙ (ap (λ (t : State). present t row) (sym is) ∙ x.1)) x.2.0))
+        (cases_eq b.row row)
+
+none_is_left : (s : State) (settled : IsSettled s) → ((row : ℕ) → OnRow s row (IsMadeBy 0) → ⊥) → s ≡ settled.sold
+none_is_left s settled none = by_rows settled.is
+  where
+    by_rows : (s ≡ settled.sold) ⊎ ((b : Booking) × IsEmptyRow (length settled.sold) b × (s ≡ settled.sold ++ b ∷ [])) → s ≡ settled.sold
+    by_rows (inl is) = is
+    by_rows (inr (b, empty, is)) =
+        let apart = rows_apart 0 settled.sold (length settled.sold) settled.rows (omega arith) in
+        let at : present s (length settled.sold) ≡ Some b = ap (λ (t : State). present t (length settled.sold)) is
+        ∙ found_last settled.sold b (length settled.sold) empty.row_is apart in
+        absurd (none (length settled.sold) (on_row s (length settled.sold) b (IsMadeBy 0) at (empty.phase, empty.owner)))
+
+-- what a start leaves
+pub row_started : (old new : DeskView) (row : ℕ) → old.number ≡ 0 → (settled : IsSettled (state_seen old)) → StartsLeast old new (Some row)
+    → HasRow (state_seen old) settled (state_seen new) row
+row_started old new row first settled (inl (makes, same)) =
+    let at = made_is_last (state_seen old) settled row old.number makes in
+    record { last = at.last; empty = at.empty; row_is = at.row_is; now_is = same ∙ at.now_is }
+row_started old new row first settled (inr (none, free, least, state)) =
+    let s = state_seen old in
+    let is : s ≡ settled.sold = none_is_left s settled (λ r on. none r (subst (λ (d : ℕ). OnRow s r (IsMadeBy d)) (sym first) on)) in
+    record {
+      last = started row old.number;
+      empty = record { phase = refl; none = refl; owner = first; row_is = refl };
+      row_is = next_row settled.sold row settled.rows (ap (λ (t : State). present t row) (sym is) ∙ free)
+          (subst (λ (t : State). IsLeastFree t row) is least);
+      now_is = state ∙ ap (λ (t : State). t ++ started row old.number ∷ []) is;
+    }
+
+pub no_row_started : (old new : DeskView) → old.number ≡ 0 → old.layout.rows ≡ 1024 → (settled : IsSettled (state_seen old)) → StartsLeast old new None
+    → (1024 ≤ length settled.sold) × (state_seen new ≡ state_seen old)
+no_row_started old new first rows settled (none, least, same) =
+    let s = state_seen old in
+    let is : s ≡ settled.sold = none_is_left s settled (λ r on. none r (subst (λ (d : ℕ). OnRow s r (IsMadeBy d)) (sym first) on)) in
+    let all = all_rows settled.sold old.layout.rows settled.rows (subst (λ (t : State). IsLeastFree t old.layout.rows) is least) in
+    (omega (arith, all, rows), same)
+
+-- ---- reservations
+
+pub reservations_more : (sold : State) (b : Booking) → reservations (sold ++ b ∷ []) ≡ reservations sold ++ map held_of b.items
+reservations_more sold b =
+    ap (map held_of) (flat_map-append (λ (x : Booking). x.items) sold (b ∷ []))
+    ∙ (map-append held_of (all_items sold) (b.items ++ []) ∙ ap (λ (l : List BookedItem). reservations sold ++ map held_of l) (append-nil b.items))
+
+pub one_each : (sold : State) → AllByRecursion IsSold sold → length (reservations sold) ≡ length sold
+one_each [] each = refl
+one_each (b ∷ bs) each =
+    let rest = one_each bs each.1 in
+    let parts = ap length (map-append held_of b.items (all_items bs)) ∙ length-append (map held_of b.items) (reservations bs) in
+    omega (arith, parts, length-map b.items held_of, each.0.one, rest)
+
+-- an empty row holds no reservation
+with_empty : (sold : State) (b : Booking) → b.items ≡ [] → reservations (sold ++ b ∷ []) ≡ reservations sold
+with_empty sold b none =
+    reservations_more sold b ∙ (ap (λ (is : List BookedItem). reservations sold ++ map held_of is) none ∙ append-nil (reservations sold))
+
+pub settled_reservations : (s : State) (settled : IsSettled s) → reservations s ≡ reservations settled.sold
+settled_reservations s settled = by_rows settled.is
+  where
+    by_rows : (s ≡ settled.sold) ⊎ ((b : Booking) × IsEmptyRow (length settled.sold) b × (s ≡ settled.sold ++ b ∷ [])) → reservations s ≡ reservations settled.sold
+    by_rows (inl is) = ap reservations is
+    by_rows (inr (b, empty, is)) = ap reservations is ∙ with_empty settled.sold b empty.none
+
+pub row_reservations : (s : State) (settled : IsSettled s) (now : State) (row : ℕ) → HasRow s settled now row → reservations now ≡ reservations settled.sold
+row_reservations s settled now row has = ap reservations has.now_is ∙ with_empty settled.sold has.last has.empty.none
+
+-- a row left empty settles
+pub settles_empty : (s : State) (settled : IsSettled s) (row : ℕ) (now : State) (b : Booking) → row ≡ length settled.sold → IsEmptyRow row b
+    → now ≡ settled.sold ++ b ∷ [] → IsSettled now
+settles_empty s settled row now b at empty is = record {
+  sold = settled.sold;
+  each = settled.each;
+  rows = settled.rows;
+  is = inr (b, record { phase = empty.phase; none = empty.none; owner = empty.owner; row_is = empty.row_is ∙ at }, is);
+}
+
+-- and so does a row sealed with one item
+pub settles_sold : (s : State) (settled : IsSettled s) (row : ℕ) (now : State) (b : Booking) → row ≡ length settled.sold → b.row ≡ row → IsSold b
+    → now ≡ settled.sold ++ b ∷ [] → IsSettled now
+settles_sold s settled row now b at here sold is = record {
+  sold = settled.sold ++ b ∷ [];
+  each = All-append IsSold settled.sold (b ∷ []) settled.each (sold, tt);
+  rows = stand_more 0 settled.sold b settled.rows (omega (arith, here, at));
+  is = inl is;
+}
+
+-- ---- the seal
+
+-- notes and the seal leave the row's items
+pub sealed_last : (front : State) (b : Booking) (row desk m n o p : ℕ) → b.row ≡ row → IsApart row front
+    → (c : Booking) × (c.row ≡ row) × (c.items ≡ b.items) × (c.phase ≡ Prebooked)
+    × (after_steps (front ++ b ∷ []) desk (Note row 1 m ∷ Note row 2 n ∷ Note row 3 o ∷ Note row 4 p ∷ Seal row Prebooked ∷ []) ≡ front ++ c ∷ [])
+sealed_last front b row desk m n o p here apart =
+    let one = noted 1 m b in
+    let two = noted 2 n one in
+    let three = noted 3 o two in
+    let four = noted 4 p three in (
+      in_phase Prebooked four,
+      here,
+      refl,
+      refl,
+      ap (λ (s : State). change (change (change (change s row (noted 2 n)) row (noted 3 o)) row (noted 4 p)) row (in_phase Prebooked))
+          (change_last front b row (noted 1 m) here apart)
+          ∙ (ap (λ (s : State). change (change (change s row (noted 3 o)) row (noted 4 p)) row (in_phase Prebooked)) (change_last front one row (noted 2 n) here apart)
+          ∙ (ap (λ (s : State). change (change s row (noted 4 p)) row (in_phase Prebooked)) (change_last front two row (noted 3 o) here apart)
+          ∙ (ap (λ (s : State). change s row (in_phase Prebooked)) (change_last front three row (noted 4 p) here apart)
+          ∙ change_last front four row (in_phase Prebooked) here apart))),
+    )

@@ -1,0 +1,76 @@
+-- One run in words: the reservations that its desk has seen, and what holds of them.
+use Rattle.std.specs.Prelude.{◌≡◌, ◌⊎◌, ℕ, ◌+◌, ◌<◌, ◌≤◌, List, [], ◌∷◌, ◌++◌, length, map, replicate}
+use Rattle.std.specs.List.{AllByRecursion, range_with_len}
+use Rattle.leg_masks.specs.Interval.{Interval}
+use Rattle.rail_ids.specs.declared.PlaceNo.{PlaceNo}
+use Rattle.history_model.specs.declared.booking.BookedItem.{BookedItem}
+use Rattle.history_model.specs.declared.phase.Phase.TheVariants.{Making, Prebooked}
+use Rattle.history_model.specs.Booking.{Booking, State, all_items}
+use Rattle.claim_rule.specs.Rule.{BooksView, DeskView, state_seen}
+use Rattle.claim_rule.specs.Seats.{IsOf}
+use Rattle.claim_rule.specs.Out.{HoldsNone}
+use Rattle.hold_core.specs.Tries.{place_number}
+use Rattle.lone_desk.specs.Lone.{IsAlone}
+use Rattle.host_tiny.specs.Reservations.{Held, IsLeastFree, IsNoneFree}
+use Rattle.host_tiny.specs.declared.run.Reservation.{Reservation}
+use Rattle.host_tiny.specs.declared.run.Reservation.TheVariants.{Place, RowsFull, NoPlace}
+
+abbrev pub held_of : BookedItem → Held
+held_of i = record { place = i.place; span = i.span }
+
+-- the items of all bookings, in order
+abbrev pub reservations : State → List Held
+reservations s = map held_of (all_items s)
+
+abbrev pub reserved : DeskView → List Held
+reserved desk = reservations (state_seen desk)
+
+-- the booking is one place, prebooked
+pub record IsSold (b : Booking) : Type 0 where
+  pub phase : b.phase ≡ Prebooked
+  pub one : length b.items ≡ 1
+
+-- the booking is of this row, in the making by the first desk, with nothing taken: a refusal left it
+pub record IsEmptyRow (row : ℕ) (b : Booking) : Type 0 where
+  pub phase : b.phase ≡ Making
+  pub none : b.items ≡ []
+  pub owner : b.owner ≡ 0
+  pub row_is : b.row ≡ row
+
+-- the bookings are those of the rows from this one on, in order
+abbrev pub StandFrom : ℕ → State → Type 0
+StandFrom row [] = Unit {0}
+StandFrom row (b ∷ bs) = (b.row ≡ row) × StandFrom (row + 1) bs
+
+-- a row for each reservation, in order, and behind them at most an empty one
+pub record IsSettled (s : State) : Type 0 where
+  pub sold : State
+  pub each : AllByRecursion IsSold sold
+  pub rows : StandFrom 0 sold
+  pub is : (s ≡ sold) ⊎ ((b : Booking) × IsEmptyRow (length sold) b × (s ≡ sold ++ b ∷ []))
+
+-- the books have a place of so many legs for each of these numbers, which are all from 0 on, and 1,024 rows; the desk is alone at them
+pub record IsRun (legs : ℕ) (places : List PlaceNo) (books : BooksView) (desk : DeskView) : Type 0 where
+  pub some : 0 < legs
+  pub few : legs ≤ 63
+  pub most : length places ≤ 1200
+  pub numbers : map place_number places ≡ range_with_len 0 (length places)
+  pub layout : books.layout ≡ record { legs = replicate (length places) legs; rows = 1024; opening = [] }
+  pub own : IsOf books desk
+  pub alone : IsAlone desk
+  pub none : HoldsNone desk
+  pub settled : IsSettled (state_seen desk)
+
+-- what contracts see of a run
+pub record RunView : Type 0 where
+  pub legs : ℕ
+  -- how many places it has
+  pub places : ℕ
+  pub held : List Held
+
+-- What a wish for a place on the span comes to where these are held, and what is held after it.
+abbrev pub Reserves : ℕ → List Held → Interval → Reservation → List Held → Type 0
+Reserves places held span (Place place) after =
+    (length held < 1024) × IsLeastFree held places place span × (after ≡ held ++ record { place = place; span = span } ∷ [])
+Reserves places held span RowsFull after = (1024 ≤ length held) × (after ≡ held)
+Reserves places held span NoPlace after = (length held < 1024) × IsNoneFree held places span × (after ≡ held)

@@ -1,0 +1,16 @@
+-- The commands of the program, by their first words.
+use Rattle.std.specs.Prelude.{◌≡◌, ℕ, List, Some, codes, slice_get}
+use Rattle.clap.specs.Words.{Text}
+use Rattle.host_words.specs.declared.command.CommandName.{CommandName}
+use Rattle.host_words.specs.declared.command.CommandName.TheVariants.{Tiny, Replay, Drill, Serve}
+
+-- the word that names a command
+abbrev pub name_of : CommandName → Text
+name_of Tiny = codes "tiny"
+name_of Replay = codes "replay"
+name_of Drill = codes "drill"
+name_of Serve = codes "serve"
+
+-- the words are for the command: their first is its name
+abbrev pub IsFor : CommandName → List Text → Type 0
+IsFor command words = slice_get words 0 ≡ Some (name_of command)

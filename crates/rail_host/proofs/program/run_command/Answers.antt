@@ -1,0 +1,44 @@
+use Rattle.std.proofs.Common.{inl, inr, refl}
+use Rattle.host_words.specs.Options.{words_texts}
+use Rattle.host_words.specs.declared.command.CommandName.TheVariants.{Replay, Drill, Serve}
+use Rattle.host_notes.specs.Ends.{end_of}
+use Rattle.host_notes.specs.declared.ending.CommandEnd.TheVariants.{WordsRefused}
+use Rattle.host_replay.specs.Replay.{end_of_replay}
+use Rattle.rail_host.proofs.Naming.{one_name, no_tiny, serve_tiny, serve_replay, serve_drill, drill_tiny, drill_replay}
+use Rattle.rail_host.proofs.program.run_command.Goals as goal
+
+pub returns-then-is_for-clause-words : goal.returns-then-is_for-clause-words
+returns-then-is_for-clause-words g c two =
+    let words = words_texts c.args.words.now in
+    let serve = c.if-is_for.ensures.yes refl in
+    record {
+      tiny = no_tiny Serve words serve serve_tiny;
+      replay = λ said is. serve_replay (one_name Serve Replay words serve is.command);
+      drill = λ said is. serve_drill (one_name Serve Drill words serve is.command);
+      serve = c.serve_port.ensures.words two;
+    }
+
+pub returns-then-is_for-2-clause-words : goal.returns-then-is_for-2-clause-words
+returns-then-is_for-2-clause-words g c two =
+    let words = words_texts c.args.words.now in
+    let drill = c.if-is_for-2.ensures.yes refl in
+    record {
+      tiny = no_tiny Drill words drill drill_tiny;
+      replay = λ said is. drill_replay (one_name Drill Replay words drill is.command);
+      drill = c.run_drill.ensures.words two;
+      serve = λ said is. c.if-is_for.ensures.no refl is.command;
+    }
+
+pub returns-else-is_for-2-clause-words : goal.returns-else-is_for-2-clause-words
+returns-else-is_for-2-clause-words g c two = record {
+  tiny = (c.run_plain.ensures.words two).0;
+  replay = (c.run_plain.ensures.words two).1;
+  drill = λ said is. c.if-is_for-2.ensures.no refl is.command;
+  serve = λ said is. c.if-is_for.ensures.no refl is.command;
+}
+
+pub returns-else-is_for-2-clause-ended : goal.returns-else-is_for-2-clause-ended
+returns-else-is_for-2-clause-ended g c = elim c.run_plain.ensures.run [
+  | inl two ↦ (WordsRefused, two, c.run_plain.ensures.refused two)
+  | inr more ↦ elim more [ inl tiny ↦ (end_of tiny.0, tiny.1, tiny.3) | inr replay ↦ (end_of_replay replay.0, replay.1, replay.3) ]
+]

@@ -1,3 +1,0 @@
-mod replay;
-mod runs;
-mod tiny;

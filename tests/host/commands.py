@@ -1,0 +1,265 @@
+"""The commands of the built program, one run each: their words, their files, and devices that fail.
+
+  commands.py PROGRAM
+
+Every run is compared with the status, the output and the note that the documents give it.
+"""
+import json
+import os
+import resource
+import socket
+import struct
+import subprocess
+import sys
+import tempfile
+from datetime import datetime, timedelta
+
+SECONDS = 60
+REFUSED = "rail_host: words refused\n"
+READ_FAULT = "rail_host: read fault\n"
+WRITE_FAULT = "rail_host: write fault\n"
+NO_MEMORY = "rail_host: no memory\n"
+LARGEST = 33_554_432
+EXAMPLE = os.path.join(os.path.dirname(__file__), "..", "..", "examples", "k1.json")
+
+TINY = b'POST /reservations HTTP/1.1\r\nHost: h\r\nContent-Length: 17\r\n\r\n{"from":0,"to":2}'
+SOLD = (b"HTTP/1.1 201 Created\r\nContent-Type: application/json\r\nContent-Length: 27\r\n\r\n"
+        b'{"from":0,"place":0,"to":2}')
+WISH = b'{"class":"SECOND","from":"BERN","run":1,"to":"THUN","wanted":[]}'
+RESERVES = (b"POST /reservations HTTP/1.1\r\nRetailer-Key: north\r\nContent-Length: %d\r\n\r\n" % len(WISH)) + WISH
+
+# Words that say something: the clock's first reading in seconds of 1970, and the seconds from one reading to the next.
+REPLAYS = [
+    ("replay k1.json", 0, 0),
+    ("replay k1.json --start 2026-06-01T06:00:00Z --tick 60", 1_780_293_600, 60),
+    ("replay --tick=86400 --start=2026-06-01T02:00:00.9+02:00 k1.json", 1_780_272_000, 86_400),
+    ("replay --tick +5 k1.json", 0, 5),
+    ("replay --tick 007 k1.json", 0, 7),
+    ("replay --tick=-0 k1.json", 0, 0),
+    ("replay -- --tick", 0, 0),
+]
+
+# Words that name a file that isn't there: they are taken, and nothing is read of the input.
+MISSING = [
+    "replay ''", "replay help", "replay nothere.json --start 2099-12-31T23:59:59Z",
+    "serve nothere.json --port 8080", "serve --port=1 nothere.json",
+    "serve nothere.json --sweep 1 --connections 1 --workers 1 --port 65535",
+    "serve nothere.json --port +7 --workers 016 --connections=4294967295 --sweep=86400",
+    "serve --port 80 -- --sweep",
+]
+
+WORDS_REFUSED = [
+    "", "help", "--help", "--version", "Tiny 3 2", "export k1.json",
+    "tiny", "tiny 3", "tiny 3 2 1", "tiny 0 2", "tiny 64 2", "tiny 03 2", "tiny +3 2", "tiny 3 0", "tiny 3 1201", "tiny 3 x",
+    "tiny '' 2", "replay", "replay --help", "replay -h", "replay k1.json --help", "replay --version", "replay k1.json -V",
+    "replay k1.json k2.json", "replay k1.json --tick", "replay k1.json --tick -5", "replay k1.json --tick=-5",
+    "replay k1.json --tick 86401", "replay k1.json --tick 4294967296", "replay k1.json --tick 1.0",
+    "replay k1.json --tick ''", "replay k1.json --tick 1 --tick 1", "replay k1.json --tic 1", "replay k1.json --start",
+    "replay k1.json --start ''", "replay k1.json --start 2026-06-01", "replay k1.json --start 1969-12-31T23:59:59Z",
+    "replay k1.json --start 2100-01-01T00:00:00Z", "replay --tick 1", "replay k1.json --seed 1",
+    "serve", "serve k1.json", "serve --port 80", "serve k1.json --port", "serve k1.json --port 0", "serve k1.json --port 65536",
+    "serve k1.json --port -1", "serve k1.json --port http", "serve k1.json k2.json --port 80",
+    "serve k1.json --port 80 --port 81", "serve k1.json --port 80 --workers 0", "serve k1.json --port 80 --workers 17",
+    "serve k1.json --port 80 --connections 0", "serve k1.json --port 80 --connections 4294967296",
+    "serve k1.json --port 80 --sweep 0", "serve k1.json --port 80 --sweep 86401", "serve k1.json --port 80 --tick 1",
+    "serve k1.json --port 80 --help", "serve --help", "serve -V",
+    "drill", "drill --help", "drill --seed 7 --workers 4 --size 40", "drill --seed 7 --workers 4 --places 30",
+    "drill --seed 7 --size 40 --places 30", "drill --workers 4 --size 40 --places 30",
+    "drill --seed 65536 --workers 4 --size 40 --places 30", "drill --seed 7 --workers 0 --size 40 --places 30",
+    "drill --seed 7 --workers 17 --size 40 --places 30", "drill --seed 7 --workers 4 --size 0 --places 30",
+    "drill --seed 7 --workers 4 --size 2001 --places 30", "drill --seed 7 --workers 4 --size 40 --places 0",
+    "drill --seed 7 --workers 4 --size 40 --places 1201", "drill --seed 7 --workers 4 --size 40 --places 30 more",
+]
+
+# Legs 7, 0 and 3 are asked for 40, 80 and 40 times, by any number of workers; legs 0, 1 and 4 for 8,000, 16,000 and 8,000.
+DRILLS = [
+    ("drill --seed 7 --workers 4 --size 40 --places 30", "requests 160 sold 90 refused 70 busy 0 double 0\n"),
+    ("drill --seed 7 --workers 1 --size 160 --places 30", "requests 160 sold 90 refused 70 busy 0 double 0\n"),
+    ("drill --places=30 --size=10 --workers=16 --seed=7", "requests 160 sold 90 refused 70 busy 0 double 0\n"),
+    ("drill --seed 0 --workers +1 --size 001 --places 1", "requests 1 sold 1 refused 0 busy 0 double 0\n"),
+    ("drill --seed 0 --workers 16 --size 2000 --places 1200",
+     "requests 32000 sold 3600 refused 28400 busy 0 double 0\n"),
+]
+
+# What stands in the example's place, once, and the note on it.
+CATALOGUES = [
+    ("{\"currency\"", "[\"currency\"", "catalogue fault 1"),
+    ("\"EUR\"", "\"EURO\"", "catalogue fault 2 at currency"),
+    ("\"number\":2", "\"number\":0", "catalogue fault 2 at retailers[1].number"),
+    ("T08:25:00Z", "T09:25:00Z", "catalogue fault 3"),
+    ("\"first\":15,\"last\":18", "\"first\":14,\"last\":18", "catalogue fault 4"),
+    ("\"fee\":2500", "\"fee\":10001", "catalogue fault 5"),
+    ("{\"station\":\"THUN\"", "{\"station\":\"SPIEZ\"", "catalogue fault 6"),
+    ("\"south\"", "\"north\"", "catalogue fault 7"),
+]
+
+TEXTS = [
+    (b"[]", "catalogue fault 2 at "),
+    (b"{", "catalogue fault 1"),
+    (b"\n" * LARGEST, "catalogue fault 1"),
+    (b"\n" * (LARGEST + 1), "catalogue too large"),
+]
+
+REFUSED_INPUT = b"GET / HTTP/1.1\r\nContent-Length: 3\r\nContent-Length: 4\r\n\r\nabcd"
+CUT_INPUT = b"GET / HTTP/1.1\r\nContent-Length: 10\r\n\r\nbody"
+
+
+def words_of(line: str) -> list:
+    """The words of a line, parted by single spaces; `''` is the empty one."""
+    return ["" if word == "''" else word for word in line.split(" ")] if line else []
+
+
+class Runs:
+    """Runs of the program in a folder of its own, and what differs."""
+
+    def __init__(self, program: str, folder: str):
+        self.program = os.path.abspath(program)
+        self.folder = folder
+        self.count = 0
+        self.differences = []
+
+    def run(self, line: str, data=b"", memory: int = None, **devices) -> tuple:
+        """The status, the output and the note."""
+        self.count += 1
+        limit = (lambda: resource.setrlimit(resource.RLIMIT_AS, (memory, memory))) if memory else None
+        if "stdin" not in devices:
+            devices["input"] = data
+        for name in ("stdout", "stderr"):
+            devices.setdefault(name, subprocess.PIPE)
+        done = subprocess.run([self.program] + words_of(line), cwd=self.folder, timeout=SECONDS, preexec_fn=limit, **devices)
+        return done.returncode, done.stdout or b"", (done.stderr or b"").decode()
+
+    def check(self, title: str, got, wanted):
+        if got != wanted:
+            self.differences.append("%s\n  got    %r\n  wanted %r" % (title, got, wanted))
+
+    def write(self, name: str, content: bytes):
+        with open(os.path.join(self.folder, name), "wb") as file:
+            file.write(content)
+
+
+def moment(seconds: int) -> str:
+    return (datetime(1970, 1, 1) + timedelta(seconds=seconds)).strftime("%Y-%m-%dT%H:%M:%SZ")
+
+
+def limits_in(output: bytes) -> list:
+    """The limits of confirmation that the answers say."""
+    texts = [part.split(b"\r\n\r\n", 1)[1] for part in output.split(b"HTTP/1.1 ")[1:]]
+    return [json.loads(text).get("confirmableUntil") for text in texts]
+
+
+def words(runs: Runs):
+    for line in WORDS_REFUSED:
+        runs.check(line, runs.run(line, TINY), (2, b"", REFUSED))
+    for line in MISSING:
+        runs.check(line, runs.run(line, TINY), (1, b"", "rail_host: catalogue missing\n"))
+    for line, start, tick in REPLAYS:
+        status, output, note = runs.run(line, RESERVES * 2)
+        wanted = [moment(start + 900), moment(start + tick + 900)]
+        runs.check(line, (status, limits_in(output), note), (0, wanted, ""))
+    runs.check("a word that isn't UTF-8", subprocess.run([runs.program, b"tiny\xff", b"3", b"2"], capture_output=True).returncode, 2)
+    runs.check("the most of tiny", runs.run("tiny 63 1200", TINY), (0, SOLD, ""))
+
+
+def drills(runs: Runs):
+    for line, printed in DRILLS:
+        runs.check(line, runs.run(line), (0, printed.encode(), ""))
+
+
+def catalogues(runs: Runs):
+    with open(EXAMPLE, encoding="utf-8") as file:
+        example = file.read()
+    runs.write("k1.json", example.encode())
+    runs.write("--tick", example.encode())
+    texts = [(example.replace(old, new, 1).encode(), note) for old, new, note in CATALOGUES]
+    for number, (text, note) in enumerate(texts + TEXTS):
+        runs.write("wrong.json", text)
+        runs.check("catalogue %d" % number, runs.run("replay wrong.json", RESERVES), (1, b"", "rail_host: %s\n" % note))
+    os.mkdir(os.path.join(runs.folder, "folder"))
+    for line in ("replay folder", "serve folder --port 8080"):
+        runs.check(line + ", which is no file", runs.run(line, RESERVES), (3, b"", READ_FAULT))
+
+
+def inputs(runs: Runs):
+    for line in ("tiny 3 2", "replay k1.json"):
+        runs.check(line + ": nothing", runs.run(line, b""), (0, b"", ""))
+        runs.check(line + ": cut", runs.run(line, CUT_INPUT)[::2], (6, "rail_host: input cut\n"))
+        runs.check(line + ": refused", runs.run(line, REFUSED_INPUT)[::2], (6, "rail_host: input refused\n"))
+
+
+def full_pipe() -> tuple:
+    """Both ends of a pipe that takes nothing more."""
+    reading, writing = os.pipe()
+    os.set_blocking(writing, False)
+    try:
+        while True:
+            os.write(writing, b"x" * 4096)
+    except BlockingIOError:
+        return reading, writing
+
+
+def outputs(runs: Runs):
+    """An output that takes nothing, and notes that take nothing."""
+    lines = [("tiny 3 2", TINY), ("replay k1.json", RESERVES), (DRILLS[0][0], b"")]
+    for line, data in lines:
+        with open("/dev/full", "wb") as full:
+            runs.check(line + ": a full device", runs.run(line, data, stdout=full), (4, b"", WRITE_FAULT))
+        reading, writing = full_pipe()
+        runs.check(line + ": a full pipe", runs.run(line, data, stdout=writing), (4, b"", WRITE_FAULT))
+        os.close(reading)
+        os.close(writing)
+        reading, writing = os.pipe()
+        os.close(reading)
+        runs.check(line + ": a pipe that nobody reads", runs.run(line, data, stdout=writing), (4, b"", WRITE_FAULT))
+        os.close(writing)
+    with open("/dev/full", "wb") as full:
+        runs.check("a full device for notes", runs.run("tiny 3", TINY, stderr=full)[:2], (2, b""))
+
+
+def broken_input(runs: Runs):
+    """An input that fails: at once, and behind a request that was answered."""
+    for line in ("tiny 3 2", "replay k1.json"):
+        folder = os.open(runs.folder, os.O_RDONLY)
+        runs.check(line + ": a folder as input", runs.run(line, stdin=folder), (3, b"", READ_FAULT))
+        os.close(folder)
+    listener = socket.create_server(("127.0.0.1", 0))
+    ours = socket.create_connection(listener.getsockname())
+    theirs, _ = listener.accept()
+    done = subprocess.Popen([runs.program, "tiny", "3", "2"], stdin=theirs, stdout=subprocess.PIPE, stderr=subprocess.PIPE)
+    theirs.close()
+    ours.sendall(TINY)
+    answered = done.stdout.read(len(SOLD))
+    ours.setsockopt(socket.SOL_SOCKET, socket.SO_LINGER, struct.pack("ii", 1, 0))
+    ours.close()
+    output, note = done.communicate(timeout=SECONDS)
+    runs.check("an input that is reset", (done.returncode, answered + output, note.decode()), (3, SOLD, READ_FAULT))
+
+
+def listeners(runs: Runs):
+    """A port that is taken; where the catalogue is missing, that is told first."""
+    taken = socket.create_server(("127.0.0.1", 0))
+    port = taken.getsockname()[1]
+    runs.check("a taken port", runs.run("serve k1.json --port %d" % port), (3, b"", READ_FAULT))
+    runs.check("a taken port without a catalogue", runs.run("serve nothere.json --port %d" % port),
+               (1, b"", "rail_host: catalogue missing\n"))
+
+
+def memories(runs: Runs):
+    """A process that gets little memory."""
+    for line in (DRILLS[0][0], "serve k1.json --port 8080", "replay k1.json"):
+        runs.check(line + ": little memory", runs.run(line, RESERVES, memory=12_000_000), (5, b"", NO_MEMORY))
+
+
+def main() -> int:
+    with tempfile.TemporaryDirectory() as folder:
+        runs = Runs(sys.argv[1], folder)
+        for part in (catalogues, words, drills, inputs, outputs, broken_input, listeners, memories):
+            part(runs)
+    for difference in runs.differences:
+        print(difference)
+    print("%d runs of commands, %d unlike" % (runs.count, len(runs.differences)))
+    return 1 if runs.differences else 0
+
+
+if __name__ == "__main__":
+    sys.exit(main())

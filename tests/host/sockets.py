@@ -1,0 +1,216 @@
+"""`serve` over real sockets: idle and stalled connections, refusals of long bodies, want of file handles, and its end.
+
+  sockets.py PROGRAM
+
+Time limits are held against wide bounds, so that a busy machine changes nothing.
+"""
+import os
+import resource
+import socket
+import subprocess
+import sys
+import tempfile
+import threading
+import time
+
+EXAMPLE = os.path.join(os.path.dirname(__file__), "..", "..", "examples", "k1.json")
+ASKS = b"GET /bookings/B000000 HTTP/1.1\r\nRetailer-Key: north\r\n\r\n"
+HALF = b"GET /bookings/B000000 HTTP/1.1\r\nRetailer-"
+REST = b"Key: north\r\n\r\n"
+UNKNOWN = b'{"code":"UnknownBooking","status":404,"title":"Unknown booking"}'
+CHUNKED = b"POST /offers HTTP/1.1\r\nTransfer-Encoding: chunked\r\n\r\n"
+CODING = b'{"code":"Coding","status":501,"title":"Coding not supported"}'
+LONG = b"POST /offers HTTP/1.1\r\nContent-Length: 5000000\r\n\r\n"
+TOO_LARGE = b'{"code":"BodyTooLarge","status":413,"title":"Body too large"}'
+SECONDS = 90
+
+
+class Wrong(Exception):
+    """The host did something else."""
+
+
+def expect(is_so: bool, what: str):
+    if not is_so:
+        raise Wrong(what)
+
+
+class Host:
+    """The program, serving so many connections at a free port."""
+
+    def __init__(self, program: str, connections: int, workers: int, sweep: int = 1, handles: int = None):
+        free = socket.create_server(("127.0.0.1", 0))
+        self.port = free.getsockname()[1]
+        free.close()
+        limit = (lambda: resource.setrlimit(resource.RLIMIT_NOFILE, (handles, handles))) if handles else None
+        words = ["serve", EXAMPLE, "--port", self.port, "--connections", connections, "--workers", workers, "--sweep", sweep]
+        self.process = subprocess.Popen([program] + [str(word) for word in words], stdin=subprocess.DEVNULL,
+                                        stdout=subprocess.PIPE, stderr=subprocess.PIPE, preexec_fn=limit)
+
+    def __enter__(self):
+        return self
+
+    def __exit__(self, *_):
+        self.process.kill()
+        self.process.communicate()
+
+    def connect(self) -> socket.socket:
+        """A connection. The first one waits until the host listens; no connection is used up by that."""
+        until = time.monotonic() + SECONDS
+        while True:
+            try:
+                client = socket.create_connection(("127.0.0.1", self.port), timeout=SECONDS)
+                client.setsockopt(socket.IPPROTO_TCP, socket.TCP_NODELAY, 1)
+                return client
+            except ConnectionRefusedError:
+                expect(self.process.poll() is None and time.monotonic() < until, "the host doesn't listen")
+                time.sleep(0.02)
+
+    def end(self):
+        """It ends with status 0, and without a word."""
+        output, notes = self.process.communicate(timeout=SECONDS)
+        expect((self.process.returncode, output, notes) == (0, b"", b""), "the host ended with %d, %r, %r" %
+               (self.process.returncode, output, notes))
+
+
+def read_answer(client: socket.socket, body: bytes):
+    """Reads up to this body, at which an answer ends."""
+    got = b""
+    while not got.endswith(body):
+        piece = client.recv(65_536)
+        expect(piece != b"", "the connection ended behind %r" % got)
+        got += piece
+
+
+def read_end(client: socket.socket):
+    """Nothing more comes, and the connection ends in order."""
+    expect(client.recv(65_536) == b"", "something came behind the last answer")
+    client.close()
+
+
+def closes_between(client: socket.socket, least: float, most: float, what: str):
+    begin = time.monotonic()
+    read_end(client)
+    took = time.monotonic() - begin
+    expect(least <= took <= most, "%s ended after %.1f seconds" % (what, took))
+
+
+def silent(host: Host):
+    closes_between(host.connect(), 3, 20, "a connection that sends nothing")
+
+
+def idle(host: Host):
+    client = host.connect()
+    for _ in range(3):
+        client.sendall(ASKS)
+        read_answer(client, UNKNOWN)
+    closes_between(client, 3, 20, "an idle connection")
+
+
+def stalled(host: Host):
+    client = host.connect()
+    client.sendall(HALF)
+    closes_between(client, 24, 70, "a request that stalls")
+
+
+def slow(host: Host):
+    """A request whose halves are further apart than an idle connection may be; and so is the next one."""
+    client = host.connect()
+    for _ in range(2):
+        client.sendall(HALF)
+        time.sleep(8)
+        client.sendall(REST)
+        read_answer(client, UNKNOWN)
+    client.shutdown(socket.SHUT_WR)
+    read_end(client)
+
+
+def time_limits(program: str):
+    clients = [silent, idle, stalled, slow]
+    failures = []
+
+    def play(client, host):
+        try:
+            client(host)
+        except (Wrong, OSError) as failure:
+            failures.append("%s: %r" % (client.__name__, failure))
+
+    with Host(program, len(clients), len(clients)) as host:
+        threads = [threading.Thread(target=play, args=(client, host)) for client in clients]
+        for thread in threads:
+            thread.start()
+        for thread in threads:
+            thread.join()
+        expect(not failures, "; ".join(failures))
+        host.end()
+
+
+def refusals(program: str):
+    """A client that sends all of a long body before it reads sees why it was refused, and then the end."""
+    cases = [(CHUNKED, CODING), (LONG, TOO_LARGE), (CHUNKED, CODING)]
+    with Host(program, len(cases) + 1, 2) as host:
+        for head, body in cases:
+            client = host.connect()
+            client.sendall(head + b"x" * 5_000_000)
+            read_answer(client, body)
+            read_end(client)
+        client = host.connect()
+        client.sendall(ASKS)
+        read_answer(client, UNKNOWN)
+        client.close()
+        host.end()
+
+
+def handles(program: str):
+    """With six handles of files two connections are open at once; a third one waits until one of them has ended."""
+    with Host(program, 6, 4, handles=6) as host:
+        clients = [host.connect() for _ in range(2)]
+        for client in clients:
+            client.sendall(ASKS)
+            read_answer(client, UNKNOWN)
+        for _ in range(4):
+            waiting = host.connect()
+            waiting.sendall(ASKS)
+            waiting.settimeout(0.4)
+            try:
+                waiting.recv(1)
+                raise Wrong("a third connection was served")
+            except socket.timeout:
+                waiting.settimeout(SECONDS)
+            clients.pop(0).close()
+            read_answer(waiting, UNKNOWN)
+            clients.append(waiting)
+            for client in clients:
+                client.sendall(ASKS)
+                read_answer(client, UNKNOWN)
+        for client in clients:
+            client.close()
+        host.end()
+
+
+def ticks(program: str):
+    """The sweeping member waits for its tick: the host doesn't end before it."""
+    begin = time.monotonic()
+    with Host(program, 1, 1, sweep=4) as host:
+        client = host.connect()
+        client.sendall(ASKS)
+        read_answer(client, UNKNOWN)
+        client.close()
+        host.end()
+        expect(time.monotonic() - begin > 3, "the host ended before its tick")
+
+
+def main() -> int:
+    program = os.path.abspath(sys.argv[1])
+    parts = [ticks, refusals, handles, time_limits]
+    for part in parts:
+        try:
+            part(program)
+        except (Wrong, OSError, subprocess.TimeoutExpired) as failure:
+            print("%s: %s" % (part.__name__, failure))
+            return 1
+    print("%d tries of serve over sockets, as wanted" % len(parts))
+    return 0
+
+
+if __name__ == "__main__":
+    sys.exit(main())
