@@ -14,6 +14,6 @@ mod tcp_port;
 mod ticker;
 
 pub use shared_listener::{ListenerEnd, Named, SharedListener};
-pub use socket::{SocketReader, SocketWriter, make_ready};
+pub use socket::{SocketReader, SocketSink, make_ready};
 pub use tcp_port::{AfterRefusal, TcpPort, after_refusal};
 pub use ticker::{CountTicker, SleepTicker, Ticker};

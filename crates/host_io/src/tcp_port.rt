@@ -3,8 +3,8 @@ ghost use Rattle.std.specs.Prelude.{◌≡◌, ◌≤◌};
 ghost use Rattle.rail_io.specs.Faults.{Rose};
 ghost use Rattle.host_io.specs.Tcp.{after_refusal as after_of, tcp_view, tcp_faults};
 
-use crate::socket::{SocketReader, SocketWriter, halves_of};
-use rail_io::{ReaderSource, WriterSink};
+use crate::socket::{SocketReader, SocketSink, halves_of};
+use rail_io::ReaderSource;
 use rail_service::{Accepted, Bound, Listener, Waiting};
 use std::alloc::Global;
 use std::net::{Ipv4Addr, Net, SocketAddr, TcpListener, TcpStream};
@@ -40,7 +40,7 @@ pub fn after_refusal(code: u32) -> AfterRefusal
 /// Listens on 127.0.0.1. Its streams send without delay. A read fails that waits for more than 5 seconds between two requests, or for more
 /// than 30 inside one, and a write that waits for more than 30.
 #[derive(Drop)]
-pub struct TcpPort<N: Net<Listener = TcpListener, Stream = TcpStream> + time::Clock + Drop> {
+pub struct TcpPort<N: Net<Listener = TcpListener, Stream = TcpStream> + time::Clock + Copy + Drop> {
     net: N,
     alloc: Global,
     listener: Option<TcpListener>,
@@ -51,9 +51,13 @@ pub struct TcpPort<N: Net<Listener = TcpListener, Stream = TcpStream> + time::Cl
 }
 
 // The next connection, made ready.
-fn accept_one(alloc: Global, listener: &TcpListener) -> io::Result<(SocketReader, SocketWriter)> {
+fn accept_one<C: time::Clock + Drop>(
+    clock: C,
+    alloc: Global,
+    listener: &TcpListener,
+) -> io::Result<(SocketReader<C>, SocketSink)> {
     let (stream, _) = listener.accept()?;
-    halves_of(alloc, stream)
+    halves_of(clock, alloc, stream)
 }
 
 // The number of the system's error, or 0 for one of our own.
@@ -64,7 +68,7 @@ fn code_of(error: io::Error) -> u32 {
     }
 }
 
-impl<N: Net<Listener = TcpListener, Stream = TcpStream> + time::Clock + Drop> TcpPort<N> {
+impl<N: Net<Listener = TcpListener, Stream = TcpStream> + time::Clock + Copy + Drop> TcpPort<N> {
     /// A listener at port 0 with limit 0 that has handed out nothing and hasn't failed.
     pub fn new(net: N, alloc: Global) -> Self
         ensures view { tcp_view result ≡ record { port = 0; limit = 0; handed = 0 } }
@@ -91,10 +95,10 @@ impl<N: Net<Listener = TcpListener, Stream = TcpStream> + time::Clock + Drop> Tc
     }
 
     // The next connection, for which it may wait, also until handles and memory are there again. None where the listener is gone.
-    fn next_stream(&self) -> Option<(SocketReader, SocketWriter)> {
+    fn next_stream(&self) -> Option<(SocketReader<N>, SocketSink)> {
         let listener = self.listener.as_ref()?;
         for _ in 0..u64::MAX {
-            let error = match accept_one(self.alloc, listener) {
+            let error = match accept_one(self.net, self.alloc, listener) {
                 Ok(halves) => return Some(halves),
                 Err(error) => error,
             };
@@ -110,11 +114,11 @@ impl<N: Net<Listener = TcpListener, Stream = TcpStream> + time::Clock + Drop> Tc
     }
 }
 
-impl<N: Net<Listener = TcpListener, Stream = TcpStream> + time::Clock + Drop> Listener
+impl<N: Net<Listener = TcpListener, Stream = TcpStream> + time::Clock + Copy + Drop> Listener
     for TcpPort<N> {
-    type Input = ReaderSource<SocketReader>;
+    type Input = ReaderSource<SocketReader<N>>;
 
-    type Output = WriterSink<SocketWriter>;
+    type Output = SocketSink;
 
     ghost told = { tcp_view };
 
@@ -134,14 +138,14 @@ impl<N: Net<Listener = TcpListener, Stream = TcpStream> + time::Clock + Drop> Li
         }
     }
 
-    fn accept(&mut self) -> Accepted<ReaderSource<SocketReader>, WriterSink<SocketWriter>> {
+    fn accept(&mut self) -> Accepted<ReaderSource<SocketReader<N>>, SocketSink> {
         if self.handed >= self.limit {
             return Accepted::Closed;
         }
         match self.next_stream() {
             Some((input, output)) => {
                 self.handed += 1;
-                Accepted::Stream(Waiting::of(ReaderSource::new(input), WriterSink::new(output)))
+                Accepted::Stream(Waiting::of(ReaderSource::new(input), output))
             }
             None => {
                 self.fail();
