@@ -1,21 +1,22 @@
 #!/usr/bin/env python3
-"""Searches trips on a dense catalogue, and reports the time of one search.
+"""Searches trips between random stations, and reports the mean, the median and the dearest of a thousand searches.
 
   bench/trips.py
 
-The catalogue has 200 runs of 10 stops over the same ten stations, a run a minute. One wish goes along the line, the other to a
-station that no run reaches later. The program searches each wish many times by `trips`; in the same run Python goes through the
-same connections of two trains, and nothing more, so the ratio says what the order, the third train and the proof cost.
+Each catalogue has runs of ten stops over stations that all runs share, drawn at random with a fixed seed. A search asks from a random
+second of the day to the end of the next. The program times each search by `trips` alone; read the figures against one another.
 """
 import datetime
 import pathlib
+import random
+import subprocess
 import tempfile
-import time
 
-from common import build, measured
+from common import build
 
 START = datetime.datetime(2026, 6, 1)
-RUNS, STOPS, TIMES = 200, 10, 20
+STOPS = 10
+SHAPES = [(50, 20), (400, 20), (400, 200), (4000, 20), (4000, 200), (4000, 2000)]
 
 PROGRAM = """#![tactic(auto)]
 
@@ -25,6 +26,7 @@ use rail_time::Moment;
 use std::alloc::Global;
 use std::fs;
 use std::io;
+use std::time::Instant;
 use trip_builder::{TripWish, trips};
 
 fn found(alloc: Global, cat: &Catalogue, wish: &TripWish) -> usize {
@@ -34,27 +36,43 @@ fn found(alloc: Global, cat: &Catalogue, wish: &TripWish) -> usize {
     }
 }
 
+fn next(seed: u64) -> u64 {
+    seed.wrapping_mul(6_364_136_223_846_793_005).wrapping_add(1_442_695_040_888_963_407)
+}
+
 fn main(rt: HostRuntime) -> io::Result<()> {
     let alloc = rt.alloc();
     let bytes = fs::read(&rt, "catalogue.json")?;
     let Some(day) = Moment::of(1_780_272_000) else {
         return Ok(());
     };
-    let wish = TripWish {
-        origin: StationNo(ORIGIN),
-        destination: StationNo(DESTINATION),
-        earliest: day,
-        latest: day.later(86_400),
-    };
     match read_catalogue(alloc, bytes.as_slice()) {
         Ok(cat) => {
-            let mut all = 0u64;
-            for _ in 0..TIMES {
-                all = all.saturating_add(found(alloc, &cat, &wish) as u64);
+            let stations = cat.runs().station_count();
+            if stations == 0 {
+                return Ok(());
             }
-            println!(rt; "{all}")
+            let mut seed = 7u64;
+            for _ in 0..1000 {
+                seed = next(seed);
+                let origin = ((seed >> 33) % u64::from(stations)) as u32;
+                seed = next(seed);
+                let destination = ((seed >> 33) % u64::from(stations)) as u32;
+                seed = next(seed);
+                let wish = TripWish {
+                    origin: StationNo(origin),
+                    destination: StationNo(destination),
+                    earliest: day.later(((seed >> 33) % 86_400) as u32),
+                    latest: day.later(172_800),
+                };
+                let start = Instant::now(&rt)?;
+                let count = found(alloc, &cat, &wish);
+                let took = start.elapsed(&rt)?;
+                println!(rt; "{} {} {} {}", took.as_nanos(), count, origin, destination)?;
+            }
+            Ok(())
         }
-        Err(fault) => println!(rt; "{fault:?}"),
+        Err(_) => println!(rt; "fault"),
     }
 }
 """
@@ -64,51 +82,41 @@ def moment(seconds):
     return (START + datetime.timedelta(seconds=seconds)).strftime("%Y-%m-%dT%H:%M:%SZ")
 
 
-def catalogue():
+def catalogue(count, stations):
+    draw = random.Random(5)
     runs = []
-    for run in range(RUNS):
-        stops = ",".join(
-            '{"station":"S%d","arrive":"%s","depart":"%s"}' % (n, moment(run * 60 + n * 600), moment(run * 60 + n * 600 + 60))
-            for n in range(STOPS)
-        )
+    for run in range(count):
+        at = draw.randrange(0, 86_400 - STOPS * 900)
+        stops = []
+        for station in draw.sample(range(stations), STOPS):
+            stops.append('{"station":"S%d","arrive":"%s","depart":"%s"}' % (station, moment(at), moment(at + 60)))
+            at += 60 + draw.randrange(300, 900)
         runs.append(
             '{"train":%d,"stops":[%s],"fares":{"first":{"base":1,"perLeg":1},"second":{"base":1,"perLeg":1}},'
-            '"coaches":[{"coach":1,"class":"SECOND","places":[{"first":1,"last":1}]}]}' % (run + 1, stops)
+            '"coaches":[{"coach":1,"class":"SECOND","places":[{"first":1,"last":1}]}]}' % (run + 1, ",".join(stops))
         )
-    codes = ",".join('{"code":"S%d"}' % n for n in range(STOPS))
+    codes = ",".join('{"code":"S%d"}' % n for n in range(stations))
     return (
         '{"currency":"EUR","retailers":[{"number":1,"key":"north"}],"stations":[%s],'
         '"refundSteps":[{"before":0,"fee":0}],"runs":[%s]}' % (codes, ",".join(runs))
     )
 
 
-def pairs(origin):
-    """The connections of two trains from the station, by a scan of all departures."""
-    count = 0
-    for first in range(RUNS):
-        for off in range(origin + 1, STOPS):
-            arrive = first * 60 + off * 600
-            for second in range(RUNS):
-                depart = second * 60 + off * 600 + 60
-                if second != first and arrive + 300 <= depart <= arrive + 14_400:
-                    count += STOPS - 1 - off
-    return count
-
-
 def main():
     with tempfile.TemporaryDirectory() as name:
         folder = pathlib.Path(name)
-        (folder / "catalogue.json").write_text(catalogue())
-        for label, origin, destination in [("along", 0, 9), ("unreachable", 1, 0)]:
-            source = PROGRAM.replace("ORIGIN", str(origin)).replace("DESTINATION", str(destination)).replace("TIMES", str(TIMES))
-            work = folder / label
-            work.mkdir()
-            program = build(work, "trip_search", "trip_builder rail_catalogue train_runs rail_ids rail_time", source)
-            seconds, memory, said = measured([str(program)], folder)
-            began = time.process_time()
-            count = pairs(origin)
-            plain = time.process_time() - began
-            print("%-12s %7.1f ms a search (%s trips in %d), %d MB; Python goes through %d connections in %.1f ms" % (label, seconds * 1000 / TIMES, said, TIMES, memory // 1_000_000, count, plain * 1000))
+        program = build(folder, "trip_search", "trip_builder rail_catalogue train_runs rail_ids rail_time", PROGRAM)
+        for runs, stations in SHAPES:
+            (folder / "catalogue.json").write_text(catalogue(runs, stations))
+            said = subprocess.run([str(program)], cwd=folder, capture_output=True, text=True, check=True).stdout
+            rows = [[int(word) for word in line.split()] for line in said.splitlines()]
+            took = sorted(row[0] / 1000 for row in rows)
+            found = sum(row[1] for row in rows) / len(rows)
+            dearest = max(rows)
+            print(
+                "%4d runs, %4d stations: %7.1f us a search, median %7.1f, dearest %8.1f (from S%d to S%d), %4.1f trips"
+                % (runs, stations, sum(took) / len(took), took[len(took) // 2], took[-1], dearest[2], dearest[3], found)
+            )
 
 
 main()

@@ -1,5 +1,5 @@
 -- The looks of segments and trips, one after the other.
-use Rattle.std.proofs.Common.{◌≡◌, ◌∙◌, ℕ, ◌+◌, ◌<◌, List, [], ◌∷◌, ◌++◌, length, take, drop, get_or, refl, sym, ap, subst, append_assoc, append-nil, take-append-drop, drop-cons, add-one}
+use Rattle.std.proofs.Common.{◌∙◌, ℕ, ◌+◌, ◌<◌, List, [], ◌∷◌, ◌++◌, length, take, drop, get_or, refl, sym, ap, subst, append_assoc, append-nil, take-append-drop}
 use Rattle.std.specs.Prelude.{Result, Ok, Err, OnErr}
 use Rattle.std.specs.List.{flat_map}
 use Rattle.std.proofs.lemmas.List.{take_more}
@@ -14,7 +14,7 @@ use Rattle.claim_rule.proofs.Shapes.{shape_then, shape_none}
 use Rattle.rail_catalogue.specs.Contents.{CatalogueView}
 use Rattle.availability.specs.Looks.{CountsFree}
 use Rattle.offer_engine.specs.declared.wish.OfferWish.{OfferWish}
-use Rattle.offer_engine.specs.Offers.{wanted_places, CountsSegments, BeginsCounts, IsOfferFor, OffersFor, BeginsOffers}
+use Rattle.offer_engine.specs.Offers.{wanted_places, CountsSegments, IsOfferFor, OffersFor, BeginsOffers}
 
 counts_append : (cat : CatalogueView) (w : OfferWish) (a b : List Segment) (fa fb : List ℕ) (ea eb : List Step) → CountsSegments cat w a fa ea → CountsSegments cat w b fb eb → CountsSegments cat w (a ++ b) (fa ++ fb) (ea ++ eb)
 counts_append cat w [] b [] fb ea eb x y = subst (CountsSegments cat w b fb) (sym (ap (λ (l : List Step). l ++ eb) x)) y
@@ -37,9 +37,6 @@ counted_next cat w old mid new segments i d free n h so did = (
       (counts_append cat w (take i segments) (get_or segments i d ∷ []) free (n ∷ []) so.0 did.0 so.1 (counts_one cat w (get_or segments i d) n did.0 did.1)),
   shape_then old mid new so.0 did.0 so.2 did.2,
 )
-
-pub begun_at : (cat : CatalogueView) (w : OfferWish) (old mid : DeskView) (segments : List Segment) (i : ℕ) (free : List ℕ) → ShapeBy (CountsSegments cat w (take i segments) free) old mid → ShapeBy (BeginsCounts cat w segments) old mid
-begun_at cat w old mid segments i free so = (so.0, (take i segments, drop i segments, free, sym (take-append-drop i segments), so.1), so.2)
 
 -- the segments of trips, one trip after the other
 abbrev all_of : List (List Segment) → List Segment
@@ -79,28 +76,6 @@ pub begun_whole : (cat : CatalogueView) (w : OfferWish) (now : ℕ) (old mid : D
 begun_whole cat w now old mid trips i made so =
     let counts = offers_counts cat w now (take i trips) made so.0 so.1 in
     (so.0, (all_of (take i trips), all_of (drop i trips), counts.0, ap all_of (sym (take-append-drop i trips)) ∙ flat_map-append (λ t. t) (take i trips) (drop i trips), counts.1), so.2)
-
-pub begun_within : (cat : CatalogueView) (w : OfferWish) (now : ℕ) (old mid new : DeskView) (trips : List (List Segment)) (i : ℕ) (d : List Segment) (made : List Offer) → i < length trips
-    → ShapeBy (OffersFor cat w now (take i trips) made) old mid → ShapeBy (BeginsCounts cat w (get_or trips i d)) mid new → ShapeBy (BeginsOffers cat w trips) old new
-begun_within cat w now old mid new trips i d made h so did =
-    let counts = offers_counts cat w now (take i trips) made so.0 so.1 in
-    let front = all_of (take i trips) in
-    let later = all_of (drop (i + 1) trips) in
-    let t = get_or trips i d in
-    let begun = did.1 in
-    let cut : drop i trips ≡ t ∷ drop (i + 1) trips = rw add-one (drop-cons trips i d h) in
-    let whole : all_of trips ≡ front ++ (t ++ later) = ap all_of (sym (take-append-drop i trips)) ∙ (flat_map-append (λ u. u) (take i trips) (drop i trips) ∙ ap (λ (l : List (List Segment)). front ++ all_of l) cut) in
-    let parted : t ++ later ≡ begun.0 ++ (begun.1 ++ later) = ap (λ (l : List Segment). l ++ later) begun.3 ∙ append_assoc begun.0 begun.1 later in (
-      so.0 ++ did.0,
-      (
-        front ++ begun.0,
-        begun.1 ++ later,
-        counts.0 ++ begun.2,
-        whole ∙ (ap (λ (l : List Segment). front ++ l) parted ∙ sym (append_assoc front begun.0 (begun.1 ++ later))),
-        counts_append cat w front begun.0 counts.0 begun.2 so.0 did.0 counts.1 begun.4,
-      ),
-      shape_then old mid new so.0 did.0 so.2 did.2,
-    )
 
 pub on_err : {T E P : Type 0} (r : Result T E) → P → OnErr r P
 on_err (Ok x) p = tt

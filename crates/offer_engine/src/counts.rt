@@ -1,66 +1,97 @@
-ghost use Rattle.std.specs.Prelude.{◌≡◌, ◌≤◌, ◌<◌, ◌+◌, ◌*◌, length, true, IfOk, OnErr, OnOk};
+ghost use Rattle.std.specs.Prelude.{◌≡◌, ◌≤◌, ◌<◌, ◌+◌, ◌*◌, length, true, All};
+ghost use Rattle.std.specs.List.{filter};
 ghost use Rattle.arrayvec.specs.ArrayVec.{array_vec_len};
 ghost use Rattle.claim_rule.specs.Seats.{IsOf};
 ghost use Rattle.claim_rule.specs.Calls.{ShapeBy};
 ghost use Rattle.claim_rule.specs.Out.{KeepsHolds, KeepsEndings, IsTidy};
+ghost use Rattle.place_map.specs.ByClass.{has_traits};
 ghost use Rattle.rail_catalogue.specs.Contents.{legs_in};
 ghost use Rattle.availability.specs.Looks.{CountsFree};
-ghost use Rattle.offer_engine.specs.Offers.{wanted_places, CountsSegments, BeginsCounts};
+ghost use Rattle.offer_engine.specs.Offers.{wanted_places, CountsSegments};
 
 use crate::wish::OfferWish;
 use arrayvec::ArrayVec;
 use availability::free_places;
 use claim_rule::{Books, Desk};
+use leg_masks::Span;
 use offer_codes::Segment;
+use place_map::Place;
 use rail_catalogue::Catalogue;
-use std::alloc::{AllocError, Global};
+use rail_ids::PlaceNo;
 
-/// How many of each segment's wanted places are free on it, by one look at each place.
+/// How many of each segment's wanted places are free on it, by one look at each place. Takes no memory.
 pub(crate) fn count_segments(
-    alloc: Global,
     cat: &Catalogue,
     books: &Books,
     desk: &mut Desk,
     wish: &OfferWish,
     segments: &[Segment],
-) -> Result<ArrayVec<u32, 3>, AllocError>
+) -> ArrayVec<u32, 3>
     requires own { IsOf books.now desk.old }
     requires legs { books.now.layout.legs ≡ legs_in cat.now }
     requires few { length segments.now ≤ 3 }
     ensures own { IsOf books.now desk.new }
-    ensures entries { IfOk result (λ v. ShapeBy (CountsSegments cat.now wish.now segments.now v.items) desk.old desk.new) }
-    ensures begun { OnErr result (ShapeBy (BeginsCounts cat.now wish.now segments.now) desk.old desk.new) }
+    ensures entries { ShapeBy (CountsSegments cat.now wish.now segments.now result.items) desk.old desk.new }
     ensures holds { KeepsHolds desk.old desk.new }
     ensures endings { KeepsEndings desk.old desk.new }
     ensures tidy { IsTidy desk.old → IsTidy desk.new }
 {
     let mut free = ArrayVec::new();
     for segment in segments {
-        free.push(count_segment(alloc, cat, books, desk, wish, segment)?);
+        free.push(count_segment(cat, books, desk, wish, segment));
     }
-    Ok(free)
+    free
 }
 
-// How many of the segment's wanted places are free on it. Where there is no memory, the desk has made no step.
+// How many of the segment's wanted places are free on it: of the class's places, where no trait is wanted.
 fn count_segment(
-    alloc: Global,
     cat: &Catalogue,
     books: &Books,
     desk: &mut Desk,
     wish: &OfferWish,
     segment: &Segment,
-) -> Result<u32, AllocError>
+) -> u32
     requires own { IsOf books.now desk.old }
     requires legs { books.now.layout.legs ≡ legs_in cat.now }
     ensures own { IsOf books.now desk.new }
-    ensures entries { IfOk result (λ n. ShapeBy (CountsFree (wanted_places cat.now wish.now segment.now) segment.now.span n) desk.old desk.new) }
-    ensures untouched { OnErr result (desk.new ≡ desk.old) }
+    ensures entries { ShapeBy (CountsFree (wanted_places cat.now wish.now segment.now) segment.now.span result) desk.old desk.new }
     ensures holds { KeepsHolds desk.old desk.new }
     ensures endings { KeepsEndings desk.old desk.new }
     ensures tidy { IsTidy desk.old → IsTidy desk.new }
 {
-    let places = cat.places();
-    prove!(places.count() <= 4_194_304);
-    let candidates = places.candidates(alloc, segment.run, wish.class, wish.wanted)?;
-    Ok(free_places(books, desk, candidates.as_slice(), segment.span))
+    let map = cat.places();
+    let places = map.all();
+    let numbers = map.class_places(segment.run, wish.class);
+    if wish.wanted == 0 {
+        return free_places(books, desk, numbers, segment.span);
+    }
+    count_with_traits(books, desk, places, numbers, wish.wanted, segment.span)
+}
+
+// How many of these places that have all wanted traits are free on the span.
+fn count_with_traits(
+    books: &Books,
+    desk: &mut Desk,
+    places: &[Place],
+    numbers: &[PlaceNo],
+    wanted: u8,
+    span: Span,
+) -> u32
+    requires own { IsOf books.now desk.old }
+    requires numbers { All (λ n. n.0 < length places.now) numbers.now }
+    requires legs { length places.now ≤ length books.now.layout.legs }
+    requires few { length numbers.now < 4_294_967_296 }
+    ensures own { IsOf books.now desk.new }
+    ensures entries { ShapeBy (CountsFree (filter (has_traits wanted places.now) numbers.now) span result) desk.old desk.new }
+    ensures holds { KeepsHolds desk.old desk.new }
+    ensures endings { KeepsEndings desk.old desk.new }
+    ensures tidy { IsTidy desk.old → IsTidy desk.new }
+{
+    let mut free = 0;
+    for number in numbers {
+        if places[number.0 as usize].traits & wanted == wanted {
+            free += free_places(books, desk, [*number].as_slice(), span);
+        }
+    }
+    free
 }

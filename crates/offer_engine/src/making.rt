@@ -5,7 +5,7 @@ ghost use Rattle.claim_rule.specs.Calls.{ShapeBy};
 ghost use Rattle.claim_rule.specs.Out.{KeepsHolds, KeepsEndings, IsTidy};
 ghost use Rattle.rail_catalogue.specs.Contents.{legs_in};
 ghost use Rattle.trip_builder.specs.Trips.{trips_of};
-ghost use Rattle.offer_engine.specs.Offers.{raised as raised_of, OffersFor, BeginsOffers, BeginsCounts, IsOfferFor};
+ghost use Rattle.offer_engine.specs.Offers.{raised as raised_of, OffersFor, BeginsOffers, IsOfferFor};
 
 use crate::counts::count_segments;
 use crate::prices::price_of_offer;
@@ -45,8 +45,7 @@ pub fn offers(
     let found = trips(alloc, cat.runs(), &raised(&wish.trip, now))?;
     let mut offers = Vec::new(alloc);
     for trip in &found {
-        let offer = offer_of(alloc, cat, books, desk, wish, trip, now)?;
-        offers.push(offer)?;
+        offers.push(offer_of(cat, books, desk, wish, trip, now))?;
     }
     Ok(offers)
 }
@@ -61,28 +60,26 @@ fn raised(trip: &TripWish, now: Moment) -> TripWish
     }
 }
 
-// The offer of a trip.
+// The offer of a trip. Takes no memory.
 fn offer_of(
-    alloc: Global,
     cat: &Catalogue,
     books: &Books,
     desk: &mut Desk,
     wish: &OfferWish,
     trip: &Trip,
     now: Moment,
-) -> Result<Offer, AllocError>
+) -> Offer
     requires own { IsOf books.now desk.old }
     requires legs { books.now.layout.legs ≡ legs_in cat.now }
     requires party { is_party wish.now.adults wish.now.children ≡ true }
     ensures own { IsOf books.now desk.new }
-    ensures entries { IfOk result (λ o. ShapeBy (IsOfferFor cat.now wish.now now trip.now o) desk.old desk.new) }
-    ensures begun { OnErr result (ShapeBy (BeginsCounts cat.now wish.now trip.now) desk.old desk.new) }
+    ensures entries { ShapeBy (IsOfferFor cat.now wish.now now trip.now result) desk.old desk.new }
     ensures holds { KeepsHolds desk.old desk.new }
     ensures endings { KeepsEndings desk.old desk.new }
     ensures tidy { IsTidy desk.old → IsTidy desk.new }
 {
     let segments = trip.segments();
-    let free = count_segments(alloc, cat, books, desk, wish, segments)?;
+    let free = count_segments(cat, books, desk, wish, segments);
     let code = OfferCode {
         made: now,
         adults: wish.adults,
@@ -92,5 +89,5 @@ fn offer_of(
         segments: trip.copied_segments(),
     };
     let price = price_of_offer(cat, &code);
-    Ok(Offer { code, price, free })
+    Offer { code, price, free }
 }

@@ -1,6 +1,7 @@
 //! Holding a place for each passenger at each segment of an offer.
 ghost use Rattle.std.specs.Prelude.{◌≡◌, ◌≤◌, ◌+◌, ◌*◌, ◌∷◌, [], true, length, IfSome, IfNone};
-ghost use Rattle.std.specs.List.{list_all};
+ghost use Rattle.std.specs.List.{list_all, AllByRecursion};
+ghost use Rattle.place_map.specs.Candidates.{candidates_of, IsOfRun, AreRising};
 ghost use Rattle.offer_codes.specs.Offers.{is_party, offer_view};
 ghost use Rattle.rail_catalogue.specs.Contents.{legs_in};
 ghost use Rattle.offer_engine.specs.Codes.{is_of_runs};
@@ -14,6 +15,7 @@ use claim_rule::{Desk, Hold};
 use hold_core::{Added, add_places};
 use offer_codes::{OfferCode, Segment};
 use osdm_texts::Problem;
+use rail_ids::PlaceNo;
 use shop::Shop;
 
 /// How the placing of an offer ended.
@@ -120,22 +122,45 @@ fn place_segment(
     ensures noted { HasNotedItems desk.new hold.new }
     ensures endings { KeepsEndings desk.old desk.new }
 {
-    let found = shop
-        .cat
-        .places()
-        .candidates(shop.alloc, segment.run, offer.class, offer.wanted);
-    let Ok(candidates) = found else {
-        return Placing::NoMemory;
-    };
+    let places = shop.cat.places();
+    if offer.wanted == 0 {
+        let all = places.class_places(segment.run, offer.class);
+        return place_among(shop, desk, hold, offer, segment, all);
+    }
+    match places.candidates(shop.alloc, segment.run, offer.class, offer.wanted) {
+        Ok(some) => place_among(shop, desk, hold, offer, segment, some.as_slice()),
+        Err(_) => Placing::NoMemory,
+    }
+}
+
+// Adds places for one segment to the hold, out of its candidates.
+fn place_among(
+    shop: &Shop<'_>,
+    desk: &mut Desk,
+    hold: &mut Hold,
+    offer: &OfferCode,
+    segment: Segment,
+    candidates: &[PlaceNo],
+) -> Placing
+    requires own { IsOf shop.now.books.now desk.old }
+    requires legs { shop.now.books.now.layout.legs ≡ legs_in shop.now.cat.now }
+    requires hold { IsHolding desk.old hold.old }
+    requires noted { HasNotedItems desk.old hold.old }
+    requires party { is_party offer.now.adults offer.now.children ≡ true }
+    requires run { is_of_runs shop.now.cat.now.runs segment ≡ true }
+    requires room { length hold.old.items + count_of (offer_view offer.now) ≤ most_items }
+    requires candidates { candidates.now ≡ candidates_of segment.run.0 offer.now.class offer.now.wanted shop.now.cat.now.places }
+    requires of_run { AllByRecursion (IsOfRun segment.run.0 shop.now.cat.now.places) candidates.now }
+    requires rising { AreRising 0 candidates.now }
+    ensures own { IsOf shop.now.books.now desk.new }
+    ensures row { hold.new.row ≡ hold.old.row }
+    ensures placed { PlacesAll shop.now.cat.now (offer_view offer.now) hold.old.row hold.old.items (segment ∷ []) result hold.new.items desk.old desk.new }
+    ensures hold { IsHolding desk.new hold.new }
+    ensures noted { HasNotedItems desk.new hold.new }
+    ensures endings { KeepsEndings desk.old desk.new }
+{
     let count = offer.adults + offer.children;
-    match add_places(
-        shop.books,
-        desk,
-        hold,
-        candidates.as_slice(),
-        segment.span,
-        count,
-    ) {
+    match add_places(shop.books, desk, hold, candidates, segment.span, count) {
         Added::All => Placing::Whole,
         Added::NoPlace { won: _ } => Placing::Short,
         Added::Contended { place: _ } => Placing::Contended,

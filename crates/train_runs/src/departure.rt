@@ -1,4 +1,4 @@
-ghost use Rattle.std.specs.Prelude.{◌≡◌, ◌<◌, ◌≤◌, ◌+◌, ◌*◌, [], length, insert, remove, All, OnErr, IfOk, IfErr};
+ghost use Rattle.std.specs.Prelude.{◌≡◌, ◌<◌, ◌≤◌, ◌+◌, ◌*◌, ◌^◌, [], length, insert, remove, All, OnErr, IfOk, IfErr};
 ghost use Rattle.std.specs.List.{AllPairs, AllWithin};
 ghost use Rattle.std.specs.List.Sorted.{IsPartitionPoint};
 ghost use Rattle.std.specs.Int.Digits.{digits_of};
@@ -71,20 +71,21 @@ impl Board {
         self.departures.remove(place);
     }
 
-    /// The departures from the one moment to the other, both included.
+    /// The departures from the one second to the other, both included.
     pub(crate) fn between<L: Ledger>(
         &self,
-        from: Moment,
-        to: Moment,
+        from: u64,
+        to: u64,
         steps: &mut Steps<L>,
     ) -> &[Departure]
         requires in_order { AllPairs IsBefore self.now }
+        requires end { to < 2 ^ 63 }
         ensures window { IsWindow from to self.now result.now }
         ensures cost { steps.new ≤ steps.old + 2 * length (digits_of 2 (length self.now)) }
     {
         let departures = self.departures.as_slice();
-        let rest = &departures[first_from(departures, from.seconds(), steps)..];
-        &rest[..first_from(rest, to.seconds() + 1, steps)]
+        let rest = &departures[first_from(departures, from, steps)..];
+        &rest[..first_from(rest, to + 1, steps)]
     }
 }
 

@@ -1,4 +1,4 @@
-ghost use Rattle.std.specs.Prelude.{◌≡◌, ◌<◌, ◌≤◌, ◌+◌, ◌-◌, ◌*◌, ◌++◌, [], ◌∷◌, List, ℕ, length, All, IfOk, IfErr, OnErr, OnOk, Ok, Err, Some, None, true, IfSome, option_map, slice_get, string_bytes};
+ghost use Rattle.std.specs.Prelude.{◌^◌, ◌≡◌, ◌<◌, ◌≤◌, ◌+◌, ◌-◌, ◌*◌, ◌++◌, [], ◌∷◌, List, ℕ, length, All, IfOk, IfErr, OnErr, OnOk, Ok, Err, Some, None, true, IfSome, option_map, slice_get, string_bytes};
 ghost use Rattle.std.specs.BTreeMap.{get_by_text};
 ghost use Rattle.train_runs.specs.declared.station.StationFault.TheVariants as station_fault;
 ghost use Rattle.train_runs.specs.declared.run.RunFault.TheVariants as run_fault;
@@ -199,6 +199,22 @@ impl Runs {
     ) -> &[Departure]
         ensures departures { AreDepartures self.now.runs station from to result.now }
         ensures cost { steps.new ≤ steps.old + (2 * length (digits_of 2 (departure_count station self.now.runs)) + 2) }
+    {
+        self.departures_within(station, from.seconds(), to.seconds(), steps)
+    }
+
+    /// The same, from and to these seconds since 1970-01-01T00:00:00Z: a window may end after the last moment there is.
+    pub fn departures_within<L: Ledger>(
+        &self,
+        station: StationNo,
+        from: u64,
+        to: u64,
+        steps: &mut Steps<L>,
+    ) -> &[Departure]
+        requires end { to < 2 ^ 63 }
+        ensures departures { AreDepartures self.now.runs station from to result.now }
+        ensures cost { steps.new ≤ steps.old + (2 * length (digits_of 2 (departure_count station self.now.runs)) + 2) }
+        ensures sound { All (IsRun (length self.now.stations)) self.now.runs }
     {
         match self.boards.get(station.0 as usize) {
             Some(board) => board.between(from, to, steps),

@@ -1,6 +1,10 @@
 pub mod Ordering
-pub mod Walking
-pub mod Pruning
 pub mod Rising
-pub mod Searching
-pub mod Finishing
+pub mod StrictOrder
+pub mod FirstSixteen
+pub mod Members
+pub mod AllLists
+pub mod Ways
+pub mod Deciding
+pub mod Boarding
+pub mod Leaving

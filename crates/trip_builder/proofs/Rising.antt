@@ -1,15 +1,13 @@
 -- Each segment of a run that may be served arrives after it departed.
-use Rattle.std.proofs.Common.{◌≡◌, ◌∙◌, ℕ, zero, suc, ◌+◌, ◌-◌, ◌<◌, ◌≤◌, Bool, true, false, List, [], ◌∷◌, ◌++◌, length, Some, None, refl, sym, ap, subst, arith, nat_lt, nat_le, get_or, drop, drop-cons, add-one, if◌then◌else◌, true≢false, ◌&&◌}
-use Rattle.std.specs.Prelude.{slice_get, ◌||◌}
+use Rattle.std.proofs.Common.{◌≡◌, ◌∙◌, ℕ, zero, suc, ◌+◌, ◌-◌, ◌<◌, ◌≤◌, Bool, true, false, List, [], length, Some, None, refl, sym, ap, subst, arith, nat_lt, nat_le, if◌then◌else◌, true≢false, ◌&&◌}
+use Rattle.std.specs.Prelude.{slice_get, slice_index_or, ◌||◌, All, Option}
 use Rattle.std.specs.Option.{option_map_or}
 use Rattle.std.proofs.lemmas.Bool.Decides.{nat_tests}
-use Rattle.std.proofs.Math.ListN.{drop_of_length-le}
-use Rattle.std.proofs.lemmas.Option.{slice_get-get_or}
-use Rattle.offer_codes.specs.declared.code.Segment.{Segment}
+use Rattle.std.proofs.lemmas.Option.{slice_get_within, get_or_from_slice_get}
 use Rattle.train_runs.specs.declared.run.Stop.{Stop}
-use Rattle.train_runs.specs.Stops.{RunView, stop_at, is_unrisen, least_from, first_unrisen}
+use Rattle.train_runs.specs.Stops.{RunView, IsRun, stop_at, is_unrisen, least_from, first_unrisen}
 use Rattle.train_runs.specs.Runs.{RunsView}
-use Rattle.trip_builder.specs.Segments.{segments_to, segments_from, segments_of, all_segments, stops_of}
+use Rattle.trip_builder.specs.Segments.{first_stop, last_stop, stops_of}
 use Rattle.trip_builder.specs.Search.{Rise}
 
 none_least : (p : ℕ → Bool) (j n k : ℕ) → least_from p j n ≡ None → j ≤ k → k < j + n → p k ≡ false
@@ -56,43 +54,19 @@ arrives_later stops from (suc d) e h =
     let goes : (stop_at stops (from + 1 + d)).depart < (stop_at stops (from + 1 + suc d)).arrive = subst (λ k. (stop_at stops (from + 1 + d)).depart < (stop_at stops k).arrive) onward next.1 in
     omega arith
 
-rise_append : (r : RunsView) (xs ys : List Segment) → Rise r xs → Rise r ys → Rise r (xs ++ ys)
-rise_append r [] ys a b = b
-rise_append r (x ∷ xs) ys a b = (a.0, rise_append r xs ys a.1 b)
-
-rise_to : (r : RunsView) (run from d n : ℕ) → first_unrisen (stops_of r run) ≡ None → from + 1 + d + n ≤ length (stops_of r run) → Rise r (segments_to run from (from + 1 + d) n)
-rise_to r run from d zero e h = tt
-rise_to r run from d (suc n) e h =
-    let same : from + 1 + suc d ≡ from + 1 + d + 1 = omega arith in
-    (arrives_later (stops_of r run) from d e (omega arith), subst (λ to. Rise r (segments_to run from to n)) same (rise_to r run from (suc d) n e (omega arith)))
-
-rise_from : (r : RunsView) (run from n : ℕ) → first_unrisen (stops_of r run) ≡ None → from + n ≤ length (stops_of r run) → Rise r (segments_from run from n)
-rise_from r run from zero e h = tt
-rise_from r run from (suc n) e h =
-    let same : from + 1 + 0 ≡ from + 1 = omega arith in
-    rise_append r (segments_to run from (from + 1) n) (segments_from run (from + 1) n)
-    (subst (λ to. Rise r (segments_to run from to n)) same (rise_to r run from 0 n e (omega arith)))
-    (rise_from r run (from + 1) n e (omega arith))
-
-pub run_rises : (r : RunsView) (run : ℕ) (it : RunView) → slice_get r.runs run ≡ Some it → first_unrisen it.stops ≡ None → Rise r (segments_from run 0 (length (stops_of r run)))
-run_rises r run it found e =
-    let got : stops_of r run ≡ it.stops = ap (λ o. option_map_or (λ (x : RunView). x.stops) o []) found in
-    rise_from r run 0 (length (stops_of r run)) (ap first_unrisen got ∙ e) (omega arith)
-
-no_run : RunView
-no_run = record { train = 0; stops = [] }
-
-rise_rest : (r : RunsView) (n number : ℕ) → number + n ≡ length r.runs → ((k : ℕ) → k < length r.runs → Rise r (segments_from k 0 (length (stops_of r k)))) → Rise r (segments_of number (drop number r.runs))
-rise_rest r zero number e each = let over : length r.runs ≤ number = omega arith in subst (λ runs. Rise r (segments_of number runs)) (sym (drop_of_length-le r.runs over)) tt
-rise_rest r (suc n) number e each =
-    let h : number < length r.runs = omega arith in
-    let it = get_or r.runs number no_run in
-    let got : stops_of r number ≡ it.stops = ap (λ o. option_map_or (λ (x : RunView). x.stops) o []) (slice_get-get_or r.runs number no_run h) in
-    let cut : drop number r.runs ≡ it ∷ drop (number + 1) r.runs = rw add-one (drop-cons r.runs number no_run h) in
-    subst (λ runs. Rise r (segments_of number runs)) (sym cut)
-    (rise_append r (segments_from number 0 (length it.stops)) (segments_of (number + 1) (drop (number + 1) r.runs))
-    (subst (λ stops. Rise r (segments_from number 0 (length stops))) got (each number h))
-    (rise_rest r n (number + 1) (omega arith) each))
-
-pub all_rise : (r : RunsView) → ((k : ℕ) → k < length r.runs → Rise r (segments_from k 0 (length (stops_of r k)))) → Rise r (all_segments r)
-all_rise r each = rise_rest r (length r.runs) 0 (omega arith) each
+pub all_rise : (r : RunsView) → All (IsRun (length r.stations)) r.runs → Rise r
+all_rise r each s known = by_run (slice_get r.runs s.run.0) refl
+  where
+    by_run : (o : Option RunView) → slice_get r.runs s.run.0 ≡ o → (first_stop r s).depart < (last_stop r s).arrive
+    by_run None e = absurd (let none : length (stops_of r s.run.0) ≡ 0 = ap (λ (o : Option RunView). length (option_map_or (λ (x : RunView). x.stops) o [])) e in omega (arith, none, known.ends))
+    by_run (Some it) e =
+        let stops : stops_of r s.run.0 ≡ it.stops = ap (λ (o : Option RunView). option_map_or (λ (x : RunView). x.stops) o []) e in
+        let within = slice_get_within r.runs s.run.0 it e in
+        let is : slice_index_or r.runs s.run.0 it ≡ it = get_or_from_slice_get r.runs s.run.0 it it e in
+        let sound : IsRun (length r.stations) it = subst (IsRun (length r.stations)) is (each s.run.0 it within) in
+        let gap = s.span.to - (s.span.from + 1) in
+        let to : s.span.from + 1 + gap ≡ s.span.to = let up = known.rises in omega (arith, up) in
+        let high : s.span.to < length it.stops = subst (λ (xs : List Stop). s.span.to < length xs) stops known.ends in
+        let up = arrives_later it.stops s.span.from gap sound.risen (omega (arith, to, high)) in
+        subst (λ (xs : List Stop). (stop_at xs s.span.from).depart < (stop_at xs s.span.to).arrive) (sym stops)
+        (subst (λ k. (stop_at it.stops s.span.from).depart < (stop_at it.stops k).arrive) to up)

@@ -2,3 +2,4 @@ pub mod Segments
 pub mod Order
 pub mod Trips
 pub mod Search
+pub mod Best

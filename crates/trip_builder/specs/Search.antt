@@ -1,49 +1,87 @@
--- How the trips are searched: only lists that may become a trip are tried, and only the best are kept.
-use Rattle.std.specs.Prelude.{◌<◌, ◌==◌, ◌&&◌, nat_le, length, ℕ, zero, suc, Bool, List, [], ◌∷◌, ◌++◌, take, if◌then◌else◌}
-use Rattle.std.specs.List.{filter, flat_map, list_all}
+-- How the trips are searched: from departure to departure, with the best sixteen so far.
+use Rattle.std.specs.Prelude.{◌≡◌, ◌<◌, ◌≤◌, ◌+◌, ◌==◌, ◌&&◌, ℕ, length, Bool, true, false, not, List, [], ◌∷◌, ◌++◌, take, slice_index_or, if◌then◌else◌}
+use Rattle.std.specs.List.{AllByRecursion, list_any}
 use Rattle.rail_ids.specs.declared.StationNo.{StationNo}
 use Rattle.offer_codes.specs.declared.code.Segment.{Segment}
+use Rattle.train_runs.specs.declared.run.Stop.{Stop}
+use Rattle.train_runs.specs.declared.departure.Departure.{Departure}
+use Rattle.train_runs.specs.Stops.{stop_at}
 use Rattle.train_runs.specs.Runs.{RunsView}
 use Rattle.trip_builder.specs.declared.trip.TripWish.{TripWish}
-use Rattle.trip_builder.specs.Segments.{all_segments, segments_from, first_stop, last_stop, last_of}
+use Rattle.trip_builder.specs.Segments.{stops_of, first_stop, last_stop, last_of}
 use Rattle.trip_builder.specs.Order.{sorted_in, last_arrival}
-use Rattle.trip_builder.specs.Trips.{leaves, connects, uses_run, arrives, most_trips}
+use Rattle.trip_builder.specs.Trips.{leaves, change_at, uses_run, sets_out, arrives, most_trips, longest_wait}
+use Rattle.trip_builder.specs.Best.{IsKnown, IsTrip, IsDecided, AreBest}
 
--- the segments that depart at the station within the window
-abbrev pub departing : RunsView → StationNo → ℕ → ℕ → List Segment
-departing r station from to = filter (λ s. leaves station from to (first_stop r s)) (all_segments r)
+-- a beginning of a trip, or nothing yet
+abbrev pub is_way : RunsView → TripWish → List Segment → Bool
+is_way r w [] = true
+is_way r w (s ∷ rest) = sets_out r w (s ∷ rest)
 
--- the same of one run, of the segments between n of its stops that begin with this one
-abbrev pub departing_from : RunsView → StationNo → ℕ → ℕ → ℕ → ℕ → ℕ → List Segment
-departing_from r station earliest latest run from n = filter (λ s. leaves station earliest latest (first_stop r s)) (segments_from run from n)
+pub record IsWay (r : RunsView) (w : TripWish) (way : List Segment) : Type 0 where
+  pub known : AllByRecursion (IsKnown r) way
+  pub so_far : is_way r w way ≡ true
 
--- the segment ends at the station; the segments that do
-abbrev pub ends_at : RunsView → StationNo → Segment → Bool
-ends_at r station s = (last_stop r s).station.0 == station.0
+-- a train may be taken at the stop after the way: as the first within the wish's window, later within that of the change
+abbrev pub leaves_after : RunsView → TripWish → List Segment → Stop → Bool
+leaves_after r w [] stop = leaves w.origin w.earliest w.latest stop
+leaves_after r w (s ∷ rest) stop =
+    let off = last_stop r (last_of (s ∷ rest)) in leaves off.station (off.arrive + change_at r off.station) (off.arrive + longest_wait) stop
 
-abbrev pub ending : RunsView → StationNo → List Segment
-ending r station = filter (ends_at r station) (all_segments r)
+-- one of the segments has the run
+abbrev pub has_run : List Segment → ℕ → Bool
+has_run way run = list_any (λ s. s.run.0 == run) way
 
-abbrev pub onward : RunsView → List Segment → List Segment
-onward r before = filter (connects r (last_stop r (last_of before))) (all_segments r)
+-- the segment goes on from the way
+abbrev pub goes_on : RunsView → TripWish → List Segment → Segment → Bool
+goes_on r w way s = leaves_after r w way (first_stop r s) && not (uses_run way s)
 
--- the list, and all that go on with up to n further segments, each reached from those before it
-abbrev pub routes : RunsView → ℕ → List Segment → List (List Segment)
-routes r zero before = before ∷ []
-routes r (suc n) before = before ∷ flat_map (λ s. if uses_run before s then [] else routes r n (before ++ s ∷ [])) (onward r before)
+-- the run may be taken from this stop: it goes on from the way
+pub record MayTake (r : RunsView) (w : TripWish) (way : List Segment) (d : Departure) : Type 0 where
+  pub further : d.stop + 1 < length (stops_of r d.run.0)
+  pub leaves : leaves_after r w way (stop_at (stops_of r d.run.0) d.stop) ≡ true
+  pub fresh : has_run way d.run.0 ≡ false
 
-abbrev pub routes_by : RunsView → ℕ → List Segment → Segment → List (List Segment)
-routes_by r n before s = if uses_run before s then [] else routes r n (before ++ s ∷ [])
+-- the run leaves that station within the window, from this stop at this moment, and goes on to another one
+pub record Leaves (r : RunsView) (station : StationNo) (from to : ℕ) (d : Departure) : Type 0 where
+  pub further : d.stop + 1 < length (stops_of r d.run.0)
+  pub window : leaves station from to (stop_at (stops_of r d.run.0) d.stop) ≡ true
+  pub moment : (stop_at (stops_of r d.run.0) d.stop).depart ≡ d.moment
 
--- the best sixteen, with one further try
+-- the run's stop is one of the departures
+pub record IsListed (ds : List Departure) (run stop : ℕ) : Type 0 where
+  pub place : ℕ
+  pub within : place < length ds
+  pub run_is : (none : Departure) → (slice_index_or ds place none).run.0 ≡ run
+  pub stop_is : (none : Departure) → (slice_index_or ds place none).stop ≡ stop
+
+-- all departures of the station within the window, the earlier ones first
+pub record AreLeaving (r : RunsView) (station : StationNo) (from to : ℕ) (ds : List Departure) : Type 0 where
+  pub each : (k : ℕ) (none : Departure) → k < length ds → Leaves r station from to (slice_index_or ds k none)
+  pub every : (run stop : ℕ) → stop + 1 < length (stops_of r run) → leaves station from to (stop_at (stops_of r run) stop) ≡ true → IsListed ds run stop
+  pub rise : (j k : ℕ) (none : Departure) → j ≤ k → k < length ds → (slice_index_or ds j none).moment ≤ (slice_index_or ds k none).moment
+
+-- each segment arrives after it departed
+abbrev pub Rise : RunsView → Type 0
+Rise r = (s : Segment) → IsKnown r s → (first_stop r s).depart < (last_stop r s).arrive
+
+-- the best sixteen with one more
 abbrev pub keep : RunsView → TripWish → List (List Segment) → List Segment → List (List Segment)
 keep r w best trip = if arrives r w trip then take most_trips (sorted_in r best trip) else best
 
--- the trips are sixteen, and none of them arrives later than the route: nothing that goes on from it comes among them
-abbrev pub is_behind : RunsView → List (List Segment) → List Segment → Bool
-is_behind r best route = length best == most_trips && list_all (λ trip. nat_le (last_arrival r trip) (last_arrival r route)) best
+-- the trips are sixteen, and all of them arrive by this moment: what arrives later doesn't come among them
+abbrev pub AllArriveBy : RunsView → List (List Segment) → ℕ → Type 0
+AllArriveBy r best moment = (length best ≡ most_trips) × AllByRecursion (λ t. last_arrival r t ≤ moment) best
 
--- each of the segments arrives after it departed
-abbrev pub Rise : RunsView → List Segment → Type 0
-Rise r [] = Unit {0}
-Rise r (s ∷ rest) = ((first_stop r s).depart < (last_stop r s).arrive) × Rise r rest
+-- the best trips after some more were tried
+pub record Grows (r : RunsView) (w : TripWish) (old new : List (List Segment)) : Type 0 where
+  pub best : AreBest r w new
+  pub stays : (t : List Segment) → IsDecided r old t → IsDecided r new t
+
+-- all trips that go on from the way with this segment and so many more are decided
+abbrev pub AreDecidedWith : RunsView → TripWish → List (List Segment) → List Segment → ℕ → Segment → Type 0
+AreDecidedWith r w best way more s = (rest : List Segment) → length rest ≡ more → IsTrip r w (way ++ s ∷ rest) → IsDecided r best (way ++ s ∷ rest)
+
+-- likewise with any segment
+abbrev pub AreDecided : RunsView → TripWish → List (List Segment) → List Segment → ℕ → Type 0
+AreDecided r w best way more = (s : Segment) → AreDecidedWith r w best way more s

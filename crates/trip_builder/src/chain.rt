@@ -1,8 +1,10 @@
 ghost use Rattle.std.specs.Prelude.{◌≡◌, ◌≤◌, length};
-ghost use Rattle.trip_builder.specs.Trips.{are_connected as are_connected_of, follows as follows_of, uses_run as uses_run_of};
+ghost use Rattle.trip_builder.specs.Trips.{are_connected as are_connected_of, follows as follows_of};
+ghost use Rattle.trip_builder.specs.Search.{has_run as has_run_of};
 
 use crate::departures::{admits, stop_of, window_after};
 use offer_codes::Segment;
+use rail_ids::RunNo;
 use train_runs::Runs;
 
 /// Whether each of the segments but the first is reached from those before it: at the station where the one before ended, from the
@@ -19,20 +21,20 @@ pub fn are_connected(runs: &Runs, segments: &[Segment]) -> bool
 }
 
 /// Whether the segment is reached from those before it.
-pub(crate) fn follows(runs: &Runs, before: &[Segment], next: &Segment) -> bool
+fn follows(runs: &Runs, before: &[Segment], next: &Segment) -> bool
     requires some { 1 ≤ length before.now }
     ensures { result ≡ follows_of runs.now before.now next.now }
 {
     let window = window_after(runs, before);
-    admits(window, &stop_of(runs, next.run, next.span.from())) && !uses_run(before, next)
+    admits(window, &stop_of(runs, next.run, next.span.from())) && !has_run(before, next.run)
 }
 
 /// Whether one of the segments has the run.
-pub(crate) fn uses_run(route: &[Segment], next: &Segment) -> bool
-    ensures { result ≡ uses_run_of route.now next.now }
+pub(crate) fn has_run(segments: &[Segment], run: RunNo) -> bool
+    ensures { result ≡ has_run_of segments.now run.0 }
 {
-    for segment in route {
-        if segment.run.0 == next.run.0 {
+    for segment in segments {
+        if segment.run.0 == run.0 {
             return true;
         }
     }

@@ -1,16 +1,18 @@
-ghost use Rattle.std.specs.Prelude.{◌≡◌, ◌<◌, ◌≤◌, ◌+◌, ◌-◌, ◌++◌, length, IfOk, OnOk};
-ghost use Rattle.std.specs.List.{filter};
+ghost use Rattle.std.specs.Prelude.{◌≡◌, ◌<◌, ◌≤◌, ◌+◌, ◌^◌, length};
+ghost use Rattle.train_runs.specs.declared.run.Stop.{Stop as StopView};
 ghost use Rattle.train_runs.specs.Stops.{stop_at, no_stop as nowhere};
-ghost use Rattle.trip_builder.specs.Segments.{stops_of, segments_to, segments_from, all_segments, first_stop, last_stop, last_of, first_of};
+ghost use Rattle.trip_builder.specs.Segments.{stops_of as stops_of_run, first_stop, last_stop, last_of, first_of};
 ghost use Rattle.trip_builder.specs.Trips.{leaves, change_at, longest_wait};
-ghost use Rattle.trip_builder.specs.Search.{departing, departing_from, ends_at, ending, Rise};
+ghost use Rattle.trip_builder.specs.Search.{AreLeaving, Rise, leaves_after};
 
-use leg_masks::Span;
+use crate::trip::TripWish;
 use offer_codes::Segment;
 use rail_ids::{RunNo, StationNo};
 use rail_time::Moment;
-use std::alloc::{AllocError, Global};
-use train_runs::{Runs, Stop};
+use std::marker::Brand;
+use std::sync::ledger::{Blank, Ledger};
+use step_count::Steps;
+use train_runs::{Departure, Runs, Stop};
 
 /// The longest wait between two trains, in seconds.
 const LONGEST_WAIT: u64 = 14_400;
@@ -23,12 +25,28 @@ pub(crate) struct Window {
     pub to: u64,
 }
 
+/// The window of the segments that go on from the way.
+pub(crate) fn window_of(runs: &Runs, wish: &TripWish, way: &[Segment]) -> Window
+    ensures window { (stop : StopView) → leaves result.station result.from result.to stop ≡ leaves_after runs.now wish.now way.now stop }
+    ensures end { result.to < 2 ^ 63 }
+{
+    if way.is_empty() {
+        return Window {
+            station: wish.origin,
+            from: wish.earliest.seconds(),
+            to: wish.latest.seconds(),
+        };
+    }
+    window_after(runs, way)
+}
+
 /// The window of the segments that are reached from the last of these.
 pub(crate) fn window_after(runs: &Runs, segments: &[Segment]) -> Window
     requires some { 1 ≤ length segments.now }
     ensures station { result.station ≡ (last_stop runs.now (last_of segments.now)).station }
     ensures from { let off = last_stop runs.now (last_of segments.now) in result.from ≡ off.arrive + change_at runs.now off.station }
     ensures to { let off = last_stop runs.now (last_of segments.now) in result.to ≡ off.arrive + longest_wait }
+    ensures end { result.to < 2 ^ 63 }
 {
     let off = last_stop_of(runs, segments);
     let arrive = off.arrive.seconds();
@@ -38,6 +56,28 @@ pub(crate) fn window_after(runs: &Runs, segments: &[Segment]) -> Window
         from: arrive + u64::from(change),
         to: arrive + LONGEST_WAIT,
     }
+}
+
+/// The departures within the window, the earlier ones first.
+pub(crate) fn leaving(runs: &Runs, window: Window) -> &[Departure]
+    requires end { window.to < 2 ^ 63 }
+    ensures leaving { AreLeaving runs.now window.station window.from window.to result.now }
+    ensures rise { Rise runs.now }
+{
+    leaving_from::<Brand>(runs, window, Blank::new(1))
+}
+
+// The steps are counted from nothing and let go.
+fn leaving_from<L: Ledger>(runs: &Runs, window: Window, blank: Blank) -> &[Departure]
+    requires name { blank.name ≡ L.name }
+    requires parts { blank.parts ≡ L.parts }
+    requires some { 0 < blank.parts }
+    requires end { window.to < 2 ^ 63 }
+    ensures leaving { AreLeaving runs.now window.station window.from window.to result.now }
+    ensures rise { Rise runs.now }
+{
+    let mut steps = Steps::<L>::start(blank);
+    runs.departures_within(window.station, window.from, window.to, &mut steps)
 }
 
 /// Where and when the last of the segments ends: at station 0 in 1970 where that is no stop of a known run.
@@ -60,14 +100,22 @@ pub fn first_stop_of(runs: &Runs, segments: &[Segment]) -> Stop
 
 /// The stop of this number of the run.
 pub(crate) fn stop_of(runs: &Runs, run: RunNo, number: u8) -> Stop
-    ensures { result ≡ stop_at (stops_of runs.now run.0) number }
+    ensures { result ≡ stop_at (stops_of_run runs.now run.0) number }
+{
+    match stops_of(runs, run).get(usize::from(number)) {
+        Some(stop) => *stop,
+        None => no_stop(),
+    }
+}
+
+/// The stops of the run: none where it isn't known.
+pub(crate) fn stops_of(runs: &Runs, run: RunNo) -> &[Stop]
+    ensures stops { result.now ≡ stops_of_run runs.now run.0 }
+    ensures few { length result.now ≤ 64 }
 {
     match runs.run(run) {
-        Some(it) => match it.stops().get(usize::from(number)) {
-            Some(stop) => *stop,
-            None => no_stop(),
-        },
-        None => no_stop(),
+        Some(it) => it.stops(),
+        None => &[],
     }
 }
 
@@ -84,124 +132,10 @@ fn no_stop() -> Stop
     }
 }
 
-/// The segments that depart within the window, in the order of their runs and stops.
-pub(crate) fn departures(
-    alloc: Global,
-    runs: &Runs,
-    window: Window,
-) -> Result<Vec<Segment>, AllocError>
-    ensures found { IfOk result (λ v. v.items ≡ departing runs.now window.station window.from window.to) }
-    ensures rise { OnOk result (Rise runs.now (all_segments runs.now)) }
-{
-    let mut found = Vec::new(alloc);
-    for number in 0..runs.count() {
-        push_departures(&mut found, runs, RunNo(number), window)?;
-    }
-    Ok(found)
-}
-
-// Appends the segments of the run that depart within the window.
-fn push_departures(
-    found: &mut Vec<Segment>,
-    runs: &Runs,
-    run: RunNo,
-    window: Window,
-) -> Result<(), AllocError>
-    ensures found { OnOk result (found.new.items ≡ found.old.items
-        ++ departing_from runs.now window.station window.from window.to run.0 0 (length (stops_of runs.now run.0))) }
-    ensures rise { Rise runs.now (segments_from run.0 0 (length (stops_of runs.now run.0))) }
-{
-    let Some(it) = runs.run(run) else {
-        return Ok(());
-    };
-    let stops = it.stops();
-    for (from, stop) in stops.iter().enumerate() {
-        if admits(window, stop) {
-            push_ends(found, run, from as u8, stops.len() as u8)?;
-        }
-    }
-    Ok(())
-}
-
 /// Whether the stop is left within the window.
 pub(crate) fn admits(window: Window, stop: &Stop) -> bool
     ensures { result ≡ leaves window.station window.from window.to stop.now }
 {
     let depart = stop.depart.seconds();
     stop.station.0 == window.station.0 && window.from <= depart && depart <= window.to
-}
-
-// Appends the segments of the run from this stop to each later one.
-fn push_ends(found: &mut Vec<Segment>, run: RunNo, from: u8, stops: u8) -> Result<(), AllocError>
-    requires one { from < stops }
-    requires most { stops ≤ 64 }
-    ensures { OnOk result (found.new.items ≡ found.old.items ++ segments_to run.0 from (from + 1) (stops - (from + 1))) }
-{
-    for to in from + 1..stops {
-        if let Some(span) = Span::new(from, to) {
-            found.push(Segment { run, span })?;
-        }
-    }
-    Ok(())
-}
-
-/// The segments that end at the station, in the order of their runs and stops.
-pub(crate) fn arrivals(
-    alloc: Global,
-    runs: &Runs,
-    station: StationNo,
-) -> Result<Vec<Segment>, AllocError>
-    ensures { IfOk result (λ v. v.items ≡ ending runs.now station) }
-{
-    let mut found = Vec::new(alloc);
-    for number in 0..runs.count() {
-        push_arrivals(&mut found, runs, RunNo(number), station)?;
-    }
-    Ok(found)
-}
-
-// Appends the segments of the run that end at the station.
-fn push_arrivals(
-    found: &mut Vec<Segment>,
-    runs: &Runs,
-    run: RunNo,
-    station: StationNo,
-) -> Result<(), AllocError>
-    ensures { OnOk result (found.new.items ≡ found.old.items
-        ++ filter (ends_at runs.now station) (segments_from run.0 0 (length (stops_of runs.now run.0)))) }
-{
-    let Some(it) = runs.run(run) else {
-        return Ok(());
-    };
-    let stops = it.stops();
-    for from in 0..stops.len() {
-        push_ends_at(found, runs, run, from as u8, stops, station)?;
-    }
-    Ok(())
-}
-
-// Appends the segments of the run from this stop to each later one at the station.
-fn push_ends_at(
-    found: &mut Vec<Segment>,
-    _runs: &Runs,
-    run: RunNo,
-    from: u8,
-    stops: &[Stop],
-    station: StationNo,
-) -> Result<(), AllocError>
-    requires one { from < length stops.now }
-    requires most { length stops.now ≤ 64 }
-    requires stops { stops.now ≡ stops_of _runs.now run.0 }
-    ensures { OnOk result (found.new.items ≡ found.old.items
-        ++ filter (ends_at _runs.now station) (segments_to run.0 from (from + 1) (length stops.now - (from + 1)))) }
-{
-    for to in from + 1..stops.len() as u8 {
-        let Some(span) = Span::new(from, to) else {
-            unreachable!()
-        };
-        if stops[usize::from(to)].station.0 == station.0 {
-            found.push(Segment { run, span })?;
-        }
-    }
-    Ok(())
 }

@@ -10,8 +10,6 @@ mod chain;
 mod departures;
 mod order;
 mod search;
-#[cfg(test)]
-mod tests;
 mod trip;
 
 pub use chain::are_connected;

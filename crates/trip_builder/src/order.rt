@@ -1,4 +1,4 @@
-ghost use Rattle.std.specs.Prelude.{◌≡◌, ◌≤◌, length};
+ghost use Rattle.std.specs.Prelude.{◌≡◌, ◌≤◌, true, false, length};
 ghost use Rattle.std.specs.List.{insert};
 ghost use Rattle.trip_builder.specs.Order.{last_arrival, first_departure, is_same as is_same_of, is_lower as is_lower_of, are_lower as are_lower_of, stands_before as stands_before_of, sorted_in};
 
@@ -71,4 +71,12 @@ fn is_lower(a: &Segment, b: &Segment) -> bool
         return a.span.from() < b.span.from();
     }
     a.span.to() < b.span.to()
+}
+
+/// Whether the two trips have the same segments.
+pub(crate) fn is_same_trip(a: &[Segment], b: &[Segment]) -> bool
+    ensures same { result ≡ true → a.now ≡ b.now }
+    ensures differs { result ≡ false → ¬ (a.now ≡ b.now) }
+{
+    !are_lower(a, b) && !are_lower(b, a)
 }

@@ -1,17 +1,18 @@
-ghost use Rattle.std.specs.Prelude.{◌≡◌, ◌≤◌, ◌-◌, ◌++◌, ◌∷◌, [], length, IfOk, OnOk};
-ghost use Rattle.std.specs.List.{fold, flat_map};
-ghost use Rattle.trip_builder.specs.Segments.{all_segments};
+ghost use Rattle.std.specs.Prelude.{◌≡◌, ◌≤◌, ◌<◌, ◌+◌, ◌++◌, ◌∷◌, [], ℕ, true, false, length, IfOk, OnOk};
+ghost use Rattle.trip_builder.specs.Segments.{segment};
 ghost use Rattle.trip_builder.specs.Trips.{trips_of};
-ghost use Rattle.trip_builder.specs.Search.{routes, routes_by, onward as onward_of, ending, keep as keep_of, is_behind as is_behind_of, Rise};
+ghost use Rattle.trip_builder.specs.Best.{AreBest, AreInOrder, IsAmong, IsTrip, IsDecided};
+ghost use Rattle.trip_builder.specs.Search.{IsWay, MayTake, Rise, Grows, AreDecided, AreDecidedWith, AllArriveBy, keep as keep_of};
 
-use crate::chain::{follows, uses_run};
-use crate::departures::{Window, arrivals, departures, last_stop_of, window_after};
-use crate::order::place_among;
+use crate::chain::has_run;
+use crate::departures::{last_stop_of, leaving, stops_of, window_of};
+use crate::order::{is_same_trip, place_among};
 use crate::trip::{Trip, TripWish};
 use arrayvec::ArrayVec;
+use leg_masks::Span;
 use offer_codes::Segment;
 use std::alloc::{AllocError, Global};
-use train_runs::Runs;
+use train_runs::{Departure, Runs};
 
 /// How many trips are answered at most.
 const MOST_TRIPS: usize = 16;
@@ -25,127 +26,181 @@ const MOST_SEGMENTS: usize = 3;
 /// A trip is one to three segments on different runs, from the origin to the destination. Each begins at the station where the
 /// one before ended, no earlier than the station's change time after it and no later than 14,400 seconds; the first departs
 /// from the wish's earliest to its latest moment, both included. A trip may pass through its origin and destination.
+///
+/// Trips with fewer segments are tried first: the best sixteen so far bound what is tried of the others.
 pub fn trips(alloc: Global, runs: &Runs, wish: &TripWish) -> Result<Vec<Trip>, AllocError>
     ensures { IfOk result (λ v. v.items ≡ trips_of runs.now wish.now) }
 {
     let mut best = Vec::new(alloc);
-    let window = Window {
-        station: wish.origin,
-        from: wish.earliest.seconds(),
-        to: wish.latest.seconds(),
-    };
-    let firsts = departures(alloc, runs, window)?;
-    let finals = arrivals(alloc, runs, wish.destination)?;
-    for first in &firsts {
-        let route = longer(&[], *first);
-        extend(
-            alloc,
-            runs,
-            wish,
-            finals.as_slice(),
-            route.as_slice(),
-            &mut best,
-        )?;
+    for changes in 0..MOST_SEGMENTS {
+        go_on(runs, wish, &[], changes, &mut best)?;
     }
     Ok(best)
 }
 
-// Tries the route, and all that go on from it.
-fn extend(
-    alloc: Global,
+// Tries all trips that go on from the way with one train and so many changes to others.
+#[cycle(search)]
+fn go_on(
     runs: &Runs,
     wish: &TripWish,
-    finals: &[Segment],
-    route: &[Segment],
+    way: &[Segment],
+    changes: usize,
     best: &mut Vec<Trip>,
 ) -> Result<(), AllocError>
-    requires some { 1 ≤ length route.now }
-    requires few { length route.now ≤ 2 }
-    requires finals { finals.now ≡ ending runs.now wish.now.destination }
-    requires rise { Rise runs.now (all_segments runs.now) }
-    ensures { OnOk result (best.new.items ≡ fold (keep_of runs.now wish.now) best.old.items (routes runs.now (3 - length route.now) route.now)) }
+    requires few { length way.now + changes ≤ 2 }
+    requires way { IsWay runs.now wish.now way.now }
+    requires best { AreBest runs.now wish.now best.old.items }
+    ensures grows { OnOk result (Grows runs.now wish.now best.old.items best.new.items) }
+    ensures decided { OnOk result (AreDecided runs.now wish.now best.new.items way.now changes) }
 {
-    keep(runs, wish, route, best)?;
-    if is_behind(runs, best.as_slice(), route) {
-        return Ok(());
-    }
-    if route.len() + 1 == MOST_SEGMENTS {
-        return finish(runs, wish, finals, route, best);
-    }
-    let onward = departures(alloc, runs, window_after(runs, route))?;
-    for next in &onward {
-        if !uses_run(route, next) {
-            let route = longer(route, *next);
-            extend(alloc, runs, wish, finals, route.as_slice(), best)?;
+    for departure in leaving(runs, window_of(runs, wish, way)) {
+        if is_behind(runs, best.as_slice(), departure.moment.seconds()) {
+            return Ok(());
+        }
+        if !has_run(way, departure.run) {
+            ride(runs, wish, way, departure, changes, best)?;
         }
     }
     Ok(())
 }
 
-// Tries what one last segment makes of the route.
-fn finish(
+// Tries those of them that take this train.
+#[cycle(search)]
+fn ride(
     runs: &Runs,
     wish: &TripWish,
-    finals: &[Segment],
-    route: &[Segment],
+    way: &[Segment],
+    departure: &Departure,
+    changes: usize,
     best: &mut Vec<Trip>,
 ) -> Result<(), AllocError>
-    requires some { 1 ≤ length route.now }
-    requires few { length route.now ≤ 2 }
-    requires finals { finals.now ≡ ending runs.now wish.now.destination }
-    ensures { OnOk result (best.new.items ≡ fold (keep_of runs.now wish.now) best.old.items (flat_map (routes_by runs.now 0 route.now) (onward_of runs.now route.now))) }
+    requires few { length way.now + changes ≤ 2 }
+    requires way { IsWay runs.now wish.now way.now }
+    requires best { AreBest runs.now wish.now best.old.items }
+    requires rise { Rise runs.now }
+    requires taken { MayTake runs.now wish.now way.now departure.now }
+    ensures grows { OnOk result (Grows runs.now wish.now best.old.items best.new.items) }
+    ensures decided { OnOk result ((to : ℕ) → AreDecidedWith runs.now wish.now best.new.items way.now changes (segment departure.now.run.0 departure.now.stop to)) }
 {
-    for last in finals {
-        if follows(runs, route, last) {
-            keep(runs, wish, longer(route, *last).as_slice(), best)?;
+    if changes == 0 {
+        return get_off(runs, wish, way, departure, best);
+    }
+    let stops = stops_of(runs, departure.run);
+    for to in departure.stop + 1..stops.len() as u8 {
+        let arrive = stops[usize::from(to)].arrive.seconds();
+        if !is_behind(runs, best.as_slice(), arrive) {
+            let way = longer(way, departure, to);
+            go_on(runs, wish, way.as_slice(), changes - 1, best)?;
         }
     }
     Ok(())
 }
 
-// Puts the route into its place among the best, where it ends at the destination.
+// Tries those that end with this train.
+fn get_off(
+    runs: &Runs,
+    wish: &TripWish,
+    way: &[Segment],
+    departure: &Departure,
+    best: &mut Vec<Trip>,
+) -> Result<(), AllocError>
+    requires few { length way.now ≤ 2 }
+    requires way { IsWay runs.now wish.now way.now }
+    requires best { AreBest runs.now wish.now best.old.items }
+    requires taken { MayTake runs.now wish.now way.now departure.now }
+    ensures grows { OnOk result (Grows runs.now wish.now best.old.items best.new.items) }
+    ensures decided { OnOk result ((to : ℕ) → AreDecidedWith runs.now wish.now best.new.items way.now 0 (segment departure.now.run.0 departure.now.stop to)) }
+{
+    let stops = stops_of(runs, departure.run);
+    for to in departure.stop + 1..stops.len() as u8 {
+        if stops[usize::from(to)].station.0 == wish.destination.0 {
+            keep(runs, wish, longer(way, departure, to).as_slice(), best)?;
+        }
+    }
+    Ok(())
+}
+
+// Puts the way into its place among the best, where it ends at the destination and isn't there yet.
 fn keep(
     runs: &Runs,
     wish: &TripWish,
-    route: &[Segment],
+    way: &[Segment],
     best: &mut Vec<Trip>,
 ) -> Result<(), AllocError>
-    requires some { 1 ≤ length route.now }
-    requires few { length route.now ≤ 3 }
-    ensures { OnOk result (best.new.items ≡ keep_of runs.now wish.now best.old.items route.now) }
+    requires some { 1 ≤ length way.now }
+    requires few { length way.now ≤ 3 }
+    requires way { IsWay runs.now wish.now way.now }
+    requires best { AreBest runs.now wish.now best.old.items }
+    ensures grows { OnOk result (Grows runs.now wish.now best.old.items best.new.items) }
+    ensures decided { OnOk result (IsTrip runs.now wish.now way.now → IsDecided runs.now best.new.items way.now) }
 {
-    if last_stop_of(runs, route).station.0 != wish.destination.0 {
+    if has_trip(best.as_slice(), way) {
         return Ok(());
     }
-    let at = place_among(runs, best.as_slice(), route);
-    best.insert(at, Trip::of(route))?;
+    put(runs, wish, way, best)?;
+    Ok(())
+}
+
+// Puts the way into its place among the best, where it ends at the destination.
+fn put(
+    runs: &Runs,
+    wish: &TripWish,
+    way: &[Segment],
+    best: &mut Vec<Trip>,
+) -> Result<(), AllocError>
+    requires some { 1 ≤ length way.now }
+    requires few { length way.now ≤ 3 }
+    ensures { OnOk result (best.new.items ≡ keep_of runs.now wish.now best.old.items way.now) }
+{
+    if last_stop_of(runs, way).station.0 != wish.destination.0 {
+        return Ok(());
+    }
+    let at = place_among(runs, best.as_slice(), way);
+    best.insert(at, Trip::of(way))?;
     best.truncate(MOST_TRIPS);
     Ok(())
 }
 
-// Whether nothing that goes on from the route comes among the best.
-fn is_behind(runs: &Runs, best: &[Trip], route: &[Segment]) -> bool
-    requires some { 1 ≤ length route.now }
-    ensures { result ≡ is_behind_of runs.now best.now route.now }
+// Whether the trip is among the best.
+fn has_trip(best: &[Trip], way: &[Segment]) -> bool
+    ensures found { result ≡ true → IsAmong best.now way.now }
+    ensures fresh { result ≡ false → ¬ IsAmong best.now way.now }
+{
+    for trip in best {
+        if is_same_trip(trip.segments(), way) {
+            return true;
+        }
+    }
+    false
+}
+
+// Whether what arrives after these seconds doesn't come among the best.
+fn is_behind(runs: &Runs, best: &[Trip], seconds: u64) -> bool
+    requires order { AreInOrder runs.now best.now }
+    ensures { result ≡ true → AllArriveBy runs.now best.now seconds }
 {
     if best.len() != MOST_TRIPS {
         return false;
     }
-    let arrive = last_stop_of(runs, route).arrive.seconds();
-    for trip in best {
-        if last_stop_of(runs, trip.segments()).arrive.seconds() > arrive {
-            return false;
-        }
-    }
-    true
+    let last = best[MOST_TRIPS - 1].segments();
+    last_stop_of(runs, last).arrive.seconds() <= seconds
 }
 
-fn longer(route: &[Segment], next: Segment) -> ArrayVec<Segment, 3>
-    requires few { length route.now ≤ 2 }
-    ensures { result.items ≡ route.now ++ next ∷ [] }
+// The way with the train from the departure to this stop.
+fn longer(way: &[Segment], departure: &Departure, to: u8) -> ArrayVec<Segment, 3>
+    requires few { length way.now ≤ 2 }
+    requires later { departure.now.stop < to }
+    requires stop { to < 64 }
+    ensures { result.items ≡ way.now ++ segment departure.now.run.0 departure.now.stop to ∷ [] }
 {
+    let Some(span) = Span::new(departure.stop, to) else {
+        unreachable!()
+    };
     let mut found = ArrayVec::new();
-    let _copied = found.try_extend_from_slice(route);
-    found.push(next);
+    let _copied = found.try_extend_from_slice(way);
+    found.push(Segment {
+        run: departure.run,
+        span,
+    });
     found
 }

@@ -1,7 +1,6 @@
 use Rattle.std.proofs.Common.{◌≡◌, ℕ, ◌++◌, subst, refl, false}
 use Rattle.rail_io.specs.Faults.{Rose}
-use Rattle.session_loop.proofs.WriteLemmas.{writes_two}
-use Rattle.host_notes.proofs.Written.{noted}
+use Rattle.host_notes.proofs.Written.{noted, writes_two}
 use Rattle.host_notes.proofs.noting.note_parts.Goals as goal
 
 pub returns : goal.returns

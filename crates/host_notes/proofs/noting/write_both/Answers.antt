@@ -1,4 +1,4 @@
-use Rattle.session_loop.proofs.WriteLemmas.{writes_two}
+use Rattle.host_notes.proofs.Written.{writes_two}
 use Rattle.host_notes.proofs.noting.write_both.Goals as goal
 
 pub returns-clause-writes : goal.returns-clause-writes

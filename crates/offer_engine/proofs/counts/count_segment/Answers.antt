@@ -1,20 +1,42 @@
-use Rattle.std.proofs.Common.{◌≡◌, ◌∙◌, ◌≤◌, length, ap, sym, arith}
-use Rattle.std.proofs.lemmas.List.{length-map}
-use Rattle.rail_catalogue.specs.Contents.{place_legs}
-use Rattle.offer_engine.proofs.Candidates.{candidates_below, candidates_few}
+use Rattle.std.proofs.Common.{◌≡◌, ◌∙◌, ◌<◌, List, length, ap, sym, subst, arith}
+use Rattle.std.specs.Prelude.{All}
+use Rattle.std.specs.List.{filter}
+use Rattle.rail_ids.specs.declared.PlaceNo.{PlaceNo}
+use Rattle.place_map.specs.declared.coach.Place.{Place}
+use Rattle.place_map.specs.ByClass.{has_traits}
+use Rattle.place_map.specs.Candidates.{candidates_of}
+use Rattle.place_map.proofs.Classes.{numbers_within, with_traits_is}
+use Rattle.claim_rule.specs.Calls.{ShapeBy}
+use Rattle.availability.specs.Looks.{CountsFree}
+use Rattle.offer_engine.proofs.Candidates.{candidates_few}
 use Rattle.offer_engine.proofs.counts.count_segment.Goals as goal
-
-pub free_places-requires-clause-places : goal.free_places-requires-clause-places
-free_places-requires-clause-places c =
-    let places = c.places-places.result.now in
-    let cat = c.args.cat.now in
-    let legs = c.args.books.now.layout.legs in
-    let count : length legs ≡ length places = ap length c.requires.legs ∙ (length-map cat.places (place_legs cat.runs) ∙ ap length (sym c.places-places.ensures.value)) in
-    let most : length places ≤ length legs = omega arith in
-    candidates_below c.as_slice.result.now c.args.segment.now.run.0 c.args.wish.now.wanted (length legs) c.args.wish.now.class places (c.as_slice.ensures.value ∙ c.in_ok-candidates.ensures.candidates) most
 
 pub free_places-requires-clause-few : goal.free_places-requires-clause-few
 free_places-requires-clause-few c =
-    let places = c.places-places.result.now in
-    let few = candidates_few c.as_slice.result.now c.args.segment.now.run.0 c.args.wish.now.wanted c.args.wish.now.class places (c.as_slice.ensures.value ∙ c.in_ok-candidates.ensures.candidates) in
-    omega arith
+    let few = candidates_few c.class_places-numbers.result.now c.args.segment.now.run.0 0 c.args.wish.now.class c.places-map.result.now c.class_places-numbers.ensures.untraited in
+    let most = c.all-places.ensures.most in
+    let same : length c.all-places.result.now ≡ length c.places-map.result.now = ap length c.all-places.ensures.places in
+    omega (arith, few, most, same)
+
+pub count_with_traits-requires-clause-few : goal.count_with_traits-requires-clause-few
+count_with_traits-requires-clause-few c =
+    let few = candidates_few c.class_places-numbers.result.now c.args.segment.now.run.0 0 c.args.wish.now.class c.places-map.result.now c.class_places-numbers.ensures.untraited in
+    let most = c.all-places.ensures.most in
+    let same : length c.all-places.result.now ≡ length c.places-map.result.now = ap length c.all-places.ensures.places in
+    omega (arith, few, most, same)
+
+pub count_with_traits-requires-clause-numbers : goal.count_with_traits-requires-clause-numbers
+count_with_traits-requires-clause-numbers c =
+    subst (λ (l : List Place). All (λ n. n.0 < length l) c.class_places-numbers.result.now) (sym c.all-places.ensures.places)
+    (numbers_within c.args.segment.now.run.0 c.places-map.result.now c.class_places-numbers.result.now c.class_places-numbers.ensures.of_run)
+
+pub returns-clause-entries : goal.returns-clause-entries
+returns-clause-entries c =
+    let run = c.args.segment.now.run.0 in
+    let w = c.args.wish.now in
+    let numbers = c.class_places-numbers.result.now in
+    let is : filter (has_traits w.wanted c.all-places.result.now) numbers ≡ candidates_of run w.class w.wanted c.args.cat.now.places =
+    ap (λ (l : List Place). filter (has_traits w.wanted l) numbers) c.all-places.ensures.places
+    ∙ (ap (filter (has_traits w.wanted c.places-map.result.now)) c.class_places-numbers.ensures.places
+    ∙ (with_traits_is run w.class w.wanted c.places-map.result.now ∙ ap (candidates_of run w.class w.wanted) c.places-map.ensures.value)) in
+    subst (λ (l : List PlaceNo). ShapeBy (CountsFree l c.args.segment.now.span c.count_with_traits.result) c.args.desk.now c.count_with_traits.new.desk) is c.count_with_traits.ensures.entries

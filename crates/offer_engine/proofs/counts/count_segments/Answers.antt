@@ -3,19 +3,9 @@ use Rattle.claim_rule.specs.Calls.{ShapeBy}
 use Rattle.availability.specs.Looks.{CountsFree}
 use Rattle.offer_codes.specs.declared.code.Segment.{Segment}
 use Rattle.claim_rule.proofs.Out.{holds_then, endings_then}
-use Rattle.offer_engine.specs.Offers.{wanted_places, CountsSegments, BeginsCounts}
-use Rattle.offer_engine.proofs.Counting.{counted_next, begun_at, on_err}
+use Rattle.offer_engine.specs.Offers.{wanted_places, CountsSegments}
+use Rattle.offer_engine.proofs.Counting.{counted_next}
 use Rattle.offer_engine.proofs.counts.count_segments.Goals as goal
-
-pub returns-in_err-count_segment-clause-begun : goal.returns-in_err-count_segment-clause-begun
-returns-in_err-count_segment-clause-begun c =
-    let i = c.loop-segment.invariant in
-    let cat = c.args.cat.now in
-    let w = c.args.wish.now in
-    let begun : ShapeBy (BeginsCounts cat w c.args.segments.now) c.args.desk.now c.count_segment.new.desk =
-    subst (ShapeBy (BeginsCounts cat w c.args.segments.now) c.args.desk.now) (sym c.in_err-count_segment.ensures.untouched)
-    (begun_at cat w c.args.desk.now c.loop-segment.desk c.args.segments.now c.loop-segment.segment-index c.loop-segment.free.items i.counted) in
-    on_err c.from_residual.result begun
 
 pub loop-segment-preserved : goal.loop-segment-preserved
 loop-segment-preserved c =
@@ -33,6 +23,6 @@ loop-segment-preserved c =
       tidy = λ is. did.ensures.tidy (i.tidy is);
       many = c.push.ensures.len ∙ ap (λ n. n + 1) i.many;
       counted = subst (λ (l : List ℕ). ShapeBy (CountsSegments cat w (take (c.loop-segment.segment-index + 1) c.args.segments.now) l) old new) (sym c.push.ensures.items)
-          (counted_next cat w old mid new c.args.segments.now c.loop-segment.segment-index c.segment-item.result c.loop-segment.free.items c.in_ok-count_segment.field-0 c.loop-segment-test.true i.counted
-          (subst (λ (s : Segment). ShapeBy (CountsFree (wanted_places cat w s) s.span c.in_ok-count_segment.field-0) mid new) c.segment-item.is c.in_ok-count_segment.ensures.entries));
+          (counted_next cat w old mid new c.args.segments.now c.loop-segment.segment-index c.segment-item.result c.loop-segment.free.items did.result c.loop-segment-test.true i.counted
+          (subst (λ (s : Segment). ShapeBy (CountsFree (wanted_places cat w s) s.span did.result) mid new) c.segment-item.is did.ensures.entries));
     }

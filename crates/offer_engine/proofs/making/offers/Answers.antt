@@ -5,8 +5,8 @@ use Rattle.offer_codes.specs.declared.code.Segment.{Segment}
 use Rattle.offer_codes.specs.declared.code.Offer.{Offer}
 use Rattle.train_runs.specs.Runs.{RunsView}
 use Rattle.trip_builder.specs.Trips.{trips_of}
-use Rattle.offer_engine.specs.Offers.{raised, BeginsCounts, IsOfferFor, OffersFor, BeginsOffers}
-use Rattle.offer_engine.proofs.Counting.{offers_none, offers_next, begun_none, begun_whole, begun_within, on_err}
+use Rattle.offer_engine.specs.Offers.{raised, IsOfferFor, OffersFor, BeginsOffers}
+use Rattle.offer_engine.proofs.Counting.{offers_none, offers_next, begun_none, begun_whole, on_err}
 use Rattle.offer_engine.proofs.making.offers.Goals as goal
 
 pub returns-in_err-found-clause-begun : goal.returns-in_err-found-clause-begun
@@ -41,30 +41,9 @@ loop-trip-preserved c =
       endings = endings_then old mid new i.endings did.ensures.endings;
       tidy = λ is. did.ensures.tidy (i.tidy is);
       made = subst (λ (l : List Offer). ShapeBy (OffersFor cat w now (take (c.loop-trip.trip-index + 1) ts) l) old new) (sym c.in_ok-push.ensures.items)
-          (offers_next cat w now old mid new ts c.loop-trip.trip-index c.trip-item.result c.loop-trip.offers.items c.in_ok-offer.offer c.loop-trip-test.true i.made
-          (subst (λ (t : List Segment). ShapeBy (IsOfferFor cat w now t c.in_ok-offer.offer) mid new) c.trip-item.is c.in_ok-offer.ensures.entries));
+          (offers_next cat w now old mid new ts c.loop-trip.trip-index c.trip-item.result c.loop-trip.offers.items c.offer_of.result c.loop-trip-test.true i.made
+          (subst (λ (t : List Segment). ShapeBy (IsOfferFor cat w now t c.offer_of.result) mid new) c.trip-item.is c.offer_of.ensures.entries));
     }
-
-pub returns-in_err-offer-clause-begun : goal.returns-in_err-offer-clause-begun
-returns-in_err-offer-clause-begun c =
-    let i = c.loop-trip.invariant in
-    let cat = c.args.cat.now in
-    let w = c.args.wish.now in
-    let now = c.args.now in
-    let old = c.args.desk.now in
-    let mid = c.loop-trip.desk in
-    let new = c.offer_of.new.desk in
-    let ts = c.deref-trip-items.result.now in
-    let whole : ts ≡ trips_of cat.runs (raised w.trip now) = c.deref-trip-items.ensures.value ∙ (c.in_ok-found.ensures ∙ (ap (λ (r : RunsView). trips_of r c.raised.result) c.runs.ensures.value ∙ ap (trips_of cat.runs) c.raised.ensures)) in
-    on_err c.from_residual-in_err-offer.result (subst (λ (l : List (List Segment)). ShapeBy (BeginsOffers cat w l) old new) whole
-    (begun_within cat w now old mid new ts c.loop-trip.trip-index c.trip-item.result c.loop-trip.offers.items c.loop-trip-test.true i.made
-    (subst (λ (t : List Segment). ShapeBy (BeginsCounts cat w t) mid new) c.trip-item.is c.in_err-offer.ensures.begun)))
-
-pub returns-in_err-offer-clause-holds : goal.returns-in_err-offer-clause-holds
-returns-in_err-offer-clause-holds c = holds_then c.args.desk.now c.loop-trip.desk c.offer_of.new.desk c.loop-trip.invariant.holds c.offer_of.ensures.holds
-
-pub returns-in_err-offer-clause-endings : goal.returns-in_err-offer-clause-endings
-returns-in_err-offer-clause-endings c = endings_then c.args.desk.now c.loop-trip.desk c.offer_of.new.desk c.loop-trip.invariant.endings c.offer_of.ensures.endings
 
 pub returns-in_err-push-clause-begun : goal.returns-in_err-push-clause-begun
 returns-in_err-push-clause-begun c =
@@ -78,9 +57,9 @@ returns-in_err-push-clause-begun c =
     let ts = c.deref-trip-items.result.now in
     let whole : ts ≡ trips_of cat.runs (raised w.trip now) = c.deref-trip-items.ensures.value ∙ (c.in_ok-found.ensures ∙ (ap (λ (r : RunsView). trips_of r c.raised.result) c.runs.ensures.value ∙ ap (trips_of cat.runs) c.raised.ensures)) in
     on_err c.from_residual-in_err-push.result (subst (λ (l : List (List Segment)). ShapeBy (BeginsOffers cat w l) old new) whole
-    (begun_whole cat w now old new ts (c.loop-trip.trip-index + 1) (c.loop-trip.offers.items ++ c.in_ok-offer.offer ∷ [])
-    (offers_next cat w now old mid new ts c.loop-trip.trip-index c.trip-item.result c.loop-trip.offers.items c.in_ok-offer.offer c.loop-trip-test.true i.made
-    (subst (λ (t : List Segment). ShapeBy (IsOfferFor cat w now t c.in_ok-offer.offer) mid new) c.trip-item.is c.in_ok-offer.ensures.entries))))
+    (begun_whole cat w now old new ts (c.loop-trip.trip-index + 1) (c.loop-trip.offers.items ++ c.offer_of.result ∷ [])
+    (offers_next cat w now old mid new ts c.loop-trip.trip-index c.trip-item.result c.loop-trip.offers.items c.offer_of.result c.loop-trip-test.true i.made
+    (subst (λ (t : List Segment). ShapeBy (IsOfferFor cat w now t c.offer_of.result) mid new) c.trip-item.is c.offer_of.ensures.entries))))
 
 pub returns-in_err-push-clause-holds : goal.returns-in_err-push-clause-holds
 returns-in_err-push-clause-holds c = holds_then c.args.desk.now c.loop-trip.desk c.offer_of.new.desk c.loop-trip.invariant.holds c.offer_of.ensures.holds

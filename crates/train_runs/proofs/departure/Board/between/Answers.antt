@@ -23,8 +23,8 @@ returns-clause-window g c =
     subst (λ (l : List Departure). IsWindow c.args.from c.args.to l (take c.first_from-2.result (take (length all - c.first_from.result) (drop c.first_from.result all)))) same
     (window_between all (take (length all - c.first_from.result) (drop c.first_from.result all)) c.args.from c.args.to c.first_from.result c.first_from-2.result
     (take_rest all c.first_from.result) c.first_from.ensures.within c.first_from-2.ensures.within
-    (subst (λ n. IsPartitionPoint (λ (d : Departure). d.moment < n) (λ (d : Departure). n ≤ d.moment) all c.first_from.result) c.seconds.ensures.value c.first_from.ensures.splits)
-    (subst (λ n. IsPartitionPoint (λ (d : Departure). d.moment < n + 1) (λ (d : Departure). n + 1 ≤ d.moment) (take (length all - c.first_from.result) (drop c.first_from.result all)) c.first_from-2.result) c.seconds-2.ensures.value c.first_from-2.ensures.splits))
+    c.first_from.ensures.splits
+    c.first_from-2.ensures.splits)
 
 pub returns-clause-cost : goal.returns-clause-cost
 returns-clause-cost g c =
