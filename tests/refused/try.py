@@ -1,8 +1,8 @@
 #!/usr/bin/env python3
 """Tries the programs beside this file, each as a crate over rail_service in a copy of the repository.
 
-A program that drops a stream which a listener handed out has to be refused, and just for that; so has one that takes the stream apart. The
-same program that serves it has to be built. No must-fail edit can say this, since such a program never reaches the prover: the compiler
+A program that drops a stream which a listener handed out, a hold or an ending has to be refused, and just for that; so has one that takes
+the stream apart. The same program that serves it has to be built. No must-fail edit can say this, since such a program never reaches the prover: the compiler
 refuses it, so a build without proofs (`rt try`) tells, and no crate below is proved once more. Ends with status 1 where one of them doesn't
 go so.
 """
@@ -16,7 +16,7 @@ HERE = pathlib.Path(__file__).resolve().parent
 ROOT = HERE.parent.parent
 # why a program is refused, by the first word of its name
 WHY = {"drops": "error[linear-value-let-go]", "takes": "error[private-field]"}
-LIBRARIES = "rail_service rail_io rail_catalogue claim_rule"
+LIBRARIES = "rail_service rail_io rail_catalogue booking_rows claim_rule"
 # `rt try` builds a library with its tests alone
 TEST = "\n#[test]\nfn is_built() {}\n"
 
