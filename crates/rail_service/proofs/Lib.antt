@@ -6,3 +6,4 @@ pub mod Connecting
 pub mod Alone
 pub mod Carried
 pub mod Going
+pub mod Sparing

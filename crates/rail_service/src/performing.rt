@@ -11,6 +11,7 @@ ghost use Rattle.service_rules.specs.Checks.{command_fault};
 ghost use Rattle.service_rules.specs.Answering.{Answers, BooksAllOrNone};
 ghost use Rattle.rail_service.specs.Bytes.{reply_bytes};
 ghost use Rattle.rail_service.specs.Commands.{SaysOf, CarriesOut, GoesOn, HasNoItem};
+ghost use Rattle.rail_service.specs.Sparing.{MakesFor};
 
 use crate::answering::answer_of;
 use crate::trading::{accept_exchange, accept_refund, quote_exchange};
@@ -57,6 +58,7 @@ pub fn perform(
     ensures goes_on { GoesOn desk.old desk.new }
     ensures answer { (reply : Reply) × Answers cat.now retailer.0 now command.now desk.old desk.new reply
         × BooksAllOrNone cat.now now command.now desk.old desk.new reply
+        × MakesFor desk.old desk.new reply
         × (answer_bytes result ≡ reply_bytes cat.now last reply) }
 {
     let shop = Shop { alloc, cat, books };

@@ -19,7 +19,7 @@ returns-in-Ok-clause-answers g c =
       answer = answer_by cat (view_of g.C.Clock.told c.args.self.now) (request_text c.args.intake.now.taken c.args.request.now) _ _ c.now-now.result did.0
           c.requires.ready.own.legal (reading_of _ _ _ c.now-now.ensures.first c.now-now.ensures.rest)
           (Ok (c.in-Ok.retailer, c.in-Ok.command), c.in-Ok.ensures.asks, (did.1, did.2))
-          (did.3 ∙ ap (λ (last : Bool). reply_bytes cat last did.0) c.requires.last)
+          (did.4 ∙ ap (λ (last : Bool). reply_bytes cat last did.0) c.requires.last)
           (c.first_after-self.ensures.value ∙ ap (λ (retailer : Option RetailerNo). first_after c.args.self.now.first retailer) c.retailer_of.ensures.value)
           c.perform.ensures.idle c.perform.ensures.no_item;
       tidy = c.perform.ensures.tidy;
