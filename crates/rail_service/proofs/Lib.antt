@@ -5,3 +5,5 @@ pub mod Replying
 pub mod Connecting
 pub mod Alone
 pub mod Carried
+pub mod Going
+pub mod Sparing

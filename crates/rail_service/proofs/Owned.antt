@@ -89,7 +89,7 @@ lists_own : (cat : CatalogueView) (s : Segment) (old new : DeskView) (reply : Re
 lists_own cat s old new reply legal (inl (free, did, told)) = own_by _ old new did
 lists_own cat s old new reply legal (inr (same, eq)) = own_same old new legal same
 
-decides_own : (ready : ReadyView) (row : ℕ) (items : List Item) (d : Detail) (old new : DeskView) (reply : Reply) → DecidesOrNot ready row items d old new reply → Own old new
+pub decides_own : (ready : ReadyView) (row : ℕ) (items : List Item) (d : Detail) (old new : DeskView) (reply : Reply) → DecidesOrNot ready row items d old new reply → Own old new
 decides_own ready row items d old new reply (inl (noted, notes, inl (made, difference, did, seals, is))) = own_then old noted new (_, notes) (own_by _ noted new did)
 decides_own ready row items d old new reply (inl (noted, notes, inr (shown, hold, lost, did, gave, is))) =
     own_then old noted new (_, notes) (own_then noted lost new (own_by _ noted lost did) (_, gave))

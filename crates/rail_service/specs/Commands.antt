@@ -1,7 +1,10 @@
 -- What is said of a command, by the desk's own entries.
-use Rattle.std.specs.Prelude.{◌≡◌, ℕ}
+use Rattle.std.specs.Prelude.{◌≡◌, ℕ, []}
+use mathlib.Core.List.{IsPrefix}
+use Rattle.history_model.specs.Allowed.{OnRow}
 use Rattle.rail_catalogue.specs.Contents.{CatalogueView}
-use Rattle.claim_rule.specs.Rule.{DeskView}
+use Rattle.claim_rule.specs.Rule.{DeskView, state_seen}
+use Rattle.claim_rule.specs.Out.{Makes}
 use Rattle.osdm_texts.specs.Answers.{Reply, Told, reply_told}
 use Rattle.osdm_json.specs.declared.command.Command.{Command}
 use Rattle.service_rules.specs.Performing.{Performs}
@@ -16,3 +19,14 @@ CarriesOut cat retailer now c old new said =
 abbrev pub SaysOf : CatalogueView → ℕ → ℕ → Command → DeskView → DeskView → Told → Type 0
 SaysOf cat retailer now c old new said =
     (reply : Reply) × Answers cat retailer now c old new reply × BooksAllOrNone cat now c old new reply × (said ≡ reply_told cat reply)
+
+-- what the desk had seen begins what it has seen, and it stays with its number and with the desks that it has parted and taken in
+pub record GoesOn (old new : DeskView) : Type 0 where
+  pub front : IsPrefix old.seen new.seen
+  pub number : new.number ≡ old.number
+  pub parted : new.made ≡ old.made
+  pub taken : new.taken ≡ old.taken
+
+-- the desk's row in the making, where it has one, has no item
+abbrev pub HasNoItem : DeskView → Type 0
+HasNoItem desk = (row : ℕ) → Makes desk row → OnRow (state_seen desk) row (λ b. b.items ≡ [])

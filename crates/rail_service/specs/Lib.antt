@@ -10,3 +10,4 @@ pub mod Responding
 pub mod Listeners
 pub mod Memory
 pub mod Commands
+pub mod Sparing

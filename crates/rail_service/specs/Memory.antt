@@ -2,7 +2,7 @@
 use Rattle.std.specs.Prelude.{◌≡◌, ℕ, List, [], ◌∷◌, map}
 use Rattle.rail_io.specs.declared.memory_source.BytesSource.{BytesSource}
 use Rattle.rail_io.specs.declared.memory_sink.VecSink.{VecSink}
-use Rattle.rail_io.specs.Memory.{source_left, sink_taken}
+use Rattle.rail_io.specs.Memory.{source_left, source_calls, source_faults, source_fails, sink_taken, sink_calls, sink_faults, sink_fails}
 use Rattle.rail_service.specs.declared.memory_listener.ListListener.{ListListener}
 use Rattle.rail_service.specs.declared.listener.Accepted.{Accepted}
 use Rattle.rail_service.specs.declared.listener.Accepted.TheVariants.{Stream, Failed, Closed}
@@ -26,8 +26,16 @@ list_calls l = l.calls
 abbrev pub list_fails : ListListener → List ℕ
 list_fails l = l.fails.items
 
--- a stream is the first of those to come, with a sink that has taken nothing; else they stay
+-- no read was made or has failed, and none is to fail; the same of writes
+abbrev pub IsNewSource : BytesSource → Type 0
+IsNewSource s = (source_calls s ≡ 0) × (source_faults s ≡ 0) × (source_fails s ≡ [])
+
+abbrev pub IsNewSink : VecSink → Type 0
+IsNewSink s = (sink_calls s ≡ 0) × (sink_faults s ≡ 0) × (sink_fails s ≡ [])
+
+-- a stream is the first of those to come, with a sink that has taken nothing, both as new; else they stay
 abbrev pub HandsOut : List (List ℕ) → List (List ℕ) → Accepted BytesSource VecSink → Type 0
-HandsOut old new (Stream waiting) = (old ≡ source_left waiting.input ∷ new) × (sink_taken waiting.output ≡ [])
+HandsOut old new (Stream waiting) =
+    (old ≡ source_left waiting.input ∷ new) × (sink_taken waiting.output ≡ []) × IsNewSource waiting.input × IsNewSink waiting.output
 HandsOut old new Failed = new ≡ old
 HandsOut old new Closed = new ≡ old

@@ -10,7 +10,8 @@ ghost use Rattle.osdm_json.specs.Readable.{IsReadable};
 ghost use Rattle.service_rules.specs.Checks.{command_fault};
 ghost use Rattle.service_rules.specs.Answering.{Answers, BooksAllOrNone};
 ghost use Rattle.rail_service.specs.Bytes.{reply_bytes};
-ghost use Rattle.rail_service.specs.Commands.{SaysOf, CarriesOut};
+ghost use Rattle.rail_service.specs.Commands.{SaysOf, CarriesOut, GoesOn, HasNoItem};
+ghost use Rattle.rail_service.specs.Sparing.{MakesFor};
 
 use crate::answering::answer_of;
 use crate::trading::{accept_exchange, accept_refund, quote_exchange};
@@ -53,8 +54,11 @@ pub fn perform(
     ensures own { IsOf books.now desk.new }
     ensures idle { IsIdle desk.new }
     ensures tidy { IsTidy desk.old → IsTidy desk.new }
+    ensures no_item { HasNoItem desk.new }
+    ensures goes_on { GoesOn desk.old desk.new }
     ensures answer { (reply : Reply) × Answers cat.now retailer.0 now command.now desk.old desk.new reply
         × BooksAllOrNone cat.now now command.now desk.old desk.new reply
+        × MakesFor desk.old desk.new reply
         × (answer_bytes result ≡ reply_bytes cat.now last reply) }
 {
     let shop = Shop { alloc, cat, books };

@@ -7,6 +7,7 @@ use Rattle.rail_service.specs.Bytes.{reply_bytes}
 use Rattle.rail_service.proofs.Telling.{of_problem}
 use Rattle.rail_service.specs.Serving.{first_after}
 use Rattle.rail_service.specs.Responding.{view_of}
+use Rattle.rail_service.proofs.Going.{no_item}
 use Rattle.rail_service.proofs.Replying.{reading_of, answer_by}
 use Rattle.rail_service.proofs.service.ServiceResponder.answer.Goals as goal
 
@@ -18,9 +19,9 @@ returns-in-Ok-clause-answers g c =
       answer = answer_by cat (view_of g.C.Clock.told c.args.self.now) (request_text c.args.intake.now.taken c.args.request.now) _ _ c.now-now.result did.0
           c.requires.ready.own.legal (reading_of _ _ _ c.now-now.ensures.first c.now-now.ensures.rest)
           (Ok (c.in-Ok.retailer, c.in-Ok.command), c.in-Ok.ensures.asks, (did.1, did.2))
-          (did.3 ∙ ap (λ (last : Bool). reply_bytes cat last did.0) c.requires.last)
+          (did.4 ∙ ap (λ (last : Bool). reply_bytes cat last did.0) c.requires.last)
           (c.first_after-self.ensures.value ∙ ap (λ (retailer : Option RetailerNo). first_after c.args.self.now.first retailer) c.retailer_of.ensures.value)
-          c.perform.ensures.idle;
+          c.perform.ensures.idle c.perform.ensures.no_item;
       tidy = c.perform.ensures.tidy;
       cat = refl;
       books = refl;
@@ -38,7 +39,7 @@ returns-in-Err-clause-answers g c =
           (Err c.in-Err.problem, c.in-Err.ensures.asks, (shape_none c.args.self.now.desk.now c.requires.ready.own.legal, refl))
           (c.problem_answer.ensures.bytes ∙ (of_problem cat c.args.last c.in-Err.problem ∙ ap (λ (last : Bool). reply_bytes cat last reply) c.requires.last))
           (c.first_after-self.ensures.value ∙ ap (λ (retailer : Option RetailerNo). first_after c.args.self.now.first retailer) c.retailer_of.ensures.value)
-          c.requires.ready.idle;
+          c.requires.ready.idle (no_item c.args.self.now.books.now c.args.self.now.desk.now c.requires.ready.own c.requires.ready.idle);
       tidy = λ tidy. tidy;
       cat = refl;
       books = refl;

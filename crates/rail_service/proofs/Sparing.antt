@@ -1,0 +1,339 @@
+-- A request that there was no memory for changes no booking's fate.
+use Rattle.std.proofs.Common.{◌≡◌, ◌∙◌, ℕ, suc, zero, ◌+◌, Bool, true, false, List, [], ◌∷◌, ◌++◌, length, Option, Some, None, Ok, Err, refl, sym, ap, subst, inl, inr}
+use Rattle.std.specs.Prelude.{Result}
+use Rattle.leg_masks.specs.Interval.{Interval, PlacedSpan as Item}
+use Rattle.rail_ids.specs.declared.PlaceNo.{PlaceNo}
+use Rattle.rail_ids.specs.declared.RetailerNo.{RetailerNo}
+use Rattle.history_model.specs.declared.entry.Step.{Step}
+use Rattle.history_model.specs.declared.entry.Step.TheVariants.{Look, Take, Give, Start, SawRow, Note, Seal, Turn, LostTurn, Close, Met}
+use Rattle.history_model.specs.History.{IsLegal}
+use Rattle.history_model.specs.Work.{NoStep}
+use Rattle.claim_rule.specs.Rule.{DeskView}
+use Rattle.claim_rule.specs.Calls.{Calls, ShapeBy}
+use Rattle.claim_rule.specs.Out.{is_look, AllLooks}
+use Rattle.claim_rule.proofs.Shapes.{shape_then, shape_none}
+use Rattle.booking_rows.specs.Starts.{Misses, misses_steps, StartsHold}
+use Rattle.booking_rows.specs.Views.{RowSeen, saw_row}
+use Rattle.booking_rows.proofs.ViewLemmas.{row_all_looks}
+use Rattle.booking_rows.specs.declared.notes.Detail.{Detail}
+use Rattle.hold_core.specs.declared.adds.Added.{Added}
+use Rattle.hold_core.specs.declared.tries.Outcome.{Outcome}
+use Rattle.hold_core.specs.declared.tries.Outcome.TheVariants as outcome
+use Rattle.hold_core.specs.Tries.{Try, looks_at, won_steps}
+use Rattle.hold_core.specs.Places.{won_by, tries_steps, gives_back}
+use Rattle.confirm_core.specs.declared.confirming.Confirmed.{Confirmed}
+use Rattle.confirm_core.specs.declared.confirming.Confirmed.TheVariants as confirmed
+use Rattle.confirm_core.specs.declared.fulfilling.Fulfilment.{Fulfilment}
+use Rattle.confirm_core.specs.declared.fulfilling.Fulfilment.TheVariants as fulfilled
+use Rattle.refund_core.specs.declared.releasing.Released.{Released}
+use Rattle.refund_core.specs.declared.releasing.Released.TheVariants as released
+use Rattle.refund_core.specs.declared.refunding.Refunded.{Refunded}
+use Rattle.refund_core.specs.declared.refunding.Refunded.TheVariants as refunded
+use Rattle.refund_core.specs.declared.quoting.Quoted.TheVariants as quoted
+use Rattle.exchange_core.specs.Ready.{ReadyView}
+use Rattle.exchange_core.specs.declared.quoting.QuotedExchange.TheVariants as quoted_exchange
+use Rattle.exchange_core.specs.declared.readying.Readied.{Readied}
+use Rattle.exchange_core.specs.declared.readying.Readied.TheVariants as readied
+use Rattle.offer_codes.specs.declared.code.Segment.{Segment}
+use Rattle.offer_codes.specs.declared.code.Offer.{Offer}
+use Rattle.offer_codes.specs.declared.code.RefundCode.{RefundCode}
+use Rattle.offer_codes.specs.Offers.{OfferView, offer_view}
+use Rattle.offer_codes.specs.Exchanges.{ExchangeView, exchange_view}
+use Rattle.offer_engine.specs.declared.wish.OfferWish.{OfferWish}
+use Rattle.offer_engine.specs.Offers.{CountsSegments, OffersFor}
+use Rattle.availability.specs.Looks.{LooksAt}
+use Rattle.http_wire.specs.Requests.{RequestText}
+use Rattle.rail_catalogue.specs.Contents.{CatalogueView}
+use Rattle.osdm_texts.specs.declared.problem.Problem.{Problem}
+use Rattle.osdm_texts.specs.declared.problem.Problem.TheVariants.{UnknownBooking, NoMemory, RowsFull, WrongState, OfferTooOld, QuoteWrong}
+use Rattle.osdm_texts.specs.Answers.{Reply, booking, created, exchanged, swept, problem}
+use Rattle.osdm_json.specs.declared.command.Command.{Command}
+use Rattle.osdm_json.specs.declared.command.Command.TheVariants as command
+use Rattle.booking_service.specs.Finding.{FindsBooking}
+use Rattle.booking_service.specs.Deciding.{Replying, OnBooking, shows, ConfirmsIt, confirm_reply, FulfilsIt, fulfil_reply, ReleasesIt, release_reply}
+use Rattle.reservation_service.specs.declared.holding.Placing.{Placing}
+use Rattle.reservation_service.specs.Holding.{AddsSegment, PlacesAll, HoldsPlaces, GivesUp}
+use Rattle.reservation_service.specs.Reserving.{reserved, FailsToHold, Reserves}
+use Rattle.search_service.specs.Searching.{SearchesOffers, ListsPlaces}
+use Rattle.trade_service.specs.Refunds.{QuotesIt, RefundsIt, refund_reply}
+use Rattle.trade_service.specs.Exchanges.{QuotesExchangeOfIt, DecidesOrNot, CarriesOut, ExchangesIt, ready_of}
+use Rattle.service_rules.specs.Checks.{command_fault}
+use Rattle.service_rules.specs.Performing.{Performs}
+use Rattle.service_rules.specs.Answering.{AnswersBy, Answers}
+use Rattle.rail_service.specs.Serving.{AnswersAsked, AnswersRequest}
+use Rattle.rail_service.specs.Sparing.{decides, MakesFor}
+use Rattle.rail_service.proofs.Owned.{Own, own_same, decides_own}
+
+-- steps that decide nothing
+
+abbrev Spares : DeskView → DeskView → Type 0
+Spares old new = ShapeBy (NoStep decides) old new
+
+append : (xs ys : List Step) → NoStep decides xs → NoStep decides ys → NoStep decides (xs ++ ys)
+append [] ys p q = q
+append (x ∷ xs) ys p q = (p.0, append xs ys p.1 q)
+
+spares_then : (a b c : DeskView) → Spares a b → Spares b c → Spares a c
+spares_then a b c p q = (p.0 ++ q.0, append p.0 q.0 p.1 q.1, shape_then a b c p.0 q.0 p.2 q.2)
+
+spares_same : (a b : DeskView) → IsLegal a.layout a.seen → b ≡ a → Spares a b
+spares_same a b legal e = subst (Spares a) (sym e) ([], tt, shape_none a legal)
+
+look : (st : Step) → is_look st ≡ true → decides st ≡ false
+look (Look place shown) is = refl
+look (SawRow row word value) is = refl
+look (LostTurn row wanted shown) is = refl
+look Met is = refl
+look (Take row place span) is = refl
+look (Give row item) is = refl
+look (Start row) is = refl
+look (Note row word value) is = refl
+look (Seal row phase) is = absurd (let no : false ≡ true = is in cc)
+look (Close row) is = absurd (let no : false ≡ true = is in cc)
+look (Turn row from to moment amount successor) is = absurd (let no : false ≡ true = is in cc)
+
+looks : (es : List Step) → AllLooks es → NoStep decides es
+looks [] all = tt
+looks (st ∷ es) all = (look st all.0, looks es all.1)
+
+saw : (row : ℕ) (v : RowSeen) (es : List Step) → es ≡ saw_row row v → NoStep decides es
+saw row v es is = subst (NoStep decides) (sym is) (looks (saw_row row v) (row_all_looks row v))
+
+found : (rows row retailer : ℕ) (v : RowSeen) (es : List Step) → FindsBooking rows row retailer (Some v) es → NoStep decides es
+found rows row retailer v es (here, mine, (seen, is)) = saw row v es is
+
+-- the parts of a booking
+
+misses : (ms : Misses) → NoStep decides (misses_steps ms)
+misses [] = tt
+misses ((row, word) ∷ rest) = (refl, misses rest)
+
+starts : (old mid : DeskView) (row : ℕ) (es : List Step) → StartsHold old mid (Some row) es → NoStep decides es
+starts old mid row es (inl (makes, is)) = subst (NoStep decides) (sym is) tt
+starts old mid row es (inr (none, least, found)) =
+    subst (NoStep decides) (sym found.2) (append (misses_steps found.0) (Start row ∷ []) (misses found.0) (refl, tt))
+
+looked : (place : ℕ) (shown : List ℕ) → NoStep decides (looks_at place shown)
+looked place [] = tt
+looked place (word ∷ rest) = (refl, looked place rest)
+
+won : (row k place : ℕ) (span : Interval) (o : Outcome) → NoStep decides (won_steps row k place span o)
+won row k place span outcome.Won = (refl, (refl, tt))
+won row k place span outcome.Refused = tt
+won row k place span outcome.Contended = tt
+
+tries : (row k : ℕ) (span : Interval) (ts : List Try) → NoStep decides (tries_steps row k span ts)
+tries row k span [] = tt
+tries row k span (t ∷ ts) =
+    append (looks_at t.place t.shown ++ won_steps row k t.place span t.outcome) (tries_steps row (k + length (won_by span t)) span ts)
+    (append (looks_at t.place t.shown) (won_steps row k t.place span t.outcome) (looked t.place t.shown) (won row k t.place span t.outcome))
+    (tries row (k + length (won_by span t)) span ts)
+
+gives : (row n : ℕ) → NoStep decides (gives_back row n)
+gives row zero = tt
+gives row (suc n) = (refl, gives row n)
+
+adds : (cat : CatalogueView) (o : OfferView) (row : ℕ) (items more : List Item) (s : Segment) (answer : Added) (old new : DeskView)
+    → AddsSegment cat o row items s answer more old new → Spares old new
+adds cat o row items more s answer old new did =
+    (did.0, subst (NoStep decides) (sym did.1.steps) (tries row (length items) s.span did.1.tries), did.2)
+
+places : (cat : CatalogueView) (o : OfferView) (row : ℕ) (items : List Item) (segments : List Segment) (p : Placing) (all : List Item) (old new : DeskView)
+    → IsLegal old.layout old.seen → PlacesAll cat o row items segments p all old new → Spares old new
+places cat o row items [] p all old new legal is = spares_same old new legal is.2
+places cat o row items (s ∷ rest) p all old new legal (inl (answer, more, mid, did, inl go)) =
+    spares_then old mid new (adds cat o row items more s answer old mid did) (places cat o row (items ++ more) rest p all mid new did.2.legal go.1)
+places cat o row items (s ∷ rest) p all old new legal (inl (answer, more, mid, did, inr stop)) =
+    spares_then old mid new (adds cat o row items more s answer old mid did) (spares_same mid new did.2.legal stop.2)
+places cat o row items (s ∷ rest) p all old new legal (inr none) = spares_same old new legal none.2
+
+holds : (cat : CatalogueView) (o : OfferView) (segments : List Segment) (row : ℕ) (p : Placing) (items : List Item) (old new : DeskView)
+    → HoldsPlaces cat o segments row p items old new → Spares old new
+holds cat o segments row p items old new (mid, started, placed) =
+    spares_then old mid new (started.0, starts old mid row started.0 started.1, started.2)
+    (places cat o row [] segments p items mid new started.2.legal placed)
+
+gave : (row : ℕ) (items : List Item) (old new : DeskView) → GivesUp row items old new → Spares old new
+gave row items old new did = (gives_back row (length items), gives row (length items), did)
+
+-- the looks of searches
+
+counts : (ps : List PlaceNo) (span : Interval) (states : List Bool) (es : List Step) → LooksAt ps span states es → NoStep decides es
+counts [] span [] es is = subst (NoStep decides) (sym is) tt
+counts (p ∷ ps) span (free ∷ states) es (word, rest, so, more, is) = subst (NoStep decides) (sym is) (refl, counts ps span states rest more)
+counts [] span (free ∷ states) es is = absurd is
+counts (p ∷ ps) span [] es is = absurd is
+
+segments_count : (cat : CatalogueView) (w : OfferWish) (ss : List Segment) (free : List ℕ) (es : List Step) → CountsSegments cat w ss free es → NoStep decides es
+segments_count cat w [] [] es is = subst (NoStep decides) (sym is) tt
+segments_count cat w (s ∷ ss) (n ∷ free) es (first, more, did, rest, is) =
+    subst (NoStep decides) (sym is) (append first more (counts _ s.span did.0 first did.1) (segments_count cat w ss free more rest))
+segments_count cat w [] (n ∷ free) es is = absurd is
+segments_count cat w (s ∷ ss) [] es is = absurd is
+
+offers_count : (cat : CatalogueView) (w : OfferWish) (now : ℕ) (trips : List (List Segment)) (offers : List Offer) (es : List Step) → OffersFor cat w now trips offers es → NoStep decides es
+offers_count cat w now [] [] es is = subst (NoStep decides) (sym is) tt
+offers_count cat w now (t ∷ trips) (o ∷ offers) es (first, more, did, rest, is) =
+    subst (NoStep decides) (sym is) (append first more (segments_count cat w t o.free.items first did.2) (offers_count cat w now trips offers more rest))
+offers_count cat w now [] (o ∷ offers) es is = absurd is
+offers_count cat w now (t ∷ trips) [] es is = absurd is
+
+-- a reply is that there is no memory, and nothing was decided, or it is another
+
+abbrev is_500 : Reply → Bool
+is_500 (problem NoMemory) = true
+is_500 _ = false
+
+spared : (old new : DeskView) (reply : Reply) → Spares old new → MakesFor old new reply
+spared old new reply did = (did.0, did.2, λ e. did.1)
+
+other : (old new : DeskView) (reply is : Reply) → Own old new → reply ≡ is → is_500 is ≡ false → MakesFor old new reply
+other old new reply is own e differs =
+    (own.0, own.1, λ none. absurd (let wrong : false ≡ true = sym differs ∙ ap is_500 (sym e ∙ none) in cc))
+
+makes_then : (a b c : DeskView) (reply : Reply) → Spares a b → MakesFor b c reply → MakesFor a c reply
+makes_then a b c reply p q = (p.0 ++ q.0, shape_then a b c p.0 q.0 p.2 q.1, λ none. append p.0 q.0 p.1 (q.2 none))
+
+-- the commands
+
+searches : (cat : CatalogueView) (wish : OfferWish) (now : ℕ) (old new : DeskView) (reply : Reply) → SearchesOffers cat wish now old new reply → MakesFor old new reply
+searches cat wish now old new reply (inl (offers, did, told)) = spared old new reply (did.0, offers_count cat wish now _ offers did.0 did.1, did.2)
+searches cat wish now old new reply (inr (did, eq)) =
+    let (front, rest, free, is, so) = did.1 in
+    spared old new reply (did.0, segments_count cat wish front free did.0 so, did.2)
+
+lists : (cat : CatalogueView) (s : Segment) (old new : DeskView) (reply : Reply) → IsLegal old.layout old.seen → ListsPlaces cat s old new reply → MakesFor old new reply
+lists cat s old new reply legal (inl (free, did, told)) = spared old new reply (did.0, counts _ s.span free did.0 did.1, did.2)
+lists cat s old new reply legal (inr (same, eq)) = spared old new reply (spares_same old new legal same)
+
+fails : (cat : CatalogueView) (o : OfferView) (old new : DeskView) (reply : Reply) → FailsToHold cat o old new reply → MakesFor old new reply
+fails cat o old new reply (inl (none, eq)) = other old new reply (problem RowsFull) (none.0, none.2) eq refl
+fails cat o old new reply (inr (row, p, reason, items, mid, held, why, back, eq)) =
+    spared old new reply (spares_then old mid new (holds cat o o.segments row p items old mid held) (gave row items mid new back))
+
+reserves : (cat : CatalogueView) (retailer now : ℕ) (o : OfferView) (old new : DeskView) (reply : Reply) → Reserves cat retailer now o old new reply → MakesFor old new reply
+reserves cat retailer now o old new reply (inl (row, items, mid, held, seals, eq)) =
+    makes_then old mid new reply (holds cat o o.segments row _ items old mid held) (other mid new reply _ (_, seals) eq refl)
+reserves cat retailer now o old new reply (inr (inl short)) = fails cat o old new reply short
+reserves cat retailer now o old new reply (inr (inr ((row, items, mid, held, back), eq))) =
+    spared old new reply (spares_then old mid new (holds cat o o.segments row _ items old mid held) (gave row items mid new back))
+
+module _ (Does : RowSeen → Replying) (does : (v : RowSeen) (old new : DeskView) (reply : Reply) → IsLegal old.layout old.seen → Does v old new reply → MakesFor old new reply) where
+  on_booking : (rows row retailer : ℕ) (old new : DeskView) (reply : Reply) → OnBooking rows row retailer Does old new reply → MakesFor old new reply
+  on_booking rows row retailer old new reply (inl (none, eq)) = other old new reply (problem UnknownBooking) (none.0, none.2) eq refl
+  on_booking rows row retailer old new reply (inr (v, mid, sees, inl did)) =
+      makes_then old mid new reply (sees.0, found rows row retailer v sees.0 sees.1, sees.2) (does v mid new reply sees.2.legal did)
+  on_booking rows row retailer old new reply (inr (v, mid, sees, inr (same, eq))) =
+      spared old new reply (spares_then old mid new (sees.0, found rows row retailer v sees.0 sees.1, sees.2) (spares_same mid new sees.2.legal same))
+
+confirm_told : (row now : ℕ) (v : RowSeen) (a : Confirmed) → is_500 (confirm_reply row now v a) ≡ false
+confirm_told row now v confirmed.Done = refl
+confirm_told row now v confirmed.Unknown = refl
+confirm_told row now v (confirmed.TooLate limit) = refl
+confirm_told row now v (confirmed.WrongState shown) = refl
+
+fulfil_told : (row : ℕ) (v : RowSeen) (a : Fulfilment) → is_500 (fulfil_reply row v a) ≡ false
+fulfil_told row v fulfilled.Done = refl
+fulfil_told row v fulfilled.Unknown = refl
+fulfil_told row v (fulfilled.WrongState shown) = refl
+
+release_told : (row now : ℕ) (v : RowSeen) (a : Released) → is_500 (release_reply row now v a) ≡ false
+release_told row now v released.Done = refl
+release_told row now v released.Unknown = refl
+release_told row now v (released.WrongState shown) = refl
+
+refund_told : (code : RefundCode) (now : ℕ) (v : RowSeen) (a : Refunded) → is_500 (refund_reply code now v a) ≡ false
+refund_told code now v (refunded.Done amount) = refl
+refund_told code now v refunded.Unknown = refl
+refund_told code now v (refunded.WrongState shown) = refl
+refund_told code now v (refunded.QuoteStale made at) = refl
+refund_told code now v refunded.QuoteWrong = refl
+
+quotes : (cat : CatalogueView) (rows row retailer now : ℕ) (old new : DeskView) (reply : Reply) → QuotesIt cat rows row retailer now old new reply → MakesFor old new reply
+quotes cat rows row retailer now old new reply (quoted.Done code, (es, (here, (v, sees, phase, is)), shape), told) =
+    spared old new reply (es, saw row v es sees.steps, shape)
+quotes cat rows row retailer now old new reply (quoted.Unknown, did, told) = other old new reply _ (did.0, did.2) told refl
+quotes cat rows row retailer now old new reply (quoted.WrongState shown, did, told) = other old new reply _ (did.0, did.2) told refl
+
+quotes_exchange : (cat : CatalogueView) (rows row retailer : ℕ) (o : OfferView) (now : ℕ) (old new : DeskView) (reply : Reply)
+    → QuotesExchangeOfIt cat rows row retailer o now old new reply → MakesFor old new reply
+quotes_exchange cat rows row retailer o now old new reply (quoted_exchange.Done code, (es, (here, (v, sees, phase, is)), shape), told) =
+    spared old new reply (es, saw row v es sees.steps, shape)
+quotes_exchange cat rows row retailer o now old new reply (quoted_exchange.Unknown, did, told) = other old new reply _ (did.0, did.2) told refl
+quotes_exchange cat rows row retailer o now old new reply (quoted_exchange.WrongState shown, did, told) = other old new reply _ (did.0, did.2) told refl
+
+decides_or_not : (ready : ReadyView) (row : ℕ) (items : List Item) (d : Detail) (old new : DeskView) (reply : Reply)
+    → DecidesOrNot ready row items d old new reply → MakesFor old new reply
+decides_or_not ready row items d old new reply (inl (noted, notes, inl (made, difference, did, seals, is))) =
+    other old new reply _ (decides_own ready row items d old new reply (inl (noted, notes, inl (made, difference, did, seals, is)))) is refl
+decides_or_not ready row items d old new reply (inl (noted, notes, inr (shown, hold, lost, did, back, is))) =
+    other old new reply _ (decides_own ready row items d old new reply (inl (noted, notes, inr (shown, hold, lost, did, back, is)))) is refl
+decides_or_not ready row items d old new reply (inr (back, is)) = spared old new reply (gave row items old new back)
+
+carries : (cat : CatalogueView) (ready : ReadyView) (old new : DeskView) (reply : Reply) → CarriesOut cat ready old new reply → MakesFor old new reply
+carries cat ready old new reply (inl short) = fails cat ready.code.offer old new reply short
+carries cat ready old new reply (inr (row, items, mid, held, did)) =
+    makes_then old mid new reply (holds cat ready.code.offer ready.code.offer.segments row _ items old mid held) (decides_or_not ready row items _ mid new reply did)
+
+exchanges_it : (cat : CatalogueView) (rows retailer : ℕ) (x : ExchangeView) (now : ℕ) (old new : DeskView) (reply : Reply)
+    → ExchangesIt cat rows retailer x now old new reply → MakesFor old new reply
+exchanges_it cat rows retailer x now old new reply (inl (readied.Fine ready, p, did, un, is)) = absurd un
+exchanges_it cat rows retailer x now old new reply (inl (readied.Unknown, p, did, un, is)) = other old new reply (problem UnknownBooking) (did.0, did.2) (is ∙ ap problem un) refl
+exchanges_it cat rows retailer x now old new reply (inl (readied.WrongState shown, p, did, un, is)) =
+    other old new reply (problem (WrongState shown)) (did.0, did.2) (is ∙ ap problem un) refl
+exchanges_it cat rows retailer x now old new reply (inl (readied.QuoteStale made at, p, did, un, is)) =
+    other old new reply (problem (OfferTooOld made at)) (did.0, did.2) (is ∙ ap problem un) refl
+exchanges_it cat rows retailer x now old new reply (inl (readied.QuoteWrong, p, did, un, is)) = other old new reply (problem QuoteWrong) (did.0, did.2) (is ∙ ap problem un) refl
+exchanges_it cat rows retailer x now old new reply (inr (mid, (es, (same, (v, right, phase)), shape), goes)) =
+    makes_then old mid new reply (es, saw x.row v es right.sees.steps, shape) (carries cat (ready_of retailer x now) mid new reply goes)
+
+performs : (cat : CatalogueView) (retailer now : ℕ) (c : Command) (old new : DeskView) (reply : Reply) → IsLegal old.layout old.seen
+    → Performs cat retailer now c old new reply → MakesFor old new reply
+performs cat retailer now (command.Offers trip adults children class wanted) old new reply legal did = searches cat _ now old new reply did
+performs cat retailer now (command.Book None) old new reply legal did = absurd did
+performs cat retailer now (command.Book (Some code)) old new reply legal did = reserves cat retailer now (offer_view code) old new reply did
+performs cat retailer now (command.Reserve segment class count wanted) old new reply legal did =
+    reserves cat retailer now (reserved segment class count wanted now) old new reply did
+performs cat retailer now (command.Show None) old new reply legal did = absurd did
+performs cat retailer now (command.Show (Some row)) old new reply legal did =
+    on_booking (shows row.0) (λ v a b r l is. other a b r _ (own_same a b l is.0) is.1 refl) cat.rows row.0 retailer old new reply did
+performs cat retailer now (command.Release None) old new reply legal did = absurd did
+performs cat retailer now (command.Release (Some row)) old new reply legal did =
+    on_booking (ReleasesIt cat.rows row.0 retailer now) (λ v a b r l is. other a b r _ (is.1.0, is.1.2) is.2 (release_told row.0 now v is.0)) cat.rows row.0 retailer old new reply did
+performs cat retailer now (command.Confirm None) old new reply legal did = absurd did
+performs cat retailer now (command.Confirm (Some row)) old new reply legal did =
+    on_booking (ConfirmsIt cat.rows row.0 retailer now) (λ v a b r l is. other a b r _ (is.1.0, is.1.2) is.2 (confirm_told row.0 now v is.0)) cat.rows row.0 retailer old new reply did
+performs cat retailer now (command.Fulfil None) old new reply legal did = absurd did
+performs cat retailer now (command.Fulfil (Some row)) old new reply legal did =
+    on_booking (FulfilsIt cat.rows row.0 retailer) (λ v a b r l is. other a b r _ (is.1.0, is.1.2) is.2 (fulfil_told row.0 v is.0)) cat.rows row.0 retailer old new reply did
+performs cat retailer now (command.QuoteRefund None) old new reply legal did = absurd did
+performs cat retailer now (command.QuoteRefund (Some row)) old new reply legal did = quotes cat cat.rows row.0 retailer now old new reply did
+performs cat retailer now (command.AcceptRefund row None) old new reply legal did = absurd did
+performs cat retailer now (command.AcceptRefund row (Some code)) old new reply legal did =
+    on_booking (RefundsIt cat cat.rows retailer code now) (λ v a b r l is. other a b r _ (is.1.0, is.1.2) is.2 (refund_told code now v is.0)) cat.rows code.row.0 retailer old new reply did
+performs cat retailer now (command.QuoteExchange None offer) old new reply legal did = absurd did
+performs cat retailer now (command.QuoteExchange (Some row) None) old new reply legal did = absurd did
+performs cat retailer now (command.QuoteExchange (Some row) (Some offer)) old new reply legal did = quotes_exchange cat cat.rows row.0 retailer (offer_view offer) now old new reply did
+performs cat retailer now (command.AcceptExchange row None) old new reply legal did = absurd did
+performs cat retailer now (command.AcceptExchange row (Some code)) old new reply legal did = exchanges_it cat cat.rows retailer (exchange_view code) now old new reply did
+performs cat retailer now (command.Places segment) old new reply legal did = lists cat segment old new reply legal did
+performs cat retailer now command.Sweep old new reply legal did = other old new reply _ (did.1.0, did.1.2) did.2 refl
+
+by_fault : (cat : CatalogueView) (retailer now : ℕ) (c : Command) (fault : Option Problem) (old new : DeskView) (reply : Reply) → IsLegal old.layout old.seen
+    → AnswersBy cat retailer now c fault old new reply → MakesFor old new reply
+by_fault cat retailer now c (Some p) old new reply legal did = spared old new reply ([], tt, did.0)
+by_fault cat retailer now c None old new reply legal did = performs cat retailer now c old new reply legal did
+
+pub answers_make : (cat : CatalogueView) (retailer now : ℕ) (c : Command) (old new : DeskView) (reply : Reply) → IsLegal old.layout old.seen
+    → Answers cat retailer now c old new reply → MakesFor old new reply
+answers_make cat retailer now c old new reply legal did = by_fault cat retailer now c (command_fault cat now c) old new reply legal did
+
+asked_makes : (cat : CatalogueView) (now : ℕ) (asked : Result (RetailerNo × Command) Problem) (old new : DeskView) (reply : Reply) → IsLegal old.layout old.seen
+    → AnswersAsked cat now asked old new reply → MakesFor old new reply
+asked_makes cat now (Ok a) old new reply legal did = answers_make cat a.0.0 now a.1 old new reply legal did.0
+asked_makes cat now (Err p) old new reply legal did = spared old new reply ([], tt, did.0)
+
+-- the steps of a request's reply
+pub request_makes : (cat : CatalogueView) (first : Option RetailerNo) (request : RequestText) (now : ℕ) (old new : DeskView) (reply : Reply) → IsLegal old.layout old.seen
+    → AnswersRequest cat first request now old new reply → MakesFor old new reply
+request_makes cat first request now old new reply legal (asked, asks, did) = asked_makes cat now asked old new reply legal did
