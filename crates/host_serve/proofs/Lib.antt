@@ -3,3 +3,4 @@ pub mod Crewing
 pub mod Leaving
 pub mod Closing
 pub mod Ending
+pub mod BooksEnded

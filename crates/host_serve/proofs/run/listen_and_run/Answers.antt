@@ -1,0 +1,19 @@
+use Rattle.std.proofs.Common.{◌≡◌, ℕ, ◌∙◌, subst}
+use Rattle.host_serve.specs.Serve.{BooksEnd, Left, said_in}
+use Rattle.host_serve.proofs.BooksEnded.{books_ended}
+use Rattle.host_serve.proofs.run.listen_and_run.Goals as goal
+
+pub returns-clause-ends : goal.returns-clause-ends
+returns-clause-ends g c =
+    let left : Left = record {
+      faults_before = g.L.Listener.faults c.args.listener;
+      before = g.L.Listener.told c.args.listener;
+      faults_after = g.L.Listener.faults c.run_books.result.listener;
+      after = g.L.Listener.told c.run_books.result.listener;
+      wall = c.run_books.result.wall;
+    } in
+    let steady : g.L.Listener.faults c.bind.new.self ≡ g.L.Listener.faults c.args.listener =
+    c.bind.ensures.steady c.in_default.not-Failed ∙ c.set_limit.ensures.faults in
+    books_ended c.in-Ok.opened.0 (g.F.Shelf.told c.args.shelf.now) (said_in c.args.said.now) left c.run_books.result.outcome c.in-Ok.ensures.loads
+    (subst (λ (n : ℕ). BooksEnd c.in-Ok.opened.0 c.args.said.now.numbers n left.faults_after left.after left.wall c.run_books.result.outcome) steady
+    c.run_books.ensures.ends)
