@@ -42,27 +42,14 @@ fn told_by(rt: &impl Abort, alloc: Global, sink: &VecSink) -> Told {
 }
 
 // Serves what an accept answered.
-fn next_of(
-    rt: &impl Abort,
-    alloc: Global,
-    cat: &Catalogue,
-    books: &Books,
-    desk: &mut Desk,
-    listener: &mut ListListener,
-) -> Told
-    requires own { IsOf books.now desk.old }
-    requires idle { IsIdle desk.old }
-    requires legs { books.now.layout.legs ≡ legs_in cat.now }
-    requires rows { books.now.layout.rows ≡ cat.now.rows }
-    ensures own { IsOf books.now desk.new }
-    ensures idle { IsIdle desk.new }
-{
+fn next_of(rt: &impl Abort, alloc: Global, cat: &Catalogue, listener: &mut ListListener) -> Told {
+    let (books, mut desk) = open_books(alloc, cat).expect(rt, "memory");
     match listener.accept() {
         Accepted::Stream(waiting) => {
             let mut readings = Vec::new(alloc);
             readings.push(after_six(0)).expect(rt, "memory");
             let mut clock = ListClock::new(readings);
-            let finished = serve_waiting(alloc, cat, books, desk, waiting, &mut clock);
+            let finished = serve_waiting(alloc, cat, &books, &mut desk, waiting, &mut clock);
             told_by(rt, alloc, &finished.output)
         }
         Accepted::Failed => Told::Failed,
@@ -85,7 +72,6 @@ fn three_streams(alloc: Global, fails: Vec<u64>) -> Result<ListListener, Fail> {
 fn list_listener_hands_out_and_fails_as_listed(rt: HostRuntime) -> Result<(), Fail> {
     let alloc = rt.alloc();
     let cat = sample(alloc).expect(&rt, "a catalogue");
-    let (books, mut desk) = open_books(alloc, &cat).expect(&rt, "memory");
     let mut listener = three_streams(alloc, vec![in alloc; 1, 4]?)?;
     assert_eq!(rt; listener.bind(80), Bound::Failed);
     assert_eq!(rt; listener.bind(80), Bound::Ready);
@@ -97,12 +83,12 @@ fn list_listener_hands_out_and_fails_as_listed(rt: HostRuntime) -> Result<(), Fa
         Told::Closed,
         Told::Closed,
     ] {
-        let found = next_of(&rt, alloc, &cat, &books, &mut desk, &mut listener);
+        let found = next_of(&rt, alloc, &cat, &mut listener);
         assert_eq!(rt; found, want);
     }
     listener.set_limit(4);
     for want in [Told::Unknown, Told::Failed, Told::Failed] {
-        let found = next_of(&rt, alloc, &cat, &books, &mut desk, &mut listener);
+        let found = next_of(&rt, alloc, &cat, &mut listener);
         assert_eq!(rt; found, want);
     }
     Ok(())

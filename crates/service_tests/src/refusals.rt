@@ -10,8 +10,6 @@ use std::test::Fail;
 // stands, and so are an empty parameter, a trailing slash and a target in absolute form.
 #[test]
 fn paths(rt: HostRuntime) -> Result<(), Fail> {
-    let cat = sample_with_rows(rt.alloc(), 64).expect(&rt, "a catalogue");
-    let (books, mut desk) = open_books(rt.alloc(), &cat).expect(&rt, "memory");
     for (line, wanted) in [
         ("HEAD /offers", no_method()),
         ("HEAD /bookings", no_method()),
@@ -38,14 +36,7 @@ fn paths(rt: HostRuntime) -> Result<(), Fail> {
         ("HEAD *", no_route()),
     ] {
         let turns = [(ask("north", line, ""), wanted)];
-        converse(
-            &rt,
-            &cat,
-            &books,
-            &mut desk,
-            [0].as_slice(),
-            turns.as_slice(),
-        )?;
+        converse_alone(&rt, 64, [0].as_slice(), turns.as_slice())?;
     }
     Ok(())
 }
