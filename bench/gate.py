@@ -1,12 +1,11 @@
 #!/usr/bin/env python3
 """Processor seconds and greatest memory of a run of `rt ci`, by crate: its proof, its tests' proof, and each must-fail edit.
 
-  bench/gate.py [--save FILE] [--edits] [CRATE..]     starts `rt ci CRATE..` here and goes along with it
+  bench/gate.py [--save FILE] [--edits]               starts `rt ci` here and goes along with it
   bench/gate.py [--save FILE] [--edits] --pid PID     goes along with a run that is on its way (PID is that of `rt ci`)
   bench/gate.py --compare BEFORE AFTER                two saved runs, crate by crate
 
-The processes of the run are looked up in /proc five times a second, so a process counts up to a fifth of a second too little. `rt ci` keeps
-what it has proved, and does not prove it again: with --anew, or on a machine that has proved nothing, all is measured. The seconds are
+The processes of the run are looked up in /proc five times a second, so a process counts up to a fifth of a second too little. The seconds are
 those of the processor, and grow by a tenth or more where other work shares caches and memory: compare runs of one machine in one state.
 """
 import argparse
@@ -206,9 +205,7 @@ def compare(before, after):
 
 def main():
     words = argparse.ArgumentParser(description=__doc__, formatter_class=argparse.RawDescriptionHelpFormatter)
-    words.add_argument("crates", nargs="*", metavar="CRATE")
     words.add_argument("--pid", type=int)
-    words.add_argument("--anew", action="store_true", help="start `rt ci --anew`")
     words.add_argument("--save", metavar="FILE")
     words.add_argument("--edits", action="store_true", help="list each edit")
     words.add_argument("--compare", nargs=2, metavar=("BEFORE", "AFTER"))
@@ -220,7 +217,7 @@ def main():
         started, top = None, Process(root).folder()
     else:
         top = pathlib.Path(__file__).resolve().parent.parent
-        started = subprocess.Popen(["rt", "ci", *(["--anew"] if given.anew else []), *given.crates], cwd=top)
+        started = subprocess.Popen(["rt", "ci"], cwd=top)
         root = started.pid
     run, began = Run(root, top / "crates"), time.time()
     while run.sample() and (started is None or started.poll() is None):

@@ -19,7 +19,7 @@ import re
 import sys
 
 LARGEST_FILE, DEEPEST = 33_554_432, 127
-MOST_STOPS, MOST_RUNS, MOST_PLACES_OF_A_RUN, MOST_PLACES = 64, 4_096, 1_200, 4_194_304
+MOST_STOPS, MOST_RUNS, MOST_PLACES_OF_A_RUN, MOST_PLACES = 127, 4_096, 1_200, 4_194_304
 LARGEST_NUMBER, LARGEST_AMOUNT, WHOLE_FEE = 4_294_967_295, 10_000_000, 10_000
 NOT_JSON, MEMBER, RUN, PLACES, TERMS, STATION, TWICE = range(1, 8)
 TRAITS = ["WINDOW", "AISLE", "TABLE", "QUIET", "POWER"]
@@ -366,7 +366,7 @@ class Checker:
     def course(self, path, listed, stops, times):
         """Fault 3: the number of stops, their times, and stations that stand twice."""
         if not 2 <= len(times) <= MOST_STOPS:
-            self.fault(RUN, path + "stops", listed.line, "the run has %d stops" % len(times), "It has to have 2 to 64")
+            self.fault(RUN, path + "stops", listed.line, "the run has %d stops" % len(times), "It has to have 2 to %d" % MOST_STOPS)
             return
         for index, (_, arrive, depart) in enumerate(times):
             at = stops[index][0]

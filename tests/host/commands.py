@@ -50,7 +50,7 @@ MISSING = [
 
 WORDS_REFUSED = [
     "", "help", "--help", "--version", "Tiny 3 2", "export k1.json",
-    "tiny", "tiny 3", "tiny 3 2 1", "tiny 0 2", "tiny 64 2", "tiny 03 2", "tiny +3 2", "tiny 3 0", "tiny 3 1201", "tiny 3 x",
+    "tiny", "tiny 3", "tiny 3 2 1", "tiny 0 2", "tiny 127 2", "tiny 03 2", "tiny +3 2", "tiny 3 0", "tiny 3 1201", "tiny 3 x",
     "tiny '' 2", "replay", "replay --help", "replay -h", "replay k1.json --help", "replay --version", "replay k1.json -V",
     "replay k1.json k2.json", "replay k1.json --tick", "replay k1.json --tick -5", "replay k1.json --tick=-5",
     "replay k1.json --tick 86401", "replay k1.json --tick 4294967296", "replay k1.json --tick 1.0",
@@ -158,7 +158,7 @@ def words(runs: Runs):
         wanted = [moment(start + 900), moment(start + tick + 900)]
         runs.check(line, (status, limits_in(output), note), (0, wanted, ""))
     runs.check("a word that isn't UTF-8", subprocess.run([runs.program, b"tiny\xff", b"3", b"2"], capture_output=True).returncode, 2)
-    runs.check("the most of tiny", runs.run("tiny 63 1200", TINY), (0, SOLD, ""))
+    runs.check("the most of tiny", runs.run("tiny 126 1200", TINY), (0, SOLD, ""))
 
 
 def drills(runs: Runs):

@@ -1,7 +1,8 @@
 """The host on one thread: a plain list of bookings, and at most one row that was kept after a refusal.
 
 A place is free on a span where no item of a live booking stands at it with a span that meets. Nothing else is kept:
-no words, no bits, no history.
+no words, no bits, no history. An item lies on one side of the border between legs 62 and 63: a passenger whose span goes
+over it has two items, one after the other, which an answer shows as one reservation.
 """
 import enum
 from dataclasses import dataclass
@@ -12,6 +13,7 @@ from offers import (ExchangeCode, OfferCode, RefundCode, Segment, departure, exc
                     refund_value, segment_price)
 
 QUOTE_SECONDS = 900
+BORDER = 63
 
 
 class Phase(enum.Enum):
@@ -32,6 +34,29 @@ LIVE = (Phase.PREBOOKED, Phase.CONFIRMED, Phase.FULFILLED)
 class Item:
     place: int
     span: Span
+
+
+def pieces(span: Span) -> list:
+    """The span itself where it lies on one side of the border, else what it has before the border and what behind."""
+    if span.end <= BORDER or span.start >= BORDER:
+        return [span]
+    return [Span(span.start, BORDER), Span(BORDER, span.end)]
+
+
+def goes_on(item: Item, following: Item) -> bool:
+    """The next item is the second piece of the same passenger's span."""
+    return following.place == item.place and item.span.end == BORDER == following.span.start
+
+
+def reservations(items: list) -> list:
+    """The items, in their order, with two neighbours that are the pieces of one span joined to one."""
+    joined = []
+    for item in items:
+        if joined and goes_on(joined[-1], item):
+            joined[-1] = Item(item.place, Span(joined[-1].span.start, item.span.end))
+        else:
+            joined.append(item)
+    return joined
 
 
 @dataclass
@@ -118,7 +143,7 @@ class Books:
         return free[0]
 
     def take(self, segments, travel_class: TravelClass, wanted: int, passengers: int) -> tuple:
-        """A row, and for each segment in order one of the first free candidates for each passenger.
+        """A row, and for each segment in order the pieces of its span at one of the first free candidates for each passenger.
 
         Where some segment has too few, nothing is taken and the row is kept for the next booking.
         """
@@ -129,7 +154,7 @@ class Books:
             if len(free) < passengers:
                 self.kept_row = row
                 raise Refusal("NoPlace")
-            items.extend(Item(place, segment.span) for place in free[:passengers])
+            items.extend(Item(place, piece) for place in free[:passengers] for piece in pieces(segment.span))
         self.kept_row = None
         return row, items
 

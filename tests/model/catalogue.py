@@ -8,7 +8,7 @@ from json_text import NotJson, is_text, is_whole, read_json
 
 LARGEST_CATALOGUE = 33_554_432
 MOST_ROWS = 262_144
-MOST_STOPS = 64
+MOST_STOPS = 127
 MOST_RUNS = 4_096
 MOST_PLACES_OF_A_RUN = 1_200
 MOST_PLACES = 4_194_304
@@ -271,7 +271,7 @@ def moment_member(holder: dict, name: str, path: str) -> int:
 
 
 def runs_as_it_must(stops: list) -> bool:
-    """2 to 64 stops, at stations that differ, each departure not before its arrival and each arrival after the last."""
+    """2 to 127 stops, at stations that differ, each departure not before its arrival and each arrival after the last."""
     if not 2 <= len(stops) <= MOST_STOPS:
         return False
     if any(stop.depart < stop.arrive for stop in stops):

@@ -19,7 +19,8 @@ import limits
 import service
 import wire
 import words
-from bookings import Phase
+from bookings import BORDER, Phase
+from catalogue import Catalogue, read_catalogue
 from words import Device, Outcome
 
 LIMIT_SECONDS = 120
@@ -180,8 +181,10 @@ class Met:
             if body.get("code") == "WrongState":
                 self.counts["wrong state", body["detail"]] += 1
         if command == "replay":
-            for request, (status, _) in zip(requests, answers):
+            catalogue = read_catalogue(case.files["k.json"])
+            for request, (status, body) in zip(requests, answers):
                 self.count_route(request, status)
+                self.count_over_border(catalogue, body)
 
     def count_route(self, request: wire.Request, status: int):
         try:
@@ -192,6 +195,16 @@ class Met:
         if status < 300:
             self.counts["served", name] += 1
 
+    def count_over_border(self, catalogue: Catalogue, body: dict):
+        """What an answer shows of spans that go over the border: bookings by their status, and offers."""
+        booking = body.get("booking", body)
+        shown = [(booking["status"], segment) for segment in booking.get("reservations", [])]
+        shown += [("offered", segment) for offer in body.get("offers", []) for segment in offer["segments"]]
+        for how, segment in shown:
+            span = catalogue.runs[segment["run"]].span_between(segment["from"], segment["to"])
+            if span.start < BORDER < span.end:
+                self.counts["over the border", how] += 1
+
     def wanted(self) -> list:
         """What has to be met at least once."""
         names = [name for _, _, name in service.ROUTES]
@@ -199,6 +212,7 @@ class Met:
         wanted += [("status", status) for status in wire.REASONS if status not in NEVER_ANSWERED]
         wanted += [("problem", code) for code in wire.PROBLEMS if code not in NEVER_MET]
         wanted += [("state", phase.value) for phase in Phase] + [("wrong state", phase.value) for phase in Phase]
+        wanted += [("over the border", phase.value) for phase in Phase] + [("over the border", "offered")]
         wanted += [("rest", rest.value) for rest in wire.Rest]
         wanted += [("catalogue", "catalogue fault %d" % number) for number in range(1, 8)]
         wanted += [("catalogue", "catalogue missing")]

@@ -80,11 +80,11 @@ def faulty_catalogue_case(rng: random.Random, name: str) -> Case:
 
 
 def tiny_case(rng: random.Random, name: str) -> Case:
-    legs, places = rng.choice([1, 2, 3, 5, 8, 63]), rng.choice([1, 1, 2, 3, 1_200])
+    legs, places = rng.choice([1, 2, 3, 5, 8, 63, 64, 126, 126]), rng.choice([1, 1, 2, 3, 1_200])
     pieces = []
     for _ in range(rng.choice([0, 3, 10, 30])):
-        start = rng.choice([0, 0, 1, rng.randrange(legs), rng.randrange(legs), legs, -1, legs - 1])
-        body = {"from": start, "to": rng.choice([start + 1, start + 1, legs, legs, legs + 1, start, 63, 64])}
+        start = rng.choice([0, 0, 1, rng.randrange(legs), rng.randrange(legs), legs, -1, legs - 1, 62, 63])
+        body = {"from": start, "to": rng.choice([start + 1, start + 1, start + 2, legs, legs, legs + 1, start, 63, 64, 65])}
         if chance(rng, 0.1):
             body[rng.choice(["from", "to", "x"])] = junk(rng)
         if chance(rng, 0.05):
@@ -182,9 +182,9 @@ def serve_words(rng: random.Random, _start: int) -> list:
 
 
 def tiny_wrong_words(rng: random.Random, _start: int) -> list:
-    good = rng.choice([["tiny", "3", "2"], ["tiny", "63", "1200"], ["tiny", "1", "1"]])
+    good = rng.choice([["tiny", "3", "2"], ["tiny", "126", "1200"], ["tiny", "1", "1"]])
     words = list(good)
-    words[rng.choice([1, 2])] = rng.choice(["0", "64", "1201", "03", "+3", "-1", "", "x", "3 ", "1e1", "\u0663", "00", "99999999999999999999"])
+    words[rng.choice([1, 2])] = rng.choice(["0", "127", "1201", "03", "+3", "-1", "", "x", "3 ", "1e1", "\u0663", "00", "99999999999999999999"])
     return rng.choice([good, words, words, changed_words(rng, good)])
 
 

@@ -50,11 +50,10 @@ def limit_cases() -> list:
 def limit_catalogues() -> list:
     """Lists of the greatest length, and with one item more. The first run is asked for from its first to its last stop."""
     cases = []
-    asks = [b"GET /runs/0/places/S0/S1 HTTP/1.1\r\nRetailer-Key: north\r\n\r\n",
-            b"GET /runs/0/places/S0/S63 HTTP/1.1\r\nRetailer-Key: north\r\n\r\n"]
     for count in (64, 65):
         steps = [{"before": count - 1 - index, "fee": index} for index in range(count)]
         cases.append(("%d refund steps" % count, simple_catalogue(2, 1, steps)))
+    for count in (63, 64, 65, 127, 128):
         cases.append(("%d stops" % count, simple_catalogue(count, 1, steps[-1:])))
     for count in (1_200, 1_201):
         cases.append(("%d places" % count, simple_catalogue(2, count, steps[-1:])))
@@ -66,8 +65,14 @@ def limit_catalogues() -> list:
     retailers = [{"number": 1, "key": "north"}] * 65_537
     cases.append(("65537 retailers", dict(simple_catalogue(2, 1, steps[-1:]), retailers=retailers)))
     words = [b"replay", b"k.json"]
-    return [Case(name, words, {"k.json": json_text(random.Random(0), catalogue, True).encode("ascii")}, asks)
+    return [Case(name, words, {"k.json": json_text(random.Random(0), catalogue, True).encode("ascii")}, places_asked(catalogue))
             for name, catalogue in cases]
+
+
+def places_asked(catalogue: dict) -> list:
+    """The places of the first run, on its first leg and on all of them."""
+    last = len(catalogue["runs"][0]["stops"]) - 1
+    return [b"GET /runs/0/places/S0/S%d HTTP/1.1\r\nRetailer-Key: north\r\n\r\n" % end for end in (1, last)]
 
 
 def simple_catalogue(stops: int, places: int, steps: list) -> dict:

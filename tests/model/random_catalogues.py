@@ -32,12 +32,12 @@ def random_catalogue(rng: random.Random, start: int, tick: int) -> dict:
     """A catalogue whose departures, change times, refund steps and limits lie close to what the clock will show."""
     kind = rng.random()
     stations = rng.sample(CODES, rng.randint(2, 6))
-    if kind < 0.01:
-        stations = ["S%d" % index for index in range(rng.choice([30, 63, 64]))]
+    if kind < 0.07:
+        stations = ["S%d" % index for index in range(rng.choice([30, 64, 65, 66, 100, 127, 127, 127]))]
     changes = {code: rng.choice([None, 0, 60, 300, 300, 14_400, rng.randrange(14_401)]) for code in stations}
-    if kind < 0.01:
-        runs = [fitted(timed_stops(rng, stations, start + 60 * tick + 600))]
-    elif kind < 0.13:
+    if kind < 0.07:
+        runs = long_runs(rng, start + 60 * tick + 600, stations, changes)
+    elif kind < 0.19:
         stations = stations[:4]
         changes = {code: rng.choice([0, 0, 600]) for code in stations}
         runs = dense_runs(rng, start, tick, stations)
@@ -98,6 +98,17 @@ def random_runs(rng: random.Random, start: int, tick: int, stations: list, chang
                 stops = [station] + [code for code in stops if code != station]
         runs.append(fitted(timed_stops(rng, stops, depart)))
     return runs
+
+
+def long_runs(rng: random.Random, depart: int, stations: list, changes: dict) -> list:
+    """One run through all the stations, and mostly a short one that leaves one of them as soon as one may change there."""
+    runs = [timed_stops(rng, stations, depart)]
+    if chance(rng, 0.7):
+        station, arrive, _ = rng.choice(runs[0][1:])
+        others = rng.sample([code for code in stations if code != station], 2)
+        change = 300 if changes[station] is None else changes[station]
+        runs.append(timed_stops(rng, [station] + others, arrive + change + 60))
+    return [fitted(stops) for stops in runs]
 
 
 def dense_runs(rng: random.Random, start: int, tick: int, stations: list) -> list:
@@ -325,8 +336,8 @@ def change_stops(rng: random.Random, catalogue: dict):
 
 
 def many_stops(rng: random.Random, catalogue: dict, chosen: list):
-    """64 or 65 stops in one run, for which stations are added."""
-    count = rng.choice([63, 64, 65, 66])
+    """127 stops or about as many in one run, for which stations are added."""
+    count = rng.choice([64, 65, 126, 127, 128, 129])
     if isinstance(catalogue.get("stations"), list):
         catalogue["stations"].extend({"code": "M%d" % index} for index in range(count))
     chosen[:] = [{"station": "M%d" % index, "arrive": moments.write_moment(USUAL_START + 60 * index),

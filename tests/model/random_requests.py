@@ -5,8 +5,8 @@ import random
 import moments
 import service
 import wire
-from bookings import Phase
-from catalogue import TRAITS, Catalogue, Span, TravelClass
+from bookings import BORDER, Phase
+from catalogue import TRAITS, Catalogue, Run, Span, TravelClass
 from offers import (ExchangeCode, OfferCode, RefundCode, Segment, all_segments, departure, may_follow, read_exchange,
                     read_refund, write_booking_id, write_exchange, write_offer, write_refund)
 from random_texts import (BROKEN, WHOLE_BUT_ODD, Twice, chance, changed_text, json_text, junk, moment_text,
@@ -131,6 +131,13 @@ class Stream:
                 break
         return chain
 
+    def two_stops(self, run: Run) -> tuple:
+        """Two stops of the run, the earlier one first; in a run that goes over the border, often one on either side."""
+        if len(run.stops) > BORDER + 1 and self.chance(0.6):
+            return self.rng.choice([0, 1, 60, 62, self.rng.randrange(BORDER)]), self.rng.randrange(BORDER + 1, len(run.stops))
+        start = self.rng.randrange(len(run.stops) - 1)
+        return start, self.rng.randrange(start + 1, len(run.stops))
+
     def random_offer(self) -> str:
         """An offer that was answered, at whatever age, or one that is spelled here."""
         if self.offers and self.chance(0.4):
@@ -146,7 +153,7 @@ class Stream:
         if later and self.chance(0.9):
             segments = later[0]
         if self.chance(0.03):
-            segments = segments + [Segment(self.rng.choice([len(self.catalogue.runs), 4_095, 0]), Span(0, self.rng.choice([1, 9, 63])))]
+            segments = segments + [Segment(self.rng.choice([len(self.catalogue.runs), 4_095, 0]), Span(0, self.rng.choice([1, 9, 63, 126, 127])))]
         made = self.now() - self.rng.choice(AGES)
         if self.chance(0.08):
             made = departure(self.catalogue, segments[0]) + self.rng.choice([-1, 0, 1])
@@ -221,8 +228,7 @@ class Stream:
 
     def reserve(self):
         run = self.rng.choice(self.catalogue.runs)
-        start = self.rng.randrange(len(run.stops) - 1)
-        end = self.rng.randrange(start + 1, len(run.stops))
+        start, end = self.two_stops(run)
         body = {"run": run.number, "from": run.stops[start].station, "to": run.stops[end].station}
         self.with_wish(body, run.number)
         if self.chance(0.4):
@@ -246,8 +252,8 @@ class Stream:
             if not self.closed:
                 self.send("POST", "/reservations", json_text(self.rng, body, True).encode("ascii"))
 
-    def show(self):
-        self.send("GET", "/bookings/" + self.booking_id(*Phase), self.stray_body())
+    def show(self, *phases: Phase):
+        self.send("GET", "/bookings/" + self.booking_id(*(phases or Phase)), self.stray_body())
 
     def release(self):
         self.send("DELETE", "/bookings/" + self.booking_id(Phase.PREBOOKED), self.stray_body())
@@ -267,6 +273,8 @@ class Stream:
 
     def sweep(self):
         self.send("POST", "/sweeps", self.stray_body())
+        if not self.closed and self.chance(0.4):
+            self.show(Phase.EXPIRED)
 
     def life(self):
         """A booking that is confirmed, perhaps collected, and then refunded or exchanged, one step right after the other."""
@@ -335,6 +343,8 @@ class Stream:
         read = read_exchange(code)
         row = write_booking_id(read.row) if read and self.chance(0.93) else self.booking_id(*Phase)
         self.send_body("POST", "/bookings/%s/exchange-operations" % row, {"exchangeOfferId": code})
+        if not self.closed and self.chance(0.5):
+            self.show(Phase.EXCHANGED)
 
     def random_exchange(self):
         if self.exchanges and self.chance(0.5):
@@ -360,8 +370,7 @@ class Stream:
 
     def places(self):
         run = self.rng.choice(self.catalogue.runs)
-        start = self.rng.randrange(len(run.stops) - 1)
-        end = self.rng.randrange(start + 1, len(run.stops))
+        start, end = self.two_stops(run)
         digits, origin, destination = str(run.number), run.stops[start].station, run.stops[end].station
         kind = self.rng.random()
         if kind < 0.07:
@@ -406,7 +415,7 @@ class Stream:
 
 
 ACTIONS = [
-    (Stream.ask_offers, 9), (Stream.book, 11), (Stream.reserve, 11), (Stream.fill, 1), (Stream.life, 4), (Stream.show, 5), (Stream.release, 4),
+    (Stream.ask_offers, 9), (Stream.book, 11), (Stream.reserve, 11), (Stream.fill, 1), (Stream.life, 6), (Stream.show, 5), (Stream.release, 4),
     (Stream.confirm, 12), (Stream.fulfil, 6), (Stream.sweep, 3), (Stream.meet_limit, 6), (Stream.quote_refund, 7),
     (Stream.accept_refund, 8), (Stream.quote_exchange, 8), (Stream.accept_exchange, 10), (Stream.places, 5), (Stream.wrong_route, 2),
     (Stream.wrong_method, 2), (Stream.wrong_key, 2), (Stream.without_key, 1),

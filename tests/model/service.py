@@ -3,7 +3,7 @@ from dataclasses import dataclass
 
 import moments
 import wire
-from bookings import QUOTE_SECONDS, Booking, Books, Phase, Refusal, two_moments
+from bookings import QUOTE_SECONDS, Booking, Books, Phase, Refusal, reservations, two_moments
 from catalogue import TRAITS, Catalogue, TravelClass
 from json_text import NotJson, is_text, is_whole, read_json, write_json
 from offers import (OfferCode, Segment, arrival, departure, destination, is_offered, offer_price, origin,
@@ -337,7 +337,7 @@ class Host:
             "confirmableUntil": moments.write_moment(booking.limit),
             "id": write_booking_id(booking.row),
             "price": self.amount(booking.total),
-            "reservations": [self.item_reply(item) for item in booking.items],
+            "reservations": [self.item_reply(item) for item in reservations(booking.items)],
             "settled": booking.ending is not None,
             "status": booking.phase.value,
         }

@@ -3,6 +3,8 @@ import wire
 from catalogue import Span
 from json_text import NotJson, is_whole, read_json, write_json
 
+MOST_LEGS = 126
+MOST_PLACES = 1_200
 MOST_RESERVATIONS = 1_024
 
 

@@ -61,7 +61,7 @@ def run_texts(words: list, files: dict, data: bytes, failing: Device) -> Outcome
 def run_tiny(words: list, data: bytes, failing: Device) -> Outcome:
     if len(words) != 2:
         raise WordsRefused()
-    legs, places = plain_number(words[0], 1, 63), plain_number(words[1], 1, 1_200)
+    legs, places = plain_number(words[0], 1, tiny.MOST_LEGS), plain_number(words[1], 1, tiny.MOST_PLACES)
     output, rest = tiny.serve(legs, places, data)
     return connection_ended(output, rest, failing)
 

@@ -1,16 +1,18 @@
-ghost use Rattle.std.specs.Prelude.{◌≡◌, ◌<◌, All, length, IfOk, OnOk, OnErr};
+ghost use Rattle.std.specs.Prelude.{◌≡◌, ◌<◌, ◌&&◌, All, length, IfOk, OnOk, OnErr};
+ghost use Rattle.leg_masks.specs.Interval.{IsPiece};
 ghost use Rattle.claim_rule.specs.Seats.{IsOf};
 ghost use Rattle.claim_rule.specs.Calls.{ShapeBy};
 ghost use Rattle.claim_rule.specs.Out.{KeepsHolds, KeepsEndings, IsTidy};
-ghost use Rattle.availability.specs.Looks.{LooksAt, CountsFree, HasLooked};
+ghost use Rattle.availability.specs.Looks.{LooksAt, CountsFree, HasLooked, HasLookedAt};
 
 use claim_rule::{Books, Desk};
-use leg_masks::{Span, free_on};
+use leg_masks::{Span, free_on, half_of, pieces};
 use rail_ids::PlaceNo;
 use seat_words::glance;
 use std::alloc::{AllocError, Global};
 
-/// How many of the places were free on all legs of the span, by one look at each in order. Takes no memory.
+/// How many of the places were free on all legs of the span, by one look at each piece of the span at each place in
+/// order, half 0 first. Takes no memory.
 ///
 /// Each place is one of the books, and there are fewer than 4,294,967,296.
 pub fn free_places(books: &Books, desk: &mut Desk, places: &[PlaceNo], span: Span) -> u32
@@ -32,8 +34,8 @@ pub fn free_places(books: &Books, desk: &mut Desk, places: &[PlaceNo], span: Spa
     free
 }
 
-/// Whether each of the places was free on all legs of the span, by one look at each in order. The memory is taken before the first
-/// look: where there is none, the desk has made no step.
+/// Whether each of the places was free on all legs of the span, by one look at each piece of the span at each place in order,
+/// half 0 first. The memory is taken before the first look: where there is none, the desk has made no step.
 ///
 /// Each place is one of the books.
 pub fn place_states(
@@ -62,7 +64,7 @@ pub fn place_states(
     Ok(states)
 }
 
-// One look at a place, and whether it was free on the span.
+// The looks at a place, one for each piece of the span, and whether it was free on all of them.
 fn look_free(books: &Books, desk: &mut Desk, place: PlaceNo, span: Span) -> bool
     requires own { IsOf books.now desk.old }
     requires place { place.0 < length books.now.layout.legs }
@@ -71,5 +73,33 @@ fn look_free(books: &Books, desk: &mut Desk, place: PlaceNo, span: Span) -> bool
     ensures holds { KeepsHolds desk.old desk.new }
     ensures endings { KeepsEndings desk.old desk.new }
 {
-    free_on(glance(books, desk, place), span)
+    let parts = pieces(span);
+    let first = parts[0];
+    let is_free = look_piece(books, desk, place, first);
+    if parts.len() == 1 {
+        return is_free;
+    }
+    let second = parts[1];
+    let is_too = look_piece(books, desk, place, second);
+    both(is_free, is_too)
+}
+
+// Whether both are so.
+fn both(one: bool, other: bool) -> bool
+    ensures both { result ≡ (one && other) }
+{
+    one && other
+}
+
+// One look at a piece of a place, and whether it was free there.
+fn look_piece(books: &Books, desk: &mut Desk, place: PlaceNo, piece: Span) -> bool
+    requires own { IsOf books.now desk.old }
+    requires place { place.0 < length books.now.layout.legs }
+    requires piece { IsPiece piece }
+    ensures own { IsOf books.now desk.new }
+    ensures entries { HasLookedAt place piece result desk.old desk.new }
+    ensures holds { KeepsHolds desk.old desk.new }
+    ensures endings { KeepsEndings desk.old desk.new }
+{
+    free_on(glance(books, desk, place, half_of(piece)), piece)
 }

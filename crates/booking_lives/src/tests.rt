@@ -245,7 +245,7 @@ fn count_confirmed(rt: &impl Abort, books: &Books, desk: &mut Desk) -> u32
 {
     let mut confirmed: u32 = 0;
     for row in 0..1000 {
-        let word = glance(books, desk, PlaceNo(row));
+        let word = glance(books, desk, PlaceNo(row), 0);
         let phase = match look_row(books, desk, RowNo(row)) {
             Some(view) => view.phase,
             None => Phase::Free,

@@ -1,25 +1,25 @@
-ghost use Rattle.std.specs.Prelude.{◌≡◌, ◌<◌, ◌≤◌, true, length, slice_index};
+ghost use Rattle.std.specs.Prelude.{◌≡◌, ◌<◌, ◌≤◌, true, All, length, slice_index};
 ghost use Rattle.claim_rule.specs.Seats.{IsOf};
-ghost use Rattle.claim_rule.specs.Out.{IsHolding, IsToBeSealed, HoldsNone, IsIdle, KeepsEndings};
+ghost use Rattle.claim_rule.specs.Out.{IsHolding, HasNotedItems, IsToBeSealed, HoldsNone, IsIdle, KeepsEndings};
 ghost use Rattle.offer_codes.specs.Offers.{is_offer, offer_view};
 
 use arrayvec::ArrayVec;
 use booking_rows::{Detail, EndView, Sealed, look_row, note_detail, seal, start_hold};
-use claim_rule::{Books, Desk, Hold, start_books};
+use claim_rule::{Books, Desk, Hold, Wall, start_books};
 use confirm_core::{Confirmed, Fulfilment, confirm, fulfil};
 use exchange_core::{
     Exchanged, QuotedExchange, Readied, accept_exchange, quote_exchange, ready_exchange,
 };
 use history_model::phase::{EndKind, Phase};
 use hold_core::{Added, abandon, add_places};
-use leg_masks::Span;
+use leg_masks::{HALVES, Span, pieces};
 use offer_codes::{OfferCode, RefundCode, read_exchange, read_offer, write_exchange};
 use rail_catalogue::{Catalogue, read_catalogue};
 use rail_ids::{PlaceNo, RetailerNo, RowNo};
 use rail_time::Moment;
 use refund_core::{Quoted, Refunded, accept_refund, quote_refund};
 use seat_words::glance;
-use std::alloc::Global;
+use std::alloc::{AllocError, Global};
 use std::process::Abort;
 use std::test::Fail;
 
@@ -85,6 +85,7 @@ fn held(
 {
     let mut hold = start_hold(books, desk).expect(rt, "a row");
     let places = [place];
+    assert!(rt; pieces(span).len() <= HALVES as usize);
     let added = add_places(books, desk, &mut hold, places.as_slice(), span, 1);
     assert!(rt; added == Added::All);
     let count = hold.items().len();
@@ -199,7 +200,7 @@ fn end(rt: &impl Abort, books: &Books, desk: &mut Desk) -> EndView
     view.ended.expect(rt, "an end")
 }
 
-// The word of a place.
+// The word of the first half of a place.
 fn word(rt: &impl Abort, books: &Books, desk: &mut Desk, place: PlaceNo) -> u64
     requires own { IsOf books.now desk.old }
     requires idle { IsIdle desk.old }
@@ -208,7 +209,7 @@ fn word(rt: &impl Abort, books: &Books, desk: &mut Desk, place: PlaceNo) -> u64
 {
     let there = place.0 < books.places();
     assert!(rt; there);
-    glance(books, desk, place)
+    glance(books, desk, place, 0)
 }
 
 /// A quote names a phase: once the ticket is collected, another quote is needed, which is less by the ticket fee.
@@ -455,5 +456,85 @@ fn quotes_of_exchanges_are_checked(rt: HostRuntime) -> Result<(), Fail> {
     let old = prebooked(&rt, &books, &mut desk, PlaceNo(0), 2200);
     confirms(&rt, &books, &mut desk, old);
     refuses(&rt, &cat, &books, &mut desk);
+    Ok(())
+}
+
+// Adds three of these places to the hold, on the first legs of their run.
+fn adds_three(
+    rt: &impl Abort,
+    books: &Books,
+    desk: &mut Desk,
+    hold: &mut Hold,
+    candidates: &[PlaceNo],
+    legs: u8,
+)
+    requires own { IsOf books.now desk.old }
+    requires hold { IsHolding desk.old hold.old }
+    requires noted { HasNotedItems desk.old hold.old }
+    requires places { All (λ p. (p.0 < length books.now.layout.legs) × (legs ≤ slice_index books.now.layout.legs p.0)) candidates.now }
+    ensures own { IsOf books.now desk.new }
+    ensures hold { IsHolding desk.new hold.new }
+    ensures noted { HasNotedItems desk.new hold.new }
+    ensures endings { KeepsEndings desk.old desk.new }
+{
+    let span = Span::new(0, legs).expect(rt, "a span");
+    assert!(rt; pieces(span).len() <= HALVES as usize);
+    assert!(rt; hold.items().len() <= 3);
+    let added = add_places(books, desk, hold, candidates, span, 3);
+    assert!(rt; added == Added::All);
+}
+
+// Confirms a booking, and collects its ticket: so many of these two turns are made.
+fn goes_on(rt: &impl Abort, books: &Books, desk: &mut Desk, row: RowNo, turns: u8)
+    requires own { IsOf books.now desk.old }
+    requires idle { IsIdle desk.old }
+    ensures own { IsOf books.now desk.new }
+    ensures idle { IsIdle desk.new }
+{
+    if turns == 0 {
+        return;
+    }
+    confirms(rt, books, desk, row);
+    if turns == 1 {
+        return;
+    }
+    collects(rt, books, desk, row);
+}
+
+// The wall after two adults and a child have booked a place each by a window on both runs, and then confirmed and collected, by so many
+// turns.
+fn usual(rt: &impl Abort, alloc: Global, turns: u8) -> Result<Wall, AllocError> {
+    let (books, mut desk) = start_books(alloc, LEGS.as_slice(), 4)?;
+    let mut hold = start_hold(&books, &mut desk).expect(rt, "a row");
+    let to_bern = [PlaceNo(4), PlaceNo(5), PlaceNo(6), PlaceNo(7)];
+    adds_three(rt, &books, &mut desk, &mut hold, to_bern.as_slice(), 2);
+    let to_thun = [PlaceNo(12), PlaceNo(13), PlaceNo(14), PlaceNo(15)];
+    adds_three(rt, &books, &mut desk, &mut hold, to_thun.as_slice(), 1);
+    assert!(rt; hold.items().len() == 6);
+    let detail = Detail {
+        retailer: NORTH,
+        limit: at(rt, 1200),
+        total: 4250,
+    };
+    note_detail(&books, &mut desk, &mut hold, detail);
+    let row = seal(&books, &mut desk, hold, Sealed::Prebooked);
+    goes_on(rt, &books, &mut desk, row, turns);
+    Ok(books.finish(desk))
+}
+
+// What the first words of the places are then.
+const USUAL_WORDS: [u64; 18] = [0, 0, 0, 0, 3, 3, 3, 0, 0, 0, 0, 0, 1, 1, 1, 0, 0, 0];
+
+/// The words of the places taken have the legs of their run as bits, and the row's first word goes from prebooked to collected.
+#[test]
+fn usual_life(rt: HostRuntime) -> Result<(), Fail> {
+    for (turns, phase) in [(0, 2), (1, 3), (2, 4)] {
+        let wall = usual(&rt, rt.alloc(), turns)?;
+        assert_eq!(rt; wall.row_word(RowNo(0), 0), Some(phase), "{turns}");
+        for (place, word) in (0..18).zip(USUAL_WORDS) {
+            assert_eq!(rt; wall.place_word(PlaceNo(place), 0), Some(word), "{place}");
+            assert_eq!(rt; wall.place_word(PlaceNo(place), 1), Some(0), "{place}");
+        }
+    }
     Ok(())
 }

@@ -5,7 +5,7 @@ use Rattle.std.proofs.lemmas.List.{length-map}
 use Rattle.history_model.specs.declared.booking.BookedItem.{BookedItem}
 use Rattle.history_model.specs.declared.booking.End.{End}
 use Rattle.history_model.specs.declared.entry.Step.TheVariants.{Note, Close}
-use Rattle.history_model.specs.Booking.{amount_word}
+use Rattle.history_model.specs.Booking.{amount_word, row_words}
 use Rattle.history_model.specs.Allowed.{OnRow, MayClose}
 use Rattle.history_model.specs.History.{IsLegal, state_of}
 use Rattle.history_model.proofs.Owners.{on_row}
@@ -20,13 +20,13 @@ use Rattle.claim_rule.specs.Out.{IsEnding, EndsNone, KeepsHolds}
 use Rattle.claim_rule.specs.EndSteps.{closing as closing_steps}
 use Rattle.claim_rule.proofs.Out.{ending_only, ending_holds, closed_none}
 
-five : (ws : List ℕ) (x y z : ℕ) → length ws ≡ 32 → get_or (set (set (set ws 5 x) 6 y) 7 z) 5 0 ≡ x
+five : (ws : List ℕ) (x y z : ℕ) → length ws ≡ row_words → get_or (set (set (set ws 5 x) 6 y) 7 z) 5 0 ≡ x
 five ws x y z l = get_or-set_other (set (set ws 5 x) 6 y) 7 5 z 0 (λ e. omega (arith, e)) ∙ (get_or-set_other (set ws 5 x) 6 5 y 0 (λ e. omega (arith, e)) ∙ get_or-set_same ws 5 x 0 (omega (arith, l)))
 
-six : (ws : List ℕ) (x y z : ℕ) → length ws ≡ 32 → get_or (set (set (set ws 5 x) 6 y) 7 z) 6 0 ≡ y
+six : (ws : List ℕ) (x y z : ℕ) → length ws ≡ row_words → get_or (set (set (set ws 5 x) 6 y) 7 z) 6 0 ≡ y
 six ws x y z l = get_or-set_other (set (set ws 5 x) 6 y) 7 6 z 0 (λ e. omega (arith, e)) ∙ get_or-set_same (set ws 5 x) 6 y 0 (let m = length-set ws 5 x in omega (arith, l, m))
 
-seven : (ws : List ℕ) (x y z : ℕ) → length ws ≡ 32 → get_or (set (set (set ws 5 x) 6 y) 7 z) 7 0 ≡ z
+seven : (ws : List ℕ) (x y z : ℕ) → length ws ≡ row_words → get_or (set (set (set ws 5 x) 6 y) 7 z) 7 0 ≡ z
 seven ws x y z l = get_or-set_same (set (set ws 5 x) 6 y) 7 z 0 (let m = length-set ws 5 x in let n = length-set (set ws 5 x) 6 y in omega (arith, l, m, n))
 
 pub may_close : (a b c d : DeskView) (e : EndingView) → IsLegal a.layout a.seen → IsEndingOf a e → e.read ≡ true → e.given ≡ length e.items

@@ -6,7 +6,7 @@ use Rattle.history_model.specs.declared.booking.BookedItem.{BookedItem}
 use Rattle.history_model.specs.declared.entry.Entry.{Entry}
 use Rattle.history_model.specs.declared.entry.Step.TheVariants.{Note, Seal}
 use Rattle.history_model.specs.declared.phase.Phase.{Phase}
-use Rattle.history_model.specs.Booking.{Layout, greatest_retailer, last_moment, greatest_amount, present}
+use Rattle.history_model.specs.Booking.{Layout, most_items, row_words, greatest_retailer, last_moment, greatest_amount, present}
 use Rattle.history_model.specs.Allowed.{IsAllowedStep, IsMadeBy, IsSealable, MaySealAs}
 use Rattle.history_model.specs.Apply.{in_phase}
 use Rattle.history_model.specs.History.{IsLegal, entry, state_of}
@@ -28,13 +28,13 @@ four_notes a b c d e r r1 r2 r3 v1 v2 v3 v4 s1 s2 s3 n1 n2 n3 n4 =
     (shape_then c d e (Note r 3 v3 ∷ []) _ (step_shape _ c d (subst (λ (x : ℕ). Stepped (Note x 3 v3) c d) s2 n3))
     (step_shape _ d e (subst (λ (x : ℕ). Stepped (Note x 4 v4) d e) s3 n4))))
 
-pub last_small : (n : ℕ) → n ≤ 24 → 8 + (n - 1) < 256
+pub last_small : (n : ℕ) → n ≤ most_items → 8 + (n - 1) < 256
 last_small n l = omega arith
 
-pub last_byte : (n : ℕ) → n ≤ 24 → n - 1 < 256
+pub last_byte : (n : ℕ) → n ≤ most_items → n - 1 < 256
 last_byte n l = omega arith
 
-pub last_word : (n : ℕ) → 0 < n → n ≤ 24 → ((1 ≤ 8 + (n - 1)) × (8 + (n - 1) ≤ 4)) ⊎ ((8 ≤ 8 + (n - 1)) × (8 + (n - 1) < 8 + 24))
+pub last_word : (n : ℕ) → 0 < n → n ≤ most_items → ((1 ≤ 8 + (n - 1)) × (8 + (n - 1) ≤ 4)) ⊎ ((8 ≤ 8 + (n - 1)) × (8 + (n - 1) < 8 + most_items))
 last_word n s l = inr (omega arith, omega arith)
 
 -- the hold and the ending of the desk, after a note of the hold's row
@@ -65,9 +65,9 @@ last_note row word value n items front last i old new e many read w v did =
     less : (n k : ℕ) → n ≡ k + 1 → n - 1 ≡ k
     less n k e = omega arith
 
-pub last_noted : (old new : DeskView) (hold now : HoldView) (front : List Item) (last : Item) → IsLegal old.layout old.seen → IsHolding old hold → now ≡ hold → length hold.items ≤ 24 → hold.items ≡ front ++ last ∷ [] → HasNoted old hold.row front → Stepped (Note hold.row (8 + length front) (item_word last.place last.span)) old new → HasNotedItems new now
+pub last_noted : (old new : DeskView) (hold now : HoldView) (front : List Item) (last : Item) → IsLegal old.layout old.seen → IsHolding old hold → now ≡ hold → length hold.items ≤ most_items → hold.items ≡ front ++ last ∷ [] → HasNoted old hold.row front → Stepped (Note hold.row (8 + length front) (item_word last.place last.span)) old new → HasNotedItems new now
 last_noted old new hold now front last legal is same few e noted did =
-    let room : length front < 24 = let l = length_last hold.items front last e in omega arith in
+    let room : length front < most_items = let l = length_last hold.items front last e in omega arith in
     subst (HasNotedItems new) (sym same) (subst (HasNoted new hold.row) (sym e) (noted_item old new hold front last (length front) legal is.of.0 refl room did noted))
 
 -- a detail
@@ -82,16 +82,16 @@ map_held : (xs : List Item) → map (λ (i : BookedItem). item_word i.place i.sp
 map_held [] = refl
 map_held (x ∷ xs) = ap (λ (l : List ℕ). item_word x.place x.span ∷ l) (map_held xs)
 
-one : (ws : List ℕ) (r l t c : ℕ) → length ws ≡ 32 → get_or (set (set (set (set ws 1 r) 2 l) 3 t) 4 c) 1 0 ≡ r
+one : (ws : List ℕ) (r l t c : ℕ) → length ws ≡ row_words → get_or (set (set (set (set ws 1 r) 2 l) 3 t) 4 c) 1 0 ≡ r
 one ws r l t c many = get_or-set_other (set (set (set ws 1 r) 2 l) 3 t) 4 1 c 0 (λ e. omega (arith, e)) ∙ (get_or-set_other (set (set ws 1 r) 2 l) 3 1 t 0 (λ e. omega (arith, e)) ∙ (get_or-set_other (set ws 1 r) 2 1 l 0 (λ e. omega (arith, e)) ∙ get_or-set_same ws 1 r 0 (omega (arith, many))))
 
-two : (ws : List ℕ) (r l t c : ℕ) → length ws ≡ 32 → get_or (set (set (set (set ws 1 r) 2 l) 3 t) 4 c) 2 0 ≡ l
+two : (ws : List ℕ) (r l t c : ℕ) → length ws ≡ row_words → get_or (set (set (set (set ws 1 r) 2 l) 3 t) 4 c) 2 0 ≡ l
 two ws r l t c many = get_or-set_other (set (set (set ws 1 r) 2 l) 3 t) 4 2 c 0 (λ e. omega (arith, e)) ∙ (get_or-set_other (set (set ws 1 r) 2 l) 3 2 t 0 (λ e. omega (arith, e)) ∙ get_or-set_same (set ws 1 r) 2 l 0 (let m = length-set ws 1 r in omega (arith, many, m)))
 
-three : (ws : List ℕ) (r l t c : ℕ) → length ws ≡ 32 → get_or (set (set (set (set ws 1 r) 2 l) 3 t) 4 c) 3 0 ≡ t
+three : (ws : List ℕ) (r l t c : ℕ) → length ws ≡ row_words → get_or (set (set (set (set ws 1 r) 2 l) 3 t) 4 c) 3 0 ≡ t
 three ws r l t c many = get_or-set_other (set (set (set ws 1 r) 2 l) 3 t) 4 3 c 0 (λ e. omega (arith, e)) ∙ get_or-set_same (set (set ws 1 r) 2 l) 3 t 0 (let m = length-set ws 1 r in let n = length-set (set ws 1 r) 2 l in omega (arith, many, m, n))
 
-four : (ws : List ℕ) (r l t c : ℕ) → length ws ≡ 32 → get_or (set (set (set (set ws 1 r) 2 l) 3 t) 4 c) 4 0 ≡ c
+four : (ws : List ℕ) (r l t c : ℕ) → length ws ≡ row_words → get_or (set (set (set (set ws 1 r) 2 l) 3 t) 4 c) 4 0 ≡ c
 four ws r l t c many = get_or-set_same (set (set (set ws 1 r) 2 l) 3 t) 4 c 0 (let m = length-set ws 1 r in let n = length-set (set ws 1 r) 2 l in let o = length-set (set (set ws 1 r) 2 l) 3 t in omega (arith, many, m, n, o))
 
 low_words : (ws : List ℕ) (r l t c : ℕ) → drop 8 (set (set (set (set ws 1 r) 2 l) 3 t) 4 c) ≡ drop 8 ws

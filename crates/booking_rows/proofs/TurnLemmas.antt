@@ -8,7 +8,7 @@ use Rattle.history_model.specs.declared.phase.EndKind.{EndKind}
 use Rattle.history_model.specs.declared.phase.EndKind.TheVariants as kind
 use Rattle.history_model.specs.declared.phase.Phase.{Phase}
 use Rattle.history_model.specs.declared.phase.Phase.TheVariants as phase
-use Rattle.history_model.specs.Booking.{Booking, Layout, State, least_difference, greatest_difference, present, limit_of}
+use Rattle.history_model.specs.Booking.{Booking, Layout, State, most_items, least_difference, greatest_difference, present, limit_of}
 use Rattle.history_model.specs.Phase.{is_live, is_sealed, said_phase}
 use Rattle.history_model.specs.Allowed.{IsAllowedStep, IsAmountOf, IsMadeBy, IsBeingEndedBy, OnRow, TurnsWith}
 use Rattle.history_model.specs.History.{IsLegal, entry, state_of}
@@ -154,8 +154,8 @@ length-items row w (i ∷ is) = ap suc (length-items row (suc w) is)
 pub one_bound : (old new : DeskView) (st : Step) → Stepped st old new → AddsAtMost 26 old new
 one_bound old new st did = adds_length old new (st ∷ []) 26 (step_shape st old new did) (omega arith)
 
-pub items_bound : (old new : DeskView) (st : Step) (row : ℕ) (items : List Item) → Shape old new (st ∷ items_read row items) → length items ≤ 24 → AddsAtMost 26 old new
-items_bound old new st row items did few = adds_length old new (st ∷ items_read row items) 26 did (let l = length-items row 8 items in omega arith)
+pub items_bound : (old new : DeskView) (st : Step) (row : ℕ) (items : List Item) → Shape old new (st ∷ items_read row items) → length items ≤ most_items → AddsAtMost (most_items + 2) old new
+items_bound old new st row items did few = adds_length old new (st ∷ items_read row items) (most_items + 2) did (let l = length-items row 8 items in omega arith)
 
 -- what a turn answered, as the aim says it
 

@@ -15,7 +15,7 @@ use Rattle.history_model.specs.declared.phase.EndKind.TheVariants.{Release, Expi
 use Rattle.history_model.specs.declared.phase.Phase.{Phase}
 use Rattle.history_model.specs.declared.phase.Phase.TheVariants.{Free, Making, Prebooked, Confirmed, Fulfilled, Ending, Ended}
 use Rattle.history_model.specs.Allowed.{OnRow, IsAmountOf, HasEndWords}
-use Rattle.history_model.specs.Booking.{Booking, State, greatest_amount, greatest_retailer, last_moment, present, phase_of_row, word_at, amount_word}
+use Rattle.history_model.specs.Booking.{Booking, State, most_items, greatest_amount, greatest_retailer, last_moment, present, phase_of_row, word_at, amount_word}
 use Rattle.history_model.specs.History.{IsLegal}
 use Rattle.history_model.specs.Laws.{HasAmountFor, IsInRange, LiesWithin, IsSound, Stays, unmarked}
 use Rattle.history_model.specs.Phase.{is_sealed, word_of_phase, said_phase}
@@ -110,11 +110,11 @@ limit_fits row v old new did on = let b = seen_sealed row 2 v old new did (omega
 pub total_fits : (row v : ℕ) (old new : DeskView) → Stepped (SawRow row 3 v) old new → IsSealedRow old row → v ≤ greatest_amount
 total_fits row v old new did on = let b = seen_sealed row 3 v old new did (omega arith) on in subst (λ (n : ℕ). n ≤ greatest_amount) (sym b.4) (b.3.sealed b.2).total
 
-pub count_fits : (row v : ℕ) (old new : DeskView) → Stepped (SawRow row 4 v) old new → IsSealedRow old row → (v ≤ 24) × HasItems new row v
+pub count_fits : (row v : ℕ) (old new : DeskView) → Stepped (SawRow row 4 v) old new → IsSealedRow old row → (v ≤ most_items) × HasItems new row v
 count_fits row v old new did on =
     let b = seen_sealed row 4 v old new did (omega arith) on in
     let many : v ≡ length b.0.items = b.4 ∙ (b.3.sealed b.2).count in
-    (subst (λ (n : ℕ). n ≤ 24) (sym many) b.3.count, on_row (state_seen new) row b.0 (λ b. (is_sealed b.phase ≡ true) × (length b.items ≡ v)) b.1 (b.2, sym many))
+    (subst (λ (n : ℕ). n ≤ most_items) (sym many) b.3.count, on_row (state_seen new) row b.0 (λ b. (is_sealed b.phase ≡ true) × (length b.items ≡ v)) b.1 (b.2, sym many))
 
 -- a word of an item
 
@@ -150,7 +150,8 @@ shows_item row v k count old new places legs did on below =
       (
         lt_le x.0.place (length new.layout.legs) most_places x.1.place places,
         x.1.some,
-        le_trans x.0.span.to (slice_index new.layout.legs x.0.place) 63 x.1.legs (legs x.0.place 0 x.1.place),
+        le_trans x.0.span.to (slice_index new.layout.legs x.0.place) most_legs x.1.legs (legs x.0.place 0 x.1.place),
+        x.1.piece,
         sym (shown row (8 + k) v old new b.0 did b.1 (omega arith) ∙ word),
       ),
     )
@@ -164,7 +165,7 @@ shows_item row v k count old new places legs did on below =
 -- one item more
 pub one_more : (a b c : DeskView) (row v k count : ℕ) (read : List Item) (i : Item) → length read ≡ k → IsItemOf i.place i.span v → Shape a b (SawRow row 4 count ∷ item_looks row 8 read) → Stepped (SawRow row (8 + k) v) b c → Shape a c (SawRow row 4 count ∷ item_looks row 8 (read ++ i ∷ []))
 one_more a b c row v k count read i many its s did =
-    let same : SawRow row (8 + k) v ≡ SawRow row (8 + length read) (item_word i.place i.span) = λ j. SawRow row (8 + sym many j) (sym its.3 j) in
+    let same : SawRow row (8 + k) v ≡ SawRow row (8 + length read) (item_word i.place i.span) = λ j. SawRow row (8 + sym many j) (sym its.4 j) in
     subst (λ (l : List Step). Shape a c (SawRow row 4 count ∷ l)) (ap (λ (x : Step). item_looks row 8 read ++ x ∷ []) same ∙ sym (looks-snoc row 8 read i)) (shape_then a b c (SawRow row 4 count ∷ item_looks row 8 read) (SawRow row (8 + k) v ∷ []) s (step_shape (SawRow row (8 + k) v) b c did))
 
 -- end words
@@ -251,7 +252,7 @@ end_few row (Ending k) e = omega arith
 end_few row (Ended k) None = omega arith
 end_few row (Ended k) (Some e) = omega arith
 
-pub row_few : (row : ℕ) (v : RowSeen) → length v.items ≤ 24 → length (saw_row row v) ≤ 32
+pub row_few : (row : ℕ) (v : RowSeen) → length v.items ≤ most_items → length (saw_row row v) ≤ most_items + 8
 row_few row v few =
     let e = saw_end row v.phase v.ended in
     let l = length-append (item_looks row 8 v.items) e in
@@ -290,8 +291,8 @@ pub row_shape : (a b c : DeskView) (row n : ℕ) (v : RowSeen) (ph : Phase) → 
 row_shape a b c row n v ph first is same rest =
     shape_then a b c (saw_phase row v.phase ∷ []) (saw_words row v) (subst (λ (p : Phase). Shape a b (saw_phase row p ∷ [])) (sym same) (first_shape row n ph a b first is)) rest
 
-pub row_bound : (old new : DeskView) (row : ℕ) (v : RowSeen) → Shape old new (saw_row row v) → length v.items ≤ 24 → AddsAtMost 32 old new
-row_bound old new row v did few = adds_length old new (saw_row row v) 32 did (row_few row v few)
+pub row_bound : (old new : DeskView) (row : ℕ) (v : RowSeen) → Shape old new (saw_row row v) → length v.items ≤ most_items → AddsAtMost (most_items + 8) old new
+row_bound old new row v did few = adds_length old new (saw_row row v) (most_items + 8) did (row_few row v few)
 
-pub one_look_bound : (old new : DeskView) (st : Step) → Stepped st old new → AddsAtMost 32 old new
-one_look_bound old new st did = adds_length old new (st ∷ []) 32 (step_shape st old new did) (omega arith)
+pub one_look_bound : (old new : DeskView) (st : Step) → Stepped st old new → AddsAtMost (most_items + 8) old new
+one_look_bound old new st did = adds_length old new (st ∷ []) (most_items + 8) (step_shape st old new did) (omega arith)

@@ -10,7 +10,7 @@ use Rattle.history_model.specs.Booking.{Booking, Layout, greatest_amount}
 use Rattle.history_model.specs.Allowed.{OnRow}
 use Rattle.claim_rule.specs.Rule.{DeskView, state_seen}
 
--- each item of these places has a word: there are not too many places, and none has more legs than a word has bits for
+-- each item of these places has a word: there are not too many places, and none has too many legs
 pub record FitWords (g : Layout) : Type 0 where
   pub places : length g.legs ≤ most_places
   pub legs : All (λ n. n ≤ most_legs) g.legs

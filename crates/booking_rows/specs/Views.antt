@@ -1,7 +1,7 @@
 -- A row as a look at it shows it.
 use Rattle.std.specs.Prelude.{◌≡◌, ◌<◌, ◌≤◌, ℕ, ℤ, pos, negsuc, ◌==◌, ◌/◌, ◌%◌, if◌then◌else◌, Bool, true, false, List, [], ◌∷◌, ◌++◌, Option, Some, None}
 use Rattle.std.specs.List.{AllByRecursion}
-use Rattle.leg_masks.specs.Interval.{PlacedSpan as Item, most_places, most_legs}
+use Rattle.leg_masks.specs.Interval.{PlacedSpan as Item, IsPiece, most_places, most_legs}
 use Rattle.history_model.specs.declared.entry.Step.{Step}
 use Rattle.history_model.specs.declared.entry.Step.TheVariants.{SawRow}
 use Rattle.history_model.specs.declared.phase.Phase.{Phase}
@@ -64,7 +64,7 @@ HasSaidAmount phase e = Unit {0}
 
 -- the item has a word, which is no other item's
 abbrev pub HasWord : Item → Type 0
-HasWord i = (i.place < most_places) × (i.span.from < i.span.to) × (i.span.to ≤ most_legs)
+HasWord i = (i.place < most_places) × (i.span.from < i.span.to) × (i.span.to ≤ most_legs) × IsPiece i.span
 
 -- a view of a sealed row. Its end stands exactly where the row is ended, with the amount that its word says
 pub record IsSeen (v : RowSeen) : Type 0 where

@@ -10,8 +10,6 @@
 mod holds;
 pub mod laws;
 mod notes;
-#[cfg(test)]
-mod tests;
 mod turns;
 mod views;
 

@@ -1,5 +1,5 @@
 //! What a maker notes in its row, and the seal.
-ghost use Rattle.std.specs.Prelude.{ℕ, ◌≡◌, ◌≤◌, ◌+◌, [], ◌∷◌, ◌++◌, List, length};
+ghost use Rattle.std.specs.Prelude.{ℕ, ◌≡◌, ◌≤◌, ◌<◌, ◌+◌, [], ◌∷◌, ◌++◌, List, length};
 ghost use Rattle.leg_masks.specs.Interval.{item_word, PlacedSpan as Item};
 ghost use Rattle.history_model.specs.declared.entry.Step.TheVariants.{Note, Seal};
 ghost use Rattle.history_model.specs.Booking.{first_item_word, greatest_amount, greatest_retailer};
@@ -43,16 +43,16 @@ impl Sealed {
     }
 }
 
-/// Notes the word of the hold's last item, where those of the items before it are noted.
+/// Notes the word of the hold's last item. Where those of the items before it are noted, all are then.
 pub fn note_item(books: &Books, desk: &mut Desk, hold: &mut Hold)
     requires own { IsOf books.now desk.old }
     requires hold { IsHolding desk.old hold.old }
-    requires noted { HasNotedButLast desk.old hold.old }
+    requires some { 0 < length hold.old.items }
     ensures own { IsOf books.now desk.new }
     ensures entries { (front : List Item) (last : Item) → hold.old.items ≡ front ++ last ∷ [] → Shape desk.old desk.new (Note hold.old.row (first_item_word + length front) (item_word last.place last.span) ∷ []) }
     ensures same { hold.new ≡ hold.old }
     ensures hold { IsHolding desk.new hold.new }
-    ensures noted { HasNotedItems desk.new hold.new }
+    ensures noted { HasNotedButLast desk.old hold.old → HasNotedItems desk.new hold.new }
     ensures endings { KeepsEndings desk.old desk.new }
 {
     let last = hold.items().len() - 1;
@@ -60,18 +60,16 @@ pub fn note_item(books: &Books, desk: &mut Desk, hold: &mut Hold)
     books.step_note(desk, hold, FIRST_ITEM_WORD as u8 + last as u8, word);
 }
 
-/// Notes retailer, limit, total and the number of items, where all items are noted. The hold may then be sealed.
+/// Notes retailer, limit, total and the number of items. Where there is an item, all items are noted and the total is in
+/// range, the hold may then be sealed.
 pub fn note_detail(books: &Books, desk: &mut Desk, hold: &mut Hold, detail: Detail)
     requires own { IsOf books.now desk.old }
     requires hold { IsHolding desk.old hold.old }
-    requires noted { HasNotedItems desk.old hold.old }
-    requires some { 1 ≤ length hold.old.items }
-    requires total { detail.total ≤ greatest_amount }
     ensures own { IsOf books.now desk.new }
     ensures entries { Shape desk.old desk.new (detail_notes hold.old.row detail (length hold.old.items)) }
     ensures same { hold.new ≡ hold.old }
     ensures hold { IsHolding desk.new hold.new }
-    ensures ready { IsToBeSealed desk.new hold.new }
+    ensures ready { HasNotedItems desk.old hold.old → 1 ≤ length hold.old.items → detail.total ≤ greatest_amount → IsToBeSealed desk.new hold.new }
     ensures endings { KeepsEndings desk.old desk.new }
 {
     let count = hold.items().len() as u64;

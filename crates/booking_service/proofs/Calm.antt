@@ -31,7 +31,7 @@ use Rattle.refund_core.specs.declared.releasing.Released.TheVariants as released
 use Rattle.booking_service.specs.Finding.{FindsBooking}
 
 calm_look : (st : Step) → is_look st ≡ true → exchanges st ≡ false
-calm_look (Look place shown) is = refl
+calm_look (Look place half shown) is = refl
 calm_look (SawRow row word value) is = refl
 calm_look (LostTurn row wanted shown) is = refl
 calm_look Met is = refl

@@ -1,7 +1,7 @@
 -- Each kind of step is allowed, and writes what it says.
 use Rattle.std.proofs.Common.{◌≡◌, ◌⊎◌, ℕ, ◌+◌, ◌-◌, ◌<◌, ◌≤◌, Bool, true, false, cond, eqb, bit_or, bit_and, w64, lit<, lit≤, ℤ, List, [], ◌++◌, length, arith, Option, Some, None, refl, sym, ap, ◌∙◌, subst, ⊎_elim, inl, inr, eq-eqb, ne_eqb, slice_get}
 use Rattle.std.proofs.lemmas.Bool.{cases_eq}
-use Rattle.std.specs.Int.{bit_at, bit_not}
+use Rattle.std.specs.Int.{bit_not}
 use Rattle.std.specs.List.{Any}
 use Rattle.std.specs.Option.{option_map_or}
 use mathlib.Core.List.{IsPrefix}
@@ -11,7 +11,7 @@ use Rattle.claim_rule.specs.declared.rule.View.{View}
 use Rattle.claim_rule.specs.Rule.{Steps, HasAll}
 use Rattle.claim_rule.specs.Seats.{seeing, either_step, CanTake, CanGive, CanNote, CanTurn, turn_step}
 use Rattle.claim_rule.specs.Holds.{IsItem, held}
-use Rattle.history_model.proofs.Bits.{bit_at-place_word}
+use Rattle.history_model.proofs.Bits.{shows-on_piece}
 use Rattle.history_model.proofs.Changes.{open_from_legs}
 use Rattle.history_model.proofs.Forward.{stays-history}
 use Rattle.history_model.proofs.Keeping.{found}
@@ -36,12 +36,13 @@ use Rattle.history_model.specs.declared.phase.Phase.{Phase}
 use Rattle.history_model.specs.declared.phase.Phase.TheVariants.{Confirmed, Ended, Ending, Free, Fulfilled, Making, Prebooked}
 use Rattle.history_model.specs.declared.word.Word.{Word}
 use Rattle.history_model.specs.declared.word.Word.TheVariants.{Place, Row}
+use Rattle.leg_masks.proofs.HalfLegs.{half_of-lt}
 use Rattle.leg_masks.proofs.Masks.{bit}
-use Rattle.leg_masks.specs.Interval.{Interval, IsClear, mask, most_legs}
+use Rattle.leg_masks.specs.Interval.{Interval, IsClear, IsPiece, half_of, mask, most_legs, shows}
 use Rattle.leg_masks.specs.Interval.{PlacedSpan as Item}
 
 pub looks : (lay : Layout) (v : View) (a : Word) → IsWord lay a → Steps lay v a (λ n. n) (seeing a)
-looks lay v (Place p) is h legal pre own = ((is, refl), record { here = refl; rest = λ b _. refl })
+looks lay v (Place p half) is h legal pre own = ((is.0, is.1, refl), record { here = refl; rest = λ b _. refl })
 looks lay v (Row r w) is h legal pre own = ((is.0, is.1, refl), record { here = refl; rest = λ b _. refl })
 
 pub meets : (lay : Layout) (v : View) (a : Word) → Steps lay v a (λ n. n) (λ _. Met)
@@ -102,23 +103,20 @@ bit_zero : (b : Bool) → bit b ≡ 0 → b ≡ false
 bit_zero true e = absurd (omega (arith, e))
 bit_zero false e = refl
 
--- a place whose word is clear on the span is open there
-pub open_of_clear : (s : State) (p n : ℕ) (span : Interval) → span.to ≤ most_legs → place_word s p ≡ n → IsClear n span → IsOpen s p span
-open_of_clear s p n span fits is clear = open_from_legs s p span (λ leg holds. bit_zero (is_occupied s p leg)
-    (sym (bit_at-place_word s p leg (below leg span.to holds.1 fits)) ∙ (ap (λ (x : ℕ). bit_at x leg) is ∙ clear leg holds.0 holds.1)))
-  where
-    below : (l t : ℕ) → l < t → t ≤ 63 → l < 63
-    below l t a b = omega arith
+-- a place whose word is clear on the piece is open there
+pub open_of_clear : (s : State) (p n : ℕ) (span : Interval) → span.to ≤ most_legs → IsPiece span → place_word s p (half_of span) ≡ n → IsClear n span → IsOpen s p span
+open_of_clear s p n span fits piece is clear = open_from_legs s p span (λ leg holds. bit_zero (is_occupied s p leg)
+    (sym (shows-on_piece s p span fits piece leg holds) ∙ (ap (λ (x : ℕ). shows x leg) is ∙ clear leg holds.0 holds.1)))
 
 pub takes : (lay : Layout) (a : Seat ℕ View) (r : ℕ) (i : Item) (old : ℕ) → CanTake lay a r → IsItem lay i → IsClear old i.span
-    → Steps lay a.me.0 (Place i.place) (λ n. either (eqb n old) (bit_or old (mask i.span)) n) (either_step old (Take r i.place i.span) (Place i.place))
-takes lay a r i old can item clear = exchanges lay a.me.0 (Place i.place) old (bit_or old (mask i.span)) (Take r i.place i.span) item.place
+    → Steps lay a.me.0 (Place i.place (half_of i.span)) (λ n. either (eqb n old) (bit_or old (mask i.span)) n) (either_step old (Take r i.place i.span) (Place i.place (half_of i.span)))
+takes lay a r i old can item clear = exchanges lay a.me.0 (Place i.place (half_of i.span)) old (bit_or old (mask i.span)) (Take r i.place i.span) (item.place, half_of-lt i.span item.some item.fits)
     (λ h legal pre mine e.
     let s : State = state_of lay h in
     let P : Booking → Type 0 = λ b. IsMadeBy a.me.0.number b × (length b.items < most_items) in
     let b = own_on lay a.me.0.seen a.me.0.number h r P (λ b m. maker a.me.0.number b m.0) legal pre mine can.1 in
-    let w = take_writes s r i.place i.span b.0 b.1 item.some item.fits in (
-      (can.0, item.place, on_row s r b.0 P b.1 b.2, item.some, item.within, open_of_clear s i.place old i.span item.fits e clear),
+    let w = take_writes s r i.place i.span b.0 b.1 item.some item.fits item.piece in (
+      (can.0, item.place, on_row s r b.0 P b.1 b.2, item.some, item.piece, item.within, open_of_clear s i.place old i.span item.fits item.piece e clear),
       record { here = w.here ∙ ap (λ (x : ℕ). bit_or x (mask i.span)) e; rest = w.rest },
     ))
 
@@ -128,7 +126,7 @@ may_give d k b may = ⊎_elim (λ m. maker d b m.0) (λ m. ender d b m.0) may
 may_note : (d w : ℕ) (b : Booking) → MayNote d w b → (b.owner ≡ d) × (is_owners b.phase ≡ true)
 may_note d w b may = ⊎_elim (λ m. maker d b m.0) (λ m. ender d b m.0) may
 
-pub gives : (lay : Layout) (a : Seat ℕ View) (r k : ℕ) (i : Item) → CanGive lay a r k i → Steps lay a.me.0 (Place i.place) (λ n. bit_and n (bit_not w64 (mask i.span))) (λ _. Give r k)
+pub gives : (lay : Layout) (a : Seat ℕ View) (r k : ℕ) (i : Item) → CanGive lay a r k i → Steps lay a.me.0 (Place i.place (half_of i.span)) (λ n. bit_and n (bit_not w64 (mask i.span))) (λ _. Give r k)
 gives lay a r k i can h legal pre mine =
     let s : State = state_of lay h in
     let d : ℕ = a.me.0.number in
@@ -143,13 +141,13 @@ starts lay v r l = exchanges lay v (Row r 0) 0 1 (Start r) (l, lit< tt)
 note_range : (d w : ℕ) (b : Booking) → MayNote d w b → (w < row_words) × (w ≡ 0 → ⊥)
 note_range d w b may = ⊎_elim (λ m. maker_range w m.1) (λ m. (under w m.1, (λ e. zero_not w e m.1))) may
   where
-    under : (w : ℕ) → (5 ≤ w) × (w ≤ 7) → w < 32
+    under : (w : ℕ) → (5 ≤ w) × (w ≤ 7) → w < 64
     under w x = omega (arith, x)
 
     zero_not : (w : ℕ) → w ≡ 0 → (5 ≤ w) × (w ≤ 7) → ⊥
     zero_not w e x = omega (arith, x, e)
 
-    maker_range : (w : ℕ) → ((1 ≤ w) × (w ≤ 4)) ⊎ ((8 ≤ w) × (w < 8 + 24)) → (w < 32) × (w ≡ 0 → ⊥)
+    maker_range : (w : ℕ) → ((1 ≤ w) × (w ≤ 4)) ⊎ ((8 ≤ w) × (w < 8 + 48)) → (w < 64) × (w ≡ 0 → ⊥)
     maker_range w (inl x) = (omega (arith, x), (λ e. omega (arith, x, e)))
     maker_range w (inr x) = (omega (arith, x), (λ e. omega (arith, x, e)))
 

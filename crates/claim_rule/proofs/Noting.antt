@@ -5,7 +5,7 @@ use mathlib.Core.List.{map-append}
 use Rattle.leg_masks.specs.Interval.{item_word, PlacedSpan as Item}
 use Rattle.history_model.specs.declared.entry.Step.{Step}
 use Rattle.history_model.specs.declared.entry.Step.TheVariants.{Take, Give, Note}
-use Rattle.history_model.specs.Booking.{Booking, State, present, change}
+use Rattle.history_model.specs.Booking.{Booking, State, most_items, row_words, present, change}
 use Rattle.history_model.specs.Allowed.{OnRow}
 use Rattle.history_model.specs.Apply.{apply_step, taken, given, noted}
 use Rattle.history_model.specs.History.{IsLegal}
@@ -87,21 +87,24 @@ length_drop zero ws n e = omega (arith, e)
 length_drop (suc k) [] n e = absurd (omega (arith, e))
 length_drop (suc k) (w ∷ ws) n e = length_drop k ws n (omega (arith, e))
 
-pub sound_words : (desk : DeskView) (hold : HoldView) → IsLegal desk.layout desk.seen → (is : StandsFor desk hold) → length is.booking.words ≡ 32
+pub sound_words : (desk : DeskView) (hold : HoldView) → IsLegal desk.layout desk.seen → (is : StandsFor desk hold) → length is.booking.words ≡ row_words
 sound_words desk hold legal is = (sound_of desk.layout (state_seen desk) hold.row is.booking (is_sound desk.layout desk.seen legal) is.found).words
 
 -- the last item of a hold is noted
-pub noted_item : (old new : DeskView) (hold : HoldView) (front : List Item) (i : Item) (k : ℕ) → IsLegal old.layout old.seen → StandsFor old hold → k ≡ length front → length front < 24 → Stepped (Note hold.row (8 + k) (item_word i.place i.span)) old new → HasNoted old hold.row front → HasNoted new hold.row (front ++ i ∷ [])
+pub noted_item : (old new : DeskView) (hold : HoldView) (front : List Item) (i : Item) (k : ℕ) → IsLegal old.layout old.seen → StandsFor old hold → k ≡ length front → length front < most_items → Stepped (Note hold.row (8 + k) (item_word i.place i.span)) old new → HasNoted old hold.row front → HasNoted new hold.row (front ++ i ∷ [])
 noted_item old new hold front i k legal is many room did on =
     let v = item_word i.place i.span in
     let now = own_changes (Note hold.row (8 + k) v) old new did hold.row is.booking (noted (8 + k) v) (λ s. refl) (λ _. refl) is.found is.owner (firm_making is.booking.phase is.making) in
     let was : take (length front) (drop 8 is.booking.words) ≡ words_of front = stands_on old hold (λ b. take (length front) (drop 8 b.words) ≡ words_of front) is on in
-    let long : length (drop 8 is.booking.words) ≡ 24 = length_drop 8 is.booking.words 24 (sound_words old hold legal is) in
+    let long : length (drop 8 is.booking.words) ≡ 56 = length_drop 8 is.booking.words 56 (sound_words old hold legal is) in
     on_row (state_seen new) hold.row (noted (8 + k) v is.booking) (λ b. take (length (front ++ i ∷ [])) (drop 8 b.words) ≡ words_of (front ++ i ∷ [])) now
     (ap (λ (n : ℕ). take n (drop 8 (set is.booking.words (8 + k) v))) (length-append front (i ∷ []) ∙ one_more (length front))
     ∙ (ap (take (suc (length front))) (drop_set 8 k v is.booking.words ∙ ap (λ (n : ℕ). set (drop 8 is.booking.words) n v) many)
-    ∙ (set_behind (length front) v (drop 8 is.booking.words) (words_of front) (subst (λ (n : ℕ). length front < n) (sym long) room) (length-map front (λ (x : Item). item_word x.place x.span)) was
+    ∙ (set_behind (length front) v (drop 8 is.booking.words) (words_of front) (subst (λ (n : ℕ). length front < n) (sym long) (lt_room (length front) room)) (length-map front (λ (x : Item). item_word x.place x.span)) was
     ∙ sym (map-append (λ (x : Item). item_word x.place x.span) front (i ∷ [])))))
   where
     one_more : (n : ℕ) → n + 1 ≡ suc n
     one_more n = omega arith
+
+    lt_room : (n : ℕ) → n < 48 → n < 56
+    lt_room n l = omega arith

@@ -153,7 +153,7 @@ still_idle a b p q is = (p.none is.0, q.none is.1)
 -- looks alone touch no row
 
 look_quiet : (st : Step) (r : ℕ) → is_look st ≡ true → (is_quiet r st ≡ true) × (starts_row r st ≡ false) × (ends_row r st ≡ false)
-look_quiet (Look p n) r is = (refl, refl, refl)
+look_quiet (Look p half n) r is = (refl, refl, refl)
 look_quiet (Take q p span) r is = absurd (let no : false ≡ true = is in cc)
 look_quiet (Give q k) r is = absurd (let no : false ≡ true = is in cc)
 look_quiet (Start q) r is = absurd (let no : false ≡ true = is in cc)

@@ -91,7 +91,7 @@ closed_still g b (kind, ending, given, words) making =
     absurd (let no : Ended kind ≡ Making = sym (ap ended_phase ending.0) ∙ making in cc)
 
 pub step_keeps : (g : Layout) (s : State) (st : Step) → IsAllowedStep g s 0 st → is_start st ≡ false → IsOwnWork s → IsOwnWork (apply_step s 0 st)
-step_keeps g s (Look place shown) may none work = work
+step_keeps g s (Look place half shown) may none work = work
 step_keeps g s (Take row place span) may none work =
     work_changed s row (taken place span) (λ b. IsMadeBy 0 b × (length b.items < most_items)) may.2 (λ b p e. e) (λ b p own. own) work
 step_keeps g s (Give row item) may none work = work_changed s row (given item) (MayGive 0 item) may.1 (λ b p e. e) (λ b p own. own) work

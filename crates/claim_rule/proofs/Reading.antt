@@ -2,7 +2,7 @@
 use Rattle.std.proofs.Common.{◌≡◌, ℕ, zero, suc, ◌+◌, ◌<◌, ◌≤◌, List, [], ◌∷◌, ◌++◌, map, take, drop, length, get_or, slice_get, Bool, true, false, cond, Option, Some, None, refl, sym, ap, ◌∙◌, subst, arith, length-append, eqb, ne_eqb, slice_index}
 use Rattle.std.specs.List.{All, AllByRecursion}
 use Rattle.std.proofs.Math.Numerals.{add-one}
-use Rattle.leg_masks.specs.Interval.{Interval, item_word, IsItemOf, most_places}
+use Rattle.leg_masks.specs.Interval.{Interval, item_word, IsItemOf, most_legs, most_places}
 use Rattle.leg_masks.proofs.Items.{one_item}
 use Rattle.history_model.specs.Laws.{LiesWithin, IsSound}
 use Rattle.claim_rule.specs.Rule.{DeskView, Each}
@@ -18,7 +18,7 @@ use Rattle.claim_rule.proofs.Shapes.{shape_then, step_shape}
 use Rattle.history_model.proofs.Seen.{legal-rest}
 use Rattle.history_model.proofs.Writing.{sound_of, word_in}
 use Rattle.history_model.specs.Allowed.{IsAllowedStep}
-use Rattle.history_model.specs.Booking.{Booking, Layout, State, word_at}
+use Rattle.history_model.specs.Booking.{Booking, Layout, State, most_items, word_at}
 use Rattle.history_model.specs.History.{IsLegal, entry, state_of}
 use Rattle.history_model.specs.Phase.{is_sealed, word_of_phase}
 use Rattle.history_model.specs.Words.{row_word}
@@ -40,12 +40,12 @@ pub sound_now : (desk : DeskView) (e : EndingView) → IsLegal desk.layout desk.
 sound_now desk e legal is = sound_of desk.layout (state_of desk.layout desk.seen) e.row is.booking (is_sound desk.layout desk.seen legal) is.found
 
 -- the first look shows how many items there are
-pub read_count : (v : ℕ) (old new : DeskView) (e : EndingView) → Stepped (SawRow e.row 4 v) old new → (was : IsEndingOf old e) → (is : IsEndingOf new e) × (v ≡ length is.booking.items) × (v ≤ 24) × (is.booking ≡ was.booking)
+pub read_count : (v : ℕ) (old new : DeskView) (e : EndingView) → Stepped (SawRow e.row 4 v) old new → (was : IsEndingOf old e) → (is : IsEndingOf new e) × (v ≡ length is.booking.items) × (v ≤ most_items) × (is.booking ≡ was.booking)
 read_count v old new e did was =
     let is = end_stays (SawRow e.row 4 v) old new e refl did was in
     let sound = sound_now new e did.legal is in
     let shown : v ≡ length is.booking.items = saw e.row 4 v old new did ∙ (ap (word_in 4) is.found ∙ (sound.sealed (ap is_sealed is.phase)).count) in
-    (is, shown, subst (λ (n : ℕ). n ≤ 24) (sym shown) sound.count, refl)
+    (is, shown, subst (λ (n : ℕ). n ≤ most_items) (sym shown) sound.count, refl)
 
 get_take : (n k : ℕ) (ws : List ℕ) → k < n → get_or (take n ws) k 0 ≡ get_or ws k 0
 get_take zero k ws l = absurd (omega arith)
@@ -69,7 +69,7 @@ all_at P (i ∷ is) zero x h e = let same : i ≡ x = cc in subst P same h.0
 all_at P (i ∷ is) (suc k) x h e = all_at P is k x h.1 e
 
 -- each further look shows the word of an item
-pub read_at : (v k : ℕ) (old new : DeskView) (e : EndingView) → length new.layout.legs ≤ most_places → Stepped (SawRow e.row (8 + k) v) old new → e.read ≡ false → (was : IsEndingOf old e) → k < length was.booking.items → AllByRecursion (λ i. i.span.to ≤ 63) was.booking.items
+pub read_at : (v k : ℕ) (old new : DeskView) (e : EndingView) → length new.layout.legs ≤ most_places → Stepped (SawRow e.row (8 + k) v) old new → e.read ≡ false → (was : IsEndingOf old e) → k < length was.booking.items → AllByRecursion (λ i. i.span.to ≤ most_legs) was.booking.items
     → (is : IsEndingOf new e) × (is.booking ≡ was.booking) × ((x : BookedItem) × (slice_get was.booking.items k ≡ Some x) × (x.given_back ≡ false) × LiesWithin new.layout x × IsItemOf x.place x.span v)
 read_at v k old new e few did unread was below fits =
     let is = end_stays (SawRow e.row (8 + k) v) old new e refl did was in
@@ -90,7 +90,7 @@ read_at v k old new e few did unread was below fits =
         x.1,
         all_at (λ i. i.given_back ≡ false) items k x.0 (was.fresh unread).0 x.1,
         lies,
-        (lt_le x.0.place (length new.layout.legs) most_places lies.place few, lies.some, all_at (λ i. i.span.to ≤ 63) items k x.0 fits x.1, sym (shown ∙ word)),
+        (lt_le x.0.place (length new.layout.legs) most_places lies.place few, lies.some, all_at (λ i. i.span.to ≤ most_legs) items k x.0 fits x.1, lies.piece, sym (shown ∙ word)),
       ),
     )
   where
@@ -110,7 +110,7 @@ pub record ReadSoFar (desk : DeskView) (e : EndingView) (count k : ℕ) (read : 
   pub count_is : count ≡ length is.booking.items
   pub items : map held read ≡ take k is.booking.items
   pub many : length read ≡ k
-  pub fits : AllByRecursion (λ i. i.span.to ≤ 63) is.booking.items
+  pub fits : AllByRecursion (λ i. i.span.to ≤ most_legs) is.booking.items
   pub within : Each (IsItem desk.layout) read
 
 snoc_take : (is : List BookedItem) (k : ℕ) (x : BookedItem) → slice_get is k ≡ Some x → take (suc k) is ≡ take k is ++ x ∷ []
@@ -127,7 +127,7 @@ read_more v k count old new e read i few did unread so below its =
     let r = read_at v k old new e few did unread so.is (subst (λ (n : ℕ). k < n) so.count_is below) so.fits in
     let x = r.2.0 in
     let w = r.2.4 in
-    let one = one_item i.place x.place i.span x.span its.1 its.2 w.1 w.2 (its.3 ∙ sym w.3) in
+    let one = one_item i.place x.place i.span x.span its.1 its.2 w.1 w.2 (its.4 ∙ sym w.4) in
     let here : held i ≡ x = same_item i x r.2.2 one.0 one.1 in
     let lies = r.2.3 in
     record {
@@ -136,9 +136,9 @@ read_more v k count old new e read i few did unread so below its =
       items = map-append held read (i ∷ []) ∙ (ap (λ l. l ++ held i ∷ []) so.items ∙ (ap (λ (y : BookedItem). take k so.is.booking.items ++ y ∷ []) here ∙ (sym (snoc_take so.is.booking.items k x r.2.1)
           ∙ (ap (λ (n : ℕ). take n so.is.booking.items) (sym (add-one k)) ∙ ap (λ (b : Booking). take (k + 1) b.items) (sym r.1)))));
       many = length-append read (i ∷ []) ∙ ap (λ (n : ℕ). n + 1) so.many;
-      fits = subst (λ (b : Booking). AllByRecursion (λ i. i.span.to ≤ 63) b.items) (sym r.1) so.fits;
+      fits = subst (λ (b : Booking). AllByRecursion (λ i. i.span.to ≤ most_legs) b.items) (sym r.1) so.fits;
       within = each_append (IsItem new.layout) read (i ∷ []) (subst (λ (l : Layout). Each (IsItem l) read) (sym did.same.1) so.within)
-          (record { place = subst (λ (n : ℕ). n < length new.layout.legs) (sym one.0) lies.place; some = its.1; within = subst (λ (y : BookedItem). y.span.to ≤ slice_index new.layout.legs y.place) (sym here) lies.legs; fits = its.2 }, tt);
+          (record { place = subst (λ (n : ℕ). n < length new.layout.legs) (sym one.0) lies.place; some = its.1; within = subst (λ (y : BookedItem). y.span.to ≤ slice_index new.layout.legs y.place) (sym here) lies.legs; fits = its.2; piece = its.3 }, tt);
     }
 
 take_whole : (is : List BookedItem) → take (length is) is ≡ is
@@ -161,20 +161,20 @@ read_all desk e count read none so = record {
 }
 
 -- at the start
-pub read_none : (v : ℕ) (old new : DeskView) (e : EndingView) → Stepped (SawRow e.row 4 v) old new → (was : IsEndingOf old e) → AllByRecursion (λ i. i.span.to ≤ 63) was.booking.items → ReadSoFar new e v 0 []
+pub read_none : (v : ℕ) (old new : DeskView) (e : EndingView) → Stepped (SawRow e.row 4 v) old new → (was : IsEndingOf old e) → AllByRecursion (λ i. i.span.to ≤ most_legs) was.booking.items → ReadSoFar new e v 0 []
 read_none v old new e did was fits =
     let r = read_count v old new e did was in
-    record { is = r.0; count_is = r.1; items = refl; many = refl; fits = subst (λ (b : Booking). AllByRecursion (λ i. i.span.to ≤ 63) b.items) (sym r.3) fits; within = tt }
+    record { is = r.0; count_is = r.1; items = refl; many = refl; fits = subst (λ (b : Booking). AllByRecursion (λ i. i.span.to ≤ most_legs) b.items) (sym r.3) fits; within = tt }
 
 -- no item lies past the last leg of a word
-all_fit : (g : Layout) (is : List BookedItem) → All (λ n. n ≤ 63) g.legs → AllByRecursion (LiesWithin g) is → AllByRecursion (λ i. i.span.to ≤ 63) is
+all_fit : (g : Layout) (is : List BookedItem) → All (λ n. n ≤ most_legs) g.legs → AllByRecursion (LiesWithin g) is → AllByRecursion (λ i. i.span.to ≤ most_legs) is
 all_fit g [] most h = tt
-all_fit g (i ∷ is) most h = (le_trans i.span.to (slice_index g.legs i.place) 63 h.0.legs (most i.place 0 h.0.place), all_fit g is most h.1)
+all_fit g (i ∷ is) most h = (le_trans i.span.to (slice_index g.legs i.place) most_legs h.0.legs (most i.place 0 h.0.place), all_fit g is most h.1)
   where
     le_trans : (a b c : ℕ) → a ≤ b → b ≤ c → a ≤ c
     le_trans a b c l m = omega arith
 
-pub items_fit : (desk : DeskView) (e : EndingView) → IsLegal desk.layout desk.seen → All (λ n. n ≤ 63) desk.layout.legs → (is : IsEndingOf desk e) → AllByRecursion (λ i. i.span.to ≤ 63) is.booking.items
+pub items_fit : (desk : DeskView) (e : EndingView) → IsLegal desk.layout desk.seen → All (λ n. n ≤ most_legs) desk.layout.legs → (is : IsEndingOf desk e) → AllByRecursion (λ i. i.span.to ≤ most_legs) is.booking.items
 items_fit desk e legal most is = all_fit desk.layout is.booking.items most (sound_now desk e legal is).within
 
 -- the parts of a further look
@@ -185,5 +185,5 @@ shown_item v k count old new e read few did unread so below =
 -- one look more
 pub seen_more : (a b c : DeskView) (row v k count : ℕ) (read : List Item) (i : Item) → length read ≡ k → IsItemOf i.place i.span v → Shape a b (SawRow row 4 count ∷ item_looks row 8 read) → Stepped (SawRow row (8 + k) v) b c → Shape a c (SawRow row 4 count ∷ item_looks row 8 (read ++ i ∷ []))
 seen_more a b c row v k count read i many its s did =
-    let same : SawRow row (8 + k) v ≡ SawRow row (8 + length read) (item_word i.place i.span) = λ j. SawRow row (8 + sym many j) (sym its.3 j) in
+    let same : SawRow row (8 + k) v ≡ SawRow row (8 + length read) (item_word i.place i.span) = λ j. SawRow row (8 + sym many j) (sym its.4 j) in
     subst (λ (l : List Step). Shape a c (SawRow row 4 count ∷ l)) (ap (λ (x : Step). item_looks row 8 read ++ x ∷ []) same ∙ sym (looks-snoc row 8 read i)) (shape_then a b c (SawRow row 4 count ∷ item_looks row 8 read) (SawRow row (8 + k) v ∷ []) s (step_shape (SawRow row (8 + k) v) b c did))

@@ -1,6 +1,6 @@
 -- What a hold stands for.
 use Rattle.std.specs.Prelude.{◌≡◌, ℕ, ◌<◌, ◌≤◌, List, [], ◌∷◌, ◌++◌, map, length, slice_index, Some, None, false}
-use Rattle.leg_masks.specs.Interval.{most_legs}
+use Rattle.leg_masks.specs.Interval.{IsPiece, most_legs}
 use Rattle.leg_masks.specs.Interval.{PlacedSpan as Item}
 use Rattle.history_model.specs.declared.booking.BookedItem.{BookedItem}
 use Rattle.history_model.specs.declared.phase.Phase.TheVariants.{Making}
@@ -16,12 +16,13 @@ pub record HoldView : Type 0 where
 abbrev pub held : Item → BookedItem
 held i = record { place = i.place; span = i.span; given_back = false }
 
--- the item lies within its place
+-- the item lies within its place, in one half
 pub record IsItem (layout : Layout) (i : Item) : Type 0 where
   pub place : i.place < length layout.legs
   pub some : i.span.from < i.span.to
   pub within : i.span.to ≤ slice_index layout.legs i.place
   pub fits : i.span.to ≤ most_legs
+  pub piece : IsPiece i.span
 
 -- the row is the desk's, in the making, with just these items
 pub record StandsFor (desk : DeskView) (hold : HoldView) : Type 0 where

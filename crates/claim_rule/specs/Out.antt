@@ -105,7 +105,7 @@ IsTidy desk = IsIdle desk × AreSettled (own desk.seen desk.number)
 
 -- a step that only looks
 abbrev pub is_look : Step → Bool
-is_look (Look place shown) = true
+is_look (Look place half shown) = true
 is_look (SawRow row word value) = true
 is_look (LostTurn row wanted shown) = true
 is_look Met = true

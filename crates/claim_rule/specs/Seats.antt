@@ -40,7 +40,7 @@ HasMade layout st a b = (b.table_id ≡ a.table_id) × (b.id ≡ a.id) × (b.me.
 
 -- the step of one that saw the word
 abbrev pub seeing : Word → ℕ → Step
-seeing (Place p) n = Look p n
+seeing (Place p half) n = Look p half n
 seeing (Row r w) n = SawRow r w n
 
 -- the step of an exchange, by the number found

@@ -1,7 +1,7 @@
 //! The books: the shared table, and one step of each kind of atomic operation on it.
 ghost use Rattle.std.specs.Prelude.{◌≡◌, ◌<◌, length, ◌==◌, ◌≤◌, bit_and, All, [], IfOk};
 ghost use prog.Atomic.{either};
-ghost use Rattle.leg_masks.specs.Interval.{most_legs, most_places};
+ghost use Rattle.leg_masks.specs.Interval.{IsPiece, most_legs, most_places};
 ghost use Rattle.history_model.specs.Booking.{most_rows};
 ghost use Rattle.history_model.specs.Words.{IsWord, index};
 ghost use Rattle.claim_rule.specs.Rule.{Steps};
@@ -22,7 +22,7 @@ use std::marker::Model;
 /// The table under the rule.
 pub type Board = Table<u64, View, Plan, OneHistory, Global>;
 
-/// The shared table of a service: one word for each place, and 32 for each booking row. Threads share it.
+/// The shared table of a service: two words for each place, and 64 for each booking row. Threads share it.
 #[derive(Drop)]
 pub struct Books {
     pub(crate) table: Board,
@@ -81,7 +81,7 @@ pub fn start_books(alloc: Global, legs: &[u8], rows: u32) -> Result<(Books, Desk
 }
 
 impl Books {
-    /// How many places there are: at most 4,194,304, each of at most 63 legs.
+    /// How many places there are: at most 4,194,304, each of at most 126 legs.
     pub fn places(&self) -> u32
         ensures count { result ≡ length self.now.layout.legs }
         ensures most { length self.now.layout.legs ≤ most_places }
@@ -99,9 +99,10 @@ impl Books {
         self.rows
     }
 
-    /// The item of these legs at a place of the books.
+    /// The item of these legs, which lie in one half, at a place of the books.
     pub fn item_at(&self, place: PlaceNo, span: Span) -> Item
         requires place { place.0 < length self.now.layout.legs }
+        requires piece { IsPiece span }
         ensures item { result ≡ record { place = place.0; span = span } }
     {
         let _ = &self.table;
@@ -117,7 +118,7 @@ impl Books {
         ensures { result ≡ index self.now.layout at }
     {
         match at {
-            Word::Place(place) => number_of_place(place),
+            Word::Place(place, half) => number_of_place(place, half),
             Word::Row(row, word) => number_of_row(self.places, row, word),
         }
     }

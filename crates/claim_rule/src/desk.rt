@@ -66,12 +66,11 @@ impl Desk {
 
     /// Takes the empty row back, where one is kept.
     pub fn kept(&mut self) -> Option<Hold>
-        requires own { (books : BooksView) × IsOf books self.old }
-        requires none { HoldsNone self.old }
         ensures kept { self.new ≡ record self.old { kept = None } }
         ensures own { (books : BooksView) → IsOf books self.old → IsOf books self.new }
         ensures none { IfNone result (self.old.kept ≡ None) }
-        ensures some { IfSome result (λ hold. (self.old.kept ≡ Some hold.row) × (hold ≡ empty_hold hold.row) × IsHolding self.new hold) }
+        ensures some { IfSome result (λ hold. (self.old.kept ≡ Some hold.row) × (hold ≡ empty_hold hold.row)) }
+        ensures holding { (books : BooksView) → IsOf books self.old → HoldsNone self.old → IfSome result (IsHolding self.new) }
     {
         let row = self.kept?;
         self.kept = None;

@@ -37,11 +37,14 @@ pub struct Ending {
 }
 
 impl Model for Ending {
+    ghost use Rattle.std.specs.Prelude.{◌≤◌, length};
     ghost use Rattle.claim_rule.specs.Endings.{EndingView};
 
     ghost Value = { EndingView };
 
     ghost view = { λ e. record { row = e.row; kind = e.kind; end = e.end; items = e.items.items; given = e.given; read = e.read } };
+
+    ghost invariant = { λ e. e.given ≤ length e.items.items };
 }
 
 /// What a turn answers: it is made, and leaves an ending where it is one to an ending; or the word shown was not that of `from`.
@@ -89,8 +92,8 @@ impl Ending {
 
     /// How many items are not given back yet.
     pub fn left(&self) -> u8
-        requires { self.now.given ≤ length self.now.items }
-        ensures { result + self.now.given ≡ length self.now.items }
+        ensures left { result + self.now.given ≡ length self.now.items }
+        ensures few { self.now.given ≤ length self.now.items }
     {
         self.items.len() as u8 - self.given
     }

@@ -1,10 +1,11 @@
 //! A hold, and the steps of its maker: start, take, give back the last item, note and seal.
 ghost use Rattle.std.specs.Prelude.{◌≡◌, ◌≢◌, ◌<◌, ◌≤◌, length, ◌+◌, bit_and, None, IfNone, IfSome};
-ghost use Rattle.leg_masks.specs.Interval.{IsClear};
+ghost use Rattle.leg_masks.specs.Interval.{IsClear, half_of as spec_half_of};
 ghost use Rattle.leg_masks.specs.Interval.{PlacedSpan as Item};
 ghost use Rattle.history_model.specs.Booking.{most_items};
-ghost use Rattle.history_model.specs.declared.entry.Step.TheVariants.{Look, Take, Give, Start, Note, Seal};
+ghost use Rattle.history_model.specs.declared.entry.Step.TheVariants.{Take, Give, Start, Note, Seal};
 ghost use Rattle.history_model.specs.declared.word.Word.TheVariants.{Place, Row};
+ghost use Rattle.history_model.specs.Looks.{look_at};
 ghost use Rattle.history_model.specs.Allowed.{IsAllowedStep, IsMakerWord};
 ghost use Rattle.history_model.specs.History.{state_of};
 ghost use Rattle.claim_rule.specs.Holds.{IsHoldOf, IsItem, with_one};
@@ -21,7 +22,7 @@ use history_model::booking::MOST_ITEMS;
 use history_model::entry::Step;
 use history_model::phase::{Phase, phase_word};
 use history_model::word::Word;
-use leg_masks::{Item, mask_of};
+use leg_masks::{Item, half_of, mask_of};
 use rail_ids::RowNo;
 use std::marker::{Brand, Model};
 
@@ -63,7 +64,7 @@ impl Hold {
 }
 
 impl Books {
-    // A step that takes legs of a place, or looks where the word is another.
+    // A step that takes legs of a place, which lie in one half, or looks where the word of that half is another.
     pub fn step_take(
         &self,
         desk: &mut Desk,
@@ -79,7 +80,7 @@ impl Books {
         ensures own { IsOf self.now desk.new }
         ensures hold { IsHoldOf desk.new hold.new }
         ensures won { IfNone result (Stepped (Take hold.old.row item.place item.span) desk.old desk.new × (hold.new ≡ with_one hold.old item)) }
-        ensures missed { IfSome result (λ n. (n ≢ expected) × Stepped (Look item.place n) desk.old desk.new × (hold.new ≡ hold.old)) }
+        ensures missed { IfSome result (λ n. (n ≢ expected) × Stepped (look_at item.place item.span n) desk.old desk.new × (hold.new ≡ hold.old)) }
     {
         let found = self.take_at(&mut desk.seat, hold.row, &item, expected);
         if found != expected {
@@ -94,7 +95,7 @@ impl Books {
         requires row { CanTake self.now.layout seat.old row }
         requires item { IsItem self.now.layout item.now }
         requires free { IsClear expected item.now.span }
-        ensures { HasMade self.now.layout (either_step expected (Take row item.now.place item.now.span) (Place item.now.place) result) seat.old seat.new }
+        ensures { HasMade self.now.layout (either_step expected (Take row item.now.place item.now.span) (Place item.now.place (spec_half_of item.now.span)) result) seat.old seat.new }
     {
         let taken = Step::Take {
             row,
@@ -102,7 +103,8 @@ impl Books {
             span: item.span,
         };
         let new = expected | mask_of(item.span);
-        self.exchange_as::<Brand>(seat, Word::Place(item.place), expected, new, taken)
+        let word = Word::Place(item.place, half_of(item.span));
+        self.exchange_as::<Brand>(seat, word, expected, new, taken)
     }
 
     /// Gives the hold's last item back.
@@ -128,12 +130,8 @@ impl Books {
         ensures { HasMade self.now.layout (Give row left) seat.old seat.new }
     {
         let kept = !mask_of(item.span);
-        self.and_as::<Brand>(
-            seat,
-            Word::Place(item.place),
-            kept,
-            Step::Give { row, item: left },
-        );
+        let word = Word::Place(item.place, half_of(item.span));
+        self.and_as::<Brand>(seat, word, kept, Step::Give { row, item: left });
     }
 
     /// Starts a row, or looks at its phase where it isn't free.

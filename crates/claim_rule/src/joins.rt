@@ -31,7 +31,7 @@ impl Books {
         ensures still { (IsIdle desk.old → IsIdle desk.new) × (IsTidy desk.old → IsTidy desk.new) }
     {
         let _ = &self.table;
-        self.load_as::<Brand>(&mut desk.seat, Word::Place(0));
+        self.load_as::<Brand>(&mut desk.seat, Word::Place(0, 0));
         let seat = self.table.shared.split_seat::<Parts>(&mut desk.seat);
         Desk {
             seat,
@@ -56,7 +56,7 @@ impl Books {
             past: _,
         } = other;
         self.table.shared.join_seat::<Joins>(&mut desk.seat, seat);
-        self.load_as::<Brand>(&mut desk.seat, Word::Place(0));
+        self.load_as::<Brand>(&mut desk.seat, Word::Place(0, 0));
     }
 
     /// Closes the table. The words are those of one legal history.

@@ -1,5 +1,6 @@
 //! Looks at words.
 ghost use Rattle.std.specs.Prelude.{◌<◌, length};
+ghost use Rattle.leg_masks.specs.Interval.{halves};
 ghost use Rattle.history_model.specs.Booking.{row_words};
 ghost use Rattle.history_model.specs.declared.entry.Step.TheVariants.{Look, SawRow};
 ghost use Rattle.claim_rule.specs.Seats.{IsOf, Stepped};
@@ -11,14 +12,15 @@ use rail_ids::{PlaceNo, RowNo};
 use std::marker::Brand;
 
 impl Books {
-    /// Looks at a place's word.
-    pub fn step_look(&self, desk: &mut Desk, place: PlaceNo) -> u64
+    /// Looks at the word of a half of a place: half 0 has legs 0 to 62, half 1 legs 63 to 125.
+    pub fn step_look(&self, desk: &mut Desk, place: PlaceNo, half: u8) -> u64
         requires own { IsOf self.now desk.old }
         requires place { place.0 < length self.now.layout.legs }
+        requires half { half < halves }
         ensures own { IsOf self.now desk.new }
-        ensures look { Stepped (Look place.0 result) desk.old desk.new }
+        ensures look { Stepped (Look place.0 half result) desk.old desk.new }
     {
-        self.load_as::<Brand>(&mut desk.seat, Word::Place(place.0))
+        self.load_as::<Brand>(&mut desk.seat, Word::Place(place.0, half))
     }
 
     /// Looks at a word of a row.

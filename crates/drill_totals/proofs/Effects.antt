@@ -75,10 +75,10 @@ effect g places s d (Take row place span) legs may drill =
     its_legs = ap (λ (ls : List ℕ). slice_index ls place) legs ∙ get_or-replicate places place 8 0 at_place
 
     few_legs : span.from < 8
-    few_legs = let some = may.3 in let fits = may.4 in let e : span.from < 8 = omega (arith, some, fits, its_legs) in e
+    few_legs = let some = may.3 in let fits = may.5 in let e : span.from < 8 = omega (arith, some, fits, its_legs) in e
 
     free : is_occupied s place span.from ≡ false
-    free = legs_from_open s place span may.5 span.from ((let e : span.from ≤ span.from = omega arith in e), may.3)
+    free = legs_from_open s place span may.6 span.from ((let e : span.from ≤ span.from = omega arith in e), may.3)
 
     gains : (p l : ℕ) → is_occupied (change s row (taken place span)) p l ≡ (is_occupied s p l || ((place == p) && (span.from == l)))
     gains p l = occupied-take s row made.0 place span made.1 p l ∙ ap (λ (c : Bool). is_occupied s p l || ((place == p) && c)) (one_leg span.from span.to l drill)
@@ -88,7 +88,7 @@ effect g places s d (Close row) legs may drill = absurd drill
 effect g places s d (Start row) legs may drill = inl ((λ p l. occupied-start s row d p l), (λ l. refl))
 effect g places s d (Note row w value) legs may drill = inl ((λ p l. occupied_kept s row (noted w value) (λ _. refl) p l), (λ l. refl))
 effect g places s d (Seal row phase) legs may drill = inl ((λ p l. occupied_kept s row (in_phase phase) (λ _. refl) p l), (λ l. refl))
-effect g places s d (Look place shown) legs may drill = inl ((λ p l. refl), (λ l. refl))
+effect g places s d (Look place half shown) legs may drill = inl ((λ p l. refl), (λ l. refl))
 effect g places s d (SawRow row w value) legs may drill = inl ((λ p l. refl), (λ l. refl))
 effect g places s d (LostTurn row wanted shown) legs may drill = inl ((λ p l. refl), (λ l. refl))
 effect g places s d Met legs may drill = inl ((λ p l. refl), (λ l. refl))

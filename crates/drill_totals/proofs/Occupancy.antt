@@ -78,21 +78,21 @@ step_keeps : (places : ℕ) (s t : State) (st : Step) (p l : ℕ) → Effect pla
 step_keeps places s t st p l (inl (same, none)) was = same p l ∙ was
 step_keeps places s t st p l (inr (at, leg, within, few, gain, takes)) was = gain_keeps s t at leg gain p l was
 
--- a place whose word changes has a leg more
-pub at_step : (places : ℕ) (s t : State) (st : Step) (p : ℕ) → Effect places s t st
-    → ((place_word t p ≡ place_word s p) × (legs_at s p ≤ legs_at t p)) ⊎ (legs_at t p ≡ legs_at s p + 1)
-at_step places s t st p (inl (same, none)) =
+-- a place of which a word changes has a leg more
+pub at_step : (places : ℕ) (s t : State) (st : Step) (p h : ℕ) → Effect places s t st
+    → ((place_word t p h ≡ place_word s p h) × (legs_at s p ≤ legs_at t p)) ⊎ (legs_at t p ≡ legs_at s p + 1)
+at_step places s t st p h (inl (same, none)) =
     let e = count_same (λ l. is_occupied s p l) (λ l. is_occupied t p l) 8 (λ l _. same p l) in
-    inl (place_word-same s t p (λ l. same p l), (let f : legs_at s p ≤ legs_at t p = omega (arith, e) in f))
-at_step places s t st p (inr (at, leg, within, few, gain, takes)) = ⊎_elim here_more elsewhere_same (cases_eq at p)
+    inl (place_word-same s t p h (λ l. same p l), (let f : legs_at s p ≤ legs_at t p = omega (arith, e) in f))
+at_step places s t st p h (inr (at, leg, within, few, gain, takes)) = ⊎_elim here_more elsewhere_same (cases_eq at p)
   where
-    here_more : at ≡ p → ((place_word t p ≡ place_word s p) × (legs_at s p ≤ legs_at t p)) ⊎ (legs_at t p ≡ legs_at s p + 1)
+    here_more : at ≡ p → ((place_word t p h ≡ place_word s p h) × (legs_at s p ≤ legs_at t p)) ⊎ (legs_at t p ≡ legs_at s p + 1)
     here_more e = inr (subst (λ (q : ℕ). legs_at t q ≡ legs_at s q + 1) e (gain_at s t at leg gain few))
 
-    elsewhere_same : (at ≡ p → ⊥) → ((place_word t p ≡ place_word s p) × (legs_at s p ≤ legs_at t p)) ⊎ (legs_at t p ≡ legs_at s p + 1)
+    elsewhere_same : (at ≡ p → ⊥) → ((place_word t p h ≡ place_word s p h) × (legs_at s p ≤ legs_at t p)) ⊎ (legs_at t p ≡ legs_at s p + 1)
     elsewhere_same other =
         let e = count_same (λ l. is_occupied s p l) (λ l. is_occupied t p l) 8 (λ l _. elsewhere s t at leg gain p l other) in
-        inl (place_word-same s t p (λ l. elsewhere s t at leg gain p l other), (let f : legs_at s p ≤ legs_at t p = omega (arith, e) in f))
+        inl (place_word-same s t p h (λ l. elsewhere s t at leg gain p l other), (let f : legs_at s p ≤ legs_at t p = omega (arith, e) in f))
 
 -- over a drill's history as many places come to be occupied on a leg as are taken on it
 pub taken_on : (g : Layout) (places : ℕ) (s : State) (es : List Entry) (l : ℕ) → g.legs ≡ replicate places 8 → IsLegalFrom g s es → AllOfDrill es

@@ -1,9 +1,8 @@
 -- What comes of each request of a drill: a place is sold, or each place is taken on its leg.
 use Rattle.std.proofs.Common.{◌≡◌, ◌∙◌, ◌+◌, ◌*◌, ◌<◌, ◌≤◌, ◌⊎◌, inl, inr, ℕ, List, [], ◌∷◌, ◌++◌, Bool, true, false, cond, eqb, map, length, replicate, refl, sym, ap, subst, ⊎_elim, append_assoc, arith}
 use Rattle.std.specs.List.{AllByRecursion}
-use Rattle.std.specs.Int.{bit_at}
 use Rattle.std.proofs.Math.Nat.{mod-lt}
-use Rattle.leg_masks.specs.Interval.{IsClear}
+use Rattle.leg_masks.specs.Interval.{IsClear, half_of, shows}
 use Rattle.leg_masks.proofs.Masks.{bit}
 use Rattle.history_model.specs.declared.entry.Entry.{Entry}
 use Rattle.history_model.specs.declared.entry.Step.{Step}
@@ -13,9 +12,10 @@ use Rattle.history_model.specs.Words.{place_word}
 use Rattle.history_model.specs.Allowed.{IsAllowedStep}
 use Rattle.history_model.specs.Apply.{apply}
 use Rattle.history_model.specs.History.{IsLegal, IsLegalFrom, entry, own, state_after, state_of}
+use Rattle.history_model.specs.Looks.{look_at}
 use Rattle.history_model.proofs.ListLemmas.{All-left, All-right}
-use Rattle.history_model.proofs.Bits.{bit_at-place_word}
-use Rattle.hold_core.specs.Tries.{looks_at, AreMoving, AllClear}
+use Rattle.history_model.proofs.Bits.{shows-occupied}
+use Rattle.hold_core.specs.Tries.{looks_at, most_looks, AreMoving, AllClear}
 use Rattle.drill_totals.specs.Generator.{drill_leg}
 use Rattle.drill_totals.specs.Parts.Outcome.{Sold, TurnedAway, Busy, WithoutRow}
 use Rattle.drill_totals.specs.Parts.{Outcome, Among, AreParts, IsPart, IsBusy, IsTurnedAway, is_start, on_leg}
@@ -29,31 +29,35 @@ bit_zero : (b : Bool) → bit b ≡ 0 → b ≡ false
 bit_zero true e = absurd (let f : ⊥ = omega (arith, e) in f)
 bit_zero false e = refl
 
--- a leg that is clear in a place's word is free, and one that is free is clear
+-- the word of the place's half that has the leg
+abbrev word_on : State → ℕ → ℕ → ℕ
+word_on s p l = place_word s p (half_of (on_leg l))
 
-clear_is_free : (s : State) (p l w : ℕ) → l < 8 → w ≡ place_word s p → IsClear w (on_leg l) → is_occupied s p l ≡ false
-clear_is_free s p l w few is clear =
-    bit_zero (is_occupied s p l) (sym (bit_at-place_word s p l (let e : l < 63 = omega (arith, few) in e)) ∙ (ap (λ (x : ℕ). bit_at x l) (sym is)
+-- a leg that is clear in its word is free, and one that is free is clear
+
+clear_is_free : (s : State) (p l w : ℕ) → w ≡ word_on s p l → IsClear w (on_leg l) → is_occupied s p l ≡ false
+clear_is_free s p l w is clear =
+    bit_zero (is_occupied s p l) (sym (shows-occupied s p l) ∙ (ap (λ (x : ℕ). shows x l) (sym is)
     ∙ clear l (let e : l ≤ l = omega arith in e) (let e : l < l + 1 = omega arith in e)))
 
-free_is_clear : (s : State) (p l w : ℕ) → l < 8 → w ≡ place_word s p → is_occupied s p l ≡ false → IsClear w (on_leg l)
-free_is_clear s p l w few is free leg low high =
-    ap (λ (k : ℕ). bit_at w k) (let e : leg ≡ l = omega (arith, low, high) in e)
-    ∙ (ap (λ (x : ℕ). bit_at x l) is ∙ (bit_at-place_word s p l (let e : l < 63 = omega (arith, few) in e) ∙ ap bit free))
+free_is_clear : (s : State) (p l w : ℕ) → w ≡ word_on s p l → is_occupied s p l ≡ false → IsClear w (on_leg l)
+free_is_clear s p l w is free leg low high =
+    ap (λ (k : ℕ). shows w k) (let e : leg ≡ l = omega (arith, low, high) in e)
+    ∙ (ap (λ (x : ℕ). shows x l) is ∙ (shows-occupied s p l ∙ ap bit free))
 
 -- looks that show a leg taken
 
--- a leg of the place that a look shows taken is so in this state
+-- a leg of the place that a look at its half shows taken is so in this state
 abbrev IsTakenIn : State → Step → Type 0
-IsTakenIn final (Look p w) = (l : ℕ) → l < 8 → (¬ IsClear w (on_leg l)) → is_occupied final p l ≡ true
+IsTakenIn final (Look p half w) = (l : ℕ) → half ≡ half_of (on_leg l) → (¬ IsClear w (on_leg l)) → is_occupied final p l ≡ true
 IsTakenIn final _ = Unit {0}
 
-taken_now : (s : State) (p w l : ℕ) (b : Bool) → is_occupied s p l ≡ b → l < 8 → w ≡ place_word s p → (¬ IsClear w (on_leg l)) → is_occupied s p l ≡ true
-taken_now s p w l true is few shown taken = is
-taken_now s p w l false is few shown taken = absurd (taken (free_is_clear s p l w few shown is))
+taken_now : (s : State) (p w l : ℕ) (b : Bool) → is_occupied s p l ≡ b → w ≡ word_on s p l → (¬ IsClear w (on_leg l)) → is_occupied s p l ≡ true
+taken_now s p w l true is shown taken = is
+taken_now s p w l false is shown taken = absurd (taken (free_is_clear s p l w shown is))
 
 look_taken : (g : Layout) (s final : State) (d : ℕ) (st : Step) → IsAllowedStep g s d st → ((p l : ℕ) → is_occupied s p l ≡ true → is_occupied final p l ≡ true) → IsTakenIn final st
-look_taken g s final d (Look p w) may stays = λ l few taken. stays p l (taken_now s p w l (is_occupied s p l) refl few may.1 taken)
+look_taken g s final d (Look p half w) may stays = λ l at taken. stays p l (taken_now s p w l (is_occupied s p l) refl (may.2 ∙ ap (λ (h : ℕ). place_word s p h) at) taken)
 look_taken g s final d (Take row place span) may stays = tt
 look_taken g s final d (Give row item) may stays = tt
 look_taken g s final d (Start row) may stays = tt
@@ -77,14 +81,14 @@ among : (P : Step → Type 0) (st : Step) (sts : List Step) → AllByRecursion P
 among P st [] all found = absurd found
 among P st (e ∷ es) all found = ⊎_elim (λ (is : e ≡ st). subst P is all.0) (λ (more : Among st es). among P st es all.1 more) found
 
--- nine looks at one place, each unlike the one before and free on one leg, don't come about: with each the place has a leg more
+-- as many looks at one place as may be, each unlike the one before and free on one leg, don't come about: with each the place has a leg more
 
 -- k of the looks are over, and these are left
 record Waits (s : State) (p l : ℕ) (shown : List ℕ) (k : ℕ) : Type 0 where
   few : k ≤ 8
-  number : k + length shown ≡ 9
+  number : k + length shown ≡ most_looks
   risen : k ≤ legs_at s p + 1
-  next : (w : ℕ) (rest : List ℕ) → shown ≡ w ∷ rest → place_word s p ≡ w → k ≤ legs_at s p
+  next : (w : ℕ) (rest : List ℕ) → shown ≡ w ∷ rest → word_on s p l ≡ w → k ≤ legs_at s p
   moving : AreMoving shown
   clear : AllClear (on_leg l) shown
 
@@ -92,9 +96,9 @@ waits_none : (s : State) (p l k : ℕ) → Waits s p l [] k → ⊥
 waits_none s p l k waits = let few = waits.few in let number = waits.number in let e : ⊥ = omega (arith, few, number) in e
 
 waits_step : (places : ℕ) (s t : State) (st : Step) (p l : ℕ) (shown : List ℕ) (k : ℕ) → Effect places s t st → Waits s p l shown k → Waits t p l shown k
-waits_step places s t st p l shown k effect waits = by (at_step places s t st p effect)
+waits_step places s t st p l shown k effect waits = by (at_step places s t st p (half_of (on_leg l)) effect)
   where
-    by : ((place_word t p ≡ place_word s p) × (legs_at s p ≤ legs_at t p)) ⊎ (legs_at t p ≡ legs_at s p + 1) → Waits t p l shown k
+    by : ((word_on t p l ≡ word_on s p l) × (legs_at s p ≤ legs_at t p)) ⊎ (legs_at t p ≡ legs_at s p + 1) → Waits t p l shown k
     by (inl (same, grows)) = record {
       few = waits.few;
       number = waits.number;
@@ -116,10 +120,10 @@ still_moving : (w : ℕ) (rest : List ℕ) → AreMoving (w ∷ rest) → AreMov
 still_moving w [] moving = tt
 still_moving w (v ∷ rest) moving = moving.1
 
-waits_look : (s : State) (p l w : ℕ) (rest : List ℕ) (k : ℕ) → l < 8 → w ≡ place_word s p → Waits s p l (w ∷ rest) k → Waits s p l rest (k + 1)
+waits_look : (s : State) (p l w : ℕ) (rest : List ℕ) (k : ℕ) → l < 8 → w ≡ word_on s p l → Waits s p l (w ∷ rest) k → Waits s p l rest (k + 1)
 waits_look s p l w rest k few is waits = record {
   few = (let e : k + 1 ≤ 8 = omega (arith, now, below) in e);
-  number = (let number = waits.number in let e : k + 1 + length rest ≡ 9 = omega (arith, number) in e);
+  number = (let number = waits.number in let e : k + 1 + length rest ≡ most_looks = omega (arith, number) in e);
   risen = (let e : k + 1 ≤ legs_at s p + 1 = omega (arith, now) in e);
   next = λ v more these shows. absurd ((subst (λ (vs : List ℕ). AreMoving (w ∷ vs)) these waits.moving).0 (sym shows ∙ sym is));
   moving = still_moving w rest waits.moving;
@@ -130,7 +134,7 @@ waits_look s p l w rest k few is waits = record {
     now = waits.next w rest refl (sym is)
 
     below : legs_at s p < 8
-    below = count_gap (λ leg. is_occupied s p leg) l 8 few (clear_is_free s p l w few is waits.clear.0)
+    below = count_gap (λ leg. is_occupied s p leg) l 8 few (clear_is_free s p l w is waits.clear.0)
 
 first_or : Entry → List Entry → Entry
 first_or e [] = e
@@ -145,11 +149,11 @@ none_left e es is = cc
 
 module _ (g : Layout) (places : ℕ) (legs : g.legs ≡ replicate places 8) (d p l : ℕ) (few : l < 8) (back : List Step) where
   abbrev left_of : List Step → List ℕ → List Entry
-  left_of before shown = map (entry d) (before ++ (looks_at p shown ++ back))
+  left_of before shown = map (entry d) (before ++ (looks_at p (on_leg l) shown ++ back))
 
   ends : (s : State) (before : List Step) (shown : List ℕ) (k : ℕ) → [] ≡ left_of before shown → Waits s p l shown k → ⊥
   ends s (x ∷ before) shown k none waits = none_left (entry d x) (left_of before shown) none
-  ends s [] (w ∷ rest) k none waits = none_left (entry d (Look p w)) (left_of [] rest) none
+  ends s [] (w ∷ rest) k none waits = none_left (entry d (look_at p (on_leg l) w)) (left_of [] rest) none
   ends s [] [] k none waits = waits_none s p l k waits
 
   one_own : (s : State) (e : Entry) (mine : List Entry) (before : List Step) (shown : List ℕ) (k : ℕ) → IsAllowedStep g s e.desk e.step → Effect places s (apply s e) e.step
@@ -158,9 +162,9 @@ module _ (g : Layout) (places : ℕ) (legs : g.legs ≡ replicate places 8) (d p
   one_own s e mine (x ∷ before) shown k may effect rest is waits = rest before shown k (ap rest_of is) (waits_step places s (apply s e) e.step p l shown k effect waits)
   one_own s e mine [] [] k may effect rest is waits = waits_none s p l k waits
   one_own s e mine [] (w ∷ more) k may effect rest is waits =
-      let first : e ≡ entry d (Look p w) = ap (first_or e) is in
+      let first : e ≡ entry d (look_at p (on_leg l) w) = ap (first_or e) is in
       let shows = subst (λ (st : Step). IsAllowedStep g s e.desk st) (ap (λ (x : Entry). x.step) first) may in
-      rest [] more (k + 1) (ap rest_of is) (waits_step places s (apply s e) e.step p l more (k + 1) effect (waits_look s p l w more k few shows.1 waits))
+      rest [] more (k + 1) (ap rest_of is) (waits_step places s (apply s e) e.step p l more (k + 1) effect (waits_look s p l w more k few shows.2 waits))
 
   one_entry : (s : State) (e : Entry) (mine : List Entry) (before : List Step) (shown : List ℕ) (k : ℕ) (c : Bool) → IsAllowedStep g s e.desk e.step → Effect places s (apply s e) e.step
       → ((before : List Step) (shown : List ℕ) (k : ℕ) → mine ≡ left_of before shown → Waits (apply s e) p l shown k → ⊥) → cond c (e ∷ mine) mine ≡ left_of before shown → Waits s p l shown k → ⊥
@@ -187,8 +191,8 @@ module _ (g : Layout) (history : List Entry) (places : ℕ) (legs : g.legs ≡ r
   abbrev final : State
   final = state_of g history
 
-  turned_away : (leg : ℕ) (before mine rest : List Step) → leg < 8 → own history d ≡ map (entry d) (before ++ (mine ++ rest)) → IsTurnedAway places leg mine → places_on places final leg ≡ places
-  turned_away leg before mine rest few is part = count_all (λ p. is_occupied final p leg) places taken
+  turned_away : (leg : ℕ) (before mine rest : List Step) → own history d ≡ map (entry d) (before ++ (mine ++ rest)) → IsTurnedAway places leg mine → places_on places final leg ≡ places
+  turned_away leg before mine rest is part = count_all (λ p. is_occupied final p leg) places taken
     where
       all : AllByRecursion (IsTakenIn final) (before ++ (mine ++ rest))
       all = all_of_steps (IsTakenIn final) d (before ++ (mine ++ rest))
@@ -197,7 +201,7 @@ module _ (g : Layout) (history : List Entry) (places : ℕ) (legs : g.legs ≡ r
       taken : (p : ℕ) → p < places → is_occupied final p leg ≡ true
       taken p within =
           let seen = part.taken p within in
-          among (IsTakenIn final) (Look p seen.0) mine (All-left (IsTakenIn final) mine rest (All-right (IsTakenIn final) before (mine ++ rest) all)) seen.1 leg few seen.2
+          among (IsTakenIn final) (look_at p (on_leg leg) seen.0) mine (All-left (IsTakenIn final) mine rest (All-right (IsTakenIn final) before (mine ++ rest) all)) seen.1 leg refl seen.2
 
   middle_of : (before front looks back rest : List Step) → before ++ ((front ++ (looks ++ back)) ++ rest) ≡ (before ++ front) ++ (looks ++ (back ++ rest))
   middle_of before front looks back rest =
@@ -207,10 +211,10 @@ module _ (g : Layout) (history : List Entry) (places : ℕ) (legs : g.legs ≡ r
   never_busy : (leg : ℕ) (before mine rest : List Step) → leg < 8 → own history d ≡ map (entry d) (before ++ (mine ++ rest)) → IsBusy places leg mine → ⊥
   never_busy leg before mine rest few is part =
       never g places legs d part.place leg few (part.back ++ rest) g.opening history legal.1 drill (before ++ part.front) part.shown 0
-      (is ∙ ap (map (entry d)) (ap (λ (sts : List Step). before ++ (sts ++ rest)) part.are ∙ middle_of before part.front (looks_at part.place part.shown) part.back rest))
+      (is ∙ ap (map (entry d)) (ap (λ (sts : List Step). before ++ (sts ++ rest)) part.are ∙ middle_of before part.front (looks_at part.place (on_leg leg) part.shown) part.back rest))
       (record {
         few = (let e : 0 ≤ 8 = omega arith in e);
-        number = (let nine = part.nine in let e : 0 + length part.shown ≡ 9 = omega (arith, nine) in e);
+        number = (let all = part.all in let e : 0 + length part.shown ≡ most_looks = omega (arith, all) in e);
         risen = (let e : 0 ≤ legs_at g.opening part.place + 1 = omega arith in e);
         next = λ w rest these shows. (let e : 0 ≤ legs_at g.opening part.place = omega arith in e);
         moving = part.moving;
@@ -220,7 +224,7 @@ module _ (g : Layout) (history : List Entry) (places : ℕ) (legs : g.legs ≡ r
   one_settled : (leg : ℕ) (o : Outcome) (before mine rest : List Step) → leg < 8 → own history d ≡ map (entry d) (before ++ (mine ++ rest)) → IsPart g history places leg o mine
       → (o ≡ Sold) ⊎ ((o ≡ TurnedAway) × (places_on places final leg ≡ places))
   one_settled leg Sold before mine rest few is part = inl refl
-  one_settled leg TurnedAway before mine rest few is part = inr (refl, turned_away leg before mine rest few is part)
+  one_settled leg TurnedAway before mine rest few is part = inr (refl, turned_away leg before mine rest is part)
   one_settled leg Busy before mine rest few is part = absurd (never_busy leg before mine rest few is part)
   one_settled leg WithoutRow before mine rest few is part = absurd (a_row_is_free g history part.seen opening part.front few_rows part.full)
 

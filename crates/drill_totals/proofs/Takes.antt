@@ -51,7 +51,7 @@ minor_step (Give row item) is = absurd cc
 minor_step (Seal row phase) is = absurd cc
 minor_step (Turn row from to moment amount successor) is = absurd cc
 minor_step (Close row) is = absurd cc
-minor_step (Look place shown) is = record { takes = λ l. refl; seals = refl; drill = tt }
+minor_step (Look place half shown) is = record { takes = λ l. refl; seals = refl; drill = tt }
 minor_step (SawRow row w value) is = record { takes = λ l. refl; seals = refl; drill = tt }
 minor_step (Note row w value) is = record { takes = λ l. refl; seals = refl; drill = tt }
 minor_step (Start row) is = record { takes = λ l. refl; seals = refl; drill = tt }

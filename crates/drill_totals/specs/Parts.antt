@@ -9,8 +9,9 @@ use Rattle.history_model.specs.declared.entry.Step.TheVariants.{Look, SawRow, No
 use Rattle.history_model.specs.declared.phase.Phase.TheVariants.{Prebooked}
 use Rattle.history_model.specs.Booking.{Layout}
 use Rattle.history_model.specs.History.{entry, own, state_of}
+use Rattle.history_model.specs.Looks.{look_at}
 use Rattle.booking_rows.specs.Starts.{IsLeastFree}
-use Rattle.hold_core.specs.Tries.{looks_at, AreMoving, AllClear}
+use Rattle.hold_core.specs.Tries.{looks_at, most_looks, AreMoving, AllClear}
 use Rattle.drill_totals.specs.Generator.{drill_leg}
 use Rattle.drill_totals.specs.Totals.{one_if, most_sold}
 
@@ -32,7 +33,7 @@ on_leg leg = record { from = leg; to = leg + 1 }
 
 -- a step that takes and gives no place, and seals and turns no booking
 abbrev pub is_minor : Step → Bool
-is_minor (Look place shown) = true
+is_minor (Look place half shown) = true
 is_minor (SawRow row word value) = true
 is_minor (Note row word value) = true
 is_minor (Start row) = true
@@ -67,9 +68,9 @@ pub record IsSale (places leg : ℕ) (es : List Step) : Type 0 where
 pub record IsTurnedAway (places leg : ℕ) (es : List Step) : Type 0 where
   pub minor : AllMinor es
   pub starts : starts_in es ≤ 1
-  pub taken : (place : ℕ) → place < places → (word : ℕ) × Among (Look place word) es × (¬ IsClear word (on_leg leg))
+  pub taken : (place : ℕ) → place < places → (word : ℕ) × Among (look_at place (on_leg leg) word) es × (¬ IsClear word (on_leg leg))
 
--- one of the places was looked at nine times, was free on the leg each time, and had changed each time
+-- one of the places was looked at as often as may be, was free on the leg each time, and had changed each time
 pub record IsBusy (places leg : ℕ) (es : List Step) : Type 0 where
   pub minor : AllMinor es
   pub starts : starts_in es ≤ 1
@@ -78,8 +79,8 @@ pub record IsBusy (places leg : ℕ) (es : List Step) : Type 0 where
   pub place : ℕ
   pub within : place < places
   pub shown : List ℕ
-  pub are : es ≡ front ++ (looks_at place shown ++ back)
-  pub nine : length shown ≡ 9
+  pub are : es ≡ front ++ (looks_at place (on_leg leg) shown ++ back)
+  pub all : length shown ≡ most_looks
   pub moving : AreMoving shown
   pub clear : AllClear (on_leg leg) shown
 

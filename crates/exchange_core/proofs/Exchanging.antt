@@ -1,5 +1,5 @@
 -- The steps of an exchange.
-use Rattle.std.proofs.Common.{◌≡◌, inl, inr, ℕ, ℤ, zero, suc, ◌+◌, ◌-◌, ◌<◌, ◌≤◌, Bool, true, false, List, [], ◌∷◌, ◌++◌, map, length, refl, sym, ap, ◌∙◌, subst, arith, length-append, append_assoc}
+use Rattle.std.proofs.Common.{◌≡◌, inl, inr, ℕ, ℤ, zero, suc, ◌+◌, ◌-◌, ◌<◌, ◌≤◌, Bool, true, false, List, [], ◌∷◌, ◌++◌, map, length, refl, sym, ap, ◌∙◌, subst, arith, length-append, append_assoc, ◌*◌}
 use mathlib.Core.List.{IsPrefix}
 use Rattle.rail_ids.specs.declared.RowNo.{RowNo}
 use Rattle.leg_masks.specs.Interval.{PlacedSpan as Item}
@@ -144,7 +144,7 @@ gives_length : (row k n : ℕ) → length (gives_from row k n) ≡ n
 gives_length row k zero = refl
 gives_length row k (suc n) = ap suc (gives_length row (suc k) n)
 
-exchange_length : (ready : ReadyView) (successor : ℕ) (items : List Item) → length items ≤ most_items → length (exchange_steps ready successor items) ≤ 55
+exchange_length : (ready : ReadyView) (successor : ℕ) (items : List Item) → length items ≤ most_items → length (exchange_steps ready successor items) ≤ 2 * most_items + 7
 exchange_length ready successor items few =
     let row = ready.code.row in
     let end = exchange_end ready successor in
@@ -155,6 +155,6 @@ exchange_length ready successor items few =
     let n = gives_length row 0 (length items) in
     omega (arith, few, k, l, m, n)
 
-pub exchange_bound : (a b : DeskView) (ready : ReadyView) (successor : ℕ) (new : RowNo) (difference : ℤ) → ShapeBy (AcceptsExchange ready successor (exchanged.Done new difference)) a b → AddsAtMost 55 a b
+pub exchange_bound : (a b : DeskView) (ready : ReadyView) (successor : ℕ) (new : RowNo) (difference : ℤ) → ShapeBy (AcceptsExchange ready successor (exchanged.Done new difference)) a b → AddsAtMost (2 * most_items + 7) a b
 exchange_bound a b ready successor new difference did =
-    let s = did.1.2 in adds_length a b did.0 55 did.2 (subst (λ (l : List Step). length l ≤ 55) (sym s.2) (exchange_length ready successor s.0 s.1))
+    let s = did.1.2 in adds_length a b did.0 (2 * most_items + 7) did.2 (subst (λ (l : List Step). length l ≤ 2 * most_items + 7) (sym s.2) (exchange_length ready successor s.0 s.1))

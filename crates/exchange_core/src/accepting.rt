@@ -29,7 +29,7 @@ pub enum Exchanged {
 /// seals the new one as confirmed, and ends the old one with all its items given back. Its end has the moment of the check, the code's
 /// difference, and the new booking as its successor. Where the turn is lost, nothing else has changed.
 ///
-/// The hold is ready to be sealed, and the desk has no ending out. At most 55 entries are added.
+/// The hold is ready to be sealed, and the desk has no ending out. At most 103 entries are added.
 pub fn accept_exchange(
     books: &Books,
     desk: &mut Desk,

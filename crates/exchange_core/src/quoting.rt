@@ -30,7 +30,7 @@ pub enum QuotedExchange {
 }
 
 /// Quotes an exchange of this retailer's confirmed or fulfilled booking for an offer: what the offer costs more than the booking is worth
-/// now, in the phase that its look shows. The offer is in the ranges of its spelling, and so is the quote. At most 32 entries are added.
+/// now, in the phase that its look shows. The offer is in the ranges of its spelling, and so is the quote. At most 56 entries are added.
 pub fn quote_exchange(
     cat: &Catalogue,
     books: &Books,

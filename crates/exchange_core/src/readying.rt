@@ -53,7 +53,7 @@ pub enum Readied {
 }
 
 /// Checks the quote of an exchange of this retailer's booking. Refusals are tried in this order: `QuoteStale`, `Unknown`, `QuoteWrong`,
-/// `WrongState`. The code's offer is in the ranges of its spelling. At most 32 entries are added.
+/// `WrongState`. The code's offer is in the ranges of its spelling. At most 56 entries are added.
 pub fn ready_exchange(
     cat: &Catalogue,
     books: &Books,

@@ -1,5 +1,6 @@
 -- The steps of a sweep, row by row.
 use Rattle.std.proofs.Common.{◌≡◌, ◌≢◌, ℕ, zero, suc, ◌+◌, ◌*◌, ◌≤◌, ◌<◌, List, [], ◌∷◌, ◌++◌, length, Some, None, refl, sym, ap, ◌∙◌, subst, arith, append_assoc, append-nil, length-append, add-zero}
+use Rattle.history_model.specs.Booking.{most_items}
 use Rattle.std.specs.List.{AllByRecursion}
 use Rattle.leg_masks.specs.Interval.{PlacedSpan as Item}
 use Rattle.history_model.specs.declared.entry.Step.{Step}
@@ -60,7 +61,7 @@ steps_more now row (x ∷ ss) s =
 
 -- how many steps
 
-row_length : (now row : ℕ) (s : RowSweep) → IsRowSweep now s → length (row_sweep_steps now row s) ≤ 56
+row_length : (now row : ℕ) (s : RowSweep) → IsRowSweep now s → length (row_sweep_steps now row s) ≤ 2 * most_items + 8
 row_length now row (passed shown) is = omega arith
 row_length now row (waiting limit) is = omega arith
 row_length now row (expired limit items) is =
@@ -68,7 +69,7 @@ row_length now row (expired limit items) is =
     let m = length-append (saw_prebooked row limit) (ends_as row Prebooked Expire (end_of (aim.Expire now)) items) in omega arith
 row_length now row (lost limit shown) is = omega arith
 
-pub sweeps_length : (now row : ℕ) (ss : List RowSweep) → AllByRecursion (IsRowSweep now) ss → length (sweeps_steps now row ss) ≤ 56 * length ss
+pub sweeps_length : (now row : ℕ) (ss : List RowSweep) → AllByRecursion (IsRowSweep now) ss → length (sweeps_steps now row ss) ≤ (2 * most_items + 8) * length ss
 sweeps_length now row [] all = omega arith
 sweeps_length now row (s ∷ ss) all =
     let l = length-append (row_sweep_steps now row s) (sweeps_steps now (suc row) ss) in

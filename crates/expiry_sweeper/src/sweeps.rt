@@ -23,7 +23,7 @@ pub struct Swept {
 }
 
 /// Looks at every row once, in rising number, and expires those seen prebooked with a limit before now. The desk has no ending out. At
-/// most 56 entries are added for each row.
+/// most 104 entries are added for each row.
 pub fn sweep(books: &Books, desk: &mut Desk, now: Moment) -> Swept
     requires own { IsOf books.now desk.old }
     requires none { EndsNone desk.old }

@@ -263,7 +263,7 @@ start_on g h row x d c k to = case (present (state_of g h) row) refl
 
 -- each step
 life_step : (g : Layout) (h : List Entry) (row d : ℕ) (st : Step) → IsAllowedStep g (state_of g h) d st → Lives g h row → (c : Booking) → present (apply_step (state_of g h) d st) row ≡ Some c → Life g (h ++ entry d st ∷ []) row c
-life_step g h row d (Look p n) may k c to = life_same g h row c (entry d (Look p n)) (k c to)
+life_step g h row d (Look p half n) may k c to = life_same g h row c (entry d (Look p half n)) (k c to)
 life_step g h row d (SawRow x w n) may k c to = life_same g h row c (entry d (SawRow x w n)) (k c to)
 life_step g h row d (LostTurn x wanted shown) may k c to = life_same g h row c (entry d (LostTurn x wanted shown)) (k c to)
 life_step g h row d Met may k c to = life_same g h row c (entry d Met) (k c to)

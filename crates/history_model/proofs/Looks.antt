@@ -9,33 +9,33 @@ use Rattle.history_model.specs.Words.{place_word}
 use Rattle.history_model.specs.Looks.{ChangesPlace}
 use Rattle.history_model.proofs.Seen.{legal-rest, state_of-append}
 
-changes : (g : Layout) (h : List Entry) (p a : ℕ) (es : List Entry) → place_word (state_of g h) p ≡ a → (place_word (state_of g (h ++ es)) p ≡ a → ⊥) → ChangesPlace g h p es
-changes g h p a [] is differs = absurd (differs (ap (λ (l : List Entry). place_word (state_of g l) p) (append-nil h) ∙ is))
-changes g h p a (x ∷ es) is differs = ⊎_elim
-    (λ (same : place_word (state_of g (h ++ x ∷ [])) p ≡ a).
-    let r = changes g (h ++ x ∷ []) p a es same (λ e. differs (ap (λ (l : List Entry). place_word (state_of g l) p) (sym (append_assoc h (x ∷ []) es)) ∙ e)) in (
+changes : (g : Layout) (h : List Entry) (p k a : ℕ) (es : List Entry) → place_word (state_of g h) p k ≡ a → (place_word (state_of g (h ++ es)) p k ≡ a → ⊥) → ChangesPlace g h p k es
+changes g h p k a [] is differs = absurd (differs (ap (λ (l : List Entry). place_word (state_of g l) p k) (append-nil h) ∙ is))
+changes g h p k a (x ∷ es) is differs = ⊎_elim
+    (λ (same : place_word (state_of g (h ++ x ∷ [])) p k ≡ a).
+    let r = changes g (h ++ x ∷ []) p k a es same (λ e. differs (ap (λ (l : List Entry). place_word (state_of g l) p k) (sym (append_assoc h (x ∷ []) es)) ∙ e)) in (
       x ∷ r.0,
       r.1,
       r.2,
       ap (λ (l : List Entry). x ∷ l) r.3,
-      subst (λ (l : List Entry). place_word (state_of g (l ++ r.1 ∷ [])) p ≡ place_word (state_of g l) p → ⊥) (append_assoc h (x ∷ []) r.0) r.4,
+      subst (λ (l : List Entry). place_word (state_of g (l ++ r.1 ∷ [])) p k ≡ place_word (state_of g l) p k → ⊥) (append_assoc h (x ∷ []) r.0) r.4,
     ))
-    (λ (other : place_word (state_of g (h ++ x ∷ [])) p ≡ a → ⊥).
-    ([], x, es, refl, subst (λ (l : List Entry). place_word (state_of g (l ++ x ∷ [])) p ≡ place_word (state_of g l) p → ⊥) (sym (append-nil h)) (λ e. other (e ∙ is))))
-    (cases_eq (place_word (state_of g (h ++ x ∷ [])) p) a)
+    (λ (other : place_word (state_of g (h ++ x ∷ [])) p k ≡ a → ⊥).
+    ([], x, es, refl, subst (λ (l : List Entry). place_word (state_of g (l ++ x ∷ [])) p k ≡ place_word (state_of g l) p k → ⊥) (sym (append-nil h)) (λ e. other (e ∙ is))))
+    (cases_eq (place_word (state_of g (h ++ x ∷ [])) p k) a)
 
-shows : (g : Layout) (h rest : List Entry) (d p a : ℕ) → IsLegal g (h ++ entry d (Look p a) ∷ rest) → a ≡ place_word (state_of g h) p
-shows g h rest d p a l = (legal-rest g h (entry d (Look p a) ∷ rest) l).0.1
+shown_then : (g : Layout) (h rest : List Entry) (d p k a : ℕ) → IsLegal g (h ++ entry d (Look p k a) ∷ rest) → a ≡ place_word (state_of g h) p k
+shown_then g h rest d p k a l = (legal-rest g h (entry d (Look p k a) ∷ rest) l).0.2
 
-pub unlike_looks : (g : Layout) (before between after : List Entry) (first second p a b : ℕ) → (a ≡ b → ⊥) → IsLegal g (before ++ (entry first (Look p a) ∷ (between ++ (entry second (Look p b) ∷ after))))
-    → ChangesPlace g (before ++ entry first (Look p a) ∷ []) p between
-unlike_looks g before between after first second p a b apart l =
-    let one : List Entry = entry first (Look p a) ∷ [] in
-    let rest : List Entry = entry second (Look p b) ∷ after in
+pub unlike_looks : (g : Layout) (before between after : List Entry) (first second p k a b : ℕ) → (a ≡ b → ⊥) → IsLegal g (before ++ (entry first (Look p k a) ∷ (between ++ (entry second (Look p k b) ∷ after))))
+    → ChangesPlace g (before ++ entry first (Look p k a) ∷ []) p k between
+unlike_looks g before between after first second p k a b apart l =
+    let one : List Entry = entry first (Look p k a) ∷ [] in
+    let rest : List Entry = entry second (Look p k b) ∷ after in
     let h : List Entry = before ++ one in
     let whole : IsLegal g ((h ++ between) ++ rest) = subst (IsLegal g) (sym (append_assoc before one (between ++ rest)) ∙ sym (append_assoc h between rest)) l in
-    let was : place_word (state_of g h) p ≡ a = ap (λ (s : State). place_word s p) (state_of-append g before one) ∙ sym (shows g before (between ++ rest) first p a l) in
-    changes g h p a between was (λ same. apart (sym same ∙ sym (shows g (h ++ between) after second p b whole)))
+    let was : place_word (state_of g h) p k ≡ a = ap (λ (s : State). place_word s p k) (state_of-append g before one) ∙ sym (shown_then g before (between ++ rest) first p k a l) in
+    changes g h p k a between was (λ same. apart (sym same ∙ sym (shown_then g (h ++ between) after second p k b whole)))
 
 cons_nil : (x : Entry) (xs : List Entry) → x ∷ xs ≡ [] → ⊥
 cons_nil x xs e = cc

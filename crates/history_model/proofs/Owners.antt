@@ -58,7 +58,7 @@ present-front (c ∷ cs) u r b e = in_cond (eqb c.row r) (Some c) (present cs r)
     in_cond false x y z b e f = f e
 
 pub quiet_step : (s : State) (r : ℕ) (b : Booking) (d : ℕ) (st : Step) → present s r ≡ Some b → is_quiet r st ≡ true → present (apply_step s d st) r ≡ Some b
-quiet_step s r b d (Look p n) at q = at
+quiet_step s r b d (Look p k n) at q = at
 quiet_step s r b d (Take x p span) at q = present-changed_other s x r (taken p span) (λ _. refl) (apart_rows x r q) ∙ at
 quiet_step s r b d (Give x k) at q = present-changed_other s x r (given k) (λ _. refl) (apart_rows x r q) ∙ at
 quiet_step s r b d (Start x) at q = present-front s (started x d ∷ []) r b at

@@ -111,7 +111,7 @@ with_end g s who limit Prebooked m a x b all moment may none is = absurd may
 with_end g s who limit (Ended kind) m a x b all moment may none is = absurd may
 
 ranges-step : (g : Layout) (s : State) (who : ℕ) (st : Step) → IsAllowedStep g s who st → AreInRange g s → AreInRange g (apply_step s who st)
-ranges-step g s who (Look p n) may all = all
+ranges-step g s who (Look p k n) may all = all
 ranges-step g s who (Take q p span) may all = all_changed (IsInRange g) (stands_in s q) (taken p span) s (λ b _. same_range g b (taken p span b) refl refl refl) all
 ranges-step g s who (Give q k) may all = all_changed (IsInRange g) (stands_in s q) (given k) s (λ b _. same_range g b (given k b) refl refl refl) all
 ranges-step g s who (Start q) may all = all_more (IsInRange g) s (started q who) all (record { row = may.0; moment = omega arith; amount = refl; successor = omega arith })

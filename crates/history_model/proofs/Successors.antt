@@ -77,7 +77,7 @@ exchanged_change : (d e row : ℕ) (s : State) (q : ℕ) (f : Booking → Bookin
 exchanged_change d e row s q f keeps on h = some-changed (IsExchangedFor d row) (stands_in s q) f s (λ x at p. exchanged_becomes d e row x (f x) (becomes e s q f x on keeps at) p) h
 
 exchanged_step : (g : Layout) (d e row : ℕ) (s : State) (st : Step) → IsAllowedStep g s e st → Some_of (IsExchangedFor d row) s → Some_of (IsExchangedFor d row) (apply_step s e st)
-exchanged_step g d e row s (Look p n) may h = h
+exchanged_step g d e row s (Look p k n) may h = h
 exchanged_step g d e row s (Take q p span) may h = exchanged_change d e row s q (taken p span) (λ _. refl) (GoesOn-step g s e (Take q p span) may) h
 exchanged_step g d e row s (Give q k) may h = exchanged_change d e row s q (given k) (λ _. refl) (GoesOn-step g s e (Give q k) may) h
 exchanged_step g d e row s (Start q) may h = some-append (IsExchangedFor d row) s (started q e ∷ []) h

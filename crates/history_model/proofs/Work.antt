@@ -59,7 +59,7 @@ start_split s q who r P on = go (present s r) (eqb q r) (subst (λ (o : Option B
     go None false on = absurd on
 
 pub made_step : (g : Layout) (s : State) (who : ℕ) (st : Step) (d r : ℕ) → IsAllowedStep g s who st → OnRow (apply_step s who st) r (IsMadeBy d) → OnRow s r (IsMadeBy d) ⊎ ((who ≡ d) × (starts_row r st ≡ true))
-made_step g s who (Look p n) d r may on = inl on
+made_step g s who (Look p k n) d r may on = inl on
 made_step g s who (Take q p span) d r may on =
     let b = found (present s q) (λ b. IsMadeBy who b × (length b.items < most_items)) may.2 in
     inl (same_work s q r (taken p span) Making d b.0 b.1 (λ _. refl) refl refl on)
@@ -96,7 +96,7 @@ turn_ends s q who d r from to end m a x kind b here is on =
     (λ h. (h.1, eq-eqb q r (sym here))) on
 
 pub ended_step : (g : Layout) (s : State) (who : ℕ) (st : Step) (kind : EndKind) (d r : ℕ) → IsAllowedStep g s who st → OnRow (apply_step s who st) r (IsIn (Ending kind) d) → OnRow s r (IsIn (Ending kind) d) ⊎ ((who ≡ d) × (ends_row r st ≡ true))
-ended_step g s who (Look p n) kind d r may on = inl on
+ended_step g s who (Look p k n) kind d r may on = inl on
 ended_step g s who (Take q p span) kind d r may on =
     let b = found (present s q) (λ b. IsMadeBy who b × (length b.items < most_items)) may.2 in
     inl (same_work s q r (taken p span) (Ending kind) d b.0 b.1 (λ _. refl) refl refl on)

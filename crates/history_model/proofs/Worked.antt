@@ -18,16 +18,16 @@ entry desk step = record { desk = desk; step = step }
 -- A starts row 0, B row 1; A looks; B takes leg 1, A misses and then takes leg 0
 abbrev both_taken : List Entry
 both_taken =
-    entry 0 (Start 0) ∷ entry 1 (Start 1) ∷ entry 0 (Look 0 0) ∷ entry 1 (Take 1 0 (legs 1 2)) ∷ entry 0 (Look 0 2) ∷ entry 0 (Take 0 0 (legs 0 1)) ∷ []
+    entry 0 (Start 0) ∷ entry 1 (Start 1) ∷ entry 0 (Look 0 0 0) ∷ entry 1 (Take 1 0 (legs 1 2)) ∷ entry 0 (Look 0 0 2) ∷ entry 0 (Take 0 0 (legs 0 1)) ∷ []
 
 abbrev both_given : List Entry
 both_given = entry 0 (Give 0 0) ∷ entry 1 (Give 1 0) ∷ entry 0 Met ∷ []
 
-pub taken_word : place_word (state_after [] both_taken) 0 ≡ 3
+pub taken_word : place_word (state_after [] both_taken) 0 0 ≡ 3
 unfolding number_of_bits
 taken_word = refl
 
-pub given_word : place_word (state_after (state_after [] both_taken) both_given) 0 ≡ 0
+pub given_word : place_word (state_after (state_after [] both_taken) both_given) 0 0 ≡ 0
 unfolding number_of_bits
 given_word = refl
 
@@ -39,11 +39,11 @@ abbrev first_stretch : List Entry
 first_stretch =
     entry 0 (Start 0) ∷ entry 0 (Take 0 0 (legs 0 2)) ∷ entry 0 (Note 0 1 1) ∷ entry 0 (Note 0 2 0) ∷ entry 0 (Note 0 3 0) ∷ entry 0 (Note 0 4 1) ∷ entry 0 (Note 0 8 2) ∷ entry 0 (Seal 0 Prebooked) ∷ []
 
-pub stretch_word : place_word (state_after [] first_stretch) 0 ≡ 3
+pub stretch_word : place_word (state_after [] first_stretch) 0 0 ≡ 3
 unfolding number_of_bits
 stretch_word = refl
 
-pub stretch_other_place : place_word (state_after [] first_stretch) 1 ≡ 0
+pub stretch_other_place : place_word (state_after [] first_stretch) 1 0 ≡ 0
 unfolding number_of_bits
 stretch_other_place = refl
 
@@ -64,7 +64,7 @@ abbrev refunded : List Entry
 refunded =
     entry 0 (Turn 0 Prebooked Confirmed 0 (pos 0) 0) ∷ entry 3 (Turn 0 Confirmed (Ending Refund) 950 (pos 3187) 0) ∷ entry 3 (Give 0 0) ∷ entry 3 (Note 0 6 3187) ∷ entry 3 (Note 0 7 950) ∷ entry 3 (Close 0) ∷ []
 
-pub refunded_place : place_word (state_after (state_after [] first_stretch) refunded) 0 ≡ 0
+pub refunded_place : place_word (state_after (state_after [] first_stretch) refunded) 0 0 ≡ 0
 unfolding number_of_bits
 refunded_place = refl
 
@@ -76,3 +76,20 @@ refunded_amount = refl
 
 pub refunded_item : row_word (state_after (state_after [] first_stretch) refunded) 0 8 ≡ 2
 refunded_item = refl
+
+-- legs 62 and 63 of place 1, an item in each half
+abbrev over_the_border : List Entry
+over_the_border =
+    entry 0 (Start 0) ∷ entry 0 (Look 1 0 0) ∷ entry 0 (Take 0 1 (legs 62 63)) ∷ entry 0 (Look 1 1 0) ∷ entry 0 (Take 0 1 (legs 63 64)) ∷ []
+
+pub border_first : place_word (state_after [] over_the_border) 1 0 ≡ 4611686018427387904
+unfolding number_of_bits
+border_first = refl
+
+pub border_second : place_word (state_after [] over_the_border) 1 1 ≡ 1
+unfolding number_of_bits
+border_second = refl
+
+pub border_first_given : place_word (state_after (state_after [] over_the_border) (entry 0 (Give 0 1) ∷ [])) 1 1 ≡ 0
+unfolding number_of_bits
+border_first_given = refl

@@ -5,8 +5,9 @@ use Rattle.std.specs.Option.{option_or, option_map_or}
 use Rattle.std.proofs.lemmas.Bool.{cases_eq}
 use Rattle.std.proofs.lemmas.Nat.{or_lt, and_le_l}
 use Rattle.std.proofs.lemmas.Nat.Bits.{bit_at_or, bit_at_and, bit_at_not, bit_at-zero}
-use Rattle.leg_masks.specs.Interval.{Interval, has_leg, mask}
-use Rattle.leg_masks.proofs.Masks.{bit, bit_at-mask, mask-lt, mask-small}
+use Rattle.leg_masks.specs.Interval.{Interval, IsPiece, has_leg, half_of, leg_of, mask}
+use Rattle.leg_masks.proofs.Masks.{bit, bit_at-mask, mask-lt, mask-small, other_half}
+use Rattle.std.specs.List.{AllByRecursion}
 use Rattle.history_model.specs.declared.phase.Phase.{Phase}
 use Rattle.history_model.specs.declared.phase.Phase.TheVariants.{Free, Making, Prebooked, Confirmed, Fulfilled, Ending, Ended}
 use Rattle.history_model.specs.declared.phase.EndKind.TheVariants.{Release, Expire, Refund, Exchange}
@@ -19,12 +20,12 @@ use Rattle.history_model.specs.Booking.{Booking, Layout, State, stands_in, prese
 use Rattle.history_model.specs.Words.{value, place_word, row_word, Writes}
 use Rattle.history_model.specs.Allowed.{MayGive}
 use Rattle.history_model.specs.Apply.{started, taken, given, noted, turned}
-use Rattle.history_model.specs.Laws.{IsSound, IsWellFormed}
+use Rattle.history_model.specs.Laws.{IsSound, IsWellFormed, LiesWithin}
 use Rattle.history_model.proofs.ListLemmas.{All-found, find-push}
 use Rattle.history_model.proofs.Keeping.{turned-row, turned-items}
 use Rattle.history_model.proofs.Going.{present-changed, present-changed_other, turned-phase, turned-words}
 use Rattle.history_model.proofs.Changes.{occupied_kept, occupied-start, occupied-take, occupied-give}
-use Rattle.history_model.proofs.Bits.{place_word-lt, bit_at-place_word, is_place_word, place_word-same, max_bits}
+use Rattle.history_model.proofs.Bits.{place_word-lt, bit_at-place_word, is_place_word, place_word-same, place_word-same_half, max_bits}
 
 -- an item that isn't given back
 abbrev pub left_item : ℕ → Interval → BookedItem
@@ -53,18 +54,31 @@ or_false : (a b : Bool) → b ≡ false → (a || b) ≡ a
 or_false true b e = refl
 or_false false b e = e
 
--- a take sets the bits of its span in its place's word, and changes no other
-pub take_writes : (s : State) (r p : ℕ) (span : Interval) (b : Booking) → present s r ≡ Some b → span.from < span.to → span.to ≤ 63
-    → Writes s (change s r (taken p span)) (Place p) (bit_or (place_word s p) (mask span))
-take_writes s r p span b at some fits = record { here = here; rest = rest }
+-- in the word of another half
+elsewhere : (p q h i : ℕ) (span : Interval) → span.to ≤ 126 → IsPiece span → i < 63 → (Place q h ≡ Place p (half_of span) → ⊥) → occupies q (leg_of h i) (left_item p span) ≡ false
+elsewhere p q h i span fits piece l other = ⊎_elim
+    (λ (same : q ≡ p). ap (λ (t : Bool). eqb p q && t) (other_half span fits piece h i l (λ e. other (λ k. Place (same k) (e k)))) ∙ and_false (eqb p q))
+    (λ (n : q ≡ p → ⊥). occupies_else p q (leg_of h i) span n)
+    (cases_eq q p)
   where
-    here : value (change s r (taken p span)) (Place p) ≡ bit_or (place_word s p) (mask span)
-    here = is_place_word (change s r (taken p span)) p (bit_or (place_word s p) (mask span)) (or_lt 63 (place_word s p) (mask span) (place_word-lt s p) (mask-lt span some fits))
-        (λ i h. bit_at_or (place_word s p) (mask span) i ∙ (ap (λ (x : ℕ). max x (bit_at (mask span) i)) (bit_at-place_word s p i h) ∙ (ap (λ (x : ℕ). max (bit (is_occupied s p i)) x) (bit_at-mask span i)
-        ∙ (max_bits (is_occupied s p i) (has_leg span i) ∙ ap bit (sym (occupied-take s r b p span at p i ∙ ap (λ (t : Bool). is_occupied s p i || t) (occupies_here p i span)))))))
+    and_false : (a : Bool) → (a && false) ≡ false
+    and_false true = refl
+    and_false false = refl
 
-    rest : (a : Word) → (a ≡ Place p → ⊥) → value (change s r (taken p span)) a ≡ value s a
-    rest (Place q) other = place_word-same s (change s r (taken p span)) q (λ i. occupied-take s r b p span at q i ∙ or_false (is_occupied s q i) (occupies q i (left_item p span)) (occupies_else p q i span (λ e. other (ap Place e))))
+-- a take sets the bits of its piece in the word of its half, and changes no other
+pub take_writes : (s : State) (r p : ℕ) (span : Interval) (b : Booking) → present s r ≡ Some b → span.from < span.to → span.to ≤ 126 → IsPiece span
+    → Writes s (change s r (taken p span)) (Place p (half_of span)) (bit_or (place_word s p (half_of span)) (mask span))
+take_writes s r p span b at some fits piece = record { here = here; rest = rest }
+  where
+    here : value (change s r (taken p span)) (Place p (half_of span)) ≡ bit_or (place_word s p (half_of span)) (mask span)
+    here = is_place_word (change s r (taken p span)) p (half_of span) (bit_or (place_word s p (half_of span)) (mask span)) (or_lt 63 (place_word s p (half_of span)) (mask span) (place_word-lt s p (half_of span)) (mask-lt span some fits piece))
+        (λ i l. let leg : ℕ = leg_of (half_of span) i in
+        bit_at_or (place_word s p (half_of span)) (mask span) i ∙ (ap (λ (x : ℕ). max x (bit_at (mask span) i)) (bit_at-place_word s p (half_of span) i l) ∙ (ap (λ (x : ℕ). max (bit (is_occupied s p leg)) x) (bit_at-mask span some i)
+        ∙ (max_bits (is_occupied s p leg) (has_leg span leg) ∙ ap bit (sym (occupied-take s r b p span at p leg ∙ ap (λ (t : Bool). is_occupied s p leg || t) (occupies_here p leg span)))))))
+
+    rest : (a : Word) → (a ≡ Place p (half_of span) → ⊥) → value (change s r (taken p span)) a ≡ value s a
+    rest (Place q h) other = place_word-same_half s (change s r (taken p span)) q h
+        (λ i l. occupied-take s r b p span at q (leg_of h i) ∙ or_false (is_occupied s q (leg_of h i)) (occupies q (leg_of h i) (left_item p span)) (elsewhere p q h i span fits piece l other))
     rest (Row q w) other = row_kept s r (taken p span) b at (λ _. refl) q w (λ _. refl)
 
 -- starts
@@ -98,7 +112,7 @@ start_writes s r d free = record { here = ap (word_in 0) its; rest = rest }
     later w n = ap (word_in w) its ∙ (ap (λ (c : Bool). cond c 1 (get_or (replicate row_words 0) w 0)) (ne_eqb w 0 n) ∙ (no_word row_words w ∙ sym (ap (word_in w) free ∙ ap (λ (c : Bool). cond c (word_of_phase Free) 0) (ne_eqb w 0 n))))
 
     rest : (a : Word) → (a ≡ Row r 0 → ⊥) → value (s ++ started r d ∷ []) a ≡ value s a
-    rest (Place q) other = place_word-same s (s ++ started r d ∷ []) q (λ i. occupied-start s r d q i)
+    rest (Place q h) other = place_word-same s (s ++ started r d ∷ []) q h (λ i. occupied-start s r d q i)
     rest (Row q w) other = ⊎_elim
         (λ (same : q ≡ r). subst (λ (k : ℕ). word_in w (present (s ++ started r d ∷ []) k) ≡ word_in w (present s k)) (sym same) (later w (λ z. other (λ i. Row (same i) (z i)))))
         (λ (n : q ≡ r → ⊥). ap (word_in w) (present-started_other s r d q n))
@@ -106,7 +120,7 @@ start_writes s r d free = record { here = ap (word_in 0) its; rest = rest }
 
 -- all words of no bookings are 0
 pub empty_value : (a : Word) → value [] a ≡ 0
-empty_value (Place p) = is_place_word [] p 0 (lit< tt) (λ i h. bit_at-zero i)
+empty_value (Place p h) = is_place_word [] p h 0 (lit< tt) (λ i h. bit_at-zero i)
 empty_value (Row r w) = both (eqb w 0)
   where
     both : (c : Bool) → cond c (word_of_phase Free) 0 ≡ word_of_phase Free
@@ -125,15 +139,33 @@ and_true : (a : Bool) → (a && true) ≡ a
 and_true true = refl
 and_true false = refl
 
--- a give clears the bits of its item in its place's word, and changes no other
-pub give_writes : (g : Layout) (s : State) (d r k : ℕ) (b : Booking) (p : ℕ) (span : Interval) → IsWellFormed g s → present s r ≡ Some b → MayGive d k b → slice_get b.items k ≡ Some (left_item p span) → span.to ≤ 63
-    → Writes s (change s r (given k)) (Place p) (bit_and (place_word s p) (bit_not w64 (mask span)))
+-- what holds of a row's booking in a well-formed state
+pub sound_of : (g : Layout) (s : State) (r : ℕ) (b : Booking) → IsWellFormed g s → present s r ≡ Some b → IsSound g b
+sound_of g s r b good at = All-found (IsSound g) (stands_in s r) s b at good.each
+
+-- what holds of all items holds of the one at a place of the list
+item_at : (P : BookedItem → Type 0) (is : List BookedItem) (k : ℕ) (i : BookedItem) → AllByRecursion P is → slice_get is k ≡ Some i → P i
+item_at P [] k i all e = absurd cc
+item_at P (x ∷ xs) zero i all e = subst P (ap (λ (o : Option BookedItem). item_in o) e) all.0
+  where
+    item_in : Option BookedItem → BookedItem
+    item_in None = x
+    item_in (Some y) = y
+item_at P (x ∷ xs) (suc k) i all e = item_at P xs k i all.1 e
+
+-- an item of a row's booking lies in one half
+pub lies_within : (g : Layout) (s : State) (r k : ℕ) (b : Booking) (i : BookedItem) → IsWellFormed g s → present s r ≡ Some b → slice_get b.items k ≡ Some i → LiesWithin g i
+lies_within g s r k b i good at its = item_at (LiesWithin g) b.items k i (sound_of g s r b good at).within its
+
+-- a give clears the bits of its item in the word of its half, and changes no other
+pub give_writes : (g : Layout) (s : State) (d r k : ℕ) (b : Booking) (p : ℕ) (span : Interval) → IsWellFormed g s → present s r ≡ Some b → MayGive d k b → slice_get b.items k ≡ Some (left_item p span) → span.to ≤ 126
+    → Writes s (change s r (given k)) (Place p (half_of span)) (bit_and (place_word s p (half_of span)) (bit_not w64 (mask span)))
 give_writes g s d r k b p span good at may its fits = record { here = here; rest = rest }
   where
-    i : BookedItem
-    i = left_item p span
+    lies : LiesWithin g (left_item p span)
+    lies = lies_within g s r k b (left_item p span) good at its
 
-    read : (is : List BookedItem) (k : ℕ) → slice_get is k ≡ Some i → get_or is k i ≡ i
+    read : (is : List BookedItem) (k : ℕ) → slice_get is k ≡ Some (left_item p span) → get_or is k (left_item p span) ≡ left_item p span
     read [] k e = refl
     read (x ∷ xs) zero e = ap (λ (o : Option BookedItem). item_in o) e
       where
@@ -142,23 +174,22 @@ give_writes g s d r k b p span good at may its fits = record { here = here; rest
         item_in (Some y) = y
     read (x ∷ xs) (suc k) e = read xs k e
 
-    now : (q l : ℕ) → is_occupied (change s r (given k)) q l ≡ (is_occupied s q l && not (occupies q l i))
-    now q l = occupied-give g s d r k b i good at may q l ∙ ap (λ (x : BookedItem). is_occupied s q l && not (occupies q l x)) (read b.items k its)
+    now : (q l : ℕ) → is_occupied (change s r (given k)) q l ≡ (is_occupied s q l && not (occupies q l (left_item p span)))
+    now q l = occupied-give g s d r k b (left_item p span) good at may q l ∙ ap (λ (x : BookedItem). is_occupied s q l && not (occupies q l x)) (read b.items k its)
 
-    here : value (change s r (given k)) (Place p) ≡ bit_and (place_word s p) (bit_not w64 (mask span))
-    here = is_place_word (change s r (given k)) p (bit_and (place_word s p) (bit_not w64 (mask span))) (lt_of_le_of_lt (and_le_l (place_word s p) (bit_not w64 (mask span))) (place_word-lt s p))
-        (λ l h. bit_at_and (place_word s p) (bit_not w64 (mask span)) l
-        ∙ (ap (λ (x : ℕ). min x (bit_at (bit_not w64 (mask span)) l)) (bit_at-place_word s p l h)
-        ∙ (ap (λ (x : ℕ). min (bit (is_occupied s p l)) x) (bit_at_not w64 (mask span) l (mask-small span fits) (omega arith) ∙ ap (λ (x : ℕ). 1 - x) (bit_at-mask span l))
-        ∙ (and_not_bits (is_occupied s p l) (has_leg span l) ∙ ap bit (sym (now p l ∙ ap (λ (t : Bool). is_occupied s p l && not t) (occupies_here p l span)))))))
+    here : value (change s r (given k)) (Place p (half_of span)) ≡ bit_and (place_word s p (half_of span)) (bit_not w64 (mask span))
+    here = is_place_word (change s r (given k)) p (half_of span) (bit_and (place_word s p (half_of span)) (bit_not w64 (mask span)))
+        (lt_of_le_of_lt (and_le_l (place_word s p (half_of span)) (bit_not w64 (mask span))) (place_word-lt s p (half_of span)))
+        (λ l h. let leg : ℕ = leg_of (half_of span) l in
+        bit_at_and (place_word s p (half_of span)) (bit_not w64 (mask span)) l
+        ∙ (ap (λ (x : ℕ). min x (bit_at (bit_not w64 (mask span)) l)) (bit_at-place_word s p (half_of span) l h)
+        ∙ (ap (λ (x : ℕ). min (bit (is_occupied s p leg)) x) (bit_at_not w64 (mask span) l (mask-small span lies.some fits lies.piece) (omega arith) ∙ ap (λ (x : ℕ). 1 - x) (bit_at-mask span lies.some l))
+        ∙ (and_not_bits (is_occupied s p leg) (has_leg span leg) ∙ ap bit (sym (now p leg ∙ ap (λ (t : Bool). is_occupied s p leg && not t) (occupies_here p leg span)))))))
 
-    rest : (a : Word) → (a ≡ Place p → ⊥) → value (change s r (given k)) a ≡ value s a
-    rest (Place q) other = place_word-same s (change s r (given k)) q (λ l. now q l ∙ (ap (λ (t : Bool). is_occupied s q l && not t) (occupies_else p q l span (λ e. other (ap Place e))) ∙ and_true (is_occupied s q l)))
+    rest : (a : Word) → (a ≡ Place p (half_of span) → ⊥) → value (change s r (given k)) a ≡ value s a
+    rest (Place q h) other = place_word-same_half s (change s r (given k)) q h
+        (λ l m. now q (leg_of h l) ∙ (ap (λ (t : Bool). is_occupied s q (leg_of h l) && not t) (elsewhere p q h l span fits lies.piece m other) ∙ and_true (is_occupied s q (leg_of h l))))
     rest (Row q w) other = row_kept s r (given k) b at (λ _. refl) q w (λ _. refl)
-
--- what holds of a row's booking in a well-formed state
-pub sound_of : (g : Layout) (s : State) (r : ℕ) (b : Booking) → IsWellFormed g s → present s r ≡ Some b → IsSound g b
-sound_of g s r b good at = All-found (IsSound g) (stands_in s r) s b at good.each
 
 -- a row whose word 0 is 0 stands in no booking
 pub free_of_word : (g : Layout) (s : State) (r : ℕ) → IsWellFormed g s → value s (Row r 0) ≡ 0 → present s r ≡ None
@@ -193,7 +224,7 @@ note_writes g s r w n b good at below some = record { here = here; rest = rest }
         ∙ get_or-set_same b.words w n 0 (subst (λ (k : ℕ). w < k) (sym (sound_of g s r b good at).words) below))
 
     rest : (a : Word) → (a ≡ Row r w → ⊥) → value (change s r (noted w n)) a ≡ value s a
-    rest (Place q) other = place_word-same s (change s r (noted w n)) q (λ i. occupied_kept s r (noted w n) (λ _. refl) q i)
+    rest (Place q h) other = place_word-same s (change s r (noted w n)) q h (λ i. occupied_kept s r (noted w n) (λ _. refl) q i)
     rest (Row q x) other = row_kept s r (noted w n) b at (λ _. refl) q x (λ here. ap (λ (k : ℕ). cond (eqb x 0) (word_of_phase b.phase) k) (get_or-set_other b.words w x n 0 (λ e. other (λ i. Row (here i) (e i)))))
 
 -- a change of phase writes word 0
@@ -202,7 +233,7 @@ pub phase_writes : (f : Booking → Booking) → ((b : Booking) → (f b).row �
 phase_writes f row items words s r b at = record { here = ap (word_in 0) (present-changed s r f b row at); rest = rest }
   where
     rest : (a : Word) → (a ≡ Row r 0 → ⊥) → value (change s r f) a ≡ value s a
-    rest (Place q) other = place_word-same s (change s r f) q (λ i. occupied_kept s r f items q i)
+    rest (Place q h) other = place_word-same s (change s r f) q h (λ i. occupied_kept s r f items q i)
     rest (Row q x) other = row_kept s r f b at row q x (λ here. let n : x ≡ 0 → ⊥ = λ e. other (λ i. Row (here i) (e i)) in
         ap (λ (c : Bool). cond c (word_of_phase (f b).phase) (get_or (f b).words x 0)) (ne_eqb x 0 n) ∙ (ap (λ (l : List ℕ). get_or l x 0) (words b)
         ∙ sym (ap (λ (c : Bool). cond c (word_of_phase b.phase) (get_or b.words x 0)) (ne_eqb x 0 n))))

@@ -1,7 +1,7 @@
 -- Which entries are allowed in a state.
 use Rattle.std.specs.Prelude.{◌≡◌, ◌≢◌, ℕ, ◌+◌, ◌-◌, ◌<◌, ◌≤◌, ℤ, pos, ◌≤ℤ◌, true, false, ◌⊎◌, length, map, take, drop, None, slice_index, slice_get, IsSomeAnd}
 use Rattle.std.specs.List.{AllByRecursion, Any}
-use Rattle.leg_masks.specs.Interval.{Interval, Meet, item_word}
+use Rattle.leg_masks.specs.Interval.{Interval, IsPiece, Meet, halves, item_word}
 use Rattle.history_model.specs.declared.phase.Phase.{Phase}
 use Rattle.history_model.specs.declared.phase.Phase.TheVariants.{Making, Prebooked, Confirmed, Fulfilled, Ending, Ended}
 use Rattle.history_model.specs.declared.phase.EndKind.{EndKind}
@@ -11,7 +11,7 @@ use Rattle.history_model.specs.declared.entry.Entry.{Entry}
 use Rattle.history_model.specs.declared.entry.Step.{Step}
 use Rattle.history_model.specs.declared.entry.Step.TheVariants.{Look, Take, Give, Start, SawRow, Note, Seal, Turn, LostTurn, Close, Met}
 use Rattle.history_model.specs.Phase.{is_turn}
-use Rattle.history_model.specs.Booking.{Booking, Layout, State, row_words, most_items, first_item_word, last_moment, greatest_retailer, greatest_amount, least_difference, greatest_difference, word_at, limit_of, present, phase_of_row, all_items, amount_word}
+use Rattle.history_model.specs.Booking.{Booking, Layout, State, row_words, most_items, first_item_word, last_moment, greatest_retailer, greatest_amount, least_difference, greatest_difference, word_at, limit_of, present, phase_of_row, all_items, amount_word, successor_word}
 use Rattle.history_model.specs.Words.{place_word, row_word}
 
 abbrev pub IsPlace : Layout → ℕ → Type 0
@@ -83,7 +83,7 @@ MayClose desk b = (kind : EndKind) × IsEndedBy desk kind b × AllGiven b × Has
 
 -- the booking was turned to an exchange by the desk, for this row
 abbrev pub IsExchangedFor : ℕ → ℕ → Booking → Type 0
-IsExchangedFor desk row b = (b.owner ≡ desk) × (b.end.successor ≡ row + 1) × ((b.phase ≡ Ending Exchange) ⊎ (b.phase ≡ Ended Exchange))
+IsExchangedFor desk row b = (b.owner ≡ desk) × (b.end.successor ≡ successor_word row) × ((b.phase ≡ Ending Exchange) ⊎ (b.phase ≡ Ended Exchange))
 
 -- in which phase a row may be sealed
 abbrev pub MaySealAs : State → ℕ → ℕ → Phase → Type 0
@@ -109,12 +109,12 @@ TurnsWith s desk limit _ moment amount successor = ⊥
 
 -- whether the desk's step is allowed
 abbrev pub IsAllowedStep : Layout → State → ℕ → Step → Type 0
-IsAllowedStep g s desk (Look place shown) = IsPlace g place × (shown ≡ place_word s place)
+IsAllowedStep g s desk (Look place half shown) = IsPlace g place × (half < halves) × (shown ≡ place_word s place half)
 IsAllowedStep g s desk (SawRow row word value) = IsRow g row × (word < row_words) × (value ≡ row_word s row word)
 IsAllowedStep g s desk (Start row) = IsRow g row × (present s row ≡ None)
 IsAllowedStep g s desk (Take row place span) =
     IsRow g row × IsPlace g place × OnRow s row (λ b. IsMadeBy desk b × (length b.items < most_items))
-    × (span.from < span.to) × (span.to ≤ slice_index g.legs place) × IsOpen s place span
+    × (span.from < span.to) × IsPiece span × (span.to ≤ slice_index g.legs place) × IsOpen s place span
 IsAllowedStep g s desk (Give row item) =
     IsRow g row × OnRow s row (MayGive desk item)
 IsAllowedStep g s desk (Note row word value) =

@@ -11,12 +11,13 @@ use Rattle.history_model.specs.declared.booking.End.{End}
 use Rattle.leg_masks.specs.Interval.{most_legs, has_leg}
 use Rattle.history_model.specs.Lists.{change_first}
 
--- the sizes of the format: words of a row, items of a booking, and the number of the first item's word
+-- the sizes of the format: words of a row, items of a booking, and the number of the first item's word. The words past those of
+-- the items stay 0
 abbrev pub row_words : ℕ
-row_words = 32
+row_words = 64
 
 abbrev pub most_items : ℕ
-most_items = 24
+most_items = 48
 
 abbrev pub first_item_word : ℕ
 first_item_word = 8
@@ -62,13 +63,17 @@ pub record Layout : Type 0 where
   pub rows : ℕ
   pub opening : State
 
--- what a list host holds: each of its places has 63 legs
+-- how many legs each place of a list host has
+abbrev pub host_legs : ℕ
+host_legs = most_legs
+
+-- what a list host holds
 pub record Host : Type 0 where
   pub layout : Layout
   pub bookings : State
 
 abbrev pub layout_of : ℕ → ℕ → Layout
-layout_of places rows = record { legs = replicate places most_legs; rows = rows; opening = [] }
+layout_of places rows = record { legs = replicate places host_legs; rows = rows; opening = [] }
 
 -- word w of the booking's row, for w from 1
 abbrev pub word_at : Booking → ℕ → ℕ
@@ -76,6 +81,10 @@ word_at b w = slice_index b.words w
 
 abbrev pub limit_of : Booking → ℕ
 limit_of b = word_at b 2
+
+-- how a row stands as a successor, in a turn and in word 5: its number plus 1
+abbrev pub successor_word : ℕ → ℕ
+successor_word row = row + 1
 
 -- whether the booking is the one that stands in a row of the state
 abbrev pub stands_in : State → ℕ → Booking → Bool

@@ -122,7 +122,11 @@ pub(crate) fn carry_out(
             );
         }
         Step::Close { row } => close_in(bookings, row),
-        Step::Look { place: _, shown: _ } => {}
+        Step::Look {
+            place: _,
+            half: _,
+            shown: _,
+        } => {}
         Step::SawRow {
             row: _,
             word: _,

@@ -8,10 +8,10 @@ use std::alloc::{AllocError, Global};
 use std::marker::Model;
 
 /// How many words a row has.
-pub const ROW_WORDS: usize = 32;
+pub const ROW_WORDS: usize = 64;
 /// How many items a booking may have.
-pub const MOST_ITEMS: usize = 24;
-/// The word of a row's first item.
+pub const MOST_ITEMS: usize = 48;
+/// The word of a row's first item. The words past the last item's stay 0.
 pub const FIRST_ITEM_WORD: usize = 8;
 /// The last moment, in seconds: 2099-12-31T23:59:59Z.
 pub const LAST_MOMENT: u64 = 4_102_444_799;
@@ -153,7 +153,8 @@ impl BookingRow {
     {
         if self.is_made_by(desk) {
             (1 <= word && word <= 4)
-                || (FIRST_ITEM_WORD <= word as usize && (word as usize) < ROW_WORDS)
+                || (FIRST_ITEM_WORD <= word as usize
+                    && (word as usize) < FIRST_ITEM_WORD + MOST_ITEMS)
         } else {
             self.is_being_ended_by(desk) && 5 <= word && word <= 7
         }

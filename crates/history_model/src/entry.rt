@@ -12,12 +12,13 @@ pub struct Entry {
 /// What an operation did, or what it showed.
 #[derive(Clone, Copy, Debug, PartialEq, Eq)]
 pub enum Step {
-    /// A look at a place's word. A take that found another word than it expected is one too.
+    /// A look at the word of a half of a place. A take that found another word than it expected is one too.
     Look {
         place: u32,
+        half: u8,
         shown: u64,
     },
-    /// The legs were taken for the booking in the row.
+    /// The legs, which lie in one half, were taken for the booking in the row.
     Take {
         row: u32,
         place: u32,

@@ -7,7 +7,9 @@ ghost use Rattle.history_model.specs.declared.entry.Step.TheVariants.{Look};
 ghost use Rattle.history_model.specs.declared.phase.EndKind.{EndKind};
 ghost use Rattle.history_model.specs.declared.phase.Phase.{Phase};
 ghost use Rattle.history_model.specs.declared.phase.Phase.TheVariants.{Confirmed, Ending, Ended};
-ghost use Rattle.history_model.specs.Booking.{Layout, present, phase_of_row};
+ghost use Rattle.history_model.specs.Booking.{Layout, layout_of, present, phase_of_row};
+ghost use Rattle.history_model.specs.Allowed.{IsAllowed};
+ghost use Rattle.history_model.specs.Apply.{apply};
 ghost use Rattle.history_model.specs.History.{IsLegal, IsTurnFrom, entry, own, state_of};
 ghost use Rattle.history_model.specs.Laws.{AreInRange, IsWellFormed, NoDouble, Stays, is_owners, stage};
 ghost use Rattle.history_model.specs.Looks.{ChangesPlace};
@@ -20,6 +22,14 @@ pub fn legal_histories()
     ensures well_formed { (g : Layout) (history : List Entry) → IsLegal g history → IsWellFormed g (state_of g history) }
     ensures no_double { (g : Layout) (history : List Entry) → IsLegal g history → NoDouble (state_of g history) }
     ensures in_range { (g : Layout) (history : List Entry) → IsLegal g history → AreInRange g (state_of g history) }
+{}
+
+/// A legal history with one allowed entry behind it is legal, and its state is the applied one. So the list of a list host
+/// that began empty is the state of a legal history.
+pub fn histories_go_on()
+    ensures legal { (g : Layout) (history : List Entry) (e : Entry) → IsLegal g history → IsAllowed g (state_of g history) e → IsLegal g (history ++ e ∷ []) }
+    ensures state { (g : Layout) (history : List Entry) (e : Entry) → state_of g (history ++ e ∷ []) ≡ apply (state_of g history) e }
+    ensures begins { (places rows : ℕ) → IsLegal (layout_of places rows) [] × (state_of (layout_of places rows) [] ≡ []) }
 {}
 
 /// A booking in the making or ending is changed by the entries of its owner alone.
@@ -56,9 +66,9 @@ pub fn ended_bookings_gave_back()
     ensures ended { (g : Layout) (history : List Entry) (row : ℕ) → IsLegal g history → IfSome (present (state_of g history) row) (λ c. (kind : EndKind) → c.phase ≡ Ended kind → (present g.opening row ≡ Some c) ⊎ HasEnded g history row kind c) }
 {}
 
-/// Where two looks at one place show unlike words, an entry between them changed the word of the place; and where none between them
-/// is a desk's own, it is another desk's.
+/// Where two looks at one half of a place show unlike words, an entry between them changed that word; and where none
+/// between them is a desk's own, it is another desk's.
 pub fn unlike_looks_have_a_cause()
-    ensures changed { (g : Layout) (before between after : List Entry) (first second place shown later : ℕ) → shown ≢ later → IsLegal g (before ++ (entry first (Look place shown) ∷ (between ++ (entry second (Look place later) ∷ after)))) → ChangesPlace g (before ++ entry first (Look place shown) ∷ []) place between }
+    ensures changed { (g : Layout) (before between after : List Entry) (first second place half shown later : ℕ) → shown ≢ later → IsLegal g (before ++ (entry first (Look place half shown) ∷ (between ++ (entry second (Look place half later) ∷ after)))) → ChangesPlace g (before ++ entry first (Look place half shown) ∷ []) place half between }
     ensures others { (front back : List Entry) (change : Entry) (desk : ℕ) → own (front ++ change ∷ back) desk ≡ [] → change.desk ≢ desk }
 {}

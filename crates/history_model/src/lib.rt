@@ -18,6 +18,4 @@ pub mod laws;
 pub mod list_host;
 pub mod phase;
 mod shown;
-#[cfg(test)]
-mod tests;
 pub mod word;

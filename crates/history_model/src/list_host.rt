@@ -4,7 +4,7 @@ ghost use Rattle.std.specs.Prelude.{◌≡◌, ◌<◌, ◌≤◌, ◌↔◌, �
 ghost use Rattle.history_model.specs.Allowed.{IsAllowed, IsAllowedStep, IsRow, IsPlace};
 ghost use Rattle.history_model.specs.declared.entry.Step.{Step};
 ghost use Rattle.std.specs.Int.{bit_at};
-ghost use Rattle.leg_masks.specs.Interval.{most_places, most_legs};
+ghost use Rattle.leg_masks.specs.Interval.{IsPiece, halves, leg_of, most_places, word_legs};
 ghost use Rattle.history_model.specs.Booking.{most_rows, present, layout_of, is_occupied, row_words, phase_of_row as spec_phase_of_row};
 ghost use Rattle.history_model.specs.Laws.{IsWellFormed, NoDouble, GoesOn};
 ghost use Rattle.history_model.specs.Words.{place_word, row_word};
@@ -18,7 +18,7 @@ use crate::booking::{BookingRow, End, LAST_MOMENT, ROW_WORDS};
 use crate::entry::{Entry, Step};
 use crate::phase::{Phase, is_turn};
 use crate::shown::{booking_of, is_open, phase_of_row, word_of_place, word_of_row};
-use leg_masks::{MOST_LEGS, Span};
+use leg_masks::{HALVES, MOST_LEGS, Span};
 use rail_ids::PlaceNo;
 use std::alloc::Global;
 use std::marker::Model;
@@ -30,7 +30,10 @@ pub enum ApplyFault {
     NoMemory,
 }
 
-/// A plain list of bookings. Each place has 63 legs.
+/// How many legs each place of a list host has.
+const HOST_LEGS: u8 = MOST_LEGS;
+
+/// A plain list of bookings. Each place has 126 legs.
 #[derive(Drop)]
 pub struct ListHost {
     places: u32,
@@ -92,12 +95,14 @@ impl ListHost {
         Ok(())
     }
 
-    /// The occupied legs of a place as bits, by a look at every booking.
-    pub fn occupied(&self, place: PlaceNo) -> u64
-        ensures word { result ≡ place_word self.now.bookings place.0 }
-        ensures bits { (leg : ℕ) → leg < most_legs → bit_at result leg ≡ cond (is_occupied self.now.bookings place.0 leg) 1 0 }
+    /// The occupied legs of a half of a place as bits, by a look at every booking. Half 0 has legs 0 to 62, half 1 legs 63
+    /// to 125.
+    pub fn occupied(&self, place: PlaceNo, half: u8) -> u64
+        requires half { half < halves }
+        ensures word { result ≡ place_word self.now.bookings place.0 half }
+        ensures bits { (bit : ℕ) → bit < word_legs → bit_at result bit ≡ cond (is_occupied self.now.bookings place.0 (leg_of half bit)) 1 0 }
     {
-        word_of_place(&self.bookings, place.0)
+        word_of_place(&self.bookings, place.0, half)
     }
 
     fn is_row(&self, row: u32) -> bool
@@ -112,11 +117,11 @@ impl ListHost {
         place < self.places
     }
 
-    /// Whether the span lies within the legs of the place.
+    /// Whether the span lies in one half, and within the legs of the place.
     fn fits(&self, place: u32, span: Span) -> bool
-        ensures { IsTrue result ↔ (IsPlace self.now.layout place × (span.from < span.to) × (span.to ≤ slice_index self.now.layout.legs place)) }
+        ensures { IsTrue result ↔ (IsPlace self.now.layout place × (span.from < span.to) × IsPiece span × (span.to ≤ slice_index self.now.layout.legs place)) }
     {
-        place < self.places && span.from < span.to && span.to <= MOST_LEGS
+        place < self.places && span.from < span.to && span.is_piece() && span.to <= HOST_LEGS
     }
 
     fn may_start(&self, row: u32) -> bool
@@ -142,10 +147,10 @@ impl ListHost {
             && may_seal_as(&self.bookings, desk, row, phase)
     }
 
-    fn may_look(&self, place: u32, shown: u64) -> bool
-        ensures { IsTrue result ↔ (IsPlace self.now.layout place × (shown ≡ place_word self.now.bookings place)) }
+    fn may_look(&self, place: u32, half: u8, shown: u64) -> bool
+        ensures { IsTrue result ↔ (IsPlace self.now.layout place × (half < halves) × (shown ≡ place_word self.now.bookings place half)) }
     {
-        self.is_place(place) && shown == word_of_place(&self.bookings, place)
+        self.is_place(place) && half < HALVES && shown == word_of_place(&self.bookings, place, half)
     }
 
     fn may_see(&self, row: u32, word: u8, value: u64) -> bool
@@ -186,7 +191,7 @@ impl ListHost {
         ensures { IsTrue result ↔ IsAllowedStep self.now.layout self.now.bookings desk step }
     {
         match step {
-            Step::Look { place, shown } => self.may_look(place, shown),
+            Step::Look { place, half, shown } => self.may_look(place, half, shown),
             Step::SawRow { row, word, value } => self.may_see(row, word, value),
             Step::Start { row } => self.may_start(row),
             Step::Take { row, place, span } => self.may_take(desk, row, place, span),

@@ -3,13 +3,14 @@
 ghost use Rattle.std.specs.Prelude.{◌≡◌, ◌<◌, ◌↔◌, All, IsTrue};
 ghost use Rattle.std.specs.List.{list_any};
 ghost use Rattle.std.specs.Option.{option_copied};
+ghost use Rattle.leg_masks.specs.Interval.{halves};
 ghost use Rattle.history_model.specs.Allowed.{Blocks, IsOpen};
 ghost use Rattle.history_model.specs.Booking.{present, row_words, occupies, is_occupied, phase_of_row as spec_phase_of_row};
 ghost use Rattle.history_model.specs.Words.{place_word, row_word};
 
 use crate::booking::BookingRow;
 use crate::phase::{Phase, phase_word};
-use leg_masks::{MOST_LEGS, Span};
+use leg_masks::{Span, WORD_LEGS};
 
 /// The booking of a row, where one stands in it.
 pub(crate) fn booking_of(bookings: &[BookingRow], row: u32) -> Option<&BookingRow>
@@ -56,17 +57,19 @@ pub(crate) fn is_taken(bookings: &[BookingRow], place: u32, leg: u8) -> bool
     any_occupies(bookings, place, leg)
 }
 
-/// The taken legs of a place as bits.
-pub(crate) fn word_of_place(bookings: &[BookingRow], place: u32) -> u64
-    ensures { result ≡ place_word bookings.now place }
+/// The taken legs of a half of a place as bits.
+pub(crate) fn word_of_place(bookings: &[BookingRow], place: u32, half: u8) -> u64
+    requires half { half < halves }
+    ensures { result ≡ place_word bookings.now place half }
 {
+    let first = WORD_LEGS * half;
     let mut word = 0;
-    let mut bit = 1;
-    for leg in 0..MOST_LEGS {
-        if is_taken(bookings, place, leg) {
-            word += bit;
+    let mut value = 1;
+    for bit in 0..WORD_LEGS {
+        if is_taken(bookings, place, bit + first) {
+            word += value;
         }
-        bit *= 2;
+        value *= 2;
     }
     word
 }

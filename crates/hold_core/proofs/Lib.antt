@@ -1,4 +1,5 @@
-pub mod Giving
 pub mod Trying
+pub mod Blocks
 pub mod Adding
+pub mod Giving
 pub mod Contending

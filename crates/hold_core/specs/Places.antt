@@ -6,23 +6,33 @@ use Rattle.leg_masks.specs.Interval.{PlacedSpan as Item}
 use Rattle.history_model.specs.declared.entry.Step.{Step}
 use Rattle.history_model.specs.declared.entry.Step.TheVariants.{Give}
 use Rattle.hold_core.specs.declared.tries.Outcome.{Outcome}
-use Rattle.hold_core.specs.declared.tries.Outcome.TheVariants.{Won, Contended}
+use Rattle.hold_core.specs.declared.tries.Outcome.TheVariants.{Won, Refused, Contended}
 use Rattle.hold_core.specs.declared.adds.Added.{Added}
 use Rattle.hold_core.specs.declared.adds.Added.TheVariants as added
-use Rattle.hold_core.specs.Tries.{Try, IsTry, item_won, try_steps}
+use Rattle.hold_core.specs.Tries.{Try, IsTry, items_tried, try_steps}
 
 abbrev pub won_by : Interval → Try → List Item
-won_by span t = item_won t.place span t.outcome
+won_by span t = items_tried t.place span t.outcome
 
 -- the items that the tries added
 abbrev pub items_won : Interval → List Try → List Item
 items_won span [] = []
 items_won span (t ∷ ts) = won_by span t ++ items_won span ts
 
+abbrev pub place_won : ℕ → Outcome → List ℕ
+place_won place Won = place ∷ []
+place_won place Refused = []
+place_won place Contended = []
+
+-- the places that the tries won, in order
+abbrev pub places_won : List Try → List ℕ
+places_won [] = []
+places_won (t ∷ ts) = place_won t.place t.outcome ++ places_won ts
+
 -- the steps of the tries, of which the first would add the item of this number
 abbrev pub tries_steps : ℕ → ℕ → Interval → List Try → List Step
 tries_steps row k span [] = []
-tries_steps row k span (t ∷ ts) = try_steps row k span t ++ tries_steps row (k + length (won_by span t)) span ts
+tries_steps row k span (t ∷ ts) = try_steps row k t ++ tries_steps row (k + length (won_by span t)) span ts
 
 -- the places that were tried, in order
 abbrev pub tried : List Try → List ℕ
@@ -40,16 +50,16 @@ pub record EndsWith (tries : List Try) (outcome : Outcome) : Type 0 where
   pub settled : AllSettled before
   pub ends : last.outcome ≡ outcome
 
--- The tries, one for each of the first candidates in order, and what came of them: as many won as were wanted, the last among them;
+-- The tries, one for each of the first candidates in order, and what came of them: as many places won as were wanted, the last among them;
 -- all candidates tried, and too few won; or the last one contended, with too few won before it
 abbrev pub IsAdding : Interval → ℕ → List ℕ → List Try → Added → Type 0
 IsAdding span count candidates tries added.All =
-    EndsWith tries Won × (length (items_won span tries) ≡ count) × ((left : List ℕ) × (candidates ≡ tried tries ++ left))
+    EndsWith tries Won × (length (places_won tries) ≡ count) × ((left : List ℕ) × (candidates ≡ tried tries ++ left))
 IsAdding span count candidates tries (added.NoPlace won) =
-    AllSettled tries × (length (items_won span tries) ≡ won) × (won < count) × (candidates ≡ tried tries)
+    AllSettled tries × (length (places_won tries) ≡ won) × (won < count) × (candidates ≡ tried tries)
 IsAdding span count candidates tries (added.Contended place) =
     ((ends : EndsWith tries Contended) × (ends.last.place ≡ place.0))
-    × (length (items_won span tries) < count) × ((left : List ℕ) × (candidates ≡ tried tries ++ left))
+    × (length (places_won tries) < count) × ((left : List ℕ) × (candidates ≡ tried tries ++ left))
 
 -- the steps of adding places to a hold of the row that has so many items, with the items won
 pub record Adds (row k : ℕ) (span : Interval) (count : ℕ) (candidates : List ℕ) (answer : Added) (won : List Item) (es : List Step) : Type 0 where
@@ -58,6 +68,10 @@ pub record Adds (row k : ℕ) (span : Interval) (count : ℕ) (candidates : List
   pub adding : IsAdding span count candidates tries answer
   pub items : won ≡ items_won span tries
   pub steps : es ≡ tries_steps row k span tries
+
+-- how many entries there are at most for one candidate: for each of two pieces eight looks, a take and a note
+abbrev pub most_entries : ℕ
+most_entries = 20
 
 -- the items of a row are given back, from the last to the first
 abbrev pub gives_back : ℕ → ℕ → List Step

@@ -2,19 +2,19 @@
 use Rattle.std.proofs.Common.{◌≡◌, ◌≢◌, ◌∙◌, ⊎_elim, inl, inr, ℕ, zero, suc, ◌+◌, ◌<◌, ◌≤◌, List, [], ◌∷◌, ◌++◌, Some, None, length, refl, sym, ap, subst, arith, append_assoc, append-nil}
 use Rattle.std.specs.Prelude.{◌==◌, Option}
 use Rattle.std.specs.List.{AllByRecursion}
-use Rattle.std.proofs.lemmas.Bool.{cases_eq}
+use Rattle.std.proofs.lemmas.Bool.{cases_eq, cases_lt}
 use mathlib.Core.List.{IsPrefix}
-use Rattle.leg_masks.specs.Interval.{IsClear}
-use Rattle.leg_masks.specs.Interval.{PlacedSpan as Item}
+use Rattle.leg_masks.specs.Interval.{IsClear, IsPiece, word_legs, PlacedSpan as Item}
 use Rattle.place_map.specs.declared.coach.Class.TheVariants.{Second}
 use Rattle.offer_codes.specs.Offers.{OfferView}
 use Rattle.history_model.specs.declared.entry.Entry.{Entry}
 use Rattle.history_model.specs.declared.entry.Step.{Step}
-use Rattle.history_model.specs.declared.entry.Step.TheVariants.{Look, Note, Start, Take, Seal}
+use Rattle.history_model.specs.declared.entry.Step.TheVariants.{Note, Start, Take, Seal}
 use Rattle.history_model.specs.declared.phase.Phase.TheVariants.{Prebooked}
 use Rattle.history_model.specs.Booking.{Layout}
 use Rattle.history_model.specs.History.{state_of}
-use Rattle.history_model.proofs.ListLemmas.{All-right}
+use Rattle.history_model.specs.Looks.{look_at}
+use Rattle.history_model.proofs.ListLemmas.{All-left, All-right}
 use Rattle.claim_rule.specs.Rule.{DeskView}
 use Rattle.claim_rule.specs.Seats.{Shape}
 use Rattle.claim_rule.proofs.Shapes.{shape_then}
@@ -27,7 +27,7 @@ use Rattle.hold_core.specs.declared.tries.Outcome.TheVariants as outcome
 use Rattle.hold_core.specs.declared.adds.Added.{Added}
 use Rattle.hold_core.specs.declared.adds.Added.TheVariants as added
 use Rattle.hold_core.specs.Tries.{Try, IsTry, IsOutcome, looks_at}
-use Rattle.hold_core.specs.Places.{Adds, IsAdding, items_won, tried, tries_steps, gives_back}
+use Rattle.hold_core.specs.Places.{Adds, IsAdding, places_won, tried, tries_steps, gives_back}
 use Rattle.osdm_texts.specs.declared.problem.Problem.{Problem}
 use Rattle.osdm_texts.specs.declared.problem.Problem.TheVariants as problems
 use Rattle.osdm_texts.specs.Answers.{Reply, problem, status_of}
@@ -38,7 +38,7 @@ use Rattle.reservation_service.specs.Reserving.{detail_of, reserved, Prebooks, F
 use Rattle.drill_totals.specs.Parts.{Outcome, Sold, TurnedAway, Busy, WithoutRow, Among, AllMinor, IsSale, IsTurnedAway, IsBusy, IsPart, on_leg, is_turned_away, is_busy, starts_in}
 use Rattle.drill_catalogue.specs.Fits.{HasPlaces, drill_retailer, numbers_from}
 use Rattle.host_drill.specs.Worked.{ReservesLeg, leg_segment}
-use Rattle.host_drill.proofs.Tries.{AllRefused, AreMinor, IsWinning, all_lost, among_right, contended_last, last_tried, looks_minor, minor_append, refused_minor, seen_taken, starts_append, wins_last}
+use Rattle.host_drill.proofs.Tries.{AllRefused, AreMinor, IsLooked, IsWinning, all_lost, among_right, contended_last, last_tried, looked, looks_minor, minor_append, no_items_won, refused_minor, seen_taken, starts_append, wins_last}
 
 -- the numbers of the places
 
@@ -53,6 +53,13 @@ numbers_within first (suc n) place (inl is) = (let e : place < first + suc n = o
 numbers_within first (suc n) place (inr more) =
     let rest = numbers_within (first + 1) n place more in
     let e : place < first + suc n = omega (arith, rest) in e
+
+-- one leg lies in one half
+leg_piece : (leg : ℕ) → IsPiece (on_leg leg)
+leg_piece leg = ⊎_elim
+    (λ (low : leg < word_legs). inl (let e : leg + 1 ≤ word_legs = omega (arith, low) in e))
+    (λ (high : word_legs ≤ leg). inr high)
+    (cases_lt leg word_legs)
 
 -- starting the hold
 
@@ -186,15 +193,15 @@ adding_whole leg candidates tries (added.Contended place) ends is = absurd (let 
 
 -- all candidates were tried, and each was refused
 abbrev TriesInVain : ℕ → List ℕ → List Try → Type 0
-TriesInVain leg candidates tries = AllRefused tries × (length (items_won (on_leg leg) tries) < 1) × (candidates ≡ tried tries)
+TriesInVain leg candidates tries = AllRefused tries × (length (places_won tries) < 1) × (candidates ≡ tried tries)
 
 adding_short : (leg : ℕ) (candidates : List ℕ) (tries : List Try) (answer : Added) → Answers answer Short → IsAdding (on_leg leg) 1 candidates tries answer
     → TriesInVain leg candidates tries
 adding_short leg candidates tries added.All ends is = absurd (let e : Short ≡ Whole = ends in cc)
 adding_short leg candidates tries (added.NoPlace won) ends (settled, many, few, are) =
-    let less : length (items_won (on_leg leg) tries) < 1 = omega (arith, many, few) in
+    let less : length (places_won tries) < 1 = omega (arith, many, few) in
     let same : tries ++ [] ≡ tries = append-nil tries in (
-      all_lost (on_leg leg) tries [] settled (subst (λ (ts : List Try). length (items_won (on_leg leg) ts) < 1) (sym same) less),
+      all_lost tries [] settled (subst (λ (ts : List Try). length (places_won ts) < 1) (sym same) less),
       less,
       are,
     )
@@ -208,7 +215,7 @@ pub record TriesUpTo (leg : ℕ) (candidates : List ℕ) (tries : List Try) : Ty
   pub are : tries ≡ before ++ last ∷ []
   pub refused : AllRefused before
   pub contended : last.outcome ≡ outcome.Contended
-  pub none : length (items_won (on_leg leg) tries) < 1
+  pub none : length (places_won tries) < 1
   pub candidates_are : candidates ≡ tried tries ++ left
 
 adding_contended : (leg : ℕ) (candidates : List ℕ) (tries : List Try) (answer : Added) → Answers answer Contended → IsAdding (on_leg leg) 1 candidates tries answer
@@ -220,7 +227,7 @@ adding_contended leg candidates tries (added.Contended place) ends ((with, at), 
   last = with.last;
   left = left;
   are = with.are;
-  refused = all_lost (on_leg leg) with.before (with.last ∷ []) with.settled (subst (λ (ts : List Try). length (items_won (on_leg leg) ts) < 1) with.are few);
+  refused = all_lost with.before (with.last ∷ []) with.settled (subst (λ (ts : List Try). length (places_won ts) < 1) with.are few);
   contended = with.ends;
   none = few;
   candidates_are = are;
@@ -242,9 +249,10 @@ sold cat places leg row items old new started d has one a =
     let tries = a.adds.tries in
     let whole = adding_whole leg (candidates_on cat leg) tries a.answer a.ends a.adds.adding in
     let with = whole.0 in
-    let won : length (items_won (on_leg leg) (with.before ++ with.last ∷ [])) ≡ 1 =
-    subst (λ (ts : List Try). length (items_won (on_leg leg) ts) ≡ 1) with.are whole.1 in
-    let wins = wins_last row 0 (on_leg leg) with.before with.last with.settled with.ends won in
+    let won : length (places_won (with.before ++ with.last ∷ [])) ≡ 1 =
+    subst (λ (ts : List Try). length (places_won ts) ≡ 1) with.are whole.1 in
+    let each = subst (λ (ts : List Try). AllByRecursion (IsTry (on_leg leg)) ts) with.are a.adds.each in
+    let wins = wins_last row 0 (on_leg leg) with.before with.last (leg_piece leg) each with.settled with.ends won in
     sale places leg row with.last.place started a.steps d (length items) (place_of cat places leg tries with.before with.last whole.2.0 has with.are whole.2.1) one
     (subst (λ (es : List Step). IsWinning row with.last.place (on_leg leg) es) (sym a.adds.steps)
     (subst (λ (ts : List Try). IsWinning row with.last.place (on_leg leg) (tries_steps row 0 (on_leg leg) ts)) (sym with.are) wins))
@@ -264,18 +272,19 @@ turned_away cat places leg row items old new started has one a = record {
     vain = adding_short leg (candidates_on cat leg) tries a.answer a.ends a.adds.adding
 
     minor : AreMinor a.steps 0
-    minor = subst (λ (es : List Step). AreMinor es 0) (sym a.adds.steps) (refused_minor row 0 (on_leg leg) tries vain.0)
+    minor = subst (λ (es : List Step). AreMinor es 0) (sym a.adds.steps) (refused_minor row 0 (on_leg leg) tries (leg_piece leg) a.adds.each vain.0)
 
     both : AllMinor (started ++ a.steps) × (starts_in (started ++ a.steps) ≤ 1)
     both = few_starts started a.steps one minor
 
-    taken : (place : ℕ) → place < places → (word : ℕ) × Among (Look place word) (started ++ a.steps) × (¬ IsClear word (on_leg leg))
+    taken : (place : ℕ) → place < places → (word : ℕ) × Among (look_at place (on_leg leg) word) (started ++ a.steps) × (¬ IsClear word (on_leg leg))
     taken place within =
         let at : In place (tried tries) = subst (λ (ps : List ℕ). In place ps) (sym has.candidates ∙ vain.2)
         (numbers_in 0 places place (let e : 0 ≤ place = omega arith in e) (let e : place < 0 + places = omega (arith, within) in e)) in
-        let seen = seen_taken row 0 (on_leg leg) tries place a.adds.each vain.0 at in (
+        let seen = seen_taken row 0 (on_leg leg) tries place (leg_piece leg) a.adds.each vain.0 at in
+        let look : Step = look_at place (on_leg leg) seen.0 in (
           seen.0,
-          among_right (Look place seen.0) started a.steps (subst (λ (es : List Step). Among (Look place seen.0) es) (sym a.adds.steps) seen.1),
+          among_right look started a.steps (subst (Among look) (sym a.adds.steps) seen.1),
           seen.2,
         )
 
@@ -288,9 +297,9 @@ kept_busy cat places leg row items old new started has one a = record {
   back = [];
   place = up.last.place;
   within = place_of cat places leg tries up.before up.last up.left has up.are up.candidates_are;
-  shown = up.last.shown;
+  shown = mine.shown;
   are = ap (λ (l : List Step). started ++ l) steps ∙ sym (append_assoc started (tries_steps row 0 (on_leg leg) up.before) looks);
-  nine = is.0;
+  all = is.0;
   moving = mine.moving;
   clear = is.1;
 }
@@ -301,33 +310,34 @@ kept_busy cat places leg row items old new started has one a = record {
     up : TriesUpTo leg (candidates_on cat leg) tries
     up = adding_contended leg (candidates_on cat leg) tries a.answer a.ends a.adds.adding
 
+    each : AllByRecursion (IsTry (on_leg leg)) up.before × IsTry (on_leg leg) up.last
+    each =
+        let all = subst (λ (ts : List Try). AllByRecursion (IsTry (on_leg leg)) ts) up.are a.adds.each in
+        (All-left (IsTry (on_leg leg)) up.before (up.last ∷ []) all, (All-right (IsTry (on_leg leg)) up.before (up.last ∷ []) all).0)
+
+    mine : IsLooked (on_leg leg) up.last.place up.last.parts up.last.outcome
+    mine = looked (on_leg leg) up.last (leg_piece leg) each.1
+
     looks : List Step
-    looks = looks_at up.last.place up.last.shown ++ []
+    looks = looks_at up.last.place (on_leg leg) mine.shown ++ []
 
     steps : a.steps ≡ tries_steps row 0 (on_leg leg) up.before ++ looks
     steps =
         a.adds.steps ∙ (ap (λ (ts : List Try). tries_steps row 0 (on_leg leg) ts) up.are
-        ∙ contended_last row 0 (on_leg leg) up.before up.last up.contended)
+        ∙ contended_last row 0 (on_leg leg) up.before up.last mine up.contended)
 
     minor : AreMinor a.steps 0
     minor = subst (λ (es : List Step). AreMinor es 0) (sym steps)
-        (minor_append (tries_steps row 0 (on_leg leg) up.before) looks 0 0 (refused_minor row 0 (on_leg leg) up.before up.refused)
-        (minor_append (looks_at up.last.place up.last.shown) [] 0 0 (looks_minor up.last.place up.last.shown) (tt, refl)))
+        (minor_append (tries_steps row 0 (on_leg leg) up.before) looks 0 0 (refused_minor row 0 (on_leg leg) up.before (leg_piece leg) each.0 up.refused)
+        (minor_append (looks_at up.last.place (on_leg leg) mine.shown) [] 0 0 (looks_minor up.last.place (on_leg leg) mine.shown) (tt, refl)))
 
     both : AllMinor (started ++ a.steps) × (starts_in (started ++ a.steps) ≤ 1)
     both = few_starts started a.steps one minor
 
-    mine : IsTry (on_leg leg) up.last
-    mine = (All-right (IsTry (on_leg leg)) up.before (up.last ∷ []) (subst (λ (ts : List Try). AllByRecursion (IsTry (on_leg leg)) ts) up.are a.adds.each)).0
-
-    is : IsOutcome (on_leg leg) up.last.shown outcome.Contended
-    is = subst (λ (o : TryOutcome). IsOutcome (on_leg leg) up.last.shown o) up.contended mine.outcome
+    is : IsOutcome (on_leg leg) mine.shown outcome.Contended
+    is = subst (λ (o : TryOutcome). IsOutcome (on_leg leg) mine.shown o) up.contended mine.outcome
 
 -- nothing was won, and nothing is given back
-
-no_items : (items : List Item) → length items < 1 → items ≡ []
-no_items [] few = refl
-no_items (i ∷ items) few = absurd (let e : ⊥ = omega (arith, few) in e)
 
 gives_none : (row : ℕ) (items : List Item) (mid new : DeskView) → items ≡ [] → Shape mid new (gives_back row (length items)) → Shape mid new []
 gives_none row items mid new none did = subst (λ (l : List Item). Shape mid new (gives_back row (length l))) none did
@@ -390,7 +400,7 @@ module _ (cat : CatalogueView) (g : Layout) (history : List Entry) (places leg :
   held_none row Short reason items old first mid new started one begun placed wrong gave memory =
       let a = adds_one cat leg row Short items first mid (λ none. let e : Short ≡ NoMemory = none in cc) placed in
       let vain = adding_short leg (candidates_on cat leg) a.adds.tries a.answer a.ends a.adds.adding in
-      let none = no_items items (subst (λ (l : List Item). length l < 1) (sym a.adds.items) vain.1) in
+      let none = a.adds.items ∙ no_items_won (on_leg leg) a.adds.tries vain.1 in
       subst (λ (p : Problem). IsOnePart g history places leg old new (problem p)) (some_is problems.NoPlace reason wrong) (record {
         outcome = TurnedAway;
         steps = started ++ a.steps;
@@ -402,7 +412,7 @@ module _ (cat : CatalogueView) (g : Layout) (history : List Entry) (places leg :
   held_none row Contended reason items old first mid new started one begun placed wrong gave memory =
       let a = adds_one cat leg row Contended items first mid (λ none. let e : Contended ≡ NoMemory = none in cc) placed in
       let up = adding_contended leg (candidates_on cat leg) a.adds.tries a.answer a.ends a.adds.adding in
-      let none = no_items items (subst (λ (l : List Item). length l < 1) (sym a.adds.items) up.none) in
+      let none = a.adds.items ∙ no_items_won (on_leg leg) a.adds.tries up.none in
       subst (λ (p : Problem). IsOnePart g history places leg old new (problem p)) (some_is problems.Contended reason wrong) (record {
         outcome = Busy;
         steps = started ++ a.steps;

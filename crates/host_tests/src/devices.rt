@@ -73,6 +73,8 @@ const REPLAY: Run = Run {
 
 const READ_FAULT: &str = "rail_host: read fault\n";
 
+const INPUT_CUT: &str = "rail_host: input cut\n";
+
 const WRITE_FAULT: &str = "rail_host: write fault\n";
 
 const RUNS: [Run; 13] = [
@@ -196,6 +198,24 @@ fn check<R: AllocGlobal + Abort>(rt: &R, number: usize, run: &Run) -> Result<(),
 fn devices_fail(rt: HostRuntime) -> Result<(), Fail> {
     for (number, run) in RUNS.iter().enumerate() {
         check(&rt, number, run)?;
+    }
+    Ok(())
+}
+
+// Each front of a request but the whole: nothing is written, and the input is cut or, where there is none, at its end.
+#[test]
+fn fronts_of_a_request(rt: HostRuntime) -> Result<(), Fail> {
+    for length in 0..REQUEST.len() {
+        let input = REQUEST.get(..length).expect(&rt, "a front");
+        let (status, note) = if length == 0 { (0, "") } else { (6, INPUT_CUT) };
+        let run = Run {
+            input,
+            status,
+            output: "",
+            note,
+            ..TINY
+        };
+        check(&rt, length, &run)?;
     }
     Ok(())
 }

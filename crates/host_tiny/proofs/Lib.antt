@@ -1,6 +1,7 @@
 pub mod Hosting
 pub mod JsonFacts
 mod WorkedBodies
+pub mod Pieces
 pub mod Selling
 pub mod Freeness
 pub mod Reserving

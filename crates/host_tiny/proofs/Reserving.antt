@@ -1,19 +1,19 @@
 -- A reservation, call by call.
 use Rattle.std.proofs.Common.{◌≡◌, ℕ, zero, suc, ◌+◌, ◌<◌, ◌≤◌, List, [], ◌∷◌, ◌++◌, length, map, replicate, get_or, Some, None, sym, ap, ◌∙◌, subst, arith, append-nil}
-use Rattle.std.specs.Prelude.{All, slice_index}
-use Rattle.std.specs.List.{AllByRecursion, range_with_len}
+use Rattle.std.specs.Prelude.{◌↔◌, All, slice_index}
+use Rattle.std.specs.List.{range_with_len}
 use Rattle.std.proofs.lemmas.List.{get_or-replicate, length-replicate}
-use Rattle.leg_masks.specs.Interval.{Interval, PlacedSpan as Item}
+use Rattle.leg_masks.specs.Interval.{Interval, items_at, PlacedSpan as Item}
 use Rattle.rail_ids.specs.declared.PlaceNo.{PlaceNo}
 use Rattle.history_model.specs.declared.booking.BookedItem.{BookedItem}
 use Rattle.history_model.specs.declared.entry.Step.{Step}
 use Rattle.history_model.specs.declared.entry.Step.TheVariants.{Note, Seal}
 use Rattle.history_model.specs.declared.phase.Phase.TheVariants.{Making, Prebooked}
-use Rattle.history_model.specs.Booking.{Booking, Layout, State, all_items, present}
+use Rattle.history_model.specs.Booking.{Booking, Layout, State, present}
 use Rattle.claim_rule.specs.Rule.{BooksView, DeskView, state_seen}
 use Rattle.claim_rule.specs.Seats.{IsOf, Shape}
 use Rattle.claim_rule.specs.Calls.{ShapeBy}
-use Rattle.claim_rule.specs.Holds.{HoldView, held}
+use Rattle.claim_rule.specs.Holds.{HoldView, held as item_of}
 use Rattle.claim_rule.specs.Out.{HoldsNone, IsHolding}
 use Rattle.booking_rows.specs.Starts.{StartsHold}
 use Rattle.hold_core.specs.declared.adds.Added.{Added}
@@ -21,15 +21,16 @@ use Rattle.hold_core.specs.declared.adds.Added.TheVariants as added
 use Rattle.hold_core.specs.Tries.{place_number, with_items}
 use Rattle.hold_core.specs.Places.{Adds, gives_back}
 use Rattle.lone_desk.specs.Lone.{IsAlone, after_steps}
-use Rattle.lone_desk.specs.Decided.{FindsFirst}
+use Rattle.lone_desk.specs.Decided.{IsFreeAt, FindsFirst}
 use Rattle.lone_desk.proofs.Following.{shape_follows}
 use Rattle.lone_desk.proofs.Finding.{finds_first}
 use Rattle.lone_desk.proofs.OwnRow.{IsApart, AllAt, steps_keep, tries_at_row}
 use Rattle.lone_desk.proofs.Starting.{starts_least}
-use Rattle.host_tiny.specs.Reservations.{Held, IsLeastFree, IsNoneFree}
+use Rattle.host_tiny.specs.Reservations.{Held, IsFree, IsLeastFree, IsNoneFree}
 use Rattle.host_tiny.specs.Run.{IsRun, IsSettled, held_of, reservations, reserved}
 use Rattle.host_tiny.proofs.Selling.{HasRow, row_started, no_row_started, rows_apart, found_last, one_each, settled_reservations, row_reservations, reservations_more, settles_empty, settles_sold, sealed_last}
-use Rattle.host_tiny.proofs.Freeness.{IsLeft, left_here, least_found, none_found}
+use Rattle.host_tiny.proofs.Pieces.{one_held}
+use Rattle.host_tiny.proofs.Freeness.{free_at, least_found, none_found}
 
 -- the run after calls that leave it settled
 pub run_still : (legs : ℕ) (places : List PlaceNo) (books : BooksView) (old new : DeskView) → IsRun legs places books old → IsOf books new → IsAlone new → HoldsNone new
@@ -85,7 +86,7 @@ pub record Begun (old new : DeskView) (settled : IsSettled (state_seen old)) (ro
   pub alone : IsAlone new
   pub few : length (reserved old) < 1024
   pub same : reserved new ≡ reserved old
-  pub left : AllByRecursion IsLeft (all_items (state_seen new))
+  pub free : (place : ℕ) (span : Interval) → IsFreeAt (state_seen new) span place ↔ IsFree (reserved old) place span
 
 pub begun : (legs : ℕ) (places : List PlaceNo) (books : BooksView) (old new : DeskView) (hold : HoldView) → (run : IsRun legs places books old)
     → ShapeBy (StartsHold old new (Some hold.row)) old new → IsHolding new hold → IsOf books new → Begun old new run.settled hold.row
@@ -102,7 +103,8 @@ begun legs places books old new hold run did holding own =
       alone = f.alone;
       few = omega (arith, many, has.row_is, below, rows);
       same = row_reservations s settled (state_seen new) hold.row has ∙ sym (settled_reservations s settled);
-      left = left_here new settled.sold has.last own.legal has.now_is settled.each has.empty.phase;
+      free = λ place span. subst (λ (hs : List Held). IsFreeAt (state_seen new) span place ↔ IsFree hs place span) (sym (settled_reservations s settled))
+          (free_at (state_seen new) settled.sold has.last settled.each has.empty.none has.now_is place span);
     }
 
 -- ---- the places
@@ -129,7 +131,7 @@ pub record LastHas (sold : State) (row : ℕ) (desk : DeskView) (items : List Bo
 
 pub places_added : (start old new : DeskView) (settled : IsSettled (state_seen start)) (hold kept : HoldView) (span : Interval) (candidates : List ℕ) (answer : Added) (won : List Item)
     → Begun start old settled hold.row → ShapeBy (Adds hold.row (length hold.items) span 1 candidates answer won) old new → kept ≡ with_items hold won → IsHolding new kept
-    → LastHas settled.sold hold.row new (map held kept.items)
+    → LastHas settled.sold hold.row new (map item_of kept.items)
 places_added start old new settled hold kept span candidates answer won begun (steps, adds, did) is holding =
     let row = hold.row in
     let sold = settled.sold in
@@ -158,9 +160,9 @@ places_added start old new settled hold kept span candidates answer won begun (s
 
 -- ---- the end
 
--- sealed: one more row is sold
+-- sealed: one more place is sold
 pub sold_more : (start old new : DeskView) (settled : IsSettled (state_seen start)) (row place m n o p : ℕ) (span : Interval) (items : List Item) → row ≡ length settled.sold
-    → LastHas settled.sold row old (map held items) → items ≡ record { place = place; span = span } ∷ []
+    → LastHas settled.sold row old (map item_of items) → items ≡ items_at span place
     → Shape old new (Note row 1 m ∷ Note row 2 n ∷ Note row 3 o ∷ Note row 4 p ∷ Seal row Prebooked ∷ [])
     → IsSettled (state_seen new) × (reserved new ≡ reserved start ++ record { place = place; span = span } ∷ []) × IsAlone new
 sold_more start old new settled row place m n o p span items at has is did =
@@ -169,57 +171,67 @@ sold_more start old new settled row place m n o p span items at has is did =
     let c = sealed_last sold has.last row old.number m n o p has.row_is has.apart in
     let steps : List Step = Note row 1 m ∷ Note row 2 n ∷ Note row 3 o ∷ Note row 4 p ∷ Seal row Prebooked ∷ [] in
     let state : state_seen new ≡ sold ++ c.0 ∷ [] = f.state ∙ (ap (λ (s : State). after_steps s old.number steps) has.state ∙ c.4) in
-    let mine : c.0.items ≡ map held (record { place = place; span = span } ∷ []) = c.2 ∙ (has.items_are ∙ ap (map held) is) in (
-      settles_sold (state_seen start) settled row (state_seen new) c.0 at c.1 (record { phase = c.3; one = ap length mine }) state,
+    let one : Held = record { place = place; span = span } in
+    let mine : c.0.items ≡ map item_of (items_at span place) = c.2 ∙ (has.items_are ∙ ap (map item_of) is) in (
+      settles_sold (state_seen start) settled row (state_seen new) c.0 at c.1 (record { phase = c.3; one = one; items = mine }) state,
       ap reservations state
           ∙ (reservations_more sold c.0
-          ∙ (ap (λ (is : List BookedItem). reservations sold ++ map held_of is) mine
-          ∙ ap (λ (hs : List Held). hs ++ record { place = place; span = span } ∷ []) (sym (settled_reservations (state_seen start) settled)))),
+          ∙ (ap (λ (is : List BookedItem). reservations sold ++ held_of is) mine
+          ∙ (ap (λ (hs : List Held). reservations sold ++ hs) (one_held one)
+          ∙ ap (λ (hs : List Held). hs ++ one ∷ []) (sym (settled_reservations (state_seen start) settled))))),
       f.alone,
     )
 
 -- abandoned: the row is left empty
 pub left_empty : (start old new : DeskView) (settled : IsSettled (state_seen start)) (row : ℕ) (items : List Item) → row ≡ length settled.sold
-    → LastHas settled.sold row old (map held items) → items ≡ [] → Shape old new (gives_back row (length items))
+    → LastHas settled.sold row old (map item_of items) → items ≡ [] → Shape old new (gives_back row (length items))
     → IsSettled (state_seen new) × (reserved new ≡ reserved start) × IsAlone new
 left_empty start old new settled row items at has is did =
     let sold = settled.sold in
     let steps : gives_back row (length items) ≡ [] = ap (λ (is : List Item). gives_back row (length is)) is in
     let f = shape_follows old new (gives_back row (length items)) has.alone did in
     let state : state_seen new ≡ sold ++ has.last ∷ [] = f.state ∙ (ap (after_steps (state_seen old) old.number) steps ∙ has.state) in
-    let none : has.last.items ≡ [] = has.items_are ∙ ap (map held) is in (
+    let none : has.last.items ≡ [] = has.items_are ∙ ap (map item_of) is in (
       settles_empty (state_seen start) settled row (state_seen new) has.last at
           (record { phase = has.making; none = none; owner = has.owner; row_is = has.row_is }) state,
       ap reservations state
           ∙ (reservations_more sold has.last
-          ∙ (ap (λ (is : List BookedItem). reservations sold ++ map held_of is) none
+          ∙ (ap (λ (is : List BookedItem). reservations sold ++ held_of is) none
           ∙ (append-nil (reservations sold) ∙ sym (settled_reservations (state_seen start) settled)))),
       f.alone,
     )
 
 -- ---- from a wish to its answer
 
+-- the place found, and what the hold has then
+pub items_found : (legs : ℕ) (places : List PlaceNo) (books : BooksView) (a b c : DeskView) (hold kept : HoldView) (span : Interval) (won : List Item)
+    → IsRun legs places books a → span.to ≤ legs → ShapeBy (StartsHold a b (Some hold.row)) a b → IsHolding b hold → hold.items ≡ [] → IsOf books b
+    → ShapeBy (Adds hold.row (length hold.items) span 1 (map place_number places) added.All won) b c → kept ≡ with_items hold won
+    → (found : FindsFirst (state_seen b) span (length places) added.All won) × (kept.items ≡ items_at span found.0)
+items_found legs places books a b c hold kept span won run fits starts holding none own adds is =
+    let begins = begun legs places books a b hold run starts holding own in
+    let found = adds_found legs places books a b c hold span added.All won run begins.alone fits adds in
+    (found, ap (λ (h : HoldView). h.items) is ∙ (ap (λ (l : List Item). l ++ won) none ∙ found.1))
+
 -- one place is sold
 pub reserved_all : (legs : ℕ) (places : List PlaceNo) (books : BooksView) (a b c d : DeskView) (hold kept : HoldView) (span : Interval) (won : List Item) (m n o : ℕ)
     → IsRun legs places books a → span.to ≤ legs → ShapeBy (StartsHold a b (Some hold.row)) a b → IsHolding b hold → hold.items ≡ [] → IsOf books b
     → ShapeBy (Adds hold.row (length hold.items) span 1 (map place_number places) added.All won) b c → kept ≡ with_items hold won → IsHolding c kept
     → Shape c d (Note kept.row 1 m ∷ Note kept.row 2 n ∷ Note kept.row 3 o ∷ Note kept.row 4 (length kept.items) ∷ Seal kept.row Prebooked ∷ [])
-    → (place : ℕ) × (kept.items ≡ record { place = place; span = span } ∷ []) × (length (reserved a) < 1024)
+    → (place : ℕ) × (kept.items ≡ items_at span place) × (length (reserved a) < 1024)
     × IsLeastFree (reserved a) (length places) place span × IsSettled (state_seen d)
     × (reserved d ≡ reserved a ++ record { place = place; span = span } ∷ []) × IsAlone d
 reserved_all legs places books a b c d hold kept span won m n o run fits starts holding none own adds is still did =
     let begins = begun legs places books a b hold run starts holding own in
-    let found = adds_found legs places books a b c hold span added.All won run begins.alone fits adds in
     let has = places_added a b c run.settled hold kept span (map place_number places) added.All won begins adds is still in
-    let items : kept.items ≡ record { place = found.0; span = span } ∷ [] =
-    ap (λ (h : HoldView). h.items) is ∙ (ap (λ (l : List Item). l ++ won) none ∙ found.1) in
+    let (found, items) = items_found legs places books a b c hold kept span won run fits starts holding none own adds is in
     let here : kept.row ≡ hold.row = ap (λ (h : HoldView). h.row) is in
     let sealed = subst (λ (r : ℕ). Shape c d (Note r 1 m ∷ Note r 2 n ∷ Note r 3 o ∷ Note r 4 (length kept.items) ∷ Seal r Prebooked ∷ [])) here did in
     let sold = sold_more a c d run.settled hold.row found.0 m n o (length kept.items) span kept.items begins.has.row_is has items sealed in (
       found.0,
       items,
       begins.few,
-      least_found (state_seen b) (reserved a) span (length places) won (omega (arith, fits, run.few)) begins.left begins.same found,
+      least_found (state_seen b) (reserved a) span (length places) won (λ place. begins.free place span) found,
       sold.0,
       sold.1,
       sold.2,
@@ -240,7 +252,7 @@ reserved_none legs places books a b c d hold kept span count won run fits starts
     let given = subst (λ (r : ℕ). Shape c d (gives_back r (length kept.items))) here did in
     let left = left_empty a c d run.settled hold.row kept.items begins.has.row_is has items given in (
       begins.few,
-      none_found (state_seen b) (reserved a) span (length places) count won (omega (arith, fits, run.few)) begins.left begins.same found,
+      none_found (state_seen b) (reserved a) span (length places) won (λ place. begins.free place span) count found,
       left.0,
       left.1,
       left.2,

@@ -1,18 +1,16 @@
 -- The rows of a run and the reservations in them, from one wish to the next.
-use Rattle.std.proofs.Common.{◌≡◌, ℕ, ◌+◌, ◌<◌, ◌≤◌, Bool, true, false, cond, eqb, eq-eqb, ne_eqb, List, [], ◌∷◌, ◌++◌, length, map, Option, Some, None, refl, sym, ap, ◌∙◌, subst, ⊎_elim, inl, inr, arith, append-nil, length-append}
+use Rattle.std.proofs.Common.{◌≡◌, ℕ, ◌+◌, ◌<◌, ◌≤◌, Bool, true, false, cond, eqb, eq-eqb, ne_eqb, List, [], ◌∷◌, ◌++◌, length, Option, Some, None, refl, sym, ap, ◌∙◌, subst, ⊎_elim, inl, inr, arith, append-nil, length-append}
 use Rattle.std.specs.Prelude.{◌⊎◌, IsSome}
 use Rattle.std.specs.Option.{option_or}
 use Rattle.std.proofs.lemmas.Bool.{cases_eq, cases_lt}
-use Rattle.std.proofs.lemmas.List.{length-map}
 use Rattle.std.specs.List.{AllByRecursion}
-use mathlib.Core.List.{map-append}
 use Rattle.history_model.specs.declared.booking.BookedItem.{BookedItem}
 use Rattle.history_model.specs.declared.entry.Step.TheVariants.{Note, Seal}
 use Rattle.history_model.specs.declared.phase.Phase.{Phase}
 use Rattle.history_model.specs.declared.phase.Phase.TheVariants.{Making, Prebooked}
 use Rattle.history_model.specs.Allowed.{IsMadeBy, OnRow}
 use Rattle.history_model.specs.Apply.{started, in_phase, noted}
-use Rattle.history_model.specs.Booking.{Booking, State, all_items, change, present, stands_in}
+use Rattle.history_model.specs.Booking.{Booking, State, change, present, stands_in}
 use Rattle.history_model.proofs.Keeping.{found}
 use Rattle.history_model.proofs.ListLemmas.{All-append, All-found, find-push, flat_map-append}
 use Rattle.history_model.proofs.Owners.{on_row}
@@ -20,7 +18,9 @@ use Rattle.claim_rule.specs.Rule.{DeskView, state_seen}
 use Rattle.booking_rows.specs.Starts.{IsLeastFree}
 use Rattle.lone_desk.specs.Lone.{StartsLeast, after_steps}
 use Rattle.lone_desk.proofs.OwnRow.{IsApart, change_last}
+use Rattle.host_tiny.specs.Reservations.{Held}
 use Rattle.host_tiny.specs.Run.{IsSold, IsEmptyRow, IsSettled, StandFrom, held_of, reservations}
+use Rattle.host_tiny.proofs.Pieces.{sold_held}
 
 -- ---- rows in order
 
@@ -163,22 +163,23 @@ no_row_started old new first rows settled (none, least, same) =
 
 -- ---- reservations
 
-pub reservations_more : (sold : State) (b : Booking) → reservations (sold ++ b ∷ []) ≡ reservations sold ++ map held_of b.items
+pub reservations_more : (sold : State) (b : Booking) → reservations (sold ++ b ∷ []) ≡ reservations sold ++ held_of b.items
 reservations_more sold b =
-    ap (map held_of) (flat_map-append (λ (x : Booking). x.items) sold (b ∷ []))
-    ∙ (map-append held_of (all_items sold) (b.items ++ []) ∙ ap (λ (l : List BookedItem). reservations sold ++ map held_of l) (append-nil b.items))
+    flat_map-append (λ (x : Booking). held_of x.items) sold (b ∷ [])
+    ∙ ap (λ (l : List Held). reservations sold ++ l) (append-nil (held_of b.items))
 
 pub one_each : (sold : State) → AllByRecursion IsSold sold → length (reservations sold) ≡ length sold
 one_each [] each = refl
 one_each (b ∷ bs) each =
     let rest = one_each bs each.1 in
-    let parts = ap length (map-append held_of b.items (all_items bs)) ∙ length-append (map held_of b.items) (reservations bs) in
-    omega (arith, parts, length-map b.items held_of, each.0.one, rest)
+    let parts = length-append (held_of b.items) (reservations bs) in
+    let one = ap length (sold_held b each.0) in
+    omega (arith, parts, one, rest)
 
 -- an empty row holds no reservation
 with_empty : (sold : State) (b : Booking) → b.items ≡ [] → reservations (sold ++ b ∷ []) ≡ reservations sold
 with_empty sold b none =
-    reservations_more sold b ∙ (ap (λ (is : List BookedItem). reservations sold ++ map held_of is) none ∙ append-nil (reservations sold))
+    reservations_more sold b ∙ (ap (λ (is : List BookedItem). reservations sold ++ held_of is) none ∙ append-nil (reservations sold))
 
 pub settled_reservations : (s : State) (settled : IsSettled s) → reservations s ≡ reservations settled.sold
 settled_reservations s settled = by_rows settled.is
@@ -200,7 +201,7 @@ settles_empty s settled row now b at empty is = record {
   is = inr (b, record { phase = empty.phase; none = empty.none; owner = empty.owner; row_is = empty.row_is ∙ at }, is);
 }
 
--- and so does a row sealed with one item
+-- and so does a row sealed with one place
 pub settles_sold : (s : State) (settled : IsSettled s) (row : ℕ) (now : State) (b : Booking) → row ≡ length settled.sold → b.row ≡ row → IsSold b
     → now ≡ settled.sold ++ b ∷ [] → IsSettled now
 settles_sold s settled row now b at here sold is = record {

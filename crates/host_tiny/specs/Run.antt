@@ -1,12 +1,13 @@
 -- One run in words: the reservations that its desk has seen, and what holds of them.
 use Rattle.std.specs.Prelude.{◌≡◌, ◌⊎◌, ℕ, ◌+◌, ◌<◌, ◌≤◌, List, [], ◌∷◌, ◌++◌, length, map, replicate}
-use Rattle.std.specs.List.{AllByRecursion, range_with_len}
-use Rattle.leg_masks.specs.Interval.{Interval}
+use Rattle.std.specs.List.{AllByRecursion, flat_map, range_with_len}
+use Rattle.leg_masks.specs.Interval.{Interval, items_at, most_legs}
 use Rattle.rail_ids.specs.declared.PlaceNo.{PlaceNo}
 use Rattle.history_model.specs.declared.booking.BookedItem.{BookedItem}
 use Rattle.history_model.specs.declared.phase.Phase.TheVariants.{Making, Prebooked}
-use Rattle.history_model.specs.Booking.{Booking, State, all_items}
+use Rattle.history_model.specs.Booking.{Booking, State}
 use Rattle.claim_rule.specs.Rule.{BooksView, DeskView, state_seen}
+use Rattle.claim_rule.specs.Holds.{held as item_of}
 use Rattle.claim_rule.specs.Seats.{IsOf}
 use Rattle.claim_rule.specs.Out.{HoldsNone}
 use Rattle.hold_core.specs.Tries.{place_number}
@@ -15,20 +16,24 @@ use Rattle.host_tiny.specs.Reservations.{Held, IsLeastFree, IsNoneFree}
 use Rattle.host_tiny.specs.declared.run.Reservation.{Reservation}
 use Rattle.host_tiny.specs.declared.run.Reservation.TheVariants.{Place, RowsFull, NoPlace}
 
-abbrev pub held_of : BookedItem → Held
-held_of i = record { place = i.place; span = i.span }
+-- the reservation that a booking's items are: at one place, from the first item's first leg to the last one's last
+abbrev pub held_of : List BookedItem → List Held
+held_of [] = []
+held_of (i ∷ []) = record { place = i.place; span = i.span } ∷ []
+held_of (i ∷ j ∷ rest) = record { place = i.place; span = record { from = i.span.from; to = j.span.to } } ∷ []
 
--- the items of all bookings, in order
+-- the reservations of all bookings, in order
 abbrev pub reservations : State → List Held
-reservations s = map held_of (all_items s)
+reservations s = flat_map (λ b. held_of b.items) s
 
 abbrev pub reserved : DeskView → List Held
 reserved desk = reservations (state_seen desk)
 
--- the booking is one place, prebooked
+-- the booking is one place on one span, prebooked
 pub record IsSold (b : Booking) : Type 0 where
   pub phase : b.phase ≡ Prebooked
-  pub one : length b.items ≡ 1
+  pub one : Held
+  pub items : b.items ≡ map item_of (items_at one.span one.place)
 
 -- the booking is of this row, in the making by the first desk, with nothing taken: a refusal left it
 pub record IsEmptyRow (row : ℕ) (b : Booking) : Type 0 where
@@ -52,7 +57,7 @@ pub record IsSettled (s : State) : Type 0 where
 -- the books have a place of so many legs for each of these numbers, which are all from 0 on, and 1,024 rows; the desk is alone at them
 pub record IsRun (legs : ℕ) (places : List PlaceNo) (books : BooksView) (desk : DeskView) : Type 0 where
   pub some : 0 < legs
-  pub few : legs ≤ 63
+  pub few : legs ≤ most_legs
   pub most : length places ≤ 1200
   pub numbers : map place_number places ≡ range_with_len 0 (length places)
   pub layout : books.layout ≡ record { legs = replicate (length places) legs; rows = 1024; opening = [] }

@@ -1,7 +1,7 @@
 // One run in words: its places, its booking rows, and the one desk at them.
 ghost use Rattle.std.specs.Prelude.{◌≡◌, ◌<◌, ◌≤◌, ◌++◌, ◌∷◌, ℕ, [], All, IfOk, length, map, slice_index_or};
 ghost use Rattle.std.specs.List.{range_with_len};
-ghost use Rattle.leg_masks.specs.Interval.{PlacedSpan as Item};
+ghost use Rattle.leg_masks.specs.Interval.{PlacedSpan as Item, most_legs};
 ghost use Rattle.history_model.specs.declared.entry.Step.TheVariants.{Note, Seal};
 ghost use Rattle.history_model.specs.declared.phase.Phase.TheVariants.{Prebooked};
 ghost use Rattle.claim_rule.specs.Seats.{IsOf, Shape};
@@ -130,7 +130,7 @@ impl Run {
     /// Takes the memory of the words. Nothing is reserved yet.
     pub fn start(alloc: Global, legs: u8, places: u16) -> Result<Self, AllocError>
         requires some { 0 < legs }
-        requires few { legs ≤ 63 }
+        requires few { legs ≤ most_legs }
         requires places { 0 < places }
         requires most { places ≤ 1200 }
         ensures run { IfOk result (λ run. run ≡ record { legs = legs; places = places; held = [] }) }
@@ -146,11 +146,11 @@ impl Run {
         })
     }
 
-    /// How many legs it has: 1 to 63.
+    /// How many legs it has: 1 to 126.
     pub fn legs(&self) -> u8
         ensures value { result ≡ self.now.legs }
         ensures some { 0 < result }
-        ensures few { result ≤ 63 }
+        ensures few { result ≤ most_legs }
     {
         let _ = &self.desk;
         self.legs

@@ -1,5 +1,5 @@
 -- The values of the words of `serve`, from the rows that `clap` gives.
-use Rattle.std.proofs.Common.{◌≡◌, ◌∙◌, ℕ, List, Option, Some, None, refl, ap, codes}
+use Rattle.std.proofs.Common.{◌≡◌, ◌∙◌, ℕ, List, Some, None, refl, ap, codes}
 use Rattle.std.specs.Prelude.{option_and_then}
 use Rattle.clap.specs.Words.{Row, Text, first_of}
 use Rattle.host_words.specs.declared.serve.Serving.{Serving}

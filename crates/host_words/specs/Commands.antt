@@ -1,5 +1,5 @@
 -- The commands of the program, by their first words.
-use Rattle.std.specs.Prelude.{◌≡◌, ℕ, List, Some, codes, slice_get}
+use Rattle.std.specs.Prelude.{◌≡◌, List, Some, codes, slice_get}
 use Rattle.clap.specs.Words.{Text}
 use Rattle.host_words.specs.declared.command.CommandName.{CommandName}
 use Rattle.host_words.specs.declared.command.CommandName.TheVariants.{Tiny, Replay, Drill, Serve}

@@ -1,5 +1,5 @@
 -- The words of `serve`.
-use Rattle.std.specs.Prelude.{ℕ, ◌≤◌, List, Option, codes, option_and_then, option_map}
+use Rattle.std.specs.Prelude.{◌≤◌, List, Option, codes, option_and_then, option_map}
 use Rattle.clap.specs.Words.{App, Row, Text, new_app, new_rule, with_rule, first_of}
 use Rattle.host_words.specs.declared.serve.Serving.{Serving}
 use Rattle.host_words.specs.Options.{option_rule, numbered, required, with_default, number_of, taken}

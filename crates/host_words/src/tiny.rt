@@ -3,6 +3,8 @@ ghost use Rattle.std.specs.Prelude.{◌≡◌, ◌≤◌, ℕ, IfSome, IfNone};
 ghost use Rattle.host_words.specs.Options.{words_texts};
 ghost use Rattle.host_words.specs.Tiny.{IsNumber, IsTiny};
 
+use leg_masks::MOST_LEGS;
+
 /// The number from 1 to `most` that the word spells.
 fn number_spelled(word: &[u8], most: u16) -> Option<u16>
     requires { most ≤ 1200 }
@@ -20,7 +22,7 @@ fn number_spelled(word: &[u8], most: u16) -> Option<u16>
 /// What the words of `tiny` say.
 #[derive(Clone, Copy, Debug, PartialEq, Eq)]
 pub struct TinyWords {
-    /// How many legs the one run has: 1 to 63.
+    /// How many legs the one run has: 1 to 126.
     pub legs: u8,
     /// How many places it has: 1 to 1,200.
     pub places: u16,
@@ -36,7 +38,7 @@ pub fn read_tiny(words: &[String]) -> Option<TinyWords>
             if command.as_str() != "tiny" {
                 return None;
             }
-            let Some(legs) = number_spelled(legs.as_str().as_bytes(), 63) else {
+            let Some(legs) = number_spelled(legs.as_str().as_bytes(), u16::from(MOST_LEGS)) else {
                 return None;
             };
             let Some(places) = number_spelled(places.as_str().as_bytes(), 1200) else {

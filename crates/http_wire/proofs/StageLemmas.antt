@@ -5,6 +5,7 @@ use Rattle.http_wire.specs.declared.intake.Stage.{Stage}
 use Rattle.http_wire.specs.declared.intake.Stage.TheVariants.{Head, Body}
 use Rattle.http_wire.specs.declared.scan.HeadScan.{HeadScan}
 use Rattle.http_wire.specs.HeadRead.{IsServedRead, IsServedWithin}
+use Rattle.http_wire.specs.Next.{IsDecided}
 use Rattle.http_wire.specs.Requests.{HeadAt}
 use Rattle.http_wire.specs.Scan.{StandsFor}
 use Rattle.http_wire.specs.Stages.{IsStage, searched}
@@ -44,3 +45,7 @@ stage_start number text scan at s = record {
 pub searched_within : (number : ℕ) (text : List ℕ) (stage : Stage) → IsStage number text stage → searched stage ≤ length text
 searched_within number text (Head scan) s = s.within
 searched_within number text (Body end head) s = s.within
+
+-- bytes were pulled only where those held don't tell
+unfoldable pub PullsForMore : List ℕ → List ℕ → Type 0
+PullsForMore held pulled = IsDecided held → pulled ≡ []

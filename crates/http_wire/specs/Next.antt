@@ -29,6 +29,22 @@ IsNext number bytes after told Cut = AtEnd told × IsUnfinished bytes × IsKept 
 IsNext number bytes after told ReadFault = (IsBlank bytes ⊎ IsUnfinished bytes) × IsKept number bytes after
 IsNext number bytes after told (Bad fault) = IsFault fault bytes × IsKept number bytes after
 
+-- How many bytes were looked at when the answer came: of the request, or of what stands in its place.
+abbrev pub looked_at : IntakeView → Next → ℕ
+looked_at after (Request request) = length after.taken
+looked_at after End = after.looked
+looked_at after Cut = after.looked
+looked_at after ReadFault = after.looked
+looked_at after (Bad fault) = after.looked
+
+-- the bytes have a whole request, or what is refused in its place
+abbrev pub IsDecided : List ℕ → Type 0
+IsDecided bytes = IsBlank bytes ⊎ IsUnfinished bytes → ⊥
+
+-- Nothing is read where the bytes held tell: they are all that stand there afterwards.
+unfoldable pub ReadsAtNeed : IntakeView → IntakeView → Type 0
+ReadsAtNeed before after = IsDecided before.unread → after.taken ++ after.unread ≡ before.unread
+
 -- What a read behind the first bytes of a memory does.
 abbrev pub PullsBehind : Option (List ℕ) → Option (List ℕ) → List ℕ → List ℕ → ℕ → Pulled → Type 0
 PullsBehind before after old new filled (Got n) =

@@ -1,6 +1,8 @@
 -- How far the reading of a request has come.
-use Rattle.std.specs.Prelude.{◌≡◌, ℕ, ◌≤◌, List, length, take, drop, min, IfNone}
+use Rattle.std.specs.Prelude.{◌≡◌, ℕ, ◌≤◌, List, length, take, drop, min, IfNone, ⊤}
 use Rattle.http_wire.specs.declared.head.ServedHead.{ServedHead}
+use Rattle.http_wire.specs.declared.intake.Front.{Front}
+use Rattle.http_wire.specs.declared.intake.Front.TheVariants.{Whole, Fault, Blank, Open}
 use Rattle.http_wire.specs.declared.intake.Stage.{Stage}
 use Rattle.http_wire.specs.declared.intake.Stage.TheVariants.{Head, Body}
 use Rattle.http_wire.specs.declared.scan.HeadScan.{HeadScan}
@@ -33,3 +35,10 @@ IsStage number text (Body end head) = IsHeadSaid number text end head
 abbrev pub searched : Stage → ℕ
 searched (Head scan) = scan.at
 searched (Body end head) = end
+
+-- no byte behind a whole request was searched
+abbrev pub EndsAtRequest : Front → Stage → Type 0
+EndsAtRequest (Whole request n) stage = searched stage ≤ n
+EndsAtRequest (Fault fault) stage = ⊤
+EndsAtRequest Blank stage = ⊤
+EndsAtRequest Open stage = ⊤

@@ -5,9 +5,9 @@ ghost use Rattle.rail_io.specs.Faults.{Rose};
 ghost use Rattle.rail_io.specs.Told.{with_front};
 ghost use Rattle.http_wire.specs.declared.request.Next.TheVariants.{ReadFault};
 ghost use Rattle.http_wire.specs.Pieces.{piece_bytes, IsPieceWithin, IsFront};
-ghost use Rattle.http_wire.specs.Next.{IsNext};
+ghost use Rattle.http_wire.specs.Next.{IsNext, ReadsAtNeed, looked_at};
 ghost use Rattle.http_wire.specs.Requests.{HeadAt};
-ghost use Rattle.http_wire.specs.Stages.{IsStage, IsSearchOver, searched};
+ghost use Rattle.http_wire.specs.Stages.{IsStage, IsSearchOver, searched, EndsAtRequest};
 ghost use Rattle.http_wire.specs.declared.intake.Stage.TheVariants.{Head, Body};
 
 use crate::head::{HEAD_LINES, HEAD_ROOM, ServedHead};
@@ -45,6 +45,7 @@ pub struct Intake {
 
 impl Model for Intake {
     ghost use Rattle.std.specs.Prelude.{slice_range};
+    ghost use Rattle.http_wire.specs.Stages.{searched};
     ghost use Rattle.http_wire.specs.View.{IntakeView, IsIntake};
 
     ghost Value = { IntakeView };
@@ -52,6 +53,7 @@ impl Model for Intake {
     ghost view = { λ a. record {
       taken = slice_range a.memory.items a.start a.at;
       unread = slice_range a.memory.items a.at a.filled;
+      looked = searched a.stage;
       given = a.given;
     } };
 
@@ -111,6 +113,7 @@ fn examine<L: Ledger>(text: &[u8], number: u32, stage: Stage, steps: &mut Steps<
     requires { IsStage number text.now stage }
     ensures front { IsFront number text.now result.front }
     ensures stage { IsStage number text.now result.stage }
+    ensures ends { EndsAtRequest result.front result.stage }
     ensures steps { steps.new + searched stage ≤ steps.old + searched result.stage }
 {
     match stage {
@@ -132,6 +135,7 @@ fn search_on<L: Ledger>(
     requires { IsStage number text.now (Head before) }
     ensures front { IsFront number text.now result.front }
     ensures stage { IsStage number text.now result.stage }
+    ensures ends { EndsAtRequest result.front result.stage }
     ensures steps { steps.new + before.at ≤ steps.old + searched result.stage }
 {
     let room = text.len().min(HEAD_ROOM);
@@ -145,6 +149,7 @@ fn after_search(text: &[u8], number: u32, scan: HeadScan) -> Examined
     requires all { IsSearchOver text.now scan }
     ensures front { IsFront number text.now result.front }
     ensures stage { IsStage number text.now result.stage }
+    ensures ends { EndsAtRequest result.front result.stage }
     ensures searched { searched result.stage ≡ scan.at }
 {
     if scan.lines as usize > HEAD_LINES {
@@ -168,7 +173,8 @@ fn without_head(text: &[u8], number: u32, scan: HeadScan) -> Front
     requires open { scan.ended ≡ None }
     requires few { scan.lines ≤ 64 }
     requires all { scan.at ≡ min (length text.now) 16384 }
-    ensures { IsFront number text.now result }
+    ensures front { IsFront number text.now result }
+    ensures ends { EndsAtRequest result (Head scan) }
 {
     if text.len() >= HEAD_ROOM {
         return Front::Fault(WireFault::HeadTooLarge);
@@ -188,6 +194,7 @@ fn after_head(text: &[u8], number: u32, end: usize, scan: HeadScan) -> Examined
     requires searched { scan.at ≡ end }
     ensures front { IsFront number text.now result.front }
     ensures stage { IsStage number text.now result.stage }
+    ensures ends { EndsAtRequest result.front result.stage }
     ensures searched { searched result.stage ≡ end }
 {
     match served_head(&text[..end], number) {
@@ -205,7 +212,8 @@ fn after_head(text: &[u8], number: u32, end: usize, scan: HeadScan) -> Examined
 /// What stands there, where the head is one of a request.
 fn body_after(text: &[u8], number: u32, end: usize, head: ServedHead) -> Front
     requires { IsStage number text.now (Body end head) }
-    ensures { IsFront number text.now result }
+    ensures front { IsFront number text.now result }
+    ensures ends { EndsAtRequest result (Body end head) }
 {
     let length = head.length as usize;
     if text.len() - end < length {
@@ -229,6 +237,7 @@ impl Intake {
     pub fn start(alloc: Global) -> Result<Intake, AllocError>
         ensures taken { IfOk result (λ intake. intake.taken ≡ []) }
         ensures unread { IfOk result (λ intake. intake.unread ≡ []) }
+        ensures looked { IfOk result (λ intake. intake.looked ≡ 0) }
         ensures given { IfOk result (λ intake. intake.given ≡ 0) }
     {
         let mut memory = Vec::with_capacity(alloc, ROOM)?;
@@ -244,14 +253,15 @@ impl Intake {
     }
 
     /// The next request of the bytes held unread and of those that the source has left. It reads no
-    /// more than it needs to tell. Once 65,536 requests were given there is no next one: the last
-    /// was that of its connection.
+    /// more than it needs to tell, and nothing where the bytes held tell (`at_once`). Once 65,536
+    /// requests were given there is no next one: the last was that of its connection.
     pub fn next_request<S: Source>(&mut self, source: &mut S) -> Next
         requires few { self.old.given < 65536 }
         ensures next { (pulled : List ℕ)
             × (S.told source.old ≡ with_front pulled (S.told source.new))
             × IsNext (self.old.given + 1) (self.old.unread ++ pulled) self.new (S.told source.new) result }
         ensures never_falls { S.faults source.old ≤ S.faults source.new }
+        ensures at_once { ReadsAtNeed self.old self.new }
         ensures cause { result ≡ ReadFault → Rose (S.faults source.old) (S.faults source.new) }
         ensures steady { (result ≡ ReadFault → ⊥) → S.faults source.new ≡ S.faults source.old }
     {
@@ -268,6 +278,7 @@ impl Intake {
             × (S.told source.old ≡ with_front pulled (S.told source.new))
             × IsNext (self.old.given + 1) (self.old.unread ++ pulled) self.new (S.told source.new) result }
         ensures never_falls { S.faults source.old ≤ S.faults source.new }
+        ensures at_once { ReadsAtNeed self.old self.new }
         ensures cause { result ≡ ReadFault → Rose (S.faults source.old) (S.faults source.new) }
         ensures steady { (result ≡ ReadFault → ⊥) → S.faults source.new ≡ S.faults source.old }
     {
@@ -275,8 +286,9 @@ impl Intake {
         self.next_request_counted(source, &mut steps)
     }
 
-    /// `next_request`, whose steps are counted: a step is one byte looked at in the search for a head's end. In all
-    /// the calls for one request no byte is looked at twice.
+    /// `next_request`, whose steps are counted: a step is one byte looked at in the search for a head's end. No byte is
+    /// looked at twice, in all the calls for one request, and none that stands behind it: so all calls together take at
+    /// most as many steps as bytes came.
     pub fn next_request_counted<S: Source, L: Ledger>(
         &mut self,
         source: &mut S,
@@ -287,7 +299,10 @@ impl Intake {
             × (S.told source.old ≡ with_front pulled (S.told source.new))
             × (steps.new ≤ steps.old + (length self.old.unread + length pulled))
             × IsNext (self.old.given + 1) (self.old.unread ++ pulled) self.new (S.told source.new) result }
+        ensures each_once { steps.new + self.old.looked ≤ steps.old + looked_at self.new result }
+        ensures looked { self.new.looked ≤ length self.new.unread }
         ensures never_falls { S.faults source.old ≤ S.faults source.new }
+        ensures at_once { ReadsAtNeed self.old self.new }
         ensures cause { result ≡ ReadFault → Rose (S.faults source.old) (S.faults source.new) }
         ensures steady { (result ≡ ReadFault → ⊥) → S.faults source.new ≡ S.faults source.old }
     {

@@ -34,6 +34,3 @@ pub fn one_reading()
     ensures some { (number : ℕ) (stream : List ℕ)
         → ((xs : List RequestText) (rest : Rest) → Spells number stream xs rest → ⊥) → ⊥ }
 {}
-
-#[cfg(test)]
-mod tests;

@@ -9,7 +9,7 @@ pub parts_of : (p f t : ℕ) → f < 256 → t < 256 → ((p * 65536 + f * 256 +
 parts_of p f t a b = (omega arith, omega arith, omega arith)
 
 -- one word has one item
-pub one_item : (p q : ℕ) (a b : Interval) → a.from < a.to → a.to ≤ 63 → b.from < b.to → b.to ≤ 63 → item_word p a ≡ item_word q b → (p ≡ q) × (a ≡ b)
+pub one_item : (p q : ℕ) (a b : Interval) → a.from < a.to → a.to ≤ 126 → b.from < b.to → b.to ≤ 126 → item_word p a ≡ item_word q b → (p ≡ q) × (a ≡ b)
 one_item p q a b u v x y e =
     let place : p ≡ q = omega arith in
     let from : a.from ≡ b.from = omega arith in

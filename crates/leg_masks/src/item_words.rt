@@ -1,7 +1,7 @@
 ghost use Rattle.std.specs.Prelude.{◌≡◌, ℕ, IfSome, IfNone};
 ghost use Rattle.leg_masks.specs.Interval.{Interval, item_word, IsItemOf};
 
-use crate::{Item, MOST_LEGS, MOST_PLACES, Span};
+use crate::{Item, MOST_LEGS, MOST_PLACES, Span, WORD_LEGS};
 
 /// The word of an item: its place times 65,536, its first leg times 256, and the leg after its last.
 pub fn write_item(item: Item) -> u64
@@ -11,7 +11,7 @@ pub fn write_item(item: Item) -> u64
     item_word_of(item.place, item.span)
 }
 
-/// The item of a word: `None` exactly where the word is no item's. The item is the only one of that word.
+/// The item of a word: `None` exactly where the word is no item's, as where its legs don't lie in one half. The item is the only one of that word.
 pub fn read_item(word: u64) -> Option<Item>
     ensures some { IfSome result (λ item. IsItemOf item.place item.span word) }
     ensures only { IfSome result (λ item. (place : ℕ) (span : Interval) → IsItemOf place span word → (place ≡ item.place) × (span ≡ item.span)) }
@@ -27,6 +27,9 @@ pub fn read_item(word: u64) -> Option<Item>
         return None;
     }
     if to > u64::from(MOST_LEGS) {
+        return None;
+    }
+    if from < u64::from(WORD_LEGS) && u64::from(WORD_LEGS) < to {
         return None;
     }
     Some(Item {

@@ -1,26 +1,28 @@
 //! Legs of a run as bits of a word, and items as words.
 //!
-//! A run of n stops has n - 1 legs, numbered from 0. Leg l of a place is bit l of the place's word, so a stretch of a
-//! run is a mask over that word. What a place's word says of a stretch is answered here: whether it is free, and if
-//! not, where it is taken first. A booking's row keeps each of its items in a word; no word is read as two items.
+//! A run of n stops has n - 1 legs, numbered from 0, and at most 126. A place has two words, one for each half of the legs:
+//! legs 0 to 62 are the bits of the first, legs 63 to 125 those of the second. A stretch of a run lies in one half, or has
+//! a piece in each; a piece is a mask over the word of its half. What that word says of a piece is answered here: whether
+//! it is free, and if not, where it is taken first. A booking's row keeps each of its items, a piece at a place, in a word;
+//! no word is read as two items.
 //!
 //! No call takes memory.
 #![tactic(auto)]
 
+mod halves;
 mod item_words;
 mod place_words;
-#[cfg(test)]
-mod tests;
 
 ghost use Rattle.std.specs.Prelude.{◌≡◌, ◌<◌, ◌≤◌, ◌↔◌, IsTrue, IsSome, IfSome};
-ghost use Rattle.leg_masks.specs.Interval.{Interval, Meet, most_legs, most_places};
+ghost use Rattle.leg_masks.specs.Interval.{Interval, IsPiece, Meet, is_piece, most_legs, most_places};
 
+pub use halves::{HALVES, WORD_LEGS, half_of, pieces};
 pub use item_words::{item_word_of, read_item, write_item};
 pub use place_words::{first_taken, free_on, mask_of};
 use std::marker::Model;
 
-/// How many legs a place has at most: legs 0 to 62.
-pub const MOST_LEGS: u8 = 63;
+/// How many legs a run and a place have at most: legs 0 to 125.
+pub const MOST_LEGS: u8 = 126;
 
 /// How many places there may be.
 pub const MOST_PLACES: u32 = 4_194_304;
@@ -58,6 +60,14 @@ impl Span {
         }
     }
 
+    /// Whether the span lies in one half.
+    pub fn is_piece(self) -> bool
+        ensures test { result ≡ is_piece self }
+        ensures piece { IsTrue result ↔ IsPiece self }
+    {
+        self.to <= WORD_LEGS || WORD_LEGS <= self.from
+    }
+
     /// The first leg.
     pub fn from(self) -> u8
         ensures value { result ≡ self.from }
@@ -89,7 +99,7 @@ impl Default for Span {
     }
 }
 
-/// Legs of a place, which is below `MOST_PLACES`.
+/// Legs of a place, which is below `MOST_PLACES`. They lie in one half.
 #[derive(Clone, Copy, Debug, PartialEq, Eq)]
 pub struct Item {
     pub place: u32,
@@ -98,24 +108,25 @@ pub struct Item {
 
 impl Model for Item {
     ghost use Rattle.std.specs.Prelude.{◌<◌};
-    ghost use Rattle.leg_masks.specs.Interval.{PlacedSpan, most_places};
+    ghost use Rattle.leg_masks.specs.Interval.{IsPiece, PlacedSpan, most_places};
 
     ghost Value = { PlacedSpan };
 
     ghost view = { λ i. record { place = i.place; span = i.span } };
 
-    ghost invariant = { λ i. i.place < most_places };
+    ghost invariant = { λ i. (i.place < most_places) × IsPiece i.span };
 
     ghost inverse = { λ i. record { place = i.place; span = i.span } };
 }
 
 impl Item {
-    /// The item of this place and these legs: `None` exactly where there is no such place.
+    /// The item of this place and these legs: `None` exactly where there is no such place, or the legs don't lie in one
+    /// half.
     pub fn new(place: u32, span: Span) -> Option<Self>
-        ensures valid { IsSome result ↔ (place < most_places) }
+        ensures valid { IsSome result ↔ ((place < most_places) × IsPiece span) }
         ensures value { IfSome result (λ item. item ≡ record { place = place; span = span }) }
     {
-        if place < MOST_PLACES {
+        if place < MOST_PLACES && span.is_piece() {
             Some(Item { place, span })
         } else {
             None
@@ -130,9 +141,10 @@ impl Item {
         self.place
     }
 
-    /// The legs.
+    /// The legs, which lie in one half.
     pub fn span(self) -> Span
-        ensures { result ≡ self.span }
+        ensures value { result ≡ self.span }
+        ensures piece { IsPiece result }
     {
         self.span
     }
@@ -142,7 +154,7 @@ impl Default for Item {
     fn default() -> Self {
         Item {
             place: 0,
-            span: Span::default(),
+            span: Span { from: 0, to: 1 },
         }
     }
 }

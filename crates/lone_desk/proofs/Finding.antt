@@ -1,21 +1,22 @@
 -- One place wanted of all: the least that is free.
 use Rattle.std.proofs.Common.{◌≡◌, ◌≢◌, ℕ, zero, suc, ◌+◌, ◌<◌, ◌≤◌, List, [], ◌∷◌, ◌++◌, length, refl, sym, ap, ◌∙◌, subst, ⊎_elim, arith, append_assoc, append-nil, length-append}
+use Rattle.std.specs.List.{AllByRecursion, flat_map, range_with_len}
 use Rattle.std.proofs.lemmas.Bool.{cases_eq}
-use Rattle.std.specs.List.{AllByRecursion, range_with_len}
+use Rattle.std.proofs.lemmas.List.{nil_from_length}
 use mathlib.Core.List.{map-append}
-use Rattle.leg_masks.specs.Interval.{Interval, IsClear, PlacedSpan as Item}
+use Rattle.leg_masks.specs.Interval.{Interval, items_at, PlacedSpan as Item}
 use Rattle.history_model.specs.declared.entry.Step.{Step}
 use Rattle.history_model.specs.Lists.{Pairwise}
 use Rattle.history_model.specs.Booking.{Layout, State}
 use Rattle.history_model.specs.History.{IsLegalFrom}
-use Rattle.history_model.specs.Words.{place_word}
 use Rattle.history_model.proofs.ListLemmas.{All-left, All-right, Pairwise-left}
 use Rattle.hold_core.specs.declared.tries.Outcome.{Outcome}
 use Rattle.hold_core.specs.declared.tries.Outcome.TheVariants.{Won, Refused, Contended}
 use Rattle.hold_core.specs.declared.adds.Added.{Added}
 use Rattle.hold_core.specs.declared.adds.Added.TheVariants as added
-use Rattle.hold_core.specs.Tries.{Try, IsTry, item_won}
-use Rattle.hold_core.specs.Places.{Adds, EndsWith, items_won, tries_steps, tried}
+use Rattle.hold_core.specs.Tries.{Try}
+use Rattle.hold_core.specs.Places.{Adds, EndsWith, IsAdding, items_won, place_won, places_won, tried}
+use Rattle.hold_core.proofs.Adding.{items_by_place}
 use Rattle.lone_desk.specs.Lone.{entries_of}
 use Rattle.lone_desk.specs.Decided.{EndsBy, IsDecided, IsFreeAt, FindsFirst}
 use Rattle.lone_desk.proofs.Looking.{tries_decided}
@@ -53,40 +54,46 @@ numbers_split a (suc n) (x ∷ xs) p left e =
 
 -- where no item is won, each try was refused
 
-refused_by : (n place : ℕ) (span : Interval) (o : Outcome) (rest : List Item) → EndsBy n span o → length (item_won place span o ++ rest) ≡ 0
-    → (¬ IsClear n span) × (length rest ≡ 0)
-refused_by n place span Won rest ends none = absurd (omega (arith, none))
-refused_by n place span Refused rest ends none = (ends, none)
-refused_by n place span Contended rest ends none = absurd ends
+refused_by : (P : Type 0) (place : ℕ) (o : Outcome) (rest : List ℕ) → EndsBy P o → length (place_won place o ++ rest) ≡ 0 → (¬ P) × (length rest ≡ 0)
+refused_by P place Won rest ends none = absurd (omega (arith, none))
+refused_by P place Refused rest ends none = (ends, none)
+refused_by P place Contended rest ends none = absurd ends
 
-all_refused : (s : State) (span : Interval) (ts : List Try) → AllByRecursion (IsDecided s span) ts → length (items_won span ts) ≡ 0
+all_refused : (s : State) (span : Interval) (ts : List Try) → AllByRecursion (IsDecided s span) ts → length (places_won ts) ≡ 0
     → AllByRecursion (λ p. ¬ IsFreeAt s span p) (tried ts)
 all_refused s span [] all none = tt
 all_refused s span (t ∷ ts) all none =
-    let here = refused_by (place_word s t.place) t.place span t.outcome (items_won span ts) all.0.ends none in
+    let here = refused_by (IsFreeAt s span t.place) t.place t.outcome (places_won ts) all.0.ends none in
     (here.0, all_refused s span ts all.1 here.1)
 
-items_won-append : (span : Interval) (xs ys : List Try) → items_won span (xs ++ ys) ≡ items_won span xs ++ items_won span ys
-items_won-append span [] ys = refl
-items_won-append span (t ∷ xs) ys =
-    ap (λ (l : List Item). item_won t.place span t.outcome ++ l) (items_won-append span xs ys)
-    ∙ sym (append_assoc (item_won t.place span t.outcome) (items_won span xs) (items_won span ys))
+places_won-append : (xs ys : List Try) → places_won (xs ++ ys) ≡ places_won xs ++ places_won ys
+places_won-append [] ys = refl
+places_won-append (t ∷ xs) ys = ap (λ (l : List ℕ). place_won t.place t.outcome ++ l) (places_won-append xs ys) ∙ sym (append_assoc (place_won t.place t.outcome) (places_won xs) (places_won ys))
 
-no_items : (is : List Item) → length is ≡ 0 → is ≡ []
-no_items [] e = refl
-no_items (i ∷ is) e = absurd (omega (arith, e))
+-- what a call tries is a front of its candidates
+front_tried : (span : Interval) (count : ℕ) (candidates : List ℕ) (tries : List Try) (answer : Added) → IsAdding span count candidates tries answer → (left : List ℕ) × (candidates ≡ tried tries ++ left)
+front_tried span count candidates tries added.All adding = adding.2
+front_tried span count candidates tries (added.NoPlace n) adding = ([], adding.3 ∙ sym (append-nil (tried tries)))
+front_tried span count candidates tries (added.Contended place) adding = adding.2
 
--- the tries end by the words, where they are of a front of the numbers
-by_words : (g : Layout) (s : State) (desk row k : ℕ) (span : Interval) (places : ℕ) (steps : List Step) (tries : List Try) (left : List ℕ) → span.to ≤ 63
-    → IsLegalFrom g s (entries_of desk steps) → steps ≡ tries_steps row k span tries → AllByRecursion (IsTry span) tries
-    → range_with_len 0 places ≡ tried tries ++ left → AllByRecursion (IsDecided s span) tries
-by_words g s desk row k span places steps tries left fits legal is each at =
-    tries_decided g s desk row k span tries fits each
-    (Pairwise-left (λ p q. p ≢ q) (tried tries) left (subst (Pairwise (λ p q. p ≢ q)) at (numbers_apart 0 places)))
-    (subst (λ (es : List Step). IsLegalFrom g s (entries_of desk es)) is legal)
+-- The tries of a call that adds places among unlike candidates end by what was free before it.
+pub adds_decided : (g : Layout) (s : State) (desk row k count : ℕ) (span : Interval) (candidates : List ℕ) (answer : Added) (won : List Item) (steps : List Step) → span.to ≤ 126
+    → Pairwise (λ p q. p ≢ q) candidates → IsLegalFrom g s (entries_of desk steps) → (did : Adds row k span count candidates answer won steps) → AllByRecursion (IsDecided s span) did.tries
+adds_decided g s desk row k count span candidates answer won steps fits apart legal did =
+    let front = front_tried span count candidates did.tries answer did.adding in
+    tries_decided g s desk row k span did.tries fits did.each
+    (Pairwise-left (λ p q. p ≢ q) (tried did.tries) front.0 (subst (Pairwise (λ p q. p ≢ q)) front.1 apart))
+    (subst (λ (es : List Step). IsLegalFrom g s (entries_of desk es)) did.steps legal)
+
+-- so none of them is contended
+pub none_contended : (s : State) (span : Interval) (tries : List Try) → AllByRecursion (IsDecided s span) tries → EndsWith tries Contended → ⊥
+none_contended s span tries all ends =
+    let decided : AllByRecursion (IsDecided s span) (ends.before ++ ends.last ∷ []) = subst (AllByRecursion (IsDecided s span)) ends.are all in
+    let final : IsDecided s span ends.last = (All-right (IsDecided s span) ends.before (ends.last ∷ []) decided).0 in
+    subst (EndsBy (IsFreeAt s span ends.last.place)) ends.ends final.ends
 
 first_won : (s : State) (span : Interval) (places : ℕ) (tries : List Try) (won : List Item) (left : List ℕ) → (ends : EndsWith tries Won)
-    → length (items_won span tries) ≡ 1 → won ≡ items_won span tries → range_with_len 0 places ≡ tried tries ++ left → AllByRecursion (IsDecided s span) tries
+    → length (places_won tries) ≡ 1 → won ≡ items_won span tries → range_with_len 0 places ≡ tried tries ++ left → AllByRecursion (IsDecided s span) tries
     → FindsFirst s span places added.All won
 first_won s span places tries won left ends one is at all =
     let before = ends.before in
@@ -94,12 +101,10 @@ first_won s span places tries won left ends one is at all =
     let p = last.place in
     let decided : AllByRecursion (IsDecided s span) (before ++ last ∷ []) = subst (AllByRecursion (IsDecided s span)) ends.are all in
     let final : IsDecided s span last = (All-right (IsDecided s span) before (last ∷ []) decided).0 in
-    let mine : items_won span (last ∷ []) ≡ record { place = p; span = span } ∷ [] = ap (λ (o : Outcome). item_won p span o ++ []) ends.ends in
-    let parts : items_won span tries ≡ items_won span before ++ record { place = p; span = span } ∷ [] =
-    ap (items_won span) ends.are ∙ (items_won-append span before (last ∷ []) ∙ ap (λ (l : List Item). items_won span before ++ l) mine) in
-    let none : length (items_won span before) ≡ 0 =
-    omega (arith, one, ap length parts, length-append (items_won span before) (record { place = p; span = span } ∷ [])) in
-    let empty : items_won span before ≡ [] = no_items (items_won span before) none in
+    let counted : places_won tries ≡ places_won before ++ p ∷ [] =
+    ap places_won ends.are ∙ (places_won-append before (last ∷ []) ∙ ap (λ (o : Outcome). places_won before ++ (place_won p o ++ [])) ends.ends) in
+    let none : length (places_won before) ≡ 0 = only (length (places_won before)) (sym (length-append (places_won before) (p ∷ [])) ∙ (sym (ap length counted) ∙ one)) in
+    let places_are : places_won tries ≡ p ∷ [] = counted ∙ ap (λ (l : List ℕ). l ++ p ∷ []) (nil_from_length (places_won before) none) in
     let line : tried before ++ p ∷ left ≡ range_with_len 0 places =
     sym (append_assoc (tried before) (p ∷ []) left) ∙ (ap (λ (l : List ℕ). l ++ left) (sym (map-append (λ (t : Try). t.place) before (last ∷ [])))
     ∙ (ap (λ (ts : List Try). tried ts ++ left) (sym ends.are) ∙ sym at)) in
@@ -108,33 +113,31 @@ first_won s span places tries won left ends one is at all =
     subst (AllByRecursion (λ q. ¬ IsFreeAt s span q)) split.2
     (all_refused s span before (All-left (IsDecided s span) before (last ∷ []) decided) none) in (
       p,
-      is ∙ (parts ∙ ap (λ (l : List Item). l ++ record { place = p; span = span } ∷ []) empty),
+      is ∙ (items_by_place span tries ∙ (ap (flat_map (items_at span)) places_are ∙ append-nil (items_at span p))),
       omega (arith, split.1),
-      subst (EndsBy (place_word s p) span) ends.ends final.ends,
+      subst (EndsBy (IsFreeAt s span p)) ends.ends final.ends,
       λ lower below. at_number (λ q. ¬ IsFreeAt s span q) 0 (length (tried before)) refused lower (omega arith) (omega (arith, below, split.0)),
     )
+  where
+    only : (n : ℕ) → n + 1 ≡ 1 → n ≡ 0
+    only n e = omega (arith, e)
 
 -- What a lone desk finds that wants one place of all.
-pub finds_first : (g : Layout) (s : State) (desk row k : ℕ) (span : Interval) (places : ℕ) (answer : Added) (won : List Item) (steps : List Step) → span.to ≤ 63
+pub finds_first : (g : Layout) (s : State) (desk row k : ℕ) (span : Interval) (places : ℕ) (answer : Added) (won : List Item) (steps : List Step) → span.to ≤ 126
     → IsLegalFrom g s (entries_of desk steps) → Adds row k span 1 (range_with_len 0 places) answer won steps → FindsFirst s span places answer won
 finds_first g s desk row k span places added.All won steps fits legal did =
     let a = did.adding in
     first_won s span places did.tries won a.2.0 a.0 a.1 did.items a.2.1
-    (by_words g s desk row k span places steps did.tries a.2.0 fits legal did.steps did.each a.2.1)
+    (adds_decided g s desk row k 1 span (range_with_len 0 places) added.All won steps fits (numbers_apart 0 places) legal did)
 finds_first g s desk row k span places (added.NoPlace n) won steps fits legal did =
     let a = did.adding in
-    let none : length (items_won span did.tries) ≡ 0 = omega (arith, a.1, a.2) in
-    let line : range_with_len 0 places ≡ tried did.tries ++ [] = a.3 ∙ sym (append-nil (tried did.tries)) in
-    let all = by_words g s desk row k span places steps did.tries [] fits legal did.steps did.each line in (
-      did.items ∙ no_items (items_won span did.tries) none,
+    let none : length (places_won did.tries) ≡ 0 = omega (arith, a.1, a.2) in
+    let all = adds_decided g s desk row k 1 span (range_with_len 0 places) (added.NoPlace n) won steps fits (numbers_apart 0 places) legal did in (
+      did.items ∙ (items_by_place span did.tries ∙ ap (flat_map (items_at span)) (nil_from_length (places_won did.tries) none)),
       λ place below.
           at_number (λ q. ¬ IsFreeAt s span q) 0 places
           (subst (AllByRecursion (λ q. ¬ IsFreeAt s span q)) (sym a.3) (all_refused s span did.tries all none)) place (omega arith) (omega (arith, below)),
     )
 finds_first g s desk row k span places (added.Contended p) won steps fits legal did =
-    let a = did.adding in
-    let ends = a.0.0 in
-    let all = by_words g s desk row k span places steps did.tries a.2.0 fits legal did.steps did.each a.2.1 in
-    let decided : AllByRecursion (IsDecided s span) (ends.before ++ ends.last ∷ []) = subst (AllByRecursion (IsDecided s span)) ends.are all in
-    let final : IsDecided s span ends.last = (All-right (IsDecided s span) ends.before (ends.last ∷ []) decided).0 in
-    subst (EndsBy (place_word s ends.last.place) span) ends.ends final.ends
+    none_contended s span did.tries
+    (adds_decided g s desk row k 1 span (range_with_len 0 places) (added.Contended p) won steps fits (numbers_apart 0 places) legal did) did.adding.0.0

@@ -1,5 +1,5 @@
 -- The row that a lone desk makes is the last of the list, and its steps there leave the others as they are.
-use Rattle.std.proofs.Common.{◌≡◌, ℕ, zero, suc, ◌+◌, Bool, true, false, cond, eq-eqb, List, [], ◌∷◌, ◌++◌, length, refl, sym, ap, ◌∙◌, subst}
+use Rattle.std.proofs.Common.{◌≡◌, ℕ, zero, suc, ◌+◌, Bool, true, false, cond, eq-eqb, List, [], ◌∷◌, ◌++◌, length, refl, sym, ap, ◌∙◌, subst, append-nil}
 use Rattle.std.specs.Prelude.{◌==◌}
 use Rattle.std.specs.List.{AllByRecursion}
 use Rattle.std.proofs.lemmas.Bool.Decides.{Decides-eqb}
@@ -7,11 +7,12 @@ use Rattle.leg_masks.specs.Interval.{Interval}
 use Rattle.history_model.specs.declared.entry.Step.{Step}
 use Rattle.history_model.specs.declared.entry.Step.TheVariants.{Look, Take, Give, Start, SawRow, Note, Seal, Turn, LostTurn, Close, Met}
 use Rattle.history_model.specs.Apply.{apply_step, taken, given, noted, in_phase}
-use Rattle.history_model.specs.Booking.{Booking, State, change}
-use Rattle.history_model.proofs.ListLemmas.{All-append}
+use Rattle.history_model.specs.declared.booking.BookedItem.{BookedItem}
+use Rattle.history_model.specs.Booking.{Booking, State, change, all_items}
+use Rattle.history_model.proofs.ListLemmas.{All-append, flat_map-append}
 use Rattle.hold_core.specs.declared.tries.Outcome.{Outcome}
 use Rattle.hold_core.specs.declared.tries.Outcome.TheVariants.{Won, Refused, Contended}
-use Rattle.hold_core.specs.Tries.{Try, looks_at, won_steps}
+use Rattle.hold_core.specs.Tries.{Part, Try, looks_at, part_steps, parts_steps, try_steps, undone, won_steps}
 use Rattle.hold_core.specs.Places.{tries_steps, gives_back, won_by}
 use Rattle.lone_desk.specs.Lone.{is_at, after_steps}
 
@@ -29,6 +30,10 @@ change_last [] b row f here apart = ap (λ (t : Bool). cond t (f b ∷ []) (b �
 change_last (x ∷ front) b row f here apart =
     ap (λ (t : Bool). cond t (f x ∷ (front ++ b ∷ [])) (x ∷ change (front ++ b ∷ []) row f)) apart.0
     ∙ ap (λ (s : State). x ∷ s) (change_last front b row f here apart.1)
+
+-- the items of all, with those of the last
+pub items_with : (front : State) (b : Booking) → all_items (front ++ b ∷ []) ≡ all_items front ++ b.items
+items_with front b = flat_map-append (λ (x : Booking). x.items) front (b ∷ []) ∙ ap (λ (l : List BookedItem). all_items front ++ l) (append-nil b.items)
 
 -- the list with another booking in the last one's place
 pub record KeepsFront (front : State) (row : ℕ) (s : State) : Type 0 where
@@ -48,7 +53,7 @@ changed front b row r f here same at apart =
 
 step_keeps : (front : State) (b : Booking) (row desk : ℕ) (st : Step) → b.row ≡ row → IsApart row front → is_at row st ≡ true
     → KeepsFront front row (apply_step (front ++ b ∷ []) desk st)
-step_keeps front b row desk (Look place shown) here apart at = record { last = b; same = here; is = refl }
+step_keeps front b row desk (Look place half shown) here apart at = record { last = b; same = here; is = refl }
 step_keeps front b row desk (Take r place span) here apart at = changed front b row r (taken place span) here (λ x. refl) at apart
 step_keeps front b row desk (Give r item) here apart at = changed front b row r (given item) here (λ x. refl) at apart
 step_keeps front b row desk (Start r) here apart at = absurd cc
@@ -67,22 +72,37 @@ steps_keep front b row desk (st ∷ steps) here apart at =
     let one = step_keeps front b row desk st here apart at.0 in
     subst (λ (s : State). KeepsFront front row (after_steps s desk steps)) (sym one.is) (steps_keep front one.last row desk steps one.same apart at.1)
 
-looks_at_row : (row place : ℕ) (shown : List ℕ) → AllAt row (looks_at place shown)
-looks_at_row row place [] = tt
-looks_at_row row place (w ∷ ws) = (refl, looks_at_row row place ws)
+looks_at_row : (row place : ℕ) (piece : Interval) (shown : List ℕ) → AllAt row (looks_at place piece shown)
+looks_at_row row place piece [] = tt
+looks_at_row row place piece (w ∷ ws) = (refl, looks_at_row row place piece ws)
 
-won_at_row : (row k place : ℕ) (span : Interval) (o : Outcome) → AllAt row (won_steps row k place span o)
-won_at_row row k place span Won = (eq-eqb row row refl, (eq-eqb row row refl, tt))
-won_at_row row k place span Refused = tt
-won_at_row row k place span Contended = tt
+won_at_row : (row k place : ℕ) (piece : Interval) (o : Outcome) → AllAt row (won_steps row k place piece o)
+won_at_row row k place piece Won = (eq-eqb row row refl, (eq-eqb row row refl, tt))
+won_at_row row k place piece Refused = tt
+won_at_row row k place piece Contended = tt
+
+parts_at_row : (row k place : ℕ) (ts : List Part) → AllAt row (parts_steps row k place ts)
+parts_at_row row k place [] = tt
+parts_at_row row k place (t ∷ ts) =
+    All-append (λ st. is_at row st ≡ true) (part_steps row k place t) (parts_steps row (k + 1) place ts)
+    (All-append (λ st. is_at row st ≡ true) (looks_at place t.piece t.shown) (won_steps row k place t.piece t.outcome) (looks_at_row row place t.piece t.shown) (won_at_row row k place t.piece t.outcome))
+    (parts_at_row row (k + 1) place ts)
+
+undone_at_row : (row k : ℕ) (o : Outcome) (ts : List Part) → AllAt row (undone row k o ts)
+undone_at_row row k Won ts = tt
+undone_at_row row k Refused [] = tt
+undone_at_row row k Refused (t ∷ []) = tt
+undone_at_row row k Refused (t ∷ u ∷ ts) = (eq-eqb row row refl, tt)
+undone_at_row row k Contended [] = tt
+undone_at_row row k Contended (t ∷ []) = tt
+undone_at_row row k Contended (t ∷ u ∷ ts) = (eq-eqb row row refl, tt)
 
 -- the tries for a row are steps of it
 pub tries_at_row : (row k : ℕ) (span : Interval) (ts : List Try) → AllAt row (tries_steps row k span ts)
 tries_at_row row k span [] = tt
 tries_at_row row k span (t ∷ ts) =
-    All-append (λ st. is_at row st ≡ true) (looks_at t.place t.shown ++ won_steps row k t.place span t.outcome) (tries_steps row (k + length (won_by span t)) span ts)
-    (All-append (λ st. is_at row st ≡ true) (looks_at t.place t.shown) (won_steps row k t.place span t.outcome) (looks_at_row row t.place t.shown)
-    (won_at_row row k t.place span t.outcome))
+    All-append (λ st. is_at row st ≡ true) (try_steps row k t) (tries_steps row (k + length (won_by span t)) span ts)
+    (All-append (λ st. is_at row st ≡ true) (parts_steps row k t.place t.parts) (undone row k t.outcome t.parts) (parts_at_row row k t.place t.parts) (undone_at_row row k t.outcome t.parts))
     (tries_at_row row (k + length (won_by span t)) span ts)
 
 pub gives_at_row : (row n : ℕ) → AllAt row (gives_back row n)

@@ -32,7 +32,7 @@ pub record Follows (old new : DeskView) (steps : List Step) : Type 0 where
 
 -- the step looks, or is one on the row that makes it
 abbrev pub is_at : ℕ → Step → Bool
-is_at row (Look place shown) = true
+is_at row (Look place half shown) = true
 is_at row (Take r place span) = r == row
 is_at row (Give r item) = r == row
 is_at row (Start r) = false

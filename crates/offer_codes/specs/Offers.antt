@@ -1,5 +1,6 @@
 -- The one spelling of an offer.
 use Rattle.std.specs.Prelude.{ℕ, ◌+◌, ◌&&◌, nat_le, nat_lt, Bool, List, [], ◌∷◌, ◌++◌, length, codes}
+use Rattle.leg_masks.specs.Interval.{most_legs}
 use Rattle.std.specs.List.{list_all}
 use Rattle.place_map.specs.declared.coach.Class.{Class}
 use Rattle.place_map.specs.declared.coach.Class.TheVariants.{First, Second}
@@ -21,7 +22,7 @@ offer_view c = record { made = c.made; adults = c.adults; children = c.children;
 
 -- a run of the greatest catalogue, and legs of it
 abbrev pub is_segment : Segment → Bool
-is_segment s = nat_le s.run.0 4095 && (nat_lt s.span.from s.span.to && nat_le s.span.to 63)
+is_segment s = nat_le s.run.0 4095 && (nat_lt s.span.from s.span.to && nat_le s.span.to most_legs)
 
 -- one to eight passengers
 abbrev pub is_party : ℕ → ℕ → Bool

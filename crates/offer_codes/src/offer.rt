@@ -9,7 +9,7 @@ ghost use Rattle.offer_codes.specs.Found.{offer_from, segments_from, segment_val
 use crate::code::{OfferCode, Segment};
 use crate::numbers::{numbers, push_number};
 use arrayvec::ArrayVec;
-use leg_masks::Span;
+use leg_masks::{MOST_LEGS, Span};
 use place_map::Class;
 use rail_ids::RunNo;
 use rail_time::Moment;
@@ -154,7 +154,7 @@ fn segments_of(numbers: &[u64]) -> Option<ArrayVec<Segment, 3>>
 fn segment_of(run: u64, from: u64, to: u64) -> Option<Segment>
     ensures { result ≡ segment_value run from to }
 {
-    if run > 4095 || from >= to || to > 63 {
+    if run > 4095 || from >= to || to > u64::from(MOST_LEGS) {
         return None;
     }
     Some(Segment {

@@ -1,5 +1,5 @@
 -- The looks at places with traits, one place after the other.
-use Rattle.std.proofs.Common.{◌≡◌, ◌∙◌, ℕ, ◌+◌, ◌≤◌, ◌<◌, Bool, true, false, List, [], ◌∷◌, ◌++◌, length, take, get_or, refl, sym, ap, subst, arith, append-nil, if◌then◌else◌}
+use Rattle.std.proofs.Common.{◌≡◌, ◌∙◌, ℕ, ◌+◌, ◌≤◌, ◌<◌, Bool, true, false, List, [], ◌∷◌, ◌++◌, length, take, get_or, refl, sym, ap, subst, arith, append-nil, append_assoc, if◌then◌else◌}
 use Rattle.std.specs.Prelude.{count_by}
 use Rattle.std.specs.List.{filter}
 use Rattle.std.proofs.lemmas.List.{take_more}
@@ -15,7 +15,7 @@ use Rattle.availability.specs.Looks.{LooksAt, CountsFree}
 
 looks_append : (xs ys : List PlaceNo) (span : Interval) (ss ts : List Bool) (es fs : List Step) → LooksAt xs span ss es → LooksAt ys span ts fs → LooksAt (xs ++ ys) span (ss ++ ts) (es ++ fs)
 looks_append [] ys span [] ts es fs a b = subst (LooksAt ys span ts) (sym (ap (λ (l : List Step). l ++ fs) a)) b
-looks_append (p ∷ xs) ys span (s ∷ ss) ts es fs a b = (a.0, a.1 ++ fs, a.2, looks_append xs ys span ss ts a.1 fs a.3 b, ap (λ (l : List Step). l ++ fs) a.4)
+looks_append (p ∷ xs) ys span (s ∷ ss) ts es fs a b = (a.0, a.1 ++ fs, a.2, looks_append xs ys span ss ts a.1 fs a.3 b, ap (λ (l : List Step). l ++ fs) a.4 ∙ append_assoc a.0 a.1 fs)
 looks_append [] ys span (s ∷ ss) ts es fs a b = absurd a
 looks_append (p ∷ xs) ys span [] ts es fs a b = absurd a
 

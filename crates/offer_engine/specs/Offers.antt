@@ -40,7 +40,7 @@ code_for w now segments = record { made = now; adults = w.adults; children = w.c
 abbrev pub wanted_places : CatalogueView → OfferWish → Segment → List PlaceNo
 wanted_places cat w s = candidates_of s.run.0 w.class w.wanted cat.places
 
--- how many of each segment's wanted places are free on it, by one look at each in order
+-- how many of each segment's wanted places are free on it, by a look at each piece of each in order
 abbrev pub CountsSegments : CatalogueView → OfferWish → List Segment → List ℕ → List Step → Type 0
 CountsSegments cat w [] [] es = es ≡ []
 CountsSegments cat w (s ∷ rest) (n ∷ free) es =

@@ -19,7 +19,7 @@ use place_map::Place;
 use rail_catalogue::Catalogue;
 use rail_ids::PlaceNo;
 
-/// How many of each segment's wanted places are free on it, by one look at each place. Takes no memory.
+/// How many of each segment's wanted places are free on it, by a look at each piece of each place. Takes no memory.
 pub(crate) fn count_segments(
     cat: &Catalogue,
     books: &Books,

@@ -1,6 +1,7 @@
 //! What an offer costs.
-ghost use Rattle.std.specs.Prelude.{◌≡◌, ◌≤◌, true};
+ghost use Rattle.std.specs.Prelude.{◌≡◌, ◌≤◌, ◌*◌, true};
 ghost use Rattle.offer_codes.specs.Offers.{is_party, offer_view};
+ghost use Rattle.tariff.specs.Prices.{greatest_price};
 ghost use Rattle.offer_engine.specs.Offers.{offer_price, segment_price};
 
 use offer_codes::{OfferCode, Segment};
@@ -11,7 +12,7 @@ use tariff::{Fare, price};
 pub fn price_of_offer(cat: &Catalogue, offer: &OfferCode) -> u64
     requires party { is_party offer.now.adults offer.now.children ≡ true }
     ensures price { result ≡ offer_price cat.now (offer_view offer.now) }
-    ensures bound { result ≤ 15_360_000_000 }
+    ensures bound { result ≤ 3 * greatest_price }
 {
     let mut total = 0;
     for segment in offer.segments.as_slice() {
@@ -23,7 +24,7 @@ pub fn price_of_offer(cat: &Catalogue, offer: &OfferCode) -> u64
 fn price_of_segment(cat: &Catalogue, offer: &OfferCode, segment: &Segment) -> u64
     requires party { is_party offer.now.adults offer.now.children ≡ true }
     ensures price { result ≡ segment_price cat.now offer.now.class offer.now.adults offer.now.children segment.now }
-    ensures bound { result ≤ 5_120_000_000 }
+    ensures bound { result ≤ greatest_price }
 {
     let fare = match cat.fare(segment.run, offer.class) {
         Some(fare) => fare,

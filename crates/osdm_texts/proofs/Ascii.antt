@@ -1,5 +1,6 @@
 -- Moments and ids are ASCII.
 use Rattle.std.proofs.Common.{◌≡◌, ℕ, ◌≤◌, ◌<◌, ◌+◌, ◌-◌, ◌^◌, ◌&&◌, Bool, true, false, List, [], ◌∷◌, ◌++◌, length, replicate, codes, decimal, IsAscii, nat_le, nat_lt, refl, sym, arith, lit<, true≢false}
+use Rattle.leg_masks.specs.Interval.{most_legs}
 use Rattle.std.specs.List.{list_all}
 use Rattle.std.specs.Prelude.{zero, suc}
 use Rattle.std.proofs.lemmas.Bool.Decides.{nat_tests}
@@ -59,8 +60,8 @@ ascii_segments mark [] h k = tt
 ascii_segments mark (s ∷ rest) h k =
     let parts = both (is_segment s) (list_all is_segment rest) k in
     let run = both (nat_le s.run.0 4095) _ parts.0 in
-    let span = both (nat_lt s.span.from s.span.to) (nat_le s.span.to 63) run.1 in
-    let to : s.span.to ≤ 63 = at_most s.span.to 63 span.1 in
+    let span = both (nat_lt s.span.from s.span.to) (nat_le s.span.to most_legs) run.1 in
+    let to : s.span.to ≤ 126 = at_most s.span.to most_legs span.1 in
     let from : s.span.from < s.span.to = grind (arith, nat_tests, span.0) in
     let number : s.run.0 ≤ 4095 = at_most s.run.0 4095 run.0 in
     ((h, omega arith), ((letter 46 (lit< tt), omega arith), ((letter 46 (lit< tt), omega arith), ascii_segments (codes "_") rest (letter 95 (lit< tt)) parts.1)))

@@ -11,7 +11,8 @@ use Rattle.osdm_texts.specs.Times.{time_text}
 use Rattle.osdm_texts.specs.Ids.{booking_id}
 use Rattle.osdm_texts.specs.Statuses.{phase_text}
 use Rattle.osdm_texts.specs.Amounts.{amount_tree}
-use Rattle.osdm_texts.specs.Bookings.{reservation_tree, is_settled, end_members, successor_members, booking_tree}
+use Rattle.osdm_texts.specs.Reservations.{reservations, reservation_tree}
+use Rattle.osdm_texts.specs.Bookings.{is_settled, end_members, successor_members, booking_tree}
 use Rattle.osdm_texts.specs.Appends.{tokens_of, members_of}
 use Rattle.osdm_texts.specs.EndTokens.{end_tokens}
 
@@ -23,7 +24,7 @@ end_members-tokens cat (Some e) rest = refl
 abbrev pub later_members : CatalogueView → ℕ → RowSeen → Members
 later_members cat row v =
     member (codes "id") (json_data.string (booking_id row)) (member (codes "price") (amount_tree cat.currency (pos v.total))
-    (member (codes "reservations") (array (items_of (map (reservation_tree cat) v.items)))
+    (member (codes "reservations") (array (items_of (map (reservation_tree cat) (reservations v.items))))
     (member (codes "settled") (boolean (is_settled v.phase)) (member (codes "status") (json_data.string (phase_text v.phase))
     (successor_members v.phase v.ended)))))
 

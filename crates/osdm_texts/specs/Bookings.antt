@@ -2,26 +2,17 @@
 use Rattle.std.specs.Prelude.{ℕ, zero, suc, pos, Bool, true, false, map, codes, Option, Some, None}
 use Rattle.serde_json.specs.Data.{Data, boolean, string, array, object, Members, no_members, member}
 use Rattle.serde_json.specs.View.{items_of}
-use Rattle.leg_masks.specs.Interval.{PlacedSpan}
 use Rattle.history_model.specs.declared.phase.Phase.{Phase}
 use Rattle.history_model.specs.declared.phase.Phase.TheVariants.{Free, Making, Prebooked, Confirmed, Fulfilled, Ending, Ended}
 use Rattle.history_model.specs.declared.phase.EndKind.TheVariants.{Exchange}
 use Rattle.history_model.specs.declared.booking.End.{End}
-use Rattle.place_map.specs.Places.{run_number}
 use Rattle.booking_rows.specs.Views.{RowSeen}
 use Rattle.rail_catalogue.specs.Contents.{CatalogueView}
 use Rattle.osdm_texts.specs.Statuses.{phase_text}
 use Rattle.osdm_texts.specs.Times.{time_text}
 use Rattle.osdm_texts.specs.Ids.{booking_id}
-use Rattle.osdm_texts.specs.Amounts.{count_tree, amount_tree}
-use Rattle.osdm_texts.specs.Spots.{stop_code, train_of, place_at}
-
--- a place with the legs that are reserved on it
-abbrev pub reservation_tree : CatalogueView → PlacedSpan → Data
-reservation_tree cat item = let p = place_at cat item.place in
-    object (member (codes "coach") (count_tree p.coach) (member (codes "from") (string (stop_code cat (run_number p) item.span.from))
-    (member (codes "place") (count_tree p.number) (member (codes "run") (count_tree (run_number p))
-    (member (codes "to") (string (stop_code cat (run_number p) item.span.to)) (member (codes "train") (count_tree (train_of cat (run_number p))) no_members))))))
+use Rattle.osdm_texts.specs.Amounts.{amount_tree}
+use Rattle.osdm_texts.specs.Reservations.{reservations, reservation_tree}
 
 -- a booking is settled once it has ended
 abbrev pub is_settled : Phase → Bool
@@ -53,6 +44,6 @@ abbrev pub booking_tree : CatalogueView → ℕ → RowSeen → Data
 booking_tree cat row v =
     object (member (codes "confirmableUntil") (string (time_text v.limit)) (end_members cat v.ended
     (member (codes "id") (string (booking_id row)) (member (codes "price") (amount_tree cat.currency (pos v.total))
-    (member (codes "reservations") (array (items_of (map (reservation_tree cat) v.items)))
+    (member (codes "reservations") (array (items_of (map (reservation_tree cat) (reservations v.items))))
     (member (codes "settled") (boolean (is_settled v.phase)) (member (codes "status") (string (phase_text v.phase))
     (successor_members v.phase v.ended))))))))

@@ -8,6 +8,7 @@ pub mod Amounts
 pub mod Sweeps
 pub mod Spots
 pub mod Offers
+pub mod Reservations
 pub mod Bookings
 pub mod Quotes
 pub mod Places

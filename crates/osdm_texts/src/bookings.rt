@@ -1,21 +1,18 @@
 //! Bookings.
-ghost use Rattle.std.specs.Prelude.{◌≡◌, ◌+◌, map, option_map, OnOk};
+ghost use Rattle.std.specs.Prelude.{◌≡◌, ◌+◌, option_map, OnOk};
 ghost use Rattle.std.specs.Option.{option_map_or};
 ghost use Rattle.serde_json.specs.Data.{no_members};
 ghost use Rattle.booking_rows.specs.Ends.{shown_end};
-ghost use Rattle.osdm_texts.specs.Bookings.{reservation_tree, is_settled as is_settled_of, end_members, successor_member, successor_members, booking_tree};
+ghost use Rattle.osdm_texts.specs.Bookings.{is_settled as is_settled_of, end_members, successor_member, successor_members, booking_tree};
 ghost use Rattle.osdm_texts.specs.EndTokens.{end_tokens};
-ghost use Rattle.osdm_texts.specs.Appends.{Appends, tokens_of, listed, members_of};
+ghost use Rattle.osdm_texts.specs.Appends.{Appends, tokens_of, members_of};
 
-use crate::members::{
-    put_amount, put_booking_id, put_count, put_flag, put_price, put_text, put_time,
-};
+use crate::members::{put_amount, put_booking_id, put_flag, put_price, put_text, put_time};
 use crate::problem::phase_text;
-use crate::spots::{place_at, stop_code, train_number};
+use crate::reservations::put_reservations;
 use booking_rows::{EndView, RowView};
 use history_model::phase::{EndKind, Phase};
 use json::Writer;
-use leg_masks::Item;
 use rail_catalogue::Catalogue;
 use rail_ids::RowNo;
 use std::alloc::AllocError;
@@ -78,28 +75,4 @@ fn successor(phase: Phase, ended: Option<EndView>) -> Option<RowNo>
         Phase::Ended(EndKind::Exchange) => ended?.successor,
         _ => None,
     }
-}
-
-fn put_reservations(out: &mut Writer, cat: &Catalogue, items: &[Item]) -> Result<(), AllocError>
-    ensures { OnOk result (Appends out.old out.new (listed (map (reservation_tree cat.now) items.now))) }
-{
-    for item in items {
-        put_reservation(out, cat, item)?;
-    }
-    Ok(())
-}
-
-fn put_reservation(out: &mut Writer, cat: &Catalogue, item: &Item) -> Result<(), AllocError>
-    ensures { OnOk result (Appends out.old out.new (tokens_of (reservation_tree cat.now item.now))) }
-{
-    let place = place_at(cat, item.place());
-    let span = item.span();
-    out.begin_object()?;
-    put_count(out, "coach", u64::from(place.coach))?;
-    put_text(out, "from", stop_code(cat, place.run, span.from()))?;
-    put_count(out, "place", u64::from(place.number))?;
-    put_count(out, "run", u64::from(place.run.0))?;
-    put_text(out, "to", stop_code(cat, place.run, span.to()))?;
-    put_count(out, "train", u64::from(train_number(cat, place.run)))?;
-    out.end_object()
 }

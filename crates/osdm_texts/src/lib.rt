@@ -15,14 +15,14 @@ mod places;
 mod problem;
 mod quotes;
 mod reply;
+mod reservations;
 mod small;
 mod spots;
-#[cfg(test)]
-mod tests;
 mod written;
 
 pub use field::FieldName;
 pub use problem::Problem;
 pub use reply::{Reply, reply_text};
+pub use reservations::places_are_shown_once;
 pub use small::{small_text, swept_text};
 pub use written::{Success, Text, Written, write_reply, write_swept};

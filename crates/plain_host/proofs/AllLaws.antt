@@ -23,5 +23,5 @@ command_plain cat retailer now (command.QuoteRefund row) readable = quote_refund
 command_plain cat retailer now (command.AcceptRefund row code) readable = accept_refund_plain cat retailer now row code
 command_plain cat retailer now (command.QuoteExchange row offer) readable = quote_exchange_plain cat retailer now row offer
 command_plain cat retailer now (command.AcceptExchange row code) readable = accept_exchange_plain cat retailer now row code readable
-command_plain cat retailer now (command.Places segment) readable = places_plain cat retailer now segment
+command_plain cat retailer now (command.Places segment) readable = places_plain cat retailer now segment readable
 command_plain cat retailer now command.Sweep readable = sweep_is_plain cat retailer now

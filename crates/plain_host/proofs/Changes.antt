@@ -37,7 +37,7 @@ steps_on desk (st ∷ rest) b = steps_on desk rest (on_booking desk st b)
 
 -- the step looks, or changes the booking of the row
 abbrev pub is_on : ℕ → Step → Bool
-is_on row (Look place shown) = true
+is_on row (Look place half shown) = true
 is_on row (Take r place span) = false
 is_on row (Give r item) = r == row
 is_on row (Start r) = false
@@ -66,7 +66,7 @@ change_at before after b row r f here apart at =
 
 step_on : (before after : State) (b : Booking) (row desk : ℕ) (st : Step) → b.row ≡ row → IsApart row before → is_on row st ≡ true
     → apply_step (before ++ b ∷ after) desk st ≡ before ++ on_booking desk st b ∷ after
-step_on before after b row desk (Look place shown) here apart at = refl
+step_on before after b row desk (Look place half shown) here apart at = refl
 step_on before after b row desk (Take r place span) here apart at = absurd cc
 step_on before after b row desk (Give r item) here apart at = change_at before after b row r (given item) here apart at
 step_on before after b row desk (Start r) here apart at = absurd cc
@@ -80,7 +80,7 @@ step_on before after b row desk (Close r) here apart at = change_at before after
 step_on before after b row desk Met here apart at = refl
 
 pub row_stays : (desk : ℕ) (st : Step) (b : Booking) → (on_booking desk st b).row ≡ b.row
-row_stays desk (Look place shown) b = refl
+row_stays desk (Look place half shown) b = refl
 row_stays desk (Take r place span) b = refl
 row_stays desk (Give r item) b = refl
 row_stays desk (Start r) b = refl

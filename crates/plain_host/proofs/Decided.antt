@@ -52,7 +52,7 @@ pub record ComesTo (o : Outcome) (t : State) (reply : Reply) : Type 0 where
 -- looks change nothing
 
 look_stays : (s : State) (d : ℕ) (st : Step) → is_look st ≡ true → apply_step s d st ≡ s
-look_stays s d (Look place word) is = refl
+look_stays s d (Look place half word) is = refl
 look_stays s d (SawRow r w n) is = refl
 look_stays s d (LostTurn r wanted was) is = refl
 look_stays s d Met is = refl

@@ -32,7 +32,8 @@ use Rattle.plain_host.proofs.Laws.{refused_plain}
 use Rattle.plain_host.proofs.Seeing.{IsBy, has_seen, seen_by, unseen_by, stays_seen}
 use Rattle.plain_host.proofs.Trades.{known_code, fresh_code}
 use Rattle.plain_host.proofs.PlacesChosen.{Differ, Fit}
-use Rattle.plain_host.proofs.PlacesLaws.{offered_differ, offer_fits}
+use Rattle.plain_host.proofs.PlacesFit.{offer_fits}
+use Rattle.plain_host.proofs.PlacesLaws.{offered_differ}
 use Rattle.plain_host.proofs.ExchangesMade.{carried_plainly}
 
 -- differences

@@ -34,6 +34,7 @@ use Rattle.trade_service.specs.Exchanges.{CarriesOut, ready_of}
 use Rattle.lone_desk.specs.Lone.{after_steps}
 use Rattle.lone_desk.proofs.OwnRow.{IsApart, change_last}
 use Rattle.lone_desk.proofs.Following.{shape_follows}
+use Rattle.lone_desk.proofs.Looking.{after-append}
 use Rattle.plain_host.specs.Plain.{Standing, Plain, replaced, chosen, with_view, with_new}
 use Rattle.plain_host.specs.Outcomes.{placed, exchanged_for}
 use Rattle.plain_host.specs.PlainOf.{view_of, standing_of, standings_of, plain_of}
@@ -44,7 +45,6 @@ use Rattle.plain_host.proofs.Changes.{steps_on, row_stays, on_booking, is_on, st
 use Rattle.plain_host.proofs.Staying.{IsBeforeLast, before_last, standing_with}
 use Rattle.plain_host.proofs.PlacesRows.{making_apart}
 use Rattle.plain_host.proofs.PlacesFree.{standings_are}
-use Rattle.plain_host.proofs.PlacesHeld.{after-append}
 use Rattle.plain_host.proofs.PlacesSealed.{IsNoted, HasSealed, notes_making, noted_shows, settles_sealed}
 use Rattle.plain_host.proofs.PlacesChosen.{Differ, Fit}
 use Rattle.plain_host.proofs.BookingMade.{StaysLone, lone_by, holds, booked_is, by_outcome, row_kept, fails_plainly, gives_up, long_words, plain_sealed, IsBookedPlainly}

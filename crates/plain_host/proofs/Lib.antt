@@ -5,6 +5,7 @@ pub mod PlacesRows
 pub mod PlacesHeld
 pub mod PlacesSealed
 pub mod PlacesChosen
+pub mod PlacesFit
 pub mod BookingMade
 pub mod Changes
 pub mod Shown

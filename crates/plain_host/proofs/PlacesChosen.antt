@@ -1,20 +1,19 @@
 -- The places of an offer's segments that a lone desk wins are those that the plain host chooses.
-use Rattle.std.proofs.Common.{◌≡◌, ◌≢◌, ℕ, zero, suc, ◌+◌, ◌<◌, Bool, true, false, cond, eq-eqb, ne_eqb, List, [], ◌∷◌, ◌++◌, length, map, take, Option, Some, None, refl, sym, ap, ◌∙◌, subst, ⊎_elim, inl, inr, arith, append-nil, append_assoc}
+use Rattle.std.proofs.Common.{◌≡◌, ◌≢◌, ℕ, Bool, cond, eq-eqb, ne_eqb, List, [], ◌∷◌, ◌++◌, length, map, take, Option, Some, None, refl, sym, ap, ◌∙◌, subst, ⊎_elim, inl, inr, arith, append-nil, append_assoc}
 use Rattle.std.specs.Prelude.{option_map}
-use Rattle.std.specs.List.{AllByRecursion, filter}
+use Rattle.std.specs.List.{AllByRecursion, filter, flat_map}
 use Rattle.std.proofs.lemmas.List.{length-take, length-take-le}
-use Rattle.leg_masks.specs.Interval.{Interval, PlacedSpan as Item}
-use Rattle.rail_ids.specs.declared.PlaceNo.{PlaceNo}
+use Rattle.leg_masks.specs.Interval.{Interval, items_at, pieces, PlacedSpan as Item}
 use Rattle.place_map.specs.declared.coach.Place.{Place}
-use Rattle.place_map.specs.Candidates.{candidates_of, IsOfRun, AreRising}
-use Rattle.place_map.proofs.Numbers.{candidates_rise, are_of_run}
+use Rattle.place_map.specs.Candidates.{candidates_of, IsOfRun}
+use Rattle.place_map.proofs.Numbers.{candidates_of_run}
 use Rattle.offer_codes.specs.declared.code.Segment.{Segment}
 use Rattle.offer_codes.specs.Offers.{OfferView}
 use Rattle.rail_catalogue.specs.Contents.{CatalogueView}
 use Rattle.history_model.specs.Booking.{State}
 use Rattle.history_model.specs.History.{IsLegal}
 use Rattle.history_model.specs.Lists.{Pairwise}
-use Rattle.history_model.proofs.ListLemmas.{All-append, All-map}
+use Rattle.history_model.proofs.ListLemmas.{All-append, All-map, All-of_map}
 use Rattle.claim_rule.specs.Rule.{DeskView, state_seen}
 use Rattle.claim_rule.specs.Holds.{held}
 use Rattle.claim_rule.proofs.Moves.{is_sound}
@@ -25,7 +24,9 @@ use Rattle.lone_desk.specs.Lone.{IsAlone}
 use Rattle.reservation_service.specs.declared.holding.Placing.{Placing}
 use Rattle.reservation_service.specs.declared.holding.Placing.TheVariants.{Whole, Short, Contended, NoMemory}
 use Rattle.reservation_service.specs.Holding.{count_of, candidates_in, Stops, PlacesAll}
-use Rattle.plain_host.specs.Plain.{is_free, item_at, with_places, chosen}
+use Rattle.reservation_service.proofs.Candidates.{candidates_apart}
+use Rattle.search_service.proofs.Every.{every_filter, every_flat, every_take}
+use Rattle.plain_host.specs.Plain.{is_free, with_places, chosen}
 use Rattle.plain_host.specs.PlainOf.{standing_of}
 use Rattle.plain_host.specs.Settled.{IsStanding}
 use Rattle.plain_host.specs.Found.{FindsFree}
@@ -35,29 +36,13 @@ use Rattle.plain_host.proofs.PlacesHeld.{FitsAt, has_added}
 
 -- ---- candidates
 
-from_least : (least n : ℕ) (ns : List PlaceNo) → n < least → AreRising least ns → AllByRecursion (λ q. n ≢ q) (map place_number ns)
-from_least least n [] less rise = tt
-from_least least n (p ∷ ps) less rise = ((λ e. omega (arith, e, less, rise.0)), from_least (p.0 + 1) n ps (omega (arith, less, rise.0)) rise.1)
-
-pub rising_apart : (least : ℕ) (ns : List PlaceNo) → AreRising least ns → Pairwise (λ p q. p ≢ q) (map place_number ns)
-rising_apart least [] rise = tt
-rising_apart least (p ∷ ps) rise = (from_least (p.0 + 1) p.0 ps (omega arith) rise.1, rising_apart (p.0 + 1) ps rise.1)
-
-candidates_apart : (cat : CatalogueView) (o : OfferView) (s : Segment) → Pairwise (λ p q. p ≢ q) (candidates_in cat o s)
-candidates_apart cat o s = rising_apart 0 (candidates_of s.run.0 o.class o.wanted cat.places) (candidates_rise s.run.0 o.class o.wanted cat.places)
-
 -- the place is one of the run
 abbrev pub IsAt : CatalogueView → ℕ → ℕ → Type 0
 IsAt cat run place = IsOfRun run cat.places (record { 0 = place })
 
-numbers_at : (cat : CatalogueView) (run : ℕ) (ns : List PlaceNo) → AllByRecursion (IsOfRun run cat.places) ns → AllByRecursion (IsAt cat run) (map place_number ns)
-numbers_at cat run [] all = tt
-numbers_at cat run (n ∷ ns) all = (all.0, numbers_at cat run ns all.1)
-
 pub candidates_at : (cat : CatalogueView) (o : OfferView) (s : Segment) → AllByRecursion (IsAt cat s.run.0) (candidates_in cat o s)
 candidates_at cat o s =
-    numbers_at cat s.run.0 (candidates_of s.run.0 o.class o.wanted cat.places)
-    (are_of_run s.run.0 o.class o.wanted (candidates_of s.run.0 o.class o.wanted cat.places) cat.places cat.places refl refl)
+    All-of_map (IsAt cat s.run.0) place_number (candidates_of s.run.0 o.class o.wanted cat.places) (candidates_of_run s.run.0 o.class o.wanted cat.places)
 
 -- no place is of two runs
 one_run : (cat : CatalogueView) (a b place : ℕ) → IsAt cat a place → IsAt cat b place → a ≡ b
@@ -76,27 +61,20 @@ off_candidate cat s (i ∷ is) p off at = ((λ e. off.0 (subst (IsAt cat s.run.0
 
 -- ---- what is won is of the run
 
-all_filtered : (P : ℕ → Type 0) (free : ℕ → Bool) (ps : List ℕ) → AllByRecursion P ps → AllByRecursion P (filter free ps)
-all_filtered P free [] all = tt
-all_filtered P free (p ∷ ps) all = go (free p) (all_filtered P free ps all.1) where
-  go : (t : Bool) → AllByRecursion P (filter free ps) → AllByRecursion P (cond t (p ∷ filter free ps) (filter free ps))
-  go true rest = (all.0, rest)
-  go false rest = rest
+all_at : (P : ℕ → Type 0) (place : ℕ) (ps : List Interval) → P place → AllByRecursion (λ (i : Item). P i.place) (map (λ (piece : Interval). record { place = place; span = piece }) ps)
+all_at P place [] holds = tt
+all_at P place (p ∷ ps) holds = (holds, all_at P place ps holds)
 
-all_taken : (P : ℕ → Type 0) (n : ℕ) (ps : List ℕ) → AllByRecursion P ps → AllByRecursion P (take n ps)
-all_taken P zero ps all = tt
-all_taken P (suc n) [] all = tt
-all_taken P (suc n) (p ∷ ps) all = (all.0, all_taken P n ps all.1)
-
-off_other : (cat : CatalogueView) (a : ℕ) (s : Segment) (span : Interval) (ps : List ℕ) → a ≢ s.run.0 → AllByRecursion (IsAt cat a) ps → AreOff cat (map (item_at span) ps) s
-off_other cat a s span [] other all = tt
-off_other cat a s span (p ∷ ps) other all = ((λ at. other (one_run cat a s.run.0 p all.0 at)), off_other cat a s span ps other all.1)
+off_other : (cat : CatalogueView) (a : ℕ) (s : Segment) (span : Interval) (ps : List ℕ) → a ≢ s.run.0 → AllByRecursion (IsAt cat a) ps → AreOff cat (flat_map (items_at span) ps) s
+off_other cat a s span ps other all =
+    every_flat (IsAt cat a) (λ (i : Item). ¬ IsAt cat s.run.0 i.place) (items_at span)
+    (λ p here. all_at (λ q. ¬ IsAt cat s.run.0 q) p (pieces span) (λ at. other (one_run cat a s.run.0 p here at))) ps all
 
 off_more : (cat : CatalogueView) (a : ℕ) (span : Interval) (items : List Item) (ps : List ℕ) (segments : List Segment) → AllByRecursion (IsAt cat a) ps
-    → AllByRecursion (λ (t : Segment). a ≢ t.run.0) segments → AllByRecursion (AreOff cat items) segments → AllByRecursion (AreOff cat (items ++ map (item_at span) ps)) segments
+    → AllByRecursion (λ (t : Segment). a ≢ t.run.0) segments → AllByRecursion (AreOff cat items) segments → AllByRecursion (AreOff cat (items ++ flat_map (items_at span) ps)) segments
 off_more cat a span items ps [] at other off = tt
 off_more cat a span items ps (s ∷ rest) at other off = (
-  All-append (λ (i : Item). ¬ IsAt cat s.run.0 i.place) items (map (item_at span) ps) off.0 (off_other cat a s span ps other.0 at),
+  All-append (λ (i : Item). ¬ IsAt cat s.run.0 i.place) items (flat_map (items_at span) ps) off.0 (off_other cat a s span ps other.0 at),
   off_more cat a span items ps rest at other.1 off.1,
 )
 
@@ -124,23 +102,23 @@ abbrev pub Fit : CatalogueView → OfferView → List Segment → Type 0
 Fit cat o segments = AllByRecursion (λ (s : Segment). FitsAt s.span (candidates_in cat o s)) segments
 
 chosen_on : (count : ℕ) (span : Interval) (free : List ℕ) (more : List Item) (rest : Option (List Item)) → length free ≡ count → rest ≡ Some more
-    → with_places count span free rest ≡ Some (map (item_at span) free ++ more)
+    → with_places count span free rest ≡ Some (flat_map (items_at span) free ++ more)
 chosen_on count span free more rest enough is =
-    ap (λ (t : Bool). cond t (option_map (λ (l : List Item). map (item_at span) free ++ l) rest) None) (eq-eqb (length free) count enough)
-    ∙ ap (option_map (λ (l : List Item). map (item_at span) free ++ l)) is
+    ap (λ (t : Bool). cond t (option_map (λ (l : List Item). flat_map (items_at span) free ++ l) rest) None) (eq-eqb (length free) count enough)
+    ∙ ap (option_map (λ (l : List Item). flat_map (items_at span) free ++ l)) is
 
 chosen_none : (count : ℕ) (span : Interval) (free : List ℕ) (rest : Option (List Item)) → length free ≡ count → rest ≡ None → with_places count span free rest ≡ None
 chosen_none count span free rest enough is =
-    ap (λ (t : Bool). cond t (option_map (λ (l : List Item). map (item_at span) free ++ l) rest) None) (eq-eqb (length free) count enough)
-    ∙ ap (option_map (λ (l : List Item). map (item_at span) free ++ l)) is
+    ap (λ (t : Bool). cond t (option_map (λ (l : List Item). flat_map (items_at span) free ++ l) rest) None) (eq-eqb (length free) count enough)
+    ∙ ap (option_map (λ (l : List Item). flat_map (items_at span) free ++ l)) is
 
 chosen_few : (count : ℕ) (span : Interval) (free : List ℕ) (rest : Option (List Item)) → length free ≢ count → with_places count span free rest ≡ None
 chosen_few count span free rest few =
-    ap (λ (t : Bool). cond t (option_map (λ (l : List Item). map (item_at span) free ++ l) rest) None) (ne_eqb (length free) count few)
+    ap (λ (t : Bool). cond t (option_map (λ (l : List Item). flat_map (items_at span) free ++ l) rest) None) (ne_eqb (length free) count few)
 
 -- the choice of all segments, where the first has its places
 goes_on : (count : ℕ) (span : Interval) (free : List ℕ) (placing : Placing) (items won all : List Item) (rest : Option (List Item)) → length free ≡ count
-    → won ≡ map (item_at span) free → GoesWith placing (items ++ won) all rest → GoesWith placing items all (with_places count span free rest)
+    → won ≡ flat_map (items_at span) free → GoesWith placing (items ++ won) all rest → GoesWith placing items all (with_places count span free rest)
 goes_on count span free Whole items won all rest enough is (more, all_are, choice) = (
   won ++ more,
   all_are ∙ append_assoc items won more,
@@ -195,7 +173,7 @@ places_chosen cat o standing row items (s ∷ rest) placing all old new each fit
     let found : FindsFree free s.span (count_of o) candidates added.All won =
     subst (λ (a : Added). FindsFree free s.span (count_of o) candidates a won) on.0 has.found in
     let taken : AllByRecursion (IsAt cat s.run.0) first =
-    all_taken (IsAt cat s.run.0) (count_of o) (filter free candidates) (all_filtered (IsAt cat s.run.0) free candidates (candidates_at cat o s)) in
+    every_take (IsAt cat s.run.0) (count_of o) (filter free candidates) (every_filter (IsAt cat s.run.0) free candidates (candidates_at cat o s)) in
     let off_won : AllByRecursion (AreOff cat (items ++ won)) rest =
     subst (λ (is : List Item). AllByRecursion (AreOff cat (items ++ is)) rest) (sym found.0) (off_more cat s.run.0 s.span items first rest taken differ.0 off.1) in
     let later = places_chosen cat o standing row (items ++ won) rest placing all mid new each fit.1 differ.1 off_won has.alone adds.2.legal has.making on.1 in

@@ -1,10 +1,10 @@
--- A place is free in the plain list exactly where its word is free on the span.
-use Rattle.std.proofs.Common.{◌≡◌, ◌≢◌, ℕ, ◌<◌, ◌≤◌, Bool, true, false, cond, List, [], ◌∷◌, ◌++◌, map, refl, sym, ap, ◌∙◌, subst, ⊎_elim, inl, inr, arith, append-nil, Decides, eqb}
+-- A place is free in the plain list exactly where no item that is not given back meets the span.
+use Rattle.std.proofs.Common.{◌≡◌, ◌≢◌, ℕ, ◌<◌, Bool, true, false, cond, List, [], ◌∷◌, ◌++◌, map, refl, sym, ap, ◌∙◌, subst, ⊎_elim, inl, inr, arith, Decides, eqb}
 use Rattle.std.specs.Prelude.{◌⊎◌, ◌↔◌, ◌&&◌, max, min, not}
 use Rattle.std.specs.List.{AllByRecursion, list_any, filter}
 use Rattle.std.proofs.lemmas.Bool.{or_parts, or_from, not_from_false, false_from_ne_true, true≢false}
 use Rattle.std.proofs.lemmas.Bool.Decides.{Decides-ltb, Decides-eqb, Decides-and, Decides-like, not_from_Decides}
-use Rattle.leg_masks.specs.Interval.{Interval, IsClear, Meet, PlacedSpan as Item}
+use Rattle.leg_masks.specs.Interval.{Interval, Meet, PlacedSpan as Item}
 use Rattle.history_model.specs.declared.booking.BookedItem.{BookedItem}
 use Rattle.history_model.specs.declared.phase.Phase.{Phase}
 use Rattle.history_model.specs.declared.phase.Phase.TheVariants.{Free, Making, Prebooked, Confirmed, Fulfilled, Ending, Ended}
@@ -13,22 +13,11 @@ use Rattle.history_model.specs.Phase.{is_sealed, is_live}
 use Rattle.history_model.specs.Allowed.{Blocks, IsOpen}
 use Rattle.history_model.specs.Booking.{Booking, Layout, State, all_items}
 use Rattle.history_model.specs.Laws.{IsSound, is_owners}
-use Rattle.history_model.specs.Words.{place_word}
-use Rattle.history_model.proofs.ListLemmas.{All-append, All-left, All-right, flat_map-append}
+use Rattle.history_model.proofs.ListLemmas.{All-append, All-left, All-right}
+use Rattle.lone_desk.proofs.OwnRow.{items_with}
 use Rattle.plain_host.specs.Plain.{meets, blocks, has_place, is_taken, is_free}
 use Rattle.plain_host.specs.PlainOf.{item_of, standing_of, is_standing, standings_of}
 use Rattle.plain_host.specs.Settled.{IsStanding}
-use Rattle.lone_desk.proofs.Clear.{clear_is_open}
-
--- ---- tests on lists
-
-none_any : {X : Type 0} (p : X → Bool) (xs : List X) → AllByRecursion (λ x. p x ≡ false) xs → list_any p xs ≡ false
-none_any p [] all = refl
-none_any p (x ∷ xs) all = or_from (p x) (list_any p xs) all.0 (none_any p xs all.1)
-
-any_none : {X : Type 0} (p : X → Bool) (xs : List X) → list_any p xs ≡ false → AllByRecursion (λ x. p x ≡ false) xs
-any_none p [] e = tt
-any_none p (x ∷ xs) e = let both = or_parts (p x) (list_any p xs) e in (both.0, any_none p xs both.1)
 
 -- ---- items
 
@@ -128,9 +117,6 @@ not_back : (x : Bool) → not x ≡ true → x ≡ false
 not_back true e = absurd (true≢false (sym e))
 not_back false e = refl
 
-items_with : (s : State) (b : Booking) → all_items (s ++ b ∷ []) ≡ all_items s ++ b.items
-items_with s b = flat_map-append (λ (x : Booking). x.items) s (b ∷ []) ∙ ap (λ (l : List BookedItem). all_items s ++ l) (append-nil b.items)
-
 -- A place is free in the list of what stands exactly where no item there blocks it.
 pub open_is_free : (g : Layout) (s : State) (place : ℕ) (span : Interval) → AllByRecursion IsStanding s → AllByRecursion (IsSound g) s
     → Decides (is_free (map standing_of s) span place) (IsOpen s place span)
@@ -139,15 +125,13 @@ open_is_free g s place span each sound = (
   λ none. not_from_false (is_taken (map standing_of s) span place) (to_open g place span s each sound none),
 )
 
--- So it is exactly where its word is clear, also with a booking behind them that has its items elsewhere.
-pub clear_is_free_beside : (g : Layout) (s : State) (b : Booking) (place : ℕ) (span : Interval) → span.to ≤ 63 → AllByRecursion IsStanding s → AllByRecursion (IsSound g) s
-    → AreElsewhere place b.items → Decides (is_free (map standing_of s) span place) (IsClear (place_word (s ++ b ∷ []) place) span)
-clear_is_free_beside g s b place span fits each sound other =
-    let words = clear_is_open (s ++ b ∷ []) place span fits in
+-- The same with a booking behind them that has its items elsewhere.
+pub free_beside : (g : Layout) (s : State) (b : Booking) (place : ℕ) (span : Interval) → AllByRecursion IsStanding s → AllByRecursion (IsSound g) s → AreElsewhere place b.items
+    → Decides (is_free (map standing_of s) span place) (IsOpen (s ++ b ∷ []) place span)
+free_beside g s b place span each sound other =
+    let free = open_is_free g s place span each sound in
     let parts = items_with s b in (
-      λ free. words.1 (subst (NoneBlocks place span) (sym parts)
-          (All-append (λ i. ¬ Blocks place span i) (all_items s) b.items
-          (open_from g place span s each sound (not_back (is_taken (map standing_of s) span place) free)) (elsewhere_open place span b.items other))),
-      λ clear. not_from_false (is_taken (map standing_of s) span place)
-          (to_open g place span s each sound (All-left (λ i. ¬ Blocks place span i) (all_items s) b.items (subst (NoneBlocks place span) parts (words.0 clear)))),
+      λ yes. subst (NoneBlocks place span) (sym parts)
+          (All-append (λ i. ¬ Blocks place span i) (all_items s) b.items (free.0 yes) (elsewhere_open place span b.items other)),
+      λ open_. free.1 (All-left (λ i. ¬ Blocks place span i) (all_items s) b.items (subst (NoneBlocks place span) parts open_)),
     )

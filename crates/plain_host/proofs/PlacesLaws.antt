@@ -1,22 +1,18 @@
 -- The laws of booking, of searching and of listing places.
-use Rattle.std.proofs.Common.{◌≡◌, ◌≢◌, ℕ, ◌≤◌, Bool, true, false, eqb, List, [], ◌∷◌, ◌++◌, length, take, drop, Option, Some, None, refl, sym, ap, ◌∙◌, subst, inl, inr, arith, append-nil, append_assoc}
-use Rattle.std.specs.Prelude.{◌⊎◌, ◌&&◌, ◌==◌, All, not, nat_le, nat_lt, slice_get, option_map}
-use Rattle.std.specs.List.{AllByRecursion, list_all}
-use Rattle.std.specs.Option.{option_map_or}
-use Rattle.std.proofs.lemmas.Bool.{and_parts, or_parts, true≢false, eqb-false, leb-true}
+use Rattle.std.proofs.Common.{◌≡◌, ◌≢◌, ℕ, Bool, true, false, eqb, List, [], ◌∷◌, ◌++◌, length, take, drop, Option, Some, None, refl, sym, ap, ◌∙◌, subst, inl, inr, append-nil, append_assoc}
+use Rattle.std.specs.Prelude.{◌⊎◌, ◌&&◌, ◌==◌, not, nat_le, nat_lt}
+use Rattle.std.specs.List.{list_all}
+use Rattle.std.proofs.lemmas.Bool.{and_parts, or_parts, true≢false, eqb-false}
 use Rattle.std.proofs.lemmas.List.{take-append-drop}
-use Rattle.std.proofs.lemmas.Option.{slice_get-map, slice_get_within, get_or_from_slice_get}
 use Rattle.place_map.specs.declared.coach.Class.{Class}
 use Rattle.train_runs.specs.Runs.{RunsView}
-use Rattle.train_runs.specs.Stops.{RunView}
-use Rattle.train_runs.specs.Stops.{legs_of}
 use Rattle.trip_builder.specs.declared.trip.TripWish.{TripWish}
 use Rattle.trip_builder.specs.Segments.{first_of, last_of, first_stop, last_stop}
 use Rattle.trip_builder.specs.Trips.{trips_of, uses_run, connects, follows, is_chain, are_connected}
 use Rattle.offer_codes.specs.declared.code.Segment.{Segment}
 use Rattle.offer_codes.specs.declared.code.OfferCode.{OfferCode}
-use Rattle.offer_codes.specs.Offers.{OfferView, offer_view, is_segment, is_offer, is_party}
-use Rattle.rail_catalogue.specs.Contents.{CatalogueView, place_legs, legs_in}
+use Rattle.offer_codes.specs.Offers.{OfferView, offer_view}
+use Rattle.rail_catalogue.specs.Contents.{CatalogueView}
 use Rattle.history_model.specs.Lists.{Across}
 use Rattle.history_model.proofs.ListLemmas.{Pairwise-append}
 use Rattle.claim_rule.specs.Rule.{DeskView, state_seen}
@@ -30,8 +26,7 @@ use Rattle.osdm_texts.specs.declared.problem.Problem.{Problem}
 use Rattle.osdm_texts.specs.declared.problem.Problem.TheVariants.{UnknownOffer, NoMemory}
 use Rattle.osdm_texts.specs.Answers.{Reply, offer_list, place_list, problem}
 use Rattle.osdm_json.specs.declared.command.Command.TheVariants as command
-use Rattle.osdm_json.specs.Readable.{IsWithinRun, IsReadable}
-use Rattle.reservation_service.specs.Holding.{candidates_in}
+use Rattle.osdm_json.specs.Readable.{IsReadable}
 use Rattle.reservation_service.specs.Reserving.{reserved, Reserves}
 use Rattle.search_service.specs.Searching.{numbers_on}
 use Rattle.service_rules.specs.Checks.{code_fault, command_fault}
@@ -44,8 +39,8 @@ use Rattle.plain_host.specs.Plainly.{IsLone, AnswersPlainly, MayKeepRow}
 use Rattle.plain_host.proofs.Staying.{StaysAlone, stays_by, still_lone}
 use Rattle.plain_host.proofs.Laws.{refused_plain}
 use Rattle.plain_host.proofs.PlacesRows.{has_begun, none_begun}
-use Rattle.plain_host.proofs.PlacesHeld.{FitsAt}
-use Rattle.plain_host.proofs.PlacesChosen.{IsAt, Differ, Fit, candidates_at}
+use Rattle.plain_host.proofs.PlacesChosen.{Differ}
+use Rattle.plain_host.proofs.PlacesFit.{listed_fit, offer_fits, reserved_fit}
 use Rattle.plain_host.proofs.PlacesSeen.{offers_seen, begun_seen, places_seen}
 use Rattle.plain_host.proofs.BookingMade.{reserves_plainly}
 
@@ -90,44 +85,6 @@ offered_differ cat o offered =
         last_of_three (nat_le made (first_stop r (first_of segments)).depart)
         (not ((first_stop r (first_of segments)).station.0 == (last_stop r (last_of segments)).station.0)) (are_connected r segments) e
 
--- ---- spans that fit
-
-segments_fit : (cat : CatalogueView) (o : OfferView) (segments : List Segment) → list_all is_segment segments ≡ true → Fit cat o segments
-segments_fit cat o [] all = tt
-segments_fit cat o (s ∷ rest) all =
-    let parts = and_parts (is_segment s) (list_all is_segment rest) all in
-    let legs = and_parts (nat_le s.run.0 4095) (nat_lt s.span.from s.span.to && nat_le s.span.to 63) parts.0 in
-    (inr (leb-true s.span.to 63 (and_parts (nat_lt s.span.from s.span.to) (nat_le s.span.to 63) legs.1).1), segments_fit cat o rest parts.1)
-
-pub offer_fits : (cat : CatalogueView) (o : OfferView) → is_offer o ≡ true → Fit cat o o.segments
-offer_fits cat o is =
-    segments_fit cat o o.segments
-    (last_of_six (nat_le o.made 4_102_444_799) (is_party o.adults o.children) (nat_le o.wanted 31) (nat_le 1 (length o.segments)) (nat_le (length o.segments) 3)
-    (list_all is_segment o.segments) is)
-  where
-    last_of_six : (a b c d e f : Bool) → (a && (b && (c && (d && (e && f))))) ≡ true → f ≡ true
-    last_of_six a b c d e f is =
-        (and_parts e f (and_parts d (e && f) (and_parts c (d && (e && f)) (and_parts b (c && (d && (e && f))) (and_parts a (b && (c && (d && (e && f)))) is).1).1).1).1).1
-
--- a place of a run of the catalogue has the run's legs, at most 63
-run_fits : (cat : CatalogueView) (desk : DeskView) (s : Segment) (place : ℕ) → IsLone cat desk → (within : IsWithinRun cat s) → IsAt cat s.run.0 place → s.span.to ≤ 63
-run_fits cat desk s place lone within (p, at, is) =
-    let has : slice_get (legs_in cat) place ≡ Some (legs_of within.run) =
-    slice_get-map (place_legs cat.runs) cat.places place
-    ∙ (ap (option_map (place_legs cat.runs)) at
-    ∙ (ap (λ (n : ℕ). Some (option_map_or legs_of (slice_get cat.runs.runs n) 0)) is ∙ ap (λ (o : Option RunView). Some (option_map_or legs_of o 0)) within.found)) in
-    let most : All (λ n. n ≤ 63) (legs_in cat) = subst (All (λ n. n ≤ 63)) lone.legs lone.fit.legs in
-    le_trans s.span.to (legs_of within.run) 63 within.legs
-    (subst (λ (n : ℕ). n ≤ 63) (get_or_from_slice_get (legs_in cat) place (legs_of within.run) 0 has) (most place 0 (slice_get_within (legs_in cat) place (legs_of within.run) has)))
-  where
-    le_trans : (a b c : ℕ) → a ≤ b → b ≤ c → a ≤ c
-    le_trans a b c l m = omega (arith, l, m)
-
-within_fits : (cat : CatalogueView) (desk : DeskView) (s : Segment) (candidates : List ℕ) → IsLone cat desk → IsWithinRun cat s → AllByRecursion (IsAt cat s.run.0) candidates
-    → FitsAt s.span candidates
-within_fits cat desk s [] lone within at = inl refl
-within_fits cat desk s (p ∷ ps) lone within at = inr (run_fits cat desk s p lone within at.0)
-
 -- ---- booking
 
 -- the row of a new booking
@@ -165,7 +122,7 @@ pub reserve_plain : (cat : CatalogueView) (retailer now : ℕ) (segment : Segmen
 reserve_plain cat retailer now segment class count wanted readable = λ old new reply lone did.
     let o = reserved segment class count wanted now in
     reserves_plainly cat retailer now o old new reply lone
-    (within_fits cat old segment (candidates_in cat o segment) lone readable.0 (candidates_at cat o segment), tt) (tt, tt) did
+    (reserved_fit cat old o segment lone readable.0, tt) (tt, tt) did
 
 -- ---- searching
 
@@ -190,9 +147,9 @@ offers_plain cat retailer now trip adults children class wanted old new reply lo
     let same = begun_seen cat w (trips_of cat.runs (raised trip now)) old new lone (es, did, shape) in
     (inr (none, ap plain_in same), stays_as cat old new lone (stays_by old new es lone.alone shape) same)
 
-pub places_plain : (cat : CatalogueView) (retailer now : ℕ) (segment : Segment) → AnswersPlainly cat retailer now (command.Places segment)
-places_plain cat retailer now segment old new reply lone (inl (free, (es, did, shape), told)) =
-    let seen = places_seen cat (numbers_on cat segment.run.0) segment.span free old new lone (es, did, shape) in (
+pub places_plain : (cat : CatalogueView) (retailer now : ℕ) (segment : Segment) → IsReadable cat (command.Places segment) → AnswersPlainly cat retailer now (command.Places segment)
+places_plain cat retailer now segment readable old new reply lone (inl (free, (es, did, shape), told)) =
+    let seen = places_seen cat (numbers_on cat segment.run.0) segment.span free old new lone (listed_fit cat old segment lone readable) (es, did, shape) in (
       answered told (ap (place_list segment.run.0) seen.0) (ap plain_in seen.1),
       stays_as cat old new lone (stays_by old new es lone.alone shape) seen.1,
     )
@@ -201,5 +158,5 @@ places_plain cat retailer now segment old new reply lone (inl (free, (es, did, s
         → ((reply ≡ is) × (plain_of new ≡ plain_of old)) ⊎ ((reply ≡ problem NoMemory) × (plain_of new ≡ plain_of old))
     answered (inl here) is same = inl (here ∙ is, same)
     answered (inr none) is same = inr (none, same)
-places_plain cat retailer now segment old new reply lone (inr (same, none)) =
+places_plain cat retailer now segment readable old new reply lone (inr (same, none)) =
     (inr (none, ap plain_of same), subst (IsLone cat) (sym same) lone)

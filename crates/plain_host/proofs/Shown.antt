@@ -56,20 +56,20 @@ have_words : (g : Layout) (is : List BookedItem) → FitWords g → AllByRecursi
 have_words g [] fit all = tt
 have_words g (i ∷ is) fit all =
     let few = fit.legs i.place 0 all.0.place in
-    ((omega (arith, all.0.place, fit.places), all.0.some, omega (arith, all.0.legs, few)), have_words g is fit all.1)
+    ((omega (arith, all.0.place, fit.places), all.0.some, omega (arith, all.0.legs, few), all.0.piece), have_words g is fit all.1)
 
 same_words : (is : List BookedItem) → map word_of (map item_of is) ≡ map (λ (i : BookedItem). item_word i.place i.span) is
 same_words [] = refl
 same_words (i ∷ is) = ap (λ (l : List ℕ). item_word i.place i.span ∷ l) (same_words is)
 
 -- looks at items show the words from one on
-items_shown : (g : Layout) (s : State) (desk row w : ℕ) (b : Booking) (items : List Item) (rest : List Step) → present s row ≡ Some b → length b.words ≡ 32 → 1 ≤ w
+items_shown : (g : Layout) (s : State) (desk row w : ℕ) (b : Booking) (items : List Item) (rest : List Step) → present s row ≡ Some b → length b.words ≡ 64 → 1 ≤ w
     → IsLegalFrom g s (entries_of desk (item_looks row w items ++ rest))
     → (map word_of items ≡ take (length items) (drop w b.words)) × IsLegalFrom g s (entries_of desk rest)
 items_shown g s desk row w b [] rest at many some legal = (refl, legal)
 items_shown g s desk row w b (i ∷ is) rest at many some legal =
     let more = items_shown g s desk row (suc w) b is rest at many (omega arith) legal.1 in
-    let below : w < 32 = legal.0.1 in
+    let below : w < 64 = legal.0.1 in
     let word : word_of i ≡ get_or b.words w 0 = legal.0.2 ∙ (row_else w some ∙ word_shown s row w b at) in (
       ap (λ (n : ℕ). n ∷ map word_of is) word
           ∙ (ap (λ (l : List ℕ). get_or b.words w 0 ∷ l) more.0

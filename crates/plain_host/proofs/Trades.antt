@@ -55,7 +55,7 @@ use Rattle.plain_host.specs.PlainOf.{view_of, plain_in, plain_of}
 use Rattle.plain_host.specs.Settled.{IsSettled}
 use Rattle.plain_host.specs.Plainly.{IsLone, IsPlainly, AnswersPlainly}
 use Rattle.plain_host.proofs.Staying.{stays_by}
-use Rattle.plain_host.proofs.PlacesHeld.{after-append}
+use Rattle.lone_desk.proofs.Looking.{after-append}
 use Rattle.plain_host.proofs.Changes.{ends_on, ends_leave}
 use Rattle.plain_host.proofs.Decided.{ComesTo, looks_stay, row_changed, never_unknown, is_in_yes, is_in_no}
 use Rattle.plain_host.proofs.Commands.{ComesOn, booking_comes, to_plainly}

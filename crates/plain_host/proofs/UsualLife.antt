@@ -16,7 +16,7 @@ use Rattle.rail_catalogue.specs.Contents.{CatalogueView}
 use Rattle.osdm_texts.specs.declared.problem.Problem.TheVariants.{NoPlace, RowsFull, TooLate, WrongState, UnknownBooking}
 use Rattle.osdm_texts.specs.Answers.{created, booking, place_list, swept, problem}
 use Rattle.osdm_json.specs.declared.command.Command.TheVariants as command
-use Rattle.plain_host.specs.Plain.{Plain, Outcome}
+use Rattle.plain_host.specs.Plain.{Plain, Outcome, chosen}
 use Rattle.plain_host.specs.Outcomes.{booked, outcome_of}
 
 -- two trains, from Basel by Olten to Bern, and from Bern to Thun
@@ -149,3 +149,17 @@ is_expired = refl
 frees : (outcome_of (example 2) 1 (six + 1300) (command.Places (segment 1 0 1)) after_sweep.plain).reply
     ≡ place_list 1 (true ∷ true ∷ true ∷ true ∷ true ∷ true ∷ [])
 frees = refl
+
+-- two passengers by a window on legs of both words of a place have two items each; who is there on the last of the legs alone keeps the place from them
+abbrev over_the_border : ℕ → ℕ → OfferView
+over_the_border adults from = record { made = six; adults = adults; children = 0; class = Second; wanted = 1; segments = segment 1 from 64 ∷ [] }
+
+abbrev pair : OfferView
+pair = over_the_border 2 62
+
+has_two_items : chosen (example 2) [] pair pair.segments ≡ Some (item 12 62 63 ∷ item 12 63 64 ∷ item 13 62 63 ∷ item 13 63 64 ∷ [])
+has_two_items = refl
+
+finds_whole_spans : chosen (example 2) (booked (example 2) 1 (six + 300) (over_the_border 1 63) empty).plain.bookings pair pair.segments
+    ≡ Some (item 13 62 63 ∷ item 13 63 64 ∷ item 14 62 63 ∷ item 14 63 64 ∷ [])
+finds_whole_spans = refl

@@ -1,7 +1,7 @@
 -- A host of one thread: a plain list of bookings, and the row that it keeps.
 use Rattle.std.specs.Prelude.{ℕ, ◌==◌, ◌&&◌, nat_lt, max, min, Bool, not, List, [], ◌∷◌, ◌++◌, length, map, take, find, Option, Some, None, option_map, if◌then◌else◌}
-use Rattle.std.specs.List.{filter, list_any, range_with_len}
-use Rattle.leg_masks.specs.Interval.{Interval, PlacedSpan as Item}
+use Rattle.std.specs.List.{filter, flat_map, list_any, range_with_len}
+use Rattle.leg_masks.specs.Interval.{Interval, items_at, PlacedSpan as Item}
 use Rattle.history_model.specs.declared.phase.Phase.{Phase}
 use Rattle.history_model.specs.Phase.{word_of_phase, is_live}
 use Rattle.booking_rows.specs.Views.{RowSeen}
@@ -48,17 +48,14 @@ is_taken bookings span place = list_any (has_place place span) bookings
 abbrev pub is_free : List Standing → Interval → ℕ → Bool
 is_free bookings span place = not (is_taken bookings span place)
 
-abbrev pub item_at : Interval → ℕ → Item
-item_at span place = record { place = place; span = span }
-
 -- the first candidates of the segment that are free, one for each passenger
 abbrev pub first_free : CatalogueView → List Standing → OfferView → Segment → List ℕ
 first_free cat bookings o s = take (count_of o) (filter (is_free bookings s.span) (candidates_in cat o s))
 
--- these places and the rest, where there are as many as wanted
+-- what is had of the segment at these places, and the rest, where there are as many places as wanted
 abbrev pub with_places : ℕ → Interval → List ℕ → Option (List Item) → Option (List Item)
 with_places count span places rest =
-    if length places == count then option_map (λ more. map (item_at span) places ++ more) rest else None
+    if length places == count then option_map (λ more. flat_map (items_at span) places ++ more) rest else None
 
 -- the places of an offer's segments; none where there are too few for one of them
 abbrev pub chosen : CatalogueView → List Standing → OfferView → List Segment → Option (List Item)

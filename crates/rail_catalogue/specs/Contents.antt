@@ -32,7 +32,7 @@ fare_in Second fares = fares.second
 abbrev pub place_legs : RunsView → Place → ℕ
 place_legs runs p = option_map_or legs_of (slice_get runs.runs (run_number p)) 0
 
--- a run has one leg to 63
+-- a run has one leg to 126
 abbrev pub IsNumberOfLegs : ℕ → Type 0
 IsNumberOfLegs n = (0 < n) × (n ≤ most_legs)
 

@@ -8,8 +8,6 @@
 #![tactic(auto)]
 
 mod booking_ids;
-#[cfg(test)]
-mod tests;
 
 pub use booking_ids::{BookingId, read_booking_id, write_booking_id};
 

@@ -33,6 +33,3 @@ pub use sink::{Pushed, PushedBoth, Sink};
 pub use source::{Pulled, Source};
 pub use standard::{ReaderSource, WriterSink};
 pub use system_clock::SystemClock;
-
-#[cfg(test)]
-mod tests;

@@ -1,5 +1,5 @@
 -- The replies to commands.
-use Rattle.std.proofs.Common.{◌≡◌, ◌∙◌, ℕ, Bool, List, Option, Some, refl, sym, subst}
+use Rattle.std.proofs.Common.{◌≡◌, ℕ, Option, Some, refl, sym, subst}
 use Rattle.rail_ids.specs.declared.RowNo.{RowNo}
 use Rattle.offer_codes.specs.declared.code.RefundCode.{RefundCode}
 use Rattle.offer_codes.specs.declared.code.ExchangeCode.{ExchangeCode}
@@ -13,25 +13,25 @@ use Rattle.osdm_texts.proofs.Telling.{of_problem}
 use Rattle.osdm_json.specs.declared.command.Command.{Command}
 use Rattle.osdm_json.specs.declared.command.Command.TheVariants as command
 use Rattle.booking_service.specs.Deciding.{Replying, OnBooking, Answered, ConfirmsIt, FulfilsIt, ReleasesIt}
-use Rattle.reservation_service.specs.Reserving.{HasAllOrNone}
+use Rattle.reservation_service.specs.Reserving.{HasNoItem, HasAllOrNone}
 use Rattle.trade_service.specs.Refunds.{QuotesIt, RefundsIt}
 use Rattle.trade_service.specs.Exchanges.{ExchangesIt}
 use Rattle.service_rules.specs.Checks.{command_fault}
-use Rattle.service_rules.specs.Performing.{DoesNothing, Performs}
+use Rattle.service_rules.specs.Performing.{DoesNothing}
 use Rattle.service_rules.specs.Answering.{AnswersBy, BooksAllOrNone}
 use Rattle.rail_service.specs.Commands.{CarriesOut, SaysOf}
 
 -- a problem books nothing
-nothing_booked : (cat : CatalogueView) (now : ℕ) (c : Command) (old new : DeskView) (p : Problem) → BooksAllOrNone cat now c old new (problem p)
-nothing_booked cat now (command.Book (Some code)) old new p = tt
-nothing_booked cat now (command.Reserve segment class count wanted) old new p = tt
-nothing_booked cat now (command.AcceptExchange row (Some code)) old new p = tt
-nothing_booked cat now c old new p = tt
+nothing_booked : (cat : CatalogueView) (now : ℕ) (c : Command) (old new : DeskView) (p : Problem) → HasNoItem new → BooksAllOrNone cat now c old new (problem p)
+nothing_booked cat now (command.Book (Some code)) old new p none = none
+nothing_booked cat now (command.Reserve segment class count wanted) old new p none = none
+nothing_booked cat now (command.AcceptExchange row (Some code)) old new p none = none
+nothing_booked cat now c old new p none = tt
 
 pub refused : (cat : CatalogueView) (retailer now : ℕ) (c : Command) (p : Problem) (old new : DeskView) → command_fault cat now c ≡ Some p
-    → DoesNothing old new → SaysOf cat retailer now c old new (refused_told p)
-refused cat retailer now c p old new e none =
-    (problem p, subst (λ o. AnswersBy cat retailer now c o old new (problem p)) (sym e) (none, refl), nothing_booked cat now c old new p, of_problem cat p)
+    → DoesNothing old new → HasNoItem new → SaysOf cat retailer now c old new (refused_told p)
+refused cat retailer now c p old new e did none =
+    (problem p, subst (λ o. AnswersBy cat retailer now c o old new (problem p)) (sym e) (did, refl), nothing_booked cat now c old new p none, of_problem cat p)
 
 -- a booking that was asked for by its id
 on_row : (cat : CatalogueView) (rows row retailer : ℕ) (Does : ℕ → Replying) (old new : DeskView) (said : Told) → rows ≡ cat.rows → Answered cat (Does rows) old new said → Answered cat (Does cat.rows) old new said

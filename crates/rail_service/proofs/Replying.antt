@@ -9,7 +9,7 @@ use Rattle.osdm_texts.specs.Answers.{Reply}
 use Rattle.rail_service.specs.Bytes.{reply_bytes}
 use Rattle.rail_service.specs.Serving.{retailer_of, first_after, AnswersRequest}
 use Rattle.rail_service.specs.Connections.{ServiceView, IsReading, IsAnswer}
-use Rattle.rail_service.specs.Commands.{HasNoItem}
+use Rattle.reservation_service.specs.Reserving.{HasNoItem}
 use Rattle.rail_service.proofs.Sparing.{request_makes}
 
 pub reading_of : (before after : Option (ℕ → ℕ)) (moment : ℕ) → IfSome before (λ readings. moment ≡ readings 0)

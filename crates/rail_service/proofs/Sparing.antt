@@ -1,7 +1,8 @@
 -- A request that there was no memory for changes no booking's fate.
 use Rattle.std.proofs.Common.{◌≡◌, ◌∙◌, ℕ, suc, zero, ◌+◌, Bool, true, false, List, [], ◌∷◌, ◌++◌, length, Option, Some, None, Ok, Err, refl, sym, ap, subst, inl, inr}
 use Rattle.std.specs.Prelude.{Result}
-use Rattle.leg_masks.specs.Interval.{Interval, PlacedSpan as Item}
+use Rattle.leg_masks.specs.Interval.{Interval, pieces}
+use Rattle.leg_masks.specs.Interval.{PlacedSpan as Item}
 use Rattle.rail_ids.specs.declared.PlaceNo.{PlaceNo}
 use Rattle.rail_ids.specs.declared.RetailerNo.{RetailerNo}
 use Rattle.history_model.specs.declared.entry.Step.{Step}
@@ -9,7 +10,7 @@ use Rattle.history_model.specs.declared.entry.Step.TheVariants.{Look, Take, Give
 use Rattle.history_model.specs.History.{IsLegal}
 use Rattle.history_model.specs.Work.{NoStep}
 use Rattle.claim_rule.specs.Rule.{DeskView}
-use Rattle.claim_rule.specs.Calls.{Calls, ShapeBy}
+use Rattle.claim_rule.specs.Calls.{ShapeBy}
 use Rattle.claim_rule.specs.Out.{is_look, AllLooks}
 use Rattle.claim_rule.proofs.Shapes.{shape_then, shape_none}
 use Rattle.booking_rows.specs.Starts.{Misses, misses_steps, StartsHold}
@@ -19,7 +20,7 @@ use Rattle.booking_rows.specs.declared.notes.Detail.{Detail}
 use Rattle.hold_core.specs.declared.adds.Added.{Added}
 use Rattle.hold_core.specs.declared.tries.Outcome.{Outcome}
 use Rattle.hold_core.specs.declared.tries.Outcome.TheVariants as outcome
-use Rattle.hold_core.specs.Tries.{Try, looks_at, won_steps}
+use Rattle.hold_core.specs.Tries.{Part, Try, looks_at, won_steps, part_steps, parts_steps, undone, try_steps}
 use Rattle.hold_core.specs.Places.{won_by, tries_steps, gives_back}
 use Rattle.confirm_core.specs.declared.confirming.Confirmed.{Confirmed}
 use Rattle.confirm_core.specs.declared.confirming.Confirmed.TheVariants as confirmed
@@ -32,7 +33,6 @@ use Rattle.refund_core.specs.declared.refunding.Refunded.TheVariants as refunded
 use Rattle.refund_core.specs.declared.quoting.Quoted.TheVariants as quoted
 use Rattle.exchange_core.specs.Ready.{ReadyView}
 use Rattle.exchange_core.specs.declared.quoting.QuotedExchange.TheVariants as quoted_exchange
-use Rattle.exchange_core.specs.declared.readying.Readied.{Readied}
 use Rattle.exchange_core.specs.declared.readying.Readied.TheVariants as readied
 use Rattle.offer_codes.specs.declared.code.Segment.{Segment}
 use Rattle.offer_codes.specs.declared.code.Offer.{Offer}
@@ -41,12 +41,12 @@ use Rattle.offer_codes.specs.Offers.{OfferView, offer_view}
 use Rattle.offer_codes.specs.Exchanges.{ExchangeView, exchange_view}
 use Rattle.offer_engine.specs.declared.wish.OfferWish.{OfferWish}
 use Rattle.offer_engine.specs.Offers.{CountsSegments, OffersFor}
-use Rattle.availability.specs.Looks.{LooksAt}
+use Rattle.availability.specs.Looks.{LooksPieces, LooksAt}
 use Rattle.http_wire.specs.Requests.{RequestText}
 use Rattle.rail_catalogue.specs.Contents.{CatalogueView}
 use Rattle.osdm_texts.specs.declared.problem.Problem.{Problem}
 use Rattle.osdm_texts.specs.declared.problem.Problem.TheVariants.{UnknownBooking, NoMemory, RowsFull, WrongState, OfferTooOld, QuoteWrong}
-use Rattle.osdm_texts.specs.Answers.{Reply, booking, created, exchanged, swept, problem}
+use Rattle.osdm_texts.specs.Answers.{Reply, problem}
 use Rattle.osdm_json.specs.declared.command.Command.{Command}
 use Rattle.osdm_json.specs.declared.command.Command.TheVariants as command
 use Rattle.booking_service.specs.Finding.{FindsBooking}
@@ -80,7 +80,7 @@ spares_same : (a b : DeskView) → IsLegal a.layout a.seen → b ≡ a → Spare
 spares_same a b legal e = subst (Spares a) (sym e) ([], tt, shape_none a legal)
 
 look : (st : Step) → is_look st ≡ true → decides st ≡ false
-look (Look place shown) is = refl
+look (Look place half shown) is = refl
 look (SawRow row word value) is = refl
 look (LostTurn row wanted shown) is = refl
 look Met is = refl
@@ -113,20 +113,36 @@ starts old mid row es (inl (makes, is)) = subst (NoStep decides) (sym is) tt
 starts old mid row es (inr (none, least, found)) =
     subst (NoStep decides) (sym found.2) (append (misses_steps found.0) (Start row ∷ []) (misses found.0) (refl, tt))
 
-looked : (place : ℕ) (shown : List ℕ) → NoStep decides (looks_at place shown)
-looked place [] = tt
-looked place (word ∷ rest) = (refl, looked place rest)
+looked : (place : ℕ) (piece : Interval) (shown : List ℕ) → NoStep decides (looks_at place piece shown)
+looked place piece [] = tt
+looked place piece (word ∷ rest) = (refl, looked place piece rest)
 
-won : (row k place : ℕ) (span : Interval) (o : Outcome) → NoStep decides (won_steps row k place span o)
-won row k place span outcome.Won = (refl, (refl, tt))
-won row k place span outcome.Refused = tt
-won row k place span outcome.Contended = tt
+won : (row k place : ℕ) (piece : Interval) (o : Outcome) → NoStep decides (won_steps row k place piece o)
+won row k place piece outcome.Won = (refl, (refl, tt))
+won row k place piece outcome.Refused = tt
+won row k place piece outcome.Contended = tt
+
+part : (row k place : ℕ) (t : Part) → NoStep decides (part_steps row k place t)
+part row k place t = append (looks_at place t.piece t.shown) (won_steps row k place t.piece t.outcome) (looked place t.piece t.shown) (won row k place t.piece t.outcome)
+
+parts : (row k place : ℕ) (ts : List Part) → NoStep decides (parts_steps row k place ts)
+parts row k place [] = tt
+parts row k place (t ∷ ts) = append (part_steps row k place t) (parts_steps row (k + 1) place ts) (part row k place t) (parts row (k + 1) place ts)
+
+undid : (row k : ℕ) (o : Outcome) (ts : List Part) → NoStep decides (undone row k o ts)
+undid row k outcome.Won ts = tt
+undid row k outcome.Refused [] = tt
+undid row k outcome.Refused (t ∷ []) = tt
+undid row k outcome.Refused (t ∷ u ∷ ts) = (refl, tt)
+undid row k outcome.Contended [] = tt
+undid row k outcome.Contended (t ∷ []) = tt
+undid row k outcome.Contended (t ∷ u ∷ ts) = (refl, tt)
 
 tries : (row k : ℕ) (span : Interval) (ts : List Try) → NoStep decides (tries_steps row k span ts)
 tries row k span [] = tt
 tries row k span (t ∷ ts) =
-    append (looks_at t.place t.shown ++ won_steps row k t.place span t.outcome) (tries_steps row (k + length (won_by span t)) span ts)
-    (append (looks_at t.place t.shown) (won_steps row k t.place span t.outcome) (looked t.place t.shown) (won row k t.place span t.outcome))
+    append (try_steps row k t) (tries_steps row (k + length (won_by span t)) span ts)
+    (append (parts_steps row k t.place t.parts) (undone row k t.outcome t.parts) (parts row k t.place t.parts) (undid row k t.outcome t.parts))
     (tries row (k + length (won_by span t)) span ts)
 
 gives : (row n : ℕ) → NoStep decides (gives_back row n)
@@ -158,9 +174,15 @@ gave row items old new did = (gives_back row (length items), gives row (length i
 
 -- the looks of searches
 
+pieces_count : (place : ℕ) (spans : List Interval) (free : Bool) (es : List Step) → LooksPieces place spans free es → NoStep decides es
+pieces_count place [] free es is = subst (NoStep decides) (sym is.1) tt
+pieces_count place (piece ∷ rest) free es (word, here, others, more, so, did, all, is) =
+    subst (NoStep decides) (sym is) (refl, pieces_count place rest others more did)
+
 counts : (ps : List PlaceNo) (span : Interval) (states : List Bool) (es : List Step) → LooksAt ps span states es → NoStep decides es
 counts [] span [] es is = subst (NoStep decides) (sym is) tt
-counts (p ∷ ps) span (free ∷ states) es (word, rest, so, more, is) = subst (NoStep decides) (sym is) (refl, counts ps span states rest more)
+counts (p ∷ ps) span (free ∷ states) es (first, rest, did, more, is) =
+    subst (NoStep decides) (sym is) (append first rest (pieces_count p.0 (pieces span) free first did) (counts ps span states rest more))
 counts [] span (free ∷ states) es is = absurd is
 counts (p ∷ ps) span [] es is = absurd is
 

@@ -1,10 +1,8 @@
 -- What is said of a command, by the desk's own entries.
-use Rattle.std.specs.Prelude.{◌≡◌, ℕ, []}
+use Rattle.std.specs.Prelude.{◌≡◌, ℕ}
 use mathlib.Core.List.{IsPrefix}
-use Rattle.history_model.specs.Allowed.{OnRow}
 use Rattle.rail_catalogue.specs.Contents.{CatalogueView}
-use Rattle.claim_rule.specs.Rule.{DeskView, state_seen}
-use Rattle.claim_rule.specs.Out.{Makes}
+use Rattle.claim_rule.specs.Rule.{DeskView}
 use Rattle.osdm_texts.specs.Answers.{Reply, Told, reply_told}
 use Rattle.osdm_json.specs.declared.command.Command.{Command}
 use Rattle.service_rules.specs.Performing.{Performs}
@@ -26,7 +24,3 @@ pub record GoesOn (old new : DeskView) : Type 0 where
   pub number : new.number ≡ old.number
   pub parted : new.made ≡ old.made
   pub taken : new.taken ≡ old.taken
-
--- the desk's row in the making, where it has one, has no item
-abbrev pub HasNoItem : DeskView → Type 0
-HasNoItem desk = (row : ℕ) → Makes desk row → OnRow (state_seen desk) row (λ b. b.items ≡ [])

@@ -16,7 +16,7 @@ use Rattle.claim_rule.specs.Out.{IsIdle}
 use Rattle.rail_catalogue.specs.Contents.{CatalogueView}
 use Rattle.osdm_texts.specs.Answers.{Reply, problem}
 use Rattle.rail_service.specs.Bytes.{reply_bytes}
-use Rattle.rail_service.specs.Commands.{HasNoItem}
+use Rattle.reservation_service.specs.Reserving.{HasNoItem}
 use Rattle.rail_service.specs.Sparing.{SparesBookings}
 use Rattle.rail_service.specs.Refusals.{problem_of_wire}
 use Rattle.rail_service.specs.Serving.{retailer_of, first_after, AnswersRequest}

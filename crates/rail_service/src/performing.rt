@@ -10,7 +10,8 @@ ghost use Rattle.osdm_json.specs.Readable.{IsReadable};
 ghost use Rattle.service_rules.specs.Checks.{command_fault};
 ghost use Rattle.service_rules.specs.Answering.{Answers, BooksAllOrNone};
 ghost use Rattle.rail_service.specs.Bytes.{reply_bytes};
-ghost use Rattle.rail_service.specs.Commands.{SaysOf, CarriesOut, GoesOn, HasNoItem};
+ghost use Rattle.reservation_service.specs.Reserving.{HasNoItem};
+ghost use Rattle.rail_service.specs.Commands.{SaysOf, CarriesOut, GoesOn};
 ghost use Rattle.rail_service.specs.Sparing.{MakesFor};
 
 use crate::answering::answer_of;

@@ -1,5 +1,6 @@
 -- The steps of an acceptance, from those of its look and of its end.
-use Rattle.std.proofs.Common.{◌≡◌, inr, ℕ, ◌≤◌, false, List, ◌++◌, length, Some, None, refl, subst, sym, arith}
+use Rattle.std.proofs.Common.{◌≡◌, inr, ℕ, ◌≤◌, false, List, ◌++◌, length, Some, None, refl, subst, sym, arith, ◌+◌, ◌*◌}
+use Rattle.history_model.specs.Booking.{most_items}
 use Rattle.history_model.specs.declared.phase.Phase.{Phase}
 use Rattle.history_model.specs.declared.phase.EndKind.TheVariants.{Refund}
 use Rattle.history_model.specs.declared.entry.Step.{Step}
@@ -40,11 +41,11 @@ loses_refund cat rows retailer now code v from shown a b c fresh amount phase is
 
 -- how many entries there are
 
-pub ended_bound : (row now amount : ℕ) (from : Phase) (a b c : DeskView) → b.number ≡ a.number → AddsAtMost 32 a b → ShapeBy (EndsRow row from Refund (aim.Refund now amount) None) b c → AddsAtMost 86 a c
+pub ended_bound : (row now amount : ℕ) (from : Phase) (a b c : DeskView) → b.number ≡ a.number → AddsAtMost (most_items + 8) a b → ShapeBy (EndsRow row from Refund (aim.Refund now amount) None) b c → AddsAtMost (3 * most_items + 14) a c
 ended_bound row now amount from a b c same few ended =
     let e = ended.1 in
-    adds_then a b c 32 54 same few (adds_length b c ended.0 54 ended.2 (subst (λ (k : List Step). length k ≤ 54) (sym e.2) (ends_length row from Refund (end_of (aim.Refund now amount)) e.0 e.1)))
+    adds_then a b c (most_items + 8) (2 * most_items + 6) same few (adds_length b c ended.0 (2 * most_items + 6) ended.2 (subst (λ (k : List Step). length k ≤ 2 * most_items + 6) (sym e.2) (ends_length row from Refund (end_of (aim.Refund now amount)) e.0 e.1)))
 
-pub lost_bound : (row now amount : ℕ) (from shown : Phase) (a b c : DeskView) → b.number ≡ a.number → AddsAtMost 32 a b → ShapeBy (EndsRow row from Refund (aim.Refund now amount) (Some shown)) b c → AddsAtMost 86 a c
+pub lost_bound : (row now amount : ℕ) (from shown : Phase) (a b c : DeskView) → b.number ≡ a.number → AddsAtMost (most_items + 8) a b → ShapeBy (EndsRow row from Refund (aim.Refund now amount) (Some shown)) b c → AddsAtMost (3 * most_items + 14) a c
 lost_bound row now amount from shown a b c same few lost =
-    adds_then a b c 32 54 same few (adds_length b c lost.0 54 lost.2 (subst (λ (k : List Step). length k ≤ 54) (sym lost.1.1) (omega arith)))
+    adds_then a b c (most_items + 8) (2 * most_items + 6) same few (adds_length b c lost.0 (2 * most_items + 6) lost.2 (subst (λ (k : List Step). length k ≤ 2 * most_items + 6) (sym lost.1.1) (omega arith)))

@@ -1,5 +1,6 @@
 -- The steps of a release, from those of its search and of its end.
-use Rattle.std.proofs.Common.{◌≡◌, ◌≢◌, inl, inr, ℕ, ◌≤◌, List, ◌++◌, length, Some, None, refl, sym, ap, ◌∙◌, subst, arith, length-append}
+use Rattle.std.proofs.Common.{◌≡◌, ◌≢◌, inl, inr, ℕ, ◌≤◌, List, ◌++◌, length, Some, None, refl, sym, ap, ◌∙◌, subst, arith, length-append, ◌+◌, ◌*◌}
+use Rattle.history_model.specs.Booking.{most_items}
 use Rattle.history_model.specs.declared.entry.Step.{Step}
 use Rattle.history_model.specs.declared.phase.Phase.{Phase}
 use Rattle.history_model.specs.declared.phase.Phase.TheVariants.{Prebooked}
@@ -31,11 +32,11 @@ loses rows row retailer now was shown a b c is did lost =
     let f = did.1 in
     (did.0 ++ lost.0, (f.0, inr (did.0, lost.0, f.2 ∙ ap (λ (p : Phase). saw_owner row p retailer) is, lost.1, refl)), shape_then a b c did.0 lost.0 did.2 lost.2)
 
-pub releases_length : (rows row retailer now : ℕ) (answer : Released) (es : List Step) → Releases rows row retailer now answer es → length es ≤ 56
+pub releases_length : (rows row retailer now : ℕ) (answer : Released) (es : List Step) → Releases rows row retailer now answer es → length es ≤ 2 * most_items + 8
 releases_length rows row retailer now released.Done es (here, (items, few, is)) =
     let l = ends_length row Prebooked Release (end_of (aim.Release now)) items few in
     let m = length-append (saw_owner row Prebooked retailer) (ends_as row Prebooked Release (end_of (aim.Release now)) items) in
-    subst (λ (k : List Step). length k ≤ 56) (sym is) (omega arith)
+    subst (λ (k : List Step). length k ≤ 2 * most_items + 8) (sym is) (omega arith)
 releases_length rows row retailer now released.Unknown es not = let l = unknown_most rows row retailer 2 (λ shown who es'. es' ≡ saw_owner row shown who) (omega arith) (λ shown who es' saw. subst (λ (k : List Step). length k ≤ 2) (sym saw) (omega arith)) es not in omega arith
 releases_length rows row retailer now (released.WrongState shown) es (here, wrong) =
     let l = wrong_most row 2 Prebooked shown (λ was es'. es' ≡ saw_owner row was retailer) (λ was es' saw. subst (λ (k : List Step). length k ≤ 2) (sym saw) (omega arith)) es wrong in omega arith

@@ -27,7 +27,7 @@ pub enum Quoted {
 }
 
 /// Quotes a refund of this retailer's confirmed or fulfilled booking: what it is worth now, in the phase that its look shows. The quote is
-/// in the ranges of its spelling. At most 32 entries are added.
+/// in the ranges of its spelling. At most 56 entries are added.
 pub fn quote_refund(
     cat: &Catalogue,
     books: &Books,

@@ -32,7 +32,7 @@ pub enum Refunded {
 }
 
 /// Refunds this retailer's booking by a quote, in just the phase that the quote names. Refusals are tried in this order: `QuoteStale`,
-/// `Unknown`, `QuoteWrong`, `WrongState`. The desk has no ending out. At most 86 entries are added.
+/// `Unknown`, `QuoteWrong`, `WrongState`. The desk has no ending out. At most 158 entries are added.
 pub fn accept_refund(
     cat: &Catalogue,
     books: &Books,

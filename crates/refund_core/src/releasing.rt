@@ -24,7 +24,7 @@ pub enum Released {
     WrongState { shown: Phase },
 }
 
-/// Releases a prebooked booking of this retailer, also after its limit. The desk has no ending out. At most 56 entries are added.
+/// Releases a prebooked booking of this retailer, also after its limit. The desk has no ending out. At most 104 entries are added.
 pub fn release(
     books: &Books,
     desk: &mut Desk,

@@ -14,7 +14,7 @@ use Rattle.booking_rows.specs.Starts.{Misses, misses_steps, StartsHold}
 use Rattle.hold_core.specs.declared.adds.Added.{Added}
 use Rattle.hold_core.specs.declared.tries.Outcome.{Outcome}
 use Rattle.hold_core.specs.declared.tries.Outcome.TheVariants as outcome
-use Rattle.hold_core.specs.Tries.{Try, looks_at, won_steps}
+use Rattle.hold_core.specs.Tries.{Part, Try, looks_at, won_steps, part_steps, parts_steps, undone, try_steps}
 use Rattle.hold_core.specs.Places.{won_by, tries_steps, gives_back}
 use Rattle.offer_codes.specs.declared.code.Segment.{Segment}
 use Rattle.offer_codes.specs.Offers.{OfferView}
@@ -45,21 +45,40 @@ calm_start old mid (Some row) es (inl (makes, is)) = subst (NoStep exchanges) (s
 calm_start old mid (Some row) es (inr (none, least, found)) = subst (NoStep exchanges) (sym found.2) (calm_append (misses_steps found.0) (Start row ∷ []) (calm_misses found.0) (refl, tt))
 calm_start old mid None es (none, least, found) = subst (NoStep exchanges) (sym found.2) (calm_misses found.0)
 
-calm_looks : (place : ℕ) (shown : List ℕ) → NoStep exchanges (looks_at place shown)
-calm_looks place [] = tt
-calm_looks place (word ∷ rest) = (refl, calm_looks place rest)
+calm_looks : (place : ℕ) (piece : Interval) (shown : List ℕ) → NoStep exchanges (looks_at place piece shown)
+calm_looks place piece [] = tt
+calm_looks place piece (word ∷ rest) = (refl, calm_looks place piece rest)
 
-calm_won : (row k place : ℕ) (span : Interval) (o : Outcome) → NoStep exchanges (won_steps row k place span o)
-calm_won row k place span outcome.Won = (refl, (refl, tt))
-calm_won row k place span outcome.Refused = tt
-calm_won row k place span outcome.Contended = tt
+calm_won : (row k place : ℕ) (piece : Interval) (o : Outcome) → NoStep exchanges (won_steps row k place piece o)
+calm_won row k place piece outcome.Won = (refl, (refl, tt))
+calm_won row k place piece outcome.Refused = tt
+calm_won row k place piece outcome.Contended = tt
+
+calm_part : (row k place : ℕ) (t : Part) → NoStep exchanges (part_steps row k place t)
+calm_part row k place t =
+    calm_append (looks_at place t.piece t.shown) (won_steps row k place t.piece t.outcome) (calm_looks place t.piece t.shown) (calm_won row k place t.piece t.outcome)
+
+calm_parts : (row k place : ℕ) (ts : List Part) → NoStep exchanges (parts_steps row k place ts)
+calm_parts row k place [] = tt
+calm_parts row k place (t ∷ ts) = calm_append (part_steps row k place t) (parts_steps row (k + 1) place ts) (calm_part row k place t) (calm_parts row (k + 1) place ts)
+
+calm_undone : (row k : ℕ) (o : Outcome) (ts : List Part) → NoStep exchanges (undone row k o ts)
+calm_undone row k outcome.Won ts = tt
+calm_undone row k outcome.Refused [] = tt
+calm_undone row k outcome.Refused (t ∷ []) = tt
+calm_undone row k outcome.Refused (t ∷ u ∷ ts) = (refl, tt)
+calm_undone row k outcome.Contended [] = tt
+calm_undone row k outcome.Contended (t ∷ []) = tt
+calm_undone row k outcome.Contended (t ∷ u ∷ ts) = (refl, tt)
+
+calm_try : (row k : ℕ) (t : Try) → NoStep exchanges (try_steps row k t)
+calm_try row k t =
+    calm_append (parts_steps row k t.place t.parts) (undone row k t.outcome t.parts) (calm_parts row k t.place t.parts) (calm_undone row k t.outcome t.parts)
 
 calm_tries : (row k : ℕ) (span : Interval) (ts : List Try) → NoStep exchanges (tries_steps row k span ts)
 calm_tries row k span [] = tt
 calm_tries row k span (t ∷ ts) =
-    calm_append (looks_at t.place t.shown ++ won_steps row k t.place span t.outcome) (tries_steps row (k + length (won_by span t)) span ts)
-    (calm_append (looks_at t.place t.shown) (won_steps row k t.place span t.outcome) (calm_looks t.place t.shown) (calm_won row k t.place span t.outcome))
-    (calm_tries row (k + length (won_by span t)) span ts)
+    calm_append (try_steps row k t) (tries_steps row (k + length (won_by span t)) span ts) (calm_try row k t) (calm_tries row (k + length (won_by span t)) span ts)
 
 calm_gives : (row n : ℕ) → NoStep exchanges (gives_back row n)
 calm_gives row zero = tt

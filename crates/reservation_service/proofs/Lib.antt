@@ -1,3 +1,5 @@
+pub mod Candidates
+pub mod Won
 pub mod Placed
 pub mod Runs
 pub mod Calm

@@ -1,22 +1,26 @@
 -- Placings of segments, one after the other, and what a whole one has.
-use Rattle.std.proofs.Common.{◌≡◌, ◌∙◌, Bool, true, false, ◌&&◌, inl, inr, ℕ, ◌+◌, ◌*◌, ◌<◌, ◌≤◌, List, [], ◌∷◌, ◌++◌, length, take, drop, get_or, refl, sym, ap, subst, arith, append_assoc, append-nil, length-append, take-append-drop, length-take}
+use Rattle.std.proofs.Common.{◌≡◌, ◌≢◌, ◌∙◌, Bool, true, false, ◌&&◌, inl, inr, ℕ, ◌+◌, ◌*◌, ◌<◌, ◌≤◌, List, [], ◌∷◌, ◌++◌, length, take, drop, get_or, refl, sym, ap, subst, arith, append_assoc, append-nil, length-append, take-append-drop, length-take}
 use Rattle.std.specs.Prelude.{nat_le}
 use Rattle.std.proofs.lemmas.Bool.{leb-true}
 use Rattle.std.proofs.lemmas.List.{take_more}
-use Rattle.leg_masks.specs.Interval.{PlacedSpan as Item}
+use Rattle.std.specs.List.{AllByRecursion}
+use Rattle.leg_masks.specs.Interval.{pieces, PlacedSpan as Item}
+use Rattle.history_model.specs.Booking.{most_items}
+use Rattle.history_model.specs.Lists.{Pairwise}
+use Rattle.history_model.proofs.ListLemmas.{Pairwise-left}
 use Rattle.offer_codes.specs.declared.code.Segment.{Segment}
 use Rattle.offer_codes.specs.Offers.{OfferView, is_party}
 use Rattle.rail_catalogue.specs.Contents.{CatalogueView}
 use Rattle.claim_rule.specs.Rule.{DeskView}
-use Rattle.hold_core.specs.declared.tries.Outcome.{Outcome}
-use Rattle.hold_core.specs.declared.tries.Outcome.TheVariants as outcome
 use Rattle.hold_core.specs.declared.adds.Added.{Added}
 use Rattle.hold_core.specs.declared.adds.Added.TheVariants as added
-use Rattle.hold_core.specs.Tries.{Try, item_won}
-use Rattle.hold_core.specs.Places.{IsAdding, items_won, tried}
+use Rattle.hold_core.specs.Places.{IsAdding, places_won, tried}
+use Rattle.hold_core.proofs.Adding.{items_count, items_by_place}
 use Rattle.reservation_service.specs.declared.holding.Placing.{Placing}
 use Rattle.reservation_service.specs.declared.holding.Placing.TheVariants.{Whole, Short, Contended, NoMemory}
-use Rattle.reservation_service.specs.Holding.{count_of, candidates_in, AddsSegment, Stops, PlacesAll, In, AreOf, HasAllPlaces}
+use Rattle.reservation_service.specs.Holding.{count_of, items_wanted, candidates_in, AddsSegment, Stops, PlacesAll, In, AreOf, HasAllPlaces}
+use Rattle.reservation_service.proofs.Candidates.{candidates_apart}
+use Rattle.reservation_service.proofs.Won.{won_among, won_apart, first_in, few_items}
 
 stops_not : (answer : Added) (p : Placing) → Stops answer p → p ≡ Whole → ⊥
 stops_not added.All p stop e = stop
@@ -89,18 +93,21 @@ few_of adults children is = leb-true (adults + children) 8 (both (nat_le 1 (adul
 
 -- how many items a whole placing has
 
-won_all : (cat : CatalogueView) (o : OfferView) (row : ℕ) (items won : List Item) (s : Segment) (answer : Added) (old new : DeskView) → AddsSegment cat o row items s answer won old new → answer ≡ added.All → length won ≡ count_of o
+won_all : (cat : CatalogueView) (o : OfferView) (row : ℕ) (items won : List Item) (s : Segment) (answer : Added) (old new : DeskView) → AddsSegment cat o row items s answer won old new → answer ≡ added.All → length won ≡ items_wanted o s
 won_all cat o row items won s answer old new did e =
     let adds = did.1 in
     let all = subst (λ (a : Added). IsAdding s.span (count_of o) (candidates_in cat o s) adds.tries a) e adds.adding in
-    ap length adds.items ∙ all.1
+    ap length adds.items ∙ (items_count s.span adds.tries ∙ ap (λ (n : ℕ). n * length (pieces s.span)) all.1)
 
 pub places_many : (cat : CatalogueView) (o : OfferView) (row : ℕ) (items : List Item) (segments : List Segment) (p : Placing) (all : List Item) (old new : DeskView) → PlacesAll cat o row items segments p all old new → p ≡ Whole → 1 ≤ count_of o → count_of o ≤ 8
-    → (length items + length segments ≤ length all) × (length all ≤ length items + 8 * length segments)
+    → (length items + length segments ≤ length all) × (length all ≤ length items + 16 * length segments)
 places_many cat o row items [] p all old new is e some few = let l = ap length is.1 in (omega arith, omega arith)
 places_many cat o row items (s ∷ rest) p all old new (inl (answer, won, mid, did, inl go)) e some few =
     let l = won_all cat o row items won s answer old mid did go.0 in
     let k = length-append items won in
+    let w = few_items s.span (count_of o) some few in
+    let least = w.0 in
+    let most = w.1 in
     let more = places_many cat o row (items ++ won) rest p all mid new go.1 e some few in
     let low = more.0 in
     let high = more.1 in
@@ -109,46 +116,36 @@ places_many cat o row items (s ∷ rest) p all old new (inl (answer, won, mid, d
 places_many cat o row items (s ∷ rest) p all old new (inr none) e some few = absurd (memory_not p none.0 e)
 
 -- there is room for one segment more
-pub room_left : (cat : CatalogueView) (o : OfferView) (row : ℕ) (segments : List Segment) (i : ℕ) (some : List Item) (old new : DeskView) → PlacesAll cat o row [] (take i segments) Whole some old new → i < length segments → length segments ≤ 3 → 1 ≤ count_of o → count_of o ≤ 8
-    → length some + count_of o ≤ 24
-room_left cat o row segments i some old new is inside most one few =
+pub room_left : (cat : CatalogueView) (o : OfferView) (row : ℕ) (segments : List Segment) (i : ℕ) (some : List Item) (old new : DeskView) (s : Segment) → PlacesAll cat o row [] (take i segments) Whole some old new → i < length segments → length segments ≤ 3 → 1 ≤ count_of o → count_of o ≤ 8
+    → length some + items_wanted o s ≤ most_items
+room_left cat o row segments i some old new s is inside most one few =
     let m = (places_many cat o row [] (take i segments) Whole some old new is refl one few).1 in
     let n = length-take i segments in
+    let w = (few_items s.span (count_of o) one few).1 in
     omega arith
 
--- what a whole placing has
+-- the items of a segment that has all its places
+all_of : (cat : CatalogueView) (o : OfferView) (row : ℕ) (items won : List Item) (s : Segment) (answer : Added) (old new : DeskView) → AddsSegment cat o row items s answer won old new → answer ≡ added.All → AreOf s (count_of o) (candidates_in cat o s) won
+all_of cat o row items won s answer old new did e =
+    let c = candidates_in cat o s in
+    let adds = did.1 in
+    let all = subst (λ (a : Added). IsAdding s.span (count_of o) c adds.tries a) e adds.adding in
+    let left = all.2.0 in
+    let front = all.2.1 in
+    record {
+      places = places_won adds.tries;
+      many = all.1;
+      among = won_among (λ p. In p c) adds.tries (subst (λ (l : List ℕ). AllByRecursion (λ p. In p l) (tried adds.tries)) (sym front) (first_in (tried adds.tries) left));
+      different = won_apart adds.tries (Pairwise-left (λ p q. p ≢ q) (tried adds.tries) left (subst (Pairwise (λ p q. p ≢ q)) front (candidates_apart cat o s)));
+      are = adds.items ∙ items_by_place s.span adds.tries;
+    }
 
-are_append : (s : Segment) (c : List ℕ) (xs ys : List Item) → AreOf s c xs → AreOf s c ys → AreOf s c (xs ++ ys)
-are_append s c [] ys first second = second
-are_append s c (i ∷ xs) ys first second = (first.0, first.1, are_append s c xs ys first.2 second)
-
-one_of : (s : Segment) (c : List ℕ) (place : ℕ) (o : Outcome) → In place c → AreOf s c (item_won place s.span o)
-one_of s c place outcome.Won at = (refl, at, tt)
-one_of s c place outcome.Refused at = tt
-one_of s c place outcome.Contended at = tt
-
-won_of : (s : Segment) (c : List ℕ) (tries : List Try) → ((p : ℕ) → In p (tried tries) → In p c) → AreOf s c (items_won s.span tries)
-won_of s c [] sub = tt
-won_of s c (t ∷ ts) sub =
-    are_append s c (item_won t.place s.span t.outcome) (items_won s.span ts) (one_of s c t.place t.outcome (sub t.place (inl refl)))
-    (won_of s c ts (λ p at. sub p (inr at)))
-
-in_front : (p : ℕ) (xs ys : List ℕ) → In p xs → In p (xs ++ ys)
-in_front p [] ys at = absurd at
-in_front p (x ∷ xs) ys (inl e) = inl e
-in_front p (x ∷ xs) ys (inr at) = inr (in_front p xs ys at)
-
--- for each segment one item for each passenger, at its candidates
+-- a whole placing has all places of each segment, and nothing else
 pub whole_places : (cat : CatalogueView) (o : OfferView) (row : ℕ) (items : List Item) (segments : List Segment) (p : Placing) (all : List Item) (old new : DeskView) → PlacesAll cat o row items segments p all old new → p ≡ Whole
     → (more : List Item) × HasAllPlaces cat o segments more × (all ≡ items ++ more)
 whole_places cat o row items [] p all old new is e = ([], refl, is.1 ∙ sym (append-nil items))
 whole_places cat o row items (s ∷ rest) p all old new (inl (answer, won, mid, did, inl go)) e =
-    let c = candidates_in cat o s in
-    let adds = did.1 in
-    let all_won = subst (λ (a : Added). IsAdding s.span (count_of o) c adds.tries a) go.0 adds.adding in
     let later = whole_places cat o row (items ++ won) rest p all mid new go.1 e in
-    let are : AreOf s c won = subst (AreOf s c) (sym adds.items)
-    (won_of s c adds.tries (λ q at. subst (In q) (sym all_won.2.1) (in_front q (tried adds.tries) all_won.2.0 at))) in
-    (won ++ later.0, (won, later.0, ap length adds.items ∙ all_won.1, are, later.1, refl), later.2 ∙ append_assoc items won later.0)
+    (won ++ later.0, (won, later.0, all_of cat o row items won s answer old mid did go.0, later.1, refl), later.2 ∙ append_assoc items won later.0)
 whole_places cat o row items (s ∷ rest) p all old new (inl (answer, won, mid, did, inr stop)) e = absurd (stops_not answer p stop.0 e)
 whole_places cat o row items (s ∷ rest) p all old new (inr none) e = absurd (memory_not p none.0 e)

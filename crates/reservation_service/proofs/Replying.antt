@@ -1,8 +1,9 @@
 -- The replies to a booking of an offer.
 use Rattle.std.proofs.Common.{◌≡◌, ◌∙◌, inl, inr, ℕ, ◌≤◌, List, [], ◌∷◌, ◌++◌, map, length, Option, Some, None, refl, sym, ap, subst, arith, append_assoc}
+use Rattle.std.specs.Prelude.{IfSome, IsSomeAnd}
 use mathlib.Core.List.{IsPrefix}
 use Rattle.leg_masks.specs.Interval.{PlacedSpan as Item}
-use Rattle.history_model.specs.Booking.{Layout}
+use Rattle.history_model.specs.Booking.{Booking, Layout}
 use Rattle.history_model.specs.Allowed.{OnRow}
 use Rattle.history_model.specs.History.{entry, state_of}
 use Rattle.history_model.specs.declared.entry.Entry.{Entry}
@@ -10,13 +11,13 @@ use Rattle.history_model.specs.declared.entry.Step.{Step}
 use Rattle.history_model.specs.declared.entry.Step.TheVariants.{Seal}
 use Rattle.history_model.specs.declared.phase.Phase.{Phase}
 use Rattle.history_model.specs.declared.phase.Phase.TheVariants as phase
-use Rattle.claim_rule.specs.Rule.{DeskView}
-use Rattle.claim_rule.specs.Holds.{HoldView, held}
-use Rattle.claim_rule.specs.Seats.{Shape}
+use Rattle.claim_rule.specs.Rule.{BooksView, DeskView}
+use Rattle.claim_rule.specs.Holds.{HoldView, StandsFor, empty_hold, held}
+use Rattle.claim_rule.specs.Seats.{IsOf, Shape}
 use Rattle.claim_rule.proofs.Shapes.{shape_then}
 use Rattle.booking_rows.specs.declared.notes.Detail.{Detail}
 use Rattle.booking_rows.specs.Notes.{detail_notes}
-use Rattle.claim_rule.specs.Out.{SealsItems, IsIdle, IsTidy}
+use Rattle.claim_rule.specs.Out.{HoldsNone, SealsItems, IsIdle, IsTidy}
 use Rattle.offer_codes.specs.Offers.{OfferView}
 use Rattle.rail_catalogue.specs.Contents.{CatalogueView}
 use Rattle.osdm_texts.specs.declared.problem.Problem.{Problem}
@@ -26,7 +27,7 @@ use Rattle.osdm_texts.proofs.Telling.{of_problem}
 use Rattle.reservation_service.specs.declared.holding.Placing.{Placing}
 use Rattle.reservation_service.specs.declared.holding.Placing.TheVariants.{Whole, Short, Contended, NoMemory}
 use Rattle.reservation_service.specs.Holding.{count_of, HoldsPlaces, FindsNoRow, GivesUp, HasAllPlaces, problem_of}
-use Rattle.reservation_service.specs.Reserving.{detail_of, made_view, Reserves, SealsHold, HasAllOrNone, AnswersReserving}
+use Rattle.reservation_service.specs.Reserving.{detail_of, made_view, Reserves, SealsHold, HasAllOrNone, HasNoItem, AnswersReserving}
 use Rattle.reservation_service.proofs.Placed.{whole_places, places_many}
 use Rattle.reservation_service.proofs.Calm.{held_calmly, reserves_tidy}
 
@@ -36,15 +37,21 @@ whole_of Short e = absurd (let no : ◌≡◌ {A = Option Problem} (Some reason.
 whole_of Contended e = absurd (let no : ◌≡◌ {A = Option Problem} (Some reason.Contended) None = e in cc)
 whole_of NoMemory e = absurd (let no : ◌≡◌ {A = Option Problem} (Some reason.NoMemory) None = e in cc)
 
-pub no_row : (cat : CatalogueView) (retailer now : ℕ) (o : OfferView) (old new : DeskView) → FindsNoRow old new
+-- a desk of the books that holds nothing: the row that it keeps has no item
+pub no_item : (books : BooksView) (desk : DeskView) → IsOf books desk → HoldsNone desk → HasNoItem desk
+no_item books desk of none row makes =
+    let stands = subst (λ (o : Option ℕ). IfSome o (λ kept. StandsFor desk (empty_hold kept))) (none row makes) of.kept in
+    subst (λ (o : Option Booking). IsSomeAnd o (λ b. b.items ≡ [])) (sym stands.found) stands.items
+
+pub no_row : (cat : CatalogueView) (retailer now : ℕ) (o : OfferView) (old new : DeskView) → FindsNoRow old new → HasNoItem new
     → AnswersReserving cat retailer now o old new (refused reason.RowsFull)
-no_row cat retailer now o old new did = (problem reason.RowsFull, inr (inl (inl (did, refl))), tt, of_problem cat reason.RowsFull)
+no_row cat retailer now o old new did none = (problem reason.RowsFull, inr (inl (inl (did, refl))), none, of_problem cat reason.RowsFull)
 
 pub given_up : (cat : CatalogueView) (retailer now : ℕ) (o : OfferView) (row : ℕ) (p : Placing) (why : Problem) (items : List Item) (old mid new : DeskView)
-    → HoldsPlaces cat o o.segments row p items old mid → problem_of p ≡ Some why → GivesUp row items mid new
+    → HoldsPlaces cat o o.segments row p items old mid → problem_of p ≡ Some why → GivesUp row items mid new → HasNoItem new
     → AnswersReserving cat retailer now o old new (refused why)
-given_up cat retailer now o row p why items old mid new placed is gave =
-    (problem why, inr (inl (inr (row, p, why, items, mid, placed, is, gave, refl))), tt, of_problem cat why)
+given_up cat retailer now o row p why items old mid new placed is gave none =
+    (problem why, inr (inl (inr (row, p, why, items, mid, placed, is, gave, refl))), none, of_problem cat why)
 
 -- a whole placing of some segments holds some items
 pub some_held : (cat : CatalogueView) (o : OfferView) (row : ℕ) (p : Placing) (items : List Item) (old mid : DeskView) → HoldsPlaces cat o o.segments row p items old mid → problem_of p ≡ None → 1 ≤ count_of o → count_of o ≤ 8 → 1 ≤ length o.segments
@@ -88,20 +95,20 @@ seals_hold hold noted d old mid new reply same notes seal items is = inl (
 )
 
 sealed : (cat : CatalogueView) (retailer now : ℕ) (o : OfferView) (row : ℕ) (items : List Item) (old mid new : DeskView) (reply : Reply) → HoldsPlaces cat o o.segments row Whole items old mid
-    → SealsHold row items (detail_of cat o retailer now) mid new reply → Reserves cat retailer now o old new reply × HasAllOrNone cat o old new reply
-sealed cat retailer now o row items old mid new reply placed (inl (did, seals, is)) =
+    → SealsHold row items (detail_of cat o retailer now) mid new reply → HasNoItem new → Reserves cat retailer now o old new reply × HasAllOrNone cat o old new reply
+sealed cat retailer now o row items old mid new reply placed (inl (did, seals, is)) none =
     let held = held_calmly cat o o.segments row Whole items old mid placed in (
       inl (row, items, mid, placed, did, is),
       subst (HasAllOrNone cat o old new) (sym is) (seals_since old mid new row phase.Prebooked items held.0 held.2 seals, has_places cat o row items old mid placed),
     )
-sealed cat retailer now o row items old mid new reply placed (inr (gave, is)) =
-    (inr (inr ((row, items, mid, placed, gave), is)), subst (HasAllOrNone cat o old new) (sym is) tt)
+sealed cat retailer now o row items old mid new reply placed (inr (gave, is)) none =
+    (inr (inr ((row, items, mid, placed, gave), is)), subst (HasAllOrNone cat o old new) (sym is) none)
 
 pub prebooked : (cat : CatalogueView) (retailer now : ℕ) (o : OfferView) (row : ℕ) (p : Placing) (items : List Item) (old mid new : DeskView) (reply : Reply) (written : Told) → HoldsPlaces cat o o.segments row p items old mid
-    → problem_of p ≡ None → SealsHold row items (detail_of cat o retailer now) mid new reply → written ≡ reply_told cat reply → AnswersReserving cat retailer now o old new written
-prebooked cat retailer now o row p items old mid new reply written placed none did bytes =
-    let whole = subst (λ (q : Placing). HoldsPlaces cat o o.segments row q items old mid) (whole_of p none) placed in
-    let s = sealed cat retailer now o row items old mid new reply whole did in
+    → problem_of p ≡ None → SealsHold row items (detail_of cat o retailer now) mid new reply → HasNoItem new → written ≡ reply_told cat reply → AnswersReserving cat retailer now o old new written
+prebooked cat retailer now o row p items old mid new reply written placed whole_is did none bytes =
+    let whole = subst (λ (q : Placing). HoldsPlaces cat o o.segments row q items old mid) (whole_of p whole_is) placed in
+    let s = sealed cat retailer now o row items old mid new reply whole did none in
     (reply, s.0, s.1, bytes)
 
 pub answered_tidy : (cat : CatalogueView) (retailer now : ℕ) (o : OfferView) (old new : DeskView) (written : Told) → AnswersReserving cat retailer now o old new written → IsIdle new → IsTidy old → IsTidy new

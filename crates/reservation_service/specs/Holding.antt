@@ -1,10 +1,13 @@
 -- Places for each segment of an offer, on a hold.
-use Rattle.std.specs.Prelude.{◌≡◌, ◌⊎◌, ℕ, ◌+◌, List, [], ◌∷◌, ◌++◌, length, map, Option, Some, None}
+use Rattle.std.specs.Prelude.{◌≡◌, ◌≢◌, ◌⊎◌, ℕ, ◌+◌, ◌*◌, List, [], ◌∷◌, ◌++◌, length, map, Option, Some, None}
+use Rattle.std.specs.List.{AllByRecursion, flat_map}
+use Rattle.leg_masks.specs.Interval.{items_at, pieces}
 use Rattle.leg_masks.specs.Interval.{PlacedSpan as Item}
 use Rattle.place_map.specs.Candidates.{candidates_of}
 use Rattle.offer_codes.specs.declared.code.Segment.{Segment}
 use Rattle.offer_codes.specs.Offers.{OfferView}
 use Rattle.rail_catalogue.specs.Contents.{CatalogueView}
+use Rattle.history_model.specs.Lists.{Pairwise}
 use Rattle.claim_rule.specs.Rule.{DeskView}
 use Rattle.claim_rule.specs.Seats.{Shape}
 use Rattle.claim_rule.specs.Calls.{ShapeBy}
@@ -21,6 +24,10 @@ use Rattle.reservation_service.specs.declared.holding.Placing.TheVariants.{Whole
 -- one place for each passenger
 abbrev pub count_of : OfferView → ℕ
 count_of o = o.adults + o.children
+
+-- how many items the passengers take at a segment: for each an item for each piece of the span
+abbrev pub items_wanted : OfferView → Segment → ℕ
+items_wanted o s = count_of o * length (pieces s.span)
 
 -- the places that a segment of the offer may have
 abbrev pub candidates_in : CatalogueView → OfferView → Segment → List ℕ
@@ -70,14 +77,18 @@ abbrev pub In : ℕ → List ℕ → Type 0
 In p [] = ⊥
 In p (q ∷ rest) = (p ≡ q) ⊎ In p rest
 
--- items of the segment, each at one of the candidates and with the segment's span
-abbrev pub AreOf : Segment → List ℕ → List Item → Type 0
-AreOf s candidates [] = Unit {0}
-AreOf s candidates (i ∷ rest) = (i.span ≡ s.span) × In i.place candidates × AreOf s candidates rest
+-- the items of so many passengers at a segment: each has a place of the candidates, all of these are different, and at each in turn there
+-- are exactly the pieces of the segment's span
+pub record AreOf (s : Segment) (count : ℕ) (candidates : List ℕ) (items : List Item) : Type 0 where
+  pub places : List ℕ
+  pub many : length places ≡ count
+  pub among : AllByRecursion (λ p. In p candidates) places
+  pub different : Pairwise (λ p q. p ≢ q) places
+  pub are : items ≡ flat_map (items_at s.span) places
 
--- for each segment in order one item per passenger
+-- for each segment in order the items of all passengers, and nothing else
 abbrev pub HasAllPlaces : CatalogueView → OfferView → List Segment → List Item → Type 0
 HasAllPlaces cat o [] items = items ≡ []
 HasAllPlaces cat o (s ∷ rest) items =
-    (mine : List Item) × (more : List Item) × (length mine ≡ count_of o) × AreOf s (candidates_in cat o s) mine
+    (mine : List Item) × (more : List Item) × AreOf s (count_of o) (candidates_in cat o s) mine
     × HasAllPlaces cat o rest more × (items ≡ mine ++ more)

@@ -10,9 +10,10 @@ use Rattle.offer_engine.specs.Offers.{offer_price}
 use Rattle.history_model.specs.declared.entry.Step.TheVariants.{Seal}
 use Rattle.history_model.specs.declared.phase.Phase.{Phase}
 use Rattle.history_model.specs.declared.phase.Phase.TheVariants as phase
-use Rattle.claim_rule.specs.Rule.{DeskView}
+use Rattle.history_model.specs.Allowed.{OnRow}
+use Rattle.claim_rule.specs.Rule.{DeskView, state_seen}
 use Rattle.claim_rule.specs.Seats.{Shape}
-use Rattle.claim_rule.specs.Out.{SealsItems}
+use Rattle.claim_rule.specs.Out.{Makes, SealsItems}
 use Rattle.booking_rows.specs.declared.notes.Detail.{Detail}
 use Rattle.booking_rows.specs.Notes.{detail_notes}
 use Rattle.booking_rows.specs.Views.{RowSeen}
@@ -69,11 +70,16 @@ abbrev pub Reserves : CatalogueView → ℕ → ℕ → OfferView → DeskView �
 Reserves cat retailer now o old new reply =
     Prebooks cat retailer now o old new reply ⊎ (FailsToHold cat o old new reply ⊎ (Falters cat o old new × (reply ≡ problem NoMemory)))
 
--- the new booking has all its places; after any other answer a desk that is idle again holds none
+-- the desk's row in the making, where it has one, has no item
+abbrev pub HasNoItem : DeskView → Type 0
+HasNoItem desk = (row : ℕ) → Makes desk row → OnRow (state_seen desk) row (λ b. b.items ≡ [])
+
+-- the booking that the seal left has all its places, and nothing else; after any other answer the desk has none
 abbrev pub HasAllOrNone : CatalogueView → OfferView → DeskView → DeskView → Reply → Type 0
 HasAllOrNone cat o old new (created row v) = SealsItems old new row phase.Prebooked v.items × HasAllPlaces cat o o.segments v.items
-HasAllOrNone cat o old new (exchanged row v difference replaced) = SealsItems old new row phase.Confirmed v.items × HasAllPlaces cat o o.segments v.items
-HasAllOrNone cat o old new reply = Unit {0}
+HasAllOrNone cat o old new (exchanged row v difference replaced) =
+    SealsItems old new row phase.Confirmed v.items × HasAllPlaces cat o o.segments v.items
+HasAllOrNone cat o old new reply = HasNoItem new
 
 -- such a reply, which has all places or none, and what is told of it
 abbrev pub AnswersReserving : CatalogueView → ℕ → ℕ → OfferView → DeskView → DeskView → Told → Type 0

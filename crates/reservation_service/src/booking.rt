@@ -95,7 +95,8 @@ pub fn reserve_places(
     ensures idle { IsIdle desk.new }
     ensures tidy { IsTidy desk.old → IsTidy desk.new }
     ensures answer { AnswersReserving shop.now.cat.now asker.retailer.0 asker.moment
-        (reserved reservation.segment reservation.class reservation.count reservation.traits asker.moment) desk.old desk.new (told_of result) }
+        (reserved reservation.segment reservation.class reservation.count reservation.traits asker.moment)
+        desk.old desk.new (told_of result) }
 {
     let mut segments = ArrayVec::new();
     segments.push(reservation.segment);

@@ -8,7 +8,7 @@ ghost use Rattle.offer_engine.specs.Codes.{is_of_runs};
 ghost use Rattle.history_model.specs.Booking.{most_items};
 ghost use Rattle.claim_rule.specs.Seats.{IsOf};
 ghost use Rattle.claim_rule.specs.Out.{IsHolding, HasNotedItems, HoldsNone, KeepsEndings};
-ghost use Rattle.reservation_service.specs.Holding.{PlacesAll, HoldsPlaces, FindsNoRow, count_of, problem_of};
+ghost use Rattle.reservation_service.specs.Holding.{PlacesAll, HoldsPlaces, FindsNoRow, items_wanted, problem_of};
 
 use booking_rows::start_hold;
 use claim_rule::{Desk, Hold};
@@ -51,11 +51,11 @@ pub struct Held {
     pub placing: Placing,
 }
 
-/// Starts a hold, and adds a place for each passenger at each segment in order, up to the first segment that lacks one. `None` where no
-/// row is free.
+/// Starts a hold, and adds a place for each passenger at each segment in order, up to the first segment that lacks one:
+/// an item for each piece of the segment's span. `None` where no row is free.
 ///
-/// The books have the catalogue's places, each segment's run holds its span, and there are one to eight passengers. A hold keeps what it
-/// won: after another placing than `Whole` the caller abandons it.
+/// The books have the catalogue's places, each segment's run holds its span, and there are one to eight passengers. A
+/// hold keeps what it won: after another placing than `Whole` the caller abandons it.
 pub fn hold_places(shop: &Shop<'_>, desk: &mut Desk, offer: &OfferCode) -> Option<Held>
     requires own { IsOf shop.now.books.now desk.old }
     requires legs { shop.now.books.now.layout.legs ≡ legs_in shop.now.cat.now }
@@ -63,7 +63,8 @@ pub fn hold_places(shop: &Shop<'_>, desk: &mut Desk, offer: &OfferCode) -> Optio
     requires party { is_party offer.now.adults offer.now.children ≡ true }
     requires runs { list_all (is_of_runs shop.now.cat.now.runs) offer.now.segments.items ≡ true }
     ensures own { IsOf shop.now.books.now desk.new }
-    ensures placed { IfSome result (λ held. HoldsPlaces shop.now.cat.now (offer_view offer.now) offer.now.segments.items held.hold.row held.placing held.hold.items desk.old desk.new) }
+    ensures placed { IfSome result (λ held. HoldsPlaces shop.now.cat.now (offer_view offer.now) offer.now.segments.items
+        held.hold.row held.placing held.hold.items desk.old desk.new) }
     ensures hold { IfSome result (λ held. IsHolding desk.new held.hold) }
     ensures noted { IfSome result (λ held. HasNotedItems desk.new held.hold) }
     ensures no_row { IfNone result (FindsNoRow desk.old desk.new) }
@@ -86,7 +87,8 @@ fn place_segments(shop: &Shop<'_>, desk: &mut Desk, hold: &mut Hold, offer: &Off
     requires runs { list_all (is_of_runs shop.now.cat.now.runs) offer.now.segments.items ≡ true }
     ensures own { IsOf shop.now.books.now desk.new }
     ensures row { hold.new.row ≡ hold.old.row }
-    ensures placed { PlacesAll shop.now.cat.now (offer_view offer.now) hold.old.row [] offer.now.segments.items result hold.new.items desk.old desk.new }
+    ensures placed { PlacesAll shop.now.cat.now (offer_view offer.now) hold.old.row [] offer.now.segments.items
+        result hold.new.items desk.old desk.new }
     ensures hold { IsHolding desk.new hold.new }
     ensures noted { HasNotedItems desk.new hold.new }
     ensures endings { KeepsEndings desk.old desk.new }
@@ -114,10 +116,11 @@ fn place_segment(
     requires noted { HasNotedItems desk.old hold.old }
     requires party { is_party offer.now.adults offer.now.children ≡ true }
     requires run { is_of_runs shop.now.cat.now.runs segment ≡ true }
-    requires room { length hold.old.items + count_of (offer_view offer.now) ≤ most_items }
+    requires room { length hold.old.items + items_wanted (offer_view offer.now) segment ≤ most_items }
     ensures own { IsOf shop.now.books.now desk.new }
     ensures row { hold.new.row ≡ hold.old.row }
-    ensures placed { PlacesAll shop.now.cat.now (offer_view offer.now) hold.old.row hold.old.items (segment ∷ []) result hold.new.items desk.old desk.new }
+    ensures placed { PlacesAll shop.now.cat.now (offer_view offer.now) hold.old.row hold.old.items (segment ∷ [])
+        result hold.new.items desk.old desk.new }
     ensures hold { IsHolding desk.new hold.new }
     ensures noted { HasNotedItems desk.new hold.new }
     ensures endings { KeepsEndings desk.old desk.new }
@@ -148,13 +151,15 @@ fn place_among(
     requires noted { HasNotedItems desk.old hold.old }
     requires party { is_party offer.now.adults offer.now.children ≡ true }
     requires run { is_of_runs shop.now.cat.now.runs segment ≡ true }
-    requires room { length hold.old.items + count_of (offer_view offer.now) ≤ most_items }
-    requires candidates { candidates.now ≡ candidates_of segment.run.0 offer.now.class offer.now.wanted shop.now.cat.now.places }
+    requires room { length hold.old.items + items_wanted (offer_view offer.now) segment ≤ most_items }
+    requires candidates { candidates.now
+        ≡ candidates_of segment.run.0 offer.now.class offer.now.wanted shop.now.cat.now.places }
     requires of_run { AllByRecursion (IsOfRun segment.run.0 shop.now.cat.now.places) candidates.now }
     requires rising { AreRising 0 candidates.now }
     ensures own { IsOf shop.now.books.now desk.new }
     ensures row { hold.new.row ≡ hold.old.row }
-    ensures placed { PlacesAll shop.now.cat.now (offer_view offer.now) hold.old.row hold.old.items (segment ∷ []) result hold.new.items desk.old desk.new }
+    ensures placed { PlacesAll shop.now.cat.now (offer_view offer.now) hold.old.row hold.old.items (segment ∷ [])
+        result hold.new.items desk.old desk.new }
     ensures hold { IsHolding desk.new hold.new }
     ensures noted { HasNotedItems desk.new hold.new }
     ensures endings { KeepsEndings desk.old desk.new }

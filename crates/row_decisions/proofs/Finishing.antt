@@ -1,5 +1,5 @@
 -- A turn to an end, the gives of all items, and the close.
-use Rattle.std.proofs.Common.{◌≡◌, ℕ, zero, suc, ◌-◌, ◌≤◌, true, List, [], ◌∷◌, ◌++◌, map, length, refl, sym, ap, ◌∙◌, subst, arith, length-append}
+use Rattle.std.proofs.Common.{◌≡◌, ℕ, zero, suc, ◌-◌, ◌≤◌, true, List, [], ◌∷◌, ◌++◌, map, length, refl, sym, ap, ◌∙◌, subst, arith, length-append, ◌+◌, ◌*◌}
 use Rattle.std.proofs.lemmas.List.{length-map}
 use Rattle.leg_masks.specs.Interval.{PlacedSpan as Item}
 use Rattle.history_model.specs.declared.booking.End.{End}
@@ -62,7 +62,7 @@ gives_length : (row k n : ℕ) → length (gives_from row k n) ≡ n
 gives_length row k zero = refl
 gives_length row k (suc n) = ap suc (gives_length row (suc k) n)
 
-pub ends_length : (row : ℕ) (from : Phase) (kind : EndKind) (end : End) (items : List Item) → length items ≤ most_items → length (ends_as row from kind end items) ≤ 54
+pub ends_length : (row : ℕ) (from : Phase) (kind : EndKind) (end : End) (items : List Item) → length items ≤ most_items → length (ends_as row from kind end items) ≤ 2 * most_items + 6
 ends_length row from kind end items few =
     let a = length-append (items_read row items) (ending_steps row kind end items) in
     let b = length-append (gives_from row 0 (length items)) (closing row kind end) in

@@ -5,7 +5,8 @@ use Rattle.std.specs.Prelude.{All}
 use Rattle.std.proofs.lemmas.Bool.Decides.{nat_tests}
 use Rattle.std.proofs.lemmas.List.Elements.{All-from_recursion, recursion_from_All}
 use Rattle.rail_time.specs.Moments.{last_second}
-use Rattle.train_runs.specs.Stops.{RunView}
+use Rattle.leg_masks.specs.Interval.{most_legs}
+use Rattle.train_runs.specs.Stops.{RunView, most_stops}
 use Rattle.train_runs.specs.Runs.{RunsView, most_runs}
 use Rattle.offer_codes.specs.declared.code.Segment.{Segment}
 use Rattle.offer_codes.specs.declared.code.Offer.{Offer}
@@ -30,20 +31,20 @@ abbrev pub IsSpelled : List Segment → Type 0
 IsSpelled trip = (1 ≤ length trip) × (length trip ≤ 3) × AllByRecursion HasRanges trip
 
 abbrev pub HasFewStops : RunView → Type 0
-HasFewStops it = length it.stops ≤ 64
+HasFewStops it = length it.stops ≤ most_stops
 
-segment_ranges : (run from to : ℕ) → run ≤ 4095 → from < to → to ≤ 63 → HasRanges (segment run from to)
+segment_ranges : (run from to : ℕ) → run ≤ 4095 → from < to → to ≤ most_legs → HasRanges (segment run from to)
 segment_ranges run from to a b c =
     let x : nat_le run 4095 ≡ true = grind (arith, nat_tests) in
     let y : nat_lt from to ≡ true = grind (arith, nat_tests) in
-    let z : nat_le to 63 ≡ true = grind (arith, nat_tests) in
+    let z : nat_le to most_legs ≡ true = grind (arith, nat_tests) in
     rw (x, y, z) refl
 
-to_ranges : (run from to n : ℕ) → run ≤ 4095 → from < to → to + n ≤ 64 → AllByRecursion HasRanges (segments_to run from to n)
+to_ranges : (run from to n : ℕ) → run ≤ 4095 → from < to → to + n ≤ most_stops → AllByRecursion HasRanges (segments_to run from to n)
 to_ranges run from to zero a b c = tt
 to_ranges run from to (suc n) a b c = (segment_ranges run from to a b (omega arith), to_ranges run from (to + 1) n a (omega arith) (omega arith))
 
-from_ranges : (run from n : ℕ) → run ≤ 4095 → from + n ≤ 64 → AllByRecursion HasRanges (segments_from run from n)
+from_ranges : (run from n : ℕ) → run ≤ 4095 → from + n ≤ most_stops → AllByRecursion HasRanges (segments_from run from n)
 from_ranges run from zero a c = tt
 from_ranges run from (suc n) a c =
     every_append HasRanges (segments_to run from (from + 1) n) (segments_from run (from + 1) n) (to_ranges run from (from + 1) n a (omega arith) (omega arith)) (from_ranges run (from + 1) n a (omega arith))

@@ -3,10 +3,10 @@ use Rattle.std.proofs.Common.{◌≡◌, ◌∙◌, ℕ, ◌+◌, ◌<◌, ◌�
 use Rattle.std.specs.Prelude.{All, IfSome, Option, Some, None, option_map, slice_get}
 use Rattle.std.proofs.lemmas.Option.{slice_get-get_or}
 use Rattle.std.proofs.lemmas.List.Elements.{All-more}
-use Rattle.train_runs.specs.Stops.{RunView, IsRun}
+use Rattle.train_runs.specs.Stops.{RunView, IsRun, most_stops}
 
 abbrev HasFewStops : RunView → Type 0
-HasFewStops it = length it.stops ≤ 64
+HasFewStops it = length it.stops ≤ most_stops
 
 found_stops : {R : Type 0} (see : R → RunView) (n : ℕ) (found : Option R) (at : Option RunView) → option_map see found ≡ at → IfSome found (λ r. IsRun n (see r)) → IfSome at HasFewStops
 found_stops see n (Some r) at e sound = subst (λ o. IfSome o HasFewStops) e sound.many

@@ -11,11 +11,11 @@ use Rattle.claim_rule.proofs.Noting.{noted_takes, noted_gives}
 use Rattle.claim_rule.proofs.Holding.{take_front}
 use Rattle.claim_rule.proofs.Out.{hold_only, hold_endings, looks_holds, looks_endings}
 
-pub looked_holds : (p n : ℕ) (old new : DeskView) → Stepped (Look p n) old new → KeepsHolds old new
-looked_holds p n old new did = looks_holds old new (Look p n ∷ []) (step_shape (Look p n) old new did) did.same.5 (refl, tt)
+pub looked_holds : (p k n : ℕ) (old new : DeskView) → Stepped (Look p k n) old new → KeepsHolds old new
+looked_holds p k n old new did = looks_holds old new (Look p k n ∷ []) (step_shape (Look p k n) old new did) did.same.5 (refl, tt)
 
-pub looked_endings : (p n : ℕ) (old new : DeskView) → Stepped (Look p n) old new → KeepsEndings old new
-looked_endings p n old new did = looks_endings old new (Look p n ∷ []) (step_shape (Look p n) old new did) (refl, tt)
+pub looked_endings : (p k n : ℕ) (old new : DeskView) → Stepped (Look p k n) old new → KeepsEndings old new
+looked_endings p k n old new did = looks_endings old new (Look p k n ∷ []) (step_shape (Look p k n) old new did) (refl, tt)
 
 -- won
 
@@ -33,11 +33,11 @@ won_endings old new hold i did was = hold_endings old new (Take hold.row i.place
 
 -- missed
 
-pub missed_hold : (old new : DeskView) (hold now : HoldView) (p n : ℕ) → Stepped (Look p n) old new → now ≡ hold → IsHolding old hold → IsHolding new now
-missed_hold old new hold now p n did is was = subst (IsHolding new) (sym is) ((looked_holds p n old new did).hold hold was)
+pub missed_hold : (old new : DeskView) (hold now : HoldView) (p k n : ℕ) → Stepped (Look p k n) old new → now ≡ hold → IsHolding old hold → IsHolding new now
+missed_hold old new hold now p k n did is was = subst (IsHolding new) (sym is) ((looked_holds p k n old new did).hold hold was)
 
-pub missed_noted : (old new : DeskView) (hold now : HoldView) (p n : ℕ) → Stepped (Look p n) old new → now ≡ hold → IsHolding old hold → HasNotedItems old hold → HasNoted new now.row hold.items
-missed_noted old new hold now p n did is was on = subst (λ (h : HoldView). HasNoted new h.row hold.items) (sym is) ((looked_holds p n old new did).noted hold hold.items was on)
+pub missed_noted : (old new : DeskView) (hold now : HoldView) (p k n : ℕ) → Stepped (Look p k n) old new → now ≡ hold → IsHolding old hold → HasNotedItems old hold → HasNoted new now.row hold.items
+missed_noted old new hold now p k n did is was on = subst (λ (h : HoldView). HasNoted new h.row hold.items) (sym is) ((looked_holds p k n old new did).noted hold hold.items was on)
 
 -- given back
 

@@ -9,7 +9,7 @@
 ghost use Rattle.std.specs.Prelude.{ℕ, ◌≡◌, ◌≢◌, ◌<◌, ◌≤◌, ◌-◌, true, List, [], ◌∷◌, length, slice_index};
 ghost use Rattle.history_model.specs.declared.entry.Step.TheVariants.{Look, Give};
 ghost use Rattle.history_model.specs.Booking.{most_items};
-ghost use Rattle.leg_masks.specs.Interval.{IsClear, PlacedSpan as Item};
+ghost use Rattle.leg_masks.specs.Interval.{IsClear, IsPiece, PlacedSpan as Item, halves};
 ghost use Rattle.claim_rule.specs.Seats.{IsOf, Shape};
 ghost use Rattle.claim_rule.specs.Holds.{with_one};
 ghost use Rattle.claim_rule.specs.Out.{IsHolding, IsEnding, HasNoted, HasNotedButLast, HasNotedItems, KeepsHolds, KeepsEndings};
@@ -20,16 +20,17 @@ use claim_rule::{Books, Desk, Ending, Hold};
 use leg_masks::{Span, free_on};
 use rail_ids::PlaceNo;
 
-/// One look at a place: its word, in which bit l is set where leg l is taken.
-pub fn glance(books: &Books, desk: &mut Desk, place: PlaceNo) -> u64
+/// One look at a half of a place: its word. Bit b of half 0 is set where leg b is taken, of half 1 where leg b + 63 is.
+pub fn glance(books: &Books, desk: &mut Desk, place: PlaceNo, half: u8) -> u64
     requires own { IsOf books.now desk.old }
     requires place { place.0 < length books.now.layout.legs }
+    requires half { half < halves }
     ensures own { IsOf books.now desk.new }
-    ensures entries { Shape desk.old desk.new (Look place.0 result ∷ []) }
+    ensures entries { Shape desk.old desk.new (Look place.0 half result ∷ []) }
     ensures holds { KeepsHolds desk.old desk.new }
     ensures endings { KeepsEndings desk.old desk.new }
 {
-    books.step_look(desk, place)
+    books.step_look(desk, place, half)
 }
 
 /// What a try to take legs answers.
@@ -37,14 +38,14 @@ pub fn glance(books: &Books, desk: &mut Desk, place: PlaceNo) -> u64
 pub enum Take {
     /// The legs are taken, and the hold has the item.
     Won,
-    /// The word shown, unlike the one expected, has a leg of the span.
+    /// The word shown, unlike the one expected, has a leg of the piece.
     Taken { shown: u64 },
-    /// The word shown, unlike the one expected, is free on the span.
+    /// The word shown, unlike the one expected, is free on the piece.
     Moving { shown: u64 },
 }
 
-/// Takes legs of a place by one compare and exchange, where its word is still the one expected. The word expected is free on the
-/// span, and the hold has fewer than 24 items.
+/// Takes legs of a place, which lie in one half, by one compare and exchange, where the word of that half is still the one
+/// expected. The word expected is free on them, and the hold has fewer than 48 items.
 pub fn try_take(
     books: &Books,
     desk: &mut Desk,
@@ -57,6 +58,7 @@ pub fn try_take(
     requires hold { IsHolding desk.old hold.old }
     requires room { length hold.old.items < most_items }
     requires place { place.0 < length books.now.layout.legs }
+    requires piece { IsPiece span }
     requires legs { span.to ≤ slice_index books.now.layout.legs place.0 }
     requires free { IsClear expected span }
     ensures own { IsOf books.now desk.new }

@@ -20,7 +20,7 @@ AnswersBy cat retailer now c None old new reply = Performs cat retailer now c ol
 abbrev pub Answers : CatalogueView → ℕ → ℕ → Command → DeskView → DeskView → Reply → Type 0
 Answers cat retailer now c old new reply = AnswersBy cat retailer now c (command_fault cat now c) old new reply
 
--- a booking that was made has all its places
+-- a booking that was made has all its places; after any other answer to such a command the desk's row in the making has no item
 abbrev pub BooksAllOrNone : CatalogueView → ℕ → Command → DeskView → DeskView → Reply → Type 0
 BooksAllOrNone cat now (command.Book (Some code)) old new reply = HasAllOrNone cat (offer_view code) old new reply
 BooksAllOrNone cat now (command.Reserve segment class count wanted) old new reply = HasAllOrNone cat (reserved segment class count wanted now) old new reply

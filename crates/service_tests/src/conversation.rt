@@ -20,7 +20,7 @@ pub fn check(
     books: &Books,
     desk: &mut Desk,
     seconds: &[u32],
-    input: &str,
+    input: &[u8],
     fails: (u64, u64),
     end: ConnEnd,
     output: &str,
@@ -33,7 +33,7 @@ pub fn check(
     ensures idle { IsIdle desk.new }
 {
     let alloc = rt.alloc();
-    let mut source = BytesSource::new(input.as_bytes().to_vec(alloc)?, vec![in alloc; fails.0]?);
+    let mut source = BytesSource::new(input.to_vec(alloc)?, vec![in alloc; fails.0]?);
     let mut sink = VecSink::new(alloc, vec![in alloc; fails.1]?);
     let mut readings = Vec::new(alloc);
     for second in seconds {
@@ -43,15 +43,15 @@ pub fn check(
     assert!(rt; some);
     let mut clock = ListClock::new(readings);
     let ended = serve_connection(alloc, cat, books, desk, &mut source, &mut sink, &mut clock);
-    assert_eq!(rt; ended, end, "{input:?}");
-    assert_eq!(rt; sink.taken(), output.as_bytes(), "{input:?}");
+    assert_eq!(rt; ended, end, "{output:?}");
+    assert_eq!(rt; sink.taken(), output.as_bytes());
     Ok(())
 }
 
 /// The same with nothing booked, all at 06:00.
 pub fn check_alone(
     rt: &(impl Abort + AllocGlobal),
-    input: &str,
+    input: &[u8],
     fails: (u64, u64),
     end: ConnEnd,
     output: &str,
@@ -95,7 +95,7 @@ pub fn converse(
         books,
         desk,
         seconds,
-        input.as_str(),
+        input.as_bytes(),
         (0, 0),
         ConnEnd::Done,
         output.as_str(),

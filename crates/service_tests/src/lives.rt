@@ -1,5 +1,5 @@
 use crate::conversation::converse_alone;
-use sample_shop::{ask, refused, told};
+use sample_shop::{Asked, Wanted, ask, refused, told};
 use std::test::Fail;
 
 const SEARCH: &str =
@@ -17,9 +17,12 @@ pub const CONFIRMED: &str =
 pub const FULFILLED: &str =
     r#"{"confirmableUntil":"2026-06-01T06:20:00Z","id":"B000000","price":{"amount":4250,"currency":"EUR","scale":2},"reservations":[{"coach":2,"from":"BASEL","place":11,"run":0,"to":"BERN","train":501},{"coach":2,"from":"BASEL","place":12,"run":0,"to":"BERN","train":501},{"coach":2,"from":"BASEL","place":13,"run":0,"to":"BERN","train":501},{"coach":1,"from":"BERN","place":11,"run":1,"to":"THUN","train":812},{"coach":1,"from":"BERN","place":12,"run":1,"to":"THUN","train":812},{"coach":1,"from":"BERN","place":13,"run":1,"to":"THUN","train":812}],"settled":false,"status":"FULFILLED"}"#;
 
-#[test]
-fn usual_life(rt: HostRuntime) -> Result<(), Fail> {
-    let turns = [
+/// When each request of the usual life comes, in seconds after 06:00.
+pub const USUAL_SECONDS: [u32; 4] = [0, 300, 360, 420];
+
+/// A search, a booking of its offer, the confirmation and the collected ticket.
+pub fn usual_turns() -> [(Asked, Wanted); 4] {
+    [
         (
             ask("north", "POST /offers", SEARCH),
             told("200 OK", OFFERED),
@@ -44,9 +47,12 @@ fn usual_life(rt: HostRuntime) -> Result<(), Fail> {
             ),
             told("200 OK", FULFILLED),
         ),
-    ];
-    let seconds = [0, 300, 360, 420];
-    converse_alone(&rt, 64, seconds.as_slice(), turns.as_slice())
+    ]
+}
+
+#[test]
+fn usual_life(rt: HostRuntime) -> Result<(), Fail> {
+    converse_alone(&rt, 64, USUAL_SECONDS.as_slice(), usual_turns().as_slice())
 }
 
 const TO_BERN: &str = r#"{"class":"SECOND","from":"BASEL","run":0,"to":"BERN"}"#;

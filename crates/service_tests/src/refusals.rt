@@ -1,5 +1,4 @@
 use crate::conversation::{check_alone, converse, converse_alone};
-use http_wire::WireFault;
 use sample_shop::{
     Wanted, answer_text, ask, open_books, refused, request_text, sample_with_rows, told,
 };
@@ -61,7 +60,7 @@ fn other_retailer() -> Wanted {
     refused("403 Forbidden", OTHER_RETAILER)
 }
 
-fn no_route() -> Wanted {
+pub fn no_route() -> Wanted {
     refused("404 Not Found", NO_ROUTE)
 }
 
@@ -69,7 +68,7 @@ fn no_method() -> Wanted {
     refused("405 Method Not Allowed", NO_METHOD)
 }
 
-fn not_json() -> Wanted {
+pub fn not_json() -> Wanted {
     refused("400 Bad Request", NOT_JSON)
 }
 
@@ -109,52 +108,6 @@ fn refusals_in_their_order(rt: HostRuntime) -> Result<(), Fail> {
 }
 
 #[test]
-fn wire_refusals(rt: HostRuntime) -> Result<(), Fail> {
-    for (lines, fault, status, body) in [
-        (
-            "Content-Length: 3\r\nContent-Length: 4",
-            WireFault::BadLength,
-            "400 Bad Request",
-            r#"{"code":"BadLength","status":400,"title":"Bad length"}"#,
-        ),
-        (
-            "Content-Length: 262145",
-            WireFault::BodyTooLarge,
-            "413 Content Too Large",
-            r#"{"code":"BodyTooLarge","status":413,"title":"Body too large"}"#,
-        ),
-        (
-            "Transfer-Encoding: chunked",
-            WireFault::Coding,
-            "501 Not Implemented",
-            r#"{"code":"Coding","status":501,"title":"Coding not supported"}"#,
-        ),
-    ] {
-        let alloc = rt.alloc();
-        let input = format!(in alloc; "POST /offers HTTP/1.1\r\n{lines}\r\n\r\n")?;
-        let output = answer_text(alloc, refused(status, body), "Connection: close\r\n")?;
-        let end = ConnEnd::Refused(fault);
-        check_alone(&rt, input.as_str(), (0, 0), end, output.as_str())?;
-    }
-    Ok(())
-}
-
-#[test]
-fn failing_source_and_sink(rt: HostRuntime) -> Result<(), Fail> {
-    let alloc = rt.alloc();
-    let input = request_text(alloc, ask("north", "GET /nowhere", ""))?;
-    let output = answer_text(alloc, no_route(), "")?;
-    check_alone(
-        &rt,
-        input.as_str(),
-        (2, 0),
-        ConnEnd::ReadFault,
-        output.as_str(),
-    )?;
-    check_alone(&rt, input.as_str(), (0, 1), ConnEnd::WriteFault, "")
-}
-
-#[test]
 fn cut_in_a_body(rt: HostRuntime) -> Result<(), Fail> {
     let alloc = rt.alloc();
     let mut input = request_text(alloc, ask("north", "GET /bookings/B000000", ""))?;
@@ -162,7 +115,7 @@ fn cut_in_a_body(rt: HostRuntime) -> Result<(), Fail> {
         "POST /offers HTTP/1.1\r\nRetailer-Key: north\r\nContent-Length: 10\r\n\r\n{\"ad",
     )?;
     let output = answer_text(alloc, refused("404 Not Found", UNKNOWN), "")?;
-    check_alone(&rt, input.as_str(), (0, 0), ConnEnd::Cut, output.as_str())
+    check_alone(&rt, input.as_bytes(), (0, 0), ConnEnd::Cut, output.as_str())
 }
 
 const RESERVE: &str = r#"{"class":"SECOND","from":"BASEL","run":0,"to":"BERN"}"#;
@@ -170,7 +123,7 @@ const RESERVE: &str = r#"{"class":"SECOND","from":"BASEL","run":0,"to":"BERN"}"#
 const RESERVED: &str =
     r#"{"confirmableUntil":"2026-06-01T06:17:00Z","id":"B000000","price":{"amount":1100,"currency":"EUR","scale":2},"reservations":[{"coach":2,"from":"BASEL","place":11,"run":0,"to":"BERN","train":501}],"settled":false,"status":"PREBOOKED"}"#;
 
-fn unknown_booking() -> Wanted {
+pub fn unknown_booking() -> Wanted {
     refused("404 Not Found", UNKNOWN)
 }
 
@@ -275,7 +228,13 @@ fn last_requests(rt: HostRuntime) -> Result<(), Fail> {
         } else {
             format!(in alloc; "{answer}{answer}{answer}")?
         };
-        check_alone(&rt, input.as_str(), (0, 0), ConnEnd::Done, output.as_str())?;
+        check_alone(
+            &rt,
+            input.as_bytes(),
+            (0, 0),
+            ConnEnd::Done,
+            output.as_str(),
+        )?;
     }
     Ok(())
 }

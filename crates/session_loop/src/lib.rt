@@ -15,6 +15,3 @@ pub use end::ConnEnd;
 pub use responder::Responder;
 pub use session::run_session;
 pub use writing::write_all;
-
-#[cfg(test)]
-mod tests;

@@ -1,6 +1,14 @@
 -- What a segment costs.
 use Rattle.std.specs.Prelude.{ℕ, ◌+◌, ◌*◌, ◌/◌}
 
+-- how many legs are priced at once at most: those of the longest run
+abbrev pub most_priced_legs : ℕ
+most_priced_legs = 126
+
+-- the greatest price of a segment: eight adults on the longest run at the greatest fare
+abbrev pub greatest_price : ℕ
+greatest_price = 10_160_000_000
+
 -- what contracts see of a fare
 pub record FareAmounts : Type 0 where
   pub base : ℕ

@@ -1,15 +1,15 @@
 ghost use Rattle.std.specs.Prelude.{◌≡◌, ◌≤◌, ◌+◌};
-ghost use Rattle.tariff.specs.Prices.{price_of};
+ghost use Rattle.tariff.specs.Prices.{greatest_price, most_priced_legs, price_of};
 
 use crate::Fare;
 
 /// The price of these many legs of one run for all passengers. An adult pays the base and the amount for each leg; a child
 /// pays half of that, rounded down.
 pub fn price(fare: Fare, legs: u8, adults: u8, children: u8) -> u64
-    requires legs { legs ≤ 63 }
+    requires legs { legs ≤ most_priced_legs }
     requires passengers { adults + children ≤ 8 }
     ensures price { result ≡ price_of fare legs adults children }
-    ensures bound { result ≤ 5_120_000_000 }
+    ensures bound { result ≤ greatest_price }
 {
     let adult = u64::from(fare.base) + u64::from(fare.per_leg) * u64::from(legs);
     let child = adult * 5000 / 10_000;
@@ -29,10 +29,10 @@ mod tests {
             (400, 200, 1, 2, 1, 1500),
             (1000, 600, 2, 1, 0, 2200),
             (1, 1, 2, 0, 3, 3),
-            (10_000_000, 10_000_000, 63, 8, 0, 5_120_000_000),
+            (10_000_000, 10_000_000, 126, 8, 0, 10_160_000_000),
         ] {
             assert!(rt; base <= 10_000_000 && per_leg <= 10_000_000);
-            assert!(rt; legs <= 63 && adults <= 8 && children <= 8 - adults);
+            assert!(rt; legs <= 126 && adults <= 8 && children <= 8 - adults);
             let fare = Fare { base, per_leg };
             assert_eq!(rt;
                 price(fare, legs, adults, children),

@@ -1,8 +1,7 @@
 -- Calls on refunds leave a tidy desk tidy.
-use Rattle.std.proofs.Common.{◌≡◌, inl, inr, ℕ, suc, zero, true, false, List, [], ◌∷◌, ◌++◌, length, refl, sym, subst}
+use Rattle.std.proofs.Common.{inl, inr, ℕ, suc, zero, List, [], ◌∷◌, ◌++◌, length, refl, sym, subst}
 use Rattle.leg_masks.specs.Interval.{PlacedSpan as Item}
 use Rattle.history_model.specs.declared.entry.Step.{Step}
-use Rattle.history_model.specs.declared.phase.Phase.{Phase}
 use Rattle.history_model.specs.declared.phase.EndKind.TheVariants.{Refund}
 use Rattle.history_model.specs.declared.booking.End.{End}
 use Rattle.history_model.specs.Work.{NoStep}
@@ -17,7 +16,7 @@ use Rattle.booking_rows.specs.declared.turns.Aim.TheVariants as aim
 use Rattle.booking_rows.proofs.ViewLemmas.{row_all_looks}
 use Rattle.rail_catalogue.specs.Contents.{CatalogueView}
 use Rattle.offer_codes.specs.declared.code.RefundCode.{RefundCode}
-use Rattle.refund_core.specs.Quotes.{SeesOwn, SeesNone, phase_named}
+use Rattle.refund_core.specs.Quotes.{SeesOwn, SeesNone}
 use Rattle.refund_core.specs.Refunding.{QuotesRefund, AcceptsRefund}
 use Rattle.refund_core.specs.declared.quoting.Quoted.{Quoted}
 use Rattle.refund_core.specs.declared.quoting.Quoted.TheVariants as quoted

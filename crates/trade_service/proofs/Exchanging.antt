@@ -1,5 +1,5 @@
 -- The replies to commands on exchanges.
-use Rattle.std.proofs.Common.{◌≡◌, ◌⊎◌, ◌∙◌, inl, inr, ⊎_elim, ℕ, ℤ, ◌≤◌, Bool, true, List, length, Option, Some, None, refl, sym, subst}
+use Rattle.std.proofs.Common.{◌≡◌, ◌∙◌, inl, inr, ℕ, ℤ, ◌≤◌, true, List, length, Some, None, refl, sym, subst}
 use Rattle.std.specs.Prelude.{nat_le}
 use Rattle.std.proofs.lemmas.Bool.{leb-true}
 use Rattle.leg_masks.specs.Interval.{PlacedSpan as Item}
@@ -33,11 +33,11 @@ use Rattle.history_model.specs.declared.phase.Phase.TheVariants as phase
 use Rattle.reservation_service.specs.declared.holding.Placing.{Placing}
 use Rattle.reservation_service.specs.declared.holding.Placing.TheVariants.{Whole}
 use Rattle.reservation_service.specs.Holding.{HoldsPlaces, FindsNoRow, GivesUp, problem_of}
-use Rattle.reservation_service.specs.Reserving.{detail_of, made_view, HasAllOrNone}
+use Rattle.reservation_service.specs.Reserving.{detail_of, made_view, HasAllOrNone, HasNoItem}
 use Rattle.reservation_service.proofs.Calm.{held_calmly}
 use Rattle.reservation_service.proofs.Placed.{both}
 use Rattle.reservation_service.proofs.Replying.{whole_of, seals_since, has_places}
-use Rattle.trade_service.specs.Exchanges.{QuotesExchangeOfIt, Decides, DecidesOrNot, ExchangesIt, IsUnready, ready_of, AnswersReady, AnswersExchange}
+use Rattle.trade_service.specs.Exchanges.{QuotesExchangeOfIt, DecidesOrNot, IsUnready, ready_of, AnswersReady, AnswersExchange}
 use Rattle.booking_service.specs.Deciding.{Answered}
 use Rattle.trade_service.proofs.Settling.{exchanges_settles}
 
@@ -115,31 +115,31 @@ lost ready hold then back d shown old noted last new same kept notes did gave = 
 pub shown_by : (cat : CatalogueView) (p row : ℕ) (v w : RowSeen) (x y : ℤ) (q r : ℕ) (written : Told) → p ≡ row → v ≡ w → x ≡ y → q ≡ r → written ≡ reply_told cat (exchanged p v x q) → written ≡ reply_told cat (exchanged row w y r)
 shown_by cat p row v w x y q r written rows views differences replaced is = is ∙ (λ i. reply_told cat (exchanged (rows i) (views i) (differences i) (replaced i)))
 
-pub no_row : (cat : CatalogueView) (ready : ReadyView) (old new : DeskView) → FindsNoRow old new → AnswersReady cat ready old new (refused_told RowsFull)
-no_row cat ready old new did = (problem RowsFull, inl (inl (did, refl)), tt, of_problem cat RowsFull)
+pub no_row : (cat : CatalogueView) (ready : ReadyView) (old new : DeskView) → FindsNoRow old new → HasNoItem new → AnswersReady cat ready old new (refused_told RowsFull)
+no_row cat ready old new did none = (problem RowsFull, inl (inl (did, refl)), none, of_problem cat RowsFull)
 
 pub given_up : (cat : CatalogueView) (ready : ReadyView) (row : ℕ) (p : Placing) (why : Problem) (items : List Item) (old mid new : DeskView)
-    → HoldsPlaces cat ready.code.offer ready.code.offer.segments row p items old mid → problem_of p ≡ Some why → GivesUp row items mid new
+    → HoldsPlaces cat ready.code.offer ready.code.offer.segments row p items old mid → problem_of p ≡ Some why → GivesUp row items mid new → HasNoItem new
     → AnswersReady cat ready old new (refused_told why)
-given_up cat ready row p why items old mid new placed is gave =
-    (problem why, inl (inr (row, p, why, items, mid, placed, is, gave, refl)), tt, of_problem cat why)
+given_up cat ready row p why items old mid new placed is gave none =
+    (problem why, inl (inr (row, p, why, items, mid, placed, is, gave, refl)), none, of_problem cat why)
 
-has_all : (cat : CatalogueView) (ready : ReadyView) (row : ℕ) (items : List Item) (d : Detail) (old mid new : DeskView) (reply : Reply) → HoldsPlaces cat ready.code.offer ready.code.offer.segments row Whole items old mid → DecidesOrNot ready row items d mid new reply
+has_all : (cat : CatalogueView) (ready : ReadyView) (row : ℕ) (items : List Item) (d : Detail) (old mid new : DeskView) (reply : Reply) → HoldsPlaces cat ready.code.offer ready.code.offer.segments row Whole items old mid → DecidesOrNot ready row items d mid new reply → HasNoItem new
     → HasAllOrNone cat ready.code.offer old new reply
-has_all cat ready row items d old mid new reply placed (inl (noted, notes, inl (m, x, did, seals, is))) =
+has_all cat ready row items d old mid new reply placed (inl (noted, notes, inl (m, x, did, seals, is))) none =
     let o = ready.code.offer in
     let held = held_calmly cat o o.segments row Whole items old mid placed in
     subst (HasAllOrNone cat o old new) (sym is) (seals_since old mid new row phase.Confirmed items held.0 held.2 seals, has_places cat o row items old mid placed)
-has_all cat ready row items d old mid new reply placed (inl (noted, notes, inr (shown, hold, last, did, gave, is))) = subst (HasAllOrNone cat ready.code.offer old new) (sym is) tt
-has_all cat ready row items d old mid new reply placed (inr (gave, is)) = subst (HasAllOrNone cat ready.code.offer old new) (sym is) tt
+has_all cat ready row items d old mid new reply placed (inl (noted, notes, inr (shown, hold, last, did, gave, is))) none = subst (HasAllOrNone cat ready.code.offer old new) (sym is) none
+has_all cat ready row items d old mid new reply placed (inr (gave, is)) none = subst (HasAllOrNone cat ready.code.offer old new) (sym is) none
 
 pub decided : (cat : CatalogueView) (ready was : ReadyView) (row : ℕ) (p : Placing) (items : List Item) (d : Detail) (old mid new : DeskView) (reply : Reply) (written : Told) → HoldsPlaces cat ready.code.offer ready.code.offer.segments row p items old mid
-    → problem_of p ≡ None → was ≡ ready → d ≡ detail_of cat ready.code.offer ready.retailer ready.moment → DecidesOrNot was row items d mid new reply → written ≡ reply_told cat reply → AnswersReady cat ready old new written
-decided cat ready was row p items d old mid new reply written placed none same detail did bytes =
+    → problem_of p ≡ None → was ≡ ready → d ≡ detail_of cat ready.code.offer ready.retailer ready.moment → DecidesOrNot was row items d mid new reply → HasNoItem new → written ≡ reply_told cat reply → AnswersReady cat ready old new written
+decided cat ready was row p items d old mid new reply written placed whole_is same detail did none bytes =
     let o = ready.code.offer in
-    let whole = subst (λ (q : Placing). HoldsPlaces cat o o.segments row q items old mid) (whole_of p none) placed in
+    let whole = subst (λ (q : Placing). HoldsPlaces cat o o.segments row q items old mid) (whole_of p whole_is) placed in
     let go = subst (λ (x : ReadyView). DecidesOrNot x row items (detail_of cat o ready.retailer ready.moment) mid new reply) same (subst (λ (x : Detail). DecidesOrNot was row items x mid new reply) detail did) in
-    (reply, inr (row, items, mid, whole, go), has_all cat ready row items (detail_of cat o ready.retailer ready.moment) old mid new reply whole go, bytes)
+    (reply, inr (row, items, mid, whole, go), has_all cat ready row items (detail_of cat o ready.retailer ready.moment) old mid new reply whole go none, bytes)
 
 -- the whole command
 
@@ -147,13 +147,13 @@ decided cat ready was row p items d old mid new reply written placed none same d
 has_all_since : (cat : CatalogueView) (o : OfferView) (old mid new : DeskView) (es : _) (reply : Reply) → Shape old mid es → HasAllOrNone cat o mid new reply → HasAllOrNone cat o old new reply
 has_all_since cat o old mid new es (created row v) did (seals, places) = (seals_since old mid new row phase.Prebooked v.items es did seals, places)
 has_all_since cat o old mid new es (exchanged row v x q) did (seals, places) = (seals_since old mid new row phase.Confirmed v.items es did seals, places)
-has_all_since cat o old mid new es (offer_list offers) did is = tt
-has_all_since cat o old mid new es (booking row v) did is = tt
-has_all_since cat o old mid new es (refund_offer code) did is = tt
-has_all_since cat o old mid new es (exchange_offer code) did is = tt
-has_all_since cat o old mid new es (place_list run free) did is = tt
-has_all_since cat o old mid new es (swept n) did is = tt
-has_all_since cat o old mid new es (problem p) did is = tt
+has_all_since cat o old mid new es (offer_list offers) did is = is
+has_all_since cat o old mid new es (booking row v) did is = is
+has_all_since cat o old mid new es (refund_offer code) did is = is
+has_all_since cat o old mid new es (exchange_offer code) did is = is
+has_all_since cat o old mid new es (place_list run free) did is = is
+has_all_since cat o old mid new es (swept n) did is = is
+has_all_since cat o old mid new es (problem p) did is = is
 
 pub is_ready_of : (cat : CatalogueView) (rows retailer : ℕ) (code : ExchangeView) (now : ℕ) (ready : ReadyView) (old mid : DeskView) → ShapeBy (Readies cat rows retailer code now (readied.Fine ready)) old mid → ready ≡ ready_of retailer code now
 is_ready_of cat rows retailer code now ready old mid did = did.1.0
@@ -168,9 +168,9 @@ carried cat rows retailer code now ready old mid new written did (reply, go, all
 )
 
 pub refused : (cat : CatalogueView) (rows retailer : ℕ) (code : ExchangeView) (now : ℕ) (p : Problem) (old new : DeskView)
-    → ((a : Readied) × ShapeBy (Readies cat rows retailer code now a) old new × IsUnready a p)
+    → ((a : Readied) × ShapeBy (Readies cat rows retailer code now a) old new × IsUnready a p) → HasNoItem new
     → AnswersExchange cat rows retailer code now old new (refused_told p)
-refused cat rows retailer code now p old new (a, did, un) = (problem p, inl (a, p, did, un, refl), tt, of_problem cat p)
+refused cat rows retailer code now p old new (a, did, un) none = (problem p, inl (a, p, did, un, refl), none, of_problem cat p)
 
 pub exchanged_tidy : (cat : CatalogueView) (rows retailer : ℕ) (code : ExchangeView) (now : ℕ) (old new : DeskView) (written : Told) → AnswersExchange cat rows retailer code now old new written → IsIdle new → IsTidy old → IsTidy new
 exchanged_tidy cat rows retailer code now old new written a idle tidy = (idle, exchanges_settles cat rows retailer code now old new a.0 a.1 tidy.1)

@@ -1,15 +1,14 @@
 -- Commands on exchanges leave a tidy desk tidy: each turn to an exchange is followed by the seal of its successor.
-use Rattle.std.proofs.Common.{◌≡◌, inl, inr, ℕ, List, [], ◌∷◌, ◌++◌, map, length, refl, sym, subst}
+use Rattle.std.proofs.Common.{inl, inr, ℕ, List, map, length, refl, sym, subst}
 use Rattle.leg_masks.specs.Interval.{PlacedSpan as Item}
-use Rattle.history_model.specs.declared.entry.Entry.{Entry}
 use Rattle.history_model.specs.declared.entry.Step.{Step}
 use Rattle.history_model.specs.History.{entry, own}
 use Rattle.history_model.specs.Work.{NoStep}
 use Rattle.claim_rule.specs.Rule.{DeskView}
 use Rattle.claim_rule.specs.Seats.{Shape}
 use Rattle.claim_rule.specs.Calls.{ShapeBy}
-use Rattle.claim_rule.specs.Out.{exchanges, IsIdle, IsTidy, AreSettled, KeepsHolds, KeepsEndings}
-use Rattle.claim_rule.proofs.Out.{settled_append, settled_calm, still_idle}
+use Rattle.claim_rule.specs.Out.{exchanges, IsTidy, AreSettled, KeepsHolds, KeepsEndings}
+use Rattle.claim_rule.proofs.Out.{settled_append, settled_calm}
 use Rattle.booking_rows.specs.declared.notes.Detail.{Detail}
 use Rattle.booking_rows.specs.Notes.{detail_notes}
 use Rattle.rail_catalogue.specs.Contents.{CatalogueView}
@@ -24,7 +23,6 @@ use Rattle.exchange_core.specs.declared.readying.Readied.{Readied}
 use Rattle.exchange_core.specs.declared.readying.Readied.TheVariants as readied
 use Rattle.exchange_core.proofs.Exchanging.{settled_done, settled_lost}
 use Rattle.osdm_texts.specs.Answers.{Reply}
-use Rattle.reservation_service.specs.Holding.{HoldsPlaces, GivesUp}
 use Rattle.reservation_service.specs.Reserving.{FailsToHold}
 use Rattle.reservation_service.specs.declared.holding.Placing.TheVariants.{Whole}
 use Rattle.reservation_service.proofs.Calm.{WentCalmly, held_calmly, found_calmly, gave_calmly}

@@ -123,8 +123,8 @@ fn check(
     ensures fine { IfOk result (λ ready. ShapeBy (Readies shop.now.cat.now shop.now.books.now.layout.rows retailer.0
         (exchange_view code.now) now (readied.Fine ready)) desk.old desk.new) }
     ensures ready { IfOk result (IsReadyFor desk.new) }
-    ensures unready { IfErr result (λ p. (a : ReadiedBy) × ShapeBy (Readies shop.now.cat.now shop.now.books.now.layout.rows
-        retailer.0 (exchange_view code.now) now a) desk.old desk.new × IsUnready a p) }
+    ensures unready { IfErr result (λ p. (a : ReadiedBy) × ShapeBy (Readies shop.now.cat.now
+        shop.now.books.now.layout.rows retailer.0 (exchange_view code.now) now a) desk.old desk.new × IsUnready a p) }
     ensures holds { KeepsHolds desk.old desk.new }
     ensures endings { KeepsEndings desk.old desk.new }
 {

@@ -15,7 +15,7 @@ use Rattle.train_runs.specs.declared.departure.Departure.{Departure}
 use Rattle.train_runs.specs.declared.run.Stop.{Stop}
 use Rattle.train_runs.specs.Stations.{StationView}
 use Rattle.train_runs.specs.declared.run.RunFault.TheVariants.{TooFewStops, TooManyStops, TimesNotRising, TooManyRuns, StationRepeated}
-use Rattle.train_runs.specs.Stops.{RunView, IsRun, stop_at, no_stop, stands_at, first_unrisen, first_repeated}
+use Rattle.train_runs.specs.Stops.{RunView, IsRun, most_stops, stop_at, no_stop, stands_at, first_unrisen, first_repeated}
 use Rattle.train_runs.specs.Runs.{RunsView, AreSound, run_fault, most_runs}
 use Rattle.train_runs.specs.Departures.{IsDeparture, IsBefore, AreDepartures, times_left, departure_count}
 use Rattle.train_runs.specs.Boards.{IsBoard, HasBoards, IsPosted, IsPartBoard, ArePosted, IsWindow}
@@ -255,8 +255,8 @@ faultless false false false None None e = (refl, refl, refl, refl, refl)
 
 pub is_sound_run : (stations : ℕ) (runs : List RunView) (run : RunView) → run_fault runs run ≡ None → All (λ s. s.station.0 < stations) run.stops → IsRun stations run × (length runs < most_runs)
 is_sound_run stations runs run e known =
-    let parts = faultless (nat_lt (length run.stops) 2) (nat_lt 64 (length run.stops)) (nat_le most_runs (length runs)) (first_unrisen run.stops) (first_repeated run.stops) e in
-    let a : nat_lt (length run.stops) 2 ≡ false = parts.0 in let b : nat_lt 64 (length run.stops) ≡ false = parts.1 in let c : nat_le most_runs (length runs) ≡ false = parts.3 in
+    let parts = faultless (nat_lt (length run.stops) 2) (nat_lt most_stops (length run.stops)) (nat_le most_runs (length runs)) (first_unrisen run.stops) (first_repeated run.stops) e in
+    let a : nat_lt (length run.stops) 2 ≡ false = parts.0 in let b : nat_lt most_stops (length run.stops) ≡ false = parts.1 in let c : nat_le most_runs (length runs) ≡ false = parts.3 in
     (record { few = grind (arith, nat_tests); many = grind (arith, nat_tests); risen = parts.2; apart = parts.4; known = known }, grind (arith, nat_tests))
 
 -- the stations and runs stay sound with a further run

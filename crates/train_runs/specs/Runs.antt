@@ -8,7 +8,7 @@ use Rattle.rail_ids.specs.declared.RunNo.{RunNo}
 use Rattle.train_runs.specs.declared.run.RunFault.{RunFault}
 use Rattle.train_runs.specs.declared.run.RunFault.TheVariants.{TooFewStops, TooManyStops, TimesNotRising, TooManyRuns, StationRepeated}
 use Rattle.train_runs.specs.Stations.{StationView, is_code}
-use Rattle.train_runs.specs.Stops.{RunView, IsRun, first_unrisen, first_repeated, stop_of, legs_between}
+use Rattle.train_runs.specs.Stops.{RunView, IsRun, most_stops, first_unrisen, first_repeated, stop_of, legs_between}
 
 -- the stations and the runs, each in the order of their numbers
 pub record RunsView : Type 0 where
@@ -22,7 +22,7 @@ most_runs = 4_096
 abbrev pub run_fault : List RunView → RunView → Option RunFault
 run_fault runs run =
     if nat_lt (length run.stops) 2 then Some TooFewStops
-    else (if nat_lt 64 (length run.stops) then Some TooManyStops
+    else (if nat_lt most_stops (length run.stops) then Some TooManyStops
     else (option_or (option_map TimesNotRising (first_unrisen run.stops))
     (if nat_le most_runs (length runs) then Some TooManyRuns else option_map StationRepeated (first_repeated run.stops))))
 

@@ -56,10 +56,14 @@ abbrev pub legs_between : Option ℕ → Option ℕ → Option Interval
 legs_between (Some from) (Some to) = if nat_lt from to then Some (record { from = from; to = to }) else None
 legs_between _ _ = None
 
--- a run that may be served: two to 64 stops, at known stations, each once, at times that rise
+-- how many stops a run may have: one more than the legs of the longest
+abbrev pub most_stops : ℕ
+most_stops = 127
+
+-- a run that may be served: two to 127 stops, at known stations, each once, at times that rise
 pub record IsRun (stations : ℕ) (run : RunView) : Type 0 where
   pub few : 2 ≤ length run.stops
-  pub many : length run.stops ≤ 64
+  pub many : length run.stops ≤ most_stops
   pub risen : first_unrisen run.stops ≡ None
   pub apart : first_repeated run.stops ≡ None
   pub known : All (λ s. s.station.0 < stations) run.stops

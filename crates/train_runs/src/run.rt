@@ -1,12 +1,12 @@
 ghost use Rattle.std.specs.Prelude.{◌≡◌, ◌<◌, ◌≤◌, length, option_map, IfSome};
-ghost use Rattle.train_runs.specs.Stops.{RunView, first_unrisen as first_unrisen_of, first_repeated as first_repeated_of, is_unrisen as is_unrisen_of, is_repeated as is_repeated_of, stands_at as stands_at_of, stop_of as stop_number_of};
+ghost use Rattle.train_runs.specs.Stops.{RunView, most_stops, first_unrisen as first_unrisen_of, first_repeated as first_repeated_of, is_unrisen as is_unrisen_of, is_repeated as is_repeated_of, stands_at as stands_at_of, stop_of as stop_number_of};
 
 use rail_ids::StationNo;
 use rail_time::Moment;
 use std::marker::Model;
 
 /// How many stops a run may have.
-pub const MOST_STOPS: usize = 64;
+pub const MOST_STOPS: usize = 127;
 
 /// A stop of a run. At the first stop the arrival is the departure, at the last the departure is the arrival.
 #[derive(Debug, Clone, Copy, PartialEq, Eq)]
@@ -21,7 +21,7 @@ pub struct Stop {
 pub enum RunFault {
     /// It has fewer than two stops.
     TooFewStops,
-    /// It has more than 64 stops.
+    /// It has more than 127 stops.
     TooManyStops,
     /// The least stop that is left before it is reached, or that is reached no later than the one before is left.
     TimesNotRising { stop: u8 },
@@ -73,7 +73,7 @@ impl Run {
 
 /// The least stop whose times don't rise.
 pub(crate) fn first_unrisen(stops: &[Stop]) -> Option<u8>
-    requires { length stops.now ≤ 64 }
+    requires { length stops.now ≤ most_stops }
     ensures { result ≡ first_unrisen_of stops.now }
 {
     for n in 0..stops.len() {
@@ -94,7 +94,7 @@ fn is_unrisen(stops: &[Stop], n: usize) -> bool
 
 /// The least stop whose station stood earlier.
 pub(crate) fn first_repeated(stops: &[Stop]) -> Option<u8>
-    requires { length stops.now ≤ 64 }
+    requires { length stops.now ≤ most_stops }
     ensures { result ≡ first_repeated_of stops.now }
 {
     for n in 0..stops.len() {
@@ -120,7 +120,7 @@ fn is_repeated(stops: &[Stop], n: usize) -> bool
 
 /// The number of the stop at the station.
 pub(crate) fn stop_of(stops: &[Stop], station: StationNo) -> Option<u8>
-    requires { length stops.now ≤ 64 }
+    requires { length stops.now ≤ most_stops }
     ensures { result ≡ stop_number_of station stops.now }
 {
     for (n, stop) in stops.iter().enumerate() {

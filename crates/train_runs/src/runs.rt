@@ -3,7 +3,7 @@ ghost use Rattle.std.specs.BTreeMap.{get_by_text};
 ghost use Rattle.train_runs.specs.declared.station.StationFault.TheVariants as station_fault;
 ghost use Rattle.train_runs.specs.declared.run.RunFault.TheVariants as run_fault;
 ghost use Rattle.train_runs.specs.Stations.{with_station, station_with, is_code as is_code_of, most_stations};
-ghost use Rattle.train_runs.specs.Stops.{IsRun};
+ghost use Rattle.train_runs.specs.Stops.{IsRun, most_stops};
 ghost use Rattle.train_runs.specs.Runs.{AreSound, most_runs, run_fault as run_fault_of, span_of};
 ghost use Rattle.train_runs.specs.Departures.{AreDepartures, departure_count};
 ghost use Rattle.train_runs.specs.Boards.{HasBoards, ArePosted};
@@ -291,7 +291,7 @@ fn post_from(boards: &mut [Board], runs: &[Run], run: &Run, n: usize) -> Result<
     requires posted { ArePosted runs.now run.now n boards.old }
     requires known { All (λ s. s.station.0 < length boards.old) run.now.stops }
     requires stops { n < length run.now.stops }
-    requires few { length run.now.stops ≤ 64 }
+    requires few { length run.now.stops ≤ most_stops }
     requires runs { length runs.now < most_runs }
     ensures same { length boards.new ≡ length boards.old }
     ensures ok { OnOk result (ArePosted runs.now run.now (length run.now.stops - 1) boards.new) }

@@ -1,6 +1,6 @@
 ghost use Rattle.std.specs.Prelude.{◌≡◌, ◌<◌, ◌≤◌, ◌+◌, ◌^◌, length};
 ghost use Rattle.train_runs.specs.declared.run.Stop.{Stop as StopView};
-ghost use Rattle.train_runs.specs.Stops.{stop_at, no_stop as nowhere};
+ghost use Rattle.train_runs.specs.Stops.{most_stops, stop_at, no_stop as nowhere};
 ghost use Rattle.trip_builder.specs.Segments.{stops_of as stops_of_run, first_stop, last_stop, last_of, first_of};
 ghost use Rattle.trip_builder.specs.Trips.{leaves, change_at, longest_wait};
 ghost use Rattle.trip_builder.specs.Search.{AreLeaving, Rise, leaves_after};
@@ -111,7 +111,7 @@ pub(crate) fn stop_of(runs: &Runs, run: RunNo, number: u8) -> Stop
 /// The stops of the run: none where it isn't known.
 pub(crate) fn stops_of(runs: &Runs, run: RunNo) -> &[Stop]
     ensures stops { result.now ≡ stops_of_run runs.now run.0 }
-    ensures few { length result.now ≤ 64 }
+    ensures few { length result.now ≤ most_stops }
 {
     match runs.run(run) {
         Some(it) => it.stops(),

@@ -1,3 +1,4 @@
+ghost use Rattle.train_runs.specs.Stops.{most_stops};
 ghost use Rattle.std.specs.Prelude.{◌≡◌, ◌≤◌, ◌<◌, ◌+◌, ◌++◌, ◌∷◌, [], ℕ, true, false, length, IfOk, OnOk};
 ghost use Rattle.trip_builder.specs.Segments.{segment};
 ghost use Rattle.trip_builder.specs.Trips.{trips_of};
@@ -190,7 +191,7 @@ fn is_behind(runs: &Runs, best: &[Trip], seconds: u64) -> bool
 fn longer(way: &[Segment], departure: &Departure, to: u8) -> ArrayVec<Segment, 3>
     requires few { length way.now ≤ 2 }
     requires later { departure.now.stop < to }
-    requires stop { to < 64 }
+    requires stop { to < most_stops }
     ensures { result.items ≡ way.now ++ segment departure.now.run.0 departure.now.stop to ∷ [] }
 {
     let Some(span) = Span::new(departure.stop, to) else {

@@ -14,7 +14,7 @@ loop-init c = record {
   holds = holds_same c.args.desk.now;
   is = ap (λ (n : ℕ). record c.args.ending.now { given = n }) (sym (add-zero c.args.ending.now.given));
   read = c.requires.read;
-  all = c.left-end.ensures;
+  all = c.left-end.ensures.left;
   seen = shape_none c.args.desk.now c.requires.own.legal;
 }
 

@@ -8,7 +8,7 @@ returns c =
     let s = c.step_look in
     let old = c.args.desk.now in record {
       own = s.ensures.own;
-      entries = step_shape (Look c.args.place.0 s.result) old s.new.desk s.ensures.look;
-      holds = looked_holds c.args.place.0 s.result old s.new.desk s.ensures.look;
-      endings = looked_endings c.args.place.0 s.result old s.new.desk s.ensures.look;
+      entries = step_shape (Look c.args.place.0 c.args.half s.result) old s.new.desk s.ensures.look;
+      holds = looked_holds c.args.place.0 c.args.half s.result old s.new.desk s.ensures.look;
+      endings = looked_endings c.args.place.0 c.args.half s.result old s.new.desk s.ensures.look;
     }

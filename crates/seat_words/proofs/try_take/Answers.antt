@@ -14,22 +14,22 @@ returns-in-None-clause-endings c = won_endings c.args.desk.now c.step_take.new.d
 
 pub returns-then-free_on-clause-hold : goal.returns-then-free_on-clause-hold
 returns-then-free_on-clause-hold c = let s = c.step_take in let m = c.in-Some.ensures.missed in
-    missed_hold c.args.desk.now s.new.desk c.args.hold.now s.new.hold _ _ m.1 m.2 c.requires.hold
+    missed_hold c.args.desk.now s.new.desk c.args.hold.now s.new.hold _ _ _ m.1 m.2 c.requires.hold
 
 pub returns-then-free_on-clause-noted : goal.returns-then-free_on-clause-noted
 returns-then-free_on-clause-noted c on = let s = c.step_take in let m = c.in-Some.ensures.missed in
-    missed_noted c.args.desk.now s.new.desk c.args.hold.now s.new.hold _ _ m.1 m.2 c.requires.hold on
+    missed_noted c.args.desk.now s.new.desk c.args.hold.now s.new.hold _ _ _ m.1 m.2 c.requires.hold on
 
 pub returns-then-free_on-clause-endings : goal.returns-then-free_on-clause-endings
-returns-then-free_on-clause-endings c = looked_endings _ _ c.args.desk.now c.step_take.new.desk c.in-Some.ensures.missed.1
+returns-then-free_on-clause-endings c = looked_endings _ _ _ c.args.desk.now c.step_take.new.desk c.in-Some.ensures.missed.1
 
 pub returns-else-free_on-clause-hold : goal.returns-else-free_on-clause-hold
 returns-else-free_on-clause-hold c = let s = c.step_take in let m = c.in-Some.ensures.missed in
-    missed_hold c.args.desk.now s.new.desk c.args.hold.now s.new.hold _ _ m.1 m.2 c.requires.hold
+    missed_hold c.args.desk.now s.new.desk c.args.hold.now s.new.hold _ _ _ m.1 m.2 c.requires.hold
 
 pub returns-else-free_on-clause-noted : goal.returns-else-free_on-clause-noted
 returns-else-free_on-clause-noted c on = let s = c.step_take in let m = c.in-Some.ensures.missed in
-    missed_noted c.args.desk.now s.new.desk c.args.hold.now s.new.hold _ _ m.1 m.2 c.requires.hold on
+    missed_noted c.args.desk.now s.new.desk c.args.hold.now s.new.hold _ _ _ m.1 m.2 c.requires.hold on
 
 pub returns-else-free_on-clause-endings : goal.returns-else-free_on-clause-endings
-returns-else-free_on-clause-endings c = looked_endings _ _ c.args.desk.now c.step_take.new.desk c.in-Some.ensures.missed.1
+returns-else-free_on-clause-endings c = looked_endings _ _ _ c.args.desk.now c.step_take.new.desk c.in-Some.ensures.missed.1

@@ -1,6 +1,10 @@
-use Rattle.std.proofs.Common.{◌∙◌}
+use Rattle.std.proofs.Common.{◌∙◌, arith, rules}
+use Rattle.std.proofs.lemmas.Grind.{common_steps}
 use Rattle.claim_rule.proofs.Out.{endings_then}
 use Rattle.booking_lives.proofs.tests.prebooked.Goals as goal
+
+pub seal-requires-clause-ready : goal.seal-requires-clause-ready
+seal-requires-clause-ready g c = c.note_detail.ensures.ready (c.add_places-added.ensures.noted (search rules)) (grind (arith, common_steps)) (omega arith)
 
 pub returns-clause-endings : goal.returns-clause-endings
 returns-clause-endings g c =

@@ -1,5 +1,10 @@
+use Rattle.std.proofs.Common.{arith, rules}
+use Rattle.std.proofs.lemmas.Grind.{common_steps}
 use Rattle.claim_rule.proofs.Out.{endings_then}
 use Rattle.booking_lives.proofs.trades.held.Goals as goal
+
+pub returns-clause-noted : goal.returns-clause-noted
+returns-clause-noted g c = c.note_detail.ensures.ready (c.add_places-added.ensures.noted (search rules)) (grind (arith, common_steps)) c.requires.total
 
 pub returns-clause-endings : goal.returns-clause-endings
 returns-clause-endings g c =

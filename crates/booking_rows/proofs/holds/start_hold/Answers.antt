@@ -41,3 +41,6 @@ returns-clause-bound c =
     let own = c.start_free.ensures.own in
     within_rows old c.start_free.new.desk old.past c.start_free.new.desk.past c.args.books.now.layout.rows (returns-clause-remembers c)
     (subst (λ (l : Layout). c.start_free.new.desk.past ≤ l.rows) own.layout own.within)
+
+pub returns-in-Some-clause-hold : goal.returns-in-Some-clause-hold
+returns-in-Some-clause-hold c = (c.in-Some.ensures.holding c.args.books.now c.requires.own c.requires.none, ap (λ (h : HoldView). h.items) c.in-Some.ensures.some.1)

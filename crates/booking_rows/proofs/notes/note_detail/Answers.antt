@@ -38,7 +38,7 @@ returns-clause-endings c =
     detail_endings d.retailer.0 d.limit d.total (length h.items) c.args.desk.now c.step_note-4.new.desk h (returns-clause-entries c) c.requires.hold
 
 pub returns-clause-ready : goal.returns-clause-ready
-returns-clause-ready c =
+returns-clause-ready c = λ noted some total.
     let row : HoldView → ℕ = λ h. h.row in
     let one = c.step_note.ensures in
     let two = c.step_note-2.ensures in
@@ -56,4 +56,4 @@ returns-clause-ready c =
     subst (IsToBeSealed d4) (sym (returns-clause-same c))
     (sealable c.args.desk.now d1 d2 d3 d4 h c.number_word.result c.seconds.result d.total (length c.items.result.now) c.requires.own.legal c.requires.hold.of.0
     one.noted (subst (λ (x : ℕ). Stepped (Note x 2 c.seconds.result) d1 d2) s1 two.noted) (subst (λ (x : ℕ). Stepped (Note x 3 d.total) d2 d3) s2 three.noted) (subst (λ (x : ℕ). Stepped (Note x 4 (length c.items.result.now)) d3 d4) s3 four.noted)
-    c.requires.noted c.requires.some c.number_word.ensures.most c.seconds.ensures.in_years c.requires.total (ap length c.items.ensures.items))
+    noted some c.number_word.ensures.most c.seconds.ensures.in_years total (ap length c.items.ensures.items))

@@ -1,7 +1,7 @@
 use Rattle.std.proofs.Common.{◌<◌, ◌≤◌, ◌+◌, ℕ, ◌≡◌, List, [], ◌∷◌, ◌++◌, length-append, length, ap, ◌∙◌, subst, sym, arith, All}
 use Rattle.std.specs.List.{AllByRecursion}
 use Rattle.leg_masks.specs.Interval.{most_places, most_legs, PlacedSpan as Item}
-use Rattle.history_model.specs.Booking.{Layout}
+use Rattle.history_model.specs.Booking.{Layout, most_items, row_words}
 use Rattle.history_model.specs.declared.entry.Step.TheVariants.{SawRow}
 use Rattle.claim_rule.specs.Seats.{Shape}
 use Rattle.claim_rule.specs.Endings.{item_looks}
@@ -11,16 +11,16 @@ use Rattle.booking_rows.specs.Views.{HasWord}
 use Rattle.booking_rows.proofs.ViewLemmas.{count_fits, shows_item, items_on, one_more}
 use Rattle.booking_rows.proofs.views.read_items.Goals as goal
 
-small : (v : ℕ) → v ≤ 24 → v < 256
+small : (v : ℕ) → v ≤ most_items → v < 256
 small v l = omega arith
 
-below_word : (i n : ℕ) → i < n → n ≤ 24 → 8 + i < 32
+below_word : (i n : ℕ) → i < n → n ≤ most_items → 8 + i < row_words
 below_word i n l m = omega arith
 
-below_byte : (i n : ℕ) → i < n → n ≤ 24 → 8 + i < 256
+below_byte : (i n : ℕ) → i < n → n ≤ most_items → 8 + i < 256
 below_byte i n l m = omega arith
 
-below_items : (i n : ℕ) → i < n → n ≤ 24 → i < 24
+below_items : (i n : ℕ) → i < n → n ≤ most_items → i < most_items
 below_items i n l m = omega arith
 
 pub overflow_cast-count : goal.overflow_cast-count
@@ -36,7 +36,7 @@ loop-i-init c =
       counted = (count_fits c.args.row.0 v c.args.desk.now new look c.requires.sealed).1;
       many = ap length none;
       kept = look.same.5;
-      few = subst (λ (l : List Item). length l ≤ 24) (sym none) (omega arith);
+      few = subst (λ (l : List Item). length l ≤ most_items) (sym none) (omega arith);
       words = subst (AllByRecursion HasWord) (sym none) tt;
       seen = subst (λ (l : List Item). Shape c.args.desk.now new (SawRow c.args.row.0 4 v ∷ item_looks c.args.row.0 8 l)) (sym none) (step_shape (SawRow c.args.row.0 4 v) c.args.desk.now new look);
     }
@@ -63,9 +63,9 @@ item_of-requires c =
 
 pub push-requires : goal.push-requires
 push-requires c =
-    (omega arith, subst (λ (n : ℕ). n < 24) (sym c.loop-i.invariant.many) (below_items c.loop-i.i c.step_read-count.result c.loop-i-test.true (count_fits c.args.row.0 c.step_read-count.result c.args.desk.now c.step_read-count.new.desk c.step_read-count.ensures.look c.requires.sealed).0))
+    (omega arith, subst (λ (n : ℕ). n < most_items) (sym c.loop-i.invariant.many) (below_items c.loop-i.i c.step_read-count.result c.loop-i-test.true (count_fits c.args.row.0 c.step_read-count.result c.args.desk.now c.step_read-count.new.desk c.step_read-count.ensures.look c.requires.sealed).0))
 
-one_less : (is : List Item) (i : Item) (k n : ℕ) → length is ≡ k → k < n → n ≤ 24 → length (is ++ i ∷ []) ≤ 24
+one_less : (is : List Item) (i : Item) (k n : ℕ) → length is ≡ k → k < n → n ≤ most_items → length (is ++ i ∷ []) ≤ most_items
 one_less is i k n e l m = let a = length-append is (i ∷ []) in omega arith
 
 pub loop-i-preserved : goal.loop-i-preserved
@@ -86,9 +86,9 @@ loop-i-preserved c =
       counted = items_on old new (SawRow row (8 + k) v ∷ []) row count (step_shape (SawRow row (8 + k) v) old new look) so.counted;
       many = ap length pushed ∙ (length-append is (i ∷ []) ∙ ap (λ (n : ℕ). n + 1) so.many);
       kept = look.same.5 ∙ so.kept;
-      few = subst (λ (l : List Item). length l ≤ 24) (sym pushed) (one_less is i k count so.many c.loop-i-test.true few);
+      few = subst (λ (l : List Item). length l ≤ most_items) (sym pushed) (one_less is i k count so.many c.loop-i-test.true few);
       words = subst (AllByRecursion HasWord) (sym pushed)
-          (All-append HasWord is (i ∷ []) so.words ((c.item_of.ensures.item.0, c.item_of.ensures.item.1, c.item_of.ensures.item.2), tt));
+          (All-append HasWord is (i ∷ []) so.words ((c.item_of.ensures.item.0, c.item_of.ensures.item.1, c.item_of.ensures.item.2, c.item_of.ensures.item.3), tt));
       seen = subst (λ (l : List Item). Shape c.args.desk.now new (SawRow row 4 count ∷ item_looks row 8 l)) (sym pushed)
           (one_more c.args.desk.now old new row v k count is i so.many c.item_of.ensures.item so.seen look);
     }

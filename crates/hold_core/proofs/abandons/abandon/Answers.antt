@@ -57,13 +57,13 @@ returns-clause-entries c =
 pub returns-clause-endings : goal.returns-clause-endings
 returns-clause-endings c = endings_then c.args.desk.now c.loop.desk c.keep_row.new.desk c.loop.invariant.endings c.keep_row.ensures.endings
 
-few : (n m k : ℕ) → n ≡ m → m ≤ 24 → k ≡ n → k ≤ 24
+few : (n m k : ℕ) → n ≡ m → m ≤ 48 → k ≡ n → k ≤ 48
 few n m k e l f = omega arith
 
 pub returns-clause-bound : goal.returns-clause-bound
 returns-clause-bound c =
     let h = c.args.hold in
-    adds_length c.args.desk.now c.keep_row.new.desk (gives_back h.row (length h.items)) 24 (returns-clause-entries c)
+    adds_length c.args.desk.now c.keep_row.new.desk (gives_back h.row (length h.items)) 48 (returns-clause-entries c)
     (few (length h.items) (length c.items-end.result.now) (length (gives_back h.row (length h.items))) (sym (ap length c.items-end.ensures.items)) c.items-end.ensures.few (gives_length h.row (length h.items)))
 
 pub returns-clause-own : goal.returns-clause-own

@@ -1,4 +1,4 @@
-use Rattle.std.proofs.Common.{◌+◌, ◌<◌, length, map, take}
+use Rattle.std.proofs.Common.{◌<◌, map, take}
 use Rattle.claim_rule.specs.Seats.{IsOf}
 use Rattle.claim_rule.specs.Out.{IsHolding, HasNotedItems, KeepsEndings}
 use Rattle.hold_core.specs.Tries.{place_number}
@@ -9,8 +9,8 @@ abbrev pub invariant-loop-place : goal.invariant-loop-place
 invariant-loop-place l = record {
   own : IsOf l.books l.desk;
   hold : IsHolding l.desk l.hold;
-  noted : HasNotedItems l.desk l.hold;
+  noted : HasNotedItems l.fn.desk l.fn.hold → HasNotedItems l.desk l.hold;
   endings : KeepsEndings l.fn.desk l.desk;
-  few : length l.hold.items < length l.fn.hold.items + l.count;
-  tried : TriedSettled l.fn.desk l.desk l.fn.hold l.hold l.span (map place_number (take l.place-index l.candidates));
+  few : l.won < l.count;
+  tried : TriedSettled l.fn.desk l.desk l.fn.hold l.hold l.span (map place_number (take l.place-index l.candidates)) l.won;
 }

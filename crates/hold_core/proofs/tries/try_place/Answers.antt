@@ -1,67 +1,40 @@
-use Rattle.std.proofs.Common.{◌<◌, rules, ap, refl, sym, ◌∙◌, subst, arith}
-use Rattle.leg_masks.specs.Interval.{IsClear}
-use Rattle.claim_rule.specs.Holds.{HoldView}
-use Rattle.claim_rule.specs.Out.{HasNoted}
+use Rattle.std.proofs.Common.{List, get_or, ap, ◌∙◌, sym}
+use Rattle.leg_masks.specs.Interval.{Interval}
 use Rattle.claim_rule.proofs.Out.{endings_then}
-use Rattle.hold_core.proofs.Trying.{looked_first, looked_more, refused_at_once, refused, won_with}
+use Rattle.hold_core.proofs.Blocks.{first_is, none_left, one_part, second_of, two_parts}
 use Rattle.hold_core.proofs.tries.try_place.Goals as goal
 
-pub returns-then-not-free_on-clause-tried : goal.returns-then-not-free_on-clause-tried
-returns-then-not-free_on-clause-tried c =
-    let taken : ¬ IsClear c.glance-shown.result c.args.span = search rules in
-    refused_at_once c.args.desk.now c.glance-shown.new.desk c.args.hold.now c.args.hold.now c.args.place.0 c.args.span c.glance-shown.result taken c.glance-shown.ensures.entries refl
+pub returns-then-len-eq1-clause-tried : goal.returns-then-len-eq1-clause-tried
+returns-then-len-eq1-clause-tried c =
+    let ps = c.pieces-parts.result.items in
+    let x = c.index-deref-0.result in
+    let f = first_is c.args.span x ps c.pieces-parts.ensures.value (c.index-deref-0.is ∙ ap (λ (l : List Interval). get_or l 0 x) c.deref.ensures.0) in
+    one_part c.args.desk.now c.try_piece.new.desk c.args.hold.now c.try_piece.new.hold c.args.place.0 c.args.span x f.0 _ f.1
+    (λ _. none_left c.args.span x f.0 ps c.pieces-parts.ensures.value f.1 (sym c.len.ensures.value ∙ c.if-len-eq1.true)) c.in-Won.ensures.tried
 
-pub returns-then-not-free_on-clause-hold : goal.returns-then-not-free_on-clause-hold
-returns-then-not-free_on-clause-hold c = c.glance-shown.ensures.holds.hold c.args.hold.now c.requires.hold
+pub returns-else-len-eq1-clause-tried : goal.returns-else-len-eq1-clause-tried
+returns-else-len-eq1-clause-tried c =
+    let ps = c.pieces-parts.result.items in
+    let x = c.index-deref-0.result in
+    let y = c.index-deref-1.result in
+    let f = first_is c.args.span x ps c.pieces-parts.ensures.value (c.index-deref-0.is ∙ ap (λ (l : List Interval). get_or l 0 x) c.deref.ensures.0) in
+    let two = second_of c.args.span x y f.0 ps c.pieces-parts.ensures.value c.pieces-parts.ensures.each f.1 (λ e. c.if-len-eq1.false (c.len.ensures.value ∙ e))
+    (c.index-deref-1.is ∙ ap (λ (l : List Interval). get_or l 1 y) c.deref-in-Won.ensures.0) in
+    two_parts c.args.desk.now c.try_piece.new.desk c.try_second.new.desk c.args.hold.now c.try_piece.new.hold c.try_second.new.hold c.args.place.0 c.args.span x y c.try_second.result two.are c.in-Won.ensures.tried c.try_second.ensures.tried
 
-pub loop-init : goal.loop-init
-loop-init c =
-    let g = c.glance-shown.ensures in
-    let clear : IsClear c.glance-shown.result c.args.span = search rules in
-    record {
-      own = g.own;
-      hold = g.holds.hold c.args.hold.now c.requires.hold;
-      noted = g.holds.noted c.args.hold.now c.args.hold.now.items c.requires.hold c.requires.noted;
-      endings = g.endings;
-      same = refl;
-      clear = clear;
-      looked = looked_first c.args.desk.now c.glance-shown.new.desk c.args.place.0 c.args.span c.glance-shown.result clear g.entries;
-    }
+pub returns-else-len-eq1-clause-endings : goal.returns-else-len-eq1-clause-endings
+returns-else-len-eq1-clause-endings c = endings_then c.args.desk.now c.try_piece.new.desk c.try_second.new.desk c.in-Won.ensures.endings c.try_second.ensures.endings
 
-pub returns-in-Won-clause-tried : goal.returns-in-Won-clause-tried
-returns-in-Won-clause-tried c =
-    let i = c.loop.invariant in
-    let t = c.in-Won.ensures.take in
-    let few : c.loop.counter < 8 = omega arith in
-    won_with c.args.desk.now c.loop.desk c.try_take.new.desk c.note_item.new.desk c.args.hold.now c.loop.hold c.try_take.new.hold c.note_item.new.hold c.args.place.0 c.args.span c.loop.counter c.loop.shown
-    i.same t.1 c.note_item.ensures.same i.looked few t.0
-    (c.note_item.ensures.entries c.loop.hold.items (record { place = c.args.place.0; span = c.args.span }) (ap (λ (h : HoldView). h.items) t.1))
+pub returns-in-Refused-clause-tried : goal.returns-in-Refused-clause-tried
+returns-in-Refused-clause-tried c =
+    let ps = c.pieces-parts.result.items in
+    let x = c.index-deref-0.result in
+    let f = first_is c.args.span x ps c.pieces-parts.ensures.value (c.index-deref-0.is ∙ ap (λ (l : List Interval). get_or l 0 x) c.deref.ensures.0) in
+    one_part c.args.desk.now c.try_piece.new.desk c.args.hold.now c.try_piece.new.hold c.args.place.0 c.args.span x f.0 _ f.1 (λ e. cc) c.in-Refused.ensures.tried
 
-pub returns-in-Won-clause-endings : goal.returns-in-Won-clause-endings
-returns-in-Won-clause-endings c =
-    endings_then c.args.desk.now c.loop.desk c.note_item.new.desk c.loop.invariant.endings (endings_then c.loop.desk c.try_take.new.desk c.note_item.new.desk c.in-Won.ensures.endings c.note_item.ensures.endings)
-
-pub returns-in-Taken-clause-tried : goal.returns-in-Taken-clause-tried
-returns-in-Taken-clause-tried c =
-    let i = c.loop.invariant in
-    let t = c.in-Taken.ensures.take in
-    let few : c.loop.counter < 8 = omega arith in
-    refused c.args.desk.now c.loop.desk c.try_take.new.desk c.args.hold.now c.try_take.new.hold c.args.place.0 c.args.span c.loop.counter c.loop.shown c.in-Taken.shown i.looked few t.0 t.1 t.3 (t.2 ∙ i.same)
-
-pub returns-in-Taken-clause-endings : goal.returns-in-Taken-clause-endings
-returns-in-Taken-clause-endings c = endings_then c.args.desk.now c.loop.desk c.try_take.new.desk c.loop.invariant.endings c.in-Taken.ensures.endings
-
-pub loop-preserved : goal.loop-preserved
-loop-preserved c =
-    let i = c.loop.invariant in
-    let e = c.in-Moving.ensures in
-    let t = e.take in
-    record {
-      own = e.own;
-      hold = e.hold;
-      noted = subst (λ (h : HoldView). HasNoted c.try_take.new.desk c.try_take.new.hold.row h.items) (sym t.2) (e.noted i.noted);
-      endings = endings_then c.args.desk.now c.loop.desk c.try_take.new.desk i.endings e.endings;
-      same = t.2 ∙ i.same;
-      clear = t.3;
-      looked = looked_more c.args.desk.now c.loop.desk c.try_take.new.desk c.args.place.0 c.args.span c.loop.counter c.loop.shown c.in-Moving.moved i.looked t.0 t.1 t.3;
-    }
+pub returns-in-Contended-clause-tried : goal.returns-in-Contended-clause-tried
+returns-in-Contended-clause-tried c =
+    let ps = c.pieces-parts.result.items in
+    let x = c.index-deref-0.result in
+    let f = first_is c.args.span x ps c.pieces-parts.ensures.value (c.index-deref-0.is ∙ ap (λ (l : List Interval). get_or l 0 x) c.deref.ensures.0) in
+    one_part c.args.desk.now c.try_piece.new.desk c.args.hold.now c.try_piece.new.hold c.args.place.0 c.args.span x f.0 _ f.1 (λ e. cc) c.in-Contended.ensures.tried

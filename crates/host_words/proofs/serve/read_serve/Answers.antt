@@ -1,4 +1,4 @@
-use Rattle.std.proofs.Common.{◌≡◌, ◌∙◌, Option, Some, None, sym, ap, codes, option_map}
+use Rattle.std.proofs.Common.{◌∙◌, Some, None, sym, ap, codes, option_map}
 use Rattle.clap.specs.Words.{found_of, rows_of}
 use Rattle.host_words.specs.Options.{words_texts}
 use Rattle.host_words.specs.Serve.{serve_app}

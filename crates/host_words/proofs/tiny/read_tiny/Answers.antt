@@ -1,6 +1,7 @@
-use Rattle.std.proofs.Common.{◌≡◌, ◌<◌, ◌≤◌, List, [], ◌∷◌, length, get_or, sym, ◌∙◌, ap, arith, rules}
+use Rattle.std.proofs.Common.{◌≡◌, ℕ, ◌<◌, ◌≤◌, List, [], ◌∷◌, length, get_or, sym, ◌∙◌, ap, subst, arith, rules}
 use Rattle.std.specs.Prelude.{string_bytes, codes}
 use Rattle.host_words.specs.Options.{words_texts}
+use Rattle.host_words.specs.Tiny.{IsNumber}
 use Rattle.host_words.proofs.tiny.read_tiny.Goals as goal
 
 three : {X : Type 0} (ws : List X) (a b c : X) → 3 ≤ length ws → length ws < 4
@@ -21,4 +22,5 @@ returns-in-Some-number_spelled-clause-some c =
     (let text : c.as_str.result.now ≡ codes "tiny" = search rules in sym c.as_str.ensures.value ∙ text) in
     let legs : string_bytes c.legs-item.result ≡ second = sym (c.as_bytes.ensures.value ∙ c.as_str-in-len3.ensures.value) in
     let places : string_bytes c.places-item.result ≡ third = sym (c.as_bytes-in-len3.ensures.value ∙ c.as_str-in-len3-2.ensures.value) in
-    (second, third, ap words_texts all ∙ cc, c.in-Some.ensures.some, c.in-Some-number_spelled.ensures.some)
+    let few = subst (λ (most : ℕ). IsNumber second most c.in-Some.legs) c.from.ensures c.in-Some.ensures.some in
+    (second, third, ap words_texts all ∙ cc, few, c.in-Some-number_spelled.ensures.some)

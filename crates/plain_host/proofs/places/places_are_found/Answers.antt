@@ -1,7 +1,7 @@
 use Rattle.plain_host.proofs.PlacesLaws.{row_started}
-use Rattle.plain_host.proofs.PlacesSeen.{word_is_free}
+use Rattle.plain_host.proofs.PlacesSeen.{list_is_free, words_are_free}
 use Rattle.plain_host.proofs.PlacesTries.{finds_free}
 use Rattle.plain_host.proofs.places.places_are_found.Goals as goal
 
 pub returns : goal.returns
-returns c = record { free = λ cat desk span place lone. word_is_free cat desk span place lone; first = finds_free; starts = row_started }
+returns c = record { free = λ cat desk span place lone. list_is_free cat desk span place lone; words = words_are_free; first = finds_free; starts = row_started }

@@ -1,4 +1,5 @@
-use Rattle.std.proofs.Common.{refl}
+use Rattle.std.proofs.Common.{refl, ◌+◌, ◌*◌}
+use Rattle.history_model.specs.Booking.{most_items}
 use Rattle.history_model.specs.declared.phase.EndKind.TheVariants.{Release}
 use Rattle.claim_rule.proofs.Out.{holds_then}
 use Rattle.row_decisions.proofs.Deciding.{by_length}
@@ -16,7 +17,7 @@ returns-in-None-clause-holds c = holds_then c.args.desk.now c.find_owned.new.des
 
 pub returns-in-None-clause-bound : goal.returns-in-None-clause-bound
 returns-in-None-clause-bound c =
-    by_length (Releases c.args.books.now.layout.rows c.args.row.0 c.args.retailer.0 c.args.now released.Done) 56 c.args.desk.now c.end_row.new.desk (releases_length c.args.books.now.layout.rows c.args.row.0 c.args.retailer.0 c.args.now released.Done) (returns-in-None-clause-entries c)
+    by_length (Releases c.args.books.now.layout.rows c.args.row.0 c.args.retailer.0 c.args.now released.Done) (2 * most_items + 8) c.args.desk.now c.end_row.new.desk (releases_length c.args.books.now.layout.rows c.args.row.0 c.args.retailer.0 c.args.now released.Done) (returns-in-None-clause-entries c)
 
 pub returns-in-Some-end_row-clause-entries : goal.returns-in-Some-end_row-clause-entries
 returns-in-Some-end_row-clause-entries c =
@@ -28,4 +29,4 @@ returns-in-Some-end_row-clause-holds c = holds_then c.args.desk.now c.find_owned
 pub returns-in-Some-end_row-clause-bound : goal.returns-in-Some-end_row-clause-bound
 returns-in-Some-end_row-clause-bound c =
     let answer = released.WrongState c.in-Some-end_row.shown in
-    by_length (Releases c.args.books.now.layout.rows c.args.row.0 c.args.retailer.0 c.args.now answer) 56 c.args.desk.now c.end_row.new.desk (releases_length c.args.books.now.layout.rows c.args.row.0 c.args.retailer.0 c.args.now answer) (returns-in-Some-end_row-clause-entries c)
+    by_length (Releases c.args.books.now.layout.rows c.args.row.0 c.args.retailer.0 c.args.now answer) (2 * most_items + 8) c.args.desk.now c.end_row.new.desk (releases_length c.args.books.now.layout.rows c.args.row.0 c.args.retailer.0 c.args.now answer) (returns-in-Some-end_row-clause-entries c)

@@ -10,7 +10,7 @@ place_segment-requires-clause-room c =
     let s = c.as_slice-segment-items in
     let o = c.args.offer.now in
     let same = s.ensures.value in
-    room_left c.args.shop.now.cat.now (offer_view o) c.args.hold.now.row o.segments.items c.loop-segment.segment-index c.loop-segment.hold.items c.args.desk.now c.loop-segment.desk c.loop-segment.invariant.placed
+    room_left c.args.shop.now.cat.now (offer_view o) c.args.hold.now.row o.segments.items c.loop-segment.segment-index c.loop-segment.hold.items c.args.desk.now c.loop-segment.desk c.segment-item.result c.loop-segment.invariant.placed
     (subst (λ (l : List Segment). c.loop-segment.segment-index < length l) same c.loop-segment-test.true) (subst (λ (l : List Segment). length l ≤ 3) same s.ensures.fits)
     (some_of o.adults o.children c.requires.party) (few_of o.adults o.children c.requires.party)
 

@@ -1,5 +1,6 @@
 use Rattle.std.proofs.Common.{◌≤◌, arith, length, subst, All}
 use Rattle.std.proofs.lemmas.List.{take_all}
+use Rattle.train_runs.specs.Stops.{most_stops}
 use Rattle.search_service.proofs.Stops.{one_more}
 use Rattle.search_service.proofs.ranges.know_stops.Goals as goal
 
@@ -9,4 +10,4 @@ loop-number-preserved c =
 
 pub returns : goal.returns
 returns c =
-    subst (λ runs. All (λ it. length it.stops ≤ 64) runs) (take_all c.loop-number.number c.args.runs.now.runs (omega (arith, c.loop-number-test.false, c.count-number-end.ensures.value))) c.loop-number.invariant.1
+    subst (λ runs. All (λ it. length it.stops ≤ most_stops) runs) (take_all c.loop-number.number c.args.runs.now.runs (omega (arith, c.loop-number-test.false, c.count-number-end.ensures.value))) c.loop-number.invariant.1

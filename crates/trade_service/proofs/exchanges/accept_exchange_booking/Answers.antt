@@ -1,4 +1,5 @@
 use Rattle.offer_codes.specs.Exchanges.{exchange_view}
+use Rattle.reservation_service.proofs.Replying.{no_item}
 use Rattle.trade_service.proofs.Exchanging.{is_ready_of, carried, refused, exchanged_tidy}
 use Rattle.trade_service.proofs.exchanges.accept_exchange_booking.Goals as goal
 
@@ -16,6 +17,7 @@ returns-in-Ok-clause-tidy c =
 pub returns-in-Err-clause-answer : goal.returns-in-Err-clause-answer
 returns-in-Err-clause-answer c =
     refused c.args.shop.now.cat.now c.args.shop.now.books.now.layout.rows c.args.asker.retailer.0 (exchange_view c.args.code.now) c.args.asker.moment c.in-Err.problem c.args.desk.now c.check.new.desk c.in-Err.ensures.unready
+    (no_item c.args.shop.now.books.now c.check.new.desk c.check.ensures.own (c.check.ensures.holds.none c.requires.idle.0))
 
 pub returns-in-Err-clause-tidy : goal.returns-in-Err-clause-tidy
 returns-in-Err-clause-tidy c =

@@ -2,13 +2,15 @@ use Rattle.std.proofs.Common.{◌∙◌, sym}
 use Rattle.offer_codes.specs.Offers.{offer_view}
 use Rattle.offer_codes.specs.Exchanges.{exchange_view}
 use Rattle.reservation_service.proofs.Placed.{some_of, few_of}
-use Rattle.reservation_service.proofs.Replying.{some_held}
+use Rattle.reservation_service.proofs.Replying.{no_item, some_held}
 use Rattle.trade_service.specs.Exchanges.{ready_of}
 use Rattle.trade_service.proofs.Exchanging.{has_party, has_segments, ready_held, no_row, given_up, decided}
 use Rattle.trade_service.proofs.exchanges.carry_out.Goals as goal
 
 pub returns-in_default-clause-answer : goal.returns-in_default-clause-answer
-returns-in_default-clause-answer c = no_row c.args.shop.now.cat.now (ready_of c.args.asker.retailer.0 (exchange_view c.args.code.now) c.args.asker.moment) c.args.desk.now c.hold_places.new.desk c.in_default.ensures.no_row
+returns-in_default-clause-answer c =
+    no_row c.args.shop.now.cat.now (ready_of c.args.asker.retailer.0 (exchange_view c.args.code.now) c.args.asker.moment) c.args.desk.now c.hold_places.new.desk c.in_default.ensures.no_row
+    (no_item c.args.shop.now.books.now c.hold_places.new.desk c.hold_places.ensures.own c.in_default.ensures.none_out)
 
 pub decide-requires-clause-some : goal.decide-requires-clause-some
 decide-requires-clause-some c =
@@ -25,9 +27,11 @@ pub returns-in-Some-problem-clause-answer : goal.returns-in-Some-problem-clause-
 returns-in-Some-problem-clause-answer c =
     given_up c.args.shop.now.cat.now (ready_of c.args.asker.retailer.0 (exchange_view c.args.code.now) c.args.asker.moment) c.in-Some.field-0.hold.row c.in-Some.field-0.placing c.in-Some-problem.problem c.in-Some.field-0.hold.items c.args.desk.now c.hold_places.new.desk c.abandon.new.desk
     c.in-Some.ensures.placed (sym c.problem.ensures ∙ c.in-Some-problem.is) c.abandon.ensures.entries
+    (no_item c.args.shop.now.books.now c.abandon.new.desk c.abandon.ensures.own c.abandon.ensures.none)
 
 pub returns-in-None-clause-answer : goal.returns-in-None-clause-answer
 returns-in-None-clause-answer c =
     let a = c.decide.ensures.answer in
     decided c.args.shop.now.cat.now (ready_of c.args.asker.retailer.0 (exchange_view c.args.code.now) c.args.asker.moment) c.args.ready c.in-Some.field-0.hold.row c.in-Some.field-0.placing c.in-Some.field-0.hold.items _ c.args.desk.now c.hold_places.new.desk c.decide.new.desk a.0 _
-    c.in-Some.ensures.placed (sym c.problem.ensures ∙ c.in-None.is) c.requires.same c.detail_for-detail.ensures.detail a.1 a.2
+    c.in-Some.ensures.placed (sym c.problem.ensures ∙ c.in-None.is) c.requires.same c.detail_for-detail.ensures.detail a.1
+    (no_item c.args.shop.now.books.now c.decide.new.desk c.decide.ensures.own c.decide.ensures.holds_none) a.2

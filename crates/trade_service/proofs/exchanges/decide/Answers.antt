@@ -1,7 +1,6 @@
 use Rattle.std.proofs.Common.{rules, ◌≡◌, ◌∙◌, inr, List, refl, sym, ap, to_z, of_z, w64}
 use Rattle.leg_masks.specs.Interval.{PlacedSpan as Item}
 use Rattle.history_model.specs.declared.phase.Phase.TheVariants as phase
-use Rattle.booking_rows.specs.Notes.{detail_notes}
 use Rattle.offer_codes.specs.Exchanges.{ExchangeView}
 use Rattle.exchange_core.proofs.Kept.{ready_on}
 use Rattle.osdm_texts.specs.declared.problem.Problem.TheVariants.{NoMemory, WrongState}

@@ -7,7 +7,7 @@ use Rattle.claim_rule.proofs.Holding.{still_met}
 use Rattle.claim_rule.proofs.Out.{met_idle, met_tidy}
 use Rattle.claim_rule.proofs.books.Books.meet.Goals as goal
 
-some_words : (w n r : ℕ) → w ≡ n + 32 * r → 0 < n → 0 < w
+some_words : (w n r : ℕ) → w ≡ 2 * n + 64 * r → 0 < n → 0 < w
 some_words w n r e l = omega arith
 
 pub join_seat-requires : goal.join_seat-requires

@@ -10,11 +10,11 @@ use Rattle.history_model.specs.History.{own as own_of}
 use Rattle.claim_rule.proofs.books.Books.part.Goals as goal
 use Rattle.history_model.specs.declared.entry.Step.TheVariants.{Met}
 
-some_words : (w n r : ℕ) → w ≡ n + 32 * r → 0 < n → 0 < w
+some_words : (w n r : ℕ) → w ≡ 2 * n + 64 * r → 0 < n → 0 < w
 some_words w n r e l = omega arith
 
 pub load_as-requires-clause-word : goal.load_as-requires-clause-word
-load_as-requires-clause-word c = subst (λ (b : BooksView). 0 < length b.layout.legs) c.self.view_is c.self.invariant.3
+load_as-requires-clause-word c = (subst (λ (b : BooksView). 0 < length b.layout.legs) c.self.view_is c.self.invariant.3, omega arith)
 
 pub split_seat-seat-requires : goal.split_seat-seat-requires
 split_seat-seat-requires c =

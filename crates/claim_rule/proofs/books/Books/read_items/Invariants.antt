@@ -1,4 +1,5 @@
 use Rattle.std.proofs.Common.{◌≡◌, ◌≤◌, ◌∷◌, length}
+use Rattle.history_model.specs.Booking.{most_items}
 use Rattle.history_model.specs.declared.entry.Step.TheVariants.{SawRow}
 use Rattle.claim_rule.specs.Seats.{IsOf, Shape}
 use Rattle.claim_rule.specs.Endings.{item_looks}
@@ -10,6 +11,6 @@ invariant-loop-i l = record {
   own : IsOf l.self l.desk;
   so_far : ReadSoFar l.desk l.ending l.count l.i l.items.items;
   kept : l.desk.kept ≡ l.fn.desk.kept;
-  few : length l.items.items ≤ 24;
+  few : length l.items.items ≤ most_items;
   seen : Shape l.fn.desk l.desk (SawRow l.ending.row 4 l.count ∷ item_looks l.ending.row 8 l.items.items);
 }

@@ -9,24 +9,25 @@ use Rattle.claim_rule.proofs.Holding.{hold_stays, hold_takes, still_alone, can_t
 use Rattle.claim_rule.proofs.books.Books.step_take.Goals as goal
 use Rattle.history_model.specs.Booking.{Layout}
 use Rattle.history_model.specs.declared.entry.Step.{Step}
-use Rattle.history_model.specs.declared.entry.Step.TheVariants.{Look, Take}
+use Rattle.history_model.specs.declared.entry.Step.TheVariants.{Take}
+use Rattle.history_model.specs.Looks.{look_at}
 use Rattle.history_model.specs.declared.word.Word.TheVariants.{Place}
-use Rattle.leg_masks.specs.Interval.{PlacedSpan as Item}
+use Rattle.leg_masks.specs.Interval.{PlacedSpan as Item, half_of}
 
-missed : (n old : ℕ) (i : Item) (hit : Step) (lay : Layout) (a b : Seat ℕ View) → (n ≡ old → ⊥) → HasMade lay (either_step old hit (Place i.place) n) a b → HasMade lay (Look i.place n) a b
-missed n old i hit lay a b other made = subst (λ (c : Bool). HasMade lay (cond c hit (Look i.place n)) a b) (ne_eqb n old other) made
+missed : (n old : ℕ) (i : Item) (hit : Step) (lay : Layout) (a b : Seat ℕ View) → (n ≡ old → ⊥) → HasMade lay (either_step old hit (Place i.place (half_of i.span)) n) a b → HasMade lay (look_at i.place i.span n) a b
+missed n old i hit lay a b other made = subst (λ (c : Bool). HasMade lay (cond c hit (look_at i.place i.span n)) a b) (ne_eqb n old other) made
 
-won : (n old : ℕ) (i : Item) (hit : Step) (lay : Layout) (a b : Seat ℕ View) → n ≡ old → HasMade lay (either_step old hit (Place i.place) n) a b → HasMade lay hit a b
-won n old i hit lay a b same made = subst (λ (c : Bool). HasMade lay (cond c hit (Look i.place n)) a b) (eq-eqb n old same) made
+won : (n old : ℕ) (i : Item) (hit : Step) (lay : Layout) (a b : Seat ℕ View) → n ≡ old → HasMade lay (either_step old hit (Place i.place (half_of i.span)) n) a b → HasMade lay hit a b
+won n old i hit lay a b same made = subst (λ (c : Bool). HasMade lay (cond c hit (look_at i.place i.span n)) a b) (eq-eqb n old same) made
 
 -- the goals, with the hold that the contract sees
-missing : (n old : ℕ) (i : Item) (hit : Step) (books : BooksView) (a b : Seat ℕ View) (kept : Option ℕ) (past : ℕ) (desk : DeskView) (hold : HoldView) → desk_view a kept past ≡ desk → IsOf books desk → IsHoldOf desk hold → (n ≡ old → ⊥) → HasMade books.layout (either_step old hit (Place i.place) n) a b
-    → IsOf books (desk_view b kept past) × IsHoldOf (desk_view b kept past) hold × Stepped (Look i.place n) desk (desk_view b kept past)
+missing : (n old : ℕ) (i : Item) (hit : Step) (books : BooksView) (a b : Seat ℕ View) (kept : Option ℕ) (past : ℕ) (desk : DeskView) (hold : HoldView) → desk_view a kept past ≡ desk → IsOf books desk → IsHoldOf desk hold → (n ≡ old → ⊥) → HasMade books.layout (either_step old hit (Place i.place (half_of i.span)) n) a b
+    → IsOf books (desk_view b kept past) × IsHoldOf (desk_view b kept past) hold × Stepped (look_at i.place i.span n) desk (desk_view b kept past)
 missing n old i hit books a b kept past desk hold is of held other made =
-    let did = steps_as books.layout (Look i.place n) a b kept past desk is (ap (λ (d : DeskView). d.layout) is ∙ of.layout) (missed n old i hit books.layout a b other made) in
-    (still_alone (Look i.place n) books desk (desk_view b kept past) refl held.1 did of, (hold_stays (Look i.place n) desk (desk_view b kept past) hold refl did held.0, did.same.5 ∙ held.1), did)
+    let did = steps_as books.layout (look_at i.place i.span n) a b kept past desk is (ap (λ (d : DeskView). d.layout) is ∙ of.layout) (missed n old i hit books.layout a b other made) in
+    (still_alone (look_at i.place i.span n) books desk (desk_view b kept past) refl held.1 did of, (hold_stays (look_at i.place i.span n) desk (desk_view b kept past) hold refl did held.0, did.same.5 ∙ held.1), did)
 
-taking : (n old : ℕ) (i : Item) (row : ℕ) (books : BooksView) (a b : Seat ℕ View) (kept : Option ℕ) (past : ℕ) (desk : DeskView) (hold : HoldView) → desk_view a kept past ≡ desk → IsOf books desk → IsHoldOf desk hold → IsItem books.layout i → row ≡ hold.row → n ≡ old → HasMade books.layout (either_step old (Take row i.place i.span) (Place i.place) n) a b
+taking : (n old : ℕ) (i : Item) (row : ℕ) (books : BooksView) (a b : Seat ℕ View) (kept : Option ℕ) (past : ℕ) (desk : DeskView) (hold : HoldView) → desk_view a kept past ≡ desk → IsOf books desk → IsHoldOf desk hold → IsItem books.layout i → row ≡ hold.row → n ≡ old → HasMade books.layout (either_step old (Take row i.place i.span) (Place i.place (half_of i.span)) n) a b
     → IsOf books (desk_view b kept past) × IsHoldOf (desk_view b kept past) (with_one hold i) × Stepped (Take hold.row i.place i.span) desk (desk_view b kept past)
 taking n old i row books a b kept past desk hold is of held fits at same made =
     let hit = Take hold.row i.place i.span in

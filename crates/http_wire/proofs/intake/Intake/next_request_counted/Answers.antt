@@ -1,18 +1,18 @@
-use Rattle.std.proofs.Common.{◌≡◌, ℕ, ◌+◌, ◌-◌, ◌≤◌, List, [], ◌++◌, length, drop, refl, sym, ◌∙◌, ap, subst, arith, append-nil, append_assoc, length-append, length-drop, inl, inr, rules}
+use Rattle.std.proofs.Common.{◌≡◌, ℕ, ◌+◌, ◌-◌, ◌≤◌, List, [], ◌++◌, length, take, drop, refl, sym, ◌∙◌, ap, subst, arith, append-nil, append_assoc, length-append, length-drop, inl, inr, rules}
 use Rattle.std.specs.Prelude.{◌⊎◌, slice_range}
 use Rattle.std.specs.Vec.{with_items}
-use Rattle.std.proofs.lemmas.List.{with_items_is, length-take}
+use Rattle.std.proofs.lemmas.List.{with_items_is, length-take, take-take, drop-take, drop-drop, take-append-drop}
 use Rattle.std.proofs.lemmas.Grind.{common_steps}
 use Rattle.rail_io.specs.Told.{with_front}
 use Rattle.rail_io.specs.declared.source.Pulled.TheVariants.{Got, Failed}
 use Rattle.http_wire.specs.Pieces.{IsWhole, IsFront, ArePiecesWithin, request_text}
 use Rattle.http_wire.specs.Requests.{IsRequest, IsBlank, IsUnfinished}
-use Rattle.http_wire.specs.Next.{Draws}
+use Rattle.http_wire.specs.Next.{Draws, IsDecided, ReadsAtNeed}
 use Rattle.http_wire.specs.Stages.{IsStage, searched}
 use Rattle.http_wire.specs.View.{IntakeView}
 use Rattle.http_wire.specs.declared.intake.Front.TheVariants.{Whole}
 use Rattle.http_wire.specs.declared.intake.Stage.{Stage}
-use Rattle.http_wire.proofs.StageLemmas.{stage_more, stage_start, searched_within}
+use Rattle.http_wire.proofs.StageLemmas.{PullsForMore, stage_more, stage_start, searched_within}
 use Rattle.http_wire.proofs.WholeLemmas.{next_in_range, nothing_pulled, pulled_more}
 use Rattle.http_wire.proofs.intake.Intake.next_request_counted.Goals.{in-Blank, in-Open}
 use Rattle.http_wire.proofs.intake.Intake.next_request_counted.Goals as goal
@@ -22,10 +22,45 @@ text_is seen items at start filled e f =
     ap (λ (m : List ℕ). slice_range m at filled) e ∙ ap (λ (k : ℕ). slice_range items k filled) f
 
 -- the steps are no more than the bytes held and pulled
-few_steps : (number new mid old : ℕ) (before after : Stage) (text unread pulled : List ℕ) → new + searched before ≤ mid + searched after
-    → mid ≤ old + searched before → IsStage number text after → text ≡ unread ++ pulled → new ≤ old + (length unread + length pulled)
-few_steps number new mid old before after text unread pulled more less stage is =
+few_steps : (number new mid old looked : ℕ) (before after : Stage) (text unread pulled : List ℕ) → new + searched before ≤ mid + searched after
+    → mid + looked ≤ old + searched before → IsStage number text after → text ≡ unread ++ pulled → new ≤ old + (length unread + length pulled)
+few_steps number new mid old looked before after text unread pulled more less stage is =
     omega (arith, more, less, searched_within number text after stage, ap length is, length-append unread pulled)
+
+waits_start : (held : List ℕ) → PullsForMore held []
+unfolding PullsForMore
+waits_start held decided = refl
+
+-- what was held is all, where it was decided
+all_held : (held pulled : List ℕ) → PullsForMore held pulled → IsDecided held → held ++ pulled ≡ held
+unfolding PullsForMore
+all_held held pulled waits decided = ap (λ (l : List ℕ). held ++ l) (waits decided) ∙ append-nil held
+
+undecided : (held pulled : List ℕ) → PullsForMore held pulled → IsBlank (held ++ pulled) ⊎ IsUnfinished (held ++ pulled) → IsDecided held → ⊥
+undecided held pulled waits rest decided =
+    decided (subst (λ (t : List ℕ). IsBlank t ⊎ IsUnfinished t) (all_held held pulled waits decided) rest)
+
+waits_on : (held pulled more : List ℕ) → PullsForMore held pulled → IsBlank (held ++ pulled) ⊎ IsUnfinished (held ++ pulled) → PullsForMore held more
+unfolding PullsForMore
+waits_on held pulled more waits rest decided = absurd (undecided held pulled waits rest decided)
+
+held_still : (held pulled now : List ℕ) → PullsForMore held pulled → IsBlank (held ++ pulled) ⊎ IsUnfinished (held ++ pulled) → IsDecided held → now ≡ held
+held_still held pulled now waits rest decided = absurd (undecided held pulled waits rest decided)
+
+-- the parts of a range
+parts_of_range : (memory : List ℕ) (start middle end filled : ℕ) → start + end ≡ middle → middle ≤ filled
+    → slice_range memory start middle ++ slice_range memory middle filled ≡ slice_range memory start filled
+parts_of_range memory start middle end filled is within =
+    let room = drop start memory in
+    let held = filled - start in
+    let front : slice_range memory start middle ≡ take end (take held room) =
+    ap (λ (n : ℕ). take n room) (omega (arith, is)) ∙ sym (take-take end held room (omega (arith, is, within))) in
+    let back : slice_range memory middle filled ≡ drop end (take held room) =
+    sym (ap (λ (n : ℕ). drop end (take n room)) (omega (arith, is, within))
+    ∙ drop-take end (filled - middle) room
+    ∙ ap (take (filled - middle)) (drop-drop end start memory)
+    ∙ ap (λ (n : ℕ). take (filled - middle) (drop n memory)) is) in
+    (λ i. front i ++ back i) ∙ take-append-drop end (take held room)
 
 pub reads-init : goal.reads-init
 reads-init g c =
@@ -44,7 +79,8 @@ reads-init g c =
       given = ap (λ (v : IntakeView). v.given) c.self.view_is;
       faults = omega arith;
       steady = omega arith;
-      steps = omega arith;
+      waits = waits_start c.args.self.now.unread;
+      steps = omega (arith, ap (λ (v : IntakeView). v.looked) c.self.view_is);
     }
 
 pub invariant_of-self : goal.invariant_of-self
@@ -86,7 +122,7 @@ returns-in-Whole-clause-next g c =
     let end : inside.start + c.in-Whole.size ≡ inside.at + c.in-Whole.size = omega (arith, inv.front) in (
       inv.pulled,
       inv.told,
-      few_steps number c.examine-examined.new.steps c.reads.steps c.args.steps.now inside.stage c.examine-examined.result.stage text unread inv.pulled
+      few_steps number c.examine-examined.new.steps c.reads.steps c.args.steps.now c.args.self.now.looked inside.stage c.examine-examined.result.stage text unread inv.pulled
           c.examine-examined.ensures.steps inv.steps stage inv.held,
       (
         inv.number,
@@ -147,6 +183,15 @@ reads-preserved g c =
     let same = text_is c.deref.result.now inside.memory.items inside.at inside.start inside.filled c.deref.ensures.value inv.front in
     let stage : IsStage number text c.examine-examined.result.stage =
     subst (λ (t : List ℕ). IsStage number t c.examine-examined.result.stage) same c.examine-examined.ensures.stage in
+    let unread = c.args.self.now.unread in
+    let bytes = unread ++ inv.pulled in
+    let front : IsFront number bytes c.examine-examined.result.front =
+    subst (λ (t : List ℕ). IsFront number t c.examine-examined.result.front) (same ∙ inv.held) c.examine-examined.ensures.front in
+    let rest : IsBlank bytes ⊎ IsUnfinished bytes =
+    (elim c.match-examined.branch [
+      | in-Blank w ↦ inl (subst (IsFront number bytes) w.in-Blank.is front)
+      | in-Open w ↦ inr ((subst (IsFront number bytes) w.in-Open.is front).0)
+    ]) in
     record {
       pulled = inv.pulled ++ more;
       told = inv.told ∙ ap (with_front inv.pulled) d.2 ∙ pulled_more inv.pulled more after;
@@ -161,6 +206,7 @@ reads-preserved g c =
       given = inv.given;
       faults = search rules;
       steady = search rules;
+      waits = waits_on unread inv.pulled (inv.pulled ++ more) inv.waits rest;
       steps = omega (arith, c.examine-examined.ensures.steps, inv.steps);
     }
 
@@ -197,7 +243,73 @@ returns-in-Failed-clause-next g c =
     ∙ inv.held in (
       inv.pulled,
       inv.told ∙ ap (with_front inv.pulled) (sym d.0),
-      few_steps number c.examine-examined.new.steps c.reads.steps c.args.steps.now inside.stage c.examine-examined.result.stage text unread inv.pulled
+      few_steps number c.examine-examined.new.steps c.reads.steps c.args.steps.now c.args.self.now.looked inside.stage c.examine-examined.result.stage text unread inv.pulled
           c.examine-examined.ensures.steps inv.steps stage inv.held,
       (rest, record { unread = kept; given = ap (λ (n : ℕ). n + 1) inv.given }),
     )
+
+pub returns-in-Failed-clause-at_once : goal.returns-in-Failed-clause-at_once
+unfolding ReadsAtNeed
+returns-in-Failed-clause-at_once g c =
+    let inside = c.reads.self-inside in
+    let inv = c.reads.invariant in
+    let number = c.self.inside.given + 1 in
+    let unread = c.args.self.now.unread in
+    let bytes = unread ++ inv.pulled in
+    let same = text_is c.deref.result.now inside.memory.items inside.at inside.start inside.filled c.deref.ensures.value inv.front in
+    let front : IsFront number bytes c.examine-examined.result.front =
+    subst (λ (t : List ℕ). IsFront number t c.examine-examined.result.front) (same ∙ inv.held) c.examine-examined.ensures.front in
+    let rest : IsBlank bytes ⊎ IsUnfinished bytes =
+    (elim c.match-examined.branch [
+      | in-Blank w ↦ inl (subst (IsFront number bytes) w.in-Blank.is front)
+      | in-Open w ↦ inr ((subst (IsFront number bytes) w.in-Open.is front).0)
+    ]) in
+    held_still unread inv.pulled _ inv.waits rest
+
+pub returns-in-End-clause-at_once : goal.returns-in-End-clause-at_once
+unfolding ReadsAtNeed
+returns-in-End-clause-at_once g c =
+    let inside = c.reads.self-inside in
+    let inv = c.reads.invariant in
+    let number = c.self.inside.given + 1 in
+    let unread = c.args.self.now.unread in
+    let bytes = unread ++ inv.pulled in
+    let same = text_is c.deref.result.now inside.memory.items inside.at inside.start inside.filled c.deref.ensures.value inv.front in
+    let front : IsFront number bytes c.examine-examined.result.front =
+    subst (λ (t : List ℕ). IsFront number t c.examine-examined.result.front) (same ∙ inv.held) c.examine-examined.ensures.front in
+    let rest : IsBlank bytes ⊎ IsUnfinished bytes =
+    (elim c.match-examined.branch [
+      | in-Blank w ↦ inl (subst (IsFront number bytes) w.in-Blank.is front)
+      | in-Open w ↦ inr ((subst (IsFront number bytes) w.in-Open.is front).0)
+    ]) in
+    held_still unread inv.pulled _ inv.waits rest
+
+pub returns-in-Whole-clause-at_once : goal.returns-in-Whole-clause-at_once
+unfolding ReadsAtNeed
+returns-in-Whole-clause-at_once g c =
+    let inside = c.reads.self-inside in
+    let inv = c.reads.invariant in
+    let unread = c.args.self.now.unread in
+    let text = slice_range inside.memory.items inside.start inside.filled in
+    let number = c.self.inside.given + 1 in
+    let same = text_is c.deref.result.now inside.memory.items inside.at inside.start inside.filled c.deref.ensures.value inv.front in
+    let whole : IsFront number text (Whole c.in-Whole.request c.in-Whole.size) =
+    subst (IsFront number text) c.in-Whole.is
+    (subst (λ (t : List ℕ). IsFront number t c.examine-examined.result.front) same c.examine-examined.ensures.front) in
+    let size = length-take (inside.filled - inside.start) (drop inside.start inside.memory.items) in
+    λ (decided : IsDecided unread).
+    parts_of_range inside.memory.items inside.start (inside.at + c.in-Whole.size) c.in-Whole.size inside.filled (omega (arith, inv.front))
+    (omega (arith, inv.front, whole.within, size, inv.ordered))
+    ∙ inv.held
+    ∙ all_held unread inv.pulled inv.waits decided
+
+pub returns-in-Fault-clause-at_once : goal.returns-in-Fault-clause-at_once
+unfolding ReadsAtNeed
+returns-in-Fault-clause-at_once g c =
+    let inside = c.reads.self-inside in
+    let inv = c.reads.invariant in
+    let unread = c.args.self.now.unread in
+    λ (decided : IsDecided unread).
+    parts_of_range inside.memory.items inside.start inside.at 0 inside.filled (omega (arith, inv.front)) (omega (arith, inv.front, inv.ordered))
+    ∙ inv.held
+    ∙ all_held unread inv.pulled inv.waits decided

@@ -2,6 +2,7 @@ use Rattle.std.proofs.Common.{◌≡◌, ℕ, ◌+◌, ◌-◌, ◌≤◌, List,
 use Rattle.std.specs.Prelude.{slice_range}
 use Rattle.rail_io.specs.Told.{with_front}
 use Rattle.http_wire.specs.Stages.{IsStage, searched}
+use Rattle.http_wire.proofs.StageLemmas.{PullsForMore}
 use Rattle.http_wire.proofs.intake.Intake.next_request_counted.Given as goal
 
 -- what is held is what was held, and what was pulled since
@@ -19,7 +20,8 @@ invariant-reads g l = record {
   given : l.self-inside.given ≡ l.fn.self.given;
   faults : g.S.Source.faults l.fn.source ≤ g.S.Source.faults l.source;
   steady : g.S.Source.faults l.source ≤ g.S.Source.faults l.fn.source;
-  steps : l.steps ≤ l.fn.steps + searched l.self-inside.stage;
+  waits : PullsForMore l.fn.self.unread pulled;
+  steps : l.steps + l.fn.self.looked ≤ l.fn.steps + searched l.self-inside.stage;
 }
 
 abbrev pub decreases-reads : goal.decreases-reads

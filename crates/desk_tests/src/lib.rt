@@ -1,0 +1,9 @@
+//! Tests of a desk's public calls: rows, holds and looks, on one desk and on two.
+#![tactic(auto)]
+
+#[cfg(test)]
+mod holds;
+#[cfg(test)]
+mod looks;
+#[cfg(test)]
+mod rows;

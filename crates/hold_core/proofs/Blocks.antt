@@ -1,0 +1,228 @@
+-- A try of a candidate, from those of its pieces.
+use Rattle.std.proofs.Common.{◌≡◌, suc, ◌≢◌, ◌⊎◌, inl, inr, ⊎_elim, false, ℕ, ◌+◌, ◌-◌, ◌<◌, ◌≤◌, List, [], ◌∷◌, ◌++◌, length, get_or, map, take, refl, sym, ap, ◌∙◌, subst, arith, append_assoc, append-nil, length-append}
+use Rattle.std.specs.List.{AllByRecursion}
+use Rattle.leg_masks.specs.Interval.{Interval, IsPiece, pieces, is_piece, PlacedSpan as Item}
+use Rattle.leg_masks.proofs.HalfLegs.{pieces-whole, pieces-border, pieces_some, ends-border, cases_piece}
+use Rattle.history_model.specs.declared.entry.Step.{Step}
+use Rattle.history_model.specs.declared.entry.Step.TheVariants.{Give}
+use Rattle.claim_rule.specs.Rule.{DeskView}
+use Rattle.claim_rule.specs.Seats.{Shape}
+use Rattle.claim_rule.specs.Holds.{HoldView, with_one}
+use Rattle.claim_rule.specs.Out.{HasNoted, HasNotedItems, HasNotedButLast}
+use Rattle.claim_rule.proofs.Holding.{take_front}
+use Rattle.claim_rule.proofs.Noting.{noted_front}
+use Rattle.claim_rule.proofs.Shapes.{shape_then}
+use Rattle.hold_core.specs.declared.tries.Outcome.{Outcome}
+use Rattle.hold_core.specs.declared.tries.Outcome.TheVariants.{Won, Refused, Contended}
+use Rattle.hold_core.specs.Tries.{Part, AreParts, part_steps, undone, items_tried, piece_won, given_first, HasSecond, with_items, TriesPiece, TriesSecond, TriesPlace}
+
+-- the pieces of a span, one by one
+
+at_first : (xs : List Interval) (d : Interval) → 1 ≤ length xs → (rest : List Interval) × (xs ≡ get_or xs 0 d ∷ rest)
+at_first [] d l = absurd (omega arith)
+at_first (x ∷ xs) d l = (xs, refl)
+
+-- the first of the pieces, as it is read
+pub first_is : (span x : Interval) (ps : List Interval) → ps ≡ pieces span → x ≡ get_or ps 0 x → (rest : List Interval) × (pieces span ≡ x ∷ rest)
+first_is span x ps are is =
+    let f = at_first ps x (subst (λ (l : List Interval). 1 ≤ length l) (sym are) (pieces_some span).0) in
+    (f.0, sym are ∙ (f.1 ∙ ap (λ (y : Interval). y ∷ f.0) (sym is)))
+
+pub first_there : (span : Interval) (ps : List Interval) → ps ≡ pieces span → 0 < length ps
+first_there span ps are = subst (λ (l : List Interval). 0 < length l) (sym are) (pieces_some span).0
+
+head_same : (x y : Interval) (xs ys : List Interval) → x ∷ xs ≡ y ∷ ys → x ≡ y
+head_same x y xs ys e = cc
+
+tail_same : (x y : Interval) (xs ys : List Interval) → x ∷ xs ≡ y ∷ ys → xs ≡ ys
+tail_same x y xs ys e = cc
+
+-- it ends where the span does, or before
+pub first_ends : (span x : Interval) (rest : List Interval) → pieces span ≡ x ∷ rest → x.to ≤ span.to
+first_ends span x rest are = ⊎_elim
+    (λ (p : IsPiece span). let e : x ≡ span = head_same x span rest [] (sym are ∙ pieces-whole span p) in subst (λ (y : Interval). y.to ≤ span.to) (sym e) (omega arith))
+    (λ (b : is_piece span ≡ false). let e = head_same x _ rest _ (sym are ∙ pieces-border span b) in subst (λ (y : Interval). y.to ≤ span.to) (sym e) (let l = ends-border span b in omega (arith, l.1)))
+    (cases_piece span)
+
+pub first_piece : (span x : Interval) (rest ps : List Interval) → ps ≡ pieces span → AllByRecursion IsPiece ps → pieces span ≡ x ∷ rest → IsPiece x
+first_piece span x rest ps same all are = (subst (AllByRecursion IsPiece) (same ∙ are) all).0
+
+pub first_room : (span x : Interval) (rest : List Interval) (n : ℕ) → pieces span ≡ x ∷ rest → n + length (pieces span) ≤ 48 → n < 48
+first_room span x rest n are room = let s = pieces_some span in omega (arith, s.0)
+
+-- one piece alone
+pub none_left : (span x : Interval) (rest ps : List Interval) → ps ≡ pieces span → pieces span ≡ x ∷ rest → length ps ≡ 1 → rest ≡ []
+none_left span x [] ps same are one = refl
+none_left span x (y ∷ ys) ps same are one = absurd (too_many (length ps) (length ys) (ap length (same ∙ are)) one)
+  where
+    too_many : (n m : ℕ) → n ≡ suc (suc m) → n ≡ 1 → ⊥
+    too_many n m e f = omega (arith, e, f)
+
+-- the second of the pieces
+pub record Second (span x y : Interval) : Type 0 where
+  pub are : pieces span ≡ x ∷ y ∷ []
+  pub piece : IsPiece y
+  pub ends : y.to ≤ span.to
+
+pub second_of : (span x y : Interval) (rest ps : List Interval) → ps ≡ pieces span → AllByRecursion IsPiece ps → pieces span ≡ x ∷ rest → (length ps ≡ 1 → ⊥) → y ≡ get_or ps 1 y → Second span x y
+second_of span x y [] ps same all are more is = absurd (more (ap length (same ∙ are)))
+second_of span x y (z ∷ zs) ps same all are more is =
+    let two = pieces_some span in
+    let l : length (pieces span) ≡ suc (suc (length zs)) = ap length are in
+    let none : zs ≡ [] = nothing zs (let m : length zs ≤ 0 = omega (arith, two.1, l) in m) in
+    let its : y ≡ z = is ∙ ap (λ (q : List Interval). get_or q 1 y) (same ∙ are) in
+    let border : is_piece span ≡ false = ⊎_elim (λ (p : IsPiece span). absurd (let one : length (pieces span) ≡ 1 = ap length (pieces-whole span p) in omega (arith, one, l))) (λ (b : is_piece span ≡ false). b) (cases_piece span) in
+    let last = head_same z _ zs [] (tail_same x _ (z ∷ zs) _ (sym are ∙ pieces-border span border)) in
+    record {
+      are = are ∙ ((λ i. x ∷ sym its i ∷ none i));
+      piece = subst IsPiece (sym its) (subst (AllByRecursion IsPiece) (same ∙ are) all).1.0;
+      ends = subst (λ (q : Interval). q.to ≤ span.to) (sym (its ∙ last)) (omega arith);
+    }
+  where
+    nothing : (zs : List Interval) → length zs ≤ 0 → zs ≡ []
+    nothing [] l = refl
+    nothing (q ∷ qs) l = absurd (omega arith)
+
+pub second_there : (span x : Interval) (rest ps : List Interval) → ps ≡ pieces span → pieces span ≡ x ∷ rest → (length ps ≡ 1 → ⊥) → 1 < length ps
+second_there span x rest ps same are more = let l : length ps ≡ suc (length rest) = ap length (same ∙ are) in go (length ps) (length rest) l more
+  where
+    go : (n m : ℕ) → n ≡ suc m → (n ≡ 1 → ⊥) → 1 < n
+    go n m e ne = omega (arith, e, ne)
+
+abbrev no_parts : List Part
+no_parts = []
+
+abbrev pub placed : ℕ → Interval → Item
+placed place piece = record { place = place; span = piece }
+
+-- a candidate whose last try is that of its first piece
+
+not_won_r : Refused ≢ Won
+not_won_r e = cc
+
+not_won_c : Contended ≢ Won
+not_won_c e = cc
+
+pub one_part : (a b : DeskView) (hold held : HoldView) (place : ℕ) (span x : Interval) (rest : List Interval) (o : Outcome) → pieces span ≡ x ∷ rest → (o ≡ Won → rest ≡ []) → TriesPiece a hold place x b held o → TriesPlace a hold place span b held o
+one_part a b hold held place span x rest o are last did =
+    let t : Part = record { piece = x; shown = did.0; outcome = o } in
+    let row = hold.row in
+    let k = length hold.items in (
+      t ∷ [],
+      subst (λ (l : List Interval). AreParts l (t ∷ []) o) (sym are) (refl, did.1, ends o refl),
+      subst (Shape a b) (sym (steps o t row k)) did.2,
+      did.3 ∙ ap (with_items hold) (items o last),
+    )
+  where
+    ends : (q : Outcome) → o ≡ q → ((o ≡ Won) × AreParts rest [] o) ⊎ ((o ≢ Won) × (no_parts ≡ no_parts) × (o ≡ o))
+    ends Won e = inl (e, subst (λ (l : List Interval). AreParts l [] o) (sym (last e)) e)
+    ends Refused e = inr ((λ w. not_won_r (sym e ∙ w)), refl, refl)
+    ends Contended e = inr ((λ w. not_won_c (sym e ∙ w)), refl, refl)
+
+    steps : (q : Outcome) (t : Part) (row k : ℕ) → (part_steps row k place t ++ []) ++ undone row k q (t ∷ []) ≡ part_steps row k place t
+    steps Won t row k = append-nil (part_steps row k place t ++ []) ∙ append-nil (part_steps row k place t)
+    steps Refused t row k = append-nil (part_steps row k place t ++ []) ∙ append-nil (part_steps row k place t)
+    steps Contended t row k = append-nil (part_steps row k place t ++ []) ∙ append-nil (part_steps row k place t)
+
+    items : (q : Outcome) → (q ≡ Won → rest ≡ []) → piece_won place x q ≡ items_tried place span q
+    items Won none = sym (ap (map (placed place)) (are ∙ ap (λ (l : List Interval). x ∷ l) (none refl)))
+    items Refused none = refl
+    items Contended none = refl
+
+-- a candidate of two pieces, of which the first is won
+
+same_items : (xs ys : List Item) (x y : Item) → xs ++ x ∷ [] ≡ ys ++ y ∷ [] → xs ≡ ys
+same_items xs ys x y e = sym (take_front xs x) ∙ (ap (λ (l : List Item). take (length l - 1) l) e ∙ take_front ys y)
+
+back_again : (hold mid held : HoldView) (i j : Item) → mid ≡ with_one hold i → mid ≡ with_one held j → held ≡ hold
+back_again hold mid held i j e f =
+    let rows : held.row ≡ hold.row = sym (ap (λ (h : HoldView). h.row) f) ∙ ap (λ (h : HoldView). h.row) e in
+    let items : held.items ≡ hold.items = same_items held.items hold.items j i (sym (ap (λ (h : HoldView). h.items) f) ∙ ap (λ (h : HoldView). h.items) e) in
+    λ k. record { row = rows k; items = items k }
+
+none_more : (hold : HoldView) → hold ≡ with_items hold []
+none_more hold = ap (λ (is : List Item). record { row = hold.row; items = is }) (sym (append-nil hold.items))
+
+-- the steps behind the first piece, by the hold that the call began with
+given_back : (hold mid : HoldView) (i : Item) (o : Outcome) (t u : Part) → mid ≡ with_one hold i → given_first mid o ≡ undone hold.row (length hold.items) o (t ∷ u ∷ [])
+given_back hold mid i Won t u e = refl
+given_back hold mid i Refused t u e = one_give hold mid i e
+  where
+    one_give : (hold mid : HoldView) (i : Item) → mid ≡ with_one hold i → Give mid.row (length mid.items - 1) ∷ [] ≡ Give hold.row (length hold.items) ∷ []
+    one_give hold mid i e = ap (λ (h : HoldView). Give h.row (length h.items - 1) ∷ []) e ∙ ap (λ (n : ℕ). Give hold.row n ∷ []) (let l = length-append hold.items (i ∷ []) in omega arith)
+given_back hold mid i Contended t u e = one_give hold mid i e
+  where
+    one_give : (hold mid : HoldView) (i : Item) → mid ≡ with_one hold i → Give mid.row (length mid.items - 1) ∷ [] ≡ Give hold.row (length hold.items) ∷ []
+    one_give hold mid i e = ap (λ (h : HoldView). Give h.row (length h.items - 1) ∷ []) e ∙ ap (λ (n : ℕ). Give hold.row n ∷ []) (let l = length-append hold.items (i ∷ []) in omega arith)
+
+second_steps : (hold mid : HoldView) (place : ℕ) (i : Item) (u : Part) → mid ≡ with_one hold i → part_steps mid.row (length mid.items) place u ≡ part_steps hold.row (length hold.items + 1) place u
+second_steps hold mid place i u e = ap (λ (h : HoldView). part_steps h.row (length h.items) place u) e ∙ ap (λ (n : ℕ). part_steps hold.row n place u) (length-append hold.items (i ∷ []))
+
+has_all : (hold mid held : HoldView) (place : ℕ) (span x y : Interval) (o : Outcome) → pieces span ≡ x ∷ y ∷ [] → mid ≡ with_one hold (placed place x) → HasSecond mid place y o held → held ≡ with_items hold (items_tried place span o)
+has_all hold mid held place span x y Won are first has =
+    has ∙ (ap (λ (h : HoldView). with_one h (placed place y)) first
+    ∙ (ap (λ (is : List Item). record { row = hold.row; items = is }) (append_assoc hold.items (placed place x ∷ []) (placed place y ∷ []))
+    ∙ ap (with_items hold) (sym (ap (map (placed place)) are))))
+has_all hold mid held place span x y Refused are first has = back_again hold mid held (placed place x) has.0 first has.1 ∙ none_more hold
+has_all hold mid held place span x y Contended are first has = back_again hold mid held (placed place x) has.0 first has.1 ∙ none_more hold
+
+pub two_parts : (a b c : DeskView) (hold mid held : HoldView) (place : ℕ) (span x y : Interval) (o : Outcome) → pieces span ≡ x ∷ y ∷ [] → TriesPiece a hold place x b mid Won → TriesSecond b mid place y c held o → TriesPlace a hold place span c held o
+two_parts a b c hold mid held place span x y o are first second =
+    let t : Part = record { piece = x; shown = first.0; outcome = Won } in
+    let u : Part = record { piece = y; shown = second.0; outcome = o } in
+    let row = hold.row in
+    let k = length hold.items in
+    let p : List Step = part_steps row k place t in
+    let q : List Step = part_steps row (k + 1) place u in
+    let back : List Step = undone row k o (t ∷ u ∷ []) in
+    let rest : part_steps mid.row (length mid.items) place u ++ given_first mid o ≡ q ++ back =
+    (λ i. second_steps hold mid place (placed place x) u first.3 i ++ given_back hold mid (placed place x) o t u first.3 i) in (
+      t ∷ u ∷ [],
+      subst (λ (l : List Interval). AreParts l (t ∷ u ∷ []) o) (sym are) (refl, first.1, inl (refl, (refl, second.1, ends o refl))),
+      subst (Shape a c) (sym (append_assoc p (q ++ []) back ∙ ap (λ (l : List Step). p ++ (l ++ back)) (append-nil q)))
+          (shape_then a b c p (q ++ back) first.2 (subst (Shape b c) rest second.2)),
+      has_all hold mid held place span x y o are first.3 second.3,
+    )
+  where
+    ends : (q : Outcome) → o ≡ q → ((o ≡ Won) × (o ≡ Won)) ⊎ ((o ≢ Won) × (no_parts ≡ no_parts) × (o ≡ o))
+    ends Won e = inl (e, e)
+    ends Refused e = inr ((λ w. not_won_r (sym e ∙ w)), refl, refl)
+    ends Contended e = inr ((λ w. not_won_c (sym e ∙ w)), refl, refl)
+
+-- the try of a second piece
+
+pub second_won : (b c : DeskView) (mid held : HoldView) (place : ℕ) (y : Interval) → TriesPiece b mid place y c held Won → TriesSecond b mid place y c held Won
+second_won b c mid held place y did = (did.0, did.1, subst (Shape b c) (sym (append-nil _)) did.2, did.3)
+
+same_after : (mid held : HoldView) (is : List Item) → held ≡ with_items mid is → is ≡ [] → held ≡ mid
+same_after mid held is e none = e ∙ (ap (with_items mid) none ∙ sym (none_more mid))
+
+less_one : (mid after less : HoldView) (i : Item) → after ≡ mid → after ≡ with_one less i → length less.items ≡ length mid.items - 1
+less_one mid after less i same one =
+    let l : length mid.items ≡ length less.items + 1 = ap (λ (h : HoldView). length h.items) (sym same ∙ one) ∙ length-append less.items (i ∷ []) in omega (arith, l)
+
+give_is : (mid after less : HoldView) (i : Item) → after ≡ mid → after ≡ with_one less i → Give after.row (length less.items) ∷ [] ≡ Give mid.row (length mid.items - 1) ∷ []
+give_is mid after less i same one = λ k. Give (ap (λ (h : HoldView). h.row) same k) (less_one mid after less i same one k) ∷ []
+
+pub second_refused : (b c d : DeskView) (mid after less : HoldView) (place : ℕ) (y : Interval) (i : Item) → TriesPiece b mid place y c after Refused → after ≡ with_one less i → Shape c d (Give after.row (length less.items) ∷ []) → TriesSecond b mid place y d less Refused
+second_refused b c d mid after less place y i did one gave =
+    let same = same_after mid after [] did.3 refl in
+    let t : Part = record { piece = y; shown = did.0; outcome = Refused } in
+    (did.0, did.1, shape_then b c d (part_steps mid.row (length mid.items) place t) _ did.2 (subst (Shape c d) (give_is mid after less i same one) gave), (i, sym same ∙ one))
+
+pub second_contended : (b c d : DeskView) (mid after less : HoldView) (place : ℕ) (y : Interval) (i : Item) → TriesPiece b mid place y c after Contended → after ≡ with_one less i → Shape c d (Give after.row (length less.items) ∷ []) → TriesSecond b mid place y d less Contended
+second_contended b c d mid after less place y i did one gave =
+    let same = same_after mid after [] did.3 refl in
+    let t : Part = record { piece = y; shown = did.0; outcome = Contended } in
+    (did.0, did.1, shape_then b c d (part_steps mid.row (length mid.items) place t) _ did.2 (subst (Shape c d) (give_is mid after less i same one) gave), (i, sym same ∙ one))
+
+-- where all items are noted, all but the last are
+pub noted_but_last : (desk : DeskView) (hold less : HoldView) (i : Item) → hold ≡ with_one less i → HasNotedItems desk hold → HasNotedButLast desk hold
+noted_but_last desk hold less i one on = (less.items, i, ap (λ (h : HoldView). h.items) one, noted_front desk hold.row less.items (i ∷ []) (subst (HasNoted desk hold.row) (ap (λ (h : HoldView). h.items) one) on))
+
+-- how many items the hold has behind a piece
+pub after_won : (mid held : HoldView) (place : ℕ) (x : Interval) → held ≡ with_items mid (piece_won place x Won) → length held.items ≡ length mid.items + 1
+after_won mid held place x e = ap (λ (h : HoldView). length h.items) e ∙ length-append mid.items (piece_won place x Won)
+
+pub after_none : (mid held : HoldView) → held ≡ with_items mid [] → length held.items ≡ length mid.items
+after_none mid held e = ap (λ (h : HoldView). length h.items) e ∙ ap length (append-nil mid.items)
