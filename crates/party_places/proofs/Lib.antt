@@ -1,0 +1,6 @@
+pub mod Rows
+pub mod Sides
+pub mod Searching
+pub mod Taking
+pub mod Trying
+pub mod Spoiling

@@ -1,0 +1,4 @@
+pub mod Stretches
+pub mod Searches
+pub mod Parties
+pub mod Causes
