@@ -1,0 +1,5 @@
+//! Tests of places side by side, on one desk.
+#![tactic(auto)]
+
+#[cfg(test)]
+mod parties;
