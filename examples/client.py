@@ -14,7 +14,7 @@ It is a program to begin from, and does what a retailer's program has to do:
 - a pause before it asks again, longer each time, where nothing listens, after 500 and 503, and where no answer came;
 - where no answer came (a lost connection, or a proxy's 502 or 504 without JSON) it doesn't know whether the request was carried out, and does
   what is right for that request: a booking is lost and made anew, anything else is sent again, and `WrongState` with the state that it
-  wanted says that the first one was carried out;
+  wanted says that the first one was carried out, and so does `UnknownBooking` where the booking was to end;
 - a new search where an offer is too old or has no place left.
 
 It ends with status 0 where all was done, and with 1 and a line that says why where it was refused or nothing answered.
@@ -39,6 +39,8 @@ FIRST_PAUSE_SECONDS = 0.25
 ASK_AGAIN = {"Contended", "NoMemory"}
 SEARCH_AGAIN = {"NoPlace", "OfferTooOld", "UnknownOffer"}
 PROXY_GAVE_UP = {502, 503, 504}
+# A booking that has ended may be unknown soon after, since its row serves another one.
+ENDED = {"RELEASED", "REFUNDED"}
 
 
 class Refused(Exception):
@@ -155,6 +157,9 @@ class Retailer:
                 problem, why = refused.problem, refused
                 if unsure and wanted and problem["code"] == "WrongState" and problem.get("detail") == wanted:
                     return self.done_before(step, method, path, wanted)
+                if unsure and wanted in ENDED and problem["code"] == "UnknownBooking":
+                    self.row(step, method, path, problem["status"], wanted, "ended by the request before, whose answer was lost, and gone by now")
+                    return None
                 self.row(step, method, path, problem["status"], problem["code"], problem.get("detail", ""))
                 if problem["code"] not in ASK_AGAIN:
                     raise

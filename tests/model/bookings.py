@@ -1,4 +1,5 @@
-"""The host on one thread: a plain list of bookings, and at most one row that was kept after a refusal.
+"""The host on one thread: a plain list of bookings, and at most one row that was kept after a refusal. A row's booking that
+has ended leaves the list where its row is wanted again.
 
 A place is free on a span where no item of a live booking stands at it with a span that meets. Nothing else is kept:
 no words, no bits, no history. An item lies on one side of the border between legs 62 and 63: a passenger whose span goes
@@ -9,7 +10,7 @@ from dataclasses import dataclass
 
 import moments
 from catalogue import Catalogue, Span, TravelClass
-from offers import (ExchangeCode, OfferCode, RefundCode, Segment, departure, exchange_difference, offer_price,
+from offers import (LAST_GENERATION, ExchangeCode, OfferCode, RefundCode, Row, Segment, departure, exchange_difference, offer_price,
                     refund_value, segment_price)
 
 QUOTE_SECONDS = 900
@@ -63,12 +64,12 @@ def reservations(items: list) -> list:
 class Ending:
     moment: int
     amount: int
-    successor: int = None
+    successor: Row = None
 
 
 @dataclass
 class Booking:
-    row: int
+    row: Row
     retailer: int
     limit: int
     total: int
@@ -114,6 +115,17 @@ class Books:
         candidates = self.catalogue.candidates(segment.run, travel_class, wanted)
         return [place.number for place in candidates if self.is_free(place.number, segment.span)]
 
+    def free_stretch(self, segment: Segment, travel_class: TravelClass, wanted: int, passengers: int):
+        """The first so many neighbours of the candidates that are all free, in one coach and at rising numbers one by one, or None."""
+        candidates = self.catalogue.candidates(segment.run, travel_class, wanted)
+        for first in range(len(candidates) - passengers + 1):
+            stretch = candidates[first:first + passengers]
+            side_by_side = all((place.coach, place.label) == (stretch[0].coach, stretch[0].label + index)
+                               for index, place in enumerate(stretch))
+            if side_by_side and all(self.is_free(place.number, segment.span) for place in stretch):
+                return [place.number for place in stretch]
+        return None
+
     def booking_of(self, row, retailer: int) -> Booking:
         """This retailer's booking in the row. An id that was no spelling has no row."""
         for booking in self.bookings:
@@ -132,25 +144,34 @@ class Books:
 
     # Making a booking
 
-    def next_row(self) -> int:
-        """The row that was kept, else the least one without a booking."""
+    def choose_row(self) -> Row:
+        """The row that was kept; else the least one without a booking; else the least one whose booking has ended, in the
+        next generation: that booking is then gone, whatever becomes of the request.
+        """
         if self.kept_row is not None:
             return self.kept_row
-        used = {booking.row for booking in self.bookings}
-        free = [row for row in range(len(used) + 1) if row not in used and row < self.catalogue.rows]
-        if not free:
+        used = {booking.row.number for booking in self.bookings}
+        free = [number for number in range(len(used) + 1) if number not in used and number < self.catalogue.rows]
+        if free:
+            return Row(free[0])
+        ended = [booking for booking in self.bookings if not booking.is_live() and booking.row.generation < LAST_GENERATION]
+        if not ended:
             raise Refusal("RowsFull")
-        return free[0]
+        given_away = min(ended, key=lambda booking: booking.row.number)
+        self.bookings.remove(given_away)
+        return Row(given_away.row.number, given_away.row.generation + 1)
 
-    def take(self, segments, travel_class: TravelClass, wanted: int, passengers: int) -> tuple:
-        """A row, and for each segment in order the pieces of its span at one of the first free candidates for each passenger.
+    def take(self, segments, travel_class: TravelClass, wanted: int, passengers: int, together: bool) -> tuple:
+        """A row, and for each segment in order the pieces of its span at a place for each passenger: where they are to sit
+        together at the first free stretch, and else, or without one, at the first free candidates.
 
         Where some segment has too few, nothing is taken and the row is kept for the next booking.
         """
-        row = self.next_row()
+        row = self.choose_row()
         items = []
         for segment in segments:
-            free = self.free_candidates(segment, travel_class, wanted)
+            stretch = self.free_stretch(segment, travel_class, wanted, passengers) if together else None
+            free = stretch or self.free_candidates(segment, travel_class, wanted)
             if len(free) < passengers:
                 self.kept_row = row
                 raise Refusal("NoPlace")
@@ -158,20 +179,20 @@ class Books:
         self.kept_row = None
         return row, items
 
-    def make(self, retailer: int, now: int, total: int, segments, travel_class, wanted, passengers, phase) -> Booking:
-        row, items = self.take(segments, travel_class, wanted, passengers)
+    def make(self, retailer: int, now: int, total: int, segments, travel_class, wanted, passengers, together, phase) -> Booking:
+        row, items = self.take(segments, travel_class, wanted, passengers, together)
         limit = moments.later(now, self.catalogue.terms.confirm_seconds)
         booking = Booking(row, retailer, limit, total, items, phase)
         self.bookings.append(booking)
         return booking
 
-    def book(self, retailer: int, code: OfferCode, now: int, phase: Phase = Phase.PREBOOKED) -> Booking:
+    def book(self, retailer: int, code: OfferCode, now: int, together: bool = False, phase: Phase = Phase.PREBOOKED) -> Booking:
         return self.make(retailer, now, offer_price(self.catalogue, code), code.segments, code.travel_class, code.wanted,
-                         code.adults + code.children, phase)
+                         code.adults + code.children, together, phase)
 
-    def reserve(self, retailer: int, segment: Segment, travel_class, count: int, wanted: int, now: int) -> Booking:
+    def reserve(self, retailer: int, segment: Segment, travel_class, count: int, wanted: int, together: bool, now: int) -> Booking:
         total = segment_price(self.catalogue.runs[segment.run], segment.span, travel_class, count, 0)
-        return self.make(retailer, now, total, [segment], travel_class, wanted, count, Phase.PREBOOKED)
+        return self.make(retailer, now, total, [segment], travel_class, wanted, count, together, Phase.PREBOOKED)
 
     # Changing a booking
 
@@ -236,7 +257,7 @@ class Books:
         if self.difference_at(old, code.made, code.fulfilled, code.offer) != code.difference:
             raise Refusal("QuoteWrong")
         need_phase(old, Phase.FULFILLED if code.fulfilled else Phase.CONFIRMED)
-        new = self.book(retailer, code.offer, now, Phase.CONFIRMED)
+        new = self.book(retailer, code.offer, now, phase=Phase.CONFIRMED)
         end(old, Phase.EXCHANGED, Ending(now, code.difference, new.row))
         return new
 

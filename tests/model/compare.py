@@ -21,6 +21,7 @@ import wire
 import words
 from bookings import BORDER, Phase
 from catalogue import Catalogue, read_catalogue
+from offers import read_booking_id
 from words import Device, Outcome
 
 LIMIT_SECONDS = 120
@@ -178,12 +179,14 @@ class Met:
             booking = body.get("booking", body)
             if isinstance(booking.get("status"), str):
                 self.counts["state", booking["status"]] += 1
+                self.counts["generation", min(read_booking_id(booking["id"]).generation, 3)] += 1
             if body.get("code") == "WrongState":
                 self.counts["wrong state", body["detail"]] += 1
         if command == "replay":
             catalogue = read_catalogue(case.files["k.json"])
             for request, (status, body) in zip(requests, answers):
                 self.count_route(request, status)
+                self.count_together(request, body)
                 self.count_over_border(catalogue, body)
 
     def count_route(self, request: wire.Request, status: int):
@@ -194,6 +197,18 @@ class Met:
         self.counts["route", name] += 1
         if status < 300:
             self.counts["served", name] += 1
+
+    def count_together(self, request: wire.Request, body: dict):
+        """Whether parties that asked for it got places side by side, or only apart."""
+        try:
+            wish = service.read_body(request.body)
+        except service.Refusal:
+            return
+        if wish.get("together") is not True or len(body.get("reservations", [])) < 2:
+            return
+        places = [(segment["run"], segment["coach"], segment["place"]) for segment in body["reservations"]]
+        beside = all(b == (a[0], a[1], a[2] + 1) for a, b in zip(places, places[1:]) if a[0] == b[0])
+        self.counts["together", "side by side" if beside else "apart"] += 1
 
     def count_over_border(self, catalogue: Catalogue, body: dict):
         """What an answer shows of spans that go over the border: bookings by their status, and offers."""
@@ -212,6 +227,8 @@ class Met:
         wanted += [("status", status) for status in wire.REASONS if status not in NEVER_ANSWERED]
         wanted += [("problem", code) for code in wire.PROBLEMS if code not in NEVER_MET]
         wanted += [("state", phase.value) for phase in Phase] + [("wrong state", phase.value) for phase in Phase]
+        wanted += [("generation", generation) for generation in range(4)]
+        wanted += [("together", how) for how in ("side by side", "apart")]
         wanted += [("over the border", phase.value) for phase in Phase] + [("over the border", "offered")]
         wanted += [("rest", rest.value) for rest in wire.Rest]
         wanted += [("catalogue", "catalogue fault %d" % number) for number in range(1, 8)]

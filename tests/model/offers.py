@@ -12,6 +12,7 @@ MOST_PASSENGERS = 8
 LAST_RUN = 4_095
 LAST_STOP = 126
 LAST_CODED_ROW = 262_143
+LAST_GENERATION = 65_535
 LARGEST_AMOUNT = 99_999_999_999
 CLASS_DIGITS = {TravelClass.FIRST: "1", TravelClass.SECOND: "2"}
 
@@ -33,8 +34,15 @@ class OfferCode:
 
 
 @dataclass(frozen=True)
+class Row:
+    """A booking's row, and which of the row's bookings it is, from 0 on."""
+    number: int
+    generation: int = 0
+
+
+@dataclass(frozen=True)
 class RefundCode:
-    row: int
+    row: Row
     made: int
     fulfilled: bool
     amount: int
@@ -42,7 +50,7 @@ class RefundCode:
 
 @dataclass(frozen=True)
 class ExchangeCode:
-    row: int
+    row: Row
     made: int
     fulfilled: bool
     difference: int
@@ -166,9 +174,11 @@ NUMBER = "(?:0|[1-9][0-9]*)"
 SEGMENT = r"%s\.%s\.%s" % (NUMBER, NUMBER, NUMBER)
 OFFER = "O({0})-({0})-({0})-([12])-({0})-({1}(?:_{1}){{0,2}})".format(NUMBER, SEGMENT)
 OFFER_TEXT = re.compile(OFFER)
-REFUND_TEXT = re.compile("R({0})-({0})-([CF])-({0})".format(NUMBER))
-EXCHANGE_TEXT = re.compile("X({0})-({0})-([CF])-(p{0}|m[1-9][0-9]*)-(O.*)".format(NUMBER), re.DOTALL)
-BOOKING_TEXT = re.compile("B([0-9]{6}|[1-9][0-9]{6,})")
+LATER = "[1-9][0-9]*"
+CODED_ROW = r"({0})(?:\.({1}))?".format(NUMBER, LATER)
+REFUND_TEXT = re.compile("R{0}-({1})-([CF])-({1})".format(CODED_ROW, NUMBER))
+EXCHANGE_TEXT = re.compile("X{0}-({1})-([CF])-(p{1}|m{2})-(O.*)".format(CODED_ROW, NUMBER, LATER), re.DOTALL)
+BOOKING_TEXT = re.compile("B([0-9]{6}|[1-9][0-9]{6,})(?:-(%s))?" % LATER)
 
 
 def number_up_to(digits: str, last: int):
@@ -178,14 +188,24 @@ def number_up_to(digits: str, last: int):
     return int(digits)
 
 
+def row_up_to(digits: str, generation_digits, last: int):
+    """The row, or None where its number or its generation is above the last one. Generation 0 isn't written."""
+    number, generation = number_up_to(digits, last), number_up_to(generation_digits or "0", LAST_GENERATION)
+    return None if None in (number, generation) else Row(number, generation)
+
+
+def row_text(number_form: str, mark: str, row: Row) -> str:
+    return number_form % row.number + (mark + str(row.generation) if row.generation else "")
+
+
 def read_booking_id(text: str):
-    """The row's number, or None where the text is no booking id."""
+    """The row, or None where the text is no booking id."""
     found = BOOKING_TEXT.fullmatch(text)
-    return number_up_to(found.group(1), LARGEST_NUMBER) if found else None
+    return row_up_to(found.group(1), found.group(2), LARGEST_NUMBER) if found else None
 
 
-def write_booking_id(row: int) -> str:
-    return "B%06d" % row
+def write_booking_id(row: Row) -> str:
+    return row_text("B%06d", "-", row)
 
 
 def read_offer(text: str):
@@ -221,32 +241,32 @@ def read_refund(text: str):
     found = REFUND_TEXT.fullmatch(text)
     if not found:
         return None
-    row = number_up_to(found.group(1), LAST_CODED_ROW)
-    made = number_up_to(found.group(2), LAST_MOMENT)
-    amount = number_up_to(found.group(4), LARGEST_AMOUNT)
+    row = row_up_to(found.group(1), found.group(2), LAST_CODED_ROW)
+    made = number_up_to(found.group(3), LAST_MOMENT)
+    amount = number_up_to(found.group(5), LARGEST_AMOUNT)
     if None in (row, made, amount):
         return None
-    return RefundCode(row, made, found.group(3) == "F", amount)
+    return RefundCode(row, made, found.group(4) == "F", amount)
 
 
 def write_refund(code: RefundCode) -> str:
-    return "R%d-%d-%s-%d" % (code.row, code.made, "F" if code.fulfilled else "C", code.amount)
+    return "%s-%d-%s-%d" % (row_text("R%d", ".", code.row), code.made, "F" if code.fulfilled else "C", code.amount)
 
 
 def read_exchange(text: str):
     found = EXCHANGE_TEXT.fullmatch(text)
     if not found:
         return None
-    row = number_up_to(found.group(1), LAST_CODED_ROW)
-    made = number_up_to(found.group(2), LAST_MOMENT)
-    size = number_up_to(found.group(4)[1:], LARGEST_AMOUNT)
-    offer = read_offer(found.group(5))
+    row = row_up_to(found.group(1), found.group(2), LAST_CODED_ROW)
+    made = number_up_to(found.group(3), LAST_MOMENT)
+    size = number_up_to(found.group(5)[1:], LARGEST_AMOUNT)
+    offer = read_offer(found.group(6))
     if None in (row, made, size, offer):
         return None
-    difference = size if found.group(4)[0] == "p" else -size
-    return ExchangeCode(row, made, found.group(3) == "F", difference, offer)
+    difference = size if found.group(5)[0] == "p" else -size
+    return ExchangeCode(row, made, found.group(4) == "F", difference, offer)
 
 
 def write_exchange(code: ExchangeCode) -> str:
     size = "p%d" % code.difference if code.difference >= 0 else "m%d" % -code.difference
-    return "X%d-%d-%s-%s-%s" % (code.row, code.made, "F" if code.fulfilled else "C", size, write_offer(code.offer))
+    return "%s-%d-%s-%s-%s" % (row_text("X%d", ".", code.row), code.made, "F" if code.fulfilled else "C", size, write_offer(code.offer))

@@ -7,7 +7,7 @@ import service
 import wire
 from bookings import BORDER, Phase
 from catalogue import TRAITS, Catalogue, Run, Span, TravelClass
-from offers import (ExchangeCode, OfferCode, RefundCode, Segment, all_segments, departure, may_follow, read_exchange,
+from offers import (ExchangeCode, OfferCode, RefundCode, Row, Segment, all_segments, departure, may_follow, read_exchange,
                     read_refund, write_booking_id, write_exchange, write_offer, write_refund)
 from random_texts import (BROKEN, WHOLE_BUT_ODD, Twice, chance, changed_text, json_text, junk, moment_text,
                           wrong_moment_text)
@@ -113,9 +113,13 @@ class Stream:
         booking = self.booking(*phases)
         if booking is None or self.chance(0.04):
             return self.rng.choice(["B000000", "B000777", "B%06d" % self.catalogue.rows, "B4294967295", "B4294967296", "B0000000",
+                                    "B000000-1", "B000000-0", "B000000-01", "B000000-65535", "B000000-65536", "B000000-", "B000001--1",
                                     "B00000", "b000000", "x", "B00000\u0660", "B1000000", "B%20", "B-00001",
-                                    "B%06d" % (self.host.books.kept_row or 0)])
-        text = write_booking_id(booking.row)
+                                    write_booking_id(self.host.books.kept_row or Row(0))])
+        row = booking.row
+        if self.chance(0.04):
+            row = Row(row.number, max(row.generation + self.rng.choice([-1, -1, 1]), 0))
+        text = write_booking_id(row)
         return changed_path_part(self.rng, text) if self.chance(0.03) else text
 
     def random_segments(self) -> list:
@@ -224,7 +228,16 @@ class Stream:
         self.send_body("POST", "/offers", body)
 
     def book(self):
-        self.send_body("POST", "/bookings", {"offerId": self.random_offer()})
+        body = {"offerId": self.random_offer()}
+        self.with_together(body)
+        self.send_body("POST", "/bookings", body)
+
+    def with_together(self, body: dict):
+        """Whether the passengers are to sit side by side, left out where it may be."""
+        if self.chance(0.4):
+            body["together"] = self.chance(0.8)
+        if self.chance(0.02):
+            body["together"] = self.rng.choice([1, 0, "true", None, [], {}])
 
     def reserve(self):
         run = self.rng.choice(self.catalogue.runs)
@@ -233,6 +246,7 @@ class Stream:
         self.with_wish(body, run.number)
         if self.chance(0.4):
             body["count"] = self.rng.choice([1, 1, 2, 3, 4, 8])
+        self.with_together(body)
         if self.chance(0.05):
             body["count"] = self.rng.choice([0, 9, -1, 2 ** 40])
         if self.chance(0.05):

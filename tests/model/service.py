@@ -123,6 +123,13 @@ def wanted_field(body: dict) -> int:
     return sum(bit for trait, bit in TRAITS.items() if trait in names)
 
 
+def together_field(body: dict) -> bool:
+    together = body.get("together", False)
+    if not isinstance(together, bool):
+        raise Refusal("BadField", "together")
+    return together
+
+
 def moment_field(body: dict, name: str) -> int:
     moment = moments.read_moment(text_field(body, name))
     if isinstance(moment, moments.MomentFault):
@@ -222,9 +229,11 @@ class Host:
     # Booking
 
     def answer_book(self, _parameters, data: bytes, now: int) -> tuple:
-        code = read_offer(text_field(read_body(data), "offerId"))
+        body = read_body(data)
+        code = read_offer(text_field(body, "offerId"))
+        together = together_field(body)
         self.need_fresh_offer(code, now)
-        return 201, self.booking_reply(self.books.book(self.retailer, code, now))
+        return 201, self.booking_reply(self.books.book(self.retailer, code, now, together))
 
     def need_fresh_offer(self, code: OfferCode, now: int):
         self.need_offer(code)
@@ -245,8 +254,9 @@ class Host:
         wanted = wanted_field(body)
         start = text_field(body, "from")
         end = text_field(body, "to")
+        together = together_field(body)
         segment = self.read_segment(run, start, end)
-        return 201, self.booking_reply(self.books.reserve(self.retailer, segment, travel_class, count, wanted, now))
+        return 201, self.booking_reply(self.books.reserve(self.retailer, segment, travel_class, count, wanted, together, now))
 
     def answer_show(self, parameters, _data: bytes, _now: int) -> tuple:
         return 200, self.booking_reply(self.books.booking_of(read_booking_id(parameters[0]), self.retailer))

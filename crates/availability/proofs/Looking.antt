@@ -11,9 +11,9 @@ use Rattle.history_model.specs.Looks.{look_at}
 use Rattle.history_model.proofs.ListLemmas.{All-append}
 use Rattle.history_model.specs.History.{IsLegal}
 use Rattle.history_model.specs.Work.{NoStep}
-use Rattle.claim_rule.specs.Rule.{DeskView}
+use Rattle.claim_rule.specs.Rule.{BooksView, DeskView}
 use Rattle.claim_rule.specs.Calls.{ShapeBy}
-use Rattle.claim_rule.specs.Seats.{Shape}
+use Rattle.claim_rule.specs.Seats.{IsOf, Shape}
 use Rattle.claim_rule.specs.Out.{KeepsHolds, KeepsEndings, IsTidy, exchanges}
 use Rattle.claim_rule.proofs.Shapes.{shape_then, shape_none}
 use Rattle.claim_rule.proofs.Out.{tidy_through, settled_calm, still_idle}
@@ -52,9 +52,9 @@ looks_calm (p ∷ places) span (b ∷ states) es looks =
 looks_calm [] span (b ∷ states) es looks = absurd looks
 looks_calm (p ∷ places) span [] es looks = absurd looks
 
-pub looked_tidy : (old new : DeskView) (places : List PlaceNo) (span : Interval) (states : List Bool) → ShapeBy (LooksAt places span states) old new → KeepsHolds old new → KeepsEndings old new → IsTidy old → IsTidy new
-looked_tidy old new places span states did holds endings is =
-    tidy_through old new did.0 did.2 (settled_calm old.number did.0 (looks_calm places span states did.0 did.1)) is (still_idle old new holds endings is.0)
+pub looked_tidy : (books : BooksView) (old new : DeskView) (places : List PlaceNo) (span : Interval) (states : List Bool) → IsOf books new → ShapeBy (LooksAt places span states) old new → KeepsHolds old new → KeepsEndings old new → IsTidy old → IsTidy new
+looked_tidy books old new places span states of did holds endings is =
+    tidy_through books old new did.0 of did.2 (settled_calm old.number did.0 (looks_calm places span states did.0 did.1)) is (still_idle old new holds endings is.0)
 
 pub counted_more : (old mid new : DeskView) (places : List PlaceNo) (place : PlaceNo) (span : Interval) (count : ℕ) (free : Bool) → ShapeBy (CountsFree places span count) old mid → HasLooked place span free mid new
     → ShapeBy (CountsFree (places ++ place ∷ []) span (count + cond free 1 0)) old new
@@ -67,8 +67,8 @@ counted_more old mid new places place span count free did look = (
 pub counted_none : (desk : DeskView) (span : Interval) → IsLegal desk.layout desk.seen → ShapeBy (CountsFree [] span 0) desk desk
 counted_none desk span legal = ([], ([], refl, refl), shape_none desk legal)
 
-pub counted_tidy : (old new : DeskView) (places : List PlaceNo) (span : Interval) (count : ℕ) → ShapeBy (CountsFree places span count) old new → KeepsHolds old new → KeepsEndings old new → IsTidy old → IsTidy new
-counted_tidy old new places span count did holds endings is = looked_tidy old new places span did.1.0 (did.0, did.1.1, did.2) holds endings is
+pub counted_tidy : (books : BooksView) (old new : DeskView) (places : List PlaceNo) (span : Interval) (count : ℕ) → IsOf books new → ShapeBy (CountsFree places span count) old new → KeepsHolds old new → KeepsEndings old new → IsTidy old → IsTidy new
+counted_tidy books old new places span count of did holds endings is = looked_tidy books old new places span did.1.0 of (did.0, did.1.1, did.2) holds endings is
 
 pub counted_next : (old mid new : DeskView) (places : List PlaceNo) (i : ℕ) (d : PlaceNo) (span : Interval) (count : ℕ) (free : Bool) → i < length places → ShapeBy (CountsFree (take i places) span count) old mid → HasLooked (get_or places i d) span free mid new
     → ShapeBy (CountsFree (take (i + 1) places) span (count + cond free 1 0)) old new

@@ -1,5 +1,5 @@
 -- The pieces of a span, one by one.
-use Rattle.std.proofs.Common.{◌≡◌, suc, ⊎_elim, false, ℕ, ◌+◌, ◌<◌, ◌≤◌, List, [], ◌∷◌, length, get_or, refl, sym, ap, ◌∙◌, subst, arith}
+use Rattle.std.proofs.Common.{◌≡◌, suc, ⊎_elim, false, ℕ, ◌<◌, ◌≤◌, List, [], ◌∷◌, length, get_or, refl, sym, ap, ◌∙◌, subst, arith}
 use Rattle.std.specs.List.{AllByRecursion}
 use Rattle.leg_masks.specs.Interval.{Interval, IsPiece, pieces, is_piece}
 use Rattle.leg_masks.proofs.HalfLegs.{pieces-whole, pieces-border, pieces_some, cases_piece}

@@ -79,7 +79,16 @@ fn confirmed_up_to_the_limit(rt: HostRuntime) -> Result<(), Fail> {
         Confirmed::Unknown
     );
     assert_eq!(rt;
-        confirm(&books, &mut desk, RowNo(262_144), RETAILER, at(&rt, 0)),
+        confirm(
+            &books,
+            &mut desk,
+            RowNo {
+                row: 262_144,
+                generation: 0
+            },
+            RETAILER,
+            at(&rt, 0)
+        ),
         Confirmed::Unknown
     );
     assert_eq!(rt;
@@ -147,9 +156,15 @@ fn book_all(rt: &impl Abort, books: &Books, desk: &mut Desk)
     ensures number { desk.new.number ≡ desk.old.number }
 {
     for place in 0..1000 {
-        assert_eq!(rt; desk.past(), RowNo(place));
-        assert_eq!(rt; prebooked(rt, books, desk, PlaceNo(place)), RowNo(place));
-        assert_eq!(rt; desk.past(), RowNo(place + 1));
+        assert_eq!(rt; desk.past(), place);
+        assert_eq!(rt;
+            prebooked(rt, books, desk, PlaceNo(place)),
+            RowNo {
+                row: place,
+                generation: 0
+            }
+        );
+        assert_eq!(rt; desk.past(), place + 1);
     }
 }
 
@@ -165,7 +180,13 @@ fn confirm_all(books: &Books, member: &mut Member, now: Moment)
     requires own { IsOf books.now member.old.desk }
 {
     for row in 0..books.rows() {
-        if let Confirmed::Done = confirm(books, &mut member.desk, RowNo(row), RETAILER, now) {
+        if let Confirmed::Done = confirm(
+            books,
+            &mut member.desk,
+            RowNo { row, generation: 0 },
+            RETAILER,
+            now,
+        ) {
             member.decided = member.decided.saturating_add(1);
         }
     }
@@ -246,7 +267,7 @@ fn count_confirmed(rt: &impl Abort, books: &Books, desk: &mut Desk) -> u32
     let mut confirmed: u32 = 0;
     for row in 0..1000 {
         let word = glance(books, desk, PlaceNo(row), 0);
-        let phase = match look_row(books, desk, RowNo(row)) {
+        let phase = match look_row(books, desk, RowNo { row, generation: 0 }) {
             Some(view) => view.phase,
             None => Phase::Free,
         };
@@ -272,16 +293,16 @@ fn finds_none(rt: &impl Abort, books: &Books, desk: &mut Desk)
         abandon(books, desk, hold);
         panic!(rt; "all rows are taken");
     }
-    assert_eq!(rt; desk.past(), RowNo(1000));
+    assert_eq!(rt; desk.past(), 1000);
 }
 
-/// A desk that knows of no row looks at each of a thousand once, and then at none.
+/// A desk that knows of no row finds none of a thousand free, and remembers it.
 #[test]
 fn searches_each_row_once(rt: HostRuntime) -> Result<(), Fail> {
     let (books, mut desk) = thousand(rt.alloc())?;
     let mut late = books.part(&mut desk);
     book_all(&rt, &books, &mut desk);
-    assert_eq!(rt; late.past(), RowNo(0));
+    assert_eq!(rt; late.past(), 0);
     finds_none(&rt, &books, &mut late);
     finds_none(&rt, &books, &mut late);
     Ok(())

@@ -149,7 +149,17 @@ fn quotes(
     ensures own { IsOf books.now desk.new }
     ensures idle { IsIdle desk.new }
 {
-    let Quoted::Done(code) = quote_refund(cat, books, desk, RowNo(0), NORTH, at(rt, seconds)) else {
+    let Quoted::Done(code) = quote_refund(
+        cat,
+        books,
+        desk,
+        RowNo {
+            row: 0,
+            generation: 0,
+        },
+        NORTH,
+        at(rt, seconds),
+    ) else {
         panic!(rt; "no quote");
     };
     assert_eq!(rt; code.fulfilled, fulfilled);
@@ -182,7 +192,7 @@ fn phase(rt: &impl Abort, books: &Books, desk: &mut Desk, row: RowNo) -> Phase
     ensures own { IsOf books.now desk.new }
     ensures idle { IsIdle desk.new }
 {
-    let there = row.0 < books.rows();
+    let there = row.row < books.rows();
     assert!(rt; there);
     look_row(books, desk, row).expect(rt, "a booking").phase
 }
@@ -196,7 +206,15 @@ fn end(rt: &impl Abort, books: &Books, desk: &mut Desk) -> EndView
 {
     let there = 0 < books.rows();
     assert!(rt; there);
-    let view = look_row(books, desk, RowNo(0)).expect(rt, "a booking");
+    let view = look_row(
+        books,
+        desk,
+        RowNo {
+            row: 0,
+            generation: 0,
+        },
+    )
+    .expect(rt, "a booking");
     view.ended.expect(rt, "an end")
 }
 
@@ -290,7 +308,18 @@ fn quotes_exchange(
     ensures idle { IsIdle desk.new }
 {
     let wanted = offer(rt, text);
-    match quote_exchange(cat, books, desk, RowNo(0), NORTH, &wanted, at(rt, 0)) {
+    match quote_exchange(
+        cat,
+        books,
+        desk,
+        RowNo {
+            row: 0,
+            generation: 0,
+        },
+        NORTH,
+        &wanted,
+        at(rt, 0),
+    ) {
         QuotedExchange::Done(code) => write_exchange(&code),
         _ => panic!(rt; "no quote"),
     }
@@ -321,7 +350,13 @@ fn exchanges(
     };
     match accept_exchange(books, desk, hold, ready) {
         Exchanged::Done { new, difference } => {
-            assert_eq!(rt; new, RowNo(1));
+            assert_eq!(rt;
+                new,
+                RowNo {
+                    row: 1,
+                    generation: 0
+                }
+            );
             difference
         }
         Exchanged::WrongState { shown: _, hold } => {
@@ -346,7 +381,15 @@ fn loses(rt: &impl Abort, cat: &Catalogue, books: &Books, desk: &mut Desk, text:
     let Readied::Fine(ready) = ready_exchange(cat, books, desk, NORTH, &code, at(rt, 0)) else {
         panic!(rt; "not ready");
     };
-    let _done = fulfil(books, desk, RowNo(0), NORTH);
+    let _done = fulfil(
+        books,
+        desk,
+        RowNo {
+            row: 0,
+            generation: 0,
+        },
+        NORTH,
+    );
     match accept_exchange(books, desk, hold, ready) {
         Exchanged::Done { .. } => panic!(rt; "exchanged"),
         Exchanged::WrongState { shown, hold } => {
@@ -379,10 +422,24 @@ fn a_first_class_place_is_exchanged(rt: HostRuntime) -> Result<(), Fail> {
     let ended = EndView {
         amount: -550,
         moment: at(&rt, 900),
-        successor: Some(RowNo(1)),
+        successor: Some(RowNo {
+            row: 1,
+            generation: 0,
+        }),
     };
     assert_eq!(rt; end(&rt, &books, &mut desk), ended);
-    assert_eq!(rt; phase(&rt, &books, &mut desk, RowNo(1)), Phase::Confirmed);
+    assert_eq!(rt;
+        phase(
+            &rt,
+            &books,
+            &mut desk,
+            RowNo {
+                row: 1,
+                generation: 0
+            }
+        ),
+        Phase::Confirmed
+    );
     assert_eq!(rt; word(&rt, &books, &mut desk, PlaceNo(0)), 0);
     assert_eq!(rt; word(&rt, &books, &mut desk, PlaceNo(4)), 2);
     Ok(())
@@ -530,7 +587,7 @@ const USUAL_WORDS: [u64; 18] = [0, 0, 0, 0, 3, 3, 3, 0, 0, 0, 0, 0, 1, 1, 1, 0, 
 fn usual_life(rt: HostRuntime) -> Result<(), Fail> {
     for (turns, phase) in [(0, 2), (1, 3), (2, 4)] {
         let wall = usual(&rt, rt.alloc(), turns)?;
-        assert_eq!(rt; wall.row_word(RowNo(0), 0), Some(phase), "{turns}");
+        assert_eq!(rt; wall.row_word(0, 0), Some(phase), "{turns}");
         for (place, word) in (0..18).zip(USUAL_WORDS) {
             assert_eq!(rt; wall.place_word(PlaceNo(place), 0), Some(word), "{place}");
             assert_eq!(rt; wall.place_word(PlaceNo(place), 1), Some(0), "{place}");

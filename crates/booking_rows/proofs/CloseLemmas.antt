@@ -30,7 +30,7 @@ seven : (ws : List ℕ) (x y z : ℕ) → length ws ≡ row_words → get_or (se
 seven ws x y z l = get_or-set_same (set (set ws 5 x) 6 y) 7 z 0 (let m = length-set ws 5 x in let n = length-set (set ws 5 x) 6 y in omega (arith, l, m, n))
 
 pub may_close : (a b c d : DeskView) (e : EndingView) → IsLegal a.layout a.seen → IsEndingOf a e → e.read ≡ true → e.given ≡ length e.items
-    → Stepped (Note e.row 5 (end_word e.kind e.end 5)) a b → Stepped (Note e.row 6 (end_word e.kind e.end 6)) b c → Stepped (Note e.row 7 (end_word e.kind e.end 7)) c d → OnRow (state_of d.layout d.seen) e.row (MayClose d.number)
+    → Stepped (Note e.row.row 5 (end_word e.kind e.end 5)) a b → Stepped (Note e.row.row 6 (end_word e.kind e.end 6)) b c → Stepped (Note e.row.row 7 (end_word e.kind e.end 7)) c d → OnRow (state_of d.layout d.seen) e.row.row (MayClose d.number)
 may_close a b c d e legal is read all n5 n6 n7 =
     let x = end_word e.kind e.end 5 in
     let y = end_word e.kind e.end 6 in
@@ -42,7 +42,7 @@ may_close a b c d e legal is read all n5 n6 n7 =
     let ws = is.booking.words in
     let given : AllByRecursion (λ (i : BookedItem). i.given_back ≡ true) is.booking.items =
     subst (AllByRecursion (λ (i : BookedItem). i.given_back ≡ true)) (ap (λ (n : ℕ). given_front n (map held e.items)) (length-map e.items held ∙ sym all) ∙ sym (is.items read)) (all_front (map held e.items)) in
-    on_row (state_of d.layout d.seen) e.row three.booking (MayClose d.number) three.found (
+    on_row (state_of d.layout d.seen) e.row.row three.booking (MayClose d.number) three.found (
       e.kind,
       (three.phase, three.owner),
       given,
@@ -53,21 +53,21 @@ may_close a b c d e legal is read all n5 n6 n7 =
       },
     )
 
-pub closing : (a b c d f : DeskView) (e : EndingView) → Stepped (Note e.row 5 (end_word e.kind e.end 5)) a b → Stepped (Note e.row 6 (end_word e.kind e.end 6)) b c → Stepped (Note e.row 7 (end_word e.kind e.end 7)) c d → Stepped (Close e.row) d f
-    → Shape a f (Note e.row 5 (end_word e.kind e.end 5) ∷ Note e.row 6 (end_word e.kind e.end 6) ∷ Note e.row 7 (end_word e.kind e.end 7) ∷ Close e.row ∷ [])
+pub closing : (a b c d f : DeskView) (e : EndingView) → Stepped (Note e.row.row 5 (end_word e.kind e.end 5)) a b → Stepped (Note e.row.row 6 (end_word e.kind e.end 6)) b c → Stepped (Note e.row.row 7 (end_word e.kind e.end 7)) c d → Stepped (Close e.row.row) d f
+    → Shape a f (Note e.row.row 5 (end_word e.kind e.end 5) ∷ Note e.row.row 6 (end_word e.kind e.end 6) ∷ Note e.row.row 7 (end_word e.kind e.end 7) ∷ Close e.row.row ∷ [])
 closing a b c d f e n5 n6 n7 cl =
-    shape_then a b f (Note e.row 5 (end_word e.kind e.end 5) ∷ []) _ (step_shape _ a b n5)
-    (shape_then b c f (Note e.row 6 (end_word e.kind e.end 6) ∷ []) _ (step_shape _ b c n6)
-    (shape_then c d f (Note e.row 7 (end_word e.kind e.end 7) ∷ []) _ (step_shape _ c d n7) (step_shape _ d f cl)))
+    shape_then a b f (Note e.row.row 5 (end_word e.kind e.end 5) ∷ []) _ (step_shape _ a b n5)
+    (shape_then b c f (Note e.row.row 6 (end_word e.kind e.end 6) ∷ []) _ (step_shape _ b c n6)
+    (shape_then c d f (Note e.row.row 7 (end_word e.kind e.end 7) ∷ []) _ (step_shape _ c d n7) (step_shape _ d f cl)))
 
 -- the ending is out through its notes, and none is after its close
 
-noted_ending : (w n : ℕ) (a b : DeskView) (e : EndingView) → Stepped (Note e.row w n) a b → IsEnding a e → IsEnding b e
-noted_ending w n a b e did is = record { of = end_notes w n a b e did is.of; only = ending_only (Note e.row w n) a b e did (λ _. refl) is }
+noted_ending : (w n : ℕ) (a b : DeskView) (e : EndingView) → Stepped (Note e.row.row w n) a b → IsEnding a e → IsEnding b e
+noted_ending w n a b e did is = record { of = end_notes w n a b e did is.of; only = ending_only (Note e.row.row w n) a b e did (λ _. refl) is }
 
-pub closed_all : (a b c d f : DeskView) (e : EndingView) → IsEnding a e → Stepped (Note e.row 5 (end_word e.kind e.end 5)) a b → Stepped (Note e.row 6 (end_word e.kind e.end 6)) b c → Stepped (Note e.row 7 (end_word e.kind e.end 7)) c d → Stepped (Close e.row) d f → EndsNone f
+pub closed_all : (a b c d f : DeskView) (e : EndingView) → IsEnding a e → Stepped (Note e.row.row 5 (end_word e.kind e.end 5)) a b → Stepped (Note e.row.row 6 (end_word e.kind e.end 6)) b c → Stepped (Note e.row.row 7 (end_word e.kind e.end 7)) c d → Stepped (Close e.row.row) d f → EndsNone f
 closed_all a b c d f e is n5 n6 n7 cl =
     closed_none d f e (noted_ending 7 (end_word e.kind e.end 7) c d e n7 (noted_ending 6 (end_word e.kind e.end 6) b c e n6 (noted_ending 5 (end_word e.kind e.end 5) a b e n5 is))) cl
 
-pub closing_holds : (a f : DeskView) (e : EndingView) → f.kept ≡ a.kept → IsEnding a e → Shape a f (closing_steps e.row e.kind e.end) → KeepsHolds a f
-closing_holds a f e kept is did = ending_holds a f (closing_steps e.row e.kind e.end) e did kept is.of (λ r q. (q, (q, (q, (q, tt))))) (λ r. (refl, (refl, (refl, (refl, tt)))))
+pub closing_holds : (a f : DeskView) (e : EndingView) → f.kept ≡ a.kept → IsEnding a e → Shape a f (closing_steps e.row.row e.kind e.end) → KeepsHolds a f
+closing_holds a f e kept is did = ending_holds a f (closing_steps e.row.row e.kind e.end) e did kept is.of (λ r q. (q, (q, (q, (q, tt))))) (λ r. (refl, (refl, (refl, (refl, tt)))))

@@ -12,9 +12,9 @@ use Rattle.history_model.specs.Apply.{in_phase}
 use Rattle.history_model.specs.History.{IsLegal, entry, state_of}
 use Rattle.history_model.proofs.Owners.{on_row, firm_making}
 use Rattle.claim_rule.specs.Rule.{DeskView, BooksView, state_seen}
-use Rattle.claim_rule.specs.Seats.{Stepped, Shape, IsOf}
+use Rattle.claim_rule.specs.Seats.{Stepped, Shape, IsOf, MayStep}
 use Rattle.claim_rule.specs.Holds.{HoldView, StandsFor, IsHoldOf, held}
-use Rattle.claim_rule.specs.Out.{IsHolding, HasNoted, HasNotedItems, IsToBeSealed, KeepsEndings, SealsItems}
+use Rattle.claim_rule.specs.Out.{IsHolding, HasNoted, HasNotedItems, IsToBeSealed, MaySealHold, KeepsEndings, IsSealedAs, SealsItems}
 use Rattle.claim_rule.proofs.Holding.{hold_notes, own_changes}
 use Rattle.claim_rule.proofs.Noting.{noted_item, sound_words, stands_on}
 use Rattle.claim_rule.proofs.Out.{hold_only, hold_endings, makes_before}
@@ -39,11 +39,11 @@ last_word n s l = inr (omega arith, omega arith)
 
 -- the hold and the ending of the desk, after a note of the hold's row
 
-pub noted_hold : (w n : ℕ) (old new : DeskView) (hold now : HoldView) → Stepped (Note hold.row w n) old new → now ≡ hold → IsHolding old hold → IsHoldOf new now → IsHolding new now
-noted_hold w n old new hold now did is was of = record { of = of; only = λ r m. hold_only (Note hold.row w n) old new hold did (λ _. refl) was r m ∙ sym (ap (λ (h : HoldView). h.row) is) }
+pub noted_hold : (w n : ℕ) (old new : DeskView) (hold now : HoldView) → Stepped (Note hold.row.row w n) old new → now ≡ hold → IsHolding old hold → IsHoldOf new now → IsHolding new now
+noted_hold w n old new hold now did is was of = record { of = of; only = λ r m. hold_only (Note hold.row.row w n) old new hold did (λ _. refl) was r m ∙ sym (ap (λ (h : HoldView). h.row.row) is) }
 
-pub noted_endings : (w n : ℕ) (old new : DeskView) (hold : HoldView) → Stepped (Note hold.row w n) old new → IsHolding old hold → KeepsEndings old new
-noted_endings w n old new hold did was = hold_endings old new (Note hold.row w n ∷ []) hold (step_shape (Note hold.row w n) old new did) was.of.0 (λ r q. (q, tt)) (λ r. (refl, tt))
+pub noted_endings : (w n : ℕ) (old new : DeskView) (hold : HoldView) → Stepped (Note hold.row.row w n) old new → IsHolding old hold → KeepsEndings old new
+noted_endings w n old new hold did was = hold_endings old new (Note hold.row.row w n ∷ []) hold (step_shape (Note hold.row.row w n) old new did) was.of.0 (λ r q. (q, tt)) (λ r. (refl, tt))
 
 -- the last item
 
@@ -65,10 +65,10 @@ last_note row word value n items front last i old new e many read w v did =
     less : (n k : ℕ) → n ≡ k + 1 → n - 1 ≡ k
     less n k e = omega arith
 
-pub last_noted : (old new : DeskView) (hold now : HoldView) (front : List Item) (last : Item) → IsLegal old.layout old.seen → IsHolding old hold → now ≡ hold → length hold.items ≤ most_items → hold.items ≡ front ++ last ∷ [] → HasNoted old hold.row front → Stepped (Note hold.row (8 + length front) (item_word last.place last.span)) old new → HasNotedItems new now
+pub last_noted : (old new : DeskView) (hold now : HoldView) (front : List Item) (last : Item) → IsLegal old.layout old.seen → IsHolding old hold → now ≡ hold → length hold.items ≤ most_items → hold.items ≡ front ++ last ∷ [] → HasNoted old hold.row.row front → Stepped (Note hold.row.row (8 + length front) (item_word last.place last.span)) old new → HasNotedItems new now
 last_noted old new hold now front last legal is same few e noted did =
     let room : length front < most_items = let l = length_last hold.items front last e in omega arith in
-    subst (HasNotedItems new) (sym same) (subst (HasNoted new hold.row) (sym e) (noted_item old new hold front last (length front) legal is.of.0 refl room did noted))
+    subst (HasNotedItems new) (sym same) (subst (HasNoted new hold.row.row) (sym e) (noted_item old new hold front last (length front) legal is.of.0 refl room did noted))
 
 -- a detail
 
@@ -98,7 +98,7 @@ low_words : (ws : List ℕ) (r l t c : ℕ) → drop 8 (set (set (set (set ws 1 
 low_words ws r l t c = drop_low 8 4 c (set (set (set ws 1 r) 2 l) 3 t) (omega arith) ∙ (drop_low 8 3 t (set (set ws 1 r) 2 l) (omega arith) ∙ (drop_low 8 2 l (set ws 1 r) (omega arith) ∙ drop_low 8 1 r ws (omega arith)))
 
 -- with its detail noted, the row of a hold whose items are noted may be sealed
-pub sealable : (a b c d e : DeskView) (hold : HoldView) (r l t n : ℕ) → IsLegal a.layout a.seen → StandsFor a hold → Stepped (Note hold.row 1 r) a b → Stepped (Note hold.row 2 l) b c → Stepped (Note hold.row 3 t) c d → Stepped (Note hold.row 4 n) d e
+pub sealable : (a b c d e : DeskView) (hold : HoldView) (r l t n : ℕ) → IsLegal a.layout a.seen → StandsFor a hold → Stepped (Note hold.row.row 1 r) a b → Stepped (Note hold.row.row 2 l) b c → Stepped (Note hold.row.row 3 t) c d → Stepped (Note hold.row.row 4 n) d e
     → HasNotedItems a hold → 1 ≤ length hold.items → r ≤ greatest_retailer → l ≤ last_moment → t ≤ greatest_amount → n ≡ length hold.items → IsToBeSealed e hold
 sealable a b c d e hold r l t n legal is n1 n2 n3 n4 noted some fr fl ft count =
     let s1 = hold_notes 1 r a b hold n1 is in
@@ -110,7 +110,7 @@ sealable a b c d e hold r l t n legal is n1 n2 n3 n4 noted some fr fl ft count =
     let len : length is.booking.items ≡ length hold.items = ap length is.items ∙ length-map hold.items held in
     let was : take (length hold.items) (drop 8 ws) ≡ map (λ (i : Item). item_word i.place i.span) hold.items =
     stands_on a hold (λ x. take (length hold.items) (drop 8 x.words) ≡ map (λ (i : Item). item_word i.place i.span) hold.items) is noted in
-    on_row (state_seen e) hold.row s4.booking IsSealable s4.found (record {
+    on_row (state_seen e) hold.row.row s4.booking IsSealable s4.found (record {
       some = subst (λ (k : ℕ). 1 ≤ k) (sym len) some;
       retailer = subst (λ (k : ℕ). k ≤ greatest_retailer) (sym (one ws r l t n many)) fr;
       limit = subst (λ (k : ℕ). k ≤ last_moment) (sym (two ws r l t n many)) fl;
@@ -119,34 +119,34 @@ sealable a b c d e hold r l t n legal is n1 n2 n3 n4 noted some fr fl ft count =
       items = (λ i. take (len i) (low_words ws r l t n i)) ∙ (was ∙ sym (ap (map (λ (i : BookedItem). item_word i.place i.span)) is.items ∙ map_held hold.items));
     })
 
-pub detail_hold : (r v1 v2 v3 v4 : ℕ) (old new : DeskView) (hold now : HoldView) → r ≡ hold.row → Shape old new (Note r 1 v1 ∷ Note r 2 v2 ∷ Note r 3 v3 ∷ Note r 4 v4 ∷ []) → now ≡ hold → IsHolding old hold → IsHoldOf new now → IsHolding new now
+pub detail_hold : (r v1 v2 v3 v4 : ℕ) (old new : DeskView) (hold now : HoldView) → r ≡ hold.row.row → Shape old new (Note r 1 v1 ∷ Note r 2 v2 ∷ Note r 3 v3 ∷ Note r 4 v4 ∷ []) → now ≡ hold → IsHolding old hold → IsHoldOf new now → IsHolding new now
 detail_hold r v1 v2 v3 v4 old new hold now at did same is of = record {
   of = of;
-  only = λ q m. is.only q (makes_before old new (Note r 1 v1 ∷ Note r 2 v2 ∷ Note r 3 v3 ∷ Note r 4 v4 ∷ []) q did (refl, (refl, (refl, (refl, tt)))) m) ∙ sym (ap (λ (h : HoldView). h.row) same);
+  only = λ q m. is.only q (makes_before old new (Note r 1 v1 ∷ Note r 2 v2 ∷ Note r 3 v3 ∷ Note r 4 v4 ∷ []) q did (refl, (refl, (refl, (refl, tt)))) m) ∙ sym (ap (λ (h : HoldView). h.row.row) same);
 }
 
-pub detail_endings : (v1 v2 v3 v4 : ℕ) (old new : DeskView) (hold : HoldView) → Shape old new (Note hold.row 1 v1 ∷ Note hold.row 2 v2 ∷ Note hold.row 3 v3 ∷ Note hold.row 4 v4 ∷ []) → IsHolding old hold → KeepsEndings old new
-detail_endings v1 v2 v3 v4 old new hold did is = hold_endings old new (Note hold.row 1 v1 ∷ Note hold.row 2 v2 ∷ Note hold.row 3 v3 ∷ Note hold.row 4 v4 ∷ []) hold did is.of.0 (λ r q. (q, (q, (q, (q, tt))))) (λ r. (refl, (refl, (refl, (refl, tt)))))
+pub detail_endings : (v1 v2 v3 v4 : ℕ) (old new : DeskView) (hold : HoldView) → Shape old new (Note hold.row.row 1 v1 ∷ Note hold.row.row 2 v2 ∷ Note hold.row.row 3 v3 ∷ Note hold.row.row 4 v4 ∷ []) → IsHolding old hold → KeepsEndings old new
+detail_endings v1 v2 v3 v4 old new hold did is = hold_endings old new (Note hold.row.row 1 v1 ∷ Note hold.row.row 2 v2 ∷ Note hold.row.row 3 v3 ∷ Note hold.row.row 4 v4 ∷ []) hold did is.of.0 (λ r q. (q, (q, (q, (q, tt))))) (λ r. (refl, (refl, (refl, (refl, tt)))))
 
 -- the seal
 
-pub may_seal : (books : BooksView) (desk : DeskView) (hold : HoldView) (ph : Phase) → IsOf books desk → IsHolding desk hold → IsToBeSealed desk hold → MaySealAs (state_seen desk) desk.number hold.row ph → IsAllowedStep books.layout (state_of books.layout desk.seen) desk.number (Seal hold.row ph)
+pub may_seal : (books : BooksView) (desk : DeskView) (hold : HoldView) (ph : Phase) → IsOf books desk → IsHolding desk hold → IsToBeSealed desk hold → MaySealHold desk hold ph → MayStep books.layout desk (Seal hold.row.row ph)
 may_seal books desk hold ph of is ready may =
     let st = is.of.0 in
-    subst (λ (g : Layout). IsAllowedStep g (state_of g desk.seen) desk.number (Seal hold.row ph)) of.layout
-    (st.row, on_row (state_seen desk) hold.row st.booking (λ b. IsMadeBy desk.number b × IsSealable b) st.found ((st.making, st.owner), stands_on desk hold IsSealable st ready), may)
+    subst (λ (g : Layout). IsAllowedStep g (state_of g desk.seen) desk.number (Seal hold.row.row ph)) of.layout
+    (st.row, on_row (state_seen desk) hold.row.row st.booking (λ b. IsMadeBy desk.number b × IsSealable b × MaySealAs (state_seen desk) desk.number b ph) st.found ((st.making, st.owner), stands_on desk hold IsSealable st ready, stands_on desk hold (λ b. MaySealAs (state_seen desk) desk.number b ph) st may))
 
-pub seals_items : (ph : Phase) (old new : DeskView) (hold : HoldView) → Stepped (Seal hold.row ph) old new → IsHolding old hold → SealsItems old new hold.row ph hold.items
+pub seals_items : (ph : Phase) (old new : DeskView) (hold : HoldView) → Stepped (Seal hold.row.row ph) old new → IsHolding old hold → SealsItems old new hold.row ph hold.items
 seals_items ph old new hold did is =
     let st = is.of.0 in
-    let now = own_changes (Seal hold.row ph) old new did hold.row st.booking (in_phase ph) (λ s. refl) (λ _. refl) st.found st.owner (firm_making st.booking.phase st.making) in
-    let there = subst (λ (x : Layout × List Entry). present (state_of x.0 x.1) hold.row ≡ Some (in_phase ph st.booking)) (λ i. (did.same.1 i, did.seen i)) now in (
+    let now = own_changes (Seal hold.row.row ph) old new did hold.row.row st.booking (in_phase ph) (λ s. refl) (λ _. refl) st.found st.owner (firm_making st.booking.phase st.making) in
+    let there = subst (λ (x : Layout × List Entry). present (state_of x.0 x.1) hold.row.row ≡ Some (in_phase ph st.booking)) (λ i. (did.same.1 i, did.seen i)) now in (
       old.seen ++ did.between,
       [],
       (did.between, refl),
       did.seen,
-      on_row (state_of old.layout ((old.seen ++ did.between) ++ entry old.number (Seal hold.row ph) ∷ [])) hold.row (in_phase ph st.booking) (λ b. (b.owner ≡ old.number) × (b.phase ≡ ph) × (b.items ≡ map held hold.items)) there (st.owner, refl, st.items),
+      on_row (state_of old.layout ((old.seen ++ did.between) ++ entry old.number (Seal hold.row.row ph) ∷ [])) hold.row.row (in_phase ph st.booking) (IsSealedAs hold.row.generation old.number ph hold.items) there (st.generation, st.owner, refl, st.items),
     )
 
-pub seal_endings : (ph : Phase) (old new : DeskView) (hold : HoldView) → Stepped (Seal hold.row ph) old new → IsHolding old hold → KeepsEndings old new
-seal_endings ph old new hold did is = hold_endings old new (Seal hold.row ph ∷ []) hold (step_shape (Seal hold.row ph) old new did) is.of.0 (λ r q. (q, tt)) (λ r. (refl, tt))
+pub seal_endings : (ph : Phase) (old new : DeskView) (hold : HoldView) → Stepped (Seal hold.row.row ph) old new → IsHolding old hold → KeepsEndings old new
+seal_endings ph old new hold did is = hold_endings old new (Seal hold.row.row ph ∷ []) hold (step_shape (Seal hold.row.row ph) old new did) is.of.0 (λ r q. (q, tt)) (λ r. (refl, tt))

@@ -1,5 +1,5 @@
 -- Turns by what they aim at, and what they answer.
-use Rattle.std.specs.Prelude.{◌≡◌, ◌≢◌, ℕ, ℤ, pos, ◌+◌, true, List, [], ◌∷◌}
+use Rattle.std.specs.Prelude.{◌≡◌, ◌≢◌, ℕ, ℤ, pos, ◌≤◌, true, List, [], ◌∷◌}
 use Rattle.history_model.specs.declared.entry.Step.{Step}
 use Rattle.history_model.specs.declared.entry.Step.TheVariants.{Turn, LostTurn}
 use Rattle.history_model.specs.declared.phase.Phase.{Phase}
@@ -7,6 +7,11 @@ use Rattle.history_model.specs.declared.phase.Phase.TheVariants as phase
 use Rattle.history_model.specs.declared.phase.EndKind.{EndKind}
 use Rattle.history_model.specs.declared.phase.EndKind.TheVariants as kind
 use Rattle.history_model.specs.declared.booking.End.{End}
+use Rattle.rail_ids.specs.declared.RowNo.{RowNo}
+use Rattle.rail_ids.specs.Spelling.{last_generation}
+use Rattle.history_model.specs.Phase.{row_word_of, phase_shown}
+use Rattle.history_model.specs.Booking.{Layout, successor_word}
+use Rattle.claim_rule.specs.Seats.{CanTurn}
 use Rattle.claim_rule.specs.Rule.{DeskView}
 use Rattle.claim_rule.specs.Endings.{EndingView, items_read}
 use Rattle.claim_rule.specs.Out.{IsEnding, KeepsEndings}
@@ -33,7 +38,17 @@ end_of Fulfil = end_at 0 (pos 0) 0
 end_of (Release now) = end_at now (pos 0) 0
 end_of (Expire now) = end_at now (pos 0) 0
 end_of (Refund now amount) = end_at now (pos amount) 0
-end_of (Exchange now difference successor) = end_at now difference (successor.0 + 1)
+end_of (Exchange now difference successor) = end_at now difference (successor_word successor.row successor.generation)
+
+-- a successor's generation is one that a row may have
+abbrev pub HasGeneration : Aim → Type 0
+HasGeneration (Exchange now difference successor) = successor.generation ≤ last_generation
+HasGeneration aim = Unit {0}
+
+-- the turn is one that may be made of this booking
+abbrev pub MayAim : Layout → DeskView → RowNo → Phase → Aim → Type 0
+MayAim layout desk row from aim =
+    CanTurn layout desk.seen desk.number row from (aimed aim) (end_of aim).moment (end_of aim).amount (end_of aim).successor
 
 abbrev pub turn_step : ℕ → Phase → Phase → End → Step
 turn_step row from to end = Turn row from to end.moment end.amount end.successor
@@ -42,22 +57,23 @@ turn_step row from to end = Turn row from to end.moment end.amount end.successor
 abbrev pub turn_of : ℕ → Phase → Aim → Step
 turn_of row from aim = turn_step row from (aimed aim) (end_of aim)
 
--- the turn was lost to another phase than the one wanted
-abbrev pub LosesTurn : ℕ → Phase → Phase → List Step → Type 0
-LosesTurn row wanted shown es = (shown ≢ wanted) × (es ≡ LostTurn row wanted shown ∷ [])
+-- the row's word was another than that of the phase wanted and the generation, and shows the booking this phase
+abbrev pub LosesTurn : RowNo → Phase → Phase → List Step → Type 0
+LosesTurn row wanted shown es = (n : ℕ) × (n ≢ row_word_of wanted row.generation) × (shown ≡ phase_shown row.generation n)
+    × (es ≡ LostTurn row.row (row_word_of wanted row.generation) n ∷ [])
 
 -- an ending whose items are read and not given back
-abbrev pub fresh_ending : ℕ → EndKind → End → EndingView → EndingView
+abbrev pub fresh_ending : RowNo → EndKind → End → EndingView → EndingView
 fresh_ending row kind end e = record { row = row; kind = kind; end = end; items = e.items; given = 0; read = true }
 
 -- the steps of a turn, by what it answers
-abbrev pub Turns : ℕ → Phase → Aim → Turned → List Step → Type 0
-Turns row from aim Won es = es ≡ turn_of row from aim ∷ []
-Turns row from aim (Ending e) es = es ≡ turn_of row from aim ∷ items_read row e.items
+abbrev pub Turns : RowNo → Phase → Aim → Turned → List Step → Type 0
+Turns row from aim Won es = es ≡ turn_of row.row from aim ∷ []
+Turns row from aim (Ending e) es = es ≡ turn_of row.row from aim ∷ items_read row.row e.items
 Turns row from aim (Lost shown) es = LosesTurn row from shown es
 
 -- won where it aims at no ending; else the ending is the desk's and out
-abbrev pub LeavesTurned : ℕ → Aim → DeskView → DeskView → Turned → Type 0
+abbrev pub LeavesTurned : RowNo → Aim → DeskView → DeskView → Turned → Type 0
 LeavesTurned row aim old new Won = ((k : EndKind) → aimed aim ≢ phase.Ending k) × KeepsEndings old new
 LeavesTurned row aim old new (Ending e) = (aimed aim ≡ phase.Ending e.kind) × (e ≡ fresh_ending row e.kind (end_of aim) e) × IsEnding new e
 LeavesTurned row aim old new (Lost shown) = KeepsEndings old new

@@ -3,10 +3,8 @@ ghost use Rattle.std.specs.Prelude.{ℕ, ◌≡◌, ◌≤◌, ◌<◌, ◌+◌,
 ghost use Rattle.leg_masks.specs.Interval.{item_word, PlacedSpan as Item};
 ghost use Rattle.history_model.specs.declared.entry.Step.TheVariants.{Note, Seal};
 ghost use Rattle.history_model.specs.Booking.{first_item_word, greatest_amount, greatest_retailer};
-ghost use Rattle.history_model.specs.Allowed.{MaySealAs};
-ghost use Rattle.claim_rule.specs.Rule.{state_seen};
 ghost use Rattle.claim_rule.specs.Seats.{IsOf, Shape};
-ghost use Rattle.claim_rule.specs.Out.{IsHolding, HoldsNone, HasNotedItems, HasNotedButLast, IsToBeSealed, KeepsEndings, SealsItems};
+ghost use Rattle.claim_rule.specs.Out.{IsHolding, HoldsNone, HasNotedItems, HasNotedButLast, IsToBeSealed, MaySealHold, KeepsEndings, SealsItems};
 ghost use Rattle.booking_rows.specs.Notes.{sealed_phase, detail_notes};
 
 use claim_rule::{Books, Desk, Hold};
@@ -49,7 +47,7 @@ pub fn note_item(books: &Books, desk: &mut Desk, hold: &mut Hold)
     requires hold { IsHolding desk.old hold.old }
     requires some { 0 < length hold.old.items }
     ensures own { IsOf books.now desk.new }
-    ensures entries { (front : List Item) (last : Item) → hold.old.items ≡ front ++ last ∷ [] → Shape desk.old desk.new (Note hold.old.row (first_item_word + length front) (item_word last.place last.span) ∷ []) }
+    ensures entries { (front : List Item) (last : Item) → hold.old.items ≡ front ++ last ∷ [] → Shape desk.old desk.new (Note hold.old.row.row (first_item_word + length front) (item_word last.place last.span) ∷ []) }
     ensures same { hold.new ≡ hold.old }
     ensures hold { IsHolding desk.new hold.new }
     ensures noted { HasNotedButLast desk.old hold.old → HasNotedItems desk.new hold.new }
@@ -66,7 +64,7 @@ pub fn note_detail(books: &Books, desk: &mut Desk, hold: &mut Hold, detail: Deta
     requires own { IsOf books.now desk.old }
     requires hold { IsHolding desk.old hold.old }
     ensures own { IsOf books.now desk.new }
-    ensures entries { Shape desk.old desk.new (detail_notes hold.old.row detail (length hold.old.items)) }
+    ensures entries { Shape desk.old desk.new (detail_notes hold.old.row.row detail (length hold.old.items)) }
     ensures same { hold.new ≡ hold.old }
     ensures hold { IsHolding desk.new hold.new }
     ensures ready { HasNotedItems desk.old hold.old → 1 ≤ length hold.old.items → detail.total ≤ greatest_amount → IsToBeSealed desk.new hold.new }
@@ -85,10 +83,10 @@ pub fn seal(books: &Books, desk: &mut Desk, hold: Hold, sealed: Sealed) -> RowNo
     requires own { IsOf books.now desk.old }
     requires hold { IsHolding desk.old hold }
     requires ready { IsToBeSealed desk.old hold }
-    requires phase { MaySealAs (state_seen desk.old) desk.old.number hold.row (sealed_phase sealed) }
+    requires phase { MaySealHold desk.old hold (sealed_phase sealed) }
     ensures own { IsOf books.now desk.new }
-    ensures entries { Shape desk.old desk.new (Seal hold.row (sealed_phase sealed) ∷ []) }
-    ensures row { result.0 ≡ hold.row }
+    ensures entries { Shape desk.old desk.new (Seal hold.row.row (sealed_phase sealed) ∷ []) }
+    ensures row { result ≡ hold.row }
     ensures items { SealsItems desk.old desk.new hold.row (sealed_phase sealed) hold.items }
     ensures none { HoldsNone desk.new }
     ensures endings { KeepsEndings desk.old desk.new }

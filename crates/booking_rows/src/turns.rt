@@ -2,16 +2,17 @@
 ghost use Rattle.std.specs.Prelude.{ℕ, ◌≡◌, ◌≤◌, ◌+◌, true, false, length};
 ghost use Rattle.history_model.specs.declared.phase.EndKind.{EndKind};
 ghost use Rattle.history_model.specs.declared.phase.Phase.TheVariants.{Ending as IsEndingPhase};
-ghost use Rattle.claim_rule.specs.Seats.{IsOf, Shape, CanTurn, AddsAtMost};
+ghost use Rattle.claim_rule.specs.Seats.{IsOf, Shape, AddsAtMost};
 ghost use Rattle.claim_rule.specs.Calls.{ShapeBy};
 ghost use Rattle.claim_rule.specs.EndSteps.{closing};
 ghost use Rattle.claim_rule.specs.Out.{IsEnding, EndsNone, KeepsHolds};
 ghost use Rattle.history_model.specs.Booking.{most_items};
 ghost use Rattle.claim_rule.specs.Endings.{items_read};
-ghost use Rattle.booking_rows.specs.Aims.{aimed, end_of, Turns, LeavesTurned};
+ghost use Rattle.booking_rows.specs.Aims.{aimed, end_of, HasGeneration, MayAim, Turns, LeavesTurned};
 
 use claim_rule::{Books, Desk, Ending, StepTurned};
-use history_model::phase::{EndKind, Phase, phase_said};
+use history_model::phase::{EndKind, Phase, phase_shown};
+use history_model::successor::successor_word;
 use rail_ids::RowNo;
 use rail_time::Moment;
 
@@ -45,7 +46,7 @@ pub enum Turned {
     Won,
     /// The row is ending, and its items are read.
     Ending(Ending),
-    /// The phase word showed another phase than the one that the turn was to start from.
+    /// The row's word showed another phase than the one that the turn was to start from, or another generation: then `Free`.
     Lost { shown: Phase },
 }
 
@@ -95,29 +96,31 @@ impl Aim {
         }
     }
 
-    // The successor of the end that it gives, as a row's number plus 1, or 0.
-    fn successor(&self) -> u32
-        requires successor { (end_of self.now).successor < 2 ^ 32 }
+    // The successor of the end that it gives, as its word, or 0.
+    fn successor(&self) -> u64
+        requires generation { HasGeneration self.now }
         ensures successor { result ≡ (end_of self.now).successor }
     {
         match self {
-            Aim::Exchange { successor, .. } => successor.0 + 1,
+            Aim::Exchange { successor, .. } => successor_word(*successor),
             _ => 0,
         }
     }
 }
 
-/// Turns a row from this phase. In what the desk has seen the row is sealed, and the turn is one that may be; for an ending the desk has
-/// none out, and a successor is the row of its hold.
+/// Turns a booking from this phase. In what the desk has seen it is sealed, and the turn is one that may be; for an ending
+/// the desk has none out, and a successor is the booking of its hold.
 ///
-/// `Won` for a confirmation and a fulfilment, `Ending` for the rest; `Lost` exactly where the phase word showed another phase.
+/// `Won` for a confirmation and a fulfilment, `Ending` for the rest; `Lost` exactly where word 0 of the row showed another
+/// phase, or another generation, of which it shows this booking as free.
 pub fn turn(books: &Books, desk: &mut Desk, row: RowNo, from: Phase, to: Aim) -> Turned
     requires own { IsOf books.now desk.old }
-    requires turn { CanTurn books.now.layout desk.old.seen desk.old.number row.0 from (aimed to) (end_of to).moment (end_of to).amount (end_of to).successor }
+    requires turn { MayAim books.now.layout desk.old row from to }
+    requires generation { HasGeneration to }
     requires none { (kind : EndKind) → aimed to ≡ IsEndingPhase kind → EndsNone desk.old }
     ensures own { IsOf books.now desk.new }
-    ensures entries { ShapeBy (Turns row.0 from to result) desk.old desk.new }
-    ensures leaves { LeavesTurned row.0 to desk.old desk.new result }
+    ensures entries { ShapeBy (Turns row from to result) desk.old desk.new }
+    ensures leaves { LeavesTurned row to desk.old desk.new result }
     ensures holds { KeepsHolds desk.old desk.new }
     ensures bound { AddsAtMost (most_items + 2) desk.old desk.new }
 {
@@ -128,7 +131,7 @@ pub fn turn(books: &Books, desk: &mut Desk, row: RowNo, from: Phase, to: Aim) ->
     match books.step_turn(desk, row, from, to.phase(), moment, amount, successor) {
         StepTurned::Won => Turned::Won,
         StepTurned::Missed { shown } => Turned::Lost {
-            shown: phase_said(shown),
+            shown: phase_shown(shown, row.generation),
         },
         StepTurned::Ending(ending) => Turned::Ending(with_items(books, desk, ending)),
     }
@@ -143,7 +146,7 @@ fn with_items(books: &Books, desk: &mut Desk, mut ending: Ending) -> Ending
     ensures ending { IsEnding desk.new result }
     ensures read { result ≡ record ending { items = result.items; read = true } }
     ensures few { length result.items ≤ most_items }
-    ensures entries { Shape desk.old desk.new (items_read ending.row result.items) }
+    ensures entries { Shape desk.old desk.new (items_read ending.row.row result.items) }
     ensures holds { KeepsHolds desk.old desk.new }
 {
     books.step_items(desk, &mut ending);
@@ -157,7 +160,7 @@ pub fn close_end(books: &Books, desk: &mut Desk, mut ending: Ending)
     requires read { ending.read ≡ true }
     requires all { ending.given ≡ length ending.items }
     ensures own { IsOf books.now desk.new }
-    ensures entries { Shape desk.old desk.new (closing ending.row ending.kind ending.end) }
+    ensures entries { Shape desk.old desk.new (closing ending.row.row ending.kind ending.end) }
     ensures none { EndsNone desk.new }
     ensures holds { KeepsHolds desk.old desk.new }
 {

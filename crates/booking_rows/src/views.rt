@@ -1,28 +1,31 @@
-//! Reading a row: its phase first, and the words of a sealed one after it.
-ghost use Rattle.std.specs.Prelude.{ℕ, ◌≡◌, ◌≤◌, ◌<◌, ◌+◌, ◌^◌, ◌∷◌, [], true, length, option_map, IfSome};
+//! Reading a row: its phase first, the words of a sealed one after it, and its phase again.
+ghost use Rattle.std.specs.Prelude.{ℕ, ◌≡◌, ◌≤◌, ◌<◌, ◌+◌, true, length, map, min, option_map, IfSome};
 ghost use Rattle.std.specs.List.{AllByRecursion};
-ghost use Rattle.leg_masks.specs.Interval.{IsItemOf};
+ghost use Rattle.leg_masks.specs.Interval.{IsItemOf, item_word};
 ghost use Rattle.history_model.specs.declared.phase.EndKind.TheVariants.{Exchange};
-ghost use Rattle.history_model.specs.Booking.{most_items, amount_word, greatest_amount, greatest_retailer, last_moment};
+ghost use Rattle.history_model.specs.Booking.{most_items, first_item_word, amount_word, greatest_amount, greatest_retailer, last_moment};
 ghost use Rattle.history_model.specs.Phase.{is_sealed as is_sealed_phase};
-ghost use Rattle.claim_rule.specs.Endings.{items_read};
+ghost use Rattle.rail_ids.specs.Spelling.{last_generation};
 ghost use Rattle.claim_rule.specs.Seats.{IsOf, Shape, AddsAtMost};
 ghost use Rattle.claim_rule.specs.Calls.{ShapeBy};
 ghost use Rattle.claim_rule.specs.Out.{KeepsHolds, KeepsEndings};
-ghost use Rattle.booking_rows.specs.Views.{LooksRow, IsSeen, HasWord, end_looks, saw_end, saw_words, has_end, said_amount, SaysAmount, HasSaidAmount};
-ghost use Rattle.booking_rows.specs.Ends.{shown_end, successor_word};
-ghost use Rattle.booking_rows.specs.SealedRows.{FitWords, IsSealedRow, IsSealedSince, IsEndedRow, IsAmountWord, IsItemWord};
+ghost use Rattle.booking_rows.specs.Views.{LooksRow, IsSeen, HasWord, saw_end, saw_words, has_end, said_amount, HasSaidAmount};
+ghost use Rattle.booking_rows.specs.Views.{AreRead, end_words, word_looks, words_read};
+ghost use Rattle.booking_rows.specs.Ends.{shown_end};
+ghost use Rattle.booking_rows.specs.SealedRows.{FitWords, IsSealedRow, IsSealedSince, IsStillPresent, HasItems};
+ghost use Rattle.booking_rows.specs.SealedRows.{AreOfOne, IsEndOf, IsAmountWord, IsItemWord};
 
 use arrayvec::ArrayVec;
 use claim_rule::{Books, Desk};
 use history_model::booking::{FIRST_ITEM_WORD, MOST_ITEMS};
-use history_model::phase::{EndKind, Phase, phase_said};
+use history_model::phase::{EndKind, Phase, phase_shown};
+use history_model::successor::successor_of;
 use leg_masks::{Item, read_item};
 use rail_ids::{RetailerNo, RowNo};
 use rail_time::Moment;
 use std::marker::Model;
 
-/// How a row ended: its amount in minor units, when, and the row of its successor. Of a refund the amount is what was paid back, of an
+/// How a booking ended: its amount in minor units, when, and its successor. Of a refund the amount is what was paid back, of an
 /// exchange what the new booking cost more, and else 0.
 #[derive(Clone, Copy, Debug, PartialEq, Eq)]
 pub struct EndView {
@@ -52,123 +55,203 @@ impl Model for RowView {
     ghost view = { λ v. record { phase = v.phase; retailer = v.retailer.0; limit = v.limit; total = v.total; items = v.items.items; ended = option_map shown_end v.ended } };
 }
 
-/// Looks at a row: its phase word, and of a sealed one its other words after it.
+/// Looks at a booking: word 0 of its row, of a sealed one its other words after it, and word 0 again.
 ///
-/// `None` exactly where the phase word showed that the row is free or in the making.
+/// `None` exactly where the first look showed it free or in the making, or the last one free: its row was given away
+/// meanwhile, and the words read between are no one's. `ended` is there exactly where the first look showed it ended.
 pub fn look_row(books: &Books, desk: &mut Desk, row: RowNo) -> Option<RowView>
     requires own { IsOf books.now desk.old }
-    requires row { row.0 < books.now.layout.rows }
+    requires row { row.row < books.now.layout.rows }
     ensures own { IsOf books.now desk.new }
-    ensures entries { ShapeBy (LooksRow row.0 result) desk.old desk.new }
-    ensures sealed { IfSome result (λ view. IsSealedSince desk.new row.0 view.phase) }
+    ensures entries { ShapeBy (LooksRow row result) desk.old desk.new }
+    ensures sealed { IfSome result (λ view. IsSealedSince desk.new row view.phase) }
+    ensures generation { IfSome result (λ _. row.generation ≤ last_generation) }
     ensures total { IfSome result (λ view. view.total ≤ greatest_amount) }
     ensures holds { KeepsHolds desk.old desk.new }
     ensures endings { KeepsEndings desk.old desk.new }
-    ensures bound { AddsAtMost (most_items + 8) desk.old desk.new }
+    ensures bound { AddsAtMost (most_items + 9) desk.old desk.new }
 {
     let _ = books.places();
-    let phase = phase_said(books.step_read(desk, row, 0));
-    if is_sealed(phase) {
-        Some(read_sealed(books, desk, row, phase))
-    } else {
-        None
+    let phase = phase_shown(books.step_read(desk, row, 0), row.generation);
+    if !is_sealed(phase) {
+        return None;
     }
+    let words = read_words(books, desk, row, phase);
+    let last = phase_shown(books.step_read(desk, row, 0), row.generation);
+    if let Phase::Free = last {
+        return None;
+    }
+    Some(view_of(words))
 }
 
-// Whether a row in this phase is neither free nor in the making.
+// Whether a booking in this phase is neither free nor in the making.
 fn is_sealed(phase: Phase) -> bool
     ensures sealed { result ≡ is_sealed_phase phase }
 {
     !matches!(phase, Phase::Free | Phase::Making)
 }
 
-// Reads the words of a sealed row that showed this phase.
-fn read_sealed(books: &Books, desk: &mut Desk, row: RowNo, phase: Phase) -> RowView
+// The words that the looks at a row showed, before it is known whose they are.
+#[derive(Drop)]
+struct RowWords {
+    phase: Phase,
+    retailer: u64,
+    limit: u64,
+    total: u64,
+    count: u64,
+    items: ArrayVec<u64, MOST_ITEMS>,
+    end: ArrayVec<u64, 3>,
+}
+
+impl Model for RowWords {
+    ghost use Rattle.booking_rows.specs.Views.{RowWords as RowWordsView};
+
+    ghost Value = { RowWordsView };
+
+    ghost view = { λ w. record { phase = w.phase; retailer = w.retailer; limit = w.limit; total = w.total; count = w.count; items = w.items.items; end = w.end.items } };
+}
+
+// Reads the words of a row that showed the booking sealed, in this phase.
+fn read_words(books: &Books, desk: &mut Desk, row: RowNo, phase: Phase) -> RowWords
     requires own { IsOf books.now desk.old }
-    requires row { row.0 < books.now.layout.rows }
+    requires row { row.row < books.now.layout.rows }
     requires fit { FitWords books.now.layout }
     requires phase { is_sealed_phase phase ≡ true }
-    requires sealed { IsSealedSince desk.old row.0 phase }
+    requires sealed { IsSealedSince desk.old row phase }
     ensures own { IsOf books.now desk.new }
     ensures phase { result.phase ≡ phase }
-    ensures seen { IsSeen result }
-    ensures total { result.total ≤ greatest_amount }
-    ensures entries { Shape desk.old desk.new (saw_words row.0 result) }
-    ensures few { length result.items ≤ most_items }
-    ensures sealed { IsSealedSince desk.new row.0 phase }
+    ensures read { AreRead result }
+    ensures entries { Shape desk.old desk.new (words_read row.row result) }
+    ensures fit { IsStillPresent desk.new row → AreOfOne result }
+    ensures sealed { IsSealedSince desk.new row phase }
     ensures kept { desk.new.kept ≡ desk.old.kept }
 {
-    let retailer = retailer_of(books.step_read(desk, row, 1));
-    let limit = moment_of(books.step_read(desk, row, 2));
+    let retailer = books.step_read(desk, row, 1);
+    let limit = books.step_read(desk, row, 2);
     let total = books.step_read(desk, row, 3);
-    let items = read_items(books, desk, row);
-    let ended = read_end(books, desk, row, phase);
-    RowView {
+    let count = books.step_read(desk, row, 4);
+    let items = read_items(books, desk, row, count);
+    let end = read_end(books, desk, row, phase);
+    RowWords {
         phase,
         retailer,
         limit,
         total,
+        count,
         items,
-        ended,
+        end,
     }
 }
 
-// Reads the items of a sealed row.
-fn read_items(books: &Books, desk: &mut Desk, row: RowNo) -> ArrayVec<Item, MOST_ITEMS>
+// Reads the words of so many items, and of no more than a booking may have.
+fn read_items(books: &Books, desk: &mut Desk, row: RowNo, count: u64) -> ArrayVec<u64, MOST_ITEMS>
     requires own { IsOf books.now desk.old }
-    requires row { row.0 < books.now.layout.rows }
+    requires row { row.row < books.now.layout.rows }
     requires fit { FitWords books.now.layout }
-    requires sealed { IsSealedRow desk.old row.0 }
+    requires sealed { IsSealedRow desk.old row }
+    requires count { IsStillPresent desk.old row → HasItems desk.old row count }
     ensures own { IsOf books.now desk.new }
-    ensures entries { Shape desk.old desk.new (items_read row.0 result.items) }
-    ensures words { AllByRecursion HasWord result.items }
-    ensures few { length result.items ≤ most_items }
+    ensures many { length result.items ≡ min count most_items }
+    ensures entries { Shape desk.old desk.new (word_looks row.row first_item_word result.items) }
+    ensures words { IsStillPresent desk.new row → AllByRecursion IsItemWord result.items }
     ensures kept { desk.new.kept ≡ desk.old.kept }
 {
-    let count = books.step_read(desk, row, 4) as u8;
     let mut items = ArrayVec::new();
-    for i in 0..count {
-        let word = books.step_read(desk, row, FIRST_ITEM_WORD as u8 + i);
-        items.push(item_of(word));
+    for i in 0..at_most_items(count) {
+        items.push(books.step_read(desk, row, FIRST_ITEM_WORD as u8 + i));
     }
     items
 }
 
-// Reads the end of a row, where the phase that it showed is ended.
-fn read_end(books: &Books, desk: &mut Desk, row: RowNo, phase: Phase) -> Option<EndView>
-    requires own { IsOf books.now desk.old }
-    requires row { row.0 < books.now.layout.rows }
-    requires sealed { IsSealedSince desk.old row.0 phase }
-    ensures own { IsOf books.now desk.new }
-    ensures entries { Shape desk.old desk.new (saw_end row.0 phase (option_map shown_end result)) }
-    ensures there { has_end phase (option_map shown_end result) ≡ true }
-    ensures said { HasSaidAmount phase (option_map shown_end result) }
-    ensures kept { desk.new.kept ≡ desk.old.kept }
+// The number, or the most items that a booking may have where it is above.
+fn at_most_items(count: u64) -> u8
+    ensures least { result ≡ min count most_items }
 {
-    match phase {
-        Phase::Ended(kind) => Some(read_ended(books, desk, row, kind)),
-        _ => None,
+    if count < MOST_ITEMS as u64 {
+        count as u8
+    } else {
+        MOST_ITEMS as u8
     }
 }
 
-// Reads the end words of an ended row.
-fn read_ended(books: &Books, desk: &mut Desk, row: RowNo, kind: EndKind) -> EndView
+// Reads the end words, where the phase shown is an ended one.
+fn read_end(books: &Books, desk: &mut Desk, row: RowNo, phase: Phase) -> ArrayVec<u64, 3>
     requires own { IsOf books.now desk.old }
-    requires row { row.0 < books.now.layout.rows }
-    requires ended { IsEndedRow desk.old row.0 kind }
+    requires row { row.row < books.now.layout.rows }
+    requires sealed { IsSealedSince desk.old row phase }
     ensures own { IsOf books.now desk.new }
-    ensures entries { Shape desk.old desk.new (end_looks row.0 kind (shown_end result)) }
-    ensures said { SaysAmount kind (shown_end result) }
+    ensures many { length result.items ≡ end_words phase }
+    ensures entries { Shape desk.old desk.new (word_looks row.row 5 result.items) }
+    ensures words { IsStillPresent desk.new row → IsEndOf phase result.items }
     ensures kept { desk.new.kept ≡ desk.old.kept }
 {
     let _ = books.rows();
-    let successor = successor_of(books.step_read(desk, row, 5));
-    let amount = amount_of(kind, books.step_read(desk, row, 6));
-    let moment = moment_of(books.step_read(desk, row, 7));
-    EndView {
-        amount,
-        moment,
-        successor,
+    let mut end = ArrayVec::new();
+    if let Phase::Ended(_) = phase {
+        end.push(books.step_read(desk, row, 5));
+        end.push(books.step_read(desk, row, 6));
+        end.push(books.step_read(desk, row, 7));
+    }
+    end
+}
+
+// What the words say, where they are those of one sealed booking.
+fn view_of(words: RowWords) -> RowView
+    requires read { AreRead words }
+    requires fit { AreOfOne words }
+    ensures seen { IsSeen result }
+    ensures phase { result.phase ≡ words.phase }
+    ensures total { result.total ≤ greatest_amount }
+    ensures entries { (row : ℕ) → saw_words row result ≡ words_read row words }
+{
+    let RowWords {
+        phase,
+        retailer,
+        limit,
+        total,
+        count: _,
+        items,
+        end,
+    } = words;
+    RowView {
+        phase,
+        retailer: retailer_of(retailer),
+        limit: moment_of(limit),
+        total,
+        items: items_of(items.as_slice()),
+        ended: end_of(phase, end.as_slice()),
+    }
+}
+
+// The items of words that are items'.
+fn items_of(words: &[u64]) -> ArrayVec<Item, MOST_ITEMS>
+    requires few { length words.now ≤ most_items }
+    requires items { AllByRecursion IsItemWord words.now }
+    ensures words { map (λ i. item_word i.place i.span) result.items ≡ words.now }
+    ensures each { AllByRecursion HasWord result.items }
+{
+    let mut items = ArrayVec::new();
+    for word in words {
+        items.push(item_of(*word));
+    }
+    items
+}
+
+// The end of end words, where the phase is an ended one.
+fn end_of(phase: Phase, words: &[u64]) -> Option<EndView>
+    requires many { length words.now ≡ end_words phase }
+    requires end { IsEndOf phase words.now }
+    ensures there { has_end phase (option_map shown_end result) ≡ true }
+    ensures said { HasSaidAmount phase (option_map shown_end result) }
+    ensures looks { (row : ℕ) → saw_end row phase (option_map shown_end result) ≡ word_looks row 5 words.now }
+{
+    match phase {
+        Phase::Ended(kind) => Some(EndView {
+            amount: amount_of(kind, words[1]),
+            moment: moment_of(words[2]),
+            successor: successor_of(words[0]),
+        }),
+        _ => None,
     }
 }
 
@@ -199,18 +282,6 @@ fn item_of(word: u64) -> Item
     match read_item(word) {
         Some(item) => item,
         None => unreachable!(),
-    }
-}
-
-// The successor of a word: a row's number plus 1, or 0 for none.
-fn successor_of(word: u64) -> Option<RowNo>
-    requires small { word < 2 ^ 32 }
-    ensures successor { successor_word result ≡ word }
-{
-    if word == 0 {
-        None
-    } else {
-        Some(RowNo((word - 1) as u32))
     }
 }
 

@@ -5,6 +5,7 @@ use Rattle.history_model.specs.declared.phase.Phase.TheVariants as phase
 use Rattle.history_model.specs.declared.phase.EndKind.{EndKind}
 use Rattle.history_model.specs.declared.phase.EndKind.TheVariants as kind
 use Rattle.history_model.specs.declared.booking.End.{End}
+use Rattle.rail_ids.specs.declared.RowNo.{RowNo}
 use Rattle.claim_rule.specs.Rule.{DeskView}
 use Rattle.claim_rule.specs.Calls.{ShapeBy}
 use Rattle.booking_rows.specs.Views.{RowSeen}
@@ -19,8 +20,8 @@ use Rattle.confirm_core.specs.Fulfilling.{Fulfils}
 use Rattle.refund_core.specs.declared.releasing.Released.{Released}
 use Rattle.refund_core.specs.declared.releasing.Released.TheVariants as released
 use Rattle.refund_core.specs.Releasing.{Releases}
+use Rattle.refund_core.specs.Quotes.{FindsBooking}
 use Rattle.osdm_texts.specs.declared.problem.Problem.TheVariants.{UnknownBooking, TooLate, WrongState, NoMemory}
-use Rattle.booking_service.specs.Finding.{FindsBooking}
 use Rattle.osdm_texts.specs.Answers.{Reply, booking, problem, Told, reply_told}
 use Rattle.rail_catalogue.specs.Contents.{CatalogueView}
 
@@ -33,7 +34,7 @@ abbrev pub Answered : CatalogueView → Replying → DeskView → DeskView → T
 Answered cat Does old new said = (reply : Reply) × Does old new reply × (said ≡ reply_told cat reply)
 
 -- A look for the booking. None is answered as unknown; with one, this is done, or there is no memory and nothing more is done.
-abbrev pub OnBooking : ℕ → ℕ → ℕ → (RowSeen → Replying) → Replying
+abbrev pub OnBooking : ℕ → RowNo → ℕ → (RowSeen → Replying) → Replying
 OnBooking rows row retailer Does old new reply =
     (ShapeBy (FindsBooking rows row retailer None) old new × (reply ≡ problem UnknownBooking))
     ⊎ ((v : RowSeen) × (mid : DeskView) × ShapeBy (FindsBooking rows row retailer (Some v)) old mid
@@ -46,33 +47,33 @@ in_phase phase v = record v { phase = phase; ended = None }
 abbrev pub at_end : EndKind → End → RowSeen → RowSeen
 at_end kind end v = record v { phase = phase.Ended kind; ended = Some end }
 
-abbrev pub shows : ℕ → RowSeen → Replying
+abbrev pub shows : RowNo → RowSeen → Replying
 shows row v old new reply = (new ≡ old) × (reply ≡ booking row v)
 
-abbrev pub confirm_reply : ℕ → ℕ → RowSeen → Confirmed → Reply
+abbrev pub confirm_reply : RowNo → ℕ → RowSeen → Confirmed → Reply
 confirm_reply row now v confirmed.Done = booking row (in_phase phase.Confirmed v)
 confirm_reply row now v confirmed.Unknown = problem UnknownBooking
 confirm_reply row now v (confirmed.TooLate limit) = problem (TooLate limit now)
 confirm_reply row now v (confirmed.WrongState shown) = problem (WrongState shown)
 
-abbrev pub ConfirmsIt : ℕ → ℕ → ℕ → ℕ → RowSeen → Replying
+abbrev pub ConfirmsIt : ℕ → RowNo → ℕ → ℕ → RowSeen → Replying
 ConfirmsIt rows row retailer now v old new reply =
     (a : Confirmed) × ShapeBy (Confirms rows row retailer now a) old new × (reply ≡ confirm_reply row now v a)
 
-abbrev pub fulfil_reply : ℕ → RowSeen → Fulfilment → Reply
+abbrev pub fulfil_reply : RowNo → RowSeen → Fulfilment → Reply
 fulfil_reply row v fulfilled.Done = booking row (in_phase phase.Fulfilled v)
 fulfil_reply row v fulfilled.Unknown = problem UnknownBooking
 fulfil_reply row v (fulfilled.WrongState shown) = problem (WrongState shown)
 
-abbrev pub FulfilsIt : ℕ → ℕ → ℕ → RowSeen → Replying
+abbrev pub FulfilsIt : ℕ → RowNo → ℕ → RowSeen → Replying
 FulfilsIt rows row retailer v old new reply =
     (a : Fulfilment) × ShapeBy (Fulfils rows row retailer a) old new × (reply ≡ fulfil_reply row v a)
 
-abbrev pub release_reply : ℕ → ℕ → RowSeen → Released → Reply
+abbrev pub release_reply : RowNo → ℕ → RowSeen → Released → Reply
 release_reply row now v released.Done = booking row (at_end kind.Release (end_of (aim.Release now)) v)
 release_reply row now v released.Unknown = problem UnknownBooking
 release_reply row now v (released.WrongState shown) = problem (WrongState shown)
 
-abbrev pub ReleasesIt : ℕ → ℕ → ℕ → ℕ → RowSeen → Replying
+abbrev pub ReleasesIt : ℕ → RowNo → ℕ → ℕ → RowSeen → Replying
 ReleasesIt rows row retailer now v old new reply =
     (a : Released) × ShapeBy (Releases rows row retailer now a) old new × (reply ≡ release_reply row now v a)

@@ -6,9 +6,9 @@ ghost use Rattle.history_model.specs.declared.phase.EndKind.TheVariants as kind;
 ghost use Rattle.booking_rows.specs.declared.turns.Aim.TheVariants as aim;
 ghost use Rattle.booking_rows.specs.Aims.{end_of};
 ghost use Rattle.osdm_texts.specs.Answers.{booking, reply_told, told_of};
+ghost use Rattle.osdm_texts.specs.Bookings.{HasIds};
 ghost use Rattle.booking_service.specs.Deciding.{OnBooking, Answered, shows, ConfirmsIt, FulfilsIt, ReleasesIt, in_phase as in_phase_of, at_end};
 
-use crate::finding::find_booking;
 use booking_rows::{EndView, RowView};
 use claim_rule::Desk;
 use confirm_core::{Confirmed, Fulfilment, confirm, fulfil};
@@ -16,12 +16,15 @@ use history_model::phase::{EndKind, Phase};
 use osdm_texts::{Problem, Reply, Success, Written, write_reply};
 use rail_ids::{RetailerNo, RowNo};
 use rail_time::Moment;
-use refund_core::{Released, release};
+use refund_core::{Released, find_booking, release};
 use shop::{Asker, Shop};
 
 /// The text that shows a booking, or `None` where there is no memory for it.
+///
+/// The booking has an id, and so has its successor, where it has one.
 pub fn booking_answer(shop: &Shop<'_>, row: RowNo, view: RowView) -> Option<Written>
-    ensures told { IfSome result (λ written. told_of (Ok written) ≡ reply_told shop.now.cat.now (booking row.0 view)) }
+    requires ids { HasIds row view }
+    ensures told { IfSome result (λ written. told_of (Ok written) ≡ reply_told shop.now.cat.now (booking row view)) }
 {
     write_reply(
         shop.alloc,
@@ -54,7 +57,7 @@ pub fn show_booking(
     ensures idle { IsIdle desk.new }
     ensures tidy { IsTidy desk.old → IsTidy desk.new }
     ensures answer { Answered shop.now.cat.now
-        (OnBooking shop.now.books.now.layout.rows row.0 retailer.0 (shows row.0)) desk.old desk.new (told_of result) }
+        (OnBooking shop.now.books.now.layout.rows row retailer.0 (shows row)) desk.old desk.new (told_of result) }
 {
     let Some(view) = find_booking(shop.books, desk, row, retailer) else {
         return Err(Problem::UnknownBooking);
@@ -77,8 +80,8 @@ pub fn confirm_booking(
     ensures own { IsOf shop.now.books.now desk.new }
     ensures idle { IsIdle desk.new }
     ensures tidy { IsTidy desk.old → IsTidy desk.new }
-    ensures answer { Answered shop.now.cat.now (OnBooking shop.now.books.now.layout.rows row.0 asker.retailer.0
-        (ConfirmsIt shop.now.books.now.layout.rows row.0 asker.retailer.0 asker.moment)) desk.old desk.new (told_of result) }
+    ensures answer { Answered shop.now.cat.now (OnBooking shop.now.books.now.layout.rows row asker.retailer.0
+        (ConfirmsIt shop.now.books.now.layout.rows row asker.retailer.0 asker.moment)) desk.old desk.new (told_of result) }
 {
     let Some(view) = find_booking(shop.books, desk, row, asker.retailer) else {
         return Err(Problem::UnknownBooking);
@@ -107,8 +110,8 @@ pub fn fulfil_booking(
     ensures own { IsOf shop.now.books.now desk.new }
     ensures idle { IsIdle desk.new }
     ensures tidy { IsTidy desk.old → IsTidy desk.new }
-    ensures answer { Answered shop.now.cat.now (OnBooking shop.now.books.now.layout.rows row.0 retailer.0
-        (FulfilsIt shop.now.books.now.layout.rows row.0 retailer.0)) desk.old desk.new (told_of result) }
+    ensures answer { Answered shop.now.cat.now (OnBooking shop.now.books.now.layout.rows row retailer.0
+        (FulfilsIt shop.now.books.now.layout.rows row retailer.0)) desk.old desk.new (told_of result) }
 {
     let Some(view) = find_booking(shop.books, desk, row, retailer) else {
         return Err(Problem::UnknownBooking);
@@ -149,8 +152,8 @@ pub fn release_booking(
     ensures own { IsOf shop.now.books.now desk.new }
     ensures idle { IsIdle desk.new }
     ensures tidy { IsTidy desk.old → IsTidy desk.new }
-    ensures answer { Answered shop.now.cat.now (OnBooking shop.now.books.now.layout.rows row.0 asker.retailer.0
-        (ReleasesIt shop.now.books.now.layout.rows row.0 asker.retailer.0 asker.moment)) desk.old desk.new (told_of result) }
+    ensures answer { Answered shop.now.cat.now (OnBooking shop.now.books.now.layout.rows row asker.retailer.0
+        (ReleasesIt shop.now.books.now.layout.rows row asker.retailer.0 asker.moment)) desk.old desk.new (told_of result) }
 {
     let Some(view) = find_booking(shop.books, desk, row, asker.retailer) else {
         return Err(Problem::UnknownBooking);

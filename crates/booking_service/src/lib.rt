@@ -6,9 +6,7 @@
 #![tactic(auto)]
 
 mod deciding;
-mod finding;
 
 pub use deciding::{
     booking_answer, confirm_booking, fulfil_booking, release_booking, show_booking,
 };
-pub use finding::find_booking;

@@ -1,6 +1,7 @@
 -- From what a seat's step tells to what contracts see of the desk.
 use Rattle.std.proofs.Common.{Option, ◌≡◌, ℕ, Bool, cond, List, [], ◌∷◌, ◌++◌, refl, sym, ap, ◌∙◌, subst, append-nil, eq-eqb, ne_eqb}
 use Rattle.atomic_table.specs.declared.shared.Seat.{Seat}
+use Rattle.rail_ids.specs.declared.RowNo.{RowNo}
 use Rattle.claim_rule.proofs.Views.{each_map, own_other}
 use Rattle.claim_rule.proofs.Meeting.{each_both, each_front}
 use Rattle.claim_rule.specs.declared.rule.View.{View}
@@ -13,7 +14,7 @@ use Rattle.history_model.specs.declared.entry.Step.{Step}
 use Rattle.history_model.specs.declared.entry.Step.TheVariants.{Met}
 use Rattle.history_model.specs.declared.word.Word.{Word}
 
-pub steps_as : (lay : Layout) (st : Step) (a b : Seat ℕ View) (kept : Option ℕ) (past : ℕ) (old : DeskView) → desk_view a kept past ≡ old → a.me.0.plan ≡ lay → HasMade lay st a b → Stepped st old (desk_view b kept past)
+pub steps_as : (lay : Layout) (st : Step) (a b : Seat ℕ View) (kept : Option RowNo) (past : ℕ) (old : DeskView) → desk_view a kept past ≡ old → a.me.0.plan ≡ lay → HasMade lay st a b → Stepped st old (desk_view b kept past)
 steps_as lay st a b kept past old is plan made = let m = made.3 in let s = m.same in subst (λ (d : DeskView). Stepped st d (desk_view b kept past)) is record {
   between = m.between;
   seen = m.seen;
@@ -43,7 +44,7 @@ none_left : (l : List ℕ) (n : ℕ) (rest : List ℕ) → l ++ n ∷ rest ≡ [
 none_left [] n rest e = let no : ◌≡◌ {A = List ℕ} (n ∷ rest) [] = e in cc
 none_left (m ∷ l) n rest e = let no : ◌≡◌ {A = List ℕ} (m ∷ (l ++ n ∷ rest)) [] = e in cc
 
-met_at : (lay : Layout) (a o b : Seat ℕ View) (kept other_kept : Option ℕ) (past other_past : ℕ) → a.me.0.plan ≡ lay → b.table_id ≡ a.table_id → Added lay Met (joined a.me.0 o.me.0) b.me.0 → HasMet (desk_view a kept past) (desk_view o other_kept other_past) (desk_view b kept past)
+met_at : (lay : Layout) (a o b : Seat ℕ View) (kept other_kept : Option RowNo) (past other_past : ℕ) → a.me.0.plan ≡ lay → b.table_id ≡ a.table_id → Added lay Met (joined a.me.0 o.me.0) b.me.0 → HasMet (desk_view a kept past) (desk_view o other_kept other_past) (desk_view b kept past)
 met_at lay a o b kept other_kept past other_past plan table m =
     let s = m.same in
     let v = a.me.0 in
@@ -61,14 +62,14 @@ met_at lay a o b kept other_kept past other_past plan table m =
       same = (table, s.0, s.2, s.4, refl, refl);
     }
 
-pub met : (lay : Layout) (a o c b : Seat ℕ View) (kept other_kept : Option ℕ) (past other_past : ℕ) (old other : DeskView) → desk_view a kept past ≡ old → desk_view o other_kept other_past ≡ other → a.me.0.plan ≡ lay → c.table_id ≡ a.table_id → c.me ≡ (joined a.me.0 o.me.0, a.me.1) → HasMade lay Met c b → HasMet old other (desk_view b kept past)
+pub met : (lay : Layout) (a o c b : Seat ℕ View) (kept other_kept : Option RowNo) (past other_past : ℕ) (old other : DeskView) → desk_view a kept past ≡ old → desk_view o other_kept other_past ≡ other → a.me.0.plan ≡ lay → c.table_id ≡ a.table_id → c.me ≡ (joined a.me.0 o.me.0, a.me.1) → HasMade lay Met c b → HasMet old other (desk_view b kept past)
 met lay a o c b kept other_kept past other_past old other is is' plan table me made =
     subst (λ (d : DeskView × DeskView). HasMet d.0 d.1 (desk_view b kept past)) (λ i. (is i, is' i))
     (met_at lay a o b kept other_kept past other_past plan (made.0 ∙ table) (subst (λ (v : View). Added lay Met v b.me.0) (ap (λ (m : View × List (ℕ × ℕ)). m.0) me) made.3))
 
 -- parting
 
-pub part_met : (st : Step) (old : DeskView) (l s : Seat ℕ View) (kept : Option ℕ) (past : ℕ) → Stepped st old (desk_view l kept past) → s.table_id ≡ l.table_id → s.me.0 ≡ parting l.me.0
+pub part_met : (st : Step) (old : DeskView) (l s : Seat ℕ View) (kept : Option RowNo) (past : ℕ) → Stepped st old (desk_view l kept past) → s.table_id ≡ l.table_id → s.me.0 ≡ parting l.me.0
     → Stepped st old record { table = s.table_id; layout = s.me.0.plan; number = s.me.0.number; seen = s.me.0.seen; taken = s.me.0.taken; made = old.made; kept = kept; past = past }
 part_met st old l s kept past did table is = record {
   between = did.between;

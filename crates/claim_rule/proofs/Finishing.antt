@@ -4,6 +4,7 @@ use mathlib.Core.Option.{some, some-injective, some-ne-none}
 use lib.ListN.{get_elem?}
 use Rattle.atomic_table.specs.Table.{Final, Seen}
 use Rattle.atomic_table.specs.declared.shared.Seat.{Seat}
+use Rattle.rail_ids.specs.declared.RowNo.{RowNo}
 use Rattle.claim_rule.specs.declared.rule.View.{View}
 use Rattle.claim_rule.specs.declared.chronicle.Story.{Story}
 use Rattle.claim_rule.specs.Rule.{Kept, DeskView}
@@ -15,7 +16,7 @@ use Rattle.history_model.specs.History.{state_of}
 use Rattle.history_model.specs.Words.{AreWordsOf}
 use Rattle.history_model.specs.declared.entry.Entry.{Entry}
 
-pub ends : (lay : Layout) (a : Seat ℕ View) (kept : Option ℕ) (past : ℕ) (ws xs : List ℕ) → a.me.0.spent ≡ false → Final (Seen (Kept lay) a.id a.me.0) ws xs → (h : List Entry) × Ends lay (desk_view a kept past) ws h
+pub ends : (lay : Layout) (a : Seat ℕ View) (kept : Option RowNo) (past : ℕ) (ws xs : List ℕ) → a.me.0.spent ≡ false → Final (Seen (Kept lay) a.id a.me.0) ws xs → (h : List Entry) × Ends lay (desk_view a kept past) ws h
 ends lay a kept past ws xs fresh (s, (k, at), is, _, _) =
     let f = k.seats a.id a.me.0 at fresh in (
       k.history,
@@ -28,7 +29,7 @@ ends lay a kept past ws xs fresh (s, (k, at), is, _, _) =
       },
     )
 
-pub ends_as : (key lay : Layout) (a : Seat ℕ View) (kept : Option ℕ) (past : ℕ) (ws xs : List ℕ) (desk : DeskView) → desk_view a kept past ≡ desk → key ≡ lay → a.me.0.spent ≡ false → Final (Seen (Kept key) a.id a.me.0) ws xs → (h : List Entry) × Ends lay desk ws h
+pub ends_as : (key lay : Layout) (a : Seat ℕ View) (kept : Option RowNo) (past : ℕ) (ws xs : List ℕ) (desk : DeskView) → desk_view a kept past ≡ desk → key ≡ lay → a.me.0.spent ≡ false → Final (Seen (Kept key) a.id a.me.0) ws xs → (h : List Entry) × Ends lay desk ws h
 ends_as key lay a kept past ws xs desk is same fresh last = subst (λ (d : DeskView). (h : List Entry) × Ends lay d ws h) is (ends lay a kept past ws xs fresh (subst (λ (l : Layout). Final (Seen (Kept l) a.id a.me.0) ws xs) same last))
 
 -- what is told of a story: its layout, and how its history ends

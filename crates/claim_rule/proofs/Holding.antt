@@ -1,37 +1,36 @@
 -- What a desk's step does to the rows that it owns.
-use Rattle.std.proofs.Common.{eqb, append_assoc, ◌≤◌, ◌≡◌, inl, ℕ, ◌+◌, ◌-◌, ◌<◌, length-append, List, [], ◌∷◌, ◌++◌, map, take, length, ℤ, true, false, not, Option, Some, None, IfSome, refl, sym, ap, ◌∙◌, subst, append-nil, arith, slice_get, ne_eqb}
+use Rattle.std.proofs.Common.{eqb, append_assoc, ◌≤◌, ◌≡◌, inl, ℕ, ◌+◌, ◌-◌, ◌<◌, length-append, List, [], ◌∷◌, ◌++◌, map, take, length, ℤ, true, false, not, Option, Some, None, IfSome, option_map, refl, sym, ap, ◌∙◌, subst, append-nil, arith, slice_get, ne_eqb}
 use Rattle.std.proofs.lemmas.List.{length-map}
 use mathlib.Core.List.{IsPrefix, map-append, append_cancel_left}
 use Rattle.atomic_table.specs.declared.shared.Seat.{Seat}
 use Rattle.claim_rule.specs.declared.rule.View.{View}
 use Rattle.claim_rule.specs.Rule.{DeskView, BooksView, Each}
-use Rattle.claim_rule.specs.Seats.{Stepped, HasMet, IsOf, CanTurn, CanTake, CanGive, CanNote, desk_view}
+use Rattle.claim_rule.specs.Seats.{AreTaken, Stepped, HasMet, IsOf, CanSeal, CanTake, CanGive, CanNote, desk_view}
 use Rattle.claim_rule.specs.Holds.{HoldView, StandsFor, IsItem, with_one, held, empty_hold}
 use Rattle.claim_rule.proofs.Meeting.{each_append, each_front}
+use Rattle.rail_ids.specs.declared.RowNo.{RowNo}
 use Rattle.history_model.specs.Laws.{stage}
 use Rattle.history_model.specs.Booking.{phase_of_row}
-use Rattle.history_model.specs.History.{state_after}
-use Rattle.history_model.proofs.Forward.{stages-history}
 use Rattle.claim_rule.proofs.Moves.{own_row, is_sound}
 use Rattle.claim_rule.proofs.OwnWork.{is_start, step_keeps, start_keeps}
-use Rattle.claim_rule.specs.Out.{HoldsNone}
+use Rattle.claim_rule.specs.Out.{HoldsNone, IsHolding}
+use Rattle.claim_rule.proofs.Shapes.{stands_past}
 use Rattle.claim_rule.specs.OwnWork.{IsOwnWork}
-use Rattle.history_model.proofs.Going.{present-changed}
+use Rattle.history_model.proofs.Generations.{present-changed, present-started}
 use Rattle.history_model.proofs.Keeping.{found, given_making}
-use Rattle.history_model.proofs.Owners.{firm_making, on_row, quiet_stays, quiet_step}
+use Rattle.history_model.proofs.Owners.{firm_making, on_row, quiet_stays, quiet_step, taken_stays}
 use Rattle.history_model.proofs.Seen.{legal-front, legal-rest, own-append, state_of-append}
-use Rattle.history_model.proofs.Writing.{present-started}
 use Rattle.history_model.specs.Allowed.{IsAllowedStep, IsMadeBy, IsMakerWord, MayGive, MayNote, OnRow, TurnsWith}
-use Rattle.history_model.specs.Apply.{apply_step, given, noted, started, taken}
-use Rattle.history_model.specs.Booking.{Booking, Layout, State, change, limit_of, most_items, present}
+use Rattle.history_model.specs.Apply.{apply_step, given, noted, started, taken, words_of_row}
+use Rattle.history_model.specs.Booking.{Booking, Layout, State, change, key_of, limit_of, most_items, present}
 use Rattle.history_model.specs.History.{IsLegal, entry, own, state_of}
 use Rattle.history_model.specs.Laws.{is_owners}
-use Rattle.history_model.specs.Phase.{is_sealed}
+use Rattle.history_model.specs.Phase.{is_turn}
 use Rattle.history_model.specs.Quiet.{AllQuiet, is_quiet}
 use Rattle.history_model.specs.declared.booking.BookedItem.{BookedItem}
 use Rattle.history_model.specs.declared.entry.Entry.{Entry}
 use Rattle.history_model.specs.declared.entry.Step.{Step}
-use Rattle.history_model.specs.declared.entry.Step.TheVariants.{Give, Met, Note, Start, Take, Turn}
+use Rattle.history_model.specs.declared.entry.Step.TheVariants.{Give, Met, Note, Seal, Start, Take, Turn}
 use Rattle.history_model.specs.declared.phase.Phase.{Phase}
 use Rattle.history_model.specs.declared.phase.Phase.TheVariants.{Making}
 use Rattle.leg_masks.specs.Interval.{PlacedSpan as Item}
@@ -53,25 +52,26 @@ pub own_stays : (st : Step) (old new : DeskView) (did : Stepped st old new) (r :
 own_stays st old new did r b quiet at mine firm = ap (λ (s : State). present s r) (state_then st old new did) ∙ quiet_step (state_of old.layout (old.seen ++ did.between)) r b old.number st (own_before st old new did r b at mine firm) quiet
 
 -- and after one that changes it
-pub own_changes : (st : Step) (old new : DeskView) (did : Stepped st old new) (r : ℕ) (b : Booking) (f : Booking → Booking) → ((s : State) → apply_step s old.number st ≡ change s r f) → ((x : Booking) → (f x).row ≡ x.row) → present (state_of old.layout old.seen) r ≡ Some b → b.owner ≡ old.number → is_owners b.phase ≡ true
+pub own_changes : (st : Step) (old new : DeskView) (did : Stepped st old new) (r : ℕ) (b : Booking) (f : Booking → Booking) → ((s : State) → apply_step s old.number st ≡ change s r f) → ((x : Booking) → key_of (f x) ≡ key_of x) → present (state_of old.layout old.seen) r ≡ Some b → b.owner ≡ old.number → is_owners b.phase ≡ true
     → present (state_of new.layout new.seen) r ≡ Some (f b)
 own_changes st old new did r b f is row at mine firm =
     ap (λ (s : State). present s r) (state_then st old new did ∙ is (state_of old.layout (old.seen ++ did.between)))
     ∙ present-changed (state_of old.layout (old.seen ++ did.between)) r f b row (own_before st old new did r b at mine firm)
 
 -- the same hold, after a step that leaves its row
-abbrev pub hold_stays : (st : Step) (old new : DeskView) (hold : HoldView) → is_quiet hold.row st ≡ true → Stepped st old new → StandsFor old hold → StandsFor new hold
+abbrev pub hold_stays : (st : Step) (old new : DeskView) (hold : HoldView) → is_quiet hold.row.row st ≡ true → Stepped st old new → StandsFor old hold → StandsFor new hold
 hold_stays st old new hold quiet did is = record {
   booking = is.booking;
-  found = own_stays st old new did hold.row is.booking quiet is.found is.owner (firm_making is.booking.phase is.making);
+  found = own_stays st old new did hold.row.row is.booking quiet is.found is.owner (firm_making is.booking.phase is.making);
+  generation = is.generation;
   owner = is.owner ∙ sym did.same.2;
   making = is.making;
   items = is.items;
-  row = subst (λ (l : Layout). hold.row < l.rows) (sym did.same.1) is.row;
+  row = subst (λ (l : Layout). hold.row.row < l.rows) (sym did.same.1) is.row;
   within = subst (λ (l : Layout). Each (IsItem l) hold.items) (sym did.same.1) is.within;
 }
 
-kept_on : (st : Step) (old new : DeskView) (o : Option ℕ) → ((r : ℕ) → o ≡ Some r → is_quiet r st ≡ true) → Stepped st old new → IfSome o (λ r. StandsFor old (empty_hold r)) → IfSome o (λ r. StandsFor new (empty_hold r))
+kept_on : (st : Step) (old new : DeskView) (o : Option RowNo) → ((r : RowNo) → o ≡ Some r → is_quiet r.row st ≡ true) → Stepped st old new → IfSome o (λ r. StandsFor old (empty_hold r)) → IfSome o (λ r. StandsFor new (empty_hold r))
 kept_on st old new None quiet did is = tt
 kept_on st old new (Some r) quiet did is = hold_stays st old new (empty_hold r) (quiet r refl) did is
 
@@ -79,12 +79,8 @@ kept_on st old new (Some r) quiet did is = hold_stays st old new (empty_hold r) 
 stage_since : (g : Layout) (seen now : List Entry) (r : ℕ) → IsPrefix seen now → IsLegal g now → 1 ≤ stage (phase_of_row (state_of g seen) r) → 1 ≤ stage (phase_of_row (state_of g now) r)
 stage_since g seen now r (rest, e) legal some =
     let whole : IsLegal g (seen ++ rest) = subst (IsLegal g) (sym e) legal in
-    let up = stages-history g (state_of g seen) rest r (legal-rest g seen rest whole) in
     subst (λ (l : List Entry). 1 ≤ stage (phase_of_row (state_of g l) r)) e (subst (λ (s : State). 1 ≤ stage (phase_of_row s r)) (sym (state_of-append g seen rest))
-    (le_le (stage (phase_of_row (state_of g seen) r)) (stage (phase_of_row (state_after (state_of g seen) rest) r)) some up))
-  where
-    le_le : (x y : ℕ) → 1 ≤ x → x ≤ y → 1 ≤ y
-    le_le x y a b = omega arith
+    (taken_stays g (state_of g seen) rest r (is_sound g seen (legal-front g seen rest whole)) (legal-rest g seen rest whole) some))
 
 -- so does each row below `past`
 past_on : (old new : DeskView) → IsPrefix old.seen new.seen → IsLegal new.layout new.seen → new.layout ≡ old.layout → new.past ≡ old.past → ((r : ℕ) → r < old.past → 1 ≤ stage (phase_of_row (state_of old.layout old.seen) r)) → (r : ℕ) → r < new.past → 1 ≤ stage (phase_of_row (state_of new.layout new.seen) r)
@@ -123,61 +119,72 @@ work_on : (st : Step) (old new : DeskView) → is_start st ≡ false → Stepped
 work_on st old new none did =
     work_by st old new did (λ n. step_keeps old.layout (state_of old.layout (old.seen ++ did.between)) st (allowed_then st old new did n) none)
 
-still_by : (st : Step) (books : BooksView) (old new : DeskView) → ((r : ℕ) → old.kept ≡ Some r → is_quiet r st ≡ true) → Stepped st old new → IsOf books old → HasWork new → IsOf books new
+still_by : (st : Step) (books : BooksView) (old new : DeskView) → ((r : RowNo) → old.kept ≡ Some r → is_quiet r.row st ≡ true) → Stepped st old new → IsOf books old → HasWork new → IsOf books new
 still_by st books old new quiet did of work = record {
   table = did.same.0 ∙ of.table;
   layout = did.same.1 ∙ of.layout;
   legal = did.legal;
-  kept = subst (λ (o : Option ℕ). IfSome o (λ r. StandsFor new (empty_hold r))) (sym did.same.5) (kept_on st old new old.kept quiet did of.kept);
+  kept = subst (λ (o : Option RowNo). IfSome o (λ r. StandsFor new (empty_hold r))) (sym did.same.5) (kept_on st old new old.kept quiet did of.kept);
   past = past_on old new (did.between ++ entry old.number st ∷ [], sym (append_assoc old.seen did.between (entry old.number st ∷ [])) ∙ sym did.seen) did.legal did.same.1 did.same.6 of.past;
   within = within_on old new did.same.1 did.same.6 of.within;
   work = work;
 }
 
 -- the desk is still of the books, and a row that it keeps is as it was
-pub still_of : (st : Step) (books : BooksView) (old new : DeskView) → is_start st ≡ false → ((r : ℕ) → old.kept ≡ Some r → is_quiet r st ≡ true) → Stepped st old new → IsOf books old → IsOf books new
+pub still_of : (st : Step) (books : BooksView) (old new : DeskView) → is_start st ≡ false → ((r : RowNo) → old.kept ≡ Some r → is_quiet r.row st ≡ true) → Stepped st old new → IsOf books old → IsOf books new
 still_of st books old new none quiet did of = still_by st books old new quiet did of (work_on st old new none did of.work)
 
-none_kept : (o : Option ℕ) (r : ℕ) (P : Type 0) → o ≡ None → o ≡ Some r → P
-none_kept o r P n e = absurd (let no : ◌≡◌ {A = Option ℕ} None (Some r) = sym n ∙ e in cc)
+none_kept : (o : Option RowNo) (r : RowNo) (P : Type 0) → o ≡ None → o ≡ Some r → P
+none_kept o r P n e = absurd (let no : ◌≡◌ {A = Option RowNo} None (Some r) = sym n ∙ e in cc)
 
 -- the same for a desk that keeps no row
 pub still_alone : (st : Step) (books : BooksView) (old new : DeskView) → is_start st ≡ false → old.kept ≡ None → Stepped st old new → IsOf books old → IsOf books new
-still_alone st books old new none alone did of = still_of st books old new none (λ r e. none_kept old.kept r (is_quiet r st ≡ true) alone e) did of
+still_alone st books old new none alone did of = still_of st books old new none (λ r e. none_kept old.kept r (is_quiet r.row st ≡ true) alone e) did of
+
+-- a desk that keeps no row and holds none makes none
+pub makes_none : (desk : DeskView) (r : ℕ) → desk.kept ≡ None → HoldsNone desk → OnRow (state_of desk.layout desk.seen) r (IsMadeBy desk.number) → ⊥
+makes_none desk r alone holds on =
+    let no : ◌≡◌ {A = Option ℕ} None (Some r) = sym (ap (λ (o : Option RowNo). option_map (λ (k : RowNo). k.row) o) alone) ∙ holds r on in cc
 
 -- and for one that starts a row, where it makes none
-pub still_started : (row : ℕ) (books : BooksView) (old new : DeskView) → old.kept ≡ None → HoldsNone old → Stepped (Start row) old new → IsOf books old → IsOf books new
-still_started row books old new alone holds did of =
-    still_by (Start row) books old new (λ r e. none_kept old.kept r (is_quiet r (Start row) ≡ true) alone e) did of
+pub still_started : (row j : ℕ) (books : BooksView) (old new : DeskView) → old.kept ≡ None → HoldsNone old → Stepped (Start row j) old new → IsOf books old → IsOf books new
+still_started row j books old new alone holds did of =
+    still_by (Start row j) books old new (λ r e. none_kept old.kept r (is_quiet r.row (Start row j) ≡ true) alone e) did of
     (λ number made.
-    let before = alone_before (Start row) old new did (sym did.same.2 ∙ number) (sym did.same.4 ∙ made) in
-    work_by (Start row) old new did
-    (λ n. start_keeps old.layout (state_of old.layout (old.seen ++ did.between)) row
-    (is_sound old.layout (old.seen ++ did.between) (legal-front old.layout (old.seen ++ did.between) (entry old.number (Start row) ∷ []) (legal_before (Start row) old new did)))
-    (λ r on. none_kept old.kept r ⊥ alone (holds r
-    (subst (λ (d : ℕ). OnRow (state_of old.layout old.seen) r (IsMadeBy d)) (sym n) (subst (λ (l : List Entry). OnRow (state_of old.layout l) r (IsMadeBy 0)) before on)))))
+    let before = alone_before (Start row j) old new did (sym did.same.2 ∙ number) (sym did.same.4 ∙ made) in
+    work_by (Start row j) old new did
+    (λ n. start_keeps old.layout (state_of old.layout (old.seen ++ did.between)) row j
+    (is_sound old.layout (old.seen ++ did.between) (legal-front old.layout (old.seen ++ did.between) (entry old.number (Start row j) ∷ []) (legal_before (Start row j) old new did)))
+    (λ r on. makes_none old r alone holds
+    (subst (λ (d : ℕ). OnRow (state_of old.layout old.seen) r (IsMadeBy d)) (sym n) (subst (λ (l : List Entry). OnRow (state_of old.layout l) r (IsMadeBy 0)) before on))))
     of.work number made)
 
--- a kept row is no row that was sealed
-pub kept_apart : (books : BooksView) (desk : DeskView) (r q : ℕ) (P : Booking → Type 0) → ((b : Booking) → P b → b.phase ≡ Making → ⊥) → IsOf books desk → OnRow (state_of desk.layout desk.seen) q P → desk.kept ≡ Some r → not (eqb q r) ≡ true
-kept_apart books desk r q P unlike of on kept =
-    let is : StandsFor desk (empty_hold r) = subst (λ (o : Option ℕ). IfSome o (λ r. StandsFor desk (empty_hold r))) kept of.kept in
-    let f = found (present (state_of desk.layout desk.seen) q) P on in
-    let apart : q ≡ r → ⊥ = λ e. unlike f.0 f.2 (phase_of_same f.0 is.booking (sym f.1 ∙ (ap (present (state_of desk.layout desk.seen)) e ∙ is.found)) ∙ is.making) in
-    ap not (ne_eqb q r apart)
+-- a row in the making is no row of which this holds
+apart_from : (s : State) (q r : ℕ) (b : Booking) (P : Booking → Type 0) → ((b : Booking) → P b → b.phase ≡ Making → ⊥) → OnRow s q P → present s r ≡ Some b → b.phase ≡ Making → not (eqb q r) ≡ true
+apart_from s q r b P unlike on at making =
+    let f = found (present s q) P on in
+    let other : q ≡ r → ⊥ = λ e. unlike f.0 f.2 (phase_of_same f.0 b (sym f.1 ∙ (ap (present s) e ∙ at)) ∙ making) in
+    ap not (ne_eqb q r other)
   where
     phase_of_same : (x y : Booking) → Some x ≡ Some y → x.phase ≡ y.phase
     phase_of_same x y e = let same : x ≡ y = cc in ap (λ (b : Booking). b.phase) same
 
+-- a kept row is no row whose present booking is past the making
+pub kept_apart : (books : BooksView) (desk : DeskView) (r : RowNo) (q : ℕ) (P : Booking → Type 0) → ((b : Booking) → P b → b.phase ≡ Making → ⊥) → IsOf books desk → OnRow (state_of desk.layout desk.seen) q P → desk.kept ≡ Some r → not (eqb q r.row) ≡ true
+kept_apart books desk r q P unlike of on kept =
+    let is : StandsFor desk (empty_hold r) = subst (λ (o : Option RowNo). IfSome o (λ r. StandsFor desk (empty_hold r))) kept of.kept in
+    apart_from (state_of desk.layout desk.seen) q r.row is.booking P unlike on is.found is.making
+
 -- the hold with one more item, after a take
-abbrev pub hold_takes : (i : Item) (old new : DeskView) (hold : HoldView) → IsItem old.layout i → Stepped (Take hold.row i.place i.span) old new → StandsFor old hold → StandsFor new (with_one hold i)
+abbrev pub hold_takes : (i : Item) (old new : DeskView) (hold : HoldView) → IsItem old.layout i → Stepped (Take hold.row.row i.place i.span) old new → StandsFor old hold → StandsFor new (with_one hold i)
 hold_takes i old new hold fits did is = record {
   booking = taken i.place i.span is.booking;
-  found = own_changes (Take hold.row i.place i.span) old new did hold.row is.booking (taken i.place i.span) (λ s. refl) (λ _. refl) is.found is.owner (firm_making is.booking.phase is.making);
+  found = own_changes (Take hold.row.row i.place i.span) old new did hold.row.row is.booking (taken i.place i.span) (λ s. refl) (λ _. refl) is.found is.owner (firm_making is.booking.phase is.making);
+  generation = is.generation;
   owner = is.owner ∙ sym did.same.2;
   making = is.making;
   items = ap (λ l. l ++ held i ∷ []) is.items ∙ sym (map-append held hold.items (i ∷ []));
-  row = subst (λ (l : Layout). hold.row < l.rows) (sym did.same.1) is.row;
+  row = subst (λ (l : Layout). hold.row.row < l.rows) (sym did.same.1) is.row;
   within = subst (λ (l : Layout). Each (IsItem l) (hold.items ++ i ∷ [])) (sym did.same.1) (each_append (IsItem old.layout) hold.items (i ∷ []) is.within (fits, tt));
 }
 
@@ -191,36 +198,44 @@ take_front xs x = ap (λ (n : ℕ). take (n - 1) (xs ++ x ∷ [])) (length-appen
     go [] x = refl
     go (y ∷ ys) x = ap (λ l. y ∷ l) (go ys x)
 
+-- lists with one more at the end are equal only where these are
+pub same_front : {X : Type 0} (xs ys : List X) (x y : X) → xs ++ x ∷ [] ≡ ys ++ y ∷ [] → xs ≡ ys
+same_front {X = X} xs ys x y e = sym (take_front xs x) ∙ (ap (λ (l : List X). take (length l - 1) l) e ∙ take_front ys y)
+
 last_at : {X : Type 0} (xs : List X) (x : X) → slice_get (xs ++ x ∷ []) (length xs) ≡ Some x
 last_at [] x = refl
 last_at (y ∷ ys) x = last_at ys x
 
 -- the hold without its last item, after a give
-abbrev pub hold_gives : (i : Item) (k : ℕ) (old new : DeskView) (hold less : HoldView) → hold ≡ with_one less i → Stepped (Give hold.row k) old new → StandsFor old hold → StandsFor new less
+abbrev pub hold_gives : (i : Item) (k : ℕ) (old new : DeskView) (hold less : HoldView) → hold ≡ with_one less i → Stepped (Give hold.row.row k) old new → StandsFor old hold → StandsFor new less
 hold_gives i k old new hold less one did is =
-    let row : hold.row ≡ less.row = ap (λ (h : HoldView). h.row) one in
+    let row : hold.row.row ≡ less.row.row = ap (λ (h : HoldView). h.row.row) one in
     let items : hold.items ≡ less.items ++ i ∷ [] = ap (λ (h : HoldView). h.items) one in
     let its : is.booking.items ≡ map held less.items ++ held i ∷ [] = is.items ∙ (ap (map held) items ∙ map-append held less.items (i ∷ [])) in
     let parts = each_front (IsItem old.layout) less.items (i ∷ []) (subst (λ (l : List Item). Each (IsItem old.layout) l) items is.within) in
     record {
       booking = given k is.booking;
       found = subst (λ (r : ℕ). present (state_of new.layout new.seen) r ≡ Some (given k is.booking)) row
-          (own_changes (Give hold.row k) old new did hold.row is.booking (given k) (λ s. refl) (λ _. refl) is.found is.owner (firm_making is.booking.phase is.making));
+          (own_changes (Give hold.row.row k) old new did hold.row.row is.booking (given k) (λ s. refl) (λ _. refl) is.found is.owner (firm_making is.booking.phase is.making));
+      generation = is.generation ∙ ap (λ (h : HoldView). h.row.generation) one;
       owner = is.owner ∙ sym did.same.2;
       making = is.making;
       items = ap (λ (b : Booking). b.items) (given_making k is.booking is.making) ∙ (ap (λ (l : List BookedItem). take (length l - 1) l) its ∙ take_front (map held less.items) (held i));
-      row = subst (λ (l : Layout). less.row < l.rows) (sym did.same.1) (subst (λ (r : ℕ). r < old.layout.rows) row is.row);
+      row = subst (λ (l : Layout). less.row.row < l.rows) (sym did.same.1) (subst (λ (r : ℕ). r < old.layout.rows) row is.row);
       within = subst (λ (l : Layout). Each (IsItem l) less.items) (sym did.same.1) parts.0;
     }
 
 -- a new hold, after a start
-abbrev pub hold_starts : (r : ℕ) (old new : DeskView) → r < old.layout.rows → Stepped (Start r) old new → StandsFor new (empty_hold r)
-hold_starts r old new l did =
+abbrev pub hold_starts : (row : RowNo) (old new : DeskView) → row.row < old.layout.rows → Stepped (Start row.row row.generation) old new → StandsFor new (empty_hold row)
+hold_starts row old new l did =
+    let r = row.row in
+    let j = row.generation in
     let h : List Entry = old.seen ++ did.between in
-    let may : IsAllowedStep old.layout (state_of old.layout h) old.number (Start r) = (legal-rest old.layout h (entry old.number (Start r) ∷ []) (legal_before (Start r) old new did)).0 in
+    let may : IsAllowedStep old.layout (state_of old.layout h) old.number (Start r j) = (legal-rest old.layout h (entry old.number (Start r j) ∷ []) (legal_before (Start r j) old new did)).0 in
     record {
-      booking = started r old.number;
-      found = ap (λ (s : State). present s r) (state_then (Start r) old new did) ∙ present-started (state_of old.layout h) r old.number may.1;
+      booking = started r j old.number (words_of_row (state_of old.layout h) r);
+      found = ap (λ (s : State). present s r) (state_then (Start r j) old new did) ∙ present-started (state_of old.layout h) r j old.number (words_of_row (state_of old.layout h) r) may.1;
+      generation = refl;
       owner = sym did.same.2;
       making = refl;
       items = refl;
@@ -230,30 +245,36 @@ hold_starts r old new l did =
 
 -- what the rule asks of a hold's row
 
-module _ (a : Seat ℕ View) (kept : Option ℕ) (past : ℕ) (lay : Layout) (desk : DeskView) (hold : HoldView) (view : desk_view a kept past ≡ desk) (layout : desk.layout ≡ lay) (is : StandsFor desk hold) where
-  row_below : hold.row < lay.rows
-  row_below = subst (λ (l : Layout). hold.row < l.rows) layout is.row
+module _ (a : Seat ℕ View) (kept : Option RowNo) (past : ℕ) (lay : Layout) (desk : DeskView) (hold : HoldView) (view : desk_view a kept past ≡ desk) (layout : desk.layout ≡ lay) (is : StandsFor desk hold) where
+  row_below : hold.row.row < lay.rows
+  row_below = subst (λ (l : Layout). hold.row.row < l.rows) layout is.row
 
-  here : present (state_of lay a.me.0.seen) hold.row ≡ Some is.booking
-  here = subst (λ (g : Layout). present (state_of g a.me.0.seen) hold.row ≡ Some is.booking) layout (ap (λ (d : DeskView). present (state_of desk.layout d.seen) hold.row) view ∙ is.found)
+  here : present (state_of lay a.me.0.seen) hold.row.row ≡ Some is.booking
+  here = subst (λ (g : Layout). present (state_of g a.me.0.seen) hold.row.row ≡ Some is.booking) layout (ap (λ (d : DeskView). present (state_of desk.layout d.seen) hold.row.row) view ∙ is.found)
 
   mine : IsMadeBy a.me.0.number is.booking
   mine = (is.making, is.owner ∙ sym (ap (λ (d : DeskView). d.number) view))
 
-  pub can_take : length hold.items < most_items → CanTake lay a hold.row
+  pub can_take : length hold.items < most_items → CanTake lay a hold.row.row
   can_take room = (
     row_below,
-    on_row (state_of lay a.me.0.seen) hold.row is.booking (λ b. IsMadeBy a.me.0.number b × (length b.items < most_items)) here
+    on_row (state_of lay a.me.0.seen) hold.row.row is.booking (λ b. IsMadeBy a.me.0.number b × (length b.items < most_items)) here
         (mine, subst (λ (n : ℕ). n < most_items) (sym (ap length is.items ∙ length-map hold.items held)) room),
   )
 
-  pub can_note : (w : ℕ) → IsMakerWord w → CanNote lay a hold.row w
-  can_note w word = (row_below, on_row (state_of lay a.me.0.seen) hold.row is.booking (MayNote a.me.0.number w) here (inl (mine, word)))
+  pub can_note : (w : ℕ) → IsMakerWord w → CanNote lay a hold.row.row w
+  can_note w word = (row_below, on_row (state_of lay a.me.0.seen) hold.row.row is.booking (MayNote a.me.0.number w) here (inl (mine, word)))
+
+-- a hold that is ready can be sealed
+pub can_seal : (lay : Layout) (desk : DeskView) (hold : HoldView) (phase : Phase) → desk.layout ≡ lay → StandsFor desk hold → IsAllowedStep lay (state_of lay desk.seen) desk.number (Seal hold.row.row phase) → CanSeal lay desk.seen desk.number hold.row phase
+can_seal lay desk hold phase layout is ready =
+    let at : present (state_of lay desk.seen) hold.row.row ≡ Some is.booking = subst (λ (l : Layout). present (state_of l desk.seen) hold.row.row ≡ Some is.booking) layout is.found in
+    (ready, on_row (state_of lay desk.seen) hold.row.row is.booking (λ b. b.generation ≡ hold.row.generation) at is.generation)
 
 -- the last item of a hold can be given back
-pub can_give : (a : Seat ℕ View) (kept : Option ℕ) (past : ℕ) (lay : Layout) (desk : DeskView) (hold less : HoldView) (i : Item) (k : ℕ) → desk_view a kept past ≡ desk → desk.layout ≡ lay → StandsFor desk hold → hold ≡ with_one less i → k ≡ length less.items → CanGive lay a less.row k i
+pub can_give : (a : Seat ℕ View) (kept : Option RowNo) (past : ℕ) (lay : Layout) (desk : DeskView) (hold less : HoldView) (i : Item) (k : ℕ) → desk_view a kept past ≡ desk → desk.layout ≡ lay → StandsFor desk hold → hold ≡ with_one less i → k ≡ length less.items → CanGive lay a less.row.row k i
 can_give a kept past lay desk hold less i k view layout is one count =
-    let row : hold.row ≡ less.row = ap (λ (h : HoldView). h.row) one in
+    let row : hold.row.row ≡ less.row.row = ap (λ (h : HoldView). h.row.row) one in
     let items : hold.items ≡ less.items ++ i ∷ [] = ap (λ (h : HoldView). h.items) one in
     let its : is.booking.items ≡ map held less.items ++ held i ∷ [] = is.items ∙ (ap (map held) items ∙ map-append held less.items (i ∷ [])) in
     let fits = (each_front (IsItem desk.layout) less.items (i ∷ []) (subst (λ (l : List Item). Each (IsItem desk.layout) l) items is.within)).1.0 in
@@ -265,18 +286,19 @@ can_give a kept past lay desk hold less i k view layout is one count =
       subst (λ (l : Layout). i.place < length l.legs) layout fits.place,
       fits.fits,
       subst (λ (n : ℕ). OnRow (state_of lay a.me.0.seen) n P) row
-          (on_row (state_of lay a.me.0.seen) hold.row is.booking P (here a kept past lay desk hold view layout is) (inl (mine a kept past lay desk hold view layout is, many), at)),
+          (on_row (state_of lay a.me.0.seen) hold.row.row is.booking P (here a kept past lay desk hold view layout is) (inl (mine a kept past lay desk hold view layout is, many), at)),
     )
 
 -- the same hold, after a note
-abbrev pub hold_notes : (w n : ℕ) (old new : DeskView) (hold : HoldView) → Stepped (Note hold.row w n) old new → StandsFor old hold → StandsFor new hold
+abbrev pub hold_notes : (w n : ℕ) (old new : DeskView) (hold : HoldView) → Stepped (Note hold.row.row w n) old new → StandsFor old hold → StandsFor new hold
 hold_notes w n old new hold did is = record {
   booking = noted w n is.booking;
-  found = own_changes (Note hold.row w n) old new did hold.row is.booking (noted w n) (λ s. refl) (λ _. refl) is.found is.owner (firm_making is.booking.phase is.making);
+  found = own_changes (Note hold.row.row w n) old new did hold.row.row is.booking (noted w n) (λ s. refl) (λ _. refl) is.found is.owner (firm_making is.booking.phase is.making);
+  generation = is.generation;
   owner = is.owner ∙ sym did.same.2;
   making = is.making;
   items = is.items;
-  row = subst (λ (l : Layout). hold.row < l.rows) (sym did.same.1) is.row;
+  row = subst (λ (l : Layout). hold.row.row < l.rows) (sym did.same.1) is.row;
   within = subst (λ (l : Layout). Each (IsItem l) hold.items) (sym did.same.1) is.within;
 }
 
@@ -291,19 +313,20 @@ through lay seen now d es r b (rest, e) legal mine quiet at its firm =
     ∙ quiet_stays lay (state_of lay seen) r b rest es at firm (subst (λ (k : ℕ). own rest k ≡ map (entry k) es) (sym its) owned) quiet (legal-rest lay seen rest whole))
 
 -- a kept row, after a meeting
-met_kept : (books : BooksView) (old other new : DeskView) (o : Option ℕ) → HasMet old other new → IfSome o (λ r. StandsFor old (empty_hold r)) → IfSome o (λ r. StandsFor new (empty_hold r))
+met_kept : (books : BooksView) (old other new : DeskView) (o : Option RowNo) → HasMet old other new → IfSome o (λ r. StandsFor old (empty_hold r)) → IfSome o (λ r. StandsFor new (empty_hold r))
 met_kept books old other new None met is = tt
 met_kept books old other new (Some r) met is =
     let s = met.same in
     let legal : IsLegal old.layout new.seen = subst (λ (l : Layout). IsLegal l new.seen) s.1 met.legal in
-    let at = through old.layout old.seen new.seen old.number (Met ∷ []) r is.booking met.front legal met.mine (refl, tt) is.found is.owner (firm_making is.booking.phase is.making) in
+    let at = through old.layout old.seen new.seen old.number (Met ∷ []) r.row is.booking met.front legal met.mine (refl, tt) is.found is.owner (firm_making is.booking.phase is.making) in
     record {
       booking = is.booking;
-      found = ap (λ (l : Layout). present (state_of l new.seen) r) s.1 ∙ at;
+      found = ap (λ (l : Layout). present (state_of l new.seen) r.row) s.1 ∙ at;
+      generation = is.generation;
       owner = is.owner ∙ sym s.2;
       making = is.making;
       items = is.items;
-      row = subst (λ (l : Layout). r < l.rows) (sym s.1) is.row;
+      row = subst (λ (l : Layout). r.row < l.rows) (sym s.1) is.row;
       within = tt;
     }
 
@@ -312,16 +335,16 @@ still_met books old other new met of = record {
   table = met.same.0 ∙ of.table;
   layout = met.same.1 ∙ of.layout;
   legal = met.legal;
-  kept = subst (λ (o : Option ℕ). IfSome o (λ r. StandsFor new (empty_hold r))) (sym met.same.4) (met_kept books old other new old.kept met of.kept);
+  kept = subst (λ (o : Option RowNo). IfSome o (λ r. StandsFor new (empty_hold r))) (sym met.same.4) (met_kept books old other new old.kept met of.kept);
   past = past_on old new met.front met.legal met.same.1 met.same.5 of.past;
   within = within_on old new met.same.1 met.same.5 of.within;
   work = λ number made. absurd (met.parted (sym met.same.2 ∙ number) (sym met.same.3 ∙ made));
 }
 
 -- how many desks a desk has parted is nothing to its rows
-made_kept : (desk : DeskView) (m : ℕ) (o : Option ℕ) → IfSome o (λ r. StandsFor (record desk { made = m }) (empty_hold r)) → IfSome o (λ r. StandsFor desk (empty_hold r))
+made_kept : (desk : DeskView) (m : ℕ) (o : Option RowNo) → IfSome o (λ r. StandsFor (record desk { made = m }) (empty_hold r)) → IfSome o (λ r. StandsFor desk (empty_hold r))
 made_kept desk m None is = tt
-made_kept desk m (Some r) is = record { booking = is.booking; found = is.found; owner = is.owner; making = is.making; items = is.items; row = is.row; within = is.within }
+made_kept desk m (Some r) is = record { booking = is.booking; found = is.found; generation = is.generation; owner = is.owner; making = is.making; items = is.items; row = is.row; within = is.within }
 
 pub still_parted : (books : BooksView) (old new : DeskView) → Stepped Met old (record new { made = old.made }) → new.made ≡ old.made + 1 → IsOf books old → IsOf books new
 still_parted books old new did more of =
@@ -336,25 +359,66 @@ still_parted books old new did more of =
       work = λ number made. absurd (omega (arith, more, made));
     }
 
+-- which rows a desk keeps and remembers is nothing to its rows
+
+stands_kept : (desk : DeskView) (o : Option RowNo) (hold : HoldView) → StandsFor desk hold → StandsFor (record desk { kept = o }) hold
+stands_kept desk o hold is = record { booking = is.booking; found = is.found; generation = is.generation; owner = is.owner; making = is.making; items = is.items; row = is.row; within = is.within }
+
+pub still_kept : (books : BooksView) (old : DeskView) (hold : HoldView) → StandsFor old hold → hold.items ≡ [] → IsOf books old → IsOf books (record old { kept = Some hold.row })
+still_kept books old hold is empty of = record {
+  table = of.table;
+  layout = of.layout;
+  legal = of.legal;
+  kept = stands_kept old (Some hold.row) (empty_hold hold.row) (subst (λ (items : List Item). StandsFor old (record { row = hold.row; items = items })) empty is);
+  past = of.past;
+  within = of.within;
+  work = of.work;
+}
+
+pub still_unkept : (books : BooksView) (old : DeskView) → IsOf books old → IsOf books (record old { kept = None })
+still_unkept books old of = record { table = of.table; layout = of.layout; legal = of.legal; kept = tt; past = of.past; within = of.within; work = of.work }
+
+kept_past : (desk : DeskView) (n : ℕ) (o : Option RowNo) → IfSome o (λ r. StandsFor desk (empty_hold r)) → IfSome o (λ r. StandsFor (record desk { past = n }) (empty_hold r))
+kept_past desk n None is = tt
+kept_past desk n (Some r) is = stands_past desk (empty_hold r) n is
+
+pub still_past : (books : BooksView) (old : DeskView) (n : ℕ) → AreTaken old n → n ≤ old.layout.rows → IsOf books old → IsOf books (record old { past = n })
+still_past books old n taken below of = record { table = of.table; layout = of.layout; legal = of.legal; kept = kept_past old n old.kept of.kept; past = taken; within = below; work = of.work }
+
+-- a row that is no longer kept is the hold's
+pub unkept_holding : (books : BooksView) (old : DeskView) (row : RowNo) (hold : HoldView) → old.kept ≡ Some row → hold ≡ empty_hold row → IsOf books old → HoldsNone old → IsHolding (record old { kept = None }) hold
+unkept_holding books old row hold kept is of holds = subst (IsHolding (record old { kept = None })) (sym is) record {
+  of = (stands_kept old None (empty_hold row) (subst (λ (o : Option RowNo). IfSome o (λ r. StandsFor old (empty_hold r))) kept of.kept), refl);
+  only = λ r m. same r (holds r m);
+}
+  where
+    same : (r : ℕ) → option_map (λ (k : RowNo). k.row) old.kept ≡ Some r → r ≡ row.row
+    same r e = let both : Some row.row ≡ Some r = sym (ap (option_map (λ (k : RowNo). k.row)) kept) ∙ e in cc
+
 pub newly_of : (books : BooksView) (old : DeskView) (new : DeskView) → IsOf books old → new.table ≡ old.table → new.layout ≡ old.layout → new.seen ≡ old.seen → new.kept ≡ None → new.past ≡ old.past → (new.number ≡ 0 → ⊥) → IsOf books new
 newly_of books old new of table layout seen kept past other = record {
   table = table ∙ of.table;
   layout = layout ∙ of.layout;
   legal = subst (λ (x : Layout × List Entry). IsLegal x.0 x.1) (λ i. (sym layout i, sym seen i)) of.legal;
-  kept = subst (λ (o : Option ℕ). IfSome o (λ r. StandsFor new (empty_hold r))) (sym kept) tt;
+  kept = subst (λ (o : Option RowNo). IfSome o (λ r. StandsFor new (empty_hold r))) (sym kept) tt;
   past = λ r l. subst (λ (x : Layout × List Entry). 1 ≤ stage (phase_of_row (state_of x.0 x.1) r)) (λ i. (sym layout i, sym seen i)) (of.past r (subst (λ (n : ℕ). r < n) past l));
   within = within_on old new layout past of.within;
   work = λ number made. absurd (other number);
 }
 
--- a turn of a row that was sealed leaves a kept row
-turn_quiet : (books : BooksView) (desk : DeskView) (q : ℕ) (from to : Phase) (m : ℕ) (x : ℤ) (n : ℕ) → IsOf books desk → CanTurn books.layout desk.seen desk.number q from to m x n → (r : ℕ) → desk.kept ≡ Some r → not (eqb q r) ≡ true
-turn_quiet books desk q from to m x n of can r kept =
-    kept_apart books desk r q (λ b. (is_sealed b.phase ≡ true) × TurnsWith (state_of desk.layout desk.seen) desk.number (limit_of b) to m x n) (λ b p making. unsealed b.phase making p.0) of
-    (subst (λ (l : Layout). OnRow (state_of l desk.seen) q (λ b. (is_sealed b.phase ≡ true) × TurnsWith (state_of l desk.seen) desk.number (limit_of b) to m x n)) (sym of.layout) can.3) kept
+-- a turn that is made leaves a kept row, which is in the making
+turn_quiet : (q : ℕ) (from to : Phase) (m : ℕ) (x : ℤ) (n : ℕ) (books : BooksView) (old new : DeskView) → Stepped (Turn q from to m x n) old new → IsOf books old → (r : RowNo) → old.kept ≡ Some r → not (eqb q r.row) ≡ true
+turn_quiet q from to m x n books old new did of r kept =
+    let st : Step = Turn q from to m x n in
+    let h : List Entry = old.seen ++ did.between in
+    let s : State = state_of old.layout h in
+    let is : StandsFor old (empty_hold r) = subst (λ (o : Option RowNo). IfSome o (λ r. StandsFor old (empty_hold r))) kept of.kept in
+    let may : IsAllowedStep old.layout s old.number st = (legal-rest old.layout h (entry old.number st ∷ []) (legal_before st old new did)).0 in
+    apart_from s q r.row is.booking (λ b. (b.phase ≡ from) × TurnsWith s old.number (limit_of b) to m x n) (λ b p making. unlike b.phase p.0 may.1 making) may.3
+    (own_before st old new did r.row is.booking is.found is.owner (firm_making is.booking.phase is.making)) is.making
   where
-    unsealed : (ph : Phase) → ph ≡ Making → is_sealed ph ≡ true → ⊥
-    unsealed ph e t = let no : false ≡ true = sym (ap is_sealed e) ∙ t in cc
+    unlike : (ph : Phase) → ph ≡ from → is_turn from to ≡ true → ph ≡ Making → ⊥
+    unlike ph at t making = let no : false ≡ true = subst (λ (p : Phase). is_turn p to ≡ true) (sym at ∙ making) t in cc
 
-pub still_turned : (books : BooksView) (old new : DeskView) (q : ℕ) (from to : Phase) (m : ℕ) (x : ℤ) (n : ℕ) → IsOf books old → CanTurn books.layout old.seen old.number q from to m x n → Stepped (Turn q from to m x n) old new → IsOf books new
-still_turned books old new q from to m x n of can did = still_of (Turn q from to m x n) books old new refl (turn_quiet books old q from to m x n of can) did of
+pub still_turned : (books : BooksView) (old new : DeskView) (q : ℕ) (from to : Phase) (m : ℕ) (x : ℤ) (n : ℕ) → IsOf books old → Stepped (Turn q from to m x n) old new → IsOf books new
+still_turned books old new q from to m x n of did = still_of (Turn q from to m x n) books old new refl (turn_quiet q from to m x n books old new did of) did of

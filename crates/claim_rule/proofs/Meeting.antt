@@ -215,7 +215,7 @@ joins lay id other v w fresh fresh' apart_zero s k at n there_set =
 pub begins : (lay : Layout) (n : ℕ) → lay.opening ≡ [] → n ≡ word_count lay → Kept lay (opening (replicate n 0) [] (newcomer lay 0 []))
 begins lay n none is = record {
   history = [];
-  legal = (subst (IsOpening lay) (sym none) (record { well_formed = record { rows = tt; apart = tt; each = tt }; settled = tt; owner = tt; in_range = tt }), tt);
+  legal = (subst (IsOpening lay) (sym none) (record { well_formed = record { keys = tt; earlier = tt; apart = tt; each = tt }; settled = tt; owner = tt; in_range = tt }), tt);
   words = record { length_is = length-replicate n 0 ∙ is; each = λ a _. no_word n (index lay a) ∙ sym (ap (λ (s : State). value s a) none ∙ empty_value a) };
   seats = λ j u at alive. one j u at;
   later = λ k past. refl;

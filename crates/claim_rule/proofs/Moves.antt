@@ -1,15 +1,18 @@
 -- Each kind of step is allowed, and writes what it says.
-use Rattle.std.proofs.Common.{◌≡◌, ◌⊎◌, ℕ, ◌+◌, ◌-◌, ◌<◌, ◌≤◌, Bool, true, false, cond, eqb, bit_or, bit_and, w64, lit<, lit≤, ℤ, List, [], ◌++◌, length, arith, Option, Some, None, refl, sym, ap, ◌∙◌, subst, ⊎_elim, inl, inr, eq-eqb, ne_eqb, slice_get}
+use Rattle.std.proofs.Common.{◌≡◌, ◌⊎◌, ℕ, ◌+◌, ◌-◌, ◌<◌, ◌≤◌, Bool, true, false, cond, eqb, bit_or, bit_and, w64, lit<, lit≤, ℤ, List, [], ◌++◌, length, arith, Option, Some, None, IsSomeAnd, refl, sym, ap, ◌∙◌, subst, ⊎_elim, inl, inr, eq-eqb, ne_eqb, slice_get}
 use Rattle.std.proofs.lemmas.Bool.{cases_eq}
 use Rattle.std.specs.Int.{bit_not}
 use Rattle.std.specs.List.{Any}
-use Rattle.std.specs.Option.{option_map_or}
 use mathlib.Core.List.{IsPrefix}
 use prog.Atomic.{either}
 use Rattle.atomic_table.specs.declared.shared.Seat.{Seat}
 use Rattle.claim_rule.specs.declared.rule.View.{View}
 use Rattle.claim_rule.specs.Rule.{Steps, HasAll}
-use Rattle.claim_rule.specs.Seats.{seeing, either_step, CanTake, CanGive, CanNote, CanTurn, turn_step}
+use Rattle.claim_rule.specs.Seats.{seeing, either_step, CanTake, CanGive, CanNote, CanSeal, CanClose, CanTurn, turn_step}
+use Rattle.claim_rule.specs.Starts.{IsEndedWord, MayExpect}
+use Rattle.rail_ids.specs.Spelling.{last_generation}
+use Rattle.rail_ids.specs.declared.RowNo.{RowNo}
+use Rattle.history_model.specs.declared.booking.End.{End}
 use Rattle.claim_rule.specs.Holds.{IsItem, held}
 use Rattle.history_model.proofs.Bits.{shows-on_piece}
 use Rattle.history_model.proofs.Changes.{open_from_legs}
@@ -17,15 +20,16 @@ use Rattle.history_model.proofs.Forward.{stays-history}
 use Rattle.history_model.proofs.Keeping.{found}
 use Rattle.history_model.proofs.Legal.{WellFormed-history}
 use Rattle.history_model.proofs.Owners.{firm_ending, firm_making, firm_stays, on_row}
-use Rattle.history_model.proofs.Seen.{legal-rest, own_rest, state_of-append}
-use Rattle.history_model.proofs.Successors.{exchanged_stays}
-use Rattle.history_model.proofs.Writing.{free_of_word, give_writes, note_writes, phase_back, phase_writes, start_writes, take_writes, turn_writes, word_in, word_phase}
-use Rattle.history_model.specs.Allowed.{AllGiven, HasEndWords, IsAllowedStep, IsBeingEndedBy, IsEndedBy, IsExchangedFor, IsMadeBy, IsOpen, IsSealable, MayClose, MayGive, MayNote, MaySealAs, OnRow, TurnsWith}
-use Rattle.history_model.specs.Apply.{apply_step, closed, ended_phase, in_phase}
-use Rattle.history_model.specs.Booking.{Booking, Layout, State, change, is_occupied, limit_of, most_items, present, row_words}
+use Rattle.history_model.proofs.Seen.{legal-front, legal-rest, own_rest, state_of-append}
+use Rattle.history_model.proofs.Successors.{exchanged_stays, successor_stays}
+use Rattle.history_model.proofs.Generations.{present_key}
+use Rattle.history_model.proofs.Writing.{booking_of_word, free_of_word, give_writes, note_writes, phase_writes, start_again, start_writes, take_writes, turn_writes, word_in}
+use Rattle.history_model.specs.Allowed.{AllGiven, HasEndWords, IsAllowedStep, IsBeingEndedBy, IsEndedBy, IsExchangedFor, IsMadeBy, IsOpen, IsSealable, IsSuccessor, MayClose, MayGive, MayNote, MaySealAs, MayStart, OnRow, TurnsWith}
+use Rattle.history_model.specs.Apply.{apply_step, closed, ended_phase, in_phase, turned}
+use Rattle.history_model.specs.Booking.{Booking, Layout, State, booking_at, change, is_occupied, limit_of, most_items, present, row_words, successor_word}
 use Rattle.history_model.specs.History.{IsLegal, own, state_after, state_of}
 use Rattle.history_model.specs.Laws.{IsWellFormed, Stays, is_owners}
-use Rattle.history_model.specs.Phase.{is_sealed, said_phase, word_of_phase}
+use Rattle.history_model.specs.Phase.{is_sealed, is_turn, row_word_of}
 use Rattle.history_model.specs.Words.{IsWord, Writes, place_word, value}
 use Rattle.history_model.specs.declared.entry.Entry.{Entry}
 use Rattle.history_model.specs.declared.entry.Step.{Step}
@@ -134,9 +138,20 @@ gives lay a r k i can h legal pre mine =
     let b = own_on lay a.me.0.seen d h r P (λ b m. may_give d k b m.0) legal pre mine can.3 in
     ((can.0, on_row s r b.0 (MayGive d k) b.1 b.2.0), give_writes lay s d r k b.0 i.place i.span (is_sound lay h legal) b.1 b.2.0 b.2.1 can.2)
 
-pub starts : (lay : Layout) (v : View) (r : ℕ) → r < lay.rows → Steps lay v (Row r 0) (λ n. either (eqb n 0) 1 n) (either_step 0 (Start r) (Row r 0))
-starts lay v r l = exchanges lay v (Row r 0) 0 1 (Start r) (l, lit< tt)
-    (λ h legal pre mine e. let free = free_of_word lay (state_of lay h) r (is_sound lay h legal) e in ((l, free), start_writes (state_of lay h) r v.number free))
+-- a row whose word is the one expected may be started
+may_start : (lay : Layout) (s : State) (row : RowNo) (expected : ℕ) → IsWellFormed lay s → MayExpect row expected → value s (Row row.row 0) ≡ expected → MayStart s row.row row.generation
+may_start lay s row expected good is e = ⊎_elim
+    (λ (first : (row.generation ≡ 0) × (expected ≡ 0)). inl (first.0, free_of_word lay s row.row good (e ∙ first.1)))
+    again
+    is
+  where
+    again : (before : ℕ) × (row.generation ≡ before + 1) × (row.generation ≤ last_generation) × IsEndedWord before expected → MayStart s row.row row.generation
+    again (before, one, low, (kind, word)) = subst (MayStart s row.row) (sym one) (start_again s row.row before kind (subst (λ (n : ℕ). n ≤ last_generation) one low) (e ∙ word))
+
+pub starts : (lay : Layout) (v : View) (row : RowNo) (expected : ℕ) → row.row < lay.rows → MayExpect row expected
+    → Steps lay v (Row row.row 0) (λ n. either (eqb n expected) (row_word_of Making row.generation) n) (either_step expected (Start row.row row.generation) (Row row.row 0))
+starts lay v row expected l is = exchanges lay v (Row row.row 0) expected (row_word_of Making row.generation) (Start row.row row.generation) (l, lit< tt)
+    (λ h legal pre mine e. let may = may_start lay (state_of lay h) row expected (is_sound lay h legal) is e in ((l, may), start_writes (state_of lay h) row.row row.generation v.number may))
 
 note_range : (d w : ℕ) (b : Booking) → MayNote d w b → (w < row_words) × (w ≡ 0 → ⊥)
 note_range d w b may = ⊎_elim (λ m. maker_range w m.1) (λ m. (under w m.1, (λ e. zero_not w e m.1))) may
@@ -161,80 +176,112 @@ notes lay a r w n can h legal pre mine =
 
 -- turns
 
-turns_with : (s t : State) (d lim lim' : ℕ) (to : Phase) (m : ℕ) (x : ℤ) (q : ℕ) → lim' ≡ lim → (OnRow s (q - 1) (IsMadeBy d) → OnRow t (q - 1) (IsMadeBy d)) → TurnsWith s d lim to m x q → TurnsWith t d lim' to m x q
+some_same : (x y : Booking) → Some x ≡ Some y → x ≡ y
+some_same x y e = cc
+
+-- where the word is the expected one, an exchange writes
+at_word : (s u : State) (a : Word) (n old new : ℕ) → n ≡ old → Writes s u a new → Writes s u a (either (eqb n old) new n)
+at_word s u a n old new e w = subst (λ (c : Bool). Writes s u a (either c new n)) (sym (eq-eqb n old e)) w
+
+turns_with : (s t : State) (d lim lim' : ℕ) (to : Phase) (m : ℕ) (x : ℤ) (q : ℕ) → lim' ≡ lim → (IsSuccessor s d q → IsSuccessor t d q) → TurnsWith s d lim to m x q → TurnsWith t d lim' to m x q
 turns_with s t d lim lim' Confirmed m x q same stays w = (subst (λ (l : ℕ). m ≤ l) (sym same) w.0, w.1, w.2)
 turns_with s t d lim lim' Fulfilled m x q same stays w = w
 turns_with s t d lim lim' (Ending Release) m x q same stays w = w
 turns_with s t d lim lim' (Ending Expire) m x q same stays w = (subst (λ (l : ℕ). l < m) (sym same) w.0, w.1, w.2)
 turns_with s t d lim lim' (Ending Refund) m x q same stays w = w
-turns_with s t d lim lim' (Ending Exchange) m x q same stays w = (w.0, w.1, stays w.2)
+turns_with s t d lim lim' (Ending Exchange) m x q same stays w = (w.0, stays w.1)
 turns_with s t d lim lim' Free m x q same stays w = w
 turns_with s t d lim lim' Making m x q same stays w = w
 turns_with s t d lim lim' Prebooked m x q same stays w = w
 turns_with s t d lim lim' (Ended k) m x q same stays w = w
 
 -- what a sealed booking is now, whoever acted
-pub sealed_row : (lay : Layout) (seen h : List Entry) (r : ℕ) (b : Booking) → IsLegal lay h → IsPrefix seen h → present (state_of lay seen) r ≡ Some b → is_sealed b.phase ≡ true → (c : Booking) × (present (state_of lay h) r ≡ Some c) × Stays b c
-sealed_row lay seen h r b legal (es, e) at sealed =
+pub sealed_booking : (lay : Layout) (seen h : List Entry) (row : RowNo) (b : Booking) → IsLegal lay h → IsPrefix seen h → booking_at (state_of lay seen) row.row row.generation ≡ Some b → is_sealed b.phase ≡ true
+    → (c : Booking) × (booking_at (state_of lay h) row.row row.generation ≡ Some c) × Stays b c
+sealed_booking lay seen h row b legal (es, e) at sealed =
     let whole : IsLegal lay (seen ++ es) = subst (IsLegal lay) (sym e) legal in
     let same : state_after (state_of lay seen) es ≡ state_of lay h = sym (state_of-append lay seen es) ∙ ap (state_of lay) e in
-    found (present (state_of lay h) r) (Stays b) (subst (λ (s : State). OnRow s r (Stays b)) same (stays-history lay (state_of lay seen) es r b (legal-rest lay seen es whole) at sealed))
+    found (booking_at (state_of lay h) row.row row.generation) (Stays b)
+    (subst (λ (s : State). IsSomeAnd (booking_at s row.row row.generation) (Stays b)) same (stays-history lay (state_of lay seen) es row.row row.generation b (legal-rest lay seen es whole) at sealed))
 
-word_says : (o : Option Booking) → said_phase (word_in 0 o) ≡ option_map_or (λ b. b.phase) o Free
-word_says None = refl
-word_says (Some b) = phase_back b.phase
+-- a phase that is turned from is not Free
+turned_from : (from to : Phase) → is_turn from to ≡ true → from ≡ Free → ⊥
+turned_from from to t e = let no : false ≡ true = subst (λ (ph : Phase). is_turn ph to ≡ true) e t in cc
 
-pub turns : (lay : Layout) (a : Seat ℕ View) (r : ℕ) (from to : Phase) (m : ℕ) (x : ℤ) (q : ℕ) → CanTurn lay a.me.0.seen a.me.0.number r from to m x q
-    → Steps lay a.me.0 (Row r 0) (λ n. either (eqb n (word_of_phase from)) (word_of_phase to) n) (turn_step (word_of_phase from) (Turn r from to m x q))
-turns lay a r from to m x q can = exchanges_or lay a.me.0 (Row r 0) (word_of_phase from) (word_of_phase to) (Turn r from to m x q) (λ n. LostTurn r from (said_phase n))
-    (λ h legal pre mine e.
-    let s : State = state_of lay h in
-    let d : ℕ = a.me.0.number in
-    let s0 : State = state_of lay a.me.0.seen in
-    let f = found (present s0 r) (λ b. (is_sealed b.phase ≡ true) × TurnsWith s0 d (limit_of b) to m x q) can.3 in
-    let k = sealed_row lay a.me.0.seen h r f.0 legal pre f.1 f.2.0 in
-    let c = k.0 in
-    let ph : c.phase ≡ from = word_phase c.phase from (sym (ap (word_in 0) k.1) ∙ e) in
-    let lim : limit_of c ≡ limit_of f.0 = k.2.sealed.words 2 (inl (lit≤ tt, lit≤ tt)) in
-    let with = turns_with s0 s d (limit_of f.0) (limit_of c) to m x q lim
-    (λ on. let o = own_on lay a.me.0.seen d h (q - 1) (IsMadeBy d) (maker d) legal pre mine on in on_row s (q - 1) o.0 (IsMadeBy d) o.1 o.2) f.2.1 in (
-      (can.0, can.1, can.2, on_row s r c (λ b. (b.phase ≡ from) × TurnsWith s d (limit_of b) to m x q) k.1 (ph, with)),
-      turn_writes s r d to (record { moment = m; amount = x; successor = q }) c k.1,
-    ))
-    (λ h legal e.
-    let o = present (state_of lay h) r in
-    ((can.0, word_says o, (λ i. e (sym (ap word_of_phase (word_says o)) ∙ ap word_of_phase i))), refl))
+-- a successor in the making stays one under the entries of others
+successor_on : (lay : Layout) (seen h : List Entry) (d q : ℕ) → IsLegal lay h → IsPrefix seen h → own seen d ≡ own h d → IsSuccessor (state_of lay seen) d q → IsSuccessor (state_of lay h) d q
+successor_on lay seen h d q legal (es, e) mine is =
+    let whole : IsLegal lay (seen ++ es) = subst (IsLegal lay) (sym e) legal in
+    subst (λ (s : State). IsSuccessor s d q) (sym (state_of-append lay seen es) ∙ ap (state_of lay) e)
+    (successor_stays lay (state_of lay seen) es d q (is_sound lay seen (legal-front lay seen es whole)) (legal-rest lay seen es whole) (own_rest d seen es h e mine) is)
+
+pub turns : (lay : Layout) (a : Seat ℕ View) (row : RowNo) (from to : Phase) (m : ℕ) (x : ℤ) (q : ℕ) → CanTurn lay a.me.0.seen a.me.0.number row from to m x q
+    → Steps lay a.me.0 (Row row.row 0) (λ n. either (eqb n (row_word_of from row.generation)) (row_word_of to row.generation) n) (turn_step (row_word_of from row.generation) (Turn row.row from to m x q))
+turns lay a row from to m x q can = exchanges_or lay a.me.0 (Row row.row 0) old (row_word_of to row.generation) (Turn row.row from to m x q) (λ n. LostTurn row.row old n) hit
+    (λ h legal e. ((can.0, refl, e), refl))
+  where
+    old : ℕ
+    old = row_word_of from row.generation
+
+    d : ℕ
+    d = a.me.0.number
+
+    s0 : State
+    s0 = state_of lay a.me.0.seen
+
+    hit : (h : List Entry) → IsLegal lay h → IsPrefix a.me.0.seen h → HasAll h a.me.0.seen d → value (state_of lay h) (Row row.row 0) ≡ old
+        → IsAllowedStep lay (state_of lay h) d (Turn row.row from to m x q) × Writes (state_of lay h) (apply_step (state_of lay h) d (Turn row.row from to m x q)) (Row row.row 0) (row_word_of to row.generation)
+    hit h legal pre mine e =
+        let s : State = state_of lay h in
+        let end : End = record { moment = m; amount = x; successor = q } in
+        let f = found (booking_at s0 row.row row.generation) (λ b. (is_sealed b.phase ≡ true) × TurnsWith s0 d (limit_of b) to m x q) can.3 in
+        let k = sealed_booking lay a.me.0.seen h row f.0 legal pre f.1 f.2.0 in
+        let c = booking_of_word s row.row from row.generation (turned_from from to can.1) e in
+        let there : booking_at s row.row row.generation ≡ Some c.0 = subst (λ (n : ℕ). booking_at s row.row n ≡ Some c.0) c.3 (present_key s row.row c.0 c.1) in
+        let same : k.0 ≡ c.0 = some_same k.0 c.0 (sym k.1 ∙ there) in
+        let lim : limit_of c.0 ≡ limit_of f.0 = ap limit_of (sym same) ∙ k.2.sealed.words 2 (inl (lit≤ tt, lit≤ tt)) in
+        let with = turns_with s0 s d (limit_of f.0) (limit_of c.0) to m x q lim (successor_on lay a.me.0.seen h d q legal pre mine) f.2.1 in (
+          (can.0, can.1, can.2, on_row s row.row c.0 (λ b. (b.phase ≡ from) × TurnsWith s d (limit_of b) to m x q) c.1 (c.2, with)),
+          subst (λ (n : ℕ). Writes s (change s row.row (turned d to end)) (Row row.row 0) (row_word_of to n)) c.3 (turn_writes s row.row d to end c.0 c.1),
+        )
 
 -- seals
 
-pub seals : (lay : Layout) (a : Seat ℕ View) (r : ℕ) (ph : Phase) → IsAllowedStep lay (state_of lay a.me.0.seen) a.me.0.number (Seal r ph) → Steps lay a.me.0 (Row r 0) (λ n. either (eqb n 1) (word_of_phase ph) n) (λ _. Seal r ph)
-seals lay a r ph can h legal pre mine =
+pub seals : (lay : Layout) (a : Seat ℕ View) (row : RowNo) (ph : Phase) → CanSeal lay a.me.0.seen a.me.0.number row ph
+    → Steps lay a.me.0 (Row row.row 0) (λ n. either (eqb n (row_word_of Making row.generation)) (row_word_of ph row.generation) n) (λ _. Seal row.row ph)
+seals lay a row ph can h legal pre mine =
     let s : State = state_of lay h in
+    let s0 : State = state_of lay a.me.0.seen in
     let d : ℕ = a.me.0.number in
-    let P : Booking → Type 0 = λ b. IsMadeBy d b × IsSealable b in
-    let b = own_on lay a.me.0.seen d h r P (λ b m. maker d b m.0) legal pre mine can.1 in
-    let one : value s (Row r 0) ≡ 1 = ap (word_in 0) b.1 ∙ ap word_of_phase b.2.0.0 in
+    let r : ℕ = row.row in
+    let f = found (present s0 r) (λ b. IsMadeBy d b × IsSealable b × MaySealAs s0 d b ph) can.0.1 in
+    let its : f.0.generation ≡ row.generation = subst (λ (o : Option Booking). IsSomeAnd o (λ b. b.generation ≡ row.generation)) f.1 can.1 in
+    let at : present s r ≡ Some f.0 = own_row lay a.me.0.seen d h r f.0 legal pre mine f.1 f.2.0.1 (firm_making f.0.phase f.2.0.0) in
+    let old : value s (Row r 0) ≡ row_word_of Making row.generation = ap (word_in 0) at ∙ (ap (λ (p : Phase). row_word_of p f.0.generation) f.2.0.0 ∙ ap (row_word_of Making) its) in
     let whole : IsLegal lay (a.me.0.seen ++ pre.0) = subst (IsLegal lay) (sym pre.1) legal in
-    let same : state_after (state_of lay a.me.0.seen) pre.0 ≡ s = sym (state_of-append lay a.me.0.seen pre.0) ∙ ap (state_of lay) pre.1 in
-    let still : MaySealAs s d r ph = ⊎_elim inl (λ x. inr (x.0, subst (λ (t : State). Any (IsExchangedFor d r) t) same (exchanged_stays lay d r (state_of lay a.me.0.seen) pre.0 (legal-rest lay a.me.0.seen pre.0 whole) x.1))) can.2 in (
-      (can.0, on_row s r b.0 P b.1 b.2, still),
-      subst (λ (n : ℕ). Writes s (change s r (in_phase ph)) (Row r 0) (either (eqb n 1) (word_of_phase ph) n)) (sym one) (phase_writes (in_phase ph) (λ _. refl) (λ _. refl) (λ _. refl) s r b.0 b.1),
+    let same : state_after s0 pre.0 ≡ s = sym (state_of-append lay a.me.0.seen pre.0) ∙ ap (state_of lay) pre.1 in
+    let word : ℕ = successor_word f.0.row f.0.generation in
+    let still : MaySealAs s d f.0 ph = ⊎_elim inl (λ x. inr (x.0, subst (λ (t : State). Any (IsExchangedFor d word) t) same (exchanged_stays lay d word s0 pre.0 (legal-rest lay a.me.0.seen pre.0 whole) x.1))) f.2.2 in
+    let wrote : Writes s (change s r (in_phase ph)) (Row r 0) (row_word_of ph row.generation) =
+    subst (λ (n : ℕ). Writes s (change s r (in_phase ph)) (Row r 0) (row_word_of ph n)) its (phase_writes (in_phase ph) (λ _. refl) (λ _. refl) (λ _. refl) s r f.0 at) in (
+      (can.0.0, on_row s r f.0 (λ b. IsMadeBy d b × IsSealable b × MaySealAs s d b ph) at (f.2.0, f.2.1, still)),
+      at_word s (change s r (in_phase ph)) (Row r 0) (value s (Row r 0)) (row_word_of Making row.generation) (row_word_of ph row.generation) old wrote,
     )
 
 -- closes
 
-pub closes : (lay : Layout) (a : Seat ℕ View) (r : ℕ) (kind : EndKind) → r < lay.rows → OnRow (state_of lay a.me.0.seen) r (λ b. IsEndedBy a.me.0.number kind b × AllGiven b × HasEndWords kind b)
-    → Steps lay a.me.0 (Row r 0) (λ n. either (eqb n (word_of_phase (Ending kind))) (word_of_phase (Ended kind)) n) (λ _. Close r)
-closes lay a r kind row can h legal pre mine =
+pub closes : (lay : Layout) (a : Seat ℕ View) (row : RowNo) (kind : EndKind) → row.row < lay.rows → CanClose lay a.me.0.seen a.me.0.number row kind
+    → Steps lay a.me.0 (Row row.row 0) (λ n. either (eqb n (row_word_of (Ending kind) row.generation)) (row_word_of (Ended kind) row.generation) n) (λ _. Close row.row)
+closes lay a row kind below can h legal pre mine =
     let s : State = state_of lay h in
     let d : ℕ = a.me.0.number in
-    let P : Booking → Type 0 = λ b. IsEndedBy d kind b × AllGiven b × HasEndWords kind b in
-    let b = own_on lay a.me.0.seen d h r P (λ b m. ender d b (kind, m.0)) legal pre mine can in
-    let word : value s (Row r 0) ≡ word_of_phase (Ending kind) = ap (word_in 0) b.1 ∙ ap word_of_phase b.2.0.0 in
-    let now : word_of_phase (ended_phase b.0.phase) ≡ word_of_phase (Ended kind) = ap (λ (x : Phase). word_of_phase (ended_phase x)) b.2.0.0 in
-    let wrote = phase_writes closed (λ _. refl) (λ _. refl) (λ _. refl) s r b.0 b.1 in (
-      (row, on_row s r b.0 (MayClose d) b.1 (kind, b.2.0, b.2.1, b.2.2)),
-      subst (λ (n : ℕ). Writes s (change s r closed) (Row r 0) (either (eqb n (word_of_phase (Ending kind))) (word_of_phase (Ended kind)) n)) (sym word)
-          (subst (λ (c : Bool). Writes s (change s r closed) (Row r 0) (either c (word_of_phase (Ended kind)) (word_of_phase (Ending kind)))) (sym (eq-eqb (word_of_phase (Ending kind)) (word_of_phase (Ending kind)) refl))
-          (subst (Writes s (change s r closed) (Row r 0)) now wrote)),
+    let r : ℕ = row.row in
+    let P : Booking → Type 0 = λ b. (b.generation ≡ row.generation) × IsEndedBy d kind b × AllGiven b × HasEndWords kind b in
+    let b = own_on lay a.me.0.seen d h r P (λ b m. ender d b (kind, m.1)) legal pre mine can in
+    let old : value s (Row r 0) ≡ row_word_of (Ending kind) row.generation = ap (word_in 0) b.1 ∙ (ap (λ (p : Phase). row_word_of p b.0.generation) b.2.1.0 ∙ ap (row_word_of (Ending kind)) b.2.0) in
+    let now : row_word_of (ended_phase b.0.phase) b.0.generation ≡ row_word_of (Ended kind) row.generation =
+    ap (λ (p : Phase). row_word_of (ended_phase p) b.0.generation) b.2.1.0 ∙ ap (row_word_of (Ended kind)) b.2.0 in
+    let wrote : Writes s (change s r closed) (Row r 0) (row_word_of (Ended kind) row.generation) = subst (Writes s (change s r closed) (Row r 0)) now (phase_writes closed (λ _. refl) (λ _. refl) (λ _. refl) s r b.0 b.1) in (
+      (below, on_row s r b.0 (MayClose d) b.1 (kind, b.2.1, b.2.2, b.2.3)),
+      at_word s (change s r closed) (Row r 0) (value s (Row r 0)) (row_word_of (Ending kind) row.generation) (row_word_of (Ended kind) row.generation) old wrote,
     )

@@ -1,6 +1,7 @@
 -- What a desk has out stays so through calls that leave its rows alone.
-use Rattle.std.proofs.Common.{◌≡◌, ◌⊎◌, inl, inr, ⊎_elim, ℕ, ◌-◌, true, false, not, eqb, ne_eqb, List, [], ◌∷◌, ◌++◌, map, take, drop, length, ℤ, Option, Some, None, IsSomeAnd, refl, sym, ap, ◌∙◌, subst}
+use Rattle.std.proofs.Common.{◌≡◌, ◌⊎◌, inl, inr, ⊎_elim, ℕ, ◌+◌, ◌-◌, ◌*◌, ◌%◌, ◌<◌, arith, true, false, not, eqb, ne_eqb, List, [], ◌∷◌, ◌++◌, map, take, drop, length, ℤ, Option, Some, None, IfSome, IsSomeAnd, option_map, refl, sym, ap, ◌∙◌, subst}
 use Rattle.std.proofs.lemmas.Bool.{eqb-true}
+use Rattle.std.proofs.lemmas.Nat.{mod-mul-add}
 use mathlib.Core.List.{append_cancel_left}
 use Rattle.leg_masks.specs.Interval.{item_word}
 use Rattle.leg_masks.specs.Interval.{PlacedSpan as Item}
@@ -10,8 +11,8 @@ use Rattle.history_model.specs.declared.entry.Step.TheVariants.{Look, Take, Give
 use Rattle.history_model.specs.declared.phase.Phase.{Phase}
 use Rattle.history_model.specs.declared.phase.Phase.TheVariants.{Making, Prebooked, Confirmed, Ending, Ended}
 use Rattle.history_model.specs.declared.phase.EndKind.{EndKind}
-use Rattle.history_model.specs.Booking.{Booking, Layout, State, present}
-use Rattle.history_model.specs.Allowed.{IsAllowedStep, IsMadeBy, IsBeingEndedBy, OnRow, IsSealable}
+use Rattle.history_model.specs.Booking.{Booking, Layout, State, present, successor_rows, successor_word}
+use Rattle.history_model.specs.Allowed.{IsAllowedStep, IsMadeBy, IsBeingEndedBy, MaySealAs, OnRow, IsSealable}
 use Rattle.history_model.specs.Apply.{apply_step, in_phase, closed, ended_phase}
 use Rattle.history_model.specs.History.{IsLegal, IsLegalFrom, entry, own, state_of, state_after}
 use Rattle.history_model.specs.Laws.{is_owners}
@@ -22,14 +23,15 @@ use Rattle.history_model.proofs.Owners.{on_row, firm_making, firm_ending}
 use Rattle.history_model.proofs.Ranges.{all_found}
 use Rattle.history_model.proofs.Seen.{legal-front, legal-rest, own-append, state_of-append}
 use Rattle.history_model.proofs.Work.{made_since, ended_since, made_step, ended_step}
-use Rattle.claim_rule.specs.Rule.{DeskView, state_seen}
-use Rattle.claim_rule.specs.Holds.{HoldView, StandsFor}
+use Rattle.rail_ids.specs.declared.RowNo.{RowNo}
+use Rattle.claim_rule.specs.Rule.{BooksView, DeskView, state_seen}
+use Rattle.claim_rule.specs.Holds.{HoldView, StandsFor, empty_hold}
 use Rattle.claim_rule.specs.Endings.{EndingView, IsEndingOf}
-use Rattle.claim_rule.specs.Seats.{Stepped, HasMet, Shape}
-use Rattle.claim_rule.specs.Out.{Makes, EndsRow, IsHolding, HoldsNone, IsEnding, EndsNone, IsIdle, KeepsHolds, KeepsEndings, AreSettled, IsTidy, exchanges, successor_of, is_look, AllLooks, Has}
+use Rattle.claim_rule.specs.Seats.{Stepped, HasMet, IsOf, Shape}
+use Rattle.claim_rule.specs.Out.{Makes, EndsRow, IsHolding, HoldsNone, IsEnding, EndsNone, IsIdle, KeepsHolds, KeepsEndings, AreSettled, IsTidy, MakesEmpty, exchanges, seals, successor_row, is_look, AllLooks, IsConfirmedNext}
 use Rattle.claim_rule.proofs.Shapes.{shape_rest, step_shape, own_through, stands_through}
 use Rattle.claim_rule.proofs.EndingLemmas.{ending_through}
-use Rattle.claim_rule.proofs.Holding.{legal_before, state_then, own_changes}
+use Rattle.claim_rule.proofs.Holding.{legal_before, state_then, own_changes, makes_none}
 
 -- rows that a desk makes or ends come by its own start or turn alone
 
@@ -83,11 +85,11 @@ step_ends st old new r did on =
 
 -- rows made, and rows ended
 
-pub makes_of : (desk : DeskView) (hold : HoldView) → StandsFor desk hold → Makes desk hold.row
-makes_of desk hold is = on_row (state_seen desk) hold.row is.booking (IsMadeBy desk.number) is.found (is.making, is.owner)
+pub makes_of : (desk : DeskView) (hold : HoldView) → StandsFor desk hold → Makes desk hold.row.row
+makes_of desk hold is = on_row (state_seen desk) hold.row.row is.booking (IsMadeBy desk.number) is.found (is.making, is.owner)
 
-pub ends_of : (desk : DeskView) (e : EndingView) → IsEndingOf desk e → EndsRow desk e.row
-ends_of desk e is = on_row (state_seen desk) e.row is.booking (IsBeingEndedBy desk.number) is.found (e.kind, (is.phase, is.owner))
+pub ends_of : (desk : DeskView) (e : EndingView) → IsEndingOf desk e → EndsRow desk e.row.row
+ends_of desk e is = on_row (state_seen desk) e.row.row is.booking (IsBeingEndedBy desk.number) is.found (e.kind, (is.phase, is.owner))
 
 some_same : (x y : Booking) → Some x ≡ Some y → x ≡ y
 some_same x y e = cc
@@ -111,18 +113,18 @@ made_row old new es r P did quiet m on =
 pub keeps_holds : (old new : DeskView) (es : List Step) → Shape old new es → new.kept ≡ old.kept → ((r : ℕ) → Makes old r → AllQuiet r es) → ((r : ℕ) → NoStep (starts_row r) es) → KeepsHolds old new
 keeps_holds old new es did kept quiet calm = record {
   hold = λ hold is. record {
-    of = (stands_through old new es hold did (quiet hold.row (makes_of old hold is.of.0)) is.of.0, kept ∙ is.of.1);
+    of = (stands_through old new es hold did (quiet hold.row.row (makes_of old hold is.of.0)) is.of.0, kept ∙ is.of.1);
     only = λ r m. is.only r (makes_before old new es r did (calm r) m);
   };
-  noted = λ hold items is on. made_row old new es hold.row (λ b. take (length items) (drop 8 b.words) ≡ map (λ (i : Item). item_word i.place i.span) items) did (quiet hold.row (makes_of old hold is.of.0)) (makes_of old hold is.of.0) on;
-  ready = λ hold is on. made_row old new es hold.row IsSealable did (quiet hold.row (makes_of old hold is.of.0)) (makes_of old hold is.of.0) on;
-  none = λ h r m. kept ∙ h r (makes_before old new es r did (calm r) m);
+  noted = λ hold items is on. made_row old new es hold.row.row (λ b. take (length items) (drop 8 b.words) ≡ map (λ (i : Item). item_word i.place i.span) items) did (quiet hold.row.row (makes_of old hold is.of.0)) (makes_of old hold is.of.0) on;
+  ready = λ hold is on. made_row old new es hold.row.row IsSealable did (quiet hold.row.row (makes_of old hold is.of.0)) (makes_of old hold is.of.0) on;
+  none = λ h r m. ap (λ (o : Option RowNo). option_map (λ (k : RowNo). k.row) o) kept ∙ h r (makes_before old new es r did (calm r) m);
 }
 
 pub keeps_endings : (old new : DeskView) (es : List Step) → Shape old new es → ((r : ℕ) → EndsRow old r → AllQuiet r es) → ((r : ℕ) → NoStep (ends_row r) es) → KeepsEndings old new
 keeps_endings old new es did quiet calm = record {
   ending = λ e is. record {
-    of = ending_through old new es e did (quiet e.row (ends_of old e is.of)) is.of;
+    of = ending_through old new es e did (quiet e.row.row (ends_of old e is.of)) is.of;
     only = λ r m. is.only r (ends_before old new es r did (calm r) m);
   };
   none = λ h r m. h r (ends_before old new es r did (calm r) m);
@@ -156,7 +158,7 @@ look_quiet : (st : Step) (r : ℕ) → is_look st ≡ true → (is_quiet r st �
 look_quiet (Look p half n) r is = (refl, refl, refl)
 look_quiet (Take q p span) r is = absurd (let no : false ≡ true = is in cc)
 look_quiet (Give q k) r is = absurd (let no : false ≡ true = is in cc)
-look_quiet (Start q) r is = absurd (let no : false ≡ true = is in cc)
+look_quiet (Start q j) r is = absurd (let no : false ≡ true = is in cc)
 look_quiet (SawRow q w n) r is = (refl, refl, refl)
 look_quiet (Note q w n) r is = absurd (let no : false ≡ true = is in cc)
 look_quiet (Seal q ph) r is = absurd (let no : false ≡ true = is in cc)
@@ -180,46 +182,47 @@ looks_endings old new es did all = keeps_endings old new es did (λ r m. (looks_
 apart : (q r : ℕ) → (q ≡ r → ⊥) → not (eqb q r) ≡ true
 apart q r other = ap not (ne_eqb q r other)
 
-pub hold_endings : (old new : DeskView) (es : List Step) (hold : HoldView) → Shape old new es → StandsFor old hold → ((r : ℕ) → not (eqb hold.row r) ≡ true → AllQuiet r es) → ((r : ℕ) → NoStep (ends_row r) es) → KeepsEndings old new
-hold_endings old new es hold did is quiet calm = keeps_endings old new es did (λ r e. quiet r (apart hold.row r (not_both old hold.row r (makes_of old hold is) e))) calm
+pub hold_endings : (old new : DeskView) (es : List Step) (hold : HoldView) → Shape old new es → StandsFor old hold → ((r : ℕ) → not (eqb hold.row.row r) ≡ true → AllQuiet r es) → ((r : ℕ) → NoStep (ends_row r) es) → KeepsEndings old new
+hold_endings old new es hold did is quiet calm = keeps_endings old new es did (λ r e. quiet r (apart hold.row.row r (not_both old hold.row.row r (makes_of old hold is) e))) calm
 
-pub ending_holds : (old new : DeskView) (es : List Step) (e : EndingView) → Shape old new es → new.kept ≡ old.kept → IsEndingOf old e → ((r : ℕ) → not (eqb e.row r) ≡ true → AllQuiet r es) → ((r : ℕ) → NoStep (starts_row r) es) → KeepsHolds old new
-ending_holds old new es e did kept is quiet calm = keeps_holds old new es did kept (λ r m. quiet r (apart e.row r (λ same. not_both old r e.row m (ends_of old e is) (sym same)))) calm
+pub ending_holds : (old new : DeskView) (es : List Step) (e : EndingView) → Shape old new es → new.kept ≡ old.kept → IsEndingOf old e → ((r : ℕ) → not (eqb e.row.row r) ≡ true → AllQuiet r es) → ((r : ℕ) → NoStep (starts_row r) es) → KeepsHolds old new
+ending_holds old new es e did kept is quiet calm = keeps_holds old new es did kept (λ r m. quiet r (apart e.row.row r (λ same. not_both old r e.row.row m (ends_of old e is) (sym same)))) calm
 
 -- a step on the hold's row leaves no other row with the desk
-pub hold_only : (st : Step) (old new : DeskView) (hold : HoldView) → Stepped st old new → ((r : ℕ) → starts_row r st ≡ false) → IsHolding old hold → (r : ℕ) → Makes new r → r ≡ hold.row
+pub hold_only : (st : Step) (old new : DeskView) (hold : HoldView) → Stepped st old new → ((r : ℕ) → starts_row r st ≡ false) → IsHolding old hold → (r : ℕ) → Makes new r → r ≡ hold.row.row
 hold_only st old new hold did calm is r m = ⊎_elim (λ (o : Makes old r). is.only r o) (λ (t : starts_row r st ≡ true). absurd (let no : false ≡ true = sym (calm r) ∙ t in cc)) (step_makes st old new r did m)
 
-pub ending_only : (st : Step) (old new : DeskView) (e : EndingView) → Stepped st old new → ((r : ℕ) → ends_row r st ≡ false) → IsEnding old e → (r : ℕ) → EndsRow new r → r ≡ e.row
+pub ending_only : (st : Step) (old new : DeskView) (e : EndingView) → Stepped st old new → ((r : ℕ) → ends_row r st ≡ false) → IsEnding old e → (r : ℕ) → EndsRow new r → r ≡ e.row.row
 ending_only st old new e did calm is r m = ⊎_elim (λ (o : EndsRow old r). is.only r o) (λ (t : ends_row r st ≡ true). absurd (let no : false ≡ true = sym (calm r) ∙ t in cc)) (step_ends st old new r did m)
 
 -- a start leaves the desk that row alone, and a turn that ending alone
-pub started_only : (q : ℕ) (old new : DeskView) → old.kept ≡ None → HoldsNone old → Stepped (Start q) old new → (r : ℕ) → Makes new r → r ≡ q
-started_only q old new kept none did r m = ⊎_elim (λ (o : Makes old r). absurd (let no : ◌≡◌ {A = Option ℕ} None (Some r) = sym kept ∙ none r o in cc)) (λ (t : eqb q r ≡ true). sym (eqb-true q r t)) (step_makes (Start q) old new r did m)
+pub started_only : (q j : ℕ) (old new : DeskView) → old.kept ≡ None → HoldsNone old → Stepped (Start q j) old new → (r : ℕ) → Makes new r → r ≡ q
+started_only q j old new kept none did r m = ⊎_elim (λ (o : Makes old r). absurd (makes_none old r kept none o)) (λ (t : eqb q r ≡ true). sym (eqb-true q r t)) (step_makes (Start q j) old new r did m)
 
 pub turned_only : (q : ℕ) (from : Phase) (kind : EndKind) (m : ℕ) (x : ℤ) (n : ℕ) (old new : DeskView) → EndsNone old → Stepped (Turn q from (Ending kind) m x n) old new → (r : ℕ) → EndsRow new r → r ≡ q
 turned_only q from kind m x n old new none did r on = ⊎_elim (λ (o : EndsRow old r). absurd (none r o)) (λ (t : eqb q r ≡ true). sym (eqb-true q r t)) (step_ends (Turn q from (Ending kind) m x n) old new r did on)
 
 -- a sealed row is no longer made, and a closed one no longer ended
-pub sealed_none : (ph : Phase) (old new : DeskView) (hold : HoldView) → IsHolding old hold → Stepped (Seal hold.row ph) old new → HoldsNone new
+pub sealed_none : (ph : Phase) (old new : DeskView) (hold : HoldView) → IsHolding old hold → Stepped (Seal hold.row.row ph) old new → HoldsNone new
 sealed_none ph old new hold is did r m =
-    let at : r ≡ hold.row = hold_only (Seal hold.row ph) old new hold did (λ _. refl) is r m in
+    let at : r ≡ hold.row.row = hold_only (Seal hold.row.row ph) old new hold did (λ _. refl) is r m in
     let st = is.of.0 in
-    let now : present (state_seen new) hold.row ≡ Some (in_phase ph st.booking) =
-    own_changes (Seal hold.row ph) old new did hold.row st.booking (in_phase ph) (λ s. refl) (λ _. refl) st.found st.owner (firm_making st.booking.phase st.making) in
+    let now : present (state_seen new) hold.row.row ≡ Some (in_phase ph st.booking) =
+    own_changes (Seal hold.row.row ph) old new did hold.row.row st.booking (in_phase ph) (λ s. refl) (λ _. refl) st.found st.owner (firm_making st.booking.phase st.making) in
     let b = found (present (state_seen new) r) (IsMadeBy new.number) m in
     let same : b.0 ≡ in_phase ph st.booking = some_same b.0 (in_phase ph st.booking) (sym b.1 ∙ (ap (present (state_seen new)) at ∙ now)) in
     let h : List Entry = old.seen ++ did.between in
-    let may : IsAllowedStep old.layout (state_of old.layout h) old.number (Seal hold.row ph) = (legal-rest old.layout h (entry old.number (Seal hold.row ph) ∷ []) (legal_before (Seal hold.row ph) old new did)).0 in
+    let may : IsAllowedStep old.layout (state_of old.layout h) old.number (Seal hold.row.row ph) = (legal-rest old.layout h (entry old.number (Seal hold.row.row ph) ∷ []) (legal_before (Seal hold.row.row ph) old new did)).0 in
     let making : ph ≡ Making = sym (ap (λ (x : Booking). x.phase) same) ∙ b.2.0 in
-    absurd (⊎_elim (λ (e : ph ≡ Prebooked). let no : Prebooked ≡ Making = sym e ∙ making in cc) (λ e. let no : Confirmed ≡ Making = sym e.0 ∙ making in cc) may.2)
+    let on = found (present (state_of old.layout h) hold.row.row) (λ b. IsMadeBy old.number b × IsSealable b × MaySealAs (state_of old.layout h) old.number b ph) may.1 in
+    absurd (⊎_elim (λ (e : ph ≡ Prebooked). let no : Prebooked ≡ Making = sym e ∙ making in cc) (λ e. let no : Confirmed ≡ Making = sym e.0 ∙ making in cc) on.2.2)
 
-pub closed_none : (old new : DeskView) (e : EndingView) → IsEnding old e → Stepped (Close e.row) old new → EndsNone new
+pub closed_none : (old new : DeskView) (e : EndingView) → IsEnding old e → Stepped (Close e.row.row) old new → EndsNone new
 closed_none old new e is did r m =
-    let at : r ≡ e.row = ending_only (Close e.row) old new e did (λ _. refl) is r m in
+    let at : r ≡ e.row.row = ending_only (Close e.row.row) old new e did (λ _. refl) is r m in
     let st = is.of in
-    let now : present (state_seen new) e.row ≡ Some (closed st.booking) =
-    own_changes (Close e.row) old new did e.row st.booking closed (λ s. refl) (λ _. refl) st.found st.owner (firm_ending st.booking.phase e.kind st.phase) in
+    let now : present (state_seen new) e.row.row ≡ Some (closed st.booking) =
+    own_changes (Close e.row.row) old new did e.row.row st.booking closed (λ s. refl) (λ _. refl) st.found st.owner (firm_ending st.booking.phase e.kind st.phase) in
     let b = found (present (state_seen new) r) (IsBeingEndedBy new.number) m in
     let same : b.0 ≡ closed st.booking = some_same b.0 (closed st.booking) (sym b.1 ∙ (ap (present (state_seen new)) at ∙ now)) in
     let clash : Ended e.kind ≡ Ending b.2.0 = sym (ap ended_phase st.phase) ∙ (sym (ap (λ (x : Booking). x.phase) same) ∙ b.2.1.0) in
@@ -241,23 +244,47 @@ new_idle lay seen d r legal none = (
 
 -- exchanges that are settled
 
-has_more : (st : Step) (xs ys : List Entry) → Has st xs → Has st (xs ++ ys)
-has_more st [] ys on = absurd on
-has_more st (x ∷ xs) ys (inl p) = inl p
-has_more st (x ∷ xs) ys (inr more) = inr (has_more st xs ys more)
+confirmed_more : (row : ℕ) (xs ys : List Entry) → IsConfirmedNext row xs → IsConfirmedNext row (xs ++ ys)
+confirmed_more row [] ys on = absurd on
+confirmed_more row (x ∷ xs) ys (inl p) = inl p
+confirmed_more row (x ∷ xs) ys (inr more) = inr (more.0, confirmed_more row xs ys more.1)
 
 pub settled_append : (xs ys : List Entry) → AreSettled xs → AreSettled ys → AreSettled (xs ++ ys)
 settled_append [] ys p q = q
-settled_append (x ∷ xs) ys p q = (λ t. has_more (Seal (successor_of x.step - 1) Confirmed) xs ys (p.0 t), settled_append xs ys p.1 q)
+settled_append (x ∷ xs) ys p q = (λ t. confirmed_more (successor_row x.step) xs ys (p.0 t), settled_append xs ys p.1 q)
 
 pub settled_calm : (d : ℕ) (es : List Step) → NoStep exchanges es → AreSettled (map (entry d) es)
 settled_calm d [] calm = tt
 settled_calm d (st ∷ es) calm = (λ t. absurd (let no : false ≡ true = sym calm.0 ∙ t in cc), settled_calm d es calm.1)
 
+-- the seal of a row behind steps that seal it not is the next
+pub confirmed_behind : (d row : ℕ) (xs ys : List Step) → NoStep (seals row) xs → IsConfirmedNext row (map (entry d) (xs ++ Seal row Confirmed ∷ ys))
+confirmed_behind d row [] ys calm = inl refl
+confirmed_behind d row (x ∷ xs) ys calm = inr (calm.0, confirmed_behind d row xs ys calm.1)
+
+-- the row of a successor's word
+pub row_of_successor : (row generation : ℕ) → row < successor_rows → (successor_word row generation - 1) % successor_rows ≡ row
+row_of_successor row generation low =
+    let e : 1 + row + 4294967296 * generation - 1 ≡ generation * 4294967296 + row = omega arith in
+    ap (λ (n : ℕ). n % successor_rows) e ∙ mod-mul-add generation successor_rows row low
+
+-- a desk that holds none makes no row but an empty one, which it keeps
+pub makes_empty : (books : BooksView) (desk : DeskView) → IsOf books desk → HoldsNone desk → MakesEmpty desk
+makes_empty books desk of holds row makes = go desk.kept of.kept (holds row makes)
+  where
+    go : (kept : Option RowNo) → IfSome kept (λ r. StandsFor desk (empty_hold r)) → option_map (λ (k : RowNo). k.row) kept ≡ Some row → OnRow (state_seen desk) row (λ b. b.items ≡ [])
+    go None is e = absurd (let no : ◌≡◌ {A = Option ℕ} None (Some row) = e in cc)
+    go (Some k) is e =
+        let same : k.row ≡ row = cc in
+        subst (λ (r : ℕ). OnRow (state_seen desk) r (λ b. b.items ≡ [])) same (on_row (state_seen desk) k.row is.booking (λ b. b.items ≡ []) is.found is.items)
+
 -- a tidy desk stays tidy through a call whose exchanges are settled and which leaves nothing out
-pub tidy_through : (old new : DeskView) (es : List Step) → Shape old new es → AreSettled (map (entry old.number) es) → IsTidy old → IsIdle new → IsTidy new
-tidy_through old new es did settled is idle =
-    (idle, subst (λ (n : ℕ). AreSettled (own new.seen n)) (sym did.same.2) (subst AreSettled (sym did.mine) (settled_append (own old.seen old.number) (map (entry old.number) es) is.1 settled)))
+pub tidy_through : (books : BooksView) (old new : DeskView) (es : List Step) → IsOf books new → Shape old new es → AreSettled (map (entry old.number) es) → IsTidy old → IsIdle new → IsTidy new
+tidy_through books old new es of did settled is idle = (
+  idle,
+  subst (λ (n : ℕ). AreSettled (own new.seen n)) (sym did.same.2) (subst AreSettled (sym did.mine) (settled_append (own old.seen old.number) (map (entry old.number) es) is.1 settled)),
+  makes_empty books new of idle.0,
+)
 
 -- meeting
 
@@ -277,17 +304,18 @@ pub met_idle : (old other new : DeskView) → HasMet old other new → IsIdle ol
 met_idle old other new met is =
     let x = met_rest old other new met in
     let d = old.number in (
-      λ r m. met.same.4 ∙ is.0 r (made_since old.layout (state_seen old) met.front.0 (Met ∷ []) d r x.0 x.1 (refl, tt)
+      λ r m. ap (λ (o : Option RowNo). option_map (λ (k : RowNo). k.row) o) met.same.4 ∙ is.0 r (made_since old.layout (state_seen old) met.front.0 (Met ∷ []) d r x.0 x.1 (refl, tt)
           (subst (λ (s : State). OnRow s r (IsMadeBy d)) x.2 (subst (λ (n : ℕ). OnRow (state_seen new) r (IsMadeBy n)) met.same.2 m))),
       λ r m. let e = ends_as (state_after (state_seen old) met.front.0) r d (subst (λ (s : State). OnRow s r (IsBeingEndedBy d)) x.2 (subst (λ (n : ℕ). OnRow (state_seen new) r (IsBeingEndedBy n)) met.same.2 m)) in
           is.1 r (ends_so (state_seen old) r d e.0 (ended_since old.layout (state_seen old) met.front.0 (Met ∷ []) e.0 d r x.0 x.1 (refl, tt) e.1)),
     )
 
-pub met_tidy : (old other new : DeskView) → HasMet old other new → IsTidy old → IsTidy new
-met_tidy old other new met is = (
-  met_idle old other new met is.0,
+pub met_tidy : (books : BooksView) (old other new : DeskView) → IsOf books new → HasMet old other new → IsTidy old → IsTidy new
+met_tidy books old other new of met is = let idle = met_idle old other new met is.0 in (
+  idle,
   subst (λ (n : ℕ). AreSettled (own new.seen n)) (sym met.same.2)
       (subst AreSettled (sym met.mine) (settled_append (own old.seen old.number) (entry old.number Met ∷ []) is.1 (settled_calm old.number (Met ∷ []) (refl, tt)))),
+  makes_empty books new of idle.0,
 )
 
 -- parting
@@ -296,20 +324,20 @@ pub part_idle : (old new : DeskView) → Stepped Met old (record new { made = ol
 part_idle old new did is =
     let now = record new { made = old.made } in
     let shape = step_shape Met old now did in (
-      λ r m. did.same.5 ∙ is.0 r (makes_before old now (Met ∷ []) r shape (refl, tt) m),
+      λ r m. ap (λ (o : Option RowNo). option_map (λ (k : RowNo). k.row) o) did.same.5 ∙ is.0 r (makes_before old now (Met ∷ []) r shape (refl, tt) m),
       λ r m. is.1 r (ends_before old now (Met ∷ []) r shape (refl, tt) m),
     )
 
 -- how many desks a desk has parted is nothing to its hold and its ending
 made_holding : (desk : DeskView) (m : ℕ) (hold : HoldView) → IsHolding (record desk { made = m }) hold → IsHolding desk hold
 made_holding desk m hold is = let s = is.of.0 in record {
-  of = (record { booking = s.booking; found = s.found; owner = s.owner; making = s.making; items = s.items; row = s.row; within = s.within }, is.of.1);
+  of = (record { booking = s.booking; found = s.found; generation = s.generation; owner = s.owner; making = s.making; items = s.items; row = s.row; within = s.within }, is.of.1);
   only = is.only;
 }
 
 made_ending : (desk : DeskView) (m : ℕ) (e : EndingView) → IsEnding (record desk { made = m }) e → IsEnding desk e
 made_ending desk m e is = let s = is.of in record {
-  of = record { booking = s.booking; found = s.found; owner = s.owner; phase = s.phase; end = s.end; row = s.row; few = s.few; fresh = s.fresh; items = s.items; within = s.within };
+  of = record { booking = s.booking; found = s.found; generation = s.generation; owner = s.owner; phase = s.phase; end = s.end; row = s.row; few = s.few; fresh = s.fresh; items = s.items; within = s.within };
   only = is.only;
 }
 
@@ -331,16 +359,19 @@ part_endings old new did =
       none = λ h. kept.none h;
     }
 
-pub part_tidy : (old new : DeskView) → Stepped Met old (record new { made = old.made }) → IsTidy old → IsTidy new
-part_tidy old new did is =
-    let now = record new { made = old.made } in (
-      part_idle old new did is.0,
+pub part_tidy : (books : BooksView) (old new : DeskView) → IsOf books new → Stepped Met old (record new { made = old.made }) → IsTidy old → IsTidy new
+part_tidy books old new of did is =
+    let now = record new { made = old.made } in
+    let idle = part_idle old new did is.0 in (
+      idle,
       subst (λ (n : ℕ). AreSettled (own new.seen n)) (sym did.same.2)
           (subst AreSettled (sym (step_shape Met old now did).mine) (settled_append (own old.seen old.number) (entry old.number Met ∷ []) is.1 (settled_calm old.number (Met ∷ []) (refl, tt)))),
+      makes_empty books new of idle.0,
     )
 
 pub new_tidy : (desk : DeskView) → IsLegal desk.layout desk.seen → own desk.seen desk.number ≡ [] → IsTidy desk
 new_tidy desk legal none = (
   (λ r m. absurd ((new_idle desk.layout desk.seen desk.number r legal none).0 m), λ r m. (new_idle desk.layout desk.seen desk.number r legal none).1 m),
   subst AreSettled (sym none) tt,
+  λ r m. absurd ((new_idle desk.layout desk.seen desk.number r legal none).0 m),
 )

@@ -1,33 +1,30 @@
 -- A lone desk's steps keep its own work.
-use Rattle.std.proofs.Common.{◌≡◌, ◌≢◌, ℕ, Bool, true, false, cond, eq-eqb, ne_eqb, [], ◌∷◌, ◌++◌, map, Some, refl, sym, ap, ◌∙◌, subst, append_assoc}
-use Rattle.std.specs.Prelude.{find, length, ◌<◌, ◌==◌}
+use Rattle.std.proofs.Common.{◌≡◌, ◌≢◌, ℕ, Bool, true, false, cond, [], ◌∷◌, ◌++◌, Some, refl, sym, ap, ◌∙◌, subst, append_assoc}
+use Rattle.std.specs.Prelude.{find, length, ◌<◌}
 use Rattle.std.specs.List.{AllByRecursion}
 use Rattle.std.proofs.lemmas.Bool.{true≢false}
-use mathlib.Core.List.{map-append}
 use Rattle.history_model.specs.declared.booking.End.{End}
 use Rattle.history_model.specs.declared.entry.Step.{Step}
 use Rattle.history_model.specs.declared.entry.Step.TheVariants.{Look, Take, Give, Start, SawRow, Note, Seal, Turn, LostTurn, Close, Met}
 use Rattle.history_model.specs.declared.phase.Phase.{Phase}
 use Rattle.history_model.specs.declared.phase.Phase.TheVariants.{Free, Making, Prebooked, Confirmed, Fulfilled, Ending, Ended}
-use Rattle.history_model.specs.Phase.{is_turn}
-use Rattle.history_model.specs.Allowed.{IsAllowedStep, IsMadeBy, MayGive, MayNote, MayClose, IsSealable, OnRow, TurnsWith}
-use Rattle.history_model.specs.Apply.{apply_step, taken, given, noted, in_phase, turned, closed, started, ended_phase}
+use Rattle.history_model.specs.Phase.{is_turn, is_ended}
+use Rattle.history_model.specs.Allowed.{IsAllowedStep, IsMadeBy, MayGive, MayNote, MayClose, MaySealAs, IsSealable, OnRow, TurnsWith}
+use Rattle.history_model.specs.Apply.{apply_step, taken, given, noted, in_phase, turned, closed, started, words_of_row, ended_phase}
 use Rattle.history_model.specs.Booking.{Booking, Layout, State, change, present, stands_in, most_items, limit_of}
 use Rattle.history_model.specs.Laws.{IsWellFormed, IsOpening, is_owners}
-use Rattle.history_model.specs.Lists.{Pairwise, Across, change_first}
+use Rattle.history_model.specs.Lists.{change_first}
+use Rattle.history_model.proofs.Going.{turned-phase}
 use Rattle.history_model.proofs.Keeping.{found}
-use Rattle.history_model.proofs.ListLemmas.{All-append, All-changed, All-found, Pairwise-left, Pairwise-across}
+use Rattle.history_model.proofs.ListLemmas.{All-append, All-changed, All-found}
+use Rattle.history_model.proofs.Generations.{unended_present, stands_there}
 use Rattle.history_model.proofs.Owners.{on_row}
 use Rattle.claim_rule.specs.OwnWork.{MakesLast, IsOwnWork}
 
 -- the step starts a row
 abbrev pub is_start : Step → Bool
-is_start (Start row) = true
+is_start (Start row generation) = true
 is_start _ = false
-
--- a row that is not the booking's of any of these
-abbrev IsApart : ℕ → State → Type 0
-IsApart row s = AllByRecursion (λ b. (b.row == row) ≡ false) s
 
 -- ---- one booking changed
 
@@ -65,15 +62,6 @@ no_turn_to_making Fulfilled e = true≢false (sym e)
 no_turn_to_making (Ending kind) e = true≢false (sym e)
 no_turn_to_making (Ended kind) e = true≢false (sym e)
 
-turned_phase : (to : Phase) (end : End) (b : Booking) → (turned 0 to end b).phase ≡ to
-turned_phase Free end b = refl
-turned_phase Making end b = refl
-turned_phase Prebooked end b = refl
-turned_phase Confirmed end b = refl
-turned_phase Fulfilled end b = refl
-turned_phase (Ending kind) end b = refl
-turned_phase (Ended kind) end b = refl
-
 turned_owned : (from to : Phase) (end : End) (b : Booking) → is_turn from to ≡ true → IsOwned (turned 0 to end b)
 turned_owned from Free end b turn owners = absurd (true≢false (sym owners))
 turned_owned from Making end b turn owners = absurd (no_turn_to_making from turn)
@@ -95,46 +83,32 @@ step_keeps g s (Look place half shown) may none work = work
 step_keeps g s (Take row place span) may none work =
     work_changed s row (taken place span) (λ b. IsMadeBy 0 b × (length b.items < most_items)) may.2 (λ b p e. e) (λ b p own. own) work
 step_keeps g s (Give row item) may none work = work_changed s row (given item) (MayGive 0 item) may.1 (λ b p e. e) (λ b p own. own) work
-step_keeps g s (Start row) may none work = absurd (true≢false none)
+step_keeps g s (Start row generation) may none work = absurd (true≢false none)
 step_keeps g s (SawRow row word value) may none work = work
 step_keeps g s (Note row word value) may none work = work_changed s row (noted word value) (MayNote 0 word) may.1 (λ b p e. e) (λ b p own. own) work
 step_keeps g s (Seal row phase) may none work =
-    work_changed s row (in_phase phase) (λ b. IsMadeBy 0 b × IsSealable b) may.1 (λ b p e. p.0.0) (λ b p own owners. p.0.1) work
+    work_changed s row (in_phase phase) (λ b. IsMadeBy 0 b × IsSealable b × MaySealAs s 0 b phase) may.1 (λ b p e. p.0.0) (λ b p own owners. p.0.1) work
 step_keeps g s (Turn row from to moment amount successor) may none work =
     let end : End = record { moment = moment; amount = amount; successor = successor } in
     work_changed s row (turned 0 to end) (λ b. (b.phase ≡ from) × TurnsWith s 0 (limit_of b) to moment amount successor) may.3
-    (λ b p e. absurd (no_turn_to_making from (subst (λ (q : Phase). is_turn from q ≡ true) (sym (turned_phase to end b) ∙ e) may.1)))
+    (λ b p e. absurd (no_turn_to_making from (subst (λ (q : Phase). is_turn from q ≡ true) (sym (turned-phase 0 to end b) ∙ e) may.1)))
     (λ b p own. turned_owned from to end b may.1) work
 step_keeps g s (LostTurn row wanted shown) may none work = work
 step_keeps g s (Close row) may none work = work_changed s row closed (MayClose 0) may.1 (closed_still g) closed_owned work
 step_keeps g s Met may none work = work
 
--- ---- each booking stands in its row
+-- ---- a booking in the making is its row's present one
 
-apart_before : (front : State) (row : ℕ) → Across (λ a b. a ≢ b) (map (λ (b : Booking). b.row) front) (row ∷ []) → IsApart row front
-apart_before [] row across = tt
-apart_before (b ∷ bs) row across = (ne_eqb b.row row across.0.0, apart_before bs row across.1)
-
-found_there : (front : State) (b : Booking) (rest : State) → IsApart b.row front → present (front ++ b ∷ rest) b.row ≡ Some b
-found_there [] b rest apart = ap (λ (t : Bool). cond t (Some b) (present rest b.row)) (eq-eqb b.row b.row refl)
-found_there (x ∷ front) b rest apart =
-    ap (λ (t : Bool). cond t (Some x) (present (front ++ b ∷ rest) b.row)) apart.0 ∙ found_there front b rest apart.1
-
-pub stands_there : (g : Layout) (s front : State) (b : Booking) (rest : State) → IsWellFormed g s → s ≡ front ++ b ∷ rest → present s b.row ≡ Some b
-stands_there g s front b rest well is =
-    let rows : map (λ (x : Booking). x.row) s ≡ (map (λ (x : Booking). x.row) front ++ b.row ∷ []) ++ map (λ (x : Booking). x.row) rest =
-    ap (map (λ (x : Booking). x.row)) is ∙ (map-append (λ (x : Booking). x.row) front (b ∷ rest)
-    ∙ sym (append_assoc (map (λ (x : Booking). x.row) front) (b.row ∷ []) (map (λ (x : Booking). x.row) rest))) in
-    let apart = Pairwise-left (λ (p q : ℕ). p ≢ q) (map (λ (x : Booking). x.row) front ++ b.row ∷ []) (map (λ (x : Booking). x.row) rest)
-    (subst (Pairwise (λ (p q : ℕ). p ≢ q)) rows well.rows) in
-    ap (λ (t : State). present t b.row) is
-    ∙ found_there front b rest (apart_before front b.row (Pairwise-across (λ (p q : ℕ). p ≢ q) (map (λ (x : Booking). x.row) front) (b.row ∷ []) apart))
+making_open : (p : Phase) → p ≡ Making → is_ended p ≡ false
+making_open p making = ap is_ended making
 
 none_making : (g : Layout) (s front rest : State) → IsWellFormed g s → s ≡ front ++ rest → ((row : ℕ) → OnRow s row (IsMadeBy 0) → ⊥) → AllByRecursion IsOwned rest
     → AllByRecursion (λ b. b.phase ≢ Making) rest
 none_making g s front [] well is none owned = tt
 none_making g s front (b ∷ rest) well is none owned = (
-  λ making. none b.row (on_row s b.row b (IsMadeBy 0) (stands_there g s front b rest well is) (making, owned.0 (ap is_owners making))),
+  λ making. none b.row (on_row s b.row b (IsMadeBy 0)
+      (unended_present s b.row b.generation b well.earlier (stands_there s front b rest well.keys is) (making_open b.phase making))
+      (making, owned.0 (ap is_owners making))),
   none_making g s (front ++ b ∷ []) rest well (is ∙ sym (append_assoc front (b ∷ []) rest)) none owned.1,
 )
 
@@ -143,11 +117,13 @@ one_behind [] b none = ((λ making. refl), tt)
 one_behind (x ∷ s) b none = ((λ making. absurd (none.0 making)), one_behind s b none.1)
 
 -- So does the start of a row where it makes none.
-pub start_keeps : (g : Layout) (s : State) (row : ℕ) → IsWellFormed g s → ((r : ℕ) → OnRow s r (IsMadeBy 0) → ⊥) → IsOwnWork s → IsOwnWork (s ++ started row 0 ∷ [])
-start_keeps g s row well idle work = record {
-  owned = All-append IsOwned s (started row 0 ∷ []) work.owned ((λ owners. refl), tt);
-  last = one_behind s (started row 0) (none_making g s [] s well refl idle work.owned);
-}
+pub start_keeps : (g : Layout) (s : State) (row generation : ℕ) → IsWellFormed g s → ((r : ℕ) → OnRow s r (IsMadeBy 0) → ⊥) → IsOwnWork s → IsOwnWork (apply_step s 0 (Start row generation))
+start_keeps g s row generation well idle work =
+    let new : Booking = started row generation 0 (words_of_row s row) in
+    record {
+      owned = All-append IsOwned s (new ∷ []) work.owned ((λ owners. refl), tt);
+      last = one_behind s new (none_making g s [] s well refl idle work.owned);
+    }
 
 -- New books begin with it.
 

@@ -20,7 +20,7 @@ use Rattle.history_model.proofs.Writing.{sound_of, word_in}
 use Rattle.history_model.specs.Allowed.{IsAllowedStep}
 use Rattle.history_model.specs.Booking.{Booking, Layout, State, most_items, word_at}
 use Rattle.history_model.specs.History.{IsLegal, entry, state_of}
-use Rattle.history_model.specs.Phase.{is_sealed, word_of_phase}
+use Rattle.history_model.specs.Phase.{is_sealed, row_word_of}
 use Rattle.history_model.specs.Words.{row_word}
 use Rattle.history_model.specs.declared.booking.BookedItem.{BookedItem}
 use Rattle.history_model.specs.declared.entry.Entry.{Entry}
@@ -37,14 +37,14 @@ saw r w v old new did =
     may.2 ∙ ap (λ (s : State). row_word s r w) (sym (state_then st old new did))
 
 pub sound_now : (desk : DeskView) (e : EndingView) → IsLegal desk.layout desk.seen → (is : IsEndingOf desk e) → IsSound desk.layout is.booking
-sound_now desk e legal is = sound_of desk.layout (state_of desk.layout desk.seen) e.row is.booking (is_sound desk.layout desk.seen legal) is.found
+sound_now desk e legal is = sound_of desk.layout (state_of desk.layout desk.seen) e.row.row is.booking (is_sound desk.layout desk.seen legal) is.found
 
 -- the first look shows how many items there are
-pub read_count : (v : ℕ) (old new : DeskView) (e : EndingView) → Stepped (SawRow e.row 4 v) old new → (was : IsEndingOf old e) → (is : IsEndingOf new e) × (v ≡ length is.booking.items) × (v ≤ most_items) × (is.booking ≡ was.booking)
+pub read_count : (v : ℕ) (old new : DeskView) (e : EndingView) → Stepped (SawRow e.row.row 4 v) old new → (was : IsEndingOf old e) → (is : IsEndingOf new e) × (v ≡ length is.booking.items) × (v ≤ most_items) × (is.booking ≡ was.booking)
 read_count v old new e did was =
-    let is = end_stays (SawRow e.row 4 v) old new e refl did was in
+    let is = end_stays (SawRow e.row.row 4 v) old new e refl did was in
     let sound = sound_now new e did.legal is in
-    let shown : v ≡ length is.booking.items = saw e.row 4 v old new did ∙ (ap (word_in 4) is.found ∙ (sound.sealed (ap is_sealed is.phase)).count) in
+    let shown : v ≡ length is.booking.items = saw e.row.row 4 v old new did ∙ (ap (word_in 4) is.found ∙ (sound.sealed (ap is_sealed is.phase)).count) in
     (is, shown, subst (λ (n : ℕ). n ≤ most_items) (sym shown) sound.count, refl)
 
 get_take : (n k : ℕ) (ws : List ℕ) → k < n → get_or (take n ws) k 0 ≡ get_or ws k 0
@@ -69,17 +69,17 @@ all_at P (i ∷ is) zero x h e = let same : i ≡ x = cc in subst P same h.0
 all_at P (i ∷ is) (suc k) x h e = all_at P is k x h.1 e
 
 -- each further look shows the word of an item
-pub read_at : (v k : ℕ) (old new : DeskView) (e : EndingView) → length new.layout.legs ≤ most_places → Stepped (SawRow e.row (8 + k) v) old new → e.read ≡ false → (was : IsEndingOf old e) → k < length was.booking.items → AllByRecursion (λ i. i.span.to ≤ most_legs) was.booking.items
+pub read_at : (v k : ℕ) (old new : DeskView) (e : EndingView) → length new.layout.legs ≤ most_places → Stepped (SawRow e.row.row (8 + k) v) old new → e.read ≡ false → (was : IsEndingOf old e) → k < length was.booking.items → AllByRecursion (λ i. i.span.to ≤ most_legs) was.booking.items
     → (is : IsEndingOf new e) × (is.booking ≡ was.booking) × ((x : BookedItem) × (slice_get was.booking.items k ≡ Some x) × (x.given_back ≡ false) × LiesWithin new.layout x × IsItemOf x.place x.span v)
 read_at v k old new e few did unread was below fits =
-    let is = end_stays (SawRow e.row (8 + k) v) old new e refl did was in
+    let is = end_stays (SawRow e.row.row (8 + k) v) old new e refl did was in
     let sound = sound_now new e did.legal is in
     let sealed = sound.sealed (ap is_sealed is.phase) in
     let items = was.booking.items in
     let words = was.booking.words in
     let f : BookedItem → ℕ = λ i. item_word i.place i.span in
     let x = item_there f items k below in
-    let shown : v ≡ word_at was.booking (8 + k) = saw e.row (8 + k) v old new did ∙ (ap (word_in (8 + k)) is.found ∙ not_first k (word_of_phase was.booking.phase) (get_or words (8 + k) 0)) in
+    let shown : v ≡ word_at was.booking (8 + k) = saw e.row.row (8 + k) v old new did ∙ (ap (word_in (8 + k)) is.found ∙ not_first k (row_word_of was.booking.phase was.booking.generation) (get_or words (8 + k) 0)) in
     let word : get_or words (8 + k) 0 ≡ f x.0 =
     ap (λ (m : ℕ). get_or words m 0) (let s : 8 + k ≡ k + 8 = omega arith in s) ∙ (sym (get_drop 8 k words) ∙ (sym (get_take (length items) k (drop 8 words) below) ∙ (ap (λ (l : List ℕ). get_or l k 0) sealed.items ∙ x.2))) in
     let lies = all_at (LiesWithin new.layout) items k x.0 sound.within x.1 in (
@@ -122,7 +122,7 @@ same_item : (i : Item) (x : BookedItem) → x.given_back ≡ false → i.place �
 same_item i x left place span = λ j. record { place = place j; span = span j; given_back = sym left j }
 
 -- one item more
-pub read_more : (v k count : ℕ) (old new : DeskView) (e : EndingView) (read : List Item) (i : Item) → length new.layout.legs ≤ most_places → Stepped (SawRow e.row (8 + k) v) old new → e.read ≡ false → ReadSoFar old e count k read → k < count → IsItemOf i.place i.span v → ReadSoFar new e count (k + 1) (read ++ i ∷ [])
+pub read_more : (v k count : ℕ) (old new : DeskView) (e : EndingView) (read : List Item) (i : Item) → length new.layout.legs ≤ most_places → Stepped (SawRow e.row.row (8 + k) v) old new → e.read ≡ false → ReadSoFar old e count k read → k < count → IsItemOf i.place i.span v → ReadSoFar new e count (k + 1) (read ++ i ∷ [])
 read_more v k count old new e read i few did unread so below its =
     let r = read_at v k old new e few did unread so.is (subst (λ (n : ℕ). k < n) so.count_is below) so.fits in
     let x = r.2.0 in
@@ -150,6 +150,7 @@ pub read_all : (desk : DeskView) (e : EndingView) (count : ℕ) (read : List Ite
 read_all desk e count read none so = record {
   booking = so.is.booking;
   found = so.is.found;
+  generation = so.is.generation;
   owner = so.is.owner;
   phase = so.is.phase;
   end = so.is.end;
@@ -161,7 +162,7 @@ read_all desk e count read none so = record {
 }
 
 -- at the start
-pub read_none : (v : ℕ) (old new : DeskView) (e : EndingView) → Stepped (SawRow e.row 4 v) old new → (was : IsEndingOf old e) → AllByRecursion (λ i. i.span.to ≤ most_legs) was.booking.items → ReadSoFar new e v 0 []
+pub read_none : (v : ℕ) (old new : DeskView) (e : EndingView) → Stepped (SawRow e.row.row 4 v) old new → (was : IsEndingOf old e) → AllByRecursion (λ i. i.span.to ≤ most_legs) was.booking.items → ReadSoFar new e v 0 []
 read_none v old new e did was fits =
     let r = read_count v old new e did was in
     record { is = r.0; count_is = r.1; items = refl; many = refl; fits = subst (λ (b : Booking). AllByRecursion (λ i. i.span.to ≤ most_legs) b.items) (sym r.3) fits; within = tt }
@@ -178,7 +179,7 @@ pub items_fit : (desk : DeskView) (e : EndingView) → IsLegal desk.layout desk.
 items_fit desk e legal most is = all_fit desk.layout is.booking.items most (sound_now desk e legal is).within
 
 -- the parts of a further look
-pub shown_item : (v k count : ℕ) (old new : DeskView) (e : EndingView) (read : List Item) → length new.layout.legs ≤ most_places → Stepped (SawRow e.row (8 + k) v) old new → e.read ≡ false → ReadSoFar old e count k read → k < count → (p : ℕ) × (span : Interval) × IsItemOf p span v
+pub shown_item : (v k count : ℕ) (old new : DeskView) (e : EndingView) (read : List Item) → length new.layout.legs ≤ most_places → Stepped (SawRow e.row.row (8 + k) v) old new → e.read ≡ false → ReadSoFar old e count k read → k < count → (p : ℕ) × (span : Interval) × IsItemOf p span v
 shown_item v k count old new e read few did unread so below =
     let r = read_at v k old new e few did unread so.is (subst (λ (n : ℕ). k < n) so.count_is below) so.fits in (r.2.0.place, r.2.0.span, r.2.4)
 

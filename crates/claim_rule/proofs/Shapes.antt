@@ -2,6 +2,7 @@
 use Rattle.std.proofs.Common.{true, ◌≡◌, ℕ, ◌≤◌, cond, Bool, List, [], ◌∷◌, ◌++◌, map, refl, sym, ap, ◌∙◌, subst, append_assoc, append-nil, eq-eqb, ◌<◌, Some, Option, ◌+◌, length, length-append, arith}
 use Rattle.std.proofs.lemmas.List.{length-map}
 use mathlib.Core.List.{map-append, append_cancel_left}
+use Rattle.rail_ids.specs.declared.RowNo.{RowNo}
 use Rattle.claim_rule.specs.Rule.{DeskView, In, Each}
 use Rattle.claim_rule.specs.Holds.{HoldView, StandsFor, IsHoldOf, IsItem}
 use Rattle.claim_rule.specs.Seats.{Stepped, Shape, AddsAtMost}
@@ -70,18 +71,19 @@ own_through old new es r b did quiet at mine firm =
     ∙ quiet_stays old.layout (state_of old.layout old.seen) r b did.front.0 es at firm (subst (λ (k : ℕ). own did.front.0 k ≡ map (entry k) es) (sym mine) x.1) quiet x.0
 
 -- a hold stays the desk's through calls that leave its row alone
-pub stands_through : (old new : DeskView) (es : List Step) (hold : HoldView) → Shape old new es → AllQuiet hold.row es → StandsFor old hold → StandsFor new hold
+pub stands_through : (old new : DeskView) (es : List Step) (hold : HoldView) → Shape old new es → AllQuiet hold.row.row es → StandsFor old hold → StandsFor new hold
 stands_through old new es hold did quiet is = record {
   booking = is.booking;
-  found = own_through old new es hold.row is.booking did quiet is.found is.owner (firm_making is.booking.phase is.making);
+  found = own_through old new es hold.row.row is.booking did quiet is.found is.owner (firm_making is.booking.phase is.making);
+  generation = is.generation;
   owner = is.owner ∙ sym did.same.2;
   making = is.making;
   items = is.items;
-  row = subst (λ (l : Layout). hold.row < l.rows) (sym did.same.1) is.row;
+  row = subst (λ (l : Layout). hold.row.row < l.rows) (sym did.same.1) is.row;
   within = subst (λ (l : Layout). Each (IsItem l) hold.items) (sym did.same.1) is.within;
 }
 
-pub hold_through : (old new : DeskView) (es : List Step) (hold : HoldView) → Shape old new es → new.kept ≡ old.kept → AllQuiet hold.row es → IsHoldOf old hold → IsHoldOf new hold
+pub hold_through : (old new : DeskView) (es : List Step) (hold : HoldView) → Shape old new es → new.kept ≡ old.kept → AllQuiet hold.row.row es → IsHoldOf old hold → IsHoldOf new hold
 hold_through old new es hold did kept quiet is = (stands_through old new es hold did quiet is.0, kept ∙ is.1)
 
 pub shape_none : (a : DeskView) → IsLegal a.layout a.seen → Shape a a []
@@ -98,7 +100,7 @@ shape_none a legal = record {
 pub shape_past : (old new : DeskView) (es : List Step) (n : ℕ) → old.past ≤ n → Shape old new es → Shape old (record new { past = n }) es
 shape_past old new es n further s = record { front = s.front; legal = s.legal; mine = s.mine; whole = s.whole; same = s.same; further = further }
 
-pub shape_kept : (old new : DeskView) (es : List Step) (o : Option ℕ) → Shape old new es → Shape old (record new { kept = o }) es
+pub shape_kept : (old new : DeskView) (es : List Step) (o : Option RowNo) → Shape old new es → Shape old (record new { kept = o }) es
 shape_kept old new es o s = record { front = s.front; legal = s.legal; mine = s.mine; whole = s.whole; same = s.same; further = s.further }
 
 -- how many entries there are more
@@ -109,4 +111,4 @@ adds_length old new es n did few =
     omega (arith, few, l)
 
 pub stands_past : (desk : DeskView) (hold : HoldView) (n : ℕ) → StandsFor desk hold → StandsFor (record desk { past = n }) hold
-stands_past desk hold n is = record { booking = is.booking; found = is.found; owner = is.owner; making = is.making; items = is.items; row = is.row; within = is.within }
+stands_past desk hold n is = record { booking = is.booking; found = is.found; generation = is.generation; owner = is.owner; making = is.making; items = is.items; row = is.row; within = is.within }

@@ -3,6 +3,7 @@ use Rattle.std.specs.Prelude.{◌≡◌, ℕ, zero, suc, ◌<◌, ◌≤◌, ◌
 use Rattle.std.specs.List.{AllByRecursion}
 use Rattle.leg_masks.specs.Interval.{item_word}
 use Rattle.leg_masks.specs.Interval.{PlacedSpan as Item}
+use Rattle.rail_ids.specs.declared.RowNo.{RowNo}
 use Rattle.history_model.specs.declared.booking.BookedItem.{BookedItem}
 use Rattle.history_model.specs.declared.booking.End.{End}
 use Rattle.history_model.specs.declared.entry.Step.{Step}
@@ -16,7 +17,7 @@ use Rattle.claim_rule.specs.Holds.{held, IsItem}
 
 -- `given` of the items are given back, from the front. Where the items aren't read yet there are none here
 pub record EndingView : Type 0 where
-  pub row : ℕ
+  pub row : RowNo
   pub kind : EndKind
   pub end : End
   pub items : List Item
@@ -29,21 +30,22 @@ given_front zero is = is
 given_front (suc n) [] = []
 given_front (suc n) (i ∷ is) = record i { given_back = true } ∷ given_front n is
 
--- the row is the desk's, ending in this way, with these items
+-- the booking is its row's present one, and the desk's, ending in this way, with these items
 pub record IsEndingOf (desk : DeskView) (e : EndingView) : Type 0 where
   pub booking : Booking
-  pub found : present (state_of desk.layout desk.seen) e.row ≡ Some booking
+  pub found : present (state_of desk.layout desk.seen) e.row.row ≡ Some booking
+  pub generation : booking.generation ≡ e.row.generation
   pub owner : booking.owner ≡ desk.number
   pub phase : booking.phase ≡ Ending e.kind
   pub end : booking.end ≡ e.end
-  pub row : e.row < desk.layout.rows
+  pub row : e.row.row < desk.layout.rows
   pub few : e.given ≤ length e.items
   pub fresh : e.read ≡ false → AllByRecursion (λ i. i.given_back ≡ false) booking.items × (e.items ≡ [])
   pub items : e.read ≡ true → booking.items ≡ given_front e.given (map held e.items)
   pub within : Each (IsItem desk.layout) e.items
 
 -- an ending as a turn leaves it
-abbrev pub unread : ℕ → EndKind → End → EndingView
+abbrev pub unread : RowNo → EndKind → End → EndingView
 unread row kind end = record { row = row; kind = kind; end = end; items = []; given = 0; read = false }
 
 -- the end words, 5 to 7

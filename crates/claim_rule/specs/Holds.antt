@@ -1,5 +1,6 @@
 -- What a hold stands for.
 use Rattle.std.specs.Prelude.{◌≡◌, ℕ, ◌<◌, ◌≤◌, List, [], ◌∷◌, ◌++◌, map, length, slice_index, Some, None, false}
+use Rattle.rail_ids.specs.declared.RowNo.{RowNo}
 use Rattle.leg_masks.specs.Interval.{IsPiece, most_legs}
 use Rattle.leg_masks.specs.Interval.{PlacedSpan as Item}
 use Rattle.history_model.specs.declared.booking.BookedItem.{BookedItem}
@@ -9,7 +10,7 @@ use Rattle.history_model.specs.History.{state_of}
 use Rattle.claim_rule.specs.Rule.{DeskView, Each}
 
 pub record HoldView : Type 0 where
-  pub row : ℕ
+  pub row : RowNo
   pub items : List Item
 
 -- an item as its holder has it
@@ -24,21 +25,22 @@ pub record IsItem (layout : Layout) (i : Item) : Type 0 where
   pub fits : i.span.to ≤ most_legs
   pub piece : IsPiece i.span
 
--- the row is the desk's, in the making, with just these items
+-- the booking is its row's present one, and the desk's, in the making, with just these items
 pub record StandsFor (desk : DeskView) (hold : HoldView) : Type 0 where
   pub booking : Booking
-  pub found : present (state_of desk.layout desk.seen) hold.row ≡ Some booking
+  pub found : present (state_of desk.layout desk.seen) hold.row.row ≡ Some booking
+  pub generation : booking.generation ≡ hold.row.generation
   pub owner : booking.owner ≡ desk.number
   pub making : booking.phase ≡ Making
   pub items : booking.items ≡ map held hold.items
-  pub row : hold.row < desk.layout.rows
+  pub row : hold.row.row < desk.layout.rows
   pub within : Each (IsItem desk.layout) hold.items
 
 -- the hold is this desk's, and is out: the desk keeps no other row
 abbrev pub IsHoldOf : DeskView → HoldView → Type 0
 IsHoldOf desk hold = StandsFor desk hold × (desk.kept ≡ None)
 
-abbrev pub empty_hold : ℕ → HoldView
+abbrev pub empty_hold : RowNo → HoldView
 empty_hold row = record { row = row; items = [] }
 
 abbrev pub with_one : HoldView → Item → HoldView

@@ -4,6 +4,7 @@ pub mod OwnWork
 pub mod Seats
 pub mod Walls
 pub mod Starts
+pub mod Takes
 pub mod Endings
 pub mod Turns
 pub mod Out

@@ -1,5 +1,5 @@
 -- One legal history for all desks.
-use Rattle.std.specs.Prelude.{◌≡◌, ◌⊎◌, ℕ, ◌+◌, ◌≤◌, ◌<◌, true, false, cond, leb, List, [], ◌∷◌, ◌++◌, length, Option}
+use Rattle.std.specs.Prelude.{◌≡◌, ◌⊎◌, ℕ, ◌+◌, ◌≤◌, ◌<◌, true, false, cond, leb, List, [], ◌∷◌, ◌++◌, length, Option, IsSomeAnd}
 use mathlib.Core.Option.{some}
 use mathlib.Core.List.{IsPrefix}
 use lib.ListN.{get_elem?}
@@ -7,9 +7,10 @@ use Rattle.atomic_table.specs.Table.{State as Table}
 use Rattle.atomic_table.specs.Seated.{TableId}
 use Rattle.claim_rule.specs.declared.rule.Old.{Old}
 use Rattle.claim_rule.specs.declared.rule.View.{View}
+use Rattle.rail_ids.specs.declared.RowNo.{RowNo}
 use Rattle.history_model.specs.Allowed.{IsAllowedStep}
 use Rattle.history_model.specs.Apply.{apply_step}
-use Rattle.history_model.specs.Booking.{Layout, State}
+use Rattle.history_model.specs.Booking.{Booking, Layout, State, booking_at}
 use Rattle.history_model.specs.History.{IsLegal, entry, own, state_of}
 use Rattle.history_model.specs.Words.{AreWordsOf, Writes, value}
 use Rattle.history_model.specs.declared.entry.Entry.{Entry}
@@ -28,12 +29,16 @@ pub record DeskView : Type 0 where
   pub seen : List Entry
   pub taken : List ℕ
   pub made : ℕ
-  pub kept : Option ℕ
+  pub kept : Option RowNo
   pub past : ℕ
 
 -- the state of what the desk has seen
 abbrev pub state_seen : DeskView → State
 state_seen desk = state_of desk.layout desk.seen
+
+-- the booking stands in the state, and this holds of it. It need not be its row's present one
+abbrev pub OnBooking : State → RowNo → (Booking → Type 0) → Type 0
+OnBooking s row P = IsSomeAnd (booking_at s row.row row.generation) P
 
 abbrev pub newcomer : Layout → ℕ → List Entry → View
 newcomer lay d h = record { plan = lay; spent = false; number = d; seen = h; taken = []; made = 0; olds = [] }
@@ -90,6 +95,13 @@ pub record Added (layout : Layout) (st : Step) (v w : View) : Type 0 where
   pub later : v.number ≡ 0 → (k : ℕ) → v.made < k → own w.seen k ≡ []
   pub first : v.number ≡ 0 → v.made ≡ 0 → v.taken ≡ []
   pub olds : Each (λ (o : Old). IsPrefix o.seen w.seen × Each (λ j. own w.seen j ≡ own o.seen j ++ own (entry v.number st ∷ []) j) o.whole) v.olds
+
+-- just before the desk's step, which is the last that the view has seen, the word a was this number
+pub record Found (layout : Layout) (a : Word) (n : ℕ) (v w : View) : Type 0 where
+  pub between : List Entry
+  pub step : Entry
+  pub seen : w.seen ≡ (v.seen ++ between) ++ step ∷ []
+  pub number : value (state_of layout (v.seen ++ between)) a ≡ n
 
 -- whatever the history is, the step is allowed, and makes the word a become f of what it was
 abbrev pub Steps : Layout → View → Word → (ℕ → ℕ) → (ℕ → Step) → Type 0

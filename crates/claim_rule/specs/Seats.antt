@@ -2,22 +2,24 @@
 use Rattle.std.specs.Prelude.{◌≡◌, ◌≢◌, ℤ, true, Option, Some, None, IfSome, ℕ, map, ◌+◌, ◌<◌, ◌≤◌, length, false, [], cond, eqb, List, ◌++◌, ◌∷◌, slice_get}
 use mathlib.Core.List.{IsPrefix}
 use Rattle.atomic_table.specs.declared.shared.Seat.{Seat}
+use Rattle.rail_ids.specs.declared.RowNo.{RowNo}
 use Rattle.claim_rule.specs.declared.rule.View.{View}
 use Rattle.claim_rule.specs.Holds.{held, StandsFor, empty_hold}
 use Rattle.claim_rule.specs.OwnWork.{IsOwnWork}
-use Rattle.claim_rule.specs.Rule.{Added, BooksView, DeskView, IsWhole, Each}
-use Rattle.history_model.specs.Allowed.{IsMadeBy, MayGive, MayNote, OnRow, TurnsWith}
+use Rattle.claim_rule.specs.Rule.{Added, BooksView, DeskView, IsWhole, Each, OnBooking, state_seen}
+use Rattle.history_model.specs.Allowed.{AllGiven, HasEndWords, IsAllowedStep, IsEndedBy, IsMadeBy, MayGive, MayNote, OnRow, TurnsWith}
 use Rattle.history_model.specs.Booking.{phase_of_row, Layout, last_moment, limit_of, most_items}
 use Rattle.history_model.specs.Laws.{stage}
 use Rattle.history_model.specs.History.{IsLegal, entry, own, state_of}
-use Rattle.history_model.specs.Phase.{is_sealed, is_turn, said_phase}
+use Rattle.history_model.specs.Phase.{is_sealed, is_turn, row_word_of}
 use Rattle.history_model.specs.declared.entry.Entry.{Entry}
 use Rattle.history_model.specs.declared.entry.Step.{Step}
-use Rattle.history_model.specs.declared.entry.Step.TheVariants.{Look, LostTurn, Met, SawRow, Turn}
+use Rattle.history_model.specs.declared.entry.Step.TheVariants.{Look, LostTurn, Met, SawRow, Seal, Start, Take, Turn}
+use Rattle.history_model.specs.declared.phase.EndKind.{EndKind}
 use Rattle.history_model.specs.declared.phase.Phase.{Phase}
 use Rattle.history_model.specs.declared.word.Word.{Word}
 use Rattle.history_model.specs.declared.word.Word.TheVariants.{Place, Row}
-use Rattle.leg_masks.specs.Interval.{most_legs}
+use Rattle.leg_masks.specs.Interval.{half_of, most_legs}
 use Rattle.leg_masks.specs.Interval.{PlacedSpan as Item}
 
 -- a seat, not spent, of these books
@@ -25,7 +27,7 @@ abbrev pub IsSeatOf : BooksView → Layout → Seat ℕ View → Type 0
 IsSeatOf books layout a = (a.table_id ≡ books.table) × (books.layout ≡ layout) × (a.me.0.spent ≡ false)
 
 -- what contracts see of a desk, by its seat and the row that it keeps
-abbrev pub desk_view : Seat ℕ View → Option ℕ → ℕ → DeskView
+abbrev pub desk_view : Seat ℕ View → Option RowNo → ℕ → DeskView
 desk_view a kept past = record { table = a.table_id; layout = a.me.0.plan; number = a.me.0.number; seen = a.me.0.seen; taken = a.me.0.taken; made = a.me.0.made; kept = kept; past = past }
 
 pub record IsSound (a : Seat ℕ View) : Type 0 where
@@ -47,6 +49,32 @@ seeing (Row r w) n = SawRow r w n
 abbrev pub either_step : ℕ → Step → Word → ℕ → Step
 either_step old hit at n = cond (eqb n old) hit (seeing at n)
 
+-- the step of a take, of a start and of a turn, by the number found
+abbrev pub take_step : ℕ → Item → ℕ → ℕ → Step
+take_step row i old n = either_step old (Take row i.place i.span) (Place i.place (half_of i.span)) n
+
+abbrev pub start_step : RowNo → ℕ → ℕ → Step
+start_step row old n = either_step old (Start row.row row.generation) (Row row.row 0) n
+
+-- the lost turn of a turn that wanted a word, by the word found
+abbrev pub lost : Step → ℕ → ℕ → Step
+lost (Turn r from to m x q) wanted n = LostTurn r wanted n
+lost _ wanted n = Met
+
+abbrev pub turn_step : ℕ → Step → ℕ → Step
+turn_step old hit n = cond (eqb n old) hit (lost hit old n)
+
+abbrev pub turn_step_from : Phase → RowNo → Step → ℕ → Step
+turn_step_from from row = turn_step (row_word_of from row.generation)
+
+-- no row below this one is free in what the desk has seen
+abbrev pub AreTaken : DeskView → ℕ → Type 0
+AreTaken desk row = (lower : ℕ) → lower < row → 1 ≤ stage (phase_of_row (state_seen desk) lower)
+
+-- the step is allowed in what the desk has seen
+abbrev pub MayStep : Layout → DeskView → Step → Type 0
+MayStep layout desk st = IsAllowedStep layout (state_of layout desk.seen) desk.number st
+
 -- The desk is of these books, and has seen a legal history of theirs. A row that it keeps is its own, without items, and no row
 -- below `past` is free. What the first desk has seen while it is alone is its own work.
 pub record IsOf (books : BooksView) (desk : DeskView) : Type 0 where
@@ -54,7 +82,7 @@ pub record IsOf (books : BooksView) (desk : DeskView) : Type 0 where
   pub layout : desk.layout ≡ books.layout
   pub legal : IsLegal desk.layout desk.seen
   pub kept : IfSome desk.kept (λ row. StandsFor desk (empty_hold row))
-  pub past : (row : ℕ) → row < desk.past → 1 ≤ stage (phase_of_row (state_of desk.layout desk.seen) row)
+  pub past : AreTaken desk desk.past
   pub within : desk.past ≤ desk.layout.rows
   pub work : desk.number ≡ 0 → desk.made ≡ 0 → IsOwnWork (state_of desk.layout desk.seen)
 
@@ -69,7 +97,8 @@ pub record Stepped (st : Step) (old new : DeskView) : Type 0 where
 
 -- the row is this seat's in the making, with room for an item
 abbrev pub CanTake : Layout → Seat ℕ View → ℕ → Type 0
-CanTake layout a r = (r < layout.rows) × OnRow (state_of layout a.me.0.seen) r (λ b. IsMadeBy a.me.0.number b × (length b.items < most_items))
+CanTake layout a r =
+    (r < layout.rows) × OnRow (state_of layout a.me.0.seen) r (λ b. IsMadeBy a.me.0.number b × (length b.items < most_items))
 
 -- a desk that has this number, has seen this, and has parted and taken in no other
 pub record IsNew (desk : DeskView) (n : ℕ) (h : List Entry) : Type 0 where
@@ -115,19 +144,23 @@ AddsAtMost n old new = length (own new.seen old.number) ≤ length (own old.seen
 abbrev pub CanNote : Layout → Seat ℕ View → ℕ → ℕ → Type 0
 CanNote layout a r w = (r < layout.rows) × OnRow (state_of layout a.me.0.seen) r (MayNote a.me.0.number w)
 
--- in what was seen the row is sealed, and the turn is allowed but for the row's phase
-abbrev pub CanTurn : Layout → List Entry → ℕ → ℕ → Phase → Phase → ℕ → ℤ → ℕ → Type 0
-CanTurn layout seen d r from to m x q = (r < layout.rows) × (is_turn from to ≡ true) × (m ≤ last_moment)
-    × OnRow (state_of layout seen) r (λ b. (is_sealed b.phase ≡ true) × TurnsWith (state_of layout seen) d (limit_of b) to m x q)
-
--- the lost turn of a turn, by the word found
-abbrev pub lost : Step → ℕ → Step
-lost (Turn r from to m x q) n = LostTurn r from (said_phase n)
-lost _ n = Met
-
-abbrev pub turn_step : ℕ → Step → ℕ → Step
-turn_step old hit n = cond (eqb n old) hit (lost hit n)
+-- In what was seen the booking stands, sealed, and the turn is allowed but for its phase. It need not be its row's present one
+abbrev pub CanTurn : Layout → List Entry → ℕ → RowNo → Phase → Phase → ℕ → ℤ → ℕ → Type 0
+CanTurn layout seen d row from to m x q =
+    (row.row < layout.rows) × (is_turn from to ≡ true) × (m ≤ last_moment)
+    × OnBooking (state_of layout seen) row (λ b. (is_sealed b.phase ≡ true) × TurnsWith (state_of layout seen) d (limit_of b) to m x q)
 
 -- the step is a turn that can be made
-abbrev pub IsTurning : Layout → List Entry → ℕ → ℕ → Phase → Phase → Step → Type 0
-IsTurning layout seen d r from to hit = (m : ℕ) × (x : ℤ) × (q : ℕ) × (hit ≡ Turn r from to m x q) × CanTurn layout seen d r from to m x q
+abbrev pub IsTurning : Layout → List Entry → ℕ → RowNo → Phase → Phase → Step → Type 0
+IsTurning layout seen d row from to hit =
+    (m : ℕ) × (x : ℤ) × (q : ℕ) × (hit ≡ Turn row.row from to m x q) × CanTurn layout seen d row from to m x q
+
+-- the seal is allowed in what was seen, and the row's present booking is of this generation
+abbrev pub CanSeal : Layout → List Entry → ℕ → RowNo → Phase → Type 0
+CanSeal layout seen d row phase = IsAllowedStep layout (state_of layout seen) d (Seal row.row phase)
+    × OnRow (state_of layout seen) row.row (λ b. b.generation ≡ row.generation)
+
+-- the row's present booking is this seat's, of this generation, ending in this way, and all that a close asks is done
+abbrev pub CanClose : Layout → List Entry → ℕ → RowNo → EndKind → Type 0
+CanClose layout seen d row kind =
+    OnRow (state_of layout seen) row.row (λ b. (b.generation ≡ row.generation) × IsEndedBy d kind b × AllGiven b × HasEndWords kind b)

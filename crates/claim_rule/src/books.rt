@@ -4,13 +4,13 @@ ghost use prog.Atomic.{either};
 ghost use Rattle.leg_masks.specs.Interval.{IsPiece, most_legs, most_places};
 ghost use Rattle.history_model.specs.Booking.{most_rows};
 ghost use Rattle.history_model.specs.Words.{IsWord, index};
-ghost use Rattle.claim_rule.specs.Rule.{Steps};
+ghost use Rattle.claim_rule.specs.Rule.{Found, Steps};
 ghost use Rattle.claim_rule.specs.Seats.{IsNew, IsSeatOf, HasMade, IsOf};
 ghost use Rattle.claim_rule.specs.Out.{IsTidy};
 
 use crate::desk::Desk;
 use crate::numbers::{number_of_place, number_of_row};
-use crate::rule::{Adds, OneHistory, Plan, Says, View};
+use crate::rule::{Adds, Finds, OneHistory, Plan, Says, View};
 use atomic_table::{Seat, Table};
 use history_model::entry::Step;
 use history_model::word::Word;
@@ -41,7 +41,10 @@ impl Model for Books {
 
     ghost view = { λ b. record { table = b.table.shared.table_id; layout = b.table.shared.key } };
 
-    ghost invariant = { λ b. (b.places ≡ length b.table.shared.key.legs) × (b.rows ≡ b.table.shared.key.rows) × (b.table.shared.table_id.words ≡ word_count b.table.shared.key) × (0 < length b.table.shared.key.legs) × (b.table.shared.table_id.slots ≡ 0) × (length b.table.shared.key.legs ≤ most_places) × All (λ n. n ≤ most_legs) b.table.shared.key.legs × (b.rows ≤ most_rows) };
+    ghost invariant = { λ b. (b.places ≡ length b.table.shared.key.legs) × (b.rows ≡ b.table.shared.key.rows)
+        × (b.table.shared.table_id.words ≡ word_count b.table.shared.key) × (0 < length b.table.shared.key.legs)
+        × (b.table.shared.table_id.slots ≡ 0) × (length b.table.shared.key.legs ≤ most_places)
+        × All (λ n. n ≤ most_legs) b.table.shared.key.legs × (b.rows ≤ most_rows) };
 }
 
 /// New books with a place for each number of legs, and their first desk. All words are 0, and the history is empty.
@@ -79,6 +82,7 @@ pub fn start_books(alloc: Global, legs: &[u8], rows: u32) -> Result<(Books, Desk
         },
     ))
 }
+
 
 impl Books {
     /// How many places there are: at most 4,194,304, each of at most 126 legs.
@@ -144,13 +148,15 @@ impl Books {
     ) -> u64
         requires own { IsSeatOf self.now N.layout seat.old }
         requires word { IsWord N.layout at }
+        requires at { at ≡ N.word }
         requires step { Steps N.layout seat.old.me.0 at (λ n. either (n == old) new n) N.step }
-        ensures { HasMade N.layout (N.step result) seat.old seat.new }
+        ensures made { HasMade N.layout (N.step result) seat.old seat.new }
+        ensures found { Found N.layout N.word result seat.old.me.0 seat.new.me.0 }
     {
         let word = self.number_of(at);
         self.table
             .shared
-            .compare_exchange::<Adds<N>>(seat, word, old, new)
+            .compare_exchange::<Finds<N>>(seat, word, old, new)
     }
 
     pub(crate) fn and_as<N: Says>(

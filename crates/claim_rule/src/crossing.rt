@@ -8,7 +8,8 @@ fn may_go<T: Send>() {}
 
 fn may_be_shared<T: Sync>() {}
 
-/// Books are shared by threads; a desk, a hold and an ending may go to one. It does nothing: that it is accepted is the proof.
+/// Books are shared by threads; a desk, a hold and an ending may go to one. It does nothing: that it is accepted is the
+/// proof.
 pub fn crosses() {
     may_go::<Books>();
     may_be_shared::<Books>();

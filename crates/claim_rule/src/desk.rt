@@ -1,11 +1,8 @@
 //! A desk, the empty row that it keeps, and how far it knows the rows to be taken.
-ghost use Rattle.std.specs.Prelude.{◌≡◌, ℕ, ◌<◌, ◌≤◌, [], Some, None, IfNone, IfSome};
-ghost use Rattle.history_model.specs.Booking.{phase_of_row};
-ghost use Rattle.history_model.specs.Laws.{stage};
-ghost use Rattle.history_model.specs.History.{state_of};
+ghost use Rattle.std.specs.Prelude.{◌≡◌, ◌≤◌, [], Some, None, IfNone, IfSome};
 ghost use Rattle.claim_rule.specs.Rule.{BooksView};
 ghost use Rattle.claim_rule.specs.Holds.{IsHoldOf, empty_hold};
-ghost use Rattle.claim_rule.specs.Seats.{IsOf};
+ghost use Rattle.claim_rule.specs.Seats.{IsOf, AreTaken};
 ghost use Rattle.claim_rule.specs.Out.{IsHolding, HoldsNone};
 
 use crate::hold::Hold;
@@ -15,11 +12,12 @@ use atomic_table::Seat;
 use rail_ids::RowNo;
 use std::marker::Model;
 
-/// A caller's token on the one table. Contracts see its number, what it has seen, and which desks it parted and took in.
+/// A caller's token on the one table. Contracts see its number, what it has seen, and which desks it parted and took
+/// in.
 #[derive(Drop)]
 pub struct Desk {
     pub(crate) seat: Seat<u64, View>,
-    pub(crate) kept: Option<u32>,
+    pub(crate) kept: Option<RowNo>,
     pub(crate) past: u32,
 }
 
@@ -36,21 +34,21 @@ impl Model for Desk {
 
 impl Desk {
     /// The first row that the desk has not seen taken yet.
-    pub fn past(&self) -> RowNo
-        ensures { result.0 ≡ self.now.past }
+    pub fn past(&self) -> u32
+        ensures { result ≡ self.now.past }
     {
-        RowNo(self.past)
+        self.past
     }
 
-    /// Remembers that no row below this one is free.
-    pub fn pass(&mut self, row: RowNo)
-        requires taken { (r : ℕ) → r < row.0 → 1 ≤ stage (phase_of_row (state_of self.old.layout self.old.seen) r) }
-        requires further { self.old.past ≤ row.0 }
-        requires within { row.0 ≤ self.old.layout.rows }
-        ensures past { self.new ≡ record self.old { past = row.0 } }
+    /// Remembers that no row below this one is free. None of them is ever free again.
+    pub fn pass(&mut self, row: u32)
+        requires taken { AreTaken self.old row }
+        requires further { self.old.past ≤ row }
+        requires within { row ≤ self.old.layout.rows }
+        ensures past { self.new ≡ record self.old { past = row } }
         ensures own { (books : BooksView) → IsOf books self.old → IsOf books self.new }
     {
-        self.past = row.0;
+        self.past = row;
     }
 
     /// Puts an empty row by.
@@ -70,7 +68,7 @@ impl Desk {
         ensures own { (books : BooksView) → IsOf books self.old → IsOf books self.new }
         ensures none { IfNone result (self.old.kept ≡ None) }
         ensures some { IfSome result (λ hold. (self.old.kept ≡ Some hold.row) × (hold ≡ empty_hold hold.row)) }
-        ensures holding { (books : BooksView) → IsOf books self.old → HoldsNone self.old → IfSome result (IsHolding self.new) }
+        ensures holding { (b : BooksView) → IsOf b self.old → HoldsNone self.old → IfSome result (IsHolding self.new) }
     {
         let row = self.kept?;
         self.kept = None;

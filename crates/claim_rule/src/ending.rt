@@ -2,15 +2,16 @@
 ghost use Rattle.std.specs.Prelude.{◌≡◌, ◌≢◌, ℕ, ◌<◌, length, ◌≤◌, ◌+◌, true, false, IfNone, IfSome};
 ghost use Rattle.leg_masks.specs.Interval.{Interval, IsItemOf};
 ghost use Rattle.history_model.specs.Booking.{most_items};
-ghost use Rattle.history_model.specs.Phase.{word_of_phase, said_phase};
 ghost use Rattle.history_model.specs.declared.phase.EndKind.{EndKind};
 ghost use Rattle.history_model.specs.declared.phase.Phase.TheVariants.{Ending as IsEndingPhase};
-ghost use Rattle.history_model.specs.declared.entry.Step.TheVariants.{Give, Note, Turn, LostTurn, Close};
-ghost use Rattle.history_model.specs.Allowed.{IsAllowedStep, IsEndWord, OnRow, IsEndedBy, AllGiven, HasEndWords};
-ghost use Rattle.history_model.specs.History.{state_of};
+ghost use Rattle.history_model.specs.declared.entry.Step.TheVariants.{Give, Note, Close};
+ghost use Rattle.history_model.specs.declared.word.Word.TheVariants.{Row};
+ghost use Rattle.history_model.specs.Allowed.{IsEndWord};
+ghost use Rattle.claim_rule.specs.Rule.{Found};
 ghost use Rattle.claim_rule.specs.Endings.{IsEndingOf, items_read, end_word as end_word_of};
-ghost use Rattle.claim_rule.specs.Turns.{HasTurned, IsTurnedTo};
-ghost use Rattle.claim_rule.specs.Seats.{CanTurn, IsTurning, turn_step, IsSeatOf, HasMade, IsOf, Stepped, Shape};
+ghost use Rattle.claim_rule.specs.Turns.{HasTurned, IsTurned, IsTurnLost, IsTurnedTo};
+ghost use Rattle.claim_rule.specs.Seats.{CanTurn, CanClose, IsTurning, turn_step_from, MayStep};
+ghost use Rattle.claim_rule.specs.Seats.{IsSeatOf, HasMade, IsOf, Stepped, Shape};
 ghost use Rattle.claim_rule.specs.Out.{EndsNone};
 
 use crate::books::Books;
@@ -20,15 +21,16 @@ use arrayvec::ArrayVec;
 use atomic_table::Seat;
 use history_model::booking::{End, FIRST_ITEM_WORD, MOST_ITEMS};
 use history_model::entry::Step;
-use history_model::phase::{EndKind, Phase, amount_word_of, phase_word};
+use history_model::phase::{EndKind, Phase, amount_word_of, row_word_of};
 use history_model::word::Word;
 use leg_masks::{Item, read_item};
 use rail_ids::RowNo;
 use std::marker::{Brand, Model};
 
-/// A row that a desk is ending, with the items that it gives back once they are read. It must be spent, by a close.
+/// A booking that a desk is ending, by its row and generation, with the items that it gives back once they are read. It
+/// must be spent, by a close.
 pub struct Ending {
-    pub(crate) row: u32,
+    pub(crate) row: RowNo,
     pub(crate) kind: EndKind,
     pub(crate) end: End,
     pub(crate) items: ArrayVec<Item, MOST_ITEMS>,
@@ -42,12 +44,20 @@ impl Model for Ending {
 
     ghost Value = { EndingView };
 
-    ghost view = { λ e. record { row = e.row; kind = e.kind; end = e.end; items = e.items.items; given = e.given; read = e.read } };
+    ghost view = { λ e. record {
+      row = e.row;
+      kind = e.kind;
+      end = e.end;
+      items = e.items.items;
+      given = e.given;
+      read = e.read;
+    } };
 
     ghost invariant = { λ e. e.given ≤ length e.items.items };
 }
 
-/// What a turn answers: it is made, and leaves an ending where it is one to an ending; or the word shown was not that of `from`.
+/// What a turn answers: it is made, and leaves an ending where it is one to an ending; or the word shown was not that
+/// of `from` and the generation.
 pub enum StepTurned {
     Won,
     Ending(Ending),
@@ -66,7 +76,7 @@ fn item_of(word: u64) -> Item
 }
 
 // What a turn that was made answers.
-fn turned_to(row: u32, to: Phase, end: End) -> StepTurned
+fn turned_to(row: RowNo, to: Phase, end: End) -> StepTurned
     ensures { IsTurnedTo row to end result }
 {
     match to {
@@ -83,11 +93,11 @@ fn turned_to(row: u32, to: Phase, end: End) -> StepTurned
 }
 
 impl Ending {
-    /// The row that is ending.
+    /// The row that is ending, with its generation.
     pub fn row(&self) -> RowNo
-        ensures { result.0 ≡ self.now.row }
+        ensures { result ≡ self.now.row }
     {
-        RowNo(self.row)
+        self.row
     }
 
     /// How many items are not given back yet.
@@ -104,7 +114,7 @@ impl Ending {
         ensures { result ≡ end_word_of self.now.kind self.now.end word }
     {
         if word == 5 {
-            return u64::from(self.end.successor);
+            return self.end.successor;
         }
         if word == 6 {
             return amount_word_of(self.kind, self.end.amount);
@@ -114,7 +124,7 @@ impl Ending {
 }
 
 impl Books {
-    /// Turns the phase of a row, or is shown another.
+    /// Turns the phase of a booking, or is shown another word of its row.
     pub fn step_turn(
         &self,
         desk: &mut Desk,
@@ -123,22 +133,22 @@ impl Books {
         to: Phase,
         moment: u64,
         amount: i64,
-        successor: u32,
+        successor: u64,
     ) -> StepTurned
         requires own { IsOf self.now desk.old }
-        requires turn { CanTurn self.now.layout desk.old.seen desk.old.number row.0 from to moment amount successor }
+        requires turn { CanTurn self.now.layout desk.old.seen desk.old.number row from to moment amount successor }
         requires none { (kind : EndKind) → to ≡ IsEndingPhase kind → EndsNone desk.old }
         ensures own { IsOf self.now desk.new }
-        ensures turned { HasTurned row.0 from to moment amount successor desk.old desk.new result }
+        ensures turned { HasTurned row from to moment amount successor desk.old desk.new result }
     {
         let end = End {
             moment,
             amount,
             successor,
         };
-        match self.turn_row(desk, row.0, from, to, moment, amount, successor) {
+        match self.turn_row(desk, row, from, to, moment, amount, successor) {
             Some(shown) => StepTurned::Missed { shown },
-            None => turned_to(row.0, to, end),
+            None => turned_to(row, to, end),
         }
     }
 
@@ -146,22 +156,22 @@ impl Books {
     fn turn_row(
         &self,
         desk: &mut Desk,
-        row: u32,
+        row: RowNo,
         from: Phase,
         to: Phase,
         moment: u64,
         amount: i64,
-        successor: u32,
+        successor: u64,
     ) -> Option<u64>
         requires own { IsOf self.now desk.old }
         requires turn { CanTurn self.now.layout desk.old.seen desk.old.number row from to moment amount successor }
         ensures own { IsOf self.now desk.new }
-        ensures turned { IfNone result (Stepped (Turn row from to moment amount successor) desk.old desk.new) }
-        ensures lost { IfSome result (λ n. (n ≢ word_of_phase from) × Stepped (LostTurn row from (said_phase n)) desk.old desk.new) }
+        ensures turned { IfNone result (IsTurned row from to moment amount successor desk.old desk.new) }
+        ensures lost { IfSome result (λ n. IsTurnLost row from n desk.old desk.new) }
     {
-        let old = phase_word(from);
+        let old = row_word_of(from, row.generation);
         let hit = Step::Turn {
-            row,
+            row: row.row,
             from,
             to,
             moment,
@@ -178,18 +188,19 @@ impl Books {
     fn turn_at(
         &self,
         seat: &mut Seat<u64, View>,
-        row: u32,
+        row: RowNo,
         from: Phase,
         to: Phase,
         hit: Step,
     ) -> u64
         requires own { IsSeatOf self.now self.now.layout seat.old }
         requires turn { IsTurning self.now.layout seat.old.me.0.seen seat.old.me.0.number row from to hit }
-        ensures { HasMade self.now.layout (turn_step (word_of_phase from) hit result) seat.old seat.new }
+        ensures made { HasMade self.now.layout (turn_step_from from row hit result) seat.old seat.new }
+        ensures found { Found self.now.layout (Row row.row 0) result seat.old.me.0 seat.new.me.0 }
     {
-        let old = phase_word(from);
-        let new = phase_word(to);
-        self.exchange_as::<Brand>(seat, Word::Row(row, 0), old, new, hit)
+        let old = row_word_of(from, row.generation);
+        let new = row_word_of(to, row.generation);
+        self.exchange_as::<Brand>(seat, Word::Row(row.row, 0), old, new, hit)
     }
 
     /// Reads the items that the ending is to give back.
@@ -200,7 +211,7 @@ impl Books {
         ensures own { IsOf self.now desk.new }
         ensures ending { IsEndingOf desk.new ending.new }
         ensures read { ending.new ≡ record ending.old { items = ending.new.items; read = true } }
-        ensures seen { Shape desk.old desk.new (items_read ending.old.row ending.new.items) }
+        ensures seen { Shape desk.old desk.new (items_read ending.old.row.row ending.new.items) }
         ensures few { length ending.new.items ≤ most_items }
         ensures kept { desk.new.kept ≡ desk.old.kept }
     {
@@ -214,12 +225,12 @@ impl Books {
         requires unread { (ending.now.read ≡ false) × (ending.now.given ≡ 0) }
         ensures own { IsOf self.now desk.new }
         ensures ending { IsEndingOf desk.new record ending.now { items = result.items; read = true } }
-        ensures seen { Shape desk.old desk.new (items_read ending.now.row result.items) }
+        ensures seen { Shape desk.old desk.new (items_read ending.now.row.row result.items) }
         ensures few { length result.items ≤ most_items }
         ensures kept { desk.new.kept ≡ desk.old.kept }
     {
         let _ = &self.table;
-        let row = RowNo(ending.row);
+        let row = ending.row;
         let count = self.step_read(desk, row, 4) as u8;
         let mut items = ArrayVec::new();
         for i in 0..count {
@@ -238,10 +249,10 @@ impl Books {
         ensures own { IsOf self.now desk.new }
         ensures ending { IsEndingOf desk.new ending.new }
         ensures one { ending.new ≡ record ending.old { given = ending.old.given + 1 } }
-        ensures given { Stepped (Give ending.old.row ending.old.given) desk.old desk.new }
+        ensures given { Stepped (Give ending.old.row.row ending.old.given) desk.old desk.new }
     {
         let item = ending.items[ending.given as usize];
-        self.undo_at(&mut desk.seat, ending.row, ending.given, item);
+        self.undo_at(&mut desk.seat, ending.row.row, ending.given, item);
         ending.given += 1;
     }
 
@@ -252,18 +263,18 @@ impl Books {
         requires word { IsEndWord word }
         ensures own { IsOf self.now desk.new }
         ensures ending { IsEndingOf desk.new ending.new × (ending.new ≡ ending.old) }
-        ensures noted { Stepped (Note ending.old.row word value) desk.old desk.new }
+        ensures noted { Stepped (Note ending.old.row.row word value) desk.old desk.new }
     {
-        self.note_at(&mut desk.seat, ending.row, word, value);
+        self.note_at(&mut desk.seat, ending.row.row, word, value);
     }
 
     /// Closes the ending's row.
     pub fn step_close(&self, desk: &mut Desk, ending: Ending)
         requires own { IsOf self.now desk.old }
         requires ending { IsEndingOf desk.old ending }
-        requires ready { IsAllowedStep self.now.layout (state_of self.now.layout desk.old.seen) desk.old.number (Close ending.row) }
+        requires ready { MayStep self.now.layout desk.old (Close ending.row.row) }
         ensures own { IsOf self.now desk.new }
-        ensures closed { Stepped (Close ending.row) desk.old desk.new }
+        ensures closed { Stepped (Close ending.row.row) desk.old desk.new }
     {
         let Ending {
             row,
@@ -276,14 +287,15 @@ impl Books {
         self.close_at(&mut desk.seat, row, kind);
     }
 
-    fn close_at(&self, seat: &mut Seat<u64, View>, row: u32, kind: EndKind)
+    fn close_at(&self, seat: &mut Seat<u64, View>, row: RowNo, kind: EndKind)
         requires own { IsSeatOf self.now self.now.layout seat.old }
-        requires row { row < self.now.layout.rows }
-        requires ready { OnRow (state_of self.now.layout seat.old.me.0.seen) row (λ b. IsEndedBy seat.old.me.0.number kind b × AllGiven b × HasEndWords kind b) }
-        ensures { HasMade self.now.layout (Close row) seat.old seat.new }
+        requires row { row.row < self.now.layout.rows }
+        requires ready { CanClose self.now.layout seat.old.me.0.seen seat.old.me.0.number row kind }
+        ensures { HasMade self.now.layout (Close row.row) seat.old seat.new }
     {
-        let old = phase_word(Phase::Ending(kind));
-        let new = phase_word(Phase::Ended(kind));
-        self.exchange_as::<Brand>(seat, Word::Row(row, 0), old, new, Step::Close { row });
+        let old = row_word_of(Phase::Ending(kind), row.generation);
+        let new = row_word_of(Phase::Ended(kind), row.generation);
+        let closed = Step::Close { row: row.row };
+        self.exchange_as::<Brand>(seat, Word::Row(row.row, 0), old, new, closed);
     }
 }

@@ -1,17 +1,16 @@
 //! A hold, and the steps of its maker: start, take, give back the last item, note and seal.
-ghost use Rattle.std.specs.Prelude.{◌≡◌, ◌≢◌, ◌<◌, ◌≤◌, length, ◌+◌, bit_and, None, IfNone, IfSome};
-ghost use Rattle.leg_masks.specs.Interval.{IsClear, half_of as spec_half_of};
+ghost use Rattle.std.specs.Prelude.{◌≡◌, ◌≢◌, ◌<◌, ◌≤◌, length, None, IfNone, IfSome};
+ghost use Rattle.leg_masks.specs.Interval.{IsClear};
 ghost use Rattle.leg_masks.specs.Interval.{PlacedSpan as Item};
 ghost use Rattle.history_model.specs.Booking.{most_items};
-ghost use Rattle.history_model.specs.declared.entry.Step.TheVariants.{Take, Give, Start, Note, Seal};
-ghost use Rattle.history_model.specs.declared.word.Word.TheVariants.{Place, Row};
-ghost use Rattle.history_model.specs.Looks.{look_at};
-ghost use Rattle.history_model.specs.Allowed.{IsAllowedStep, IsMakerWord};
-ghost use Rattle.history_model.specs.History.{state_of};
+ghost use Rattle.history_model.specs.declared.entry.Step.TheVariants.{Give, Note, Seal};
+ghost use Rattle.history_model.specs.Allowed.{IsMakerWord};
 ghost use Rattle.claim_rule.specs.Holds.{IsHoldOf, IsItem, with_one};
-ghost use Rattle.claim_rule.specs.Seats.{CanTake, CanGive, CanNote, either_step, IsSeatOf, HasMade, IsOf, Stepped};
+ghost use Rattle.claim_rule.specs.Seats.{CanTake, CanGive, CanNote, CanSeal, MayStep, take_step, start_step};
+ghost use Rattle.claim_rule.specs.Seats.{IsSeatOf, HasMade, IsOf, Stepped};
 ghost use Rattle.claim_rule.specs.Out.{HoldsNone};
-ghost use Rattle.claim_rule.specs.Starts.{HasStarted};
+ghost use Rattle.claim_rule.specs.Starts.{HasStarted, MayExpect};
+ghost use Rattle.claim_rule.specs.Takes.{HasTaken, HasMissed};
 
 use crate::books::Books;
 use crate::desk::Desk;
@@ -20,15 +19,16 @@ use arrayvec::ArrayVec;
 use atomic_table::Seat;
 use history_model::booking::MOST_ITEMS;
 use history_model::entry::Step;
-use history_model::phase::{Phase, phase_word};
+use history_model::phase::{Phase, row_word_of};
 use history_model::word::Word;
 use leg_masks::{Item, half_of, mask_of};
 use rail_ids::RowNo;
 use std::marker::{Brand, Model};
 
-/// A row of a desk in the making, with the items that it has taken. It must be spent: by `keep`, or by a seal.
+/// A booking of a desk in the making, by its row and generation, with the items that it has taken. It must be spent: by
+/// `keep`, or by a seal.
 pub struct Hold {
-    pub(crate) row: u32,
+    pub(crate) row: RowNo,
     pub(crate) items: ArrayVec<Item, MOST_ITEMS>,
 }
 
@@ -40,18 +40,18 @@ impl Model for Hold {
     ghost view = { λ h. record { row = h.row; items = h.items.items } };
 }
 
-/// What a start answers: the hold of the row, or the word other than 0 that was shown.
+/// What a start answers: the hold of the row, or the word that was shown, which is another than the expected one.
 pub enum Started {
     Won(Hold),
     Missed { shown: u64 },
 }
 
 impl Hold {
-    /// The row in the making.
+    /// The row in the making, with its generation.
     pub fn row(&self) -> RowNo
-        ensures { result.0 ≡ self.now.row }
+        ensures { result ≡ self.now.row }
     {
-        RowNo(self.row)
+        self.row
     }
 
     /// The items held.
@@ -79,10 +79,10 @@ impl Books {
         requires free { IsClear expected item.span }
         ensures own { IsOf self.now desk.new }
         ensures hold { IsHoldOf desk.new hold.new }
-        ensures won { IfNone result (Stepped (Take hold.old.row item.place item.span) desk.old desk.new × (hold.new ≡ with_one hold.old item)) }
-        ensures missed { IfSome result (λ n. (n ≢ expected) × Stepped (look_at item.place item.span n) desk.old desk.new × (hold.new ≡ hold.old)) }
+        ensures won { IfNone result (HasTaken item desk.old hold.old desk.new hold.new) }
+        ensures missed { IfSome result (λ n. HasMissed item expected n desk.old hold.old desk.new hold.new) }
     {
-        let found = self.take_at(&mut desk.seat, hold.row, &item, expected);
+        let found = self.take_at(&mut desk.seat, hold.row.row, &item, expected);
         if found != expected {
             return Some(found);
         }
@@ -95,7 +95,7 @@ impl Books {
         requires row { CanTake self.now.layout seat.old row }
         requires item { IsItem self.now.layout item.now }
         requires free { IsClear expected item.now.span }
-        ensures { HasMade self.now.layout (either_step expected (Take row item.now.place item.now.span) (Place item.now.place (spec_half_of item.now.span)) result) seat.old seat.new }
+        ensures { HasMade self.now.layout (take_step row item.now expected result) seat.old seat.new }
     {
         let taken = Step::Take {
             row,
@@ -103,8 +103,8 @@ impl Books {
             span: item.span,
         };
         let new = expected | mask_of(item.span);
-        let word = Word::Place(item.place, half_of(item.span));
-        self.exchange_as::<Brand>(seat, word, expected, new, taken)
+        let at = Word::Place(item.place, half_of(item.span));
+        self.exchange_as::<Brand>(seat, at, expected, new, taken)
     }
 
     /// Gives the hold's last item back.
@@ -114,14 +114,14 @@ impl Books {
         requires some { 0 < length hold.old.items }
         ensures own { IsOf self.now desk.new }
         ensures hold { IsHoldOf desk.new hold.new }
-        ensures given { Stepped (Give hold.old.row (length hold.new.items)) desk.old desk.new }
+        ensures given { Stepped (Give hold.old.row.row (length hold.new.items)) desk.old desk.new }
         ensures last { (i : Item) × (hold.old ≡ with_one hold.new i) }
     {
         let Some(item) = hold.items.pop() else {
             unreachable!()
         };
         let left = hold.items.len() as u8;
-        self.undo_at(&mut desk.seat, hold.row, left, item);
+        self.undo_at(&mut desk.seat, hold.row.row, left, item);
     }
 
     pub(crate) fn undo_at(&self, seat: &mut Seat<u64, View>, row: u32, left: u8, item: Item)
@@ -134,33 +134,38 @@ impl Books {
         self.and_as::<Brand>(seat, word, kept, Step::Give { row, item: left });
     }
 
-    /// Starts a row, or looks at its phase where it isn't free.
-    pub fn step_start(&self, desk: &mut Desk, row: RowNo) -> Started
+    /// Starts this generation of a row, where word 0 of the row is the expected one, or looks at that word.
+    pub fn step_start(&self, desk: &mut Desk, row: RowNo, expected: u64) -> Started
         requires own { IsOf self.now desk.old }
         requires kept { desk.old.kept ≡ None }
         requires none { HoldsNone desk.old }
-        requires row { row.0 < self.now.layout.rows }
+        requires row { row.row < self.now.layout.rows }
+        requires expected { MayExpect row expected }
         ensures own { IsOf self.now desk.new }
-        ensures started { HasStarted row.0 desk.old desk.new result }
+        ensures started { HasStarted row expected desk.old desk.new result }
     {
-        let found = self.start_at(&mut desk.seat, row.0);
-        if found != 0 {
+        let found = self.start_at(&mut desk.seat, row, expected);
+        if found != expected {
             return Started::Missed { shown: found };
         }
         Started::Won(Hold {
-            row: row.0,
+            row,
             items: ArrayVec::new(),
         })
     }
 
-    fn start_at(&self, seat: &mut Seat<u64, View>, row: u32) -> u64
+    fn start_at(&self, seat: &mut Seat<u64, View>, row: RowNo, expected: u64) -> u64
         requires own { IsSeatOf self.now self.now.layout seat.old }
-        requires row { row < self.now.layout.rows }
-        ensures { HasMade self.now.layout (either_step 0 (Start row) (Row row 0) result) seat.old seat.new }
+        requires row { row.row < self.now.layout.rows }
+        requires expected { MayExpect row expected }
+        ensures { HasMade self.now.layout (start_step row expected result) seat.old seat.new }
     {
-        let free = phase_word(Phase::Free);
-        let making = phase_word(Phase::Making);
-        self.exchange_as::<Brand>(seat, Word::Row(row, 0), free, making, Step::Start { row })
+        let making = row_word_of(Phase::Making, row.generation);
+        let started = Step::Start {
+            row: row.row,
+            generation: row.generation,
+        };
+        self.exchange_as::<Brand>(seat, Word::Row(row.row, 0), expected, making, started)
     }
 
     /// Notes a word of the hold's row.
@@ -170,9 +175,9 @@ impl Books {
         requires word { IsMakerWord word }
         ensures own { IsOf self.now desk.new }
         ensures hold { IsHoldOf desk.new hold.new × (hold.new ≡ hold.old) }
-        ensures noted { Stepped (Note hold.old.row word value) desk.old desk.new }
+        ensures noted { Stepped (Note hold.old.row.row word value) desk.old desk.new }
     {
-        self.note_at(&mut desk.seat, hold.row, word, value);
+        self.note_at(&mut desk.seat, hold.row.row, word, value);
     }
 
     pub(crate) fn note_at(&self, seat: &mut Seat<u64, View>, row: u32, word: u8, value: u64)
@@ -184,33 +189,31 @@ impl Books {
         self.store_as::<Brand>(seat, Word::Row(row, word), value, step);
     }
 
-    /// Seals the hold's row.
+    /// Seals the hold's booking.
     pub fn step_seal(&self, desk: &mut Desk, hold: Hold, phase: Phase) -> RowNo
         requires own { IsOf self.now desk.old }
         requires hold { IsHoldOf desk.old hold }
-        requires ready { IsAllowedStep self.now.layout (state_of self.now.layout desk.old.seen) desk.old.number (Seal hold.row phase) }
+        requires ready { MayStep self.now.layout desk.old (Seal hold.row.row phase) }
         ensures own { IsOf self.now desk.new }
-        ensures sealed { Stepped (Seal hold.row phase) desk.old desk.new }
-        ensures row { result.0 ≡ hold.row }
+        ensures sealed { Stepped (Seal hold.row.row phase) desk.old desk.new }
+        ensures row { result ≡ hold.row }
     {
         let Hold { row, items: _ } = hold;
         self.seal_at(&mut desk.seat, row, phase);
-        RowNo(row)
+        row
     }
 
-    fn seal_at(&self, seat: &mut Seat<u64, View>, row: u32, phase: Phase)
+    fn seal_at(&self, seat: &mut Seat<u64, View>, row: RowNo, phase: Phase)
         requires own { IsSeatOf self.now self.now.layout seat.old }
-        requires ready { IsAllowedStep self.now.layout (state_of self.now.layout seat.old.me.0.seen) seat.old.me.0.number (Seal row phase) }
-        ensures { HasMade self.now.layout (Seal row phase) seat.old seat.new }
+        requires ready { CanSeal self.now.layout seat.old.me.0.seen seat.old.me.0.number row phase }
+        ensures { HasMade self.now.layout (Seal row.row phase) seat.old seat.new }
     {
-        let making = phase_word(Phase::Making);
-        let new = phase_word(phase);
-        self.exchange_as::<Brand>(
-            seat,
-            Word::Row(row, 0),
-            making,
-            new,
-            Step::Seal { row, phase },
-        );
+        let making = row_word_of(Phase::Making, row.generation);
+        let new = row_word_of(phase, row.generation);
+        let sealed = Step::Seal {
+            row: row.row,
+            phase,
+        };
+        self.exchange_as::<Brand>(seat, Word::Row(row.row, 0), making, new, sealed);
     }
 }

@@ -16,7 +16,8 @@ use std::marker::Brand;
 use std::snapshot::Snapshot;
 
 impl Books {
-    /// A further desk, which has seen what the first desk has now seen. A hold or an ending that the first desk has out stays out.
+    /// A further desk, which has seen what the first desk has now seen. A hold or an ending that the first desk has out
+    /// stays out.
     pub fn part(&self, desk: &mut Desk) -> Desk
         requires own { IsOf self.now desk.old }
         requires first { desk.old.number ≡ 0 }

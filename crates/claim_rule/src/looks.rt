@@ -23,13 +23,13 @@ impl Books {
         self.load_as::<Brand>(&mut desk.seat, Word::Place(place.0, half))
     }
 
-    /// Looks at a word of a row.
+    /// Looks at a word of a row. The generation is nothing to it.
     pub fn step_read(&self, desk: &mut Desk, row: RowNo, word: u8) -> u64
         requires own { IsOf self.now desk.old }
-        requires row { (row.0 < self.now.layout.rows) × (word < row_words) }
+        requires row { (row.row < self.now.layout.rows) × (word < row_words) }
         ensures own { IsOf self.now desk.new }
-        ensures look { Stepped (SawRow row.0 word result) desk.old desk.new }
+        ensures look { Stepped (SawRow row.row word result) desk.old desk.new }
     {
-        self.load_as::<Brand>(&mut desk.seat, Word::Row(row.0, word))
+        self.load_as::<Brand>(&mut desk.seat, Word::Row(row.row, word))
     }
 }

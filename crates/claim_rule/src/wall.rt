@@ -9,7 +9,7 @@ use crate::numbers::{number_of_place, number_of_row};
 use atomic_table::Closed;
 use history_model::booking::ROW_WORDS;
 use leg_masks::HALVES;
-use rail_ids::{PlaceNo, RowNo};
+use rail_ids::PlaceNo;
 use std::alloc::Global;
 use std::marker::Model;
 
@@ -30,14 +30,19 @@ impl Model for Wall {
 
     ghost Value = { WallView };
 
-    ghost view = { λ w. record { layout = w.chronicle.view.plan; words = slots_items w.closed.words; history = w.chronicle.view.history } };
+    ghost view = { λ w. record {
+      layout = w.chronicle.view.plan;
+      words = slots_items w.closed.words;
+      history = w.chronicle.view.history;
+    } };
 
-    ghost invariant = { λ w. (w.places ≡ length w.chronicle.view.plan.legs) × (w.rows ≡ w.chronicle.view.plan.rows) × IsFull w.closed.words × (slots_len w.closed.words ≡ halves * w.places + row_words * w.rows) × (slots_len w.closed.slots ≡ 0) };
+    ghost invariant = { λ w. (w.places ≡ length w.chronicle.view.plan.legs) × (w.rows ≡ w.chronicle.view.plan.rows) × IsFull w.closed.words
+        × (slots_len w.closed.words ≡ halves * w.places + row_words * w.rows) × (slots_len w.closed.slots ≡ 0) };
 }
 
 impl Wall {
-    /// The word of a half of a place. Bit b of half 0 is set where leg b is taken, of half 1 where leg b + 63 is. `None`
-    /// exactly where there is no such place or half.
+    /// The word of a half of a place. Bit b of half 0 is set where leg b is taken, of half 1 where leg b + 63 is.
+    /// `None` exactly where there is no such place or half.
     pub fn place_word(&self, place: PlaceNo, half: u8) -> Option<u64>
         ensures there { IsSome result ↔ ((place.0 < length self.now.layout.legs) × (half < halves)) }
         ensures word { IfSome result (λ n. slice_get self.now.words (place_number place.0 half) ≡ Some n) }
@@ -52,17 +57,17 @@ impl Wall {
     }
 
     /// A word of a row.
-    pub fn row_word(&self, row: RowNo, word: u8) -> Option<u64>
-        ensures there { IsSome result ↔ ((row.0 < self.now.layout.rows) × (word < row_words)) }
-        ensures word { IfSome result (λ n. slice_get self.now.words (row_number self.now.layout row.0 word) ≡ Some n) }
+    pub fn row_word(&self, row: u32, word: u8) -> Option<u64>
+        ensures there { IsSome result ↔ ((row < self.now.layout.rows) × (word < row_words)) }
+        ensures word { IfSome result (λ n. slice_get self.now.words (row_number self.now.layout row word) ≡ Some n) }
     {
-        if row.0 >= self.rows {
+        if row >= self.rows {
             return None;
         }
         if usize::from(word) >= ROW_WORDS {
             return None;
         }
-        Some(self.closed.word(number_of_row(self.places, row.0, word)))
+        Some(self.closed.word(number_of_row(self.places, row, word)))
     }
 }
 

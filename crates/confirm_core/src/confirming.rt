@@ -11,18 +11,19 @@ use claim_rule::{Books, Desk};
 use history_model::phase::Phase;
 use rail_ids::{RetailerNo, RowNo};
 use rail_time::Moment;
-use row_decisions::{is_sealed, look_limit, look_phase, look_retailer};
+use row_decisions::{is_sealed, look_phase, look_word};
 
 /// What came of confirming.
 #[derive(Clone, Copy, Debug, PartialEq, Eq)]
 pub enum Confirmed {
     /// The booking is confirmed by this call.
     Done,
-    /// The row is past the last, or its look shows it free, in the making, or another retailer's.
+    /// The row is past the last, or its look shows the booking free, in the making, or another retailer's; or the second look, or the
+    /// lost turn of this call, shows it free.
     Unknown,
     /// The look shows the booking prebooked, and now is after its limit.
     TooLate { limit: Moment },
-    /// The look, or the lost turn of this call, shows another phase than prebooked.
+    /// The look, or the lost turn of this call, shows another phase than prebooked, and no look shows it free.
     WrongState { shown: Phase },
 }
 
@@ -36,7 +37,7 @@ pub fn confirm(
 ) -> Confirmed
     requires own { IsOf books.now desk.old }
     ensures own { IsOf books.now desk.new }
-    ensures entries { ShapeBy (Confirms books.now.layout.rows row.0 retailer.0 now result) desk.old desk.new }
+    ensures entries { ShapeBy (Confirms books.now.layout.rows row retailer.0 now result) desk.old desk.new }
     ensures holds { KeepsHolds desk.old desk.new }
     ensures endings { KeepsEndings desk.old desk.new }
     ensures bound { AddsAtMost 6 desk.old desk.new }
@@ -53,7 +54,10 @@ pub fn confirm(
     }
     match turn(books, desk, row, Phase::Prebooked, Aim::Confirm { now }) {
         Turned::Won => Confirmed::Done,
-        Turned::Lost { shown } => Confirmed::WrongState { shown },
+        Turned::Lost { shown } => match shown {
+            Phase::Free => Confirmed::Unknown,
+            _ => Confirmed::WrongState { shown },
+        },
         Turned::Ending(_ending) => unreachable!(),
     }
 }
@@ -65,26 +69,33 @@ struct Terms {
     limit: Moment,
 }
 
-// The phase and the limit of this retailer's booking.
+// The phase and the limit of this retailer's booking, by looks at them and at its phase again.
 fn find_terms(books: &Books, desk: &mut Desk, row: RowNo, retailer: RetailerNo) -> Option<Terms>
     requires own { IsOf books.now desk.old }
     ensures own { IsOf books.now desk.new }
-    ensures entries { ShapeBy (FindsTerms books.now.layout.rows row.0 retailer.0 result) desk.old desk.new }
-    ensures limit { IfSome result (λ terms. HasLimit desk.new row.0 terms.limit) }
+    ensures entries { ShapeBy (FindsTerms books.now.layout.rows row retailer.0 result) desk.old desk.new }
+    ensures limit { IfSome result (λ terms. HasLimit desk.new row terms.limit) }
     ensures holds { KeepsHolds desk.old desk.new }
     ensures endings { KeepsEndings desk.old desk.new }
 {
-    if row.0 >= books.rows() {
+    if row.row >= books.rows() {
         return None;
     }
     let shown = look_phase(books, desk, row);
     if !is_sealed(shown) {
         return None;
     }
-    let owner = look_retailer(books, desk, row);
-    let limit = look_limit(books, desk, row);
-    if owner.0 != retailer.0 {
+    let owner = look_word(books, desk, row, 1);
+    let limit = look_word(books, desk, row, 2);
+    let last = look_phase(books, desk, row);
+    if let Phase::Free = last {
         return None;
     }
-    Some(Terms { shown, limit })
+    if owner != u64::from(retailer.0) {
+        return None;
+    }
+    match Moment::of(limit) {
+        Some(limit) => Some(Terms { shown, limit }),
+        None => unreachable!(),
+    }
 }

@@ -15,9 +15,10 @@ use row_decisions::find_owned;
 pub enum Fulfilment {
     /// The ticket is collected by this call.
     Done,
-    /// The row is past the last, or its look shows it free, in the making, or another retailer's.
+    /// The row is past the last, or its look shows the booking free, in the making, or another retailer's; or the second look, or the
+    /// lost turn of this call, shows it free.
     Unknown,
-    /// The look, or the lost turn of this call, shows another phase than confirmed.
+    /// The look, or the lost turn of this call, shows another phase than confirmed, and no look shows it free.
     WrongState { shown: Phase },
 }
 
@@ -25,7 +26,7 @@ pub enum Fulfilment {
 pub fn fulfil(books: &Books, desk: &mut Desk, row: RowNo, retailer: RetailerNo) -> Fulfilment
     requires own { IsOf books.now desk.old }
     ensures own { IsOf books.now desk.new }
-    ensures entries { ShapeBy (Fulfils books.now.layout.rows row.0 retailer.0 result) desk.old desk.new }
+    ensures entries { ShapeBy (Fulfils books.now.layout.rows row retailer.0 result) desk.old desk.new }
     ensures holds { KeepsHolds desk.old desk.new }
     ensures endings { KeepsEndings desk.old desk.new }
     ensures bound { AddsAtMost 6 desk.old desk.new }
@@ -38,7 +39,10 @@ pub fn fulfil(books: &Books, desk: &mut Desk, row: RowNo, retailer: RetailerNo) 
     };
     match turn(books, desk, row, Phase::Confirmed, Aim::Fulfil) {
         Turned::Won => Fulfilment::Done,
-        Turned::Lost { shown } => Fulfilment::WrongState { shown },
+        Turned::Lost { shown } => match shown {
+            Phase::Free => Fulfilment::Unknown,
+            _ => Fulfilment::WrongState { shown },
+        },
         Turned::Ending(_ending) => unreachable!(),
     }
 }

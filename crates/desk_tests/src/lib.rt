@@ -2,6 +2,8 @@
 #![tactic(auto)]
 
 #[cfg(test)]
+mod given_away;
+#[cfg(test)]
 mod holds;
 #[cfg(test)]
 mod looks;

@@ -57,7 +57,7 @@ fn close_hold(books: &Books, desk: &mut Desk, mut hold: Hold, limit: Moment) -> 
     requires one { length hold.items ≡ 1 }
     ensures own { IsOf books.now desk.new }
     ensures none { HoldsNone desk.new }
-    ensures row { result.0 < books.now.layout.rows }
+    ensures row { result.row < books.now.layout.rows }
     ensures number { desk.new.number ≡ desk.old.number }
     ensures endings { KeepsEndings desk.old desk.new }
 {
@@ -72,7 +72,7 @@ fn close_hold(books: &Books, desk: &mut Desk, mut hold: Hold, limit: Moment) -> 
 }
 
 // Books the legs of a place.
-fn book(
+pub(crate) fn book(
     rt: &impl Abort,
     books: &Books,
     desk: &mut Desk,
@@ -87,7 +87,7 @@ fn book(
     requires legs { span.to ≤ slice_index books.now.layout.legs place.0 }
     ensures own { IsOf books.now desk.new }
     ensures none { HoldsNone desk.new }
-    ensures row { result.0 < books.now.layout.rows }
+    ensures row { result.row < books.now.layout.rows }
     ensures number { desk.new.number ≡ desk.old.number }
     ensures endings { KeepsEndings desk.old desk.new }
 {
@@ -101,7 +101,7 @@ fn book(
 }
 
 // New books with two places of three legs and two rows, and two desks.
-fn two_desks(alloc: Global) -> Result<(Books, Desk, Desk), AllocError>
+pub(crate) fn two_desks(alloc: Global) -> Result<(Books, Desk, Desk), AllocError>
     ensures own { IfOk result (λ t. IsOf t.0 t.1 × IsOf t.0 t.2) }
     ensures idle { IfOk result (λ t. IsIdle t.1 × IsIdle t.2) }
     ensures other { IfOk result (λ t. t.2.number ≢ 0) }
@@ -113,7 +113,7 @@ fn two_desks(alloc: Global) -> Result<(Books, Desk, Desk), AllocError>
 }
 
 // The span of these legs.
-fn span(rt: &impl Abort, from: u8, to: u8) -> Span
+pub(crate) fn span(rt: &impl Abort, from: u8, to: u8) -> Span
     ensures span { result ≡ record { from = from; to = to } }
 {
     match Span::new(from, to) {
@@ -123,7 +123,7 @@ fn span(rt: &impl Abort, from: u8, to: u8) -> Span
 }
 
 // The moment of these seconds.
-fn moment(rt: &impl Abort, seconds: u64) -> Moment
+pub(crate) fn moment(rt: &impl Abort, seconds: u64) -> Moment
     ensures moment { result ≡ seconds }
 {
     match Moment::of(seconds) {
@@ -142,7 +142,19 @@ fn two_desks_by_part(rt: HostRuntime) -> Result<(), Fail> {
     let limit = moment(&rt, 900);
     let one = book(&rt, &books, &mut first, PlaceNo(0), front, limit);
     let two = book(&rt, &books, &mut second, PlaceNo(0), back, limit);
-    assert_eq!(rt; (one, two), (RowNo(0), RowNo(1)));
+    assert_eq!(rt;
+        (one, two),
+        (
+            RowNo {
+                row: 0,
+                generation: 0
+            },
+            RowNo {
+                row: 1,
+                generation: 0
+            }
+        )
+    );
     if let Some(hold) = start_hold(&books, &mut first) {
         keep_row(&mut first, hold);
         panic!(rt; "both rows are taken");
@@ -170,7 +182,7 @@ fn two_desks_by_part(rt: HostRuntime) -> Result<(), Fail> {
 // Looks at a row and turns it from prebooked to confirmed, at the first of all moments: the phase that it showed where the turn is lost.
 fn confirm_first(rt: &impl Abort, books: &Books, desk: &mut Desk, row: RowNo) -> Option<Phase>
     requires own { IsOf books.now desk.old }
-    requires row { row.0 < books.now.layout.rows }
+    requires row { row.row < books.now.layout.rows }
     ensures own { IsOf books.now desk.new }
 {
     if look_row(books, desk, row).is_none() {
@@ -296,8 +308,8 @@ fn undone_beside_another_desk(rt: HostRuntime) -> Result<(), Fail> {
     let wall = books.finish(first);
     assert_eq!(rt; wall.place_word(PlaceNo(0), 0), Some(0));
     assert_eq!(rt; wall.place_word(PlaceNo(1), 0), Some(0));
-    assert_eq!(rt; wall.row_word(RowNo(0), 0), Some(1));
-    assert_eq!(rt; wall.row_word(RowNo(1), 0), Some(1));
+    assert_eq!(rt; wall.row_word(0, 0), Some(1));
+    assert_eq!(rt; wall.row_word(1, 0), Some(1));
     Ok(())
 }
 
@@ -314,7 +326,7 @@ fn two_desks_on_one_place(rt: HostRuntime) -> Result<(), Fail> {
     books.meet(&mut first, second);
     let wall = books.finish(first);
     assert_eq!(rt; wall.place_word(PlaceNo(0), 0), Some(3));
-    assert_eq!(rt; wall.row_word(RowNo(0), 0), Some(2));
-    assert_eq!(rt; wall.row_word(RowNo(1), 0), Some(2));
+    assert_eq!(rt; wall.row_word(0, 0), Some(2));
+    assert_eq!(rt; wall.row_word(1, 0), Some(2));
     Ok(())
 }

@@ -1,12 +1,13 @@
 -- Where no two live bookings share a place on a leg, there is no pair to count.
-use Rattle.std.proofs.Common.{◌≡◌, ◌≢◌, ◌∙◌, ◌+◌, ◌⊎◌, inl, inr, ℕ, zero, suc, List, [], ◌∷◌, Option, Some, None, Bool, true, false, ◌&&◌, ◌||◌, cond, refl, sym, subst, arith}
+use Rattle.std.proofs.Common.{◌-◌, ◌≡◌, ◌≢◌, ◌∙◌, ◌+◌, ◌⊎◌, inl, inr, ℕ, zero, suc, List, [], ◌∷◌, Option, Some, None, Bool, true, false, ◌&&◌, ◌||◌, cond, refl, sym, subst, arith}
 use Rattle.std.specs.List.{AllByRecursion, list_any, find}
 use Rattle.std.specs.Option.{option_map_or}
 use Rattle.std.proofs.lemmas.Bool.{eqb-true, ltb-true, leb-true}
 use Rattle.leg_masks.specs.Interval.{Interval, Holds, has_leg}
 use Rattle.history_model.specs.Phase.{is_live}
 use Rattle.history_model.specs.declared.booking.BookedItem.{BookedItem}
-use Rattle.history_model.specs.Booking.{Booking, State, present, stands_in}
+use Rattle.history_model.specs.Booking.{Booking, State, present, stands_in, next_generation}
+use Rattle.history_model.proofs.Generations.{key_of_test}
 use Rattle.history_model.specs.Lists.{Pairwise, Across}
 use Rattle.history_model.specs.Laws.{AreClear, NoDouble}
 use Rattle.history_model.proofs.ListLemmas.{All-found}
@@ -131,7 +132,8 @@ none_double s row other differ clear =
     ways (pair_found (λ b c. is_live b.phase ≡ true → is_live c.phase ≡ true → Across AreClear b.items c.items) (stands_in s row) (stands_in s other) apart s b c e f clear))
   where
     apart : (x : Booking) → stands_in s row x ≡ true → stands_in s other x ≡ false
-    apart x here = not_true (stands_in s other x) (λ there. differ (sym (eqb-true x.row row here) ∙ eqb-true x.row other there))
+    apart x here = not_true (stands_in s other x)
+        (λ there. differ (sym (key_of_test row (next_generation s row - 1) x here).0 ∙ (key_of_test other (next_generation s other - 1) x there).0))
 
 -- no two live bookings share a place on a leg, so no pair does
 pub no_doubles : (s : State) (rows : ℕ) → NoDouble s → doubled_of s rows ≡ 0

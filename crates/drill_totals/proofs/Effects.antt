@@ -7,7 +7,7 @@ use Rattle.history_model.specs.declared.entry.Step.TheVariants.{Look, Take, Give
 use Rattle.history_model.specs.declared.phase.Phase.TheVariants.{Prebooked}
 use Rattle.history_model.specs.Booking.{Booking, Layout, State, is_occupied, most_items, present, change}
 use Rattle.history_model.specs.Allowed.{IsAllowedStep, IsMadeBy}
-use Rattle.history_model.specs.Apply.{apply_step, taken, noted, in_phase}
+use Rattle.history_model.specs.Apply.{apply_step, taken, noted, in_phase, words_of_row}
 use Rattle.history_model.proofs.Keeping.{found}
 use Rattle.history_model.proofs.Changes.{occupied_kept, occupied-start, occupied-take, legs_from_open}
 
@@ -85,7 +85,7 @@ effect g places s d (Take row place span) legs may drill =
 effect g places s d (Give row item) legs may drill = absurd drill
 effect g places s d (Turn row from to moment amount successor) legs may drill = absurd drill
 effect g places s d (Close row) legs may drill = absurd drill
-effect g places s d (Start row) legs may drill = inl ((λ p l. occupied-start s row d p l), (λ l. refl))
+effect g places s d (Start row generation) legs may drill = inl ((λ p l. occupied-start s row generation d (words_of_row s row) p l), (λ l. refl))
 effect g places s d (Note row w value) legs may drill = inl ((λ p l. occupied_kept s row (noted w value) (λ _. refl) p l), (λ l. refl))
 effect g places s d (Seal row phase) legs may drill = inl ((λ p l. occupied_kept s row (in_phase phase) (λ _. refl) p l), (λ l. refl))
 effect g places s d (Look place half shown) legs may drill = inl ((λ p l. refl), (λ l. refl))

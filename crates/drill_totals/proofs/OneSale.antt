@@ -10,7 +10,7 @@ use Rattle.history_model.specs.declared.word.Word.TheVariants.{Place}
 use Rattle.history_model.specs.Booking.{Layout, first_item_word, most_items}
 use Rattle.history_model.specs.Words.{place_word}
 use Rattle.history_model.specs.Allowed.{IsAllowedStep}
-use Rattle.history_model.specs.Apply.{started}
+use Rattle.history_model.specs.Apply.{started, words_of_row}
 use Rattle.history_model.specs.History.{IsLegal, entry, own, state_of}
 use Rattle.history_model.proofs.Bits.{place_word-same}
 use Rattle.history_model.proofs.Writing.{empty_value}
@@ -24,20 +24,20 @@ abbrev one_place : Layout
 one_place = record { legs = replicate 1 drill_legs; rows = drill_rows; opening = [] }
 
 abbrev one_request : List Step
-one_request = Start 0 ∷ Look 0 0 0 ∷ Take 0 0 (on_leg 0) ∷ Note 0 4 1 ∷ Note 0 8 (item_word 0 (on_leg 0)) ∷ Seal 0 Prebooked ∷ []
+one_request = Start 0 0 ∷ Look 0 0 0 ∷ Take 0 0 (on_leg 0) ∷ Note 0 4 1 ∷ Note 0 8 (item_word 0 (on_leg 0)) ∷ Seal 0 Prebooked ∷ []
 
 abbrev one_history : List Entry
 one_history =
-    entry 1 (Start 0) ∷ entry 1 (Look 0 0 0) ∷ entry 1 (Take 0 0 (on_leg 0)) ∷ entry 1 (Note 0 4 1) ∷ entry 1 (Note 0 8 (item_word 0 (on_leg 0)))
+    entry 1 (Start 0 0) ∷ entry 1 (Look 0 0 0) ∷ entry 1 (Take 0 0 (on_leg 0)) ∷ entry 1 (Note 0 4 1) ∷ entry 1 (Note 0 8 (item_word 0 (on_leg 0)))
     ∷ entry 1 (Seal 0 Prebooked) ∷ entry 0 Met ∷ []
 
-nothing_taken : 0 ≡ place_word (started 0 1 ∷ []) 0 0
-nothing_taken = sym (place_word-same [] (started 0 1 ∷ []) 0 0 (λ i. refl) ∙ empty_value (Place 0 0))
+nothing_taken : 0 ≡ place_word (started 0 0 1 (words_of_row [] 0) ∷ []) 0 0
+nothing_taken = sym (place_word-same [] (started 0 0 1 (words_of_row [] 0) ∷ []) 0 0 (λ i. refl) ∙ empty_value (Place 0 0))
 
 a_row : 0 < 32768
 a_row = omega arith
 
-may_take : IsAllowedStep one_place (started 0 1 ∷ []) 1 (Take 0 0 (on_leg 0))
+may_take : IsAllowedStep one_place (started 0 0 1 (words_of_row [] 0) ∷ []) 1 (Take 0 0 (on_leg 0))
 may_take = (
   a_row,
   (let e : 0 < 1 = omega arith in e),
@@ -50,8 +50,8 @@ may_take = (
 
 one_legal : IsLegal one_place one_history
 one_legal = (
-  record { well_formed = record { rows = tt; apart = tt; each = tt }; settled = tt; owner = tt; in_range = tt },
-  ((a_row, refl), (((let e : 0 < 1 = omega arith in e), (let e : 0 < halves = omega arith in e), nothing_taken), (may_take, (note_count, (note_item, (seal, (tt, tt))))))),
+  record { well_formed = record { keys = tt; earlier = tt; apart = tt; each = tt }; settled = tt; owner = tt; in_range = tt },
+  ((a_row, inl (refl, refl)), (((let e : 0 < 1 = omega arith in e), (let e : 0 < halves = omega arith in e), nothing_taken), (may_take, (note_count, (note_item, (seal, (tt, tt))))))),
 )
   where
     note_count : IsAllowedStep one_place (state_of one_place (take 3 one_history)) 1 (Note 0 4 1)
@@ -73,13 +73,13 @@ one_legal = (
           count = refl;
           items = refl;
         },
+        inl refl,
       ),
-      inl refl,
     )
 
 one_part : IsSale 1 0 one_request
 one_part = record {
-  front = Start 0 ∷ Look 0 0 0 ∷ [];
+  front = Start 0 0 ∷ Look 0 0 0 ∷ [];
   middle = Note 0 4 1 ∷ Note 0 8 (item_word 0 (on_leg 0)) ∷ [];
   row = 0;
   place = 0;

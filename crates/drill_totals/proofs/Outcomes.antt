@@ -60,7 +60,7 @@ look_taken : (g : Layout) (s final : State) (d : ℕ) (st : Step) → IsAllowedS
 look_taken g s final d (Look p half w) may stays = λ l at taken. stays p l (taken_now s p w l (is_occupied s p l) refl (may.2 ∙ ap (λ (h : ℕ). place_word s p h) at) taken)
 look_taken g s final d (Take row place span) may stays = tt
 look_taken g s final d (Give row item) may stays = tt
-look_taken g s final d (Start row) may stays = tt
+look_taken g s final d (Start row generation) may stays = tt
 look_taken g s final d (SawRow row w value) may stays = tt
 look_taken g s final d (Note row w value) may stays = tt
 look_taken g s final d (Seal row phase) may stays = tt

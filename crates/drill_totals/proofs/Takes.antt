@@ -54,7 +54,7 @@ minor_step (Close row) is = absurd cc
 minor_step (Look place half shown) is = record { takes = λ l. refl; seals = refl; drill = tt }
 minor_step (SawRow row w value) is = record { takes = λ l. refl; seals = refl; drill = tt }
 minor_step (Note row w value) is = record { takes = λ l. refl; seals = refl; drill = tt }
-minor_step (Start row) is = record { takes = λ l. refl; seals = refl; drill = tt }
+minor_step (Start row generation) is = record { takes = λ l. refl; seals = refl; drill = tt }
 minor_step (LostTurn row wanted shown) is = record { takes = λ l. refl; seals = refl; drill = tt }
 minor_step Met is = record { takes = λ l. refl; seals = refl; drill = tt }
 

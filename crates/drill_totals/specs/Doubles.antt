@@ -17,7 +17,7 @@ any_below test (suc n) = any_below test n || test n
 abbrev pub share_a_leg : BookedItem → BookedItem → Bool
 share_a_leg i j = (i.place == j.place) && any_below (λ leg. has_leg i.span leg && has_leg j.span leg) i.span.to
 
--- the items of the row's booking, where it is live
+-- the items of the row's present booking, where it is live
 abbrev pub live_items : State → ℕ → List BookedItem
 live_items s row = option_map_or (λ b. if is_live b.phase then b.items else []) (present s row) []
 

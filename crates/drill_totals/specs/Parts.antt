@@ -36,7 +36,7 @@ abbrev pub is_minor : Step → Bool
 is_minor (Look place half shown) = true
 is_minor (SawRow row word value) = true
 is_minor (Note row word value) = true
-is_minor (Start row) = true
+is_minor (Start row generation) = true
 is_minor (LostTurn row wanted shown) = true
 is_minor Met = true
 is_minor _ = false
@@ -45,7 +45,7 @@ abbrev pub AllMinor : List Step → Type 0
 AllMinor es = AllByRecursion (λ st. is_minor st ≡ true) es
 
 abbrev pub is_start : Step → Bool
-is_start (Start row) = true
+is_start (Start row generation) = true
 is_start _ = false
 
 -- how many rows the steps start

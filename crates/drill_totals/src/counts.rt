@@ -1,14 +1,13 @@
 // What a drill came to.
 ghost use Rattle.std.specs.Prelude.{◌≡◌, ◌≤◌, ◌<◌, length, IsTrue};
-ghost use Rattle.history_model.specs.History.{state_of};
+ghost use Rattle.history_model.specs.History.{IsLegal, state_of};
 ghost use Rattle.history_model.specs.Booking.{phase_of_row};
-ghost use Rattle.history_model.specs.Phase.{is_live, said_phase};
+ghost use Rattle.history_model.specs.Phase.{is_live};
 ghost use Rattle.history_model.specs.Words.{AreWordsOf};
 ghost use Rattle.drill_totals.specs.Totals.{begins, sold_of, times};
 
 use claim_rule::Wall;
-use history_model::phase::{Phase, phase_said};
-use rail_ids::RowNo;
+use history_model::phase::{Phase, read_row_word};
 
 /// Whether the first text begins the second.
 fn is_front(front: &[u8], text: &[u8]) -> bool
@@ -52,14 +51,18 @@ fn is_live_phase(phase: Phase) -> bool
     )
 }
 
-// Whether the row's booking is live.
+// Whether the row's present booking is live.
 fn is_sold(wall: &Wall, row: u32) -> bool
     requires within { row < wall.now.layout.rows }
+    requires legal { IsLegal wall.now.layout wall.now.history }
     requires words { AreWordsOf wall.now.layout (state_of wall.now.layout wall.now.history) wall.now.words }
     ensures { result ≡ is_live (phase_of_row (state_of wall.now.layout wall.now.history) row) }
 {
-    match wall.row_word(RowNo(row), 0) {
-        Some(word) => is_live_phase(phase_said(word)),
+    let Some(word) = wall.row_word(row, 0) else {
+        return false;
+    };
+    match read_row_word(word) {
+        Some((phase, _)) => is_live_phase(phase),
         None => false,
     }
 }
@@ -67,6 +70,7 @@ fn is_sold(wall: &Wall, row: u32) -> bool
 /// How many of the rows have a live booking.
 pub fn count_sold(wall: &Wall, rows: u32) -> u32
     requires rows { rows ≡ wall.now.layout.rows }
+    requires legal { IsLegal wall.now.layout wall.now.history }
     requires words { AreWordsOf wall.now.layout (state_of wall.now.layout wall.now.history) wall.now.words }
     ensures { result ≡ sold_of (state_of wall.now.layout wall.now.history) rows }
 {

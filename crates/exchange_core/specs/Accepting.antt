@@ -1,14 +1,15 @@
 -- Carrying an exchange out.
-use Rattle.std.specs.Prelude.{◌≡◌, ℕ, ◌+◌, ◌≤◌, List, ◌∷◌, ◌++◌, length}
+use Rattle.std.specs.Prelude.{◌≡◌, ◌≤◌, List, ◌∷◌, ◌++◌, length}
 use Rattle.leg_masks.specs.Interval.{PlacedSpan as Item}
 use Rattle.history_model.specs.declared.booking.End.{End}
 use Rattle.history_model.specs.declared.entry.Step.{Step}
 use Rattle.history_model.specs.declared.entry.Step.TheVariants.{Seal}
 use Rattle.history_model.specs.declared.phase.Phase.TheVariants.{Confirmed, Ending, Ended}
 use Rattle.history_model.specs.declared.phase.EndKind.TheVariants.{Exchange}
-use Rattle.history_model.specs.Booking.{most_items}
-use Rattle.history_model.specs.Allowed.{OnRow, AllGiven}
-use Rattle.claim_rule.specs.Rule.{DeskView, state_seen}
+use Rattle.history_model.specs.Booking.{most_items, successor_word}
+use Rattle.history_model.specs.Allowed.{AllGiven}
+use Rattle.rail_ids.specs.declared.RowNo.{RowNo}
+use Rattle.claim_rule.specs.Rule.{DeskView, OnBooking, state_seen}
 use Rattle.claim_rule.specs.Holds.{HoldView}
 use Rattle.claim_rule.specs.Endings.{items_read}
 use Rattle.claim_rule.specs.EndSteps.{ending_steps}
@@ -18,20 +19,22 @@ use Rattle.exchange_core.specs.Ready.{ReadyView}
 use Rattle.exchange_core.specs.declared.accepting.Exchanged.{Exchanged}
 use Rattle.exchange_core.specs.declared.accepting.Exchanged.TheVariants.{Done, WrongState}
 
--- the end of the old booking: its moment is that of the check, and its successor the new booking's row
-abbrev pub exchange_end : ReadyView → ℕ → End
-exchange_end ready successor = end_at ready.moment ready.code.difference (successor + 1)
+-- the end of the old booking: its moment is that of the check, and its successor the new booking
+abbrev pub exchange_end : ReadyView → RowNo → End
+exchange_end ready successor = end_at ready.moment ready.code.difference (successor_word successor.row successor.generation)
 
 -- the old booking is turned from the phase that the code names, and its items are read; the new one is sealed; the old one is ended
-abbrev pub exchange_steps : ReadyView → ℕ → List Item → List Step
+abbrev pub exchange_steps : ReadyView → RowNo → List Item → List Step
 exchange_steps ready successor items =
-    turn_step ready.code.row (phase_named ready.code.fulfilled) (Ending Exchange) (exchange_end ready successor)
-    ∷ items_read ready.code.row items ++ Seal successor Confirmed ∷ ending_steps ready.code.row Exchange (exchange_end ready successor) items
+    turn_step ready.code.row.row (phase_named ready.code.fulfilled) (Ending Exchange) (exchange_end ready successor)
+    ∷ items_read ready.code.row.row items ++ Seal successor.row Confirmed
+    ∷ ending_steps ready.code.row.row Exchange (exchange_end ready successor) items
 
--- the steps of an exchange for a hold of this row, by what it answers
-abbrev pub AcceptsExchange : ReadyView → ℕ → Exchanged → List Step → Type 0
+-- the steps of an exchange for a hold of this booking, by what it answers
+abbrev pub AcceptsExchange : ReadyView → RowNo → Exchanged → List Step → Type 0
 AcceptsExchange ready successor (Done new difference) es =
-    (new.0 ≡ successor) × (difference ≡ ready.code.difference) × ((items : List Item) × (length items ≤ most_items) × (es ≡ exchange_steps ready successor items))
+    (new ≡ successor) × (difference ≡ ready.code.difference)
+    × ((items : List Item) × (length items ≤ most_items) × (es ≡ exchange_steps ready successor items))
 AcceptsExchange ready successor (WrongState shown hold) es = LosesTurn ready.code.row (phase_named ready.code.fulfilled) shown es
 
 -- what holds where the exchange was carried out, and of the hold where its turn was lost
@@ -43,6 +46,6 @@ abbrev pub OnLost : Exchanged → (HoldView → Type 0) → Type 0
 OnLost (Done new difference) P = Unit {0}
 OnLost (WrongState shown hold) P = P hold
 
--- the row's booking has ended by exchange with this end, and all its items are given back
-abbrev pub IsExchanged : DeskView → ℕ → End → Type 0
-IsExchanged desk row end = OnRow (state_seen desk) row (λ b. (b.phase ≡ Ended Exchange) × (b.end ≡ end) × AllGiven b)
+-- the booking has ended by exchange with this end, and all its items are given back
+abbrev pub IsExchanged : DeskView → RowNo → End → Type 0
+IsExchanged desk row end = OnBooking (state_seen desk) row (λ b. (b.phase ≡ Ended Exchange) × (b.end ≡ end) × AllGiven b)

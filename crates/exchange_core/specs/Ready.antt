@@ -3,7 +3,7 @@ use Rattle.std.specs.Prelude.{ℕ, ◌<◌}
 use Rattle.history_model.specs.declared.phase.EndKind.TheVariants.{Exchange}
 use Rattle.history_model.specs.Allowed.{IsAmountOf}
 use Rattle.claim_rule.specs.Rule.{DeskView}
-use Rattle.row_decisions.specs.Looks.{IsSealedRow}
+use Rattle.booking_rows.specs.SealedRows.{IsSealedRow}
 use Rattle.offer_codes.specs.Exchanges.{ExchangeView}
 
 -- the code that was checked, for whom, and when
@@ -12,8 +12,8 @@ pub record ReadyView : Type 0 where
   pub retailer : ℕ
   pub moment : ℕ
 
--- the row of the checked code is sealed in what the desk has seen, and its difference is one that an exchange may have
+-- the booking of the checked code is sealed in what the desk has seen, and its difference is one that an exchange may have
 pub record IsReadyFor (desk : DeskView) (ready : ReadyView) : Type 0 where
-  pub row : ready.code.row < desk.layout.rows
+  pub row : ready.code.row.row < desk.layout.rows
   pub sealed : IsSealedRow desk ready.code.row
   pub difference : IsAmountOf Exchange ready.code.difference

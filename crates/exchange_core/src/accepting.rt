@@ -21,7 +21,8 @@ use row_decisions::finish_end;
 pub enum Exchanged {
     /// The old booking has ended by exchange, and the one in this row is sealed as confirmed; it costs this much more, in minor units.
     Done { new: RowNo, difference: i64 },
-    /// The turn was lost: the old booking shows another phase than the code names. The hold is as it was.
+    /// The turn was lost: the old booking shows another phase than the code names, free where its row was given away. The hold is as it
+    /// was.
     WrongState { shown: Phase, hold: Hold },
 }
 

@@ -23,14 +23,15 @@ use refund_core::{find_booking, is_collected};
 pub enum QuotedExchange {
     /// The quote.
     Done(ExchangeCode),
-    /// The row is past the last, or its look shows it free, in the making, or another retailer's.
+    /// The row is past the last, or its look shows the booking free, in the making, or another retailer's; or its last look shows it
+    /// free.
     Unknown,
     /// The look shows another phase than confirmed and fulfilled.
     WrongState { shown: Phase },
 }
 
 /// Quotes an exchange of this retailer's confirmed or fulfilled booking for an offer: what the offer costs more than the booking is worth
-/// now, in the phase that its look shows. The offer is in the ranges of its spelling, and so is the quote. At most 56 entries are added.
+/// now, in the phase that its look shows. The offer is in the ranges of its spelling, and so is the quote. At most 57 entries are added.
 pub fn quote_exchange(
     cat: &Catalogue,
     books: &Books,
@@ -43,11 +44,11 @@ pub fn quote_exchange(
     requires own { IsOf books.now desk.old }
     requires offer { is_offer (offer_view offer.now) ≡ true }
     ensures own { IsOf books.now desk.new }
-    ensures entries { ShapeBy (QuotesExchange cat.now books.now.layout.rows row.0 retailer.0 (offer_view offer.now) now result) desk.old desk.new }
+    ensures entries { ShapeBy (QuotesExchange cat.now books.now.layout.rows row retailer.0 (offer_view offer.now) now result) desk.old desk.new }
     ensures range { IfQuoted result (λ code. is_exchange (exchange_view code) ≡ true) }
     ensures holds { KeepsHolds desk.old desk.new }
     ensures endings { KeepsEndings desk.old desk.new }
-    ensures bound { AddsAtMost (most_items + 8) desk.old desk.new }
+    ensures bound { AddsAtMost (most_items + 9) desk.old desk.new }
 {
     let Some(view) = find_booking(books, desk, row, retailer) else {
         return QuotedExchange::Unknown;

@@ -42,7 +42,8 @@ impl Model for ExchangeReady {
 pub enum Readied {
     /// The quote is right, and the booking is in the phase that it names.
     Fine(ExchangeReady),
-    /// The row is past the last, or its look shows it free, in the making, or another retailer's.
+    /// The row is past the last, or its look shows the booking free, in the making, or another retailer's; or its last look shows it
+    /// free.
     Unknown,
     /// The look shows another phase than the code names.
     WrongState { shown: Phase },
@@ -53,7 +54,7 @@ pub enum Readied {
 }
 
 /// Checks the quote of an exchange of this retailer's booking. Refusals are tried in this order: `QuoteStale`, `Unknown`, `QuoteWrong`,
-/// `WrongState`. The code's offer is in the ranges of its spelling. At most 56 entries are added.
+/// `WrongState`. The code's offer is in the ranges of its spelling. At most 57 entries are added.
 pub fn ready_exchange(
     cat: &Catalogue,
     books: &Books,
@@ -69,7 +70,7 @@ pub fn ready_exchange(
     ensures ready { IfFine result (IsReadyFor desk.new) }
     ensures holds { KeepsHolds desk.old desk.new }
     ensures endings { KeepsEndings desk.old desk.new }
-    ensures bound { AddsAtMost (most_items + 8) desk.old desk.new }
+    ensures bound { AddsAtMost (most_items + 9) desk.old desk.new }
 {
     let made = code.made;
     if is_stale(made, now) {

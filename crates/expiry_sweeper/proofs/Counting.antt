@@ -3,8 +3,8 @@ use Rattle.std.proofs.Common.{◌≡◌, ℕ, suc, ◌+◌, ◌*◌, ◌≤◌, 
 use Rattle.history_model.specs.Booking.{most_items}
 use Rattle.std.specs.List.{AllByRecursion}
 use Rattle.history_model.specs.History.{IsLegal}
-use Rattle.claim_rule.specs.Rule.{DeskView}
-use Rattle.claim_rule.specs.Seats.{Shape, AddsAtMost}
+use Rattle.claim_rule.specs.Rule.{BooksView, DeskView}
+use Rattle.claim_rule.specs.Seats.{IsOf, Shape, AddsAtMost}
 use Rattle.claim_rule.specs.Calls.{ShapeBy}
 use Rattle.claim_rule.specs.Out.{KeepsHolds, EndsNone, IsTidy}
 use Rattle.claim_rule.proofs.Shapes.{shape_then, shape_none, adds_length}
@@ -85,11 +85,11 @@ small_counts a b now row n so = subst (AreSmall n) so.every (subst (λ (x : Swep
 pub swept_all : (a b : DeskView) (now row rows : ℕ) (n : Swept) → row ≡ rows → SweptTo a b now row n → ShapeBy (Sweeps rows now n) a b
 swept_all a b now row rows n whole so = (sweeps_steps now 0 so.sweeps, record { sweeps = so.sweeps; every = so.every ∙ whole; each = so.each; steps = refl; counts = so.counts }, so.seen)
 
-pub swept_bound : (a b : DeskView) (now row rows : ℕ) (n : Swept) → row ≡ rows → SweptTo a b now row n → AddsAtMost ((2 * most_items + 8) * rows) a b
+pub swept_bound : (a b : DeskView) (now row rows : ℕ) (n : Swept) → row ≡ rows → SweptTo a b now row n → AddsAtMost ((2 * most_items + 9) * rows) a b
 swept_bound a b now row rows n whole so =
-    adds_length a b (sweeps_steps now 0 so.sweeps) ((2 * most_items + 8) * rows) so.seen
-    (subst (λ (k : ℕ). length (sweeps_steps now 0 so.sweeps) ≤ (2 * most_items + 8) * k) (so.every ∙ whole) (sweeps_length now 0 so.sweeps so.each))
+    adds_length a b (sweeps_steps now 0 so.sweeps) ((2 * most_items + 9) * rows) so.seen
+    (subst (λ (k : ℕ). length (sweeps_steps now 0 so.sweeps) ≤ (2 * most_items + 9) * k) (so.every ∙ whole) (sweeps_length now 0 so.sweeps so.each))
 
-pub swept_tidy : (a b : DeskView) (now row : ℕ) (n : Swept) → SweptTo a b now row n → KeepsHolds a b → EndsNone b → IsTidy a → IsTidy b
-swept_tidy a b now row n so holds none tidy =
-    tidy_through a b (sweeps_steps now 0 so.sweeps) so.seen (settled_calm a.number (sweeps_steps now 0 so.sweeps) (calm_sweeps now 0 so.sweeps)) tidy (holds.none tidy.0.0, none)
+pub swept_tidy : (books : BooksView) (a b : DeskView) (now row : ℕ) (n : Swept) → IsOf books b → SweptTo a b now row n → KeepsHolds a b → EndsNone b → IsTidy a → IsTidy b
+swept_tidy books a b now row n of so holds none tidy =
+    tidy_through books a b (sweeps_steps now 0 so.sweeps) of so.seen (settled_calm a.number (sweeps_steps now 0 so.sweeps) (calm_sweeps now 0 so.sweeps)) tidy (holds.none tidy.0.0, none)

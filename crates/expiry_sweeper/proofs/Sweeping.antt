@@ -1,52 +1,98 @@
 -- The steps of a sweep, row by row.
-use Rattle.std.proofs.Common.{◌≡◌, ◌≢◌, ℕ, zero, suc, ◌+◌, ◌*◌, ◌≤◌, ◌<◌, List, [], ◌∷◌, ◌++◌, length, Some, None, refl, sym, ap, ◌∙◌, subst, arith, append_assoc, append-nil, length-append, add-zero}
+use Rattle.std.proofs.Common.{◌≡◌, ◌≢◌, ℕ, zero, suc, ◌+◌, ◌*◌, ◌/◌, ◌%◌, Bool, if◌then◌else◌, eq-eqb, ◌≤◌, ◌<◌, List, [], ◌∷◌, ◌++◌, length, Some, None, refl, sym, ap, ◌∙◌, subst, arith, append_assoc, append-nil, length-append, add-zero}
 use Rattle.history_model.specs.Booking.{most_items}
 use Rattle.std.specs.List.{AllByRecursion}
 use Rattle.leg_masks.specs.Interval.{PlacedSpan as Item}
 use Rattle.history_model.specs.declared.entry.Step.{Step}
-use Rattle.history_model.specs.declared.entry.Step.TheVariants.{SawRow}
+use Rattle.history_model.specs.declared.entry.Step.TheVariants.{SawRow, LostTurn}
 use Rattle.history_model.specs.declared.phase.Phase.{Phase}
-use Rattle.history_model.specs.declared.phase.Phase.TheVariants.{Prebooked}
+use Rattle.history_model.specs.declared.phase.Phase.TheVariants.{Free, Prebooked}
+use Rattle.history_model.specs.Phase.{generation_words, phase_shown, row_word_of, said_phase}
+use Rattle.history_model.specs.Allows.{IsNoRowWord}
+use Rattle.history_model.specs.Laws.{IsSound}
+use Rattle.history_model.proofs.PhaseWords.{row_word_same, shown_back}
+use Rattle.history_model.proofs.Ranges.{all_found}
+use Rattle.rail_ids.specs.Spelling.{last_generation}
+use Rattle.rail_ids.specs.declared.RowNo.{RowNo}
 use Rattle.history_model.specs.declared.phase.EndKind.{EndKind}
 use Rattle.history_model.specs.declared.phase.EndKind.TheVariants.{Expire}
 use Rattle.history_model.specs.declared.booking.End.{End}
 use Rattle.history_model.specs.Work.{NoStep}
-use Rattle.claim_rule.specs.Rule.{DeskView}
-use Rattle.claim_rule.specs.Seats.{Shape}
+use Rattle.claim_rule.specs.Rule.{DeskView, state_seen}
+use Rattle.claim_rule.specs.Seats.{Shape, Stepped}
 use Rattle.claim_rule.specs.Calls.{ShapeBy}
 use Rattle.claim_rule.specs.Endings.{items_read, item_looks}
 use Rattle.claim_rule.specs.EndSteps.{ending_steps, gives_from, closing}
-use Rattle.claim_rule.specs.Out.{exchanges}
-use Rattle.claim_rule.proofs.Shapes.{shape_then}
+use Rattle.claim_rule.specs.Out.{exchanges, KeepsHolds}
+use Rattle.claim_rule.proofs.Moves.{is_sound}
+use Rattle.claim_rule.proofs.Shapes.{shape_then, step_shape}
+use Rattle.claim_rule.proofs.Out.{holds_then}
 use Rattle.booking_rows.specs.declared.turns.Aim.TheVariants as aim
 use Rattle.booking_rows.specs.Aims.{end_of}
-use Rattle.row_decisions.specs.Looks.{saw_phase}
-use Rattle.row_decisions.specs.Ends.{EndsRow, ends_as}
+use Rattle.booking_rows.specs.SealedRows.{IsSealedSince}
+use Rattle.booking_rows.specs.Views.{saw_phase}
+use Rattle.booking_rows.proofs.ViewLemmas.{first_shown, first_word, first_shape, sealed_since}
+use Rattle.row_decisions.specs.Ends.{EndsBooking, ends_as}
 use Rattle.row_decisions.proofs.Finishing.{ends_length}
 use Rattle.expiry_sweeper.specs.declared.rows.RowSwept.TheVariants as came
-use Rattle.expiry_sweeper.specs.OneRow.{RowSweep, passed, waiting, expired, lost, IsRowSweep, SweepsRow, saw_prebooked, row_sweep_steps}
+use Rattle.expiry_sweeper.specs.OneRow.{RowSweep, SeenPrebooked, passed, given_away, waiting, expired, lost, IsThere, IsRowSweep, SweepsRow, saw_prebooked, row_sweep_steps}
 use Rattle.expiry_sweeper.specs.AllRows.{sweeps_steps}
+
+-- what word 0 says of its row's booking
+
+-- a word that says prebooked is a prebooked booking's, of a generation that a row may have
+says_prebooked : (row n : ℕ) (a b : DeskView) → Stepped (SawRow row 0 n) a b → said_phase (n % generation_words) ≡ Prebooked → (generation : ℕ) × (generation ≤ last_generation) × (row_word_of Prebooked generation ≡ n)
+says_prebooked row n a b did says =
+    let r : RowNo = record { row = row; generation = n / generation_words } in
+    let shows : Prebooked ≡ phase_shown (n / generation_words) n = sym (ap (λ (t : Bool). if t then said_phase (n % generation_words) else Free) (eq-eqb (n / generation_words) (n / generation_words) refl) ∙ says) in
+    let x = first_shown r n Prebooked a b did (λ e. cc) shows in
+    let sound = all_found (IsSound b.layout) (state_seen b) row x.0 (is_sound b.layout b.seen did.legal).each x.1 in
+    (n / generation_words, subst (λ (k : ℕ). k ≤ last_generation) x.2 sound.generation, sym (first_word r n Prebooked a b did shows refl))
+
+-- another phase's word doesn't say prebooked
+pub other_phase : (row n generation : ℕ) (phase : Phase) (a b : DeskView) → Stepped (SawRow row 0 n) a b → row_word_of phase generation ≡ n → phase ≢ Prebooked → said_phase (n % generation_words) ≢ Prebooked
+other_phase row n generation phase a b did word other says = let x = says_prebooked row n a b did says in other (row_word_same phase Prebooked generation x.0 (word ∙ sym x.2)).0
+
+-- nor does a word that is no phase's
+pub no_phase : (row n : ℕ) (a b : DeskView) → Stepped (SawRow row 0 n) a b → IsNoRowWord n → said_phase (n % generation_words) ≢ Prebooked
+no_phase row n a b did none says = let x = says_prebooked row n a b did says in none Prebooked x.0 (omega (arith, x.1)) x.2
+
+-- a prebooked booking's word shows it sealed
+pub first_look : (row generation n : ℕ) (phase : Phase) (a b : DeskView) → Stepped (SawRow row 0 n) a b → phase ≡ Prebooked → row_word_of phase generation ≡ n
+    → IsSealedSince b (record { row = row; generation = generation }) Prebooked × Shape a b (saw_phase (record { row = row; generation = generation }) Prebooked ∷ [])
+first_look row generation n phase a b did is said =
+    let r : RowNo = record { row = row; generation = generation } in
+    let word : row_word_of Prebooked generation ≡ n = subst (λ (p : Phase). row_word_of p generation ≡ n) is said in
+    let shows : Prebooked ≡ phase_shown generation n = sym (shown_back Prebooked generation) ∙ ap (phase_shown generation) word in
+    (sealed_since r n Prebooked a b did shows refl, first_shape r n Prebooked a b did shows refl)
 
 -- the sweep of one row
 
-pub passes : (now row : ℕ) (shown : Phase) (a b : DeskView) → shown ≢ Prebooked → Shape a b (saw_phase row shown ∷ []) → SweepsRow now row a b came.Passed
-passes now row shown a b ne did = (passed shown, ne, refl, did)
+pub passes : (now row n : ℕ) (a b : DeskView) → said_phase (n % generation_words) ≢ Prebooked → Stepped (SawRow row 0 n) a b → SweepsRow now row a b came.Passed
+passes now row n a b ne did = (passed n, ne, refl, step_shape (SawRow row 0 n) a b did)
 
-both_looks : (row limit : ℕ) (shown : Phase) (a b c : DeskView) → shown ≡ Prebooked → Shape a b (saw_phase row shown ∷ []) → Shape b c (SawRow row 2 limit ∷ []) → Shape a c (saw_prebooked row limit)
-both_looks row limit shown a b c is p l = shape_then a b c (saw_phase row Prebooked ∷ []) (SawRow row 2 limit ∷ []) (subst (λ (x : Phase). Shape a b (saw_phase row x ∷ [])) is p) l
+-- all three looks at a prebooked booking
+pub all_looks : (row : ℕ) (s : SeenPrebooked) (a b c d : DeskView) → Shape a b (saw_phase (record { row = row; generation = s.generation }) Prebooked ∷ []) → Shape b c (SawRow row 2 s.limit ∷ []) → Shape c d (SawRow row 0 s.last ∷ []) → Shape a d (saw_prebooked row s)
+all_looks row s a b c d first limit last = shape_then a b d (saw_phase (record { row = row; generation = s.generation }) Prebooked ∷ []) (SawRow row 2 s.limit ∷ SawRow row 0 s.last ∷ []) first (shape_then b c d (SawRow row 2 s.limit ∷ []) (SawRow row 0 s.last ∷ []) limit last)
 
-pub waits : (now row limit : ℕ) (shown : Phase) (a b c : DeskView) → shown ≡ Prebooked → now ≤ limit → Shape a b (saw_phase row shown ∷ []) → Shape b c (SawRow row 2 limit ∷ []) → SweepsRow now row a c came.Waiting
-waits now row limit shown a b c is early p l = (waiting limit, early, refl, both_looks row limit shown a b c is p l)
+pub three_holds : (a b c d : DeskView) → KeepsHolds a b → KeepsHolds b c → KeepsHolds c d → KeepsHolds a d
+three_holds a b c d p q r = holds_then a b d p (holds_then b c d q r)
 
-pub expires : (now row limit : ℕ) (shown : Phase) (a b c d : DeskView) → shown ≡ Prebooked → limit < now → Shape a b (saw_phase row shown ∷ []) → Shape b c (SawRow row 2 limit ∷ []) → ShapeBy (EndsRow row Prebooked Expire (aim.Expire now) None) c d → SweepsRow now row a d came.Expired
-expires now row limit shown a b c d is late p l ended =
+pub gives_away : (now row : ℕ) (s : SeenPrebooked) (a b : DeskView) → phase_shown s.generation s.last ≡ Free → Shape a b (saw_prebooked row s) → SweepsRow now row a b came.Passed
+gives_away now row s a b free did = (given_away s, free, refl, did)
+
+pub waits : (now row : ℕ) (s : SeenPrebooked) (a b : DeskView) → IsThere s → now ≤ s.limit → Shape a b (saw_prebooked row s) → SweepsRow now row a b came.Waiting
+waits now row s a b there early did = (waiting s, (there, early), refl, did)
+
+pub expires : (now row : ℕ) (s : SeenPrebooked) (a b c : DeskView) → IsThere s → s.limit < now → Shape a b (saw_prebooked row s) → ShapeBy (EndsBooking (record { row = row; generation = s.generation }) Prebooked Expire (aim.Expire now) None) b c → SweepsRow now row a c came.Expired
+expires now row s a b c there late did ended =
     let e = ended.1 in
-    (expired limit e.0, (late, e.1), refl, shape_then a c d (saw_prebooked row limit) (ends_as row Prebooked Expire (end_of (aim.Expire now)) e.0) (both_looks row limit shown a b c is p l) (subst (Shape c d) e.2 ended.2))
+    (expired s e.0, (there, late, e.1), refl, shape_then a b c (saw_prebooked row s) (ends_as row Prebooked Expire (end_of (aim.Expire now)) e.0) did (subst (Shape b c) e.2 ended.2))
 
-pub loses : (now row limit : ℕ) (was shown : Phase) (a b c d : DeskView) → was ≡ Prebooked → limit < now → Shape a b (saw_phase row was ∷ []) → Shape b c (SawRow row 2 limit ∷ []) → ShapeBy (EndsRow row Prebooked Expire (aim.Expire now) (Some shown)) c d → SweepsRow now row a d came.Lost
-loses now row limit was shown a b c d is late p l ended =
+pub loses : (now row : ℕ) (s : SeenPrebooked) (shown : Phase) (a b c : DeskView) → IsThere s → s.limit < now → Shape a b (saw_prebooked row s) → ShapeBy (EndsBooking (record { row = row; generation = s.generation }) Prebooked Expire (aim.Expire now) (Some shown)) b c → SweepsRow now row a c came.Lost
+loses now row s shown a b c there late did ended =
     let e = ended.1 in
-    (lost limit shown, (late, e.0), refl, shape_then a c d (saw_prebooked row limit) _ (both_looks row limit was a b c is p l) (subst (Shape c d) e.1 ended.2))
+    (lost s e.0, (there, late, e.1), refl, shape_then a b c (saw_prebooked row s) (LostTurn row (row_word_of Prebooked s.generation) e.0 ∷ []) did (subst (Shape b c) e.3 ended.2))
 
 -- one row more
 
@@ -61,15 +107,16 @@ steps_more now row (x ∷ ss) s =
 
 -- how many steps
 
-row_length : (now row : ℕ) (s : RowSweep) → IsRowSweep now s → length (row_sweep_steps now row s) ≤ 2 * most_items + 8
-row_length now row (passed shown) is = omega arith
-row_length now row (waiting limit) is = omega arith
-row_length now row (expired limit items) is =
-    let l = ends_length row Prebooked Expire (end_of (aim.Expire now)) items is.1 in
-    let m = length-append (saw_prebooked row limit) (ends_as row Prebooked Expire (end_of (aim.Expire now)) items) in omega arith
-row_length now row (lost limit shown) is = omega arith
+row_length : (now row : ℕ) (s : RowSweep) → IsRowSweep now s → length (row_sweep_steps now row s) ≤ 2 * most_items + 9
+row_length now row (passed n) is = omega arith
+row_length now row (given_away s) is = omega arith
+row_length now row (waiting s) is = omega arith
+row_length now row (expired s items) is =
+    let l = ends_length row Prebooked Expire (end_of (aim.Expire now)) items is.2 in
+    let m = length-append (saw_prebooked row s) (ends_as row Prebooked Expire (end_of (aim.Expire now)) items) in omega arith
+row_length now row (lost s shown) is = omega arith
 
-pub sweeps_length : (now row : ℕ) (ss : List RowSweep) → AllByRecursion (IsRowSweep now) ss → length (sweeps_steps now row ss) ≤ (2 * most_items + 8) * length ss
+pub sweeps_length : (now row : ℕ) (ss : List RowSweep) → AllByRecursion (IsRowSweep now) ss → length (sweeps_steps now row ss) ≤ (2 * most_items + 9) * length ss
 sweeps_length now row [] all = omega arith
 sweeps_length now row (s ∷ ss) all =
     let l = length-append (row_sweep_steps now row s) (sweeps_steps now (suc row) ss) in
@@ -96,10 +143,11 @@ calm_end row kind end is =
     (calm_append (gives_from row 0 (length is)) (closing row kind end) (calm_gives row 0 (length is)) (refl, (refl, (refl, (refl, tt)))))
 
 calm_row : (now row : ℕ) (s : RowSweep) → NoStep exchanges (row_sweep_steps now row s)
-calm_row now row (passed shown) = (refl, tt)
-calm_row now row (waiting limit) = (refl, (refl, tt))
-calm_row now row (expired limit items) = (refl, (refl, (refl, calm_end row Expire (end_of (aim.Expire now)) items)))
-calm_row now row (lost limit shown) = (refl, (refl, (refl, tt)))
+calm_row now row (passed n) = (refl, tt)
+calm_row now row (given_away s) = (refl, (refl, (refl, tt)))
+calm_row now row (waiting s) = (refl, (refl, (refl, tt)))
+calm_row now row (expired s items) = (refl, (refl, (refl, (refl, calm_end row Expire (end_of (aim.Expire now)) items))))
+calm_row now row (lost s shown) = (refl, (refl, (refl, (refl, tt))))
 
 pub calm_sweeps : (now row : ℕ) (ss : List RowSweep) → NoStep exchanges (sweeps_steps now row ss)
 calm_sweeps now row [] = tt

@@ -6,15 +6,15 @@ ghost use Rattle.expiry_sweeper.specs.OneRow.{SweepsRow};
 
 use booking_rows::Aim;
 use claim_rule::{Books, Desk};
-use history_model::phase::Phase;
+use history_model::phase::{Phase, read_row_word};
 use rail_ids::RowNo;
 use rail_time::Moment;
-use row_decisions::{end_row, look_limit, look_phase};
+use row_decisions::{end_row, look_phase, look_word};
 
 // What came of the sweep of a row.
 #[derive(Clone, Copy, Debug, PartialEq, Eq)]
 pub(crate) enum RowSwept {
-    // It was seen in another phase than prebooked.
+    // It was seen in another phase than prebooked, or the last look showed that it was given away.
     Passed,
     // It was seen prebooked, with a limit not before now.
     Waiting,
@@ -25,21 +25,29 @@ pub(crate) enum RowSwept {
 }
 
 // Expires the row where it is seen prebooked, with a limit before now.
-pub(crate) fn sweep_row(books: &Books, desk: &mut Desk, row: RowNo, now: Moment) -> RowSwept
+pub(crate) fn sweep_row(books: &Books, desk: &mut Desk, row: u32, now: Moment) -> RowSwept
     requires own { IsOf books.now desk.old }
-    requires row { row.0 < books.now.layout.rows }
+    requires row { row < books.now.layout.rows }
     requires none { EndsNone desk.old }
     ensures own { IsOf books.now desk.new }
-    ensures entries { SweepsRow now row.0 desk.old desk.new result }
+    ensures entries { SweepsRow now row desk.old desk.new result }
     ensures none { EndsNone desk.new }
     ensures holds { KeepsHolds desk.old desk.new }
 {
-    let shown = look_phase(books, desk, row);
+    let word = books.step_read(desk, RowNo { row, generation: 0 }, 0);
+    let Some((shown, generation)) = read_row_word(word) else {
+        return RowSwept::Passed;
+    };
     let Phase::Prebooked = shown else {
         return RowSwept::Passed;
     };
-    let limit = look_limit(books, desk, row);
-    if now.seconds() <= limit.seconds() {
+    let row = RowNo { row, generation };
+    let limit = look_word(books, desk, row, 2);
+    let last = look_phase(books, desk, row);
+    if let Phase::Free = last {
+        return RowSwept::Passed;
+    }
+    if now.seconds() <= limit {
         return RowSwept::Waiting;
     }
     match end_row(books, desk, row, Phase::Prebooked, Aim::Expire { now }) {

@@ -8,7 +8,6 @@ ghost use Rattle.expiry_sweeper.specs.AllRows.{Sweeps, counted as counted_of};
 
 use crate::rows::{RowSwept, sweep_row};
 use claim_rule::{Books, Desk};
-use rail_ids::RowNo;
 use rail_time::Moment;
 
 /// What a sweep did, in rows.
@@ -22,8 +21,8 @@ pub struct Swept {
     pub waiting: u32,
 }
 
-/// Looks at every row once, in rising number, and expires those seen prebooked with a limit before now. The desk has no ending out. At
-/// most 104 entries are added for each row.
+/// Looks at every row, in rising number, and expires those bookings seen prebooked with a limit before now. A row whose last look shows
+/// that it was given away meanwhile is in no count. The desk has no ending out. At most 105 entries are added for each row.
 pub fn sweep(books: &Books, desk: &mut Desk, now: Moment) -> Swept
     requires own { IsOf books.now desk.old }
     requires none { EndsNone desk.old }
@@ -32,7 +31,7 @@ pub fn sweep(books: &Books, desk: &mut Desk, now: Moment) -> Swept
     ensures none { EndsNone desk.new }
     ensures holds { KeepsHolds desk.old desk.new }
     ensures tidy { IsTidy desk.old → IsTidy desk.new }
-    ensures bound { AddsAtMost ((2 * most_items + 8) * books.now.layout.rows) desk.old desk.new }
+    ensures bound { AddsAtMost ((2 * most_items + 9) * books.now.layout.rows) desk.old desk.new }
 {
     let mut swept = Swept {
         expired: 0,
@@ -40,7 +39,7 @@ pub fn sweep(books: &Books, desk: &mut Desk, now: Moment) -> Swept
         waiting: 0,
     };
     for row in 0..books.rows() {
-        let came = sweep_row(books, desk, RowNo(row), now);
+        let came = sweep_row(books, desk, row, now);
         swept = counted(came, swept);
     }
     swept

@@ -1,5 +1,5 @@
 -- Where a phase leads over a legal history.
-use Rattle.std.proofs.Common.{◌≡◌, ℕ, ◌⊎◌, inl, inr, ⊎_elim, Bool, true, false, List, [], ◌∷◌, ◌++◌, Option, Some, None, IfSome, IfNone, IsSomeAnd, refl, sym, ap, ◌∙◌, subst}
+use Rattle.std.proofs.Common.{◌≡◌, ℕ, ◌+◌, ◌⊎◌, inl, inr, ⊎_elim, Bool, true, false, List, [], ◌∷◌, ◌++◌, Option, Some, None, IfSome, IfNone, IsSomeAnd, refl, sym, ap, ◌∙◌, subst}
 use Rattle.std.specs.Option.{option_map_or}
 use Rattle.history_model.specs.declared.entry.Entry.{Entry}
 use Rattle.history_model.specs.declared.entry.Step.TheVariants.{Turn, LostTurn}
@@ -8,16 +8,19 @@ use Rattle.history_model.specs.declared.phase.Phase.TheVariants.{Free, Making, P
 use Rattle.history_model.specs.declared.phase.EndKind.{EndKind}
 use Rattle.history_model.specs.declared.phase.EndKind.TheVariants.{Release, Expire, Refund, Exchange}
 use Rattle.history_model.specs.declared.booking.End.{End}
-use Rattle.history_model.specs.Phase.{is_turn}
-use Rattle.history_model.specs.Booking.{Booking, Layout, State, present, phase_of_row, limit_of}
+use Rattle.history_model.specs.Phase.{is_turn, phase_shown}
+use Rattle.history_model.specs.Booking.{Booking, Layout, State, booking_at, phase_at, next_generation, present, change, limit_of}
 use Rattle.history_model.specs.Allowed.{IsAllowed, IsAllowedStep, TurnsWith}
 use Rattle.history_model.specs.Apply.{apply, apply_step, turned}
 use Rattle.history_model.specs.History.{IsLegalFrom, state_after}
+use Rattle.history_model.specs.Words.{row_word}
 use Rattle.history_model.specs.Laws.{MayFollow, MayBecome, GoesOn}
 use Rattle.history_model.specs.Life.{LeadsTo, leads_here, leads_on, IsTurnBetween, IsLostTurn, is_let_go}
-use Rattle.history_model.proofs.Keeping.{found, turned-row}
-use Rattle.history_model.proofs.Going.{GoesOn-step, present-changed, turned-phase}
-use Rattle.history_model.proofs.Forward.{state-append, legal_left, legal_right}
+use Rattle.history_model.proofs.Keeping.{found, turned-key}
+use Rattle.history_model.proofs.Going.{GoesOn-step, turned-phase}
+use Rattle.history_model.proofs.Generations.{key-changed}
+use Rattle.history_model.proofs.PhaseWords.{shown_at}
+use Rattle.history_model.proofs.Forward.{state-append, legal_left, legal_right, at_generation}
 
 -- phases
 
@@ -111,41 +114,50 @@ row_step desk None (Some c) h k = leads_on Free c.phase (leads_here Free refl) k
 row_step desk (Some b) None h k = absurd h
 row_step desk (Some b) (Some c) h k = leads_to b.phase c.phase h.forward
 
-pub leads-history : (g : Layout) (s : State) (history : List Entry) (row : ℕ) → IsLegalFrom g s history → LeadsTo (phase_of_row s row) (phase_of_row (state_after s history) row)
-leads-history g s [] row l = leads_here (phase_of_row s row) refl
-leads-history g s (e ∷ es) row l =
+pub leads-history : (g : Layout) (s : State) (history : List Entry) (row generation : ℕ) → IsLegalFrom g s history → LeadsTo (phase_at s row generation) (phase_at (state_after s history) row generation)
+leads-history g s [] row generation l = leads_here (phase_at s row generation) refl
+leads-history g s (e ∷ es) row generation l =
     let on : GoesOn e.desk s (apply s e) = GoesOn-step g s e.desk e.step l.0 in
-    leads_trans (phase_of_row s row) (phase_of_row (apply s e) row) (phase_of_row (state_after (apply s e) es) row)
-    (row_step e.desk (present s row) (present (apply s e) row) (on.bookings row) (on.starts row)) (leads-history g (apply s e) es row l.1)
+    leads_trans (phase_at s row generation) (phase_at (apply s e) row generation) (phase_at (state_after (apply s e) es) row generation)
+    (row_step e.desk (booking_at s row generation) (booking_at (apply s e) row generation) (on.bookings row generation) (on.starts row generation)) (leads-history g (apply s e) es row generation l.1)
 
--- a turn leaves the row in its second phase
-turned_phase : (g : Layout) (s : State) (e : Entry) (row : ℕ) (from to : Phase) → IsTurnBetween row from to e → IsAllowed g s e → phase_of_row (apply s e) row ≡ to
-turned_phase g s e row from to (moment, amount, successor, is) may = rw is (now (rw is at may))
+-- a turn leaves the booking in its second phase
+turned_phase : (g : Layout) (s : State) (e : Entry) (row generation : ℕ) (from to : Phase) → next_generation s row ≡ generation + 1 → IsTurnBetween row from to e → IsAllowed g s e → phase_at (apply s e) row generation ≡ to
+turned_phase g s e row generation from to next (moment, amount, successor, is) may = rw is (now (rw is at may))
   where
-    now : IsAllowedStep g s e.desk (Turn row from to moment amount successor) → phase_of_row (apply_step s e.desk (Turn row from to moment amount successor)) row ≡ to
+    now : IsAllowedStep g s e.desk (Turn row from to moment amount successor) → phase_at (apply_step s e.desk (Turn row from to moment amount successor)) row generation ≡ to
     now a =
         let f = found (present s row) (λ b. (b.phase ≡ from) × TurnsWith s e.desk (limit_of b) to moment amount successor) a.3 in
+        let at = at_generation s row generation f.0 next f.1 in
         let end : End = record { moment = moment; amount = amount; successor = successor } in
-        ap (λ o. option_map_or (λ (b : Booking). b.phase) o Free) (present-changed s row (turned e.desk to end) f.0 (turned-row e.desk to end) f.1) ∙ turned-phase e.desk to end f.0
+        let there : booking_at (change s row (turned e.desk to end)) row generation ≡ Some (turned e.desk to end f.0) =
+        subst (λ (n : ℕ). booking_at (change s row (turned e.desk to end)) row n ≡ Some (turned e.desk to end f.0)) at.0 (key-changed s row (turned e.desk to end) f.0 (turned-key e.desk to end) f.1) in
+        ap (λ o. option_map_or (λ (b : Booking). b.phase) o Free) there ∙ turned-phase e.desk to end f.0
 
-pub turn_decides : (g : Layout) (opening : State) (before after : List Entry) (first : Entry) (row : ℕ) (from to : Phase) → IsTurnBetween row from to first → IsLegalFrom g opening (before ++ first ∷ after) → LeadsTo to (phase_of_row (state_after opening (before ++ first ∷ after)) row)
-turn_decides g opening before after first row from to turn l =
+pub turn_decides : (g : Layout) (opening : State) (before after : List Entry) (first : Entry) (row generation : ℕ) (from to : Phase) → next_generation (state_after opening before) row ≡ generation + 1 → IsTurnBetween row from to first → IsLegalFrom g opening (before ++ first ∷ after) → LeadsTo to (phase_at (state_after opening (before ++ first ∷ after)) row generation)
+turn_decides g opening before after first row generation from to next turn l =
     let rest = legal_right g opening before (first ∷ after) l in
     let s : State = state_after opening before in
-    let on : LeadsTo (phase_of_row (apply s first) row) (phase_of_row (state_after (apply s first) after) row) = leads-history g (apply s first) after row rest.1 in
-    subst (λ (t : State). LeadsTo to (phase_of_row t row)) (sym (state-append opening before (first ∷ after)))
-    (subst (λ (p : Phase). LeadsTo p (phase_of_row (state_after (apply s first) after) row)) (turned_phase g s first row from to turn rest.0) on)
+    let on : LeadsTo (phase_at (apply s first) row generation) (phase_at (state_after (apply s first) after) row generation) = leads-history g (apply s first) after row generation rest.1 in
+    subst (λ (t : State). LeadsTo to (phase_at t row generation)) (sym (state-append opening before (first ∷ after)))
+    (subst (λ (p : Phase). LeadsTo p (phase_at (state_after (apply s first) after) row generation)) (turned_phase g s first row generation from to next turn rest.0) on)
 
--- a lost turn shows the row's phase
-lost_shows : (g : Layout) (s : State) (e : Entry) (row : ℕ) (shown : Phase) → IsLostTurn row shown e → IsAllowed g s e → shown ≡ phase_of_row s row
+-- a lost turn shows the row's word 0
+lost_shows : (g : Layout) (s : State) (e : Entry) (row shown : ℕ) → IsLostTurn row shown e → IsAllowed g s e → shown ≡ row_word s row 0
 lost_shows g s e row shown (wanted, is) may = now (rw is at may)
   where
-    now : IsAllowedStep g s e.desk (LostTurn row wanted shown) → shown ≡ phase_of_row s row
+    now : IsAllowedStep g s e.desk (LostTurn row wanted shown) → shown ≡ row_word s row 0
     now a = a.1
 
-pub losers_see : (g : Layout) (opening : State) (before between after : List Entry) (first lost : Entry) (row : ℕ) (from to shown : Phase) → IsTurnBetween row from to first → IsLostTurn row shown lost → IsLegalFrom g opening (before ++ first ∷ between ++ lost ∷ after) → LeadsTo to shown
-losers_see g opening before between after first lost row from to shown turn lose l =
+pub losers_see : (g : Layout) (opening : State) (before between after : List Entry) (first lost : Entry) (row generation : ℕ) (from to : Phase) (shown : ℕ) → next_generation (state_after opening before) row ≡ generation + 1 → IsTurnBetween row from to first → IsLostTurn row shown lost
+    → IsLegalFrom g opening (before ++ first ∷ between ++ lost ∷ after) → (phase_shown generation shown ≡ Free) ⊎ LeadsTo to (phase_shown generation shown)
+losers_see g opening before between after first lost row generation from to shown next turn lose l =
     let front = legal_left g opening (before ++ first ∷ between) (lost ∷ after) l in
     let last = legal_right g opening (before ++ first ∷ between) (lost ∷ after) l in
-    subst (λ (p : Phase). LeadsTo to p) (sym (lost_shows g (state_after opening (before ++ first ∷ between)) lost row shown lose last.0))
-    (turn_decides g opening before between first row from to turn front)
+    let s : State = state_after opening (before ++ first ∷ between) in
+    let shows : shown ≡ row_word s row 0 = lost_shows g s lost row shown lose last.0 in
+    ⊎_elim
+    (λ (free : phase_shown generation (row_word s row 0) ≡ Free). inl (ap (phase_shown generation) shows ∙ free))
+    (λ (its : phase_shown generation (row_word s row 0) ≡ phase_at s row generation). inr (subst (λ (p : Phase). LeadsTo to p) (sym (ap (phase_shown generation) shows ∙ its))
+    (turn_decides g opening before between first row generation from to next turn front)))
+    (shown_at s row generation)

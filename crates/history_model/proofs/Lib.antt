@@ -1,4 +1,6 @@
 pub mod ListLemmas
+pub mod Generations
+pub mod PhaseWords
 pub mod Marks
 pub mod WordLemmas
 pub mod Forward
@@ -22,3 +24,4 @@ pub mod Writing
 pub mod Successors
 pub mod Work
 pub mod Ranges
+pub mod Unused

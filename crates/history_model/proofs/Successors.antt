@@ -1,6 +1,7 @@
 -- A booking that a desk turned to an exchange stays one.
-use Rattle.std.proofs.Common.{◌≡◌, ◌⊎◌, inl, inr, ℕ, zero, suc, Bool, true, false, cond, List, [], ◌∷◌, ◌++◌, Option, Some, None, refl, sym, ap, ◌∙◌, subst, ⊎_elim, arith}
-use Rattle.std.specs.List.{Any, find}
+use Rattle.std.proofs.Common.{◌≡◌, ◌⊎◌, inl, inr, ℕ, zero, suc, Bool, true, false, cond, List, [], ◌∷◌, ◌++◌, Option, Some, None, refl, sym, ap, ◌∙◌, subst, ⊎_elim, append_assoc, arith}
+use Rattle.std.specs.List.{AllByRecursion, Any, find}
+use Rattle.history_model.proofs.ListLemmas.{split}
 use Rattle.history_model.specs.declared.phase.Phase.{Phase}
 use Rattle.history_model.specs.declared.phase.EndKind.TheVariants.{Exchange}
 use Rattle.history_model.specs.declared.phase.Phase.TheVariants.{Ending, Ended}
@@ -9,13 +10,16 @@ use Rattle.history_model.specs.declared.entry.Step.{Step}
 use Rattle.history_model.specs.declared.entry.Step.TheVariants.{Look, Take, Give, Start, SawRow, Note, Seal, Turn, LostTurn, Close, Met}
 use Rattle.history_model.specs.declared.entry.Entry.{Entry}
 use Rattle.history_model.specs.Lists.{change_first}
-use Rattle.history_model.specs.Booking.{Booking, Layout, State, stands_in, present, change}
-use Rattle.history_model.specs.Allowed.{IsAllowedStep, IsExchangedFor}
-use Rattle.history_model.specs.Apply.{apply, apply_step, started, taken, given, noted, in_phase, turned, closed}
-use Rattle.history_model.specs.History.{IsLegalFrom, state_after}
-use Rattle.history_model.specs.Laws.{MayBecome, MayFollow, GoesOn, is_turned_to_end}
-use Rattle.history_model.proofs.Keeping.{found, turned-row}
-use Rattle.history_model.proofs.Going.{GoesOn-step, present-changed}
+use Rattle.history_model.specs.Booking.{Booking, Layout, State, successor_word, key_of, booking_at, stands_in, present, change}
+use Rattle.history_model.specs.Allowed.{IsAllowedStep, IsMadeBy, IsExchangedFor, IsSuccessor}
+use Rattle.history_model.specs.Apply.{apply, apply_step, words_of_row, started, taken, given, noted, in_phase, turned, closed}
+use Rattle.history_model.specs.History.{IsLegalFrom, own, state_after}
+use Rattle.history_model.specs.Phase.{is_ended}
+use Rattle.history_model.specs.Laws.{IsWellFormed, MayBecome, MayFollow, GoesOn, is_turned_to_end}
+use Rattle.history_model.proofs.Keeping.{found, turned-key}
+use Rattle.history_model.proofs.Going.{GoesOn-step}
+use Rattle.history_model.proofs.Generations.{present_key, key-changed, unended_present, stands_there}
+use Rattle.history_model.proofs.Owners.{firm_stays, firm_making}
 
 abbrev Some_of : {X : Type 0} → (X → Type 0) → List X → Type 0
 Some_of P [] = ⊥
@@ -51,13 +55,13 @@ some_same {X = X} d x y e = ap get e
     get (Some z) = z
 
 -- what a changed booking became
-becomes : (d : ℕ) (s : State) (q : ℕ) (f : Booking → Booking) (x : Booking) → GoesOn d s (change s q f) → ((y : Booking) → (f y).row ≡ y.row) → present s q ≡ Some x → MayBecome d x (f x)
-becomes d s q f x on row e =
-    let n = found (present (change s q f) q) (MayBecome d x) (rw e at (on.bookings q)) in
-    subst (MayBecome d x) (some_same n.0 n.0 (f x) (sym n.1 ∙ present-changed s q f x row e)) n.2
+becomes : (d : ℕ) (s : State) (q : ℕ) (f : Booking → Booking) (x : Booking) → GoesOn d s (change s q f) → ((y : Booking) → key_of (f y) ≡ key_of y) → present s q ≡ Some x → MayBecome d x (f x)
+becomes d s q f x on key e =
+    let n = found (booking_at (change s q f) q x.generation) (MayBecome d x) (rw (present_key s q x e) at (on.bookings q x.generation)) in
+    subst (MayBecome d x) (some_same n.0 n.0 (f x) (sym n.1 ∙ key-changed s q f x key e)) n.2
 
-exchanged_becomes : (d e row : ℕ) (x y : Booking) → MayBecome e x y → IsExchangedFor d row x → IsExchangedFor d row y
-exchanged_becomes d e row x y m (own, next, phase) =
+exchanged_becomes : (d e word : ℕ) (x y : Booking) → MayBecome e x y → IsExchangedFor d word x → IsExchangedFor d word y
+exchanged_becomes d e word x y m (own, next, phase) =
     let t : is_turned_to_end x.phase ≡ true = ⊎_elim (λ p. ap is_turned_to_end p) (λ p. ap is_turned_to_end p) phase in (
       m.ender t ∙ own,
       ap (λ (z : End). z.successor) (m.ended t) ∙ next,
@@ -73,25 +77,63 @@ exchanged_becomes d e row x y m (own, next, phase) =
     ended : (a b : Phase) → a ≡ Ended Exchange → MayFollow a b → ⊥
     ended a b p on = let no : false ≡ true = subst (λ (z : Phase). MayFollow z b) p on in cc
 
-exchanged_change : (d e row : ℕ) (s : State) (q : ℕ) (f : Booking → Booking) → ((y : Booking) → (f y).row ≡ y.row) → GoesOn e s (change s q f) → Some_of (IsExchangedFor d row) s → Some_of (IsExchangedFor d row) (change s q f)
-exchanged_change d e row s q f keeps on h = some-changed (IsExchangedFor d row) (stands_in s q) f s (λ x at p. exchanged_becomes d e row x (f x) (becomes e s q f x on keeps at) p) h
+exchanged_change : (d e word : ℕ) (s : State) (q : ℕ) (f : Booking → Booking) → ((y : Booking) → key_of (f y) ≡ key_of y) → GoesOn e s (change s q f) → Some_of (IsExchangedFor d word) s → Some_of (IsExchangedFor d word) (change s q f)
+exchanged_change d e word s q f keeps on h = some-changed (IsExchangedFor d word) (stands_in s q) f s (λ x at p. exchanged_becomes d e word x (f x) (becomes e s q f x on keeps at) p) h
 
-exchanged_step : (g : Layout) (d e row : ℕ) (s : State) (st : Step) → IsAllowedStep g s e st → Some_of (IsExchangedFor d row) s → Some_of (IsExchangedFor d row) (apply_step s e st)
-exchanged_step g d e row s (Look p k n) may h = h
-exchanged_step g d e row s (Take q p span) may h = exchanged_change d e row s q (taken p span) (λ _. refl) (GoesOn-step g s e (Take q p span) may) h
-exchanged_step g d e row s (Give q k) may h = exchanged_change d e row s q (given k) (λ _. refl) (GoesOn-step g s e (Give q k) may) h
-exchanged_step g d e row s (Start q) may h = some-append (IsExchangedFor d row) s (started q e ∷ []) h
-exchanged_step g d e row s (SawRow q w n) may h = h
-exchanged_step g d e row s (Note q w n) may h = exchanged_change d e row s q (noted w n) (λ _. refl) (GoesOn-step g s e (Note q w n) may) h
-exchanged_step g d e row s (Seal q ph) may h = exchanged_change d e row s q (in_phase ph) (λ _. refl) (GoesOn-step g s e (Seal q ph) may) h
-exchanged_step g d e row s (Turn q from to m a x) may h = exchanged_change d e row s q (turned e to (record { moment = m; amount = a; successor = x })) (turned-row e to (record { moment = m; amount = a; successor = x })) (GoesOn-step g s e (Turn q from to m a x) may) h
-exchanged_step g d e row s (LostTurn q wanted shown) may h = h
-exchanged_step g d e row s (Close q) may h = exchanged_change d e row s q closed (λ _. refl) (GoesOn-step g s e (Close q) may) h
-exchanged_step g d e row s Met may h = h
+exchanged_step : (g : Layout) (d e word : ℕ) (s : State) (st : Step) → IsAllowedStep g s e st → Some_of (IsExchangedFor d word) s → Some_of (IsExchangedFor d word) (apply_step s e st)
+exchanged_step g d e word s (Look p k n) may h = h
+exchanged_step g d e word s (Take q p span) may h = exchanged_change d e word s q (taken p span) (λ _. refl) (GoesOn-step g s e (Take q p span) may) h
+exchanged_step g d e word s (Give q k) may h = exchanged_change d e word s q (given k) (λ _. refl) (GoesOn-step g s e (Give q k) may) h
+exchanged_step g d e word s (Start q j) may h = some-append (IsExchangedFor d word) s (started q j e (words_of_row s q) ∷ []) h
+exchanged_step g d e word s (SawRow q w n) may h = h
+exchanged_step g d e word s (Note q w n) may h = exchanged_change d e word s q (noted w n) (λ _. refl) (GoesOn-step g s e (Note q w n) may) h
+exchanged_step g d e word s (Seal q ph) may h = exchanged_change d e word s q (in_phase ph) (λ _. refl) (GoesOn-step g s e (Seal q ph) may) h
+exchanged_step g d e word s (Turn q from to m a x) may h = exchanged_change d e word s q (turned e to (record { moment = m; amount = a; successor = x })) (turned-key e to (record { moment = m; amount = a; successor = x })) (GoesOn-step g s e (Turn q from to m a x) may) h
+exchanged_step g d e word s (LostTurn q wanted shown) may h = h
+exchanged_step g d e word s (Close q) may h = exchanged_change d e word s q closed (λ _. refl) (GoesOn-step g s e (Close q) may) h
+exchanged_step g d e word s Met may h = h
 
-exchanged_after : (g : Layout) (d row : ℕ) (s : State) (es : List Entry) → IsLegalFrom g s es → Some_of (IsExchangedFor d row) s → Some_of (IsExchangedFor d row) (state_after s es)
-exchanged_after g d row s [] l h = h
-exchanged_after g d row s (e ∷ es) l h = exchanged_after g d row (apply s e) es l.1 (exchanged_step g d e.desk row s e.step l.0 h)
+exchanged_after : (g : Layout) (d word : ℕ) (s : State) (es : List Entry) → IsLegalFrom g s es → Some_of (IsExchangedFor d word) s → Some_of (IsExchangedFor d word) (state_after s es)
+exchanged_after g d word s [] l h = h
+exchanged_after g d word s (e ∷ es) l h = exchanged_after g d word (apply s e) es l.1 (exchanged_step g d e.desk word s e.step l.0 h)
 
-pub exchanged_stays : (g : Layout) (d row : ℕ) (s : State) (es : List Entry) → IsLegalFrom g s es → Any (IsExchangedFor d row) s → Any (IsExchangedFor d row) (state_after s es)
-exchanged_stays g d row s es l h = to_any (IsExchangedFor d row) (state_after s es) (exchanged_after g d row s es l (from_any (IsExchangedFor d row) s h))
+pub exchanged_stays : (g : Layout) (d word : ℕ) (s : State) (es : List Entry) → IsLegalFrom g s es → Any (IsExchangedFor d word) s → Any (IsExchangedFor d word) (state_after s es)
+exchanged_stays g d word s es l h = to_any (IsExchangedFor d word) (state_after s es) (exchanged_after g d word s es l (from_any (IsExchangedFor d word) s h))
+
+in_middle : {X : Type 0} (P : X → Type 0) (before : List X) (x : X) (after : List X) → P x → Some_of P (before ++ x ∷ after)
+in_middle P [] x after p = inl p
+in_middle P (y ∷ ys) x after p = inr (in_middle P ys x after p)
+
+-- a booking in the making of a desk is the successor of the word that says it
+pub is_successor : (s : State) (d row : ℕ) (b : Booking) → present s row ≡ Some b → IsMadeBy d b → IsSuccessor s d (successor_word b.row b.generation)
+is_successor s d row b at made =
+    let Names : Booking → Type 0 = λ c. IsMadeBy d c × (successor_word c.row c.generation ≡ successor_word b.row b.generation) in
+    let here = split (stands_in s row) s b at in
+    to_any Names s (subst (λ (xs : List Booking). Some_of Names xs) (sym here.is) (in_middle Names here.before b here.after (made, refl)))
+
+-- what holds of all bookings holds of a successor
+pub successor_found : (P : Booking → Type 0) (s : State) (d word : ℕ) → AllByRecursion P s → IsSuccessor s d word → (b : Booking) × P b × (successor_word b.row b.generation ≡ word)
+successor_found P s d word all is = go s all (from_any (λ c. IsMadeBy d c × (successor_word c.row c.generation ≡ word)) s is)
+  where
+    go : (xs : List Booking) → AllByRecursion P xs → Some_of (λ c. IsMadeBy d c × (successor_word c.row c.generation ≡ word)) xs → (b : Booking) × P b × (successor_word b.row b.generation ≡ word)
+    go [] all h = absurd h
+    go (x ∷ xs) all h = ⊎_elim (λ p. (x, all.0, p.1)) (λ r. go xs all.1 r) h
+
+-- a successor is its row's present booking
+successor_present : (g : Layout) (s : State) (d word : ℕ) → IsWellFormed g s → IsSuccessor s d word → (b : Booking) × (present s b.row ≡ Some b) × IsMadeBy d b × (successor_word b.row b.generation ≡ word)
+successor_present g s d word good is = go [] s refl (from_any (λ c. IsMadeBy d c × (successor_word c.row c.generation ≡ word)) s is)
+  where
+    go : (front xs : State) → s ≡ front ++ xs → Some_of (λ c. IsMadeBy d c × (successor_word c.row c.generation ≡ word)) xs → (b : Booking) × (present s b.row ≡ Some b) × IsMadeBy d b × (successor_word b.row b.generation ≡ word)
+    go front [] e h = absurd h
+    go front (x ∷ xs) e h = ⊎_elim
+        (λ (p : IsMadeBy d x × (successor_word x.row x.generation ≡ word)).
+        (x, unended_present s x.row x.generation x good.earlier (stands_there s front x xs good.keys e) (ap is_ended p.0.0), p.0, p.1))
+        (λ r. go (front ++ x ∷ []) xs (e ∙ sym (append_assoc front (x ∷ []) xs)) r)
+        h
+
+-- and stays one under the entries of others
+pub successor_stays : (g : Layout) (s : State) (es : List Entry) (d word : ℕ) → IsWellFormed g s → IsLegalFrom g s es → own es d ≡ [] → IsSuccessor s d word → IsSuccessor (state_after s es) d word
+successor_stays g s es d word good legal none is =
+    let b = successor_present g s d word good is in
+    let at : present (state_after s es) b.0.row ≡ Some b.0 = firm_stays g s b.0.row b.0 es b.1 (firm_making b.0.phase b.2.0) (ap (own es) b.2.1 ∙ none) legal in
+    subst (IsSuccessor (state_after s es) d) b.3 (is_successor (state_after s es) d b.0.row b.0 at b.2)

@@ -4,8 +4,10 @@ use Rattle.leg_masks.specs.Interval.{Interval}
 use Rattle.history_model.specs.declared.entry.Entry.{Entry}
 use Rattle.history_model.specs.declared.entry.Step.{Step}
 use Rattle.history_model.specs.declared.entry.Step.TheVariants.{Look, Take, Give, Start, Note, Seal, Turn, Close, Met}
-use Rattle.history_model.specs.declared.phase.Phase.TheVariants.{Prebooked, Confirmed, Ending}
+use Rattle.history_model.specs.declared.phase.Phase.TheVariants.{Free, Prebooked, Confirmed, Ending, Ended}
 use Rattle.history_model.specs.declared.phase.EndKind.TheVariants.{Refund}
+use Rattle.history_model.specs.Phase.{phase_shown}
+use Rattle.history_model.specs.Booking.{State, phase_at, successor_word}
 use Rattle.history_model.specs.Words.{number_of_bits, place_word, row_word}
 use Rattle.history_model.specs.History.{state_after}
 
@@ -18,7 +20,7 @@ entry desk step = record { desk = desk; step = step }
 -- A starts row 0, B row 1; A looks; B takes leg 1, A misses and then takes leg 0
 abbrev both_taken : List Entry
 both_taken =
-    entry 0 (Start 0) ∷ entry 1 (Start 1) ∷ entry 0 (Look 0 0 0) ∷ entry 1 (Take 1 0 (legs 1 2)) ∷ entry 0 (Look 0 0 2) ∷ entry 0 (Take 0 0 (legs 0 1)) ∷ []
+    entry 0 (Start 0 0) ∷ entry 1 (Start 1 0) ∷ entry 0 (Look 0 0 0) ∷ entry 1 (Take 1 0 (legs 1 2)) ∷ entry 0 (Look 0 0 2) ∷ entry 0 (Take 0 0 (legs 0 1)) ∷ []
 
 abbrev both_given : List Entry
 both_given = entry 0 (Give 0 0) ∷ entry 1 (Give 1 0) ∷ entry 0 Met ∷ []
@@ -37,7 +39,7 @@ making_words = refl
 -- legs 0 and 1 of place 0 are sold to retailer 1, in row 0
 abbrev first_stretch : List Entry
 first_stretch =
-    entry 0 (Start 0) ∷ entry 0 (Take 0 0 (legs 0 2)) ∷ entry 0 (Note 0 1 1) ∷ entry 0 (Note 0 2 0) ∷ entry 0 (Note 0 3 0) ∷ entry 0 (Note 0 4 1) ∷ entry 0 (Note 0 8 2) ∷ entry 0 (Seal 0 Prebooked) ∷ []
+    entry 0 (Start 0 0) ∷ entry 0 (Take 0 0 (legs 0 2)) ∷ entry 0 (Note 0 1 1) ∷ entry 0 (Note 0 2 0) ∷ entry 0 (Note 0 3 0) ∷ entry 0 (Note 0 4 1) ∷ entry 0 (Note 0 8 2) ∷ entry 0 (Seal 0 Prebooked) ∷ []
 
 pub stretch_word : place_word (state_after [] first_stretch) 0 0 ≡ 3
 unfolding number_of_bits
@@ -77,10 +79,37 @@ refunded_amount = refl
 pub refunded_item : row_word (state_after (state_after [] first_stretch) refunded) 0 8 ≡ 2
 refunded_item = refl
 
+-- the row is started again, and legs 0 and 1 of place 0 are sold once more
+abbrev sold_again : List Entry
+sold_again =
+    entry 0 (Start 0 1) ∷ entry 0 (Take 0 0 (legs 0 2)) ∷ entry 0 (Note 0 4 1) ∷ entry 0 (Note 0 8 2) ∷ entry 0 (Seal 0 Prebooked) ∷ []
+
+abbrev after_sold_again : State
+after_sold_again = state_after (state_after (state_after [] first_stretch) refunded) sold_again
+
+pub again_phase : row_word after_sold_again 0 0 ≡ 18
+again_phase = refl
+
+-- a word that nobody noted is still that of the booking before
+pub again_amount : row_word after_sold_again 0 6 ≡ 3187
+again_amount = refl
+
+pub again_shown : phase_shown 1 (row_word after_sold_again 0 0) ≡ Prebooked
+again_shown = refl
+
+pub again_other : phase_shown 0 (row_word after_sold_again 0 0) ≡ Free
+again_other = refl
+
+pub earlier_booking : phase_at after_sold_again 0 0 ≡ Ended Refund
+earlier_booking = refl
+
+pub again_successor : successor_word 0 1 ≡ 4294967297
+again_successor = refl
+
 -- legs 62 and 63 of place 1, an item in each half
 abbrev over_the_border : List Entry
 over_the_border =
-    entry 0 (Start 0) ∷ entry 0 (Look 1 0 0) ∷ entry 0 (Take 0 1 (legs 62 63)) ∷ entry 0 (Look 1 1 0) ∷ entry 0 (Take 0 1 (legs 63 64)) ∷ []
+    entry 0 (Start 0 0) ∷ entry 0 (Look 1 0 0) ∷ entry 0 (Take 0 1 (legs 62 63)) ∷ entry 0 (Look 1 1 0) ∷ entry 0 (Take 0 1 (legs 63 64)) ∷ []
 
 pub border_first : place_word (state_after [] over_the_border) 1 0 ≡ 4611686018427387904
 unfolding number_of_bits

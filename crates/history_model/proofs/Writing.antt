@@ -1,7 +1,7 @@
 -- What each kind of change does to the words.
-use Rattle.std.proofs.Common.{◌≡◌, ℕ, zero, suc, ◌-◌, ◌<◌, ◌≤◌, Bool, true, false, not, ◌&&◌, ◌||◌, cond, eqb, min, max, bit_or, bit_and, w64, List, [], ◌∷◌, ◌++◌, get_or, set, replicate, find, slice_get, Option, Some, None, refl, sym, ap, ◌∙◌, subst, ⊎_elim, ne_eqb, eq-eqb, arith, lit<, lt_of_le_of_lt, get_or-set_same, get_or-set_other}
+use Rattle.std.proofs.Common.{◌≡◌, ℕ, zero, suc, ◌+◌, ◌-◌, inr, IsSomeAnd, ◌<◌, ◌≤◌, Bool, true, false, not, ◌&&◌, ◌||◌, cond, eqb, min, max, bit_or, bit_and, w64, List, [], ◌∷◌, ◌++◌, get_or, set, replicate, slice_get, Option, Some, None, refl, sym, ap, ◌∙◌, subst, ⊎_elim, ne_eqb, eq-eqb, arith, lit<, lt_of_le_of_lt, get_or-set_same, get_or-set_other}
 use Rattle.std.specs.Int.{bit_at, bit_not}
-use Rattle.std.specs.Option.{option_or, option_map_or}
+use Rattle.std.specs.Option.{option_map_or}
 use Rattle.std.proofs.lemmas.Bool.{cases_eq}
 use Rattle.std.proofs.lemmas.Nat.{or_lt, and_le_l}
 use Rattle.std.proofs.lemmas.Nat.Bits.{bit_at_or, bit_at_and, bit_at_not, bit_at-zero}
@@ -9,21 +9,24 @@ use Rattle.leg_masks.specs.Interval.{Interval, IsPiece, has_leg, half_of, leg_of
 use Rattle.leg_masks.proofs.Masks.{bit, bit_at-mask, mask-lt, mask-small, other_half}
 use Rattle.std.specs.List.{AllByRecursion}
 use Rattle.history_model.specs.declared.phase.Phase.{Phase}
-use Rattle.history_model.specs.declared.phase.Phase.TheVariants.{Free, Making, Prebooked, Confirmed, Fulfilled, Ending, Ended}
-use Rattle.history_model.specs.declared.phase.EndKind.TheVariants.{Release, Expire, Refund, Exchange}
+use Rattle.history_model.specs.declared.phase.Phase.TheVariants.{Free, Making, Ended}
+use Rattle.history_model.specs.declared.phase.EndKind.{EndKind}
 use Rattle.history_model.specs.declared.booking.BookedItem.{BookedItem}
 use Rattle.history_model.specs.declared.booking.End.{End}
 use Rattle.history_model.specs.declared.word.Word.{Word}
 use Rattle.history_model.specs.declared.word.Word.TheVariants.{Place, Row}
-use Rattle.history_model.specs.Phase.{word_of_phase, said_phase, phases}
-use Rattle.history_model.specs.Booking.{Booking, Layout, State, stands_in, present, change, word_at, occupies, is_occupied, row_words}
+use Rattle.history_model.specs.Phase.{is_ended, row_word_of}
+use Rattle.rail_ids.specs.Spelling.{last_generation}
+use Rattle.history_model.specs.Booking.{Booking, Layout, State, key_of, stands_in, present, change, word_at, occupies, is_occupied, row_words}
 use Rattle.history_model.specs.Words.{value, place_word, row_word, Writes}
-use Rattle.history_model.specs.Allowed.{MayGive}
-use Rattle.history_model.specs.Apply.{started, taken, given, noted, turned}
+use Rattle.history_model.specs.Allowed.{MayGive, MayStart}
+use Rattle.history_model.specs.Apply.{words_of_row, started, taken, given, noted, turned}
 use Rattle.history_model.specs.Laws.{IsSound, IsWellFormed, LiesWithin}
-use Rattle.history_model.proofs.ListLemmas.{All-found, find-push}
-use Rattle.history_model.proofs.Keeping.{turned-row, turned-items}
-use Rattle.history_model.proofs.Going.{present-changed, present-changed_other, turned-phase, turned-words}
+use Rattle.history_model.proofs.ListLemmas.{All-found}
+use Rattle.history_model.proofs.Keeping.{turned-key, turned-items}
+use Rattle.history_model.proofs.Going.{turned-phase, turned-words}
+use Rattle.history_model.proofs.Generations.{present-changed, present-changed_other, present-started, present-started_other}
+use Rattle.history_model.proofs.PhaseWords.{row_word_same}
 use Rattle.history_model.proofs.Changes.{occupied_kept, occupied-start, occupied-take, occupied-give}
 use Rattle.history_model.proofs.Bits.{place_word-lt, bit_at-place_word, is_place_word, place_word-same, place_word-same_half, max_bits}
 
@@ -33,10 +36,10 @@ left_item place span = record { place = place; span = span; given_back = false }
 
 -- a word of a row, by its booking
 abbrev pub word_in : ℕ → Option Booking → ℕ
-word_in w o = cond (eqb w 0) (word_of_phase (option_map_or (λ b. b.phase) o Free)) (option_map_or (λ b. word_at b w) o 0)
+word_in w o = option_map_or (λ b. cond (eqb w 0) (row_word_of b.phase b.generation) (word_at b w)) o 0
 
 -- words of other rows, and words that a change keeps
-row_kept : (s : State) (row : ℕ) (f : Booking → Booking) (b : Booking) → present s row ≡ Some b → ((x : Booking) → (f x).row ≡ x.row) → (q w : ℕ) → (q ≡ row → word_in w (Some (f b)) ≡ word_in w (Some b)) → row_word (change s row f) q w ≡ row_word s q w
+pub row_kept : (s : State) (row : ℕ) (f : Booking → Booking) (b : Booking) → present s row ≡ Some b → ((x : Booking) → key_of (f x) ≡ key_of x) → (q w : ℕ) → (q ≡ row → word_in w (Some (f b)) ≡ word_in w (Some b)) → row_word (change s row f) q w ≡ row_word s q w
 row_kept s row f b at same q w keeps = ⊎_elim
     (λ (here : q ≡ row). subst (λ (k : ℕ). row_word (change s row f) k w ≡ row_word s k w) (sym here) (ap (word_in w) (present-changed s row f b same at) ∙ (keeps here ∙ sym (ap (word_in w) at))))
     (λ (other : q ≡ row → ⊥). ap (word_in w) (present-changed_other s row q f same other))
@@ -91,41 +94,35 @@ no_word zero w = refl
 no_word (suc n) zero = refl
 no_word (suc n) (suc w) = no_word n w
 
-pub present-started : (s : State) (r d : ℕ) → present s r ≡ None → present (s ++ started r d ∷ []) r ≡ Some (started r d)
-present-started s r d free = find-push (stands_in s r) s (started r d) ∙ (ap (λ (o : Option Booking). option_or o (cond (eqb r r) (Some (started r d)) None)) free ∙ ap (λ (c : Bool). cond c (Some (started r d)) None) (eq-eqb r r refl))
-
-or_none : {X : Type 0} (o : Option X) → option_or o None ≡ o
-or_none None = refl
-or_none (Some x) = refl
-
-present-started_other : (s : State) (r d q : ℕ) → (q ≡ r → ⊥) → present (s ++ started r d ∷ []) q ≡ present s q
-present-started_other s r d q n = find-push (stands_in s q) s (started r d) ∙ (ap (λ (c : Bool). option_or (present s q) (cond c (Some (started r d)) None)) (ne_eqb r q (λ e. n (sym e))) ∙ or_none (present s q))
-
--- a start writes 1 to word 0 of its row, and changes no other
-pub start_writes : (s : State) (r d : ℕ) → present s r ≡ None → Writes s (s ++ started r d ∷ []) (Row r 0) 1
-start_writes s r d free = record { here = ap (word_in 0) its; rest = rest }
+-- a start writes word 0 of its row, and changes no other
+pub start_writes : (s : State) (r j d : ℕ) → MayStart s r j → Writes s (s ++ started r j d (words_of_row s r) ∷ []) (Row r 0) (row_word_of Making j)
+start_writes s r j d may = record { here = ap (word_in 0) its; rest = rest }
   where
-    its : present (s ++ started r d ∷ []) r ≡ Some (started r d)
-    its = present-started s r d free
+    new : Booking
+    new = started r j d (words_of_row s r)
 
-    later : (w : ℕ) → (w ≡ 0 → ⊥) → word_in w (present (s ++ started r d ∷ []) r) ≡ word_in w (present s r)
-    later w n = ap (word_in w) its ∙ (ap (λ (c : Bool). cond c 1 (get_or (replicate row_words 0) w 0)) (ne_eqb w 0 n) ∙ (no_word row_words w ∙ sym (ap (word_in w) free ∙ ap (λ (c : Bool). cond c (word_of_phase Free) 0) (ne_eqb w 0 n))))
+    its : present (s ++ new ∷ []) r ≡ Some new
+    its = present-started s r j d (words_of_row s r) may
 
-    rest : (a : Word) → (a ≡ Row r 0 → ⊥) → value (s ++ started r d ∷ []) a ≡ value s a
-    rest (Place q h) other = place_word-same s (s ++ started r d ∷ []) q h (λ i. occupied-start s r d q i)
+    -- the other words are those that the row had
+    had : (w : ℕ) → (w ≡ 0 → ⊥) → (o : Option Booking) → get_or (option_map_or (λ (b : Booking). b.words) o (zeros row_words)) w 0 ≡ word_in w o
+    had w n None = no_word row_words w
+    had w n (Some b) = sym (ap (λ (c : Bool). cond c (row_word_of b.phase b.generation) (word_at b w)) (ne_eqb w 0 n))
+
+    later : (w : ℕ) → (w ≡ 0 → ⊥) → word_in w (present (s ++ new ∷ []) r) ≡ word_in w (present s r)
+    later w n = ap (word_in w) its ∙ (ap (λ (c : Bool). cond c (row_word_of Making j) (get_or (words_of_row s r) w 0)) (ne_eqb w 0 n) ∙ had w n (present s r))
+
+    rest : (a : Word) → (a ≡ Row r 0 → ⊥) → value (s ++ new ∷ []) a ≡ value s a
+    rest (Place q h) other = place_word-same s (s ++ new ∷ []) q h (λ i. occupied-start s r j d (words_of_row s r) q i)
     rest (Row q w) other = ⊎_elim
-        (λ (same : q ≡ r). subst (λ (k : ℕ). word_in w (present (s ++ started r d ∷ []) k) ≡ word_in w (present s k)) (sym same) (later w (λ z. other (λ i. Row (same i) (z i)))))
-        (λ (n : q ≡ r → ⊥). ap (word_in w) (present-started_other s r d q n))
+        (λ (same : q ≡ r). subst (λ (k : ℕ). word_in w (present (s ++ new ∷ []) k) ≡ word_in w (present s k)) (sym same) (later w (λ z. other (λ i. Row (same i) (z i)))))
+        (λ (n : q ≡ r → ⊥). ap (word_in w) (present-started_other s r j d (words_of_row s r) q n))
         (cases_eq q r)
 
 -- all words of no bookings are 0
 pub empty_value : (a : Word) → value [] a ≡ 0
 empty_value (Place p h) = is_place_word [] p h 0 (lit< tt) (λ i h. bit_at-zero i)
-empty_value (Row r w) = both (eqb w 0)
-  where
-    both : (c : Bool) → cond c (word_of_phase Free) 0 ≡ word_of_phase Free
-    both true = refl
-    both false = refl
+empty_value (Row r w) = refl
 
 -- gives
 
@@ -191,28 +188,29 @@ give_writes g s d r k b p span good at may its fits = record { here = here; rest
         (λ l m. now q (leg_of h l) ∙ (ap (λ (t : Bool). is_occupied s q (leg_of h l) && not t) (elsewhere p q h l span fits lies.piece m other) ∙ and_true (is_occupied s q (leg_of h l))))
     rest (Row q w) other = row_kept s r (given k) b at (λ _. refl) q w (λ _. refl)
 
--- a row whose word 0 is 0 stands in no booking
+-- a row whose word 0 is 0 has no booking
 pub free_of_word : (g : Layout) (s : State) (r : ℕ) → IsWellFormed g s → value s (Row r 0) ≡ 0 → present s r ≡ None
 free_of_word g s r good e = step (present s r) refl
   where
-    phase_free : (ph : Phase) → word_of_phase ph ≡ 0 → ph ≡ Free
-    phase_free Free e = refl
-    phase_free Making e = absurd (omega (arith, e))
-    phase_free Prebooked e = absurd (omega (arith, e))
-    phase_free Confirmed e = absurd (omega (arith, e))
-    phase_free Fulfilled e = absurd (omega (arith, e))
-    phase_free (Ending Release) e = absurd (omega (arith, e))
-    phase_free (Ending Expire) e = absurd (omega (arith, e))
-    phase_free (Ending Refund) e = absurd (omega (arith, e))
-    phase_free (Ending Exchange) e = absurd (omega (arith, e))
-    phase_free (Ended Release) e = absurd (omega (arith, e))
-    phase_free (Ended Expire) e = absurd (omega (arith, e))
-    phase_free (Ended Refund) e = absurd (omega (arith, e))
-    phase_free (Ended Exchange) e = absurd (omega (arith, e))
-
     step : (o : Option Booking) → present s r ≡ o → present s r ≡ None
     step None o = o
-    step (Some b) o = absurd ((sound_of g s r b good o).started (phase_free b.phase (sym (ap (word_in 0) o) ∙ e)))
+    step (Some b) o =
+        let same = row_word_same b.phase Free b.generation 0 (sym (ap (word_in 0) o) ∙ e) in
+        absurd ((sound_of g s r b good o).started same.0)
+
+-- the booking of a row whose word 0 is this
+pub booking_of_word : (s : State) (r : ℕ) (phase : Phase) (generation : ℕ) → (phase ≡ Free → ⊥) → value s (Row r 0) ≡ row_word_of phase generation → (b : Booking) × (present s r ≡ Some b) × (b.phase ≡ phase) × (b.generation ≡ generation)
+booking_of_word s r phase generation some e = step (present s r) refl
+  where
+    step : (o : Option Booking) → present s r ≡ o → (b : Booking) × (present s r ≡ Some b) × (b.phase ≡ phase) × (b.generation ≡ generation)
+    step None o = absurd (some (sym (row_word_same Free phase 0 generation (sym (ap (word_in 0) o) ∙ e)).0))
+    step (Some b) o = let same = row_word_same b.phase phase b.generation generation (sym (ap (word_in 0) o) ∙ e) in (b, o, same.0, same.1)
+
+-- a row whose word 0 is that of an ended booking may be started again
+pub start_again : (s : State) (r generation : ℕ) (kind : EndKind) → generation + 1 ≤ last_generation → value s (Row r 0) ≡ row_word_of (Ended kind) generation → MayStart s r (generation + 1)
+start_again s r generation kind low e =
+    let b = booking_of_word s r (Ended kind) generation (λ n. cc) e in
+    inr (low, subst (λ (o : Option Booking). IsSomeAnd o (λ b. (is_ended b.phase ≡ true) × (generation + 1 ≡ b.generation + 1))) (sym b.1) (ap is_ended b.2, ap (λ n. n + 1) (sym b.3)))
 
 -- notes
 
@@ -220,54 +218,24 @@ pub note_writes : (g : Layout) (s : State) (r w n : ℕ) (b : Booking) → IsWel
 note_writes g s r w n b good at below some = record { here = here; rest = rest }
   where
     here : value (change s r (noted w n)) (Row r w) ≡ n
-    here = ap (word_in w) (present-changed s r (noted w n) b (λ _. refl) at) ∙ (ap (λ (c : Bool). cond c (word_of_phase b.phase) (get_or (set b.words w n) w 0)) (ne_eqb w 0 some)
+    here = ap (word_in w) (present-changed s r (noted w n) b (λ _. refl) at) ∙ (ap (λ (c : Bool). cond c (row_word_of b.phase b.generation) (get_or (set b.words w n) w 0)) (ne_eqb w 0 some)
         ∙ get_or-set_same b.words w n 0 (subst (λ (k : ℕ). w < k) (sym (sound_of g s r b good at).words) below))
 
     rest : (a : Word) → (a ≡ Row r w → ⊥) → value (change s r (noted w n)) a ≡ value s a
     rest (Place q h) other = place_word-same s (change s r (noted w n)) q h (λ i. occupied_kept s r (noted w n) (λ _. refl) q i)
-    rest (Row q x) other = row_kept s r (noted w n) b at (λ _. refl) q x (λ here. ap (λ (k : ℕ). cond (eqb x 0) (word_of_phase b.phase) k) (get_or-set_other b.words w x n 0 (λ e. other (λ i. Row (here i) (e i)))))
+    rest (Row q x) other = row_kept s r (noted w n) b at (λ _. refl) q x (λ here. ap (λ (k : ℕ). cond (eqb x 0) (row_word_of b.phase b.generation) k) (get_or-set_other b.words w x n 0 (λ e. other (λ i. Row (here i) (e i)))))
 
 -- a change of phase writes word 0
-pub phase_writes : (f : Booking → Booking) → ((b : Booking) → (f b).row ≡ b.row) → ((b : Booking) → (f b).items ≡ b.items) → ((b : Booking) → (f b).words ≡ b.words) → (s : State) (r : ℕ) (b : Booking) → present s r ≡ Some b
-    → Writes s (change s r f) (Row r 0) (word_of_phase (f b).phase)
-phase_writes f row items words s r b at = record { here = ap (word_in 0) (present-changed s r f b row at); rest = rest }
+pub phase_writes : (f : Booking → Booking) → ((b : Booking) → key_of (f b) ≡ key_of b) → ((b : Booking) → (f b).items ≡ b.items) → ((b : Booking) → (f b).words ≡ b.words) → (s : State) (r : ℕ) (b : Booking) → present s r ≡ Some b
+    → Writes s (change s r f) (Row r 0) (row_word_of (f b).phase b.generation)
+phase_writes f key items words s r b at = record { here = ap (word_in 0) (present-changed s r f b key at) ∙ ap (λ (k : ℕ × ℕ). row_word_of (f b).phase k.1) (key b); rest = rest }
   where
     rest : (a : Word) → (a ≡ Row r 0 → ⊥) → value (change s r f) a ≡ value s a
     rest (Place q h) other = place_word-same s (change s r f) q h (λ i. occupied_kept s r f items q i)
-    rest (Row q x) other = row_kept s r f b at row q x (λ here. let n : x ≡ 0 → ⊥ = λ e. other (λ i. Row (here i) (e i)) in
-        ap (λ (c : Bool). cond c (word_of_phase (f b).phase) (get_or (f b).words x 0)) (ne_eqb x 0 n) ∙ (ap (λ (l : List ℕ). get_or l x 0) (words b)
-        ∙ sym (ap (λ (c : Bool). cond c (word_of_phase b.phase) (get_or b.words x 0)) (ne_eqb x 0 n))))
+    rest (Row q x) other = row_kept s r f b at key q x (λ here. let n : x ≡ 0 → ⊥ = λ e. other (λ i. Row (here i) (e i)) in
+        ap (λ (c : Bool). cond c (row_word_of (f b).phase (f b).generation) (get_or (f b).words x 0)) (ne_eqb x 0 n) ∙ (ap (λ (l : List ℕ). get_or l x 0) (words b)
+        ∙ sym (ap (λ (c : Bool). cond c (row_word_of b.phase b.generation) (get_or b.words x 0)) (ne_eqb x 0 n))))
 
-pub turn_writes : (s : State) (r d : ℕ) (to : Phase) (e : End) (b : Booking) → present s r ≡ Some b → Writes s (change s r (turned d to e)) (Row r 0) (word_of_phase to)
-turn_writes s r d to e b at = subst (λ (ph : Phase). Writes s (change s r (turned d to e)) (Row r 0) (word_of_phase ph)) (turned-phase d to e b)
-    (phase_writes (turned d to e) (turned-row d to e) (turned-items d to e) (turned-words d to e) s r b at)
-
--- phases and their words
-
-pub phase_back : (ph : Phase) → said_phase (word_of_phase ph) ≡ ph
-phase_back Free = refl
-phase_back Making = refl
-phase_back Prebooked = refl
-phase_back Confirmed = refl
-phase_back Fulfilled = refl
-phase_back (Ending Release) = refl
-phase_back (Ending Expire) = refl
-phase_back (Ending Refund) = refl
-phase_back (Ending Exchange) = refl
-phase_back (Ended Release) = refl
-phase_back (Ended Expire) = refl
-phase_back (Ended Refund) = refl
-phase_back (Ended Exchange) = refl
-
-pub word_phase : (b from : Phase) → word_of_phase b ≡ word_of_phase from → b ≡ from
-word_phase b from e = sym (phase_back b) ∙ (ap said_phase e ∙ phase_back from)
-
-pub said_found : (n : ℕ) (ph : Phase) → word_of_phase ph ≡ n → ph ≡ said_phase n
-said_found n ph e = sym (phase_back ph) ∙ ap said_phase e
-
-none_found : (test : Phase → Bool) (ps : List Phase) → ((ph : Phase) → test ph ≡ false) → find test ps ≡ None
-none_found test [] none = refl
-none_found test (ph ∷ ps) none = ap (λ (b : Bool). cond b (Some ph) (find test ps)) (none ph) ∙ none_found test ps none
-
-pub said_none : (n : ℕ) → ((ph : Phase) → word_of_phase ph ≡ n → ⊥) → Free ≡ said_phase n
-said_none n none = sym (ap (λ (o : Option Phase). option_map_or (λ ph. ph) o Free) (none_found (λ ph. eqb (word_of_phase ph) n) phases (λ ph. ne_eqb (word_of_phase ph) n (none ph))))
+pub turn_writes : (s : State) (r d : ℕ) (to : Phase) (e : End) (b : Booking) → present s r ≡ Some b → Writes s (change s r (turned d to e)) (Row r 0) (row_word_of to b.generation)
+turn_writes s r d to e b at = subst (λ (ph : Phase). Writes s (change s r (turned d to e)) (Row r 0) (row_word_of ph b.generation)) (turned-phase d to e b)
+    (phase_writes (turned d to e) (turned-key d to e) (turned-items d to e) (turned-words d to e) s r b at)

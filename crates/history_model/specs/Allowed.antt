@@ -1,5 +1,5 @@
 -- Which entries are allowed in a state.
-use Rattle.std.specs.Prelude.{◌≡◌, ◌≢◌, ℕ, ◌+◌, ◌-◌, ◌<◌, ◌≤◌, ℤ, pos, ◌≤ℤ◌, true, false, ◌⊎◌, length, map, take, drop, None, slice_index, slice_get, IsSomeAnd}
+use Rattle.std.specs.Prelude.{◌≡◌, ◌≢◌, ℕ, ◌+◌, ◌<◌, ◌≤◌, ℤ, pos, ◌≤ℤ◌, true, false, ◌⊎◌, length, map, take, drop, None, slice_index, slice_get, IsSomeAnd}
 use Rattle.std.specs.List.{AllByRecursion, Any}
 use Rattle.leg_masks.specs.Interval.{Interval, IsPiece, Meet, halves, item_word}
 use Rattle.history_model.specs.declared.phase.Phase.{Phase}
@@ -10,8 +10,9 @@ use Rattle.history_model.specs.declared.booking.BookedItem.{BookedItem}
 use Rattle.history_model.specs.declared.entry.Entry.{Entry}
 use Rattle.history_model.specs.declared.entry.Step.{Step}
 use Rattle.history_model.specs.declared.entry.Step.TheVariants.{Look, Take, Give, Start, SawRow, Note, Seal, Turn, LostTurn, Close, Met}
-use Rattle.history_model.specs.Phase.{is_turn}
-use Rattle.history_model.specs.Booking.{Booking, Layout, State, row_words, most_items, first_item_word, last_moment, greatest_retailer, greatest_amount, least_difference, greatest_difference, word_at, limit_of, present, phase_of_row, all_items, amount_word, successor_word}
+use Rattle.rail_ids.specs.Spelling.{last_generation}
+use Rattle.history_model.specs.Phase.{is_turn, is_ended}
+use Rattle.history_model.specs.Booking.{Booking, Layout, State, row_words, most_items, first_item_word, last_moment, greatest_retailer, greatest_amount, least_difference, greatest_difference, word_at, limit_of, present, all_items, amount_word, successor_word}
 use Rattle.history_model.specs.Words.{place_word, row_word}
 
 abbrev pub IsPlace : Layout → ℕ → Type 0
@@ -81,13 +82,22 @@ pub record HasEndWords (kind : EndKind) (b : Booking) : Type 0 where
 abbrev pub MayClose : ℕ → Booking → Type 0
 MayClose desk b = (kind : EndKind) × IsEndedBy desk kind b × AllGiven b × HasEndWords kind b
 
--- the booking was turned to an exchange by the desk, for this row
-abbrev pub IsExchangedFor : ℕ → ℕ → Booking → Type 0
-IsExchangedFor desk row b = (b.owner ≡ desk) × (b.end.successor ≡ successor_word row) × ((b.phase ≡ Ending Exchange) ⊎ (b.phase ≡ Ended Exchange))
+-- a row may be started: in generation 0 where it is free, and in the next one where its present booking has ended
+abbrev pub MayStart : State → ℕ → ℕ → Type 0
+MayStart s row generation = ((generation ≡ 0) × (present s row ≡ None))
+    ⊎ ((generation ≤ last_generation) × OnRow s row (λ b. (is_ended b.phase ≡ true) × (generation ≡ b.generation + 1)))
 
--- in which phase a row may be sealed
-abbrev pub MaySealAs : State → ℕ → ℕ → Phase → Type 0
-MaySealAs s desk row phase = (phase ≡ Prebooked) ⊎ ((phase ≡ Confirmed) × Any (IsExchangedFor desk row) s)
+-- the booking was turned to an exchange by the desk, for this successor
+abbrev pub IsExchangedFor : ℕ → ℕ → Booking → Type 0
+IsExchangedFor desk successor b = (b.owner ≡ desk) × (b.end.successor ≡ successor) × ((b.phase ≡ Ending Exchange) ⊎ (b.phase ≡ Ended Exchange))
+
+-- in which phase the booking may be sealed
+abbrev pub MaySealAs : State → ℕ → Booking → Phase → Type 0
+MaySealAs s desk b phase = (phase ≡ Prebooked) ⊎ ((phase ≡ Confirmed) × Any (IsExchangedFor desk (successor_word b.row b.generation)) s)
+
+-- a booking in the making of the desk is this successor
+abbrev pub IsSuccessor : State → ℕ → ℕ → Type 0
+IsSuccessor s desk successor = Any (λ b. IsMadeBy desk b × (successor_word b.row b.generation ≡ successor)) s
 
 -- the amount that an end of this kind may have: of a refund what is paid back, of an exchange what the new booking costs more
 abbrev pub IsAmountOf : EndKind → ℤ → Type 0
@@ -104,14 +114,14 @@ TurnsWith s desk limit (Ending Release) moment amount successor = IsAmountOf Rel
 TurnsWith s desk limit (Ending Expire) moment amount successor = (limit < moment) × IsAmountOf Expire amount × (successor ≡ 0)
 TurnsWith s desk limit (Ending Refund) moment amount successor = IsAmountOf Refund amount × (successor ≡ 0)
 TurnsWith s desk limit (Ending Exchange) moment amount successor =
-    IsAmountOf Exchange amount × (0 < successor) × OnRow s (successor - 1) (IsMadeBy desk)
+    IsAmountOf Exchange amount × IsSuccessor s desk successor
 TurnsWith s desk limit _ moment amount successor = ⊥
 
 -- whether the desk's step is allowed
 abbrev pub IsAllowedStep : Layout → State → ℕ → Step → Type 0
 IsAllowedStep g s desk (Look place half shown) = IsPlace g place × (half < halves) × (shown ≡ place_word s place half)
 IsAllowedStep g s desk (SawRow row word value) = IsRow g row × (word < row_words) × (value ≡ row_word s row word)
-IsAllowedStep g s desk (Start row) = IsRow g row × (present s row ≡ None)
+IsAllowedStep g s desk (Start row generation) = IsRow g row × MayStart s row generation
 IsAllowedStep g s desk (Take row place span) =
     IsRow g row × IsPlace g place × OnRow s row (λ b. IsMadeBy desk b × (length b.items < most_items))
     × (span.from < span.to) × IsPiece span × (span.to ≤ slice_index g.legs place) × IsOpen s place span
@@ -120,11 +130,11 @@ IsAllowedStep g s desk (Give row item) =
 IsAllowedStep g s desk (Note row word value) =
     IsRow g row × OnRow s row (MayNote desk word)
 IsAllowedStep g s desk (Seal row phase) =
-    IsRow g row × OnRow s row (λ b. IsMadeBy desk b × IsSealable b) × MaySealAs s desk row phase
+    IsRow g row × OnRow s row (λ b. IsMadeBy desk b × IsSealable b × MaySealAs s desk b phase)
 IsAllowedStep g s desk (Turn row from to moment amount successor) =
     IsRow g row × (is_turn from to ≡ true) × (moment ≤ last_moment)
     × OnRow s row (λ b. (b.phase ≡ from) × TurnsWith s desk (limit_of b) to moment amount successor)
-IsAllowedStep g s desk (LostTurn row wanted shown) = IsRow g row × (shown ≡ phase_of_row s row) × (shown ≢ wanted)
+IsAllowedStep g s desk (LostTurn row wanted shown) = IsRow g row × (shown ≡ row_word s row 0) × (shown ≢ wanted)
 IsAllowedStep g s desk (Close row) =
     IsRow g row × OnRow s row (MayClose desk)
 IsAllowedStep g s desk Met = Unit {0}

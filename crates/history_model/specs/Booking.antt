@@ -1,5 +1,5 @@
 -- Bookings, the state that is a list of them, and what is occupied in it.
-use Rattle.std.specs.Prelude.{ℕ, ℤ, pos, negsuc, ◌+◌, ◌*◌, ◌==◌, ◌&&◌, Bool, not, List, [], Option, find, slice_index, replicate}
+use Rattle.std.specs.Prelude.{ℕ, ℤ, pos, negsuc, ◌+◌, ◌*◌, ◌-◌, ◌==◌, ◌&&◌, max, Bool, not, List, [], ◌∷◌, Option, find, map, slice_index, replicate, if◌then◌else◌}
 use Rattle.std.specs.List.{list_any, flat_map}
 use Rattle.std.specs.Option.{option_map_or}
 use Rattle.history_model.specs.declared.phase.Phase.{Phase}
@@ -48,6 +48,7 @@ greatest_difference = pos 100009999999
 -- a booking. Its words are those of its row; word 0 is not used here, since the phase stands for it
 pub record Booking : Type 0 where
   pub row : ℕ
+  pub generation : ℕ
   pub owner : ℕ
   pub phase : Phase
   pub items : List BookedItem
@@ -82,13 +83,40 @@ word_at b w = slice_index b.words w
 abbrev pub limit_of : Booking → ℕ
 limit_of b = word_at b 2
 
--- how a row stands as a successor, in a turn and in word 5: its number plus 1
-abbrev pub successor_word : ℕ → ℕ
-successor_word row = row + 1
+-- how many rows the word of a successor has room for
+abbrev pub successor_rows : ℕ
+successor_rows = 4294967296
 
--- whether the booking is the one that stands in a row of the state
+-- how a booking stands as the successor of another, in a turn and in word 5; 0 is for none
+abbrev pub successor_word : ℕ → ℕ → ℕ
+successor_word row generation = 1 + row + successor_rows * generation
+
+-- the row and the generation, by which bookings differ
+abbrev pub key_of : Booking → ℕ × ℕ
+key_of b = (b.row, b.generation)
+
+abbrev pub stands_as : ℕ → ℕ → Booking → Bool
+stands_as row generation b = b.row == row && b.generation == generation
+
+-- the booking of this row and generation
+abbrev pub booking_at : State → ℕ → ℕ → Option Booking
+booking_at s row generation = find (stands_as row generation) s
+
+-- its phase, which is Free where there is none
+abbrev pub phase_at : State → ℕ → ℕ → Phase
+phase_at s row generation = option_map_or (λ b. b.phase) (booking_at s row generation) Free
+
+-- one more than the highest generation of a row, and 0 where the row has none
+abbrev pub next_in : List (ℕ × ℕ) → ℕ → ℕ
+next_in [] row = 0
+next_in (k ∷ ks) row = max (if k.0 == row then k.1 + 1 else 0) (next_in ks row)
+
+abbrev pub next_generation : State → ℕ → ℕ
+next_generation s row = next_in (map key_of s) row
+
+-- whether the booking is the row's present one: that of the highest generation
 abbrev pub stands_in : State → ℕ → Booking → Bool
-stands_in s row b = b.row == row
+stands_in s row = stands_as row (next_generation s row - 1)
 
 abbrev pub present : State → ℕ → Option Booking
 present s row = find (stands_in s row) s

@@ -10,3 +10,5 @@ pub mod Life
 pub mod Quiet
 pub mod Looks
 pub mod Work
+pub mod Overall
+pub mod Allows

@@ -1,5 +1,5 @@
--- The life of a row's booking over a legal history: where its phase leads, and how it was sealed and ended.
-use Rattle.std.specs.Prelude.{◌≡◌, ℕ, ℤ, ◌⊎◌, Bool, true, false, List, [], ◌∷◌, ◌++◌, map, Some}
+-- The life of a booking over a legal history: where its phase leads, and how it was sealed and ended.
+use Rattle.std.specs.Prelude.{◌≡◌, ℕ, ◌+◌, ℤ, ◌⊎◌, Bool, true, false, List, [], ◌∷◌, ◌++◌, map, Some}
 use Rattle.history_model.specs.declared.entry.Entry.{Entry}
 use Rattle.history_model.specs.declared.entry.Step.TheVariants.{Seal, Turn, LostTurn}
 use Rattle.history_model.specs.declared.phase.Phase.{Phase}
@@ -8,7 +8,7 @@ use Rattle.history_model.specs.declared.phase.EndKind.{EndKind}
 use Rattle.history_model.specs.declared.phase.EndKind.TheVariants.{Release, Expire}
 use Rattle.history_model.specs.declared.booking.BookedItem.{BookedItem}
 use Rattle.history_model.specs.Phase.{is_sealed}
-use Rattle.history_model.specs.Booking.{Booking, Layout, word_at, present, amount_word}
+use Rattle.history_model.specs.Booking.{Booking, Layout, word_at, booking_at, next_generation, amount_word}
 use Rattle.history_model.specs.History.{state_of, entry}
 use Rattle.history_model.specs.Laws.{MayFollow}
 
@@ -30,30 +30,36 @@ abbrev pub IsTurnBetween : ℕ → Phase → Phase → Entry → Type 0
 IsTurnBetween row from to e =
     (moment : ℕ) × (amount : ℤ) × (successor : ℕ) × (e.step ≡ Turn row from to moment amount successor)
 
--- the entry is a lost turn of the row, and shows this phase
-abbrev pub IsLostTurn : ℕ → Phase → Entry → Type 0
-IsLostTurn row shown e = (wanted : Phase) × (e.step ≡ LostTurn row wanted shown)
+-- the entry is a lost turn of the row, and shows this word
+abbrev pub IsLostTurn : ℕ → ℕ → Entry → Type 0
+IsLostTurn row shown e = (wanted : ℕ) × (e.step ≡ LostTurn row wanted shown)
 
 -- the items, each given back
 abbrev pub all_given_back : List BookedItem → List BookedItem
 all_given_back items = map (λ (i : BookedItem). record i { given_back = true }) items
 
--- after this part of a history the row's booking is sealed, as b: its seal was the last entry, or the books began with it
-pub record IsSealedBy (g : Layout) (row : ℕ) (part : List Entry) (b : Booking) : Type 0 where
-  pub found : present (state_of g part) row ≡ Some b
-  pub sealed : is_sealed b.phase ≡ true
-  pub last : (part ≡ []) ⊎ ((earlier : List Entry) × (maker : ℕ) × (phase : Phase) × (part ≡ earlier ++ entry maker (Seal row phase) ∷ []))
+-- after this history the row's present booking is of this generation, so an entry of the row is one of it
+abbrev pub IsPresentAt : Layout → List Entry → ℕ → ℕ → Type 0
+IsPresentAt g history row generation = next_generation (state_of g history) row ≡ generation + 1
 
--- over the history the row's booking was sealed, then turned to an ending, with the moment, amount and successor of its
--- end, and has given back exactly the items that it was sealed with
-pub record HasEnded (g : Layout) (history : List Entry) (row : ℕ) (kind : EndKind) (c : Booking) : Type 0 where
+-- after this part of a history the booking is sealed, as b: its seal was the last entry, or the books began with it
+pub record IsSealedBy (g : Layout) (row generation : ℕ) (part : List Entry) (b : Booking) : Type 0 where
+  pub found : booking_at (state_of g part) row generation ≡ Some b
+  pub sealed : is_sealed b.phase ≡ true
+  pub last : (part ≡ []) ⊎ ((earlier : List Entry) × (maker : ℕ) × (phase : Phase) × IsPresentAt g earlier row generation
+      × (part ≡ earlier ++ entry maker (Seal row phase) ∷ []))
+
+-- over the history the booking was sealed, then turned to an ending, with the moment, amount and successor of its end, and
+-- has given back exactly the items that it was sealed with
+pub record HasEnded (g : Layout) (history : List Entry) (row generation : ℕ) (kind : EndKind) (c : Booking) : Type 0 where
   pub before : List Entry
   pub between : List Entry
   pub after : List Entry
   pub ender : ℕ
   pub from : Phase
   pub sealed : Booking
-  pub sealing : IsSealedBy g row before sealed
+  pub sealing : IsSealedBy g row generation before sealed
+  pub turning : IsPresentAt g (before ++ between) row generation
   pub history_is : history ≡ (before ++ between) ++ entry ender (Turn row from (Ending kind) c.end.moment c.end.amount c.end.successor) ∷ after
   pub items : c.items ≡ all_given_back sealed.items
   pub amount : word_at c 6 ≡ amount_word kind c.end.amount

@@ -13,7 +13,7 @@ IsIn phase desk b = (b.phase ≡ phase) × (b.owner ≡ desk)
 
 -- the step starts the row
 abbrev pub starts_row : ℕ → Step → Bool
-starts_row r (Start q) = q == r
+starts_row r (Start q j) = q == r
 starts_row r _ = false
 
 -- the step turns the row to an ending

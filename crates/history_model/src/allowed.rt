@@ -2,12 +2,14 @@
 
 ghost use Rattle.std.specs.Prelude.{◌≡◌, ◌<◌, ◌↔◌, IsTrue, length};
 ghost use Rattle.std.specs.List.{Any};
-ghost use Rattle.history_model.specs.Allowed.{OnRow, IsMadeBy, MayGive, MayNote, MayClose, MaySealAs, IsSealable, IsExchangedFor, IsAmountOf, TurnsWith};
-ghost use Rattle.history_model.specs.Booking.{limit_of, most_items};
+ghost use Rattle.history_model.specs.Allowed.{OnRow, IsMadeBy, MayGive, MayNote, MayClose, MaySealAs, MayStart, IsSealable, IsExchangedFor, IsSuccessor, IsAmountOf, TurnsWith};
+ghost use Rattle.history_model.specs.Allows.{IsSealableAs, TurnsFrom};
+ghost use Rattle.history_model.specs.Booking.{limit_of, most_items, successor_word};
 
 use crate::booking::{BookingRow, End, GREATEST_AMOUNT, MOST_ITEMS};
 use crate::phase::{EndKind, Phase};
 use crate::shown::booking_of;
+use rail_ids::LAST_GENERATION;
 
 /// The greatest amount paid back, in minor units.
 const GREATEST_REFUND: i64 = GREATEST_AMOUNT as i64;
@@ -56,41 +58,55 @@ pub(crate) fn may_close(bookings: &[BookingRow], desk: u32, row: u32) -> bool
     }
 }
 
-/// Whether a booking in the making by the desk stands in the row.
-fn is_making(bookings: &[BookingRow], desk: u32, row: u32) -> bool
-    ensures { IsTrue result ↔ OnRow bookings.now row (IsMadeBy desk) }
+/// Whether this generation of the row may be started.
+pub(crate) fn may_start(bookings: &[BookingRow], row: u32, generation: u32) -> bool
+    ensures { IsTrue result ↔ MayStart bookings.now row generation }
 {
     match booking_of(bookings, row) {
-        Some(b) => b.is_made_by(desk),
-        None => false,
+        Some(b) => {
+            if generation > LAST_GENERATION || !b.is_ended() {
+                return false;
+            }
+            u64::from(generation) == u64::from(b.generation) + 1
+        }
+        None => generation == 0,
     }
 }
 
-/// Whether a booking in the making by the desk, with all that a seal asks of it, stands in the row.
-pub(crate) fn is_sealable(bookings: &[BookingRow], desk: u32, row: u32) -> bool
-    ensures { IsTrue result ↔ OnRow bookings.now row (λ b. IsMadeBy desk b × IsSealable b) }
+/// Whether the word is that of a booking in the making by the desk.
+fn is_successor(bookings: &[BookingRow], desk: u32, word: u64) -> bool
+    ensures { IsTrue result ↔ IsSuccessor bookings.now desk word }
 {
-    match booking_of(bookings, row) {
-        Some(b) => b.is_made_by(desk) && b.is_sealable(),
-        None => false,
-    }
+    bookings
+        .iter()
+        .any(|b| b.is_made_by(desk) && b.is_successor(word))
 }
 
-/// Whether the row is the successor of a booking that the desk turned to an exchange.
-fn is_successor(bookings: &[BookingRow], desk: u32, row: u32) -> bool
-    ensures { IsTrue result ↔ Any (IsExchangedFor desk row) bookings.now }
+/// Whether the booking is the successor of one that the desk turned to an exchange.
+fn is_exchanged(bookings: &[BookingRow], desk: u32, b: &BookingRow) -> bool
+    ensures { IsTrue result ↔ Any (IsExchangedFor desk (successor_word b.now.row b.now.generation)) bookings.now }
 {
-    bookings.iter().any(|b| b.is_exchanged_for(desk, row))
+    bookings.iter().any(|old| old.is_exchanged_for(desk, b))
 }
 
-/// Whether a booking of the desk in the row may be sealed in the phase.
-pub(crate) fn may_seal_as(bookings: &[BookingRow], desk: u32, row: u32, phase: Phase) -> bool
-    ensures { IsTrue result ↔ MaySealAs bookings.now desk row phase }
+/// Whether the booking of the desk may be sealed in the phase.
+fn may_seal_as(bookings: &[BookingRow], desk: u32, b: &BookingRow, phase: Phase) -> bool
+    ensures { IsTrue result ↔ MaySealAs bookings.now desk b.now phase }
 {
     match phase {
         Phase::Prebooked => true,
-        Phase::Confirmed => is_successor(bookings, desk, row),
+        Phase::Confirmed => is_exchanged(bookings, desk, b),
         _ => false,
+    }
+}
+
+/// Whether the row's booking is the desk's in the making, with all that a seal asks of it, and may be sealed in the phase.
+pub(crate) fn may_seal(bookings: &[BookingRow], desk: u32, row: u32, phase: Phase) -> bool
+    ensures { IsTrue result ↔ OnRow bookings.now row (IsSealableAs bookings.now desk phase) }
+{
+    match booking_of(bookings, row) {
+        Some(b) => b.is_made_by(desk) && b.is_sealable() && may_seal_as(bookings, desk, b, phase),
+        None => false,
     }
 }
 
@@ -124,10 +140,7 @@ fn turns_with(bookings: &[BookingRow], desk: u32, limit: u64, to: Phase, end: En
             if !is_amount_of(EndKind::Exchange, end.amount) {
                 return false;
             }
-            if end.successor == 0 {
-                return false;
-            }
-            is_making(bookings, desk, end.successor - 1)
+            is_successor(bookings, desk, end.successor)
         }
         _ => false,
     }
@@ -142,7 +155,7 @@ pub(crate) fn row_turns(
     to: Phase,
     end: End,
 ) -> bool
-    ensures { IsTrue result ↔ OnRow bookings.now row (λ b. (b.phase ≡ from) × TurnsWith bookings.now desk (limit_of b) to end.moment end.amount end.successor) }
+    ensures { IsTrue result ↔ OnRow bookings.now row (TurnsFrom bookings.now desk from to end) }
 {
     match booking_of(bookings, row) {
         Some(b) => {

@@ -7,14 +7,18 @@ ghost use Rattle.history_model.specs.Apply.{taken, given, noted, in_phase, turne
 use crate::booking::{BookingRow, End};
 use crate::entry::Step;
 use crate::phase::Phase;
+use crate::shown::{latest_of, words_of_row};
 use leg_masks::Span;
 use std::alloc::{AllocError, Global};
 
-/// Where the booking of a row stands.
+/// Where the present booking of a row stands.
 fn place_of(bookings: &[BookingRow], row: u32) -> Option<usize>
     ensures { result ≡ position (stands_in bookings.now row) bookings.now }
 {
-    bookings.iter().position(|b| b.row == row)
+    let latest = latest_of(bookings, row);
+    bookings
+        .iter()
+        .position(|b| b.row == row && u64::from(b.generation) == latest)
 }
 
 /// Adds an item to the row's booking.
@@ -96,7 +100,10 @@ pub(crate) fn carry_out(
     ensures memory { OnErr result (is_growing step ≡ true) }
 {
     match step {
-        Step::Start { row } => bookings.push(BookingRow::start(alloc, row, desk))?,
+        Step::Start { row, generation } => {
+            let words = words_of_row(bookings, row);
+            bookings.push(BookingRow::start(alloc, row, generation, desk, words))?;
+        }
         Step::Take { row, place, span } => take_in(bookings, row, place, span)?,
         Step::Give { row, item } => give_in(bookings, row, item),
         Step::Note { row, word, value } => note_in(bookings, row, word, value),

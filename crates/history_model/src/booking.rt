@@ -1,8 +1,10 @@
 ghost use Rattle.std.specs.Prelude.{◌≡◌, ◌+◌, ◌-◌, ◌<◌, ◌≤◌, ◌↔◌, ◌⊎◌, [], ◌∷◌, ◌++◌, All, IsTrue, OnOk, OnErr, length, map, slice_set, take, drop, true};
 ghost use Rattle.leg_masks.specs.Interval.{item_word};
-ghost use Rattle.history_model.specs.Booking.{row_words, first_item_word};
+ghost use Rattle.history_model.specs.Allows.{AreWrittenIn};
+ghost use Rattle.history_model.specs.Booking.{row_words, first_item_word, successor_word};
 
 use crate::phase::{EndKind, Phase, amount_word_of};
+use crate::successor::SUCCESSOR_ROWS;
 use leg_masks::{Span, item_word_of};
 use std::alloc::{AllocError, Global};
 use std::marker::Model;
@@ -28,12 +30,12 @@ pub struct BookedItem {
     pub given_back: bool,
 }
 
-/// How a booking ended: when, the amount, and the successor's row plus 1, or 0.
+/// How a booking ended: when, the amount, and the word of its successor, or 0.
 #[derive(Clone, Copy, Debug, PartialEq, Eq)]
 pub struct End {
     pub moment: u64,
     pub amount: i64,
-    pub successor: u32,
+    pub successor: u64,
 }
 
 /// Whether the words begin with those of the items, in order.
@@ -55,7 +57,7 @@ fn begins_with(words: &[u64], items: &[BookedItem]) -> bool
 /// Whether the words of a row have those of the items, in order.
 fn are_written(words: &[u64], items: &[BookedItem]) -> bool
     requires { length words.now ≡ row_words }
-    ensures { IsTrue result ↔ (take (length items.now) (drop first_item_word words.now) ≡ map (λ i. item_word i.place i.span) items.now) }
+    ensures { IsTrue result ↔ AreWrittenIn words.now items.now }
 {
     begins_with(&words[FIRST_ITEM_WORD..], items)
 }
@@ -64,6 +66,7 @@ fn are_written(words: &[u64], items: &[BookedItem]) -> bool
 #[derive(Debug, Drop)]
 pub struct BookingRow {
     pub row: u32,
+    pub generation: u32,
     pub owner: u32,
     pub phase: Phase,
     pub items: Vec<BookedItem>,
@@ -76,7 +79,7 @@ impl Model for BookingRow {
 
     ghost Value = { Booking };
 
-    ghost view = { λ b. record { row = b.row; owner = b.owner; phase = b.phase; items = b.items.items; words = b.words; end = b.end } };
+    ghost view = { λ b. record { row = b.row; generation = b.generation; owner = b.owner; phase = b.phase; items = b.items.items; words = b.words; end = b.end } };
 }
 
 impl BookedItem {
@@ -105,18 +108,26 @@ impl BookingRow {
     ghost use Rattle.history_model.specs.Booking.{occupies};
     ghost use Rattle.std.specs.List.{list_any};
     ghost use Rattle.history_model.specs.Allowed.{Blocks, IsMadeBy, IsLeft, IsBeingEndedBy, MayGive, MayNote, IsSealable, AllGiven, HasEndWords, MayClose, IsExchangedFor};
+    ghost use Rattle.history_model.specs.Phase.{is_ended};
     ghost use Rattle.history_model.specs.Apply.{started, taken, given, noted, in_phase, turned, closed};
 
-    /// A booking in the making.
-    pub fn start(alloc: Global, row: u32, desk: u32) -> Self
-        ensures { result ≡ started row desk }
+    /// A booking in the making, with the words that the row has.
+    pub fn start(
+        alloc: Global,
+        row: u32,
+        generation: u32,
+        desk: u32,
+        words: [u64; ROW_WORDS],
+    ) -> Self
+        ensures { result ≡ started row generation desk words }
     {
         BookingRow {
             row,
+            generation,
             owner: desk,
             phase: Phase::Making,
             items: Vec::new(alloc),
-            words: [0; ROW_WORDS],
+            words,
             end: End {
                 moment: 0,
                 amount: 0,
@@ -244,7 +255,7 @@ impl BookingRow {
     pub fn has_end_words(&self, kind: EndKind) -> bool
         ensures { IsTrue result ↔ HasEndWords kind self.now }
     {
-        if self.words[5] != u64::from(self.end.successor) {
+        if self.words[5] != self.end.successor {
             return false;
         }
         if self.words[6] != amount_word_of(kind, self.end.amount) {
@@ -265,14 +276,32 @@ impl BookingRow {
         }
     }
 
-    /// Whether the desk turned the booking to an exchange for the row.
-    pub fn is_exchanged_for(&self, desk: u32, row: u32) -> bool
-        ensures { IsTrue result ↔ IsExchangedFor desk row self.now }
+    /// Whether the booking has ended.
+    pub fn is_ended(&self) -> bool
+        ensures { result ≡ is_ended self.now.phase }
+    {
+        matches!(self.phase, Phase::Ended(_))
+    }
+
+    /// Whether the word is that of this booking as the successor of another.
+    pub fn is_successor(&self, word: u64) -> bool
+        ensures { IsTrue result ↔ (successor_word self.now.row self.now.generation ≡ word) }
+    {
+        if word == 0 {
+            return false;
+        }
+        (word - 1) % SUCCESSOR_ROWS == u64::from(self.row)
+            && (word - 1) / SUCCESSOR_ROWS == u64::from(self.generation)
+    }
+
+    /// Whether the desk turned this booking to an exchange for the other.
+    pub fn is_exchanged_for(&self, desk: u32, other: &BookingRow) -> bool
+        ensures { IsTrue result ↔ IsExchangedFor desk (successor_word other.now.row other.now.generation) self.now }
     {
         if self.owner != desk {
             return false;
         }
-        if u64::from(self.end.successor) != u64::from(row) + 1 {
+        if !other.is_successor(self.end.successor) {
             return false;
         }
         matches!(

@@ -29,11 +29,12 @@ pub enum Step {
         row: u32,
         item: u8,
     },
-    /// A free row was started.
+    /// A generation of a row was started: the first of a free row, or the next of one whose booking has ended.
     Start {
         row: u32,
+        generation: u32,
     },
-    /// A look at a row's word. A start that found the row taken is one too.
+    /// A look at a row's word. A start that found another word than it expected is one too.
     SawRow {
         row: u32,
         word: u8,
@@ -50,21 +51,21 @@ pub enum Step {
         row: u32,
         phase: Phase,
     },
-    /// The phase was turned. Moment, amount and successor are 0 where the turn has none; a successor is its row's number
-    /// plus 1.
+    /// The phase was turned. Moment, amount and successor are 0 where the turn has none; a successor is the word of its
+    /// row and generation.
     Turn {
         row: u32,
         from: Phase,
         to: Phase,
         moment: u64,
         amount: i64,
-        successor: u32,
+        successor: u64,
     },
-    /// A turn that wanted one phase and found another.
+    /// A turn that wanted one word 0 of the row and found another.
     LostTurn {
         row: u32,
-        wanted: Phase,
-        shown: Phase,
+        wanted: u64,
+        shown: u64,
     },
     /// The ending was closed.
     Close {

@@ -1,23 +1,22 @@
 //! A plain list of bookings that follows a history, entry by entry. It is slow, and is there to be compared with.
 
 ghost use Rattle.std.specs.Prelude.{◌≡◌, ◌<◌, ◌≤◌, ◌↔◌, ◌≢◌, [], true, Err, IsTrue, OnOk, OnErr, None, slice_index, ℕ, cond};
-ghost use Rattle.history_model.specs.Allowed.{IsAllowed, IsAllowedStep, IsRow, IsPlace};
+ghost use Rattle.history_model.specs.Allowed.{IsAllowed, IsAllowedStep, IsRow, IsPlace, MayStart};
+ghost use Rattle.history_model.specs.Allows.{FitsIn, IsAllowedIn, IsTurnIn, ShowsOther, ShowsPlace, ShowsRow, occupied_bit};
 ghost use Rattle.history_model.specs.declared.entry.Step.{Step};
 ghost use Rattle.std.specs.Int.{bit_at};
 ghost use Rattle.leg_masks.specs.Interval.{IsPiece, halves, leg_of, most_places, word_legs};
-ghost use Rattle.history_model.specs.Booking.{most_rows, present, layout_of, is_occupied, row_words, phase_of_row as spec_phase_of_row};
+ghost use Rattle.history_model.specs.Booking.{most_rows, layout_of, is_occupied, row_words};
 ghost use Rattle.history_model.specs.Laws.{IsWellFormed, NoDouble, GoesOn};
 ghost use Rattle.history_model.specs.Words.{place_word, row_word};
 ghost use Rattle.history_model.specs.Apply.{apply, is_growing};
 
-use crate::allowed::{
-    has_room, is_sealable, may_close, may_give, may_note, may_seal_as, row_turns,
-};
+use crate::allowed::{has_room, may_close, may_give, may_note, may_seal, may_start, row_turns};
 use crate::applied::carry_out;
 use crate::booking::{BookingRow, End, LAST_MOMENT, ROW_WORDS};
 use crate::entry::{Entry, Step};
 use crate::phase::{Phase, is_turn};
-use crate::shown::{booking_of, is_open, phase_of_row, word_of_place, word_of_row};
+use crate::shown::{is_open, word_of_place, word_of_row};
 use leg_masks::{HALVES, MOST_LEGS, Span};
 use rail_ids::PlaceNo;
 use std::alloc::Global;
@@ -73,8 +72,8 @@ impl ListHost {
     /// Applies an entry: `NotAllowed` exactly where it is not allowed in the present list, `NoMemory` only at a start or
     /// a take. After either the list is as before.
     pub fn apply(&mut self, entry: Entry) -> Result<(), ApplyFault>
-        ensures not_allowed { (result ≡ Err ApplyFault.NotAllowed) ↔ (¬ IsAllowed self.old.layout self.old.bookings entry) }
-        ensures allowed { OnOk result (IsAllowed self.old.layout self.old.bookings entry) }
+        ensures not_allowed { (result ≡ Err ApplyFault.NotAllowed) ↔ (¬ IsAllowedIn self.old entry) }
+        ensures allowed { OnOk result (IsAllowedIn self.old entry) }
         ensures ok { OnOk result (self.new ≡ record self.old { bookings = apply self.old.bookings entry }) }
         ensures err { OnErr result (self.new ≡ self.old) }
         ensures memory { result ≡ Err ApplyFault.NoMemory → is_growing entry.step ≡ true }
@@ -100,7 +99,7 @@ impl ListHost {
     pub fn occupied(&self, place: PlaceNo, half: u8) -> u64
         requires half { half < halves }
         ensures word { result ≡ place_word self.now.bookings place.0 half }
-        ensures bits { (bit : ℕ) → bit < word_legs → bit_at result bit ≡ cond (is_occupied self.now.bookings place.0 (leg_of half bit)) 1 0 }
+        ensures bits { (bit : ℕ) → bit < word_legs → bit_at result bit ≡ occupied_bit self.now place.0 (leg_of half bit) }
     {
         word_of_place(&self.bookings, place.0, half)
     }
@@ -119,15 +118,15 @@ impl ListHost {
 
     /// Whether the span lies in one half, and within the legs of the place.
     fn fits(&self, place: u32, span: Span) -> bool
-        ensures { IsTrue result ↔ (IsPlace self.now.layout place × (span.from < span.to) × IsPiece span × (span.to ≤ slice_index self.now.layout.legs place)) }
+        ensures { IsTrue result ↔ FitsIn self.now place span }
     {
         place < self.places && span.from < span.to && span.is_piece() && span.to <= HOST_LEGS
     }
 
-    fn may_start(&self, row: u32) -> bool
-        ensures { IsTrue result ↔ (IsRow self.now.layout row × (present self.now.bookings row ≡ None)) }
+    fn may_start(&self, row: u32, generation: u32) -> bool
+        ensures { IsTrue result ↔ (IsRow self.now.layout row × MayStart self.now.bookings row generation) }
     {
-        self.is_row(row) && booking_of(&self.bookings, row).is_none()
+        self.is_row(row) && may_start(&self.bookings, row, generation)
     }
 
     fn may_take(&self, desk: u32, row: u32, place: u32, span: Span) -> bool
@@ -142,19 +141,17 @@ impl ListHost {
     fn may_seal(&self, desk: u32, row: u32, phase: Phase) -> bool
         ensures { IsTrue result ↔ IsAllowedStep self.now.layout self.now.bookings desk (Step.Seal row phase) }
     {
-        self.is_row(row)
-            && is_sealable(&self.bookings, desk, row)
-            && may_seal_as(&self.bookings, desk, row, phase)
+        self.is_row(row) && may_seal(&self.bookings, desk, row, phase)
     }
 
     fn may_look(&self, place: u32, half: u8, shown: u64) -> bool
-        ensures { IsTrue result ↔ (IsPlace self.now.layout place × (half < halves) × (shown ≡ place_word self.now.bookings place half)) }
+        ensures { IsTrue result ↔ ShowsPlace self.now place half shown }
     {
         self.is_place(place) && half < HALVES && shown == word_of_place(&self.bookings, place, half)
     }
 
     fn may_see(&self, row: u32, word: u8, value: u64) -> bool
-        ensures { IsTrue result ↔ (IsRow self.now.layout row × (word < row_words) × (value ≡ row_word self.now.bookings row word)) }
+        ensures { IsTrue result ↔ ShowsRow self.now row word value }
     {
         if !self.is_row(row) {
             return false;
@@ -165,14 +162,14 @@ impl ListHost {
         value == word_of_row(&self.bookings, row, word)
     }
 
-    fn may_lose(&self, row: u32, wanted: Phase, shown: Phase) -> bool
-        ensures { IsTrue result ↔ (IsRow self.now.layout row × (shown ≡ spec_phase_of_row self.now.bookings row) × (shown ≢ wanted)) }
+    fn may_lose(&self, row: u32, wanted: u64, shown: u64) -> bool
+        ensures { IsTrue result ↔ ShowsOther self.now row wanted shown }
     {
-        self.is_row(row) && shown == phase_of_row(&self.bookings, row) && shown != wanted
+        self.is_row(row) && shown == word_of_row(&self.bookings, row, 0) && shown != wanted
     }
 
     fn may_turn(&self, desk: u32, row: u32, from: Phase, to: Phase, end: End) -> bool
-        ensures { IsTrue result ↔ IsAllowedStep self.now.layout self.now.bookings desk (Step.Turn row from to end.moment end.amount end.successor) }
+        ensures { IsTrue result ↔ IsTurnIn self.now desk row from to end }
     {
         if !self.is_row(row) {
             return false;
@@ -193,7 +190,7 @@ impl ListHost {
         match step {
             Step::Look { place, half, shown } => self.may_look(place, half, shown),
             Step::SawRow { row, word, value } => self.may_see(row, word, value),
-            Step::Start { row } => self.may_start(row),
+            Step::Start { row, generation } => self.may_start(row, generation),
             Step::Take { row, place, span } => self.may_take(desk, row, place, span),
             Step::Give { row, item } => self.is_row(row)
                 && may_give(&self.bookings, desk, row, item),

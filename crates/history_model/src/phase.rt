@@ -1,7 +1,11 @@
-ghost use Rattle.std.specs.Prelude.{◌≡◌, ◌≢◌, IfSome, IfNone};
-ghost use Rattle.history_model.specs.Phase.{word_of_phase, said_phase, is_turn as spec_is_turn};
+ghost use Rattle.std.specs.Prelude.{◌≡◌, ◌≢◌, ℕ, ◌<◌, ◌^◌, IfSome, IfNone};
+ghost use Rattle.history_model.specs.Phase.{word_of_phase, row_word_of as spec_row_word_of, phase_shown as spec_phase_shown, is_turn as spec_is_turn};
+ghost use Rattle.history_model.specs.Allows.{IsNoRowWord};
 ghost use Rattle.history_model.specs.Booking.{amount_word};
 ghost use Rattle.history_model.specs.declared.phase.Phase.{Phase};
+
+/// How many numbers word 0 of a row has for each generation.
+const GENERATION_WORDS: u64 = 16;
 
 /// How a booking ends: released or expired before it was confirmed, refunded or exchanged after.
 #[derive(Clone, Copy, Debug, PartialEq, Eq)]
@@ -12,7 +16,7 @@ pub enum EndKind {
     Exchange,
 }
 
-/// How far a row has come. It goes forward only, from free to ended, and may leave out phases.
+/// How far a booking has come. It goes forward only, from free to ended, and may leave out phases.
 #[derive(Clone, Copy, Debug, PartialEq, Eq)]
 pub enum Phase {
     Free,
@@ -24,7 +28,7 @@ pub enum Phase {
     Ended(EndKind),
 }
 
-/// The word of a phase, which is word 0 of its row.
+/// The word of a phase, which is word 0 of its row in generation 0.
 pub fn phase_word(phase: Phase) -> u64
     ensures { result ≡ word_of_phase phase }
 {
@@ -68,11 +72,31 @@ pub fn phase_of(word: u64) -> Option<Phase>
     }
 }
 
-/// The phase that word 0 of a row says. A word that is no phase's, which no row has, says `Free`.
-pub fn phase_said(word: u64) -> Phase
-    ensures phase { result ≡ said_phase word }
+/// Word 0 of a row whose booking is in this phase and of this generation.
+pub fn row_word_of(phase: Phase, generation: u32) -> u64
+    ensures { result ≡ spec_row_word_of phase generation }
 {
-    match phase_of(word) {
+    phase_word(phase) + GENERATION_WORDS * u64::from(generation)
+}
+
+/// The phase and the generation that word 0 of a row says: `None` exactly where it is no phase's of any generation.
+pub fn read_row_word(word: u64) -> Option<(Phase, u32)>
+    ensures found { IfSome result (λ r. spec_row_word_of r.0 r.1 ≡ word) }
+    ensures none { IfNone result (IsNoRowWord word) }
+{
+    let phase = phase_of(word % GENERATION_WORDS)?;
+    let generation = u32::try_from(word / GENERATION_WORDS).ok()?;
+    Some((phase, generation))
+}
+
+/// The phase that word 0 of a row shows a booking of this generation: `Free` where it is of another, or no phase's.
+pub fn phase_shown(word: u64, generation: u32) -> Phase
+    ensures { result ≡ spec_phase_shown generation word }
+{
+    if word / GENERATION_WORDS != u64::from(generation) {
+        return Phase::Free;
+    }
+    match phase_of(word % GENERATION_WORDS) {
         Some(phase) => phase,
         None => Phase::Free,
     }

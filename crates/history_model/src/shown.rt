@@ -1,31 +1,48 @@
 //! What a list of bookings shows: the booking of a row, the legs that are taken, and the words.
 
-ghost use Rattle.std.specs.Prelude.{◌≡◌, ◌<◌, ◌↔◌, All, IsTrue};
+ghost use Rattle.std.specs.Prelude.{◌≡◌, ◌<◌, ◌-◌, ◌↔◌, All, IsTrue};
 ghost use Rattle.std.specs.List.{list_any};
 ghost use Rattle.std.specs.Option.{option_copied};
 ghost use Rattle.leg_masks.specs.Interval.{halves};
 ghost use Rattle.history_model.specs.Allowed.{Blocks, IsOpen};
-ghost use Rattle.history_model.specs.Booking.{present, row_words, occupies, is_occupied, phase_of_row as spec_phase_of_row};
+ghost use Rattle.history_model.specs.Booking.{present, next_generation, row_words, occupies, is_occupied};
 ghost use Rattle.history_model.specs.Words.{place_word, row_word};
+ghost use Rattle.history_model.specs.Apply.{words_of_row as spec_words_of_row};
 
-use crate::booking::BookingRow;
-use crate::phase::{Phase, phase_word};
+use crate::booking::{BookingRow, ROW_WORDS};
+use crate::phase::row_word_of;
 use leg_masks::{Span, WORD_LEGS};
 
-/// The booking of a row, where one stands in it.
+/// The highest generation of a row, and 0 where the row has none.
+pub(crate) fn latest_of(bookings: &[BookingRow], row: u32) -> u64
+    ensures { result ≡ next_generation bookings.now row - 1 }
+{
+    let mut next = 0;
+    for b in bookings {
+        if b.row == row {
+            next = next.max(u64::from(b.generation) + 1);
+        }
+    }
+    next.saturating_sub(1)
+}
+
+/// The present booking of a row, where one stands in it.
 pub(crate) fn booking_of(bookings: &[BookingRow], row: u32) -> Option<&BookingRow>
     ensures { option_copied result ≡ present bookings.now row }
 {
-    bookings.iter().find(|b| b.row == row)
+    let latest = latest_of(bookings, row);
+    bookings
+        .iter()
+        .find(|b| b.row == row && u64::from(b.generation) == latest)
 }
 
-/// The phase of a row, which is free where no booking stands in it.
-pub(crate) fn phase_of_row(bookings: &[BookingRow], row: u32) -> Phase
-    ensures { result ≡ spec_phase_of_row bookings.now row }
+/// The words of a row's present booking, and 0 where it has none.
+pub(crate) fn words_of_row(bookings: &[BookingRow], row: u32) -> [u64; ROW_WORDS]
+    ensures { result ≡ spec_words_of_row bookings.now row }
 {
     match booking_of(bookings, row) {
-        Some(b) => b.phase,
-        None => Phase::Free,
+        Some(b) => b.words,
+        None => [0; ROW_WORDS],
     }
 }
 
@@ -79,11 +96,13 @@ pub(crate) fn word_of_row(bookings: &[BookingRow], row: u32, word: u8) -> u64
     requires { word < row_words }
     ensures { result ≡ row_word bookings.now row word }
 {
-    if word == 0 {
-        return phase_word(phase_of_row(bookings, row));
-    }
     match booking_of(bookings, row) {
-        Some(b) => b.words[word as usize],
+        Some(b) => {
+            if word == 0 {
+                return row_word_of(b.phase, b.generation);
+            }
+            b.words[word as usize]
+        }
         None => 0,
     }
 }

@@ -51,7 +51,7 @@ pub record Tried (start now : DeskView) (hold kept : HoldView) (span : Interval)
   pub each : AllByRecursion (IsTry span) tries
   pub are : places ≡ tried tries
   pub held : kept ≡ with_items hold (items_won span tries)
-  pub seen : Shape start now (tries_steps hold.row (length hold.items) span tries)
+  pub seen : Shape start now (tries_steps hold.row.row (length hold.items) span tries)
 
 -- of which each was won or refused, and so many won
 pub record TriedSettled (start now : DeskView) (hold held : HoldView) (span : Interval) (places : List ℕ) (won : ℕ) : Type 0 where
@@ -82,9 +82,9 @@ one_more hold mid held xs ys zs e f g =
     f ∙ (ap (λ (h : HoldView). with_items h ys) e ∙ ap (λ (is : List Item). record { row = hold.row; items = is }) (append_assoc hold.items xs ys ∙ ap (λ (is : List Item). hold.items ++ is) (sym g)))
 
 -- the same hold, by its row and the number of its items
-as_first : (hold mid : HoldView) (xs : List Item) (t : Try) (b c : DeskView) → mid ≡ with_items hold xs → Shape b c (try_steps mid.row (length mid.items) t) → Shape b c (try_steps hold.row (length hold.items + length xs) t)
+as_first : (hold mid : HoldView) (xs : List Item) (t : Try) (b c : DeskView) → mid ≡ with_items hold xs → Shape b c (try_steps mid.row.row (length mid.items) t) → Shape b c (try_steps hold.row.row (length hold.items + length xs) t)
 as_first hold mid xs t b c e did =
-    subst (λ (n : ℕ). Shape b c (try_steps hold.row n t)) (length-append hold.items xs) (subst (λ (h : HoldView). Shape b c (try_steps h.row (length h.items) t)) e did)
+    subst (λ (n : ℕ). Shape b c (try_steps hold.row.row n t)) (length-append hold.items xs) (subst (λ (h : HoldView). Shape b c (try_steps h.row.row (length h.items) t)) e did)
 
 pub tried_last : (a b c : DeskView) (hold mid held : HoldView) (span : Interval) (places : List ℕ) (place won : ℕ) (outcome : Outcome) → TriedSettled a b hold mid span places won → TriesPlace b mid place span c held outcome → TriedLast a c hold held span places place won outcome
 tried_last a b c hold mid held span places place won outcome so did =
@@ -96,7 +96,7 @@ tried_last a b c hold mid held span places place won outcome so did =
         each = all_more (IsTry span) ts t so.tried.each did.1;
         are = ap (λ (l : List ℕ). l ++ place ∷ []) so.tried.are ∙ sym (tried_more ts t);
         held = one_more hold mid held (items_won span ts) (won_by span t) (items_won span (ts ++ t ∷ [])) so.tried.held did.3 (items_more span ts t);
-        seen = subst (Shape a c) (sym (steps_more hold.row (length hold.items) span ts t)) (shape_then a b c _ _ so.tried.seen (as_first hold mid (items_won span ts) t b c so.tried.held did.2));
+        seen = subst (Shape a c) (sym (steps_more hold.row.row (length hold.items) span ts t)) (shape_then a b c _ _ so.tried.seen (as_first hold mid (items_won span ts) t b c so.tried.held did.2));
       };
       before = ts;
       last = t;
@@ -118,11 +118,11 @@ still_settled a b hold held span places place won outcome so ne = record {
 
 abbrev pub Answers : DeskView → DeskView → HoldView → HoldView → Interval → ℕ → List ℕ → Added → Type 0
 Answers old new hold held span count candidates answer =
-    (won : List Item) × ((es : List Step) × Adds hold.row (length hold.items) span count candidates answer won es × Shape old new es) × (held ≡ with_items hold won)
+    (won : List Item) × ((es : List Step) × Adds hold.row.row (length hold.items) span count candidates answer won es × Shape old new es) × (held ≡ with_items hold won)
 
 answers : (a b : DeskView) (hold held : HoldView) (span : Interval) (count : ℕ) (places candidates : List ℕ) (answer : Added) → (so : Tried a b hold held span places) → IsAdding span count candidates so.tries answer → Answers a b hold held span count candidates answer
 answers a b hold held span count places candidates answer so is =
-    (items_won span so.tries, (tries_steps hold.row (length hold.items) span so.tries, record { tries = so.tries; each = so.each; adding = is; items = refl; steps = refl }, so.seen), so.held)
+    (items_won span so.tries, (tries_steps hold.row.row (length hold.items) span so.tries, record { tries = so.tries; each = so.each; adding = is; items = refl; steps = refl }, so.seen), so.held)
 
 length_kept : (a b : DeskView) (hold held : HoldView) (span : Interval) (places : List ℕ) → (so : Tried a b hold held span places) → length held.items ≡ length hold.items + length (items_won span so.tries)
 length_kept a b hold held span places so = ap (λ (h : HoldView). length h.items) so.held ∙ length-append hold.items (items_won span so.tries)
@@ -337,17 +337,17 @@ tried_many a b hold kept span places so = ap length so.are ∙ length-map so.tri
 
 tried_bound : (a b : DeskView) (hold kept : HoldView) (span : Interval) (places : List ℕ) (n : ℕ) → (so : Tried a b hold kept span places) → length places ≤ n → AddsAtMost (20 * n) a b
 tried_bound a b hold kept span places n so few =
-    let l = tries_length hold.row (length hold.items) span so.tries so.each in
+    let l = tries_length hold.row.row (length hold.items) span so.tries so.each in
     let k = tried_many a b hold kept span places so in
-    adds_length a b (tries_steps hold.row (length hold.items) span so.tries) (20 * n) so.seen (omega (arith, l, k, few))
+    adds_length a b (tries_steps hold.row.row (length hold.items) span so.tries) (20 * n) so.seen (omega (arith, l, k, few))
 
 half_bound : (a b : DeskView) (hold kept : HoldView) (span : Interval) (places : List ℕ) (n : ℕ) → IsPiece span → (so : Tried a b hold kept span places) → length places ≤ n → AddsAtMost (9 * n + (length kept.items - length hold.items)) a b
 half_bound a b hold kept span places n piece so few =
-    let l = half_length hold.row (length hold.items) span so.tries piece so.each in
+    let l = half_length hold.row.row (length hold.items) span so.tries piece so.each in
     let m = length_kept a b hold kept span places so in
     let c : length (items_won span so.tries) ≡ length (places_won so.tries) * 1 = items_count span so.tries ∙ ap (λ (k : ℕ). length (places_won so.tries) * k) (ap length (pieces-whole span piece)) in
     let k = tried_many a b hold kept span places so in
-    adds_length a b (tries_steps hold.row (length hold.items) span so.tries) (9 * n + (length kept.items - length hold.items)) so.seen (omega (arith, l, m, c, k, few))
+    adds_length a b (tries_steps hold.row.row (length hold.items) span so.tries) (9 * n + (length kept.items - length hold.items)) so.seen (omega (arith, l, m, c, k, few))
 
 pub bound_settled : (a b : DeskView) (hold kept : HoldView) (span : Interval) (n won : ℕ) (cs : List PlaceNo) → TriedSettled a b hold kept span (map place_number (take n cs)) won → AddsAtMost (20 * length cs) a b
 bound_settled a b hold kept span n won cs so = tried_bound a b hold kept span (map place_number (take n cs)) (length cs) so.tried (taken_length cs n)

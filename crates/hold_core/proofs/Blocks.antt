@@ -106,7 +106,7 @@ not_won_c e = cc
 pub one_part : (a b : DeskView) (hold held : HoldView) (place : ℕ) (span x : Interval) (rest : List Interval) (o : Outcome) → pieces span ≡ x ∷ rest → (o ≡ Won → rest ≡ []) → TriesPiece a hold place x b held o → TriesPlace a hold place span b held o
 one_part a b hold held place span x rest o are last did =
     let t : Part = record { piece = x; shown = did.0; outcome = o } in
-    let row = hold.row in
+    let row = hold.row.row in
     let k = length hold.items in (
       t ∷ [],
       subst (λ (l : List Interval). AreParts l (t ∷ []) o) (sym are) (refl, did.1, ends o refl),
@@ -144,19 +144,19 @@ none_more : (hold : HoldView) → hold ≡ with_items hold []
 none_more hold = ap (λ (is : List Item). record { row = hold.row; items = is }) (sym (append-nil hold.items))
 
 -- the steps behind the first piece, by the hold that the call began with
-given_back : (hold mid : HoldView) (i : Item) (o : Outcome) (t u : Part) → mid ≡ with_one hold i → given_first mid o ≡ undone hold.row (length hold.items) o (t ∷ u ∷ [])
+given_back : (hold mid : HoldView) (i : Item) (o : Outcome) (t u : Part) → mid ≡ with_one hold i → given_first mid o ≡ undone hold.row.row (length hold.items) o (t ∷ u ∷ [])
 given_back hold mid i Won t u e = refl
 given_back hold mid i Refused t u e = one_give hold mid i e
   where
-    one_give : (hold mid : HoldView) (i : Item) → mid ≡ with_one hold i → Give mid.row (length mid.items - 1) ∷ [] ≡ Give hold.row (length hold.items) ∷ []
-    one_give hold mid i e = ap (λ (h : HoldView). Give h.row (length h.items - 1) ∷ []) e ∙ ap (λ (n : ℕ). Give hold.row n ∷ []) (let l = length-append hold.items (i ∷ []) in omega arith)
+    one_give : (hold mid : HoldView) (i : Item) → mid ≡ with_one hold i → Give mid.row.row (length mid.items - 1) ∷ [] ≡ Give hold.row.row (length hold.items) ∷ []
+    one_give hold mid i e = ap (λ (h : HoldView). Give h.row.row (length h.items - 1) ∷ []) e ∙ ap (λ (n : ℕ). Give hold.row.row n ∷ []) (let l = length-append hold.items (i ∷ []) in omega arith)
 given_back hold mid i Contended t u e = one_give hold mid i e
   where
-    one_give : (hold mid : HoldView) (i : Item) → mid ≡ with_one hold i → Give mid.row (length mid.items - 1) ∷ [] ≡ Give hold.row (length hold.items) ∷ []
-    one_give hold mid i e = ap (λ (h : HoldView). Give h.row (length h.items - 1) ∷ []) e ∙ ap (λ (n : ℕ). Give hold.row n ∷ []) (let l = length-append hold.items (i ∷ []) in omega arith)
+    one_give : (hold mid : HoldView) (i : Item) → mid ≡ with_one hold i → Give mid.row.row (length mid.items - 1) ∷ [] ≡ Give hold.row.row (length hold.items) ∷ []
+    one_give hold mid i e = ap (λ (h : HoldView). Give h.row.row (length h.items - 1) ∷ []) e ∙ ap (λ (n : ℕ). Give hold.row.row n ∷ []) (let l = length-append hold.items (i ∷ []) in omega arith)
 
-second_steps : (hold mid : HoldView) (place : ℕ) (i : Item) (u : Part) → mid ≡ with_one hold i → part_steps mid.row (length mid.items) place u ≡ part_steps hold.row (length hold.items + 1) place u
-second_steps hold mid place i u e = ap (λ (h : HoldView). part_steps h.row (length h.items) place u) e ∙ ap (λ (n : ℕ). part_steps hold.row n place u) (length-append hold.items (i ∷ []))
+second_steps : (hold mid : HoldView) (place : ℕ) (i : Item) (u : Part) → mid ≡ with_one hold i → part_steps mid.row.row (length mid.items) place u ≡ part_steps hold.row.row (length hold.items + 1) place u
+second_steps hold mid place i u e = ap (λ (h : HoldView). part_steps h.row.row (length h.items) place u) e ∙ ap (λ (n : ℕ). part_steps hold.row.row n place u) (length-append hold.items (i ∷ []))
 
 has_all : (hold mid held : HoldView) (place : ℕ) (span x y : Interval) (o : Outcome) → pieces span ≡ x ∷ y ∷ [] → mid ≡ with_one hold (placed place x) → HasSecond mid place y o held → held ≡ with_items hold (items_tried place span o)
 has_all hold mid held place span x y Won are first has =
@@ -170,12 +170,12 @@ pub two_parts : (a b c : DeskView) (hold mid held : HoldView) (place : ℕ) (spa
 two_parts a b c hold mid held place span x y o are first second =
     let t : Part = record { piece = x; shown = first.0; outcome = Won } in
     let u : Part = record { piece = y; shown = second.0; outcome = o } in
-    let row = hold.row in
+    let row = hold.row.row in
     let k = length hold.items in
     let p : List Step = part_steps row k place t in
     let q : List Step = part_steps row (k + 1) place u in
     let back : List Step = undone row k o (t ∷ u ∷ []) in
-    let rest : part_steps mid.row (length mid.items) place u ++ given_first mid o ≡ q ++ back =
+    let rest : part_steps mid.row.row (length mid.items) place u ++ given_first mid o ≡ q ++ back =
     (λ i. second_steps hold mid place (placed place x) u first.3 i ++ given_back hold mid (placed place x) o t u first.3 i) in (
       t ∷ u ∷ [],
       subst (λ (l : List Interval). AreParts l (t ∷ u ∷ []) o) (sym are) (refl, first.1, inl (refl, (refl, second.1, ends o refl))),
@@ -201,24 +201,24 @@ less_one : (mid after less : HoldView) (i : Item) → after ≡ mid → after �
 less_one mid after less i same one =
     let l : length mid.items ≡ length less.items + 1 = ap (λ (h : HoldView). length h.items) (sym same ∙ one) ∙ length-append less.items (i ∷ []) in omega (arith, l)
 
-give_is : (mid after less : HoldView) (i : Item) → after ≡ mid → after ≡ with_one less i → Give after.row (length less.items) ∷ [] ≡ Give mid.row (length mid.items - 1) ∷ []
-give_is mid after less i same one = λ k. Give (ap (λ (h : HoldView). h.row) same k) (less_one mid after less i same one k) ∷ []
+give_is : (mid after less : HoldView) (i : Item) → after ≡ mid → after ≡ with_one less i → Give after.row.row (length less.items) ∷ [] ≡ Give mid.row.row (length mid.items - 1) ∷ []
+give_is mid after less i same one = λ k. Give (ap (λ (h : HoldView). h.row.row) same k) (less_one mid after less i same one k) ∷ []
 
-pub second_refused : (b c d : DeskView) (mid after less : HoldView) (place : ℕ) (y : Interval) (i : Item) → TriesPiece b mid place y c after Refused → after ≡ with_one less i → Shape c d (Give after.row (length less.items) ∷ []) → TriesSecond b mid place y d less Refused
+pub second_refused : (b c d : DeskView) (mid after less : HoldView) (place : ℕ) (y : Interval) (i : Item) → TriesPiece b mid place y c after Refused → after ≡ with_one less i → Shape c d (Give after.row.row (length less.items) ∷ []) → TriesSecond b mid place y d less Refused
 second_refused b c d mid after less place y i did one gave =
     let same = same_after mid after [] did.3 refl in
     let t : Part = record { piece = y; shown = did.0; outcome = Refused } in
-    (did.0, did.1, shape_then b c d (part_steps mid.row (length mid.items) place t) _ did.2 (subst (Shape c d) (give_is mid after less i same one) gave), (i, sym same ∙ one))
+    (did.0, did.1, shape_then b c d (part_steps mid.row.row (length mid.items) place t) _ did.2 (subst (Shape c d) (give_is mid after less i same one) gave), (i, sym same ∙ one))
 
-pub second_contended : (b c d : DeskView) (mid after less : HoldView) (place : ℕ) (y : Interval) (i : Item) → TriesPiece b mid place y c after Contended → after ≡ with_one less i → Shape c d (Give after.row (length less.items) ∷ []) → TriesSecond b mid place y d less Contended
+pub second_contended : (b c d : DeskView) (mid after less : HoldView) (place : ℕ) (y : Interval) (i : Item) → TriesPiece b mid place y c after Contended → after ≡ with_one less i → Shape c d (Give after.row.row (length less.items) ∷ []) → TriesSecond b mid place y d less Contended
 second_contended b c d mid after less place y i did one gave =
     let same = same_after mid after [] did.3 refl in
     let t : Part = record { piece = y; shown = did.0; outcome = Contended } in
-    (did.0, did.1, shape_then b c d (part_steps mid.row (length mid.items) place t) _ did.2 (subst (Shape c d) (give_is mid after less i same one) gave), (i, sym same ∙ one))
+    (did.0, did.1, shape_then b c d (part_steps mid.row.row (length mid.items) place t) _ did.2 (subst (Shape c d) (give_is mid after less i same one) gave), (i, sym same ∙ one))
 
 -- where all items are noted, all but the last are
 pub noted_but_last : (desk : DeskView) (hold less : HoldView) (i : Item) → hold ≡ with_one less i → HasNotedItems desk hold → HasNotedButLast desk hold
-noted_but_last desk hold less i one on = (less.items, i, ap (λ (h : HoldView). h.items) one, noted_front desk hold.row less.items (i ∷ []) (subst (HasNoted desk hold.row) (ap (λ (h : HoldView). h.items) one) on))
+noted_but_last desk hold less i one on = (less.items, i, ap (λ (h : HoldView). h.items) one, noted_front desk hold.row.row less.items (i ∷ []) (subst (HasNoted desk hold.row.row) (ap (λ (h : HoldView). h.items) one) on))
 
 -- how many items the hold has behind a piece
 pub after_won : (mid held : HoldView) (place : ℕ) (x : Interval) → held ≡ with_items mid (piece_won place x Won) → length held.items ≡ length mid.items + 1

@@ -86,18 +86,18 @@ contended a b hold held place span last so same =
       same ∙ none_more hold,
     )
 
-pub won : (a b c d : DeskView) (hold held : HoldView) (place : ℕ) (span : Interval) (count last : ℕ) → LookedFree a b place span count last → count < 8 → Shape b c (Take hold.row place span ∷ []) → Shape c d (Note hold.row (8 + length hold.items) (item_word place span) ∷ []) → held ≡ with_one hold (record { place = place; span = span }) → TriesPiece a hold place span d held Won
+pub won : (a b c d : DeskView) (hold held : HoldView) (place : ℕ) (span : Interval) (count last : ℕ) → LookedFree a b place span count last → count < 8 → Shape b c (Take hold.row.row place span ∷ []) → Shape c d (Note hold.row.row (8 + length hold.items) (item_word place span) ∷ []) → held ≡ with_one hold (record { place = place; span = span }) → TriesPiece a hold place span d held Won
 won a b c d hold held place span count last so few took noted is =
     let shown = so.front ++ last ∷ [] in
     let l : length shown ≡ count + 1 = long so.front last count so.many in (
       shown,
       record { some = omega arith; moving = so.moving; outcome = (omega arith, so.clear) },
-      shape_then a b d (looks_at place span shown) (won_steps hold.row (length hold.items) place span Won) so.seen (shape_then b c d (Take hold.row place span ∷ []) _ took noted),
+      shape_then a b d (looks_at place span shown) (won_steps hold.row.row (length hold.items) place span Won) so.seen (shape_then b c d (Take hold.row.row place span ∷ []) _ took noted),
       is,
     )
 
 -- the same of the hold that the loop has, which is the one it began with
-pub won_with : (a b c d : DeskView) (hold h t n : HoldView) (place : ℕ) (span : Interval) (count last : ℕ) → h ≡ hold → t ≡ with_one h (record { place = place; span = span }) → n ≡ t → LookedFree a b place span count last → count < 8 → Shape b c (Take h.row place span ∷ []) → Shape c d (Note t.row (8 + length h.items) (item_word place span) ∷ []) → TriesPiece a hold place span d n Won
+pub won_with : (a b c d : DeskView) (hold h t n : HoldView) (place : ℕ) (span : Interval) (count last : ℕ) → h ≡ hold → t ≡ with_one h (record { place = place; span = span }) → n ≡ t → LookedFree a b place span count last → count < 8 → Shape b c (Take h.row.row place span ∷ []) → Shape c d (Note t.row.row (8 + length h.items) (item_word place span) ∷ []) → TriesPiece a hold place span d n Won
 won_with a b c d hold h t n place span count last same is kept so few took noted =
     subst (λ (x : HoldView). TriesPiece a x place span d n Won) same
-    (won a b c d h n place span count last so few took (subst (λ (x : HoldView). Shape c d (Note x.row (8 + length h.items) (item_word place span) ∷ [])) is noted) (kept ∙ is))
+    (won a b c d h n place span count last so few took (subst (λ (x : HoldView). Shape c d (Note x.row.row (8 + length h.items) (item_word place span) ∷ [])) is noted) (kept ∙ is))

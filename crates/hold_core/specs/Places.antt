@@ -5,11 +5,14 @@ use Rattle.leg_masks.specs.Interval.{Interval}
 use Rattle.leg_masks.specs.Interval.{PlacedSpan as Item}
 use Rattle.history_model.specs.declared.entry.Step.{Step}
 use Rattle.history_model.specs.declared.entry.Step.TheVariants.{Give}
+use Rattle.claim_rule.specs.Rule.{DeskView}
+use Rattle.claim_rule.specs.Holds.{HoldView}
+use Rattle.claim_rule.specs.Calls.{ShapeBy}
 use Rattle.hold_core.specs.declared.tries.Outcome.{Outcome}
 use Rattle.hold_core.specs.declared.tries.Outcome.TheVariants.{Won, Refused, Contended}
 use Rattle.hold_core.specs.declared.adds.Added.{Added}
 use Rattle.hold_core.specs.declared.adds.Added.TheVariants as added
-use Rattle.hold_core.specs.Tries.{Try, IsTry, items_tried, try_steps}
+use Rattle.hold_core.specs.Tries.{Try, IsTry, items_tried, try_steps, with_items}
 
 abbrev pub won_by : Interval → Try → List Item
 won_by span t = items_tried t.place span t.outcome
@@ -50,8 +53,8 @@ pub record EndsWith (tries : List Try) (outcome : Outcome) : Type 0 where
   pub settled : AllSettled before
   pub ends : last.outcome ≡ outcome
 
--- The tries, one for each of the first candidates in order, and what came of them: as many places won as were wanted, the last among them;
--- all candidates tried, and too few won; or the last one contended, with too few won before it
+-- The tries, one for each of the first candidates in order, and what came of them: as many places won as were wanted,
+-- the last among them; all candidates tried, and too few won; or the last one contended, with too few won before it
 abbrev pub IsAdding : Interval → ℕ → List ℕ → List Try → Added → Type 0
 IsAdding span count candidates tries added.All =
     EndsWith tries Won × (length (places_won tries) ≡ count) × ((left : List ℕ) × (candidates ≡ tried tries ++ left))
@@ -68,6 +71,13 @@ pub record Adds (row k : ℕ) (span : Interval) (count : ℕ) (candidates : List
   pub adding : IsAdding span count candidates tries answer
   pub items : won ≡ items_won span tries
   pub steps : es ≡ tries_steps row k span tries
+
+-- the steps that add places to the hold, and the hold with the items won behind those that it had
+abbrev pub AddsPlaces : DeskView → HoldView → Interval → ℕ → List ℕ → Added → DeskView → HoldView → Type 0
+AddsPlaces old hold span count candidates answer new held =
+    (won : List Item)
+    × ShapeBy (Adds hold.row.row (length hold.items) span count candidates answer won) old new
+    × (held ≡ with_items hold won)
 
 -- how many entries there are at most for one candidate: for each of two pieces eight looks, a take and a note
 abbrev pub most_entries : ℕ

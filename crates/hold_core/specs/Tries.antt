@@ -119,21 +119,21 @@ with_items hold more = record { row = hold.row; items = hold.items ++ more }
 abbrev pub TriesPiece : DeskView → HoldView → ℕ → Interval → DeskView → HoldView → Outcome → Type 0
 TriesPiece old hold place piece new held outcome =
     (shown : List ℕ) × IsPart (record { piece = piece; shown = shown; outcome = outcome })
-    × Shape old new (part_steps hold.row (length hold.items) place (record { piece = piece; shown = shown; outcome = outcome }))
+    × Shape old new (part_steps hold.row.row (length hold.items) place (record { piece = piece; shown = shown; outcome = outcome }))
     × (held ≡ with_items hold (piece_won place piece outcome))
 
 -- the same of all pieces of the span
 abbrev pub TriesPlace : DeskView → HoldView → ℕ → Interval → DeskView → HoldView → Outcome → Type 0
 TriesPlace old hold place span new held outcome =
     (parts : List Part) × AreParts (pieces span) parts outcome
-    × Shape old new (try_steps hold.row (length hold.items) (record { place = place; parts = parts; outcome = outcome }))
+    × Shape old new (try_steps hold.row.row (length hold.items) (record { place = place; parts = parts; outcome = outcome }))
     × (held ≡ with_items hold (items_tried place span outcome))
 
 -- where the second piece isn't won, the hold's last item is given back
 abbrev pub given_first : HoldView → Outcome → List Step
 given_first hold Won = []
-given_first hold Refused = Give hold.row (length hold.items - 1) ∷ []
-given_first hold Contended = Give hold.row (length hold.items - 1) ∷ []
+given_first hold Refused = Give hold.row.row (length hold.items - 1) ∷ []
+given_first hold Contended = Give hold.row.row (length hold.items - 1) ∷ []
 
 -- what the hold has behind the second piece: its item too, or no more the first one's
 abbrev pub HasSecond : HoldView → ℕ → Interval → Outcome → HoldView → Type 0
@@ -145,5 +145,5 @@ HasSecond hold place piece Contended held = (first : Item) × (hold ≡ with_one
 abbrev pub TriesSecond : DeskView → HoldView → ℕ → Interval → DeskView → HoldView → Outcome → Type 0
 TriesSecond old hold place piece new held outcome =
     (shown : List ℕ) × IsPart (record { piece = piece; shown = shown; outcome = outcome })
-    × Shape old new (part_steps hold.row (length hold.items) place (record { piece = piece; shown = shown; outcome = outcome }) ++ given_first hold outcome)
+    × Shape old new (part_steps hold.row.row (length hold.items) place (record { piece = piece; shown = shown; outcome = outcome }) ++ given_first hold outcome)
     × HasSecond hold place piece outcome held

@@ -14,7 +14,7 @@ pub fn abandon(books: &Books, desk: &mut Desk, mut hold: Hold)
     requires own { IsOf books.now desk.old }
     requires hold { IsHolding desk.old hold }
     ensures own { IsOf books.now desk.new }
-    ensures entries { Shape desk.old desk.new (gives_back hold.row (length hold.items)) }
+    ensures entries { Shape desk.old desk.new (gives_back hold.row.row (length hold.items)) }
     ensures kept { desk.new.kept ≡ Some hold.row }
     ensures none { HoldsNone desk.new }
     ensures endings { KeepsEndings desk.old desk.new }

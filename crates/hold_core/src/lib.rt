@@ -1,7 +1,9 @@
 //! Places for a hold: all that a booking asks for, or none.
 //!
-//! `add_places` goes through candidates in order and takes those that are free on all legs of a span, until as many are won as were
-//! asked for. A span that lies in both halves of a place is taken piece by piece, and given back where the second isn't won. What it answers has its cause in looks and takes of this very call. `abandon` gives every place of a hold back.
+//! `add_places` goes through candidates in order and takes those that are free on all legs of a span, until as many are
+//! won as were asked for. A span that lies in both halves of a place is taken piece by piece, and given back where the
+//! second isn't won. What it answers has its cause in looks and takes of this very call. `abandon` gives every place of
+//! a hold back.
 //!
 //! No call takes memory, and none waits.
 #![tactic(auto)]

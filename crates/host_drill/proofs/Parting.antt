@@ -1,5 +1,5 @@
 -- What one request of a worker adds to the history, by what it was answered.
-use Rattle.std.proofs.Common.{◌≡◌, ◌≢◌, ◌∙◌, ⊎_elim, inl, inr, ℕ, zero, suc, ◌+◌, ◌<◌, ◌≤◌, List, [], ◌∷◌, ◌++◌, Some, None, length, refl, sym, ap, subst, arith, append_assoc, append-nil}
+use Rattle.std.proofs.Common.{◌≡◌, ◌≢◌, ◌∙◌, ⊎_elim, inl, inr, ℕ, zero, suc, ◌+◌, ◌<◌, ◌≤◌, List, [], ◌∷◌, ◌++◌, Some, None, length, refl, sym, ap, subst, arith, append_assoc, append-nil, false}
 use Rattle.std.specs.Prelude.{◌==◌, Option}
 use Rattle.std.specs.List.{AllByRecursion}
 use Rattle.std.proofs.lemmas.Bool.{cases_eq, cases_lt}
@@ -9,7 +9,7 @@ use Rattle.place_map.specs.declared.coach.Class.TheVariants.{Second}
 use Rattle.offer_codes.specs.Offers.{OfferView}
 use Rattle.history_model.specs.declared.entry.Entry.{Entry}
 use Rattle.history_model.specs.declared.entry.Step.{Step}
-use Rattle.history_model.specs.declared.entry.Step.TheVariants.{Note, Start, Take, Seal}
+use Rattle.history_model.specs.declared.entry.Step.TheVariants.{Note, SawRow, Start, Take, Seal}
 use Rattle.history_model.specs.declared.phase.Phase.TheVariants.{Prebooked}
 use Rattle.history_model.specs.Booking.{Layout}
 use Rattle.history_model.specs.History.{state_of}
@@ -20,7 +20,8 @@ use Rattle.claim_rule.specs.Seats.{Shape}
 use Rattle.claim_rule.proofs.Shapes.{shape_then}
 use Rattle.booking_rows.specs.declared.notes.Detail.{Detail}
 use Rattle.booking_rows.specs.Notes.{detail_notes}
-use Rattle.booking_rows.specs.Starts.{Misses, misses_steps, StartsHold, IsLeastFree}
+use Rattle.rail_ids.specs.declared.RowNo.{RowNo}
+use Rattle.booking_rows.specs.Starts.{Misses, misses_steps, Passed, search_steps, StartsHold, IsLeastFree}
 use Rattle.rail_catalogue.specs.Contents.{CatalogueView}
 use Rattle.hold_core.specs.declared.tries.Outcome.{Outcome as TryOutcome}
 use Rattle.hold_core.specs.declared.tries.Outcome.TheVariants as outcome
@@ -33,7 +34,7 @@ use Rattle.osdm_texts.specs.declared.problem.Problem.TheVariants as problems
 use Rattle.osdm_texts.specs.Answers.{Reply, problem, status_of}
 use Rattle.reservation_service.specs.declared.holding.Placing.{Placing}
 use Rattle.reservation_service.specs.declared.holding.Placing.TheVariants.{Whole, Short, Contended, NoMemory}
-use Rattle.reservation_service.specs.Holding.{In, FindsNoRow, candidates_in, PlacesAll, Stops, problem_of}
+use Rattle.reservation_service.specs.Holding.{In, FindsNoRow, candidates_in, PlacesAll, placing_of, problem_of}
 use Rattle.reservation_service.specs.Reserving.{detail_of, reserved, Prebooks, FailsToHold}
 use Rattle.drill_totals.specs.Parts.{Outcome, Sold, TurnedAway, Busy, WithoutRow, Among, AllMinor, IsSale, IsTurnedAway, IsBusy, IsPart, on_leg, is_turned_away, is_busy, starts_in}
 use Rattle.drill_catalogue.specs.Fits.{HasPlaces, drill_retailer, numbers_from}
@@ -74,13 +75,31 @@ misses_minor ((row, word) ∷ misses) =
 abbrev StartsOne : List Step → Type 0
 StartsOne es = (n : ℕ) × (n ≤ 1) × AreMinor es n
 
-starts_one : (old new : DeskView) (row : ℕ) (es : List Step) → StartsHold old new (Some row) es → StartsOne es
+searched_minor : (row : ℕ) (passed : List Passed) → AreMinor (search_steps row passed) 0
+searched_minor row [] = (tt, refl)
+searched_minor row ((n, None) ∷ ps) =
+    let rest = searched_minor (suc row) ps in
+    let none = rest.1 in
+    ((refl, rest.0), (let e : 0 + starts_in (search_steps (suc row) ps) ≡ 0 = omega (arith, none) in e))
+searched_minor row ((n, Some m) ∷ ps) =
+    let rest = searched_minor (suc row) ps in
+    let none = rest.1 in
+    ((refl, (refl, rest.0)), (let e : 0 + (0 + starts_in (search_steps (suc row) ps)) ≡ 0 = omega (arith, none) in e))
+
+starts_one : (old new : DeskView) (row : RowNo) (es : List Step) → StartsHold old new (Some row) es → StartsOne es
 starts_one old new row es (inl makes) = (0, (let e : 0 ≤ 1 = omega arith in e), subst (λ (l : List Step). AreMinor l 0) (sym makes.1) (tt, refl))
-starts_one old new row es (inr (none, least, (misses, are, is))) = (
+starts_one old new row es (inr (inl (none, first, least, (misses, are, is)))) = (
   1,
   (let e : 1 ≤ 1 = omega arith in e),
-  subst (λ (l : List Step). AreMinor l 1) (sym is) (minor_append (misses_steps misses) (Start row ∷ []) 0 1 (misses_minor misses) ((refl, tt), refl)),
+  subst (λ (l : List Step). AreMinor l 1) (sym is) (minor_append (misses_steps misses) (Start row.row 0 ∷ []) 0 1 (misses_minor misses) ((refl, tt), refl)),
 )
+starts_one old new row es (inr (inr (none, full, (misses, rest, are, (n, may, next, (passed, many, each, steps)), is)))) =
+    let again = SawRow row.row 0 n ∷ Start row.row row.generation ∷ [] in
+    let searched = subst (λ (l : List Step). AreMinor l 1) (sym steps) (minor_append (search_steps 0 passed) again 0 1 (searched_minor 0 passed) ((refl, (refl, tt)), refl)) in (
+      1,
+      (let e : 1 ≤ 1 = omega arith in e),
+      subst (λ (l : List Step). AreMinor l 1) (sym is) (minor_append (misses_steps misses) rest 0 1 (misses_minor misses) searched),
+    )
 
 -- a front of the steps that starts at most one row, and then no other
 few_starts : (front back : List Step) → StartsOne front → AreMinor back 0 → AllMinor (front ++ back) × (starts_in (front ++ back) ≤ 1)
@@ -157,28 +176,25 @@ pub record AddsOne (cat : CatalogueView) (leg row : ℕ) (placing : Placing) (it
   pub adds : Adds row 0 (on_leg leg) 1 (candidates_on cat leg) answer items steps
   pub shape : Shape old new steps
 
-stopped : (answer : Added) (placing : Placing) → Stops answer placing → Answers answer placing
-stopped added.All placing stop = absurd stop
-stopped (added.NoPlace won) placing stop = stop
-stopped (added.Contended place) placing stop = stop
+ends_by : (answer : Added) (placing : Placing) → placing ≡ placing_of answer → Answers answer placing
+ends_by added.All placing is = is
+ends_by (added.NoPlace won) placing is = is
+ends_by (added.Contended place) placing is = is
 
-one_answer : (answer : Added) (placing : Placing) → answer ≡ added.All → placing ≡ Whole → Answers answer placing
-one_answer answer placing all whole = subst (λ (a : Added). Answers a placing) (sym all) whole
-
-adds_one : (cat : CatalogueView) (leg row : ℕ) (placing : Placing) (items : List Item) (old new : DeskView) → placing ≢ NoMemory
-    → PlacesAll cat (offer_on leg) row [] (leg_segment leg ∷ []) placing items old new → AddsOne cat leg row placing items old new
-adds_one cat leg row placing items old new memory (inl (answer, won, mid, (steps, adds, shape), inl (all, (whole, are, same)))) = record {
+adds_one : (cat : CatalogueView) (leg : ℕ) (row : RowNo) (placing : Placing) (items : List Item) (old new : DeskView) → placing ≢ NoMemory
+    → PlacesAll cat (offer_on leg) false row [] (leg_segment leg ∷ []) placing items old new → AddsOne cat leg row.row placing items old new
+adds_one cat leg row placing items old new memory (inl (mine, won, mid, (answer, means, (steps, adds, shape)), inl (all, (whole, are, same)))) = record {
   answer = answer;
-  ends = one_answer answer placing all whole;
+  ends = ends_by answer placing (whole ∙ (sym all ∙ means));
   steps = steps;
-  adds = subst (λ (l : List Item). Adds row 0 (on_leg leg) 1 (candidates_on cat leg) answer l steps) (sym are) adds;
+  adds = subst (λ (l : List Item). Adds row.row 0 (on_leg leg) 1 (candidates_on cat leg) answer l steps) (sym are) adds;
   shape = subst (λ (d : DeskView). Shape old d steps) (sym same) shape;
 }
-adds_one cat leg row placing items old new memory (inl (answer, won, mid, (steps, adds, shape), inr (stop, are, same))) = record {
+adds_one cat leg row placing items old new memory (inl (mine, won, mid, (answer, means, (steps, adds, shape)), inr (part, is, are, same))) = record {
   answer = answer;
-  ends = stopped answer placing stop;
+  ends = ends_by answer placing (is ∙ means);
   steps = steps;
-  adds = subst (λ (l : List Item). Adds row 0 (on_leg leg) 1 (candidates_on cat leg) answer l steps) (sym are) adds;
+  adds = subst (λ (l : List Item). Adds row.row 0 (on_leg leg) 1 (candidates_on cat leg) answer l steps) (sym are) adds;
   shape = subst (λ (d : DeskView). Shape old d steps) (sym same) shape;
 }
 adds_one cat leg row placing items old new memory (inr none) = absurd (memory none.0)
@@ -358,15 +374,15 @@ pub record IsOnePart (g : Layout) (history : List Entry) (places leg : ℕ) (old
   pub busy : is_busy outcome ≡ (status_of reply == 503)
 
 module _ (cat : CatalogueView) (g : Layout) (history : List Entry) (places leg : ℕ) (has : HasPlaces cat places) where
-  prebooked : (old new : DeskView) (reply : Reply) → Prebooks cat drill_retailer 0 (offer_on leg) old new reply → IsOnePart g history places leg old new reply
+  prebooked : (old new : DeskView) (reply : Reply) → Prebooks cat drill_retailer 0 (offer_on leg) false old new reply → IsOnePart g history places leg old new reply
   prebooked old new reply (row, items, mid, (first, (started, starts, begun), placed), sealed, answered) =
       let a = adds_one cat leg row Whole items first mid (λ none. let e : Whole ≡ NoMemory = none in cc) placed in
       let d = detail_of cat (offer_on leg) drill_retailer 0 in
-      let end = detail_notes row d (length items) ++ Seal row Prebooked ∷ [] in
+      let end = detail_notes row.row d (length items) ++ Seal row.row Prebooked ∷ [] in
       subst (λ (r : Reply). IsOnePart g history places leg old new r) (sym answered) (record {
         outcome = Sold;
         steps = started ++ (a.steps ++ end);
-        part = sold cat places leg row items first mid started d has (starts_one old first row started starts) a;
+        part = sold cat places leg row.row items first mid started d has (starts_one old first row started starts) a;
         shape = shape_then old first new started (a.steps ++ end) begun (shape_then first mid new a.steps end a.shape sealed);
         refused = refl;
         busy = refl;
@@ -374,8 +390,9 @@ module _ (cat : CatalogueView) (g : Layout) (history : List Entry) (places leg :
 
   without_row : (old new : DeskView) (reply : Reply) → new.layout ≡ g → IsPrefix new.seen history → FindsNoRow old new → reply ≡ problem problems.RowsFull
       → IsOnePart g history places leg old new reply
-  without_row old new reply layout front (steps, (none, full, (misses, are, is)), shape) answered =
-      let minor = subst (λ (es : List Step). AreMinor es 0) (sym is) (misses_minor misses) in
+  without_row old new reply layout front (steps, (none, full, (misses, rest, are, (passed, many, each, searched), is)), shape) answered =
+      let behind = subst (λ (es : List Step). AreMinor es 0) (sym searched) (searched_minor 0 passed) in
+      let minor = subst (λ (es : List Step). AreMinor es 0) (sym is) (minor_append (misses_steps misses) rest 0 0 (misses_minor misses) behind) in
       let starts = minor.1 in
       subst (λ (r : Reply). IsOnePart g history places leg old new r) (sym answered) (record {
         outcome = WithoutRow;
@@ -393,9 +410,9 @@ module _ (cat : CatalogueView) (g : Layout) (history : List Entry) (places leg :
       })
 
   -- a placing that held none, by what is wrong with it
-  held_none : (row : ℕ) (placing : Placing) (reason : Problem) (items : List Item) (old first mid new : DeskView) (started : List Step) → StartsOne started
-      → Shape old first started → PlacesAll cat (offer_on leg) row [] (leg_segment leg ∷ []) placing items first mid → problem_of placing ≡ Some reason
-      → Shape mid new (gives_back row (length items)) → problem reason ≢ problem problems.NoMemory → IsOnePart g history places leg old new (problem reason)
+  held_none : (row : RowNo) (placing : Placing) (reason : Problem) (items : List Item) (old first mid new : DeskView) (started : List Step) → StartsOne started
+      → Shape old first started → PlacesAll cat (offer_on leg) false row [] (leg_segment leg ∷ []) placing items first mid → problem_of placing ≡ Some reason
+      → Shape mid new (gives_back row.row (length items)) → problem reason ≢ problem problems.NoMemory → IsOnePart g history places leg old new (problem reason)
   held_none row Whole reason items old first mid new started one begun placed wrong gave memory = absurd (let e : ◌≡◌ {A = Option Problem} None (Some reason) = wrong in cc)
   held_none row Short reason items old first mid new started one begun placed wrong gave memory =
       let a = adds_one cat leg row Short items first mid (λ none. let e : Short ≡ NoMemory = none in cc) placed in
@@ -404,8 +421,8 @@ module _ (cat : CatalogueView) (g : Layout) (history : List Entry) (places leg :
       subst (λ (p : Problem). IsOnePart g history places leg old new (problem p)) (some_is problems.NoPlace reason wrong) (record {
         outcome = TurnedAway;
         steps = started ++ a.steps;
-        part = turned_away cat places leg row items first mid started has one a;
-        shape = shape_then old first new started a.steps begun (then_none first mid new a.steps a.shape (gives_none row items mid new none gave));
+        part = turned_away cat places leg row.row items first mid started has one a;
+        shape = shape_then old first new started a.steps begun (then_none first mid new a.steps a.shape (gives_none row.row items mid new none gave));
         refused = refl;
         busy = refl;
       })
@@ -416,8 +433,8 @@ module _ (cat : CatalogueView) (g : Layout) (history : List Entry) (places leg :
       subst (λ (p : Problem). IsOnePart g history places leg old new (problem p)) (some_is problems.Contended reason wrong) (record {
         outcome = Busy;
         steps = started ++ a.steps;
-        part = kept_busy cat places leg row items first mid started has one a;
-        shape = shape_then old first new started a.steps begun (then_none first mid new a.steps a.shape (gives_none row items mid new none gave));
+        part = kept_busy cat places leg row.row items first mid started has one a;
+        shape = shape_then old first new started a.steps begun (then_none first mid new a.steps a.shape (gives_none row.row items mid new none gave));
         refused = refl;
         busy = refl;
       })
@@ -425,7 +442,7 @@ module _ (cat : CatalogueView) (g : Layout) (history : List Entry) (places leg :
       absurd (memory (ap problem (sym (some_is problems.NoMemory reason wrong))))
 
   failed : (old new : DeskView) (reply : Reply) → new.layout ≡ g → IsPrefix new.seen history → reply ≢ problem problems.NoMemory
-      → FailsToHold cat (offer_on leg) old new reply → IsOnePart g history places leg old new reply
+      → FailsToHold cat (offer_on leg) false old new reply → IsOnePart g history places leg old new reply
   failed old new reply layout front memory (inl (none, answered)) = without_row old new reply layout front none answered
   failed old new reply layout front memory (inr (row, placing, reason, items, mid, (first, (started, starts, begun), placed), wrong, gave, answered)) =
       subst (λ (r : Reply). IsOnePart g history places leg old new r) (sym answered)

@@ -1,5 +1,5 @@
 -- What the request for a leg asks of a catalogue that fits, and is answered.
-use Rattle.std.proofs.Common.{◌≡◌, ◌∙◌, ◌⊎◌, ℕ, ◌+◌, ◌<◌, Bool, List, [], ◌∷◌, length, Option, Some, None, Result, Ok, Err, inl, inr, refl, sym, ap, subst, arith, codes, if◌then◌else◌, option_and_then, slice_get}
+use Rattle.std.proofs.Common.{◌≡◌, ◌∙◌, ◌⊎◌, ℕ, ◌+◌, ◌<◌, Bool, false, List, [], ◌∷◌, length, Option, Some, None, Result, Ok, Err, inl, inr, refl, sym, ap, subst, arith, codes, if◌then◌else◌, option_and_then, slice_get}
 use Rattle.std.proofs.lemmas.Bool.{lt-ltb}
 use Rattle.rail_ids.specs.declared.RetailerNo.{RetailerNo}
 use Rattle.rail_ids.specs.declared.StationNo.{StationNo}
@@ -59,12 +59,12 @@ abbrev from_start : CatalogueView → ℕ → Option StationNo → Result Segmen
 from_start cat leg start = known From start (λ s. to_end cat s (station_with (station_code (leg + 1)) cat.runs.stations))
 
 abbrev then_reserve : Result Segment BodyFault → Result Asked BodyFault
-then_reserve segment = after segment (λ s. Ok (reserve s Second 1 0))
+then_reserve segment = after segment (λ s. Ok (reserve s Second 1 0 false))
 
 abbrev on_run : CatalogueView → ℕ → Option RunNo → Result Asked BodyFault
 on_run cat leg run = need Run run (λ r. then_reserve (segment_of cat r (station_code leg) (station_code (leg + 1))))
 
-asks_leg : (cat : CatalogueView) (leg : ℕ) → HasLeg cat.runs leg → reserve_of cat (body_data leg) ≡ Ok (reserve (leg_segment leg) Second 1 0)
+asks_leg : (cat : CatalogueView) (leg : ℕ) → HasLeg cat.runs leg → reserve_of cat (body_data leg) ≡ Ok (reserve (leg_segment leg) Second 1 0 false)
 asks_leg cat leg has =
     let some = some_run cat.runs.runs 0 _ (on_leg leg) has.span in
     ap (λ (b : Bool). on_run cat leg (if b then Some the_run else None)) (lt-ltb 0 (length cat.runs.runs) some)
@@ -73,7 +73,7 @@ asks_leg cat leg has =
     ∙ ap (λ (o : Option Interval). then_reserve (on_span o)) has.span
 
 asks_body : (cat : CatalogueView) (leg : ℕ) → leg < 8 → HasLeg cat.runs leg
-    → asked_by cat route.Reserve (body_bytes leg) ≡ Ok (reserve (leg_segment leg) Second 1 0)
+    → asked_by cat route.Reserve (body_bytes leg) ≡ Ok (reserve (leg_segment leg) Second 1 0 false)
 asks_body cat leg less has =
     ap (λ d. in_object d (asked_in cat route.Reserve)) (body_is leg less) ∙ asks_leg cat leg has
 
@@ -112,11 +112,11 @@ no_fault p (inr (is, (resource, at, none))) =
 
 -- ---- the command
 
-asked_is : (leg : ℕ) (asked : Result Asked BodyFault) (c : Command) → asked ≡ Ok (reserve (leg_segment leg) Second 1 0) → Asks asked c
-    → c ≡ command.Reserve (leg_segment leg) Second 1 0
+asked_is : (leg : ℕ) (asked : Result Asked BodyFault) (c : Command) → asked ≡ Ok (reserve (leg_segment leg) Second 1 0 false) → Asks asked c
+    → c ≡ command.Reserve (leg_segment leg) Second 1 0 false
 asked_is leg asked (command.Offers trip adults children class wanted) is asks = absurd cc
-asked_is leg asked (command.Book offer) is asks = let e = asks.1 in absurd cc
-asked_is leg asked (command.Reserve segment class count wanted) is asks = cc
+asked_is leg asked (command.Book offer together) is asks = let e = asks.1 in absurd cc
+asked_is leg asked (command.Reserve segment class count wanted together) is asks = cc
 asked_is leg asked (command.Show row) is asks = let e = asks.1 in absurd cc
 asked_is leg asked (command.Release row) is asks = let e = asks.1 in absurd cc
 asked_is leg asked (command.Confirm row) is asks = let e = asks.1 in absurd cc
@@ -130,18 +130,18 @@ asked_is leg asked command.Sweep is asks = absurd cc
 
 -- what a request for a leg may ask: the command, or there was no memory
 abbrev AsksLeg : ℕ → Result (RetailerNo × Command) Problem → Type 0
-AsksLeg leg (Ok a) = (a.0 ≡ the_retailer) × (a.1 ≡ command.Reserve (leg_segment leg) Second 1 0)
+AsksLeg leg (Ok a) = (a.0 ≡ the_retailer) × (a.1 ≡ command.Reserve (leg_segment leg) Second 1 0 false)
 AsksLeg leg (Err p) = p ≡ NoMemory
 
 reads_leg : (cat : CatalogueView) (leg : ℕ) (asked : Result (RetailerNo × Command) Problem)
-    → asked_by cat route.Reserve (body_bytes leg) ≡ Ok (reserve (leg_segment leg) Second 1 0)
+    → asked_by cat route.Reserve (body_bytes leg) ≡ Ok (reserve (leg_segment leg) Second 1 0 false)
     → AsksAt cat the_retailer (body_bytes leg) (Ok route.Reserve) asked → AsksLeg leg asked
 reads_leg cat leg (Ok a) is asks = (asks.0, asked_is leg (asked_by cat route.Reserve (body_bytes leg)) a.1 is asks.1.0)
-reads_leg cat leg (Err p) is (inl (fault, other, problem')) = let e : Ok (reserve (leg_segment leg) Second 1 0) ≡ Err fault = sym is ∙ other in absurd cc
+reads_leg cat leg (Err p) is (inl (fault, other, problem')) = let e : Ok (reserve (leg_segment leg) Second 1 0 false) ≡ Err fault = sym is ∙ other in absurd cc
 reads_leg cat leg (Err p) is (inr (none, body)) = none
 
 asks_found : (cat : CatalogueView) (leg : ℕ) (found : Result Route Problem) (asked : Result (RetailerNo × Command) Problem)
-    → asked_by cat route.Reserve (body_bytes leg) ≡ Ok (reserve (leg_segment leg) Second 1 0)
+    → asked_by cat route.Reserve (body_bytes leg) ≡ Ok (reserve (leg_segment leg) Second 1 0 false)
     → FindsRoute (codes "POST") (codes "/reservations") found → AsksAt cat the_retailer (body_bytes leg) found asked → AsksLeg leg asked
 asks_found cat leg (Err p) asked is finds asks = absurd (no_fault p finds)
 asks_found cat leg (Ok r) asked is finds asks =

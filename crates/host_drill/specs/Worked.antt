@@ -24,7 +24,7 @@ leg_segment leg = record { run = record { 0 = 0 }; span = on_leg leg }
 -- the request for the leg is carried out at moment 0, or there was no memory to read its body
 abbrev pub ReservesLeg : CatalogueView → ℕ → DeskView → DeskView → Reply → Type 0
 ReservesLeg cat leg old new reply =
-    Reserves cat drill_retailer 0 (reserved (leg_segment leg) Second 1 0 0) old new reply ⊎ (DoesNothing old new × (reply ≡ problem NoMemory))
+    Reserves cat drill_retailer 0 (reserved (leg_segment leg) Second 1 0 0) false old new reply ⊎ (DoesNothing old new × (reply ≡ problem NoMemory))
 
 -- the requests from the k-th on are answered one after the other, each by its reply
 abbrev pub AnswersEach : CatalogueView → ℕ → ℕ → DeskView → List Reply → List ℕ → DeskView → Type 0

@@ -71,6 +71,10 @@ module _ {W : Type 0} (Fits : W → BooksView → Type 0) (books : BooksView) wh
         lt,
       )
 
+  -- the same of the last of the members that are left
+  pub popped : (all crew rest : List (Member W)) (m : Member W) → IsCrew Fits books all → IsPrefix crew all → crew ≡ rest ++ m ∷ [] → IsMember Fits books (length rest + 1) m
+  popped all crew rest m is front whole = (last_of all rest m is (subst (λ (l : List (Member W)). IsPrefix l all) whole front)).0
+
   -- it stands there
   pub stands : (all crew : List (Member W)) (m none : Member W) → IsPrefix (crew ++ m ∷ []) all → slice_index_or all (length crew) none ≡ m
   stands all crew m none front =

@@ -7,8 +7,7 @@ use Rattle.leg_masks.specs.Interval.{Interval, items_at, PlacedSpan as Item}
 use Rattle.rail_ids.specs.declared.PlaceNo.{PlaceNo}
 use Rattle.history_model.specs.declared.booking.BookedItem.{BookedItem}
 use Rattle.history_model.specs.declared.entry.Step.{Step}
-use Rattle.history_model.specs.declared.entry.Step.TheVariants.{Note, Seal}
-use Rattle.history_model.specs.declared.phase.Phase.TheVariants.{Making, Prebooked}
+use Rattle.history_model.specs.declared.phase.Phase.TheVariants.{Making}
 use Rattle.history_model.specs.Booking.{Booking, Layout, State, present}
 use Rattle.claim_rule.specs.Rule.{BooksView, DeskView, state_seen}
 use Rattle.claim_rule.specs.Seats.{IsOf, Shape}
@@ -27,7 +26,8 @@ use Rattle.lone_desk.proofs.Finding.{finds_first}
 use Rattle.lone_desk.proofs.OwnRow.{IsApart, AllAt, steps_keep, tries_at_row}
 use Rattle.lone_desk.proofs.Starting.{starts_least}
 use Rattle.host_tiny.specs.Reservations.{Held, IsFree, IsLeastFree, IsNoneFree}
-use Rattle.host_tiny.specs.Run.{IsRun, IsSettled, held_of, reservations, reserved}
+use Rattle.rail_ids.specs.declared.RowNo.{RowNo}
+use Rattle.host_tiny.specs.Run.{notes_and_seal, IsRun, IsSettled, held_of, reservations, reserved}
 use Rattle.host_tiny.proofs.Selling.{HasRow, row_started, no_row_started, rows_apart, found_last, one_each, settled_reservations, row_reservations, reservations_more, settles_empty, settles_sold, sealed_last}
 use Rattle.host_tiny.proofs.Pieces.{one_held}
 use Rattle.host_tiny.proofs.Freeness.{free_at, least_found, none_found}
@@ -81,8 +81,9 @@ full legs places books old new run did =
     (omega (arith, none.0, many), none.1, (shape_follows old new did.0 run.alone did.2).alone)
 
 -- what the start of a hold leaves
-pub record Begun (old new : DeskView) (settled : IsSettled (state_seen old)) (row : ℕ) : Type 0 where
-  pub has : HasRow (state_seen old) settled (state_seen new) row
+pub record Begun (old new : DeskView) (settled : IsSettled (state_seen old)) (row : RowNo) : Type 0 where
+  pub has : HasRow (state_seen old) settled (state_seen new) row.row
+  pub first : row.generation ≡ 0
   pub alone : IsAlone new
   pub few : length (reserved old) < 1024
   pub same : reserved new ≡ reserved old
@@ -94,15 +95,17 @@ begun legs places books old new hold run did holding own =
     let s = state_seen old in
     let settled = run.settled in
     let f = shape_follows old new did.0 run.alone did.2 in
-    let has = row_started old new hold.row run.alone.number settled (starts_least old new (Some hold.row) run.alone did) in
+    let starts = row_started old new hold.row run.alone.number settled (starts_least old new (Some hold.row) run.alone did) in
+    let has = starts.0 in
     let many = ap length (settled_reservations s settled) ∙ one_each settled.sold settled.each in
-    let below : hold.row < new.layout.rows = holding.of.0.row in
+    let below : hold.row.row < new.layout.rows = holding.of.0.row in
     let rows : new.layout.rows ≡ 1024 = ap (λ (g : Layout). g.rows) f.layout ∙ layout_is legs places books old run in
     record {
       has = has;
+      first = starts.1;
       alone = f.alone;
       few = omega (arith, many, has.row_is, below, rows);
-      same = row_reservations s settled (state_seen new) hold.row has ∙ sym (settled_reservations s settled);
+      same = row_reservations s settled (state_seen new) hold.row.row has ∙ sym (settled_reservations s settled);
       free = λ place span. subst (λ (hs : List Held). IsFreeAt (state_seen new) span place ↔ IsFree hs place span) (sym (settled_reservations s settled))
           (free_at (state_seen new) settled.sold has.last settled.each has.empty.none has.now_is place span);
     }
@@ -111,12 +114,12 @@ begun legs places books old new hold run did holding own =
 
 pub adds_found : (legs : ℕ) (places : List PlaceNo) (books : BooksView) (start old new : DeskView) (hold : HoldView) (span : Interval) (answer : Added) (won : List Item)
     → IsRun legs places books start → IsAlone old → span.to ≤ legs
-    → ShapeBy (Adds hold.row (length hold.items) span 1 (map place_number places) answer won) old new
+    → ShapeBy (Adds hold.row.row (length hold.items) span 1 (map place_number places) answer won) old new
     → FindsFirst (state_seen old) span (length places) answer won
 adds_found legs places books start old new hold span answer won run alone fits (steps, adds, did) =
     let f = shape_follows old new steps alone did in
-    finds_first old.layout (state_seen old) old.number hold.row (length hold.items) span (length places) answer won steps (omega (arith, fits, run.few)) f.legal
-    (subst (λ (cs : List ℕ). Adds hold.row (length hold.items) span 1 cs answer won steps) run.numbers adds)
+    finds_first old.layout (state_seen old) old.number hold.row.row (length hold.items) span (length places) answer won steps (omega (arith, fits, run.few)) f.legal
+    (subst (λ (cs : List ℕ). Adds hold.row.row (length hold.items) span 1 cs answer won steps) run.numbers adds)
 
 -- the row in the making stands behind those that are sold, with the hold's items
 pub record LastHas (sold : State) (row : ℕ) (desk : DeskView) (items : List BookedItem) : Type 0 where
@@ -125,15 +128,16 @@ pub record LastHas (sold : State) (row : ℕ) (desk : DeskView) (items : List Bo
   pub items_are : last.items ≡ items
   pub making : last.phase ≡ Making
   pub owner : last.owner ≡ 0
+  pub first : last.generation ≡ 0
   pub apart : IsApart row sold
   pub state : state_seen desk ≡ sold ++ last ∷ []
   pub alone : IsAlone desk
 
 pub places_added : (start old new : DeskView) (settled : IsSettled (state_seen start)) (hold kept : HoldView) (span : Interval) (candidates : List ℕ) (answer : Added) (won : List Item)
-    → Begun start old settled hold.row → ShapeBy (Adds hold.row (length hold.items) span 1 candidates answer won) old new → kept ≡ with_items hold won → IsHolding new kept
-    → LastHas settled.sold hold.row new (map item_of kept.items)
+    → Begun start old settled hold.row → ShapeBy (Adds hold.row.row (length hold.items) span 1 candidates answer won) old new → kept ≡ with_items hold won → IsHolding new kept
+    → LastHas settled.sold hold.row.row new (map item_of kept.items)
 places_added start old new settled hold kept span candidates answer won begun (steps, adds, did) is holding =
-    let row = hold.row in
+    let row = hold.row.row in
     let sold = settled.sold in
     let f = shape_follows old new steps begun.alone did in
     let apart : IsApart row sold = rows_apart 0 sold row settled.rows (omega (arith, begun.has.row_is)) in
@@ -142,7 +146,7 @@ places_added start old new settled hold kept span candidates answer won begun (s
     let state : state_seen new ≡ sold ++ keeps.last ∷ [] =
     f.state ∙ (ap (λ (s : State). after_steps s old.number steps) begun.has.now_is ∙ keeps.is) in
     let stands = holding.of.0 in
-    let here : kept.row ≡ row = ap (λ (h : HoldView). h.row) is in
+    let here : kept.row.row ≡ row = ap (λ (h : HoldView). h.row.row) is in
     let same : Some keeps.last ≡ Some stands.booking =
     sym (ap (λ (s : State). present s row) state ∙ found_last sold keeps.last row keeps.same apart)
     ∙ (ap (present (state_seen new)) (sym here) ∙ stands.found) in
@@ -153,6 +157,7 @@ places_added start old new settled hold kept span candidates answer won begun (s
       items_are = ap (λ (b : Booking). b.items) one ∙ stands.items;
       making = ap (λ (b : Booking). b.phase) one ∙ stands.making;
       owner = ap (λ (b : Booking). b.owner) one ∙ (stands.owner ∙ f.alone.number);
+      first = ap (λ (b : Booking). b.generation) one ∙ (stands.generation ∙ (ap (λ (h : HoldView). h.row.generation) is ∙ begun.first));
       apart = apart;
       state = state;
       alone = f.alone;
@@ -163,17 +168,17 @@ places_added start old new settled hold kept span candidates answer won begun (s
 -- sealed: one more place is sold
 pub sold_more : (start old new : DeskView) (settled : IsSettled (state_seen start)) (row place m n o p : ℕ) (span : Interval) (items : List Item) → row ≡ length settled.sold
     → LastHas settled.sold row old (map item_of items) → items ≡ items_at span place
-    → Shape old new (Note row 1 m ∷ Note row 2 n ∷ Note row 3 o ∷ Note row 4 p ∷ Seal row Prebooked ∷ [])
+    → Shape old new (notes_and_seal row m n o p)
     → IsSettled (state_seen new) × (reserved new ≡ reserved start ++ record { place = place; span = span } ∷ []) × IsAlone new
 sold_more start old new settled row place m n o p span items at has is did =
     let sold = settled.sold in
-    let f = shape_follows old new (Note row 1 m ∷ Note row 2 n ∷ Note row 3 o ∷ Note row 4 p ∷ Seal row Prebooked ∷ []) has.alone did in
+    let f = shape_follows old new (notes_and_seal row m n o p) has.alone did in
     let c = sealed_last sold has.last row old.number m n o p has.row_is has.apart in
-    let steps : List Step = Note row 1 m ∷ Note row 2 n ∷ Note row 3 o ∷ Note row 4 p ∷ Seal row Prebooked ∷ [] in
+    let steps : List Step = notes_and_seal row m n o p in
     let state : state_seen new ≡ sold ++ c.0 ∷ [] = f.state ∙ (ap (λ (s : State). after_steps s old.number steps) has.state ∙ c.4) in
     let one : Held = record { place = place; span = span } in
     let mine : c.0.items ≡ map item_of (items_at span place) = c.2 ∙ (has.items_are ∙ ap (map item_of) is) in (
-      settles_sold (state_seen start) settled row (state_seen new) c.0 at c.1 (record { phase = c.3; one = one; items = mine }) state,
+      settles_sold (state_seen start) settled row (state_seen new) c.0 at c.1 (c.5 ∙ has.first) (record { phase = c.3; one = one; items = mine }) state,
       ap reservations state
           ∙ (reservations_more sold c.0
           ∙ (ap (λ (is : List BookedItem). reservations sold ++ held_of is) mine
@@ -193,7 +198,7 @@ left_empty start old new settled row items at has is did =
     let state : state_seen new ≡ sold ++ has.last ∷ [] = f.state ∙ (ap (after_steps (state_seen old) old.number) steps ∙ has.state) in
     let none : has.last.items ≡ [] = has.items_are ∙ ap (map item_of) is in (
       settles_empty (state_seen start) settled row (state_seen new) has.last at
-          (record { phase = has.making; none = none; owner = has.owner; row_is = has.row_is }) state,
+          (record { phase = has.making; none = none; owner = has.owner; row_is = has.row_is; first = has.first }) state,
       ap reservations state
           ∙ (reservations_more sold has.last
           ∙ (ap (λ (is : List BookedItem). reservations sold ++ held_of is) none
@@ -206,7 +211,7 @@ left_empty start old new settled row items at has is did =
 -- the place found, and what the hold has then
 pub items_found : (legs : ℕ) (places : List PlaceNo) (books : BooksView) (a b c : DeskView) (hold kept : HoldView) (span : Interval) (won : List Item)
     → IsRun legs places books a → span.to ≤ legs → ShapeBy (StartsHold a b (Some hold.row)) a b → IsHolding b hold → hold.items ≡ [] → IsOf books b
-    → ShapeBy (Adds hold.row (length hold.items) span 1 (map place_number places) added.All won) b c → kept ≡ with_items hold won
+    → ShapeBy (Adds hold.row.row (length hold.items) span 1 (map place_number places) added.All won) b c → kept ≡ with_items hold won
     → (found : FindsFirst (state_seen b) span (length places) added.All won) × (kept.items ≡ items_at span found.0)
 items_found legs places books a b c hold kept span won run fits starts holding none own adds is =
     let begins = begun legs places books a b hold run starts holding own in
@@ -216,8 +221,8 @@ items_found legs places books a b c hold kept span won run fits starts holding n
 -- one place is sold
 pub reserved_all : (legs : ℕ) (places : List PlaceNo) (books : BooksView) (a b c d : DeskView) (hold kept : HoldView) (span : Interval) (won : List Item) (m n o : ℕ)
     → IsRun legs places books a → span.to ≤ legs → ShapeBy (StartsHold a b (Some hold.row)) a b → IsHolding b hold → hold.items ≡ [] → IsOf books b
-    → ShapeBy (Adds hold.row (length hold.items) span 1 (map place_number places) added.All won) b c → kept ≡ with_items hold won → IsHolding c kept
-    → Shape c d (Note kept.row 1 m ∷ Note kept.row 2 n ∷ Note kept.row 3 o ∷ Note kept.row 4 (length kept.items) ∷ Seal kept.row Prebooked ∷ [])
+    → ShapeBy (Adds hold.row.row (length hold.items) span 1 (map place_number places) added.All won) b c → kept ≡ with_items hold won → IsHolding c kept
+    → Shape c d (notes_and_seal kept.row.row m n o (length kept.items))
     → (place : ℕ) × (kept.items ≡ items_at span place) × (length (reserved a) < 1024)
     × IsLeastFree (reserved a) (length places) place span × IsSettled (state_seen d)
     × (reserved d ≡ reserved a ++ record { place = place; span = span } ∷ []) × IsAlone d
@@ -225,9 +230,9 @@ reserved_all legs places books a b c d hold kept span won m n o run fits starts 
     let begins = begun legs places books a b hold run starts holding own in
     let has = places_added a b c run.settled hold kept span (map place_number places) added.All won begins adds is still in
     let (found, items) = items_found legs places books a b c hold kept span won run fits starts holding none own adds is in
-    let here : kept.row ≡ hold.row = ap (λ (h : HoldView). h.row) is in
-    let sealed = subst (λ (r : ℕ). Shape c d (Note r 1 m ∷ Note r 2 n ∷ Note r 3 o ∷ Note r 4 (length kept.items) ∷ Seal r Prebooked ∷ [])) here did in
-    let sold = sold_more a c d run.settled hold.row found.0 m n o (length kept.items) span kept.items begins.has.row_is has items sealed in (
+    let here : kept.row.row ≡ hold.row.row = ap (λ (h : HoldView). h.row.row) is in
+    let sealed = subst (λ (r : ℕ). Shape c d (notes_and_seal r m n o (length kept.items))) here did in
+    let sold = sold_more a c d run.settled hold.row.row found.0 m n o (length kept.items) span kept.items begins.has.row_is has items sealed in (
       found.0,
       items,
       begins.few,
@@ -240,17 +245,17 @@ reserved_all legs places books a b c d hold kept span won m n o run fits starts 
 -- no place is free
 pub reserved_none : (legs : ℕ) (places : List PlaceNo) (books : BooksView) (a b c d : DeskView) (hold kept : HoldView) (span : Interval) (count : ℕ) (won : List Item)
     → IsRun legs places books a → span.to ≤ legs → ShapeBy (StartsHold a b (Some hold.row)) a b → IsHolding b hold → hold.items ≡ [] → IsOf books b
-    → ShapeBy (Adds hold.row (length hold.items) span 1 (map place_number places) (added.NoPlace count) won) b c → kept ≡ with_items hold won → IsHolding c kept
-    → Shape c d (gives_back kept.row (length kept.items))
+    → ShapeBy (Adds hold.row.row (length hold.items) span 1 (map place_number places) (added.NoPlace count) won) b c → kept ≡ with_items hold won → IsHolding c kept
+    → Shape c d (gives_back kept.row.row (length kept.items))
     → (length (reserved a) < 1024) × IsNoneFree (reserved a) (length places) span × IsSettled (state_seen d) × (reserved d ≡ reserved a) × IsAlone d
 reserved_none legs places books a b c d hold kept span count won run fits starts holding none own adds is still did =
     let begins = begun legs places books a b hold run starts holding own in
     let found = adds_found legs places books a b c hold span (added.NoPlace count) won run begins.alone fits adds in
     let has = places_added a b c run.settled hold kept span (map place_number places) (added.NoPlace count) won begins adds is still in
     let items : kept.items ≡ [] = ap (λ (h : HoldView). h.items) is ∙ (ap (λ (l : List Item). l ++ won) none ∙ found.0) in
-    let here : kept.row ≡ hold.row = ap (λ (h : HoldView). h.row) is in
+    let here : kept.row.row ≡ hold.row.row = ap (λ (h : HoldView). h.row.row) is in
     let given = subst (λ (r : ℕ). Shape c d (gives_back r (length kept.items))) here did in
-    let left = left_empty a c d run.settled hold.row kept.items begins.has.row_is has items given in (
+    let left = left_empty a c d run.settled hold.row.row kept.items begins.has.row_is has items given in (
       begins.few,
       none_found (state_seen b) (reserved a) span (length places) won (λ place. begins.free place span) count found,
       left.0,
@@ -261,7 +266,7 @@ reserved_none legs places books a b c d hold kept span count won run fits starts
 -- the desk is alone, so nothing is contended
 pub never_contended : (legs : ℕ) (places : List PlaceNo) (books : BooksView) (a b c : DeskView) (hold : HoldView) (span : Interval) (place : PlaceNo) (won : List Item)
     → IsRun legs places books a → span.to ≤ legs → ShapeBy (StartsHold a b (Some hold.row)) a b → IsHolding b hold → IsOf books b
-    → ShapeBy (Adds hold.row (length hold.items) span 1 (map place_number places) (added.Contended place) won) b c → ⊥
+    → ShapeBy (Adds hold.row.row (length hold.items) span 1 (map place_number places) (added.Contended place) won) b c → ⊥
 never_contended legs places books a b c hold span place won run fits starts holding own adds =
     let begins = begun legs places books a b hold run starts holding own in
     adds_found legs places books a b c hold span (added.Contended place) won run begins.alone fits adds

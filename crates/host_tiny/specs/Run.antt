@@ -4,6 +4,8 @@ use Rattle.std.specs.List.{AllByRecursion, flat_map, range_with_len}
 use Rattle.leg_masks.specs.Interval.{Interval, items_at, most_legs}
 use Rattle.rail_ids.specs.declared.PlaceNo.{PlaceNo}
 use Rattle.history_model.specs.declared.booking.BookedItem.{BookedItem}
+use Rattle.history_model.specs.declared.entry.Step.{Step}
+use Rattle.history_model.specs.declared.entry.Step.TheVariants.{Note, Seal}
 use Rattle.history_model.specs.declared.phase.Phase.TheVariants.{Making, Prebooked}
 use Rattle.history_model.specs.Booking.{Booking, State}
 use Rattle.claim_rule.specs.Rule.{BooksView, DeskView, state_seen}
@@ -35,17 +37,23 @@ pub record IsSold (b : Booking) : Type 0 where
   pub one : Held
   pub items : b.items ≡ map item_of (items_at one.span one.place)
 
--- the booking is of this row, in the making by the first desk, with nothing taken: a refusal left it
+-- the booking is the first of this row, in the making by the first desk, with nothing taken: a refusal left it
 pub record IsEmptyRow (row : ℕ) (b : Booking) : Type 0 where
   pub phase : b.phase ≡ Making
   pub none : b.items ≡ []
   pub owner : b.owner ≡ 0
   pub row_is : b.row ≡ row
+  pub first : b.generation ≡ 0
 
--- the bookings are those of the rows from this one on, in order
+-- the bookings are the first ones of the rows from this one on, in order
 abbrev pub StandFrom : ℕ → State → Type 0
 StandFrom row [] = Unit {0}
-StandFrom row (b ∷ bs) = (b.row ≡ row) × StandFrom (row + 1) bs
+StandFrom row (b ∷ bs) = (b.row ≡ row) × (b.generation ≡ 0) × StandFrom (row + 1) bs
+
+-- the notes of a booking's detail, and its seal
+abbrev pub notes_and_seal : ℕ → ℕ → ℕ → ℕ → ℕ → List Step
+notes_and_seal row retailer limit total count =
+    Note row 1 retailer ∷ Note row 2 limit ∷ Note row 3 total ∷ Note row 4 count ∷ Seal row Prebooked ∷ []
 
 -- a row for each reservation, in order, and behind them at most an empty one
 pub record IsSettled (s : State) : Type 0 where

@@ -1,13 +1,11 @@
 // One run in words: its places, its booking rows, and the one desk at them.
-ghost use Rattle.std.specs.Prelude.{◌≡◌, ◌<◌, ◌≤◌, ◌++◌, ◌∷◌, ℕ, [], All, IfOk, length, map, slice_index_or};
+ghost use Rattle.std.specs.Prelude.{◌≡◌, ◌<◌, ◌≤◌, ◌++◌, ℕ, [], All, IfOk, length, map, slice_index_or};
 ghost use Rattle.std.specs.List.{range_with_len};
 ghost use Rattle.leg_masks.specs.Interval.{PlacedSpan as Item, most_legs};
-ghost use Rattle.history_model.specs.declared.entry.Step.TheVariants.{Note, Seal};
-ghost use Rattle.history_model.specs.declared.phase.Phase.TheVariants.{Prebooked};
 ghost use Rattle.claim_rule.specs.Seats.{IsOf, Shape};
 ghost use Rattle.claim_rule.specs.Out.{IsHolding, HasNotedItems, HoldsNone};
 ghost use Rattle.hold_core.specs.Tries.{place_number};
-ghost use Rattle.host_tiny.specs.Run.{IsRun, Reserves, reserved};
+ghost use Rattle.host_tiny.specs.Run.{IsRun, Reserves, reserved, notes_and_seal};
 
 use booking_rows::{Detail, Sealed, note_detail, seal, start_hold};
 use claim_rule::{Books, Desk, Hold, start_books};
@@ -91,7 +89,7 @@ fn seal_booking(books: &Books, desk: &mut Desk, mut hold: Hold)
     requires some { 1 ≤ length hold.items }
     ensures own { IsOf books.now desk.new }
     ensures entries { (retailer limit total : ℕ) × Shape desk.old desk.new
-        (Note hold.row 1 retailer ∷ Note hold.row 2 limit ∷ Note hold.row 3 total ∷ Note hold.row 4 (length hold.items) ∷ Seal hold.row Prebooked ∷ []) }
+        (notes_and_seal hold.row.row retailer limit total (length hold.items)) }
     ensures none { HoldsNone desk.new }
 {
     let detail = Detail {

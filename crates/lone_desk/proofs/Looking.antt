@@ -17,7 +17,7 @@ use Rattle.history_model.specs.Words.{place_word}
 use Rattle.history_model.proofs.Bits.{place_word-same}
 use Rattle.history_model.proofs.Changes.{occupied_kept, occupied-take}
 use Rattle.history_model.proofs.Forward.{state-append, legal_left, legal_right}
-use Rattle.history_model.proofs.Going.{present-changed}
+use Rattle.history_model.proofs.Generations.{present-changed}
 use Rattle.history_model.proofs.Items.{any-append}
 use Rattle.history_model.proofs.Keeping.{found, items_around, given_making}
 use Rattle.history_model.proofs.Writing.{left_item, take_writes}

@@ -1,14 +1,17 @@
 -- The row that a lone desk makes is the last of the list, and its steps there leave the others as they are.
-use Rattle.std.proofs.Common.{◌≡◌, ℕ, zero, suc, ◌+◌, Bool, true, false, cond, eq-eqb, List, [], ◌∷◌, ◌++◌, length, refl, sym, ap, ◌∙◌, subst, append-nil}
-use Rattle.std.specs.Prelude.{◌==◌}
+use Rattle.std.proofs.Common.{◌≡◌, ℕ, zero, suc, ◌+◌, ◌-◌, max, Bool, true, false, cond, eq-eqb, List, [], ◌∷◌, ◌++◌, length, map, refl, sym, ap, ◌∙◌, subst, arith, append-nil}
+use Rattle.std.specs.Prelude.{◌==◌, ◌&&◌}
 use Rattle.std.specs.List.{AllByRecursion}
 use Rattle.std.proofs.lemmas.Bool.Decides.{Decides-eqb}
+use mathlib.Core.List.{map-append}
 use Rattle.leg_masks.specs.Interval.{Interval}
 use Rattle.history_model.specs.declared.entry.Step.{Step}
 use Rattle.history_model.specs.declared.entry.Step.TheVariants.{Look, Take, Give, Start, SawRow, Note, Seal, Turn, LostTurn, Close, Met}
 use Rattle.history_model.specs.Apply.{apply_step, taken, given, noted, in_phase}
 use Rattle.history_model.specs.declared.booking.BookedItem.{BookedItem}
-use Rattle.history_model.specs.Booking.{Booking, State, change, all_items}
+use Rattle.history_model.specs.Booking.{Booking, State, key_of, stands_as, next_in, next_generation, change, all_items}
+use Rattle.history_model.specs.Lists.{change_first}
+use Rattle.history_model.proofs.Generations.{next-push, test_of_key}
 use Rattle.history_model.proofs.ListLemmas.{All-append, flat_map-append}
 use Rattle.hold_core.specs.declared.tries.Outcome.{Outcome}
 use Rattle.hold_core.specs.declared.tries.Outcome.TheVariants.{Won, Refused, Contended}
@@ -24,12 +27,37 @@ IsApart row s = AllByRecursion (λ b. (b.row == row) ≡ false) s
 abbrev pub AllAt : ℕ → List Step → Type 0
 AllAt row steps = AllByRecursion (λ st. is_at row st ≡ true) steps
 
+pub changed_behind : (p : Booking → Bool) (f : Booking → Booking) (before after : State) (b : Booking) → AllByRecursion (λ x. p x ≡ false) before → p b ≡ true
+    → change_first p f (before ++ b ∷ after) ≡ before ++ f b ∷ after
+changed_behind p f [] after b none passes = ap (λ (t : Bool). cond t (f b ∷ after) (b ∷ change_first p f after)) passes
+changed_behind p f (x ∷ before) after b none passes =
+    ap (λ (t : Bool). cond t (f x ∷ (before ++ b ∷ after)) (x ∷ change_first p f (before ++ b ∷ after))) none.0
+    ∙ ap (λ (s : State). x ∷ s) (changed_behind p f before after b none.1 passes)
+
+apart_next : (front : State) (row : ℕ) → IsApart row front → next_generation front row ≡ 0
+apart_next [] row apart = refl
+apart_next (x ∷ front) row apart =
+    ap (λ (t : Bool). max (cond t (x.generation + 1) 0) (next_generation front row)) apart.0
+    ∙ (let rest = apart_next front row apart.1 in let none : max 0 (next_generation front row) ≡ 0 = omega (arith, rest) in none)
+
+-- so the last is the row's present booking
+last_next : (front : State) (b : Booking) (row : ℕ) → b.row ≡ row → IsApart row front → next_generation (front ++ b ∷ []) row ≡ b.generation + 1
+last_next front b row here apart =
+    ap (λ (ks : List (ℕ × ℕ)). next_in ks row) (map-append key_of front (b ∷ []))
+    ∙ (next-push (map key_of front) (key_of b) row
+    ∙ (ap (λ (t : Bool). max (next_generation front row) (cond t (b.generation + 1) 0)) (eq-eqb b.row row here)
+    ∙ (let none = apart_next front row apart in let top : max (next_generation front row) (b.generation + 1) ≡ b.generation + 1 = omega (arith, none) in top)))
+
+none_stands : (row generation : ℕ) (front : State) → IsApart row front → AllByRecursion (λ x. stands_as row generation x ≡ false) front
+none_stands row generation [] apart = tt
+none_stands row generation (x ∷ front) apart = (ap (λ (t : Bool). t && (x.generation == generation)) apart.0, none_stands row generation front apart.1)
+
 pub change_last : (front : State) (b : Booking) (row : ℕ) (f : Booking → Booking) → b.row ≡ row → IsApart row front
     → change (front ++ b ∷ []) row f ≡ front ++ f b ∷ []
-change_last [] b row f here apart = ap (λ (t : Bool). cond t (f b ∷ []) (b ∷ [])) (eq-eqb b.row row here)
-change_last (x ∷ front) b row f here apart =
-    ap (λ (t : Bool). cond t (f x ∷ (front ++ b ∷ [])) (x ∷ change (front ++ b ∷ []) row f)) apart.0
-    ∙ ap (λ (s : State). x ∷ s) (change_last front b row f here apart.1)
+change_last front b row f here apart =
+    let n = next_generation (front ++ b ∷ []) row - 1 in
+    let next = last_next front b row here apart in
+    changed_behind (stands_as row n) f front [] b (none_stands row n front apart) (test_of_key row n b here (omega (arith, next)))
 
 -- the items of all, with those of the last
 pub items_with : (front : State) (b : Booking) → all_items (front ++ b ∷ []) ≡ all_items front ++ b.items
@@ -56,7 +84,7 @@ step_keeps : (front : State) (b : Booking) (row desk : ℕ) (st : Step) → b.ro
 step_keeps front b row desk (Look place half shown) here apart at = record { last = b; same = here; is = refl }
 step_keeps front b row desk (Take r place span) here apart at = changed front b row r (taken place span) here (λ x. refl) at apart
 step_keeps front b row desk (Give r item) here apart at = changed front b row r (given item) here (λ x. refl) at apart
-step_keeps front b row desk (Start r) here apart at = absurd cc
+step_keeps front b row desk (Start r generation) here apart at = absurd cc
 step_keeps front b row desk (SawRow r word value) here apart at = record { last = b; same = here; is = refl }
 step_keeps front b row desk (Note r word value) here apart at = changed front b row r (noted word value) here (λ x. refl) at apart
 step_keeps front b row desk (Seal r phase) here apart at = changed front b row r (in_phase phase) here (λ x. refl) at apart

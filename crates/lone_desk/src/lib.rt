@@ -1,13 +1,15 @@
 //! What a desk sees between whose steps no other desk's stand.
 //!
-//! A desk that parted no other has all entries there are, so each call adds just the call's own. On such a desk a try of a candidate
-//! needs one look at each piece, which decides it, and nothing is contended; a hold starts on the least row that is not in use.
-//! Services of one thread rest on this. The crate has laws alone: it does nothing when it runs.
+//! A desk that parted no other has all entries there are, so each call adds just the call's own. On such a desk a try
+//! of a candidate needs one look at each piece, which decides it, and nothing is contended; a hold starts on the least
+//! row that is not in use, or, where all are, on the least whose booking may be followed by another. Services of one
+//! thread rest on this. The crate has laws alone: it does nothing when it runs.
 #![tactic(auto)]
 
 ghost use Rattle.std.specs.Prelude.{◌≡◌, ◌≢◌, ◌<◌, ◌≤◌, ◌↔◌, ◌∷◌, ◌++◌, ℕ, List, Option};
 ghost use Rattle.std.specs.List.{AllByRecursion, range_with_len};
 ghost use Rattle.leg_masks.specs.Interval.{Interval, PlacedSpan as Item, most_legs};
+ghost use Rattle.rail_ids.specs.declared.RowNo.{RowNo};
 ghost use Rattle.history_model.specs.declared.entry.Step.{Step};
 ghost use Rattle.history_model.specs.Lists.{Pairwise};
 ghost use Rattle.history_model.specs.Booking.{Booking, Layout, State};
@@ -22,19 +24,22 @@ ghost use Rattle.hold_core.specs.declared.adds.Added.{Added};
 ghost use Rattle.lone_desk.specs.Lone.{IsAlone, Follows, StartsLeast, entries_of};
 ghost use Rattle.lone_desk.specs.Decided.{IsDecided, IsFreeAt, HasClearWords, FindsFirst};
 
-/// The laws of a lone desk: a call's own steps are all that it then has seen more; each try of unlike places has one look at each
-/// piece that it comes to, and ends by what was free before it, so one place wanted of all is the least that is free; a hold
-/// starts on the row in the making, or on the least row not in use; and the words of a place are clear on the pieces of a span
-/// exactly where no item of the place that is not given back meets it.
+/// The laws of a lone desk: a call's own steps are all that it then has seen more; each try of unlike places has one
+/// look at each piece that it comes to, and ends by what was free before it, so one place wanted of all is the least
+/// that is free; a hold starts on the row in the making, or on the least row not in use, or, where all are, on the least
+/// whose booking may be followed by another; and the words of a place are clear on the pieces of a span exactly where no
+/// item of the place that is not given back meets it.
 pub fn lone_laws()
-    ensures follows { (old new : DeskView) (steps : List Step) → IsAlone old → Shape old new steps → Follows old new steps }
-    ensures tries { (g : Layout) (s : State) (desk row k : ℕ) (span : Interval) (tries : List Try) → span.to ≤ most_legs
-        → AllByRecursion (IsTry span) tries → Pairwise (λ p q. p ≢ q) (tried tries)
+    ensures follows { (old new : DeskView) (steps : List Step) → IsAlone old → Shape old new steps
+        → Follows old new steps }
+    ensures tries { (g : Layout) (s : State) (desk row k : ℕ) (span : Interval) (tries : List Try)
+        → span.to ≤ most_legs → AllByRecursion (IsTry span) tries → Pairwise (λ p q. p ≢ q) (tried tries)
         → IsLegalFrom g s (entries_of desk (tries_steps row k span tries)) → AllByRecursion (IsDecided s span) tries }
-    ensures first { (g : Layout) (s : State) (desk row k : ℕ) (span : Interval) (places : ℕ) (answer : Added) (won : List Item) (steps : List Step)
-        → span.to ≤ most_legs → IsLegalFrom g s (entries_of desk steps) → Adds row k span 1 (range_with_len 0 places) answer won steps
-        → FindsFirst s span places answer won }
-    ensures starts { (old new : DeskView) (answer : Option ℕ) → IsAlone old → ShapeBy (StartsHold old new answer) old new
-        → StartsLeast old new answer }
-    ensures clear { (s : State) (place : ℕ) (span : Interval) → span.to ≤ most_legs → HasClearWords s span place ↔ IsFreeAt s span place }
+    ensures first { (g : Layout) (s : State) (desk row k : ℕ) (span : Interval) (places : ℕ) (answer : Added)
+        (won : List Item) (steps : List Step) → span.to ≤ most_legs → IsLegalFrom g s (entries_of desk steps)
+        → Adds row k span 1 (range_with_len 0 places) answer won steps → FindsFirst s span places answer won }
+    ensures starts { (old new : DeskView) (answer : Option RowNo) → IsAlone old
+        → ShapeBy (StartsHold old new answer) old new → StartsLeast old new answer }
+    ensures clear { (s : State) (place : ℕ) (span : Interval) → span.to ≤ most_legs
+        → HasClearWords s span place ↔ IsFreeAt s span place }
 {}

@@ -1,8 +1,12 @@
 use history_model::entry::{Entry, Step};
 use history_model::list_host::{ApplyFault, ListHost};
-use history_model::phase::{EndKind, Phase, amount_word_of, is_turn, phase_of, phase_word};
+use history_model::phase::{
+    EndKind, Phase, amount_word_of, is_turn, phase_of, phase_shown, phase_word, read_row_word,
+    row_word_of,
+};
+use history_model::successor::{successor_of, successor_word};
 use leg_masks::Span;
-use rail_ids::PlaceNo;
+use rail_ids::{PlaceNo, RowNo};
 use std::process::Abort;
 
 const CONFIRMED: Phase = Phase::Confirmed;
@@ -36,7 +40,11 @@ fn tries(rt: &impl Abort, host: &mut ListHost, table: &[(u32, Step, bool)]) {
 }
 
 fn start(row: u32) -> Step {
-    Step::Start { row }
+    start_as(row, 0)
+}
+
+fn start_as(row: u32, generation: u32) -> Step {
+    Step::Start { row, generation }
 }
 
 fn look(place: u32, half: u8, shown: u64) -> Step {
@@ -63,7 +71,7 @@ fn seal(row: u32, phase: Phase) -> Step {
     Step::Seal { row, phase }
 }
 
-fn turn(row: u32, from: Phase, to: Phase, moment: u64, amount: i64, successor: u32) -> Step {
+fn turn(row: u32, from: Phase, to: Phase, moment: u64, amount: i64, successor: u64) -> Step {
     Step::Turn {
         row,
         from,
@@ -74,7 +82,7 @@ fn turn(row: u32, from: Phase, to: Phase, moment: u64, amount: i64, successor: u
     }
 }
 
-fn lost(row: u32, wanted: Phase, shown: Phase) -> Step {
+fn lost(row: u32, wanted: u64, shown: u64) -> Step {
     Step::LostTurn { row, wanted, shown }
 }
 
@@ -115,8 +123,8 @@ fn forty_entries(rt: HostRuntime) {
             (2, saw(0, 8, 3), false),
             (2, turn(0, PREBOOKED, CONFIRMED, 901, 0, 0), false),
             (2, turn(0, PREBOOKED, CONFIRMED, 900, 0, 0), true),
-            (0, lost(0, PREBOOKED, CONFIRMED), true),
-            (0, lost(0, CONFIRMED, CONFIRMED), false),
+            (0, lost(0, 2, 3), true),
+            (0, lost(0, 3, 3), false),
             (0, turn(0, PREBOOKED, EXPIRE, 901, 0, 0), false),
             (2, turn(0, CONFIRMED, EXCHANGE, 950, -550, 2), false),
             (1, turn(0, CONFIRMED, EXCHANGE, 950, -550, 2), true),
@@ -213,6 +221,55 @@ fn other_turns(rt: HostRuntime) {
     assert_eq!(rt; host.occupied(PlaceNo(2), 0), 0);
 }
 
+/// A row serves one booking after another: the next may start once the one before has ended, and not in another
+/// generation. What it doesn't note is still as it was.
+#[test]
+fn a_row_again(rt: HostRuntime) {
+    let leg = Span { from: 0, to: 1 };
+    let mut host = ListHost::new(rt.alloc(), 1, 2);
+    tries(
+        &rt,
+        &mut host,
+        &[
+            (0, start_as(0, 1), false),
+            (0, start(0), true),
+            (1, start_as(0, 1), false),
+            (0, take(0, 0, leg), true),
+            (0, note(0, 1, 7), true),
+            (0, note(0, 2, 900), true),
+            (0, note(0, 4, 1), true),
+            (0, note(0, 8, 1), true),
+            (0, seal(0, PREBOOKED), true),
+            (1, turn(0, PREBOOKED, RELEASE, 5000, 0, 0), true),
+            (1, note(0, 7, 5000), true),
+            (1, give(0, 0), true),
+            (2, start_as(0, 1), false),
+            (1, Step::Close { row: 0 }, true),
+            (0, saw(0, 0, 9), true),
+            (2, start(0), false),
+            (2, start_as(0, 2), false),
+            (2, start_as(0, 1), true),
+            (0, saw(0, 0, 17), true),
+            (0, saw(0, 1, 7), true),
+            (0, saw(0, 7, 5000), true),
+            (1, lost(0, 2, 17), true),
+            (1, lost(0, 2, 1), false),
+            (2, take(0, 0, leg), true),
+            (2, seal(0, PREBOOKED), true),
+            (0, saw(0, 0, 18), true),
+            (1, turn(0, PREBOOKED, CONFIRMED, 900, 0, 0), true),
+            (1, start(1), true),
+            (
+                1,
+                turn(0, CONFIRMED, EXCHANGE, 950, 0, 4_294_967_298),
+                false,
+            ),
+            (1, turn(0, CONFIRMED, EXCHANGE, 950, 0, 2), true),
+        ],
+    );
+    assert_eq!(rt; host.occupied(PlaceNo(0), 0), 1);
+}
+
 /// A booking over the border of the halves: an item in each, each in the word of its half.
 #[test]
 fn over_the_border(rt: HostRuntime) {
@@ -270,6 +327,23 @@ fn words(rt: HostRuntime) {
     for word in [13, 14, 255, u64::MAX] {
         assert_eq!(rt; phase_of(word), None, "{word}");
     }
+    for (phase, generation, word) in [
+        (Phase::Making, 1, 17),
+        (PREBOOKED, 1, 18),
+        (Phase::Ended(EndKind::Exchange), 65_535, 1_048_572),
+    ] {
+        assert_eq!(rt; row_word_of(phase, generation), word, "{word}");
+        assert_eq!(rt; read_row_word(word), Some((phase, generation)), "{word}");
+        assert_eq!(rt; phase_shown(word, generation), phase, "{word}");
+        assert_eq!(rt; phase_shown(word, generation - 1), Phase::Free, "{word}");
+    }
+    assert_eq!(rt; read_row_word(29), None);
+    for (row, generation, word) in [(0, 0, 1), (2, 0, 3), (0, 1, 4_294_967_297)] {
+        let booking = RowNo { row, generation };
+        assert_eq!(rt; successor_word(booking), word);
+        assert_eq!(rt; successor_of(word), Some(booking));
+    }
+    assert_eq!(rt; successor_of(0), None);
     assert!(rt; is_turn(PREBOOKED, CONFIRMED) && !is_turn(CONFIRMED, PREBOOKED));
     let amounts = [
         (EndKind::Release, 0, 0),

@@ -1,5 +1,5 @@
 -- An offer is found from the numbers of its text.
-use Rattle.std.proofs.Common.{◌≡◌, ℕ, suc, ◌<◌, ◌≤◌, ◌^◌, ◌*◌, List, [], ◌∷◌, length, Option, Some, None, Bool, true, false, ◌&&◌, map, refl, sym, ap, ◌∙◌, arith, codes, true≢false, nat_le, nat_lt}
+use Rattle.std.proofs.Common.{◌≡◌, ℕ, suc, ◌<◌, ◌≤◌, ◌^◌, ◌+◌, ◌*◌, List, [], ◌∷◌, length, Option, Some, None, Bool, true, false, ◌&&◌, map, refl, sym, ap, ◌∙◌, arith, codes, true≢false, nat_le, nat_lt}
 use Rattle.std.proofs.lemmas.List.{length-map}
 use Rattle.std.specs.List.{list_all}
 use Rattle.std.proofs.lemmas.Bool.Decides.{nat_tests}
@@ -69,6 +69,12 @@ length_segments_marks : (mark : List ℕ) (segments : List Segment) → length (
 length_segments_marks mark [] = refl
 length_segments_marks mark (s ∷ rest) = omega (arith, length_segments_marks (codes "_") rest)
 
+pub count_offer_marks : (mark : List ℕ) (o : OfferView) → length (map (λ m. m.1) (offer_marks mark o)) ≡ 5 + 3 * length o.segments
+count_offer_marks mark o =
+    let count = length-map (offer_marks mark o) (λ (m : List ℕ × ℕ). m.1) in
+    let marks = length_segments_marks (codes "-") o.segments in
+    rw count (omega arith)
+
 -- there are at most 14 numbers
 pub length_offer_marks : (mark : List ℕ) (o : OfferView) → is_offer o ≡ true → length (map (λ m. m.1) (offer_marks mark o)) ≤ 14
 length_offer_marks mark o h =
@@ -110,7 +116,7 @@ found text ns r are from o h is =
     from ∙ ap offer_from (are ∙ ap (numbers_in None) is ∙ numbers_in-offer_text o h) ∙ offer_from-marks (codes "O") o h
 
 -- its numbers are not too many
-pub not_too_many : (text : List ℕ) → 17 < length (numbers_in None text) → (o : OfferView) → is_offer o ≡ true → text ≡ offer_text o → ⊥
+pub not_too_many : (text : List ℕ) → 18 < length (numbers_in None text) → (o : OfferView) → is_offer o ≡ true → text ≡ offer_text o → ⊥
 not_too_many text many o h is =
     let few : length (numbers_in None text) ≤ 14 = rw (is, numbers_in-offer_text o h) (length_offer_marks (codes "O") o h) in
     omega arith

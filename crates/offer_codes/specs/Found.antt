@@ -1,8 +1,10 @@
 -- What the numbers of a text are the numbers of, if of anything.
-use Rattle.std.specs.Prelude.{ℕ, ℤ, pos, neg_ℤ, true, false, ◌==◌, ◌||◌, nat_lt, nat_eq, Bool, List, [], ◌∷◌, length, if◌then◌else◌, Option, Some, None, option_map, option_and_then, slice_index, drop}
+use Rattle.std.specs.Prelude.{ℕ, ℤ, pos, neg_ℤ, true, false, ◌==◌, ◌||◌, ◌%◌, nat_lt, nat_eq, Bool, List, [], ◌∷◌, length, if◌then◌else◌, Option, Some, None, option_map, option_and_then, slice_index, drop}
 use Rattle.std.specs.List.{list_any}
 use Rattle.place_map.specs.declared.coach.Class.{Class}
 use Rattle.place_map.specs.declared.coach.Class.TheVariants.{First, Second}
+use Rattle.rail_ids.specs.declared.RowNo.{RowNo}
+use Rattle.offer_codes.specs.Rows.{is_row}
 use Rattle.offer_codes.specs.Offers.{OfferView, is_segment, is_offer}
 use Rattle.offer_codes.specs.Refunds.{is_refund}
 use Rattle.offer_codes.specs.Exchanges.{ExchangeView, is_exchange}
@@ -48,24 +50,37 @@ offer_from ns =
 abbrev pub has : ℕ → List ℕ → Bool
 has letter text = list_any (λ b. b == letter) text
 
-abbrev pub refund_at : ℕ → ℕ → ℕ → Bool → Option RefundCode
-refund_at row made amount fulfilled =
-    let r : RefundCode = record { row = record { 0 = row }; made = made; fulfilled = fulfilled; amount = amount } in if is_refund r then Some r else None
+abbrev pub row_value : ℕ → ℕ → Option RowNo
+row_value row generation = let r : RowNo = record { row = row; generation = generation } in if is_row r then Some r else None
 
--- the refund offer of its numbers
+abbrev pub refund_at : RowNo → ℕ → ℕ → Bool → Option RefundCode
+refund_at row made amount fulfilled =
+    let r : RefundCode = record { row = row; made = made; fulfilled = fulfilled; amount = amount } in if is_refund r then Some r else None
+
+-- the refund offer of its numbers: three, or four with the generation
 abbrev pub refund_from : Bool → List ℕ → Option RefundCode
-refund_from fulfilled (row ∷ made ∷ amount ∷ []) = refund_at row made amount fulfilled
+refund_from fulfilled (row ∷ made ∷ amount ∷ []) = option_and_then (λ r. refund_at r made amount fulfilled) (row_value row 0)
+refund_from fulfilled (row ∷ generation ∷ made ∷ amount ∷ []) = option_and_then (λ r. refund_at r made amount fulfilled) (row_value row generation)
 refund_from fulfilled _ = None
 
 abbrev pub signed : Bool → ℕ → ℤ
 signed false n = pos n
 signed true n = neg_ℤ (pos n)
 
-abbrev pub exchange_at : ℕ → ℕ → Bool → ℤ → OfferView → Option ExchangeView
+abbrev pub exchange_at : RowNo → ℕ → Bool → ℤ → OfferView → Option ExchangeView
 exchange_at row made fulfilled difference offer =
     let x : ExchangeView = record { row = row; made = made; fulfilled = fulfilled; difference = difference; offer = offer } in if is_exchange x then Some x else None
 
--- the exchange offer of its numbers
+-- the exchange offer for a row, of the numbers behind it
+abbrev pub exchange_behind : Bool → Bool → List ℕ → RowNo → Option ExchangeView
+exchange_behind fulfilled less (made ∷ amount ∷ rest) row = option_and_then (exchange_at row made fulfilled (signed less amount)) (offer_from rest)
+exchange_behind fulfilled less _ row = None
+
+abbrev pub exchange_again : Bool → Bool → ℕ → List ℕ → Option ExchangeView
+exchange_again fulfilled less row (generation ∷ rest) = option_and_then (exchange_behind fulfilled less rest) (row_value row generation)
+exchange_again fulfilled less row [] = None
+
+-- the exchange offer of its numbers: behind the row are seven and three for each segment, and the generation where it stands there
 abbrev pub exchange_from : Bool → Bool → List ℕ → Option ExchangeView
-exchange_from fulfilled less (row ∷ made ∷ amount ∷ rest) = option_and_then (exchange_at row made fulfilled (signed less amount)) (offer_from rest)
-exchange_from fulfilled less _ = None
+exchange_from fulfilled less (row ∷ ns) = if length ns % 3 == 2 then exchange_again fulfilled less row ns else option_and_then (exchange_behind fulfilled less ns) (row_value row 0)
+exchange_from fulfilled less [] = None

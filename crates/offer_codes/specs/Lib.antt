@@ -1,4 +1,5 @@
 pub mod Marked
+pub mod Rows
 pub mod Found
 pub mod Offers
 pub mod Refunds

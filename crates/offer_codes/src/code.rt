@@ -37,7 +37,7 @@ pub struct OfferCode {
 /// What a refund offer's id spells.
 #[derive(Debug, Clone, Copy, PartialEq, Eq)]
 pub struct RefundCode {
-    /// The row of the booking that is to be refunded.
+    /// The booking that is to be refunded.
     pub row: RowNo,
     /// When the quote was made.
     pub made: Moment,
@@ -50,7 +50,7 @@ pub struct RefundCode {
 /// What an exchange offer's id spells.
 #[derive(Drop)]
 pub struct ExchangeCode {
-    /// The row of the booking that is to be given in exchange.
+    /// The booking that is to be given in exchange.
     pub row: RowNo,
     /// When the quote was made.
     pub made: Moment,

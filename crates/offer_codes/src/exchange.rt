@@ -1,12 +1,13 @@
 ghost use Rattle.std.specs.Prelude.{◌≡◌, ◌≤◌, ◌+◌, ◌++◌, [], ◌∷◌, Some, true, IfSome, option_map};
 ghost use Rattle.arrayvec.specs.ArrayVec.{array_vec_len};
 ghost use Rattle.offer_codes.specs.Marked.{marked};
+ghost use Rattle.offer_codes.specs.Rows.{is_row};
 ghost use Rattle.offer_codes.specs.Refunds.{phase_mark};
 ghost use Rattle.offer_codes.specs.Exchanges.{ExchangeView, exchange_view, exchange_text, is_exchange, magnitude, is_less, sign_mark};
-ghost use Rattle.offer_codes.specs.Found.{exchange_from, signed as signed_of};
+ghost use Rattle.offer_codes.specs.Found.{exchange_from, exchange_behind, signed as signed_of};
 
 use crate::code::ExchangeCode;
-use crate::numbers::{numbers, push_number};
+use crate::numbers::{numbers, push_number, push_row, row_of};
 use crate::offer::{offer_of, push_offer};
 use crate::refund::{has_letter, mark_of};
 use arrayvec::ArrayVec;
@@ -15,15 +16,13 @@ use rail_time::Moment;
 
 const MOST_AMOUNT: u64 = 99_999_999_999;
 
-const LAST_ROW: u64 = 262_143;
-
 /// The exchange offer's id.
 pub fn write_exchange(code: &ExchangeCode) -> ArrayVec<u8, 128>
     requires ranges { is_exchange (exchange_view code.now) ≡ true }
     ensures spelling { result.items ≡ exchange_text (exchange_view code.now) }
 {
     let mut text = ArrayVec::new();
-    push_number(&mut text, b"X".as_slice(), code.row.0);
+    push_row(&mut text, b"X".as_slice(), code.row);
     push_number(&mut text, b"-".as_slice(), code.made.seconds() as u32);
     push_difference(&mut text, code.fulfilled, code.difference);
     push_offer(&mut text, b"-O".as_slice(), &code.offer);
@@ -31,7 +30,7 @@ pub fn write_exchange(code: &ExchangeCode) -> ArrayVec<u8, 128>
 }
 
 fn push_difference(text: &mut ArrayVec<u8, 128>, fulfilled: bool, difference: i64)
-    requires room { array_vec_len text.old ≤ 22 }
+    requires room { array_vec_len text.old ≤ 28 }
     ensures spelling { text.new.items ≡ text.old.items ++ marked ((phase_mark fulfilled ++ sign_mark (is_less difference), magnitude difference) ∷ []) }
     ensures len { array_vec_len text.new ≤ array_vec_len text.old + 24 }
 {
@@ -75,14 +74,31 @@ fn exchange_of(numbers: &[u64], fulfilled: bool, less: bool) -> Option<ExchangeC
     ensures value { option_map exchange_view result ≡ exchange_from fulfilled less numbers.now }
     ensures ranges { IfSome result (λ c. is_exchange (exchange_view c) ≡ true) }
 {
-    let [row, made, amount, rest @ ..] = numbers else {
+    let [row, rest @ ..] = numbers else {
+        return None;
+    };
+    if rest.len() % 3 == 2 {
+        let [generation, rest @ ..] = rest else {
+            return None;
+        };
+        return exchange_at(row_of(*row, *generation)?, rest, fulfilled, less);
+    }
+    exchange_at(row_of(*row, 0)?, rest, fulfilled, less)
+}
+
+fn exchange_at(row: RowNo, rest: &[u64], fulfilled: bool, less: bool) -> Option<ExchangeCode>
+    requires row { is_row row ≡ true }
+    ensures value { option_map exchange_view result ≡ exchange_behind fulfilled less rest.now row }
+    ensures ranges { IfSome result (λ c. is_exchange (exchange_view c) ≡ true) }
+{
+    let [made, amount, rest @ ..] = rest else {
         return None;
     };
     let offer = offer_of(rest)?;
     let made = Moment::of(*made)?;
-    if *row <= LAST_ROW && *amount <= MOST_AMOUNT {
+    if *amount <= MOST_AMOUNT {
         Some(ExchangeCode {
-            row: RowNo(*row as u32),
+            row,
             made,
             fulfilled,
             difference: signed(less, *amount),

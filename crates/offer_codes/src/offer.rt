@@ -27,7 +27,7 @@ pub fn write_offer(code: &OfferCode) -> ArrayVec<u8, 128>
 /// Appends the offer, whose first number stands behind this mark.
 pub(crate) fn push_offer(text: &mut ArrayVec<u8, 128>, mark: &[u8], code: &OfferCode)
     requires ranges { is_offer (offer_view code.now) ≡ true }
-    requires room { array_vec_len text.old ≤ 50 }
+    requires room { array_vec_len text.old ≤ 52 }
     requires short { length mark.now ≤ 2 }
     ensures spelling { text.new.items ≡ text.old.items ++ marked (offer_marks mark.now (offer_view code.now)) }
 {
@@ -43,7 +43,7 @@ pub(crate) fn push_offer(text: &mut ArrayVec<u8, 128>, mark: &[u8], code: &Offer
 fn push_segments(text: &mut ArrayVec<u8, 128>, segments: &[Segment])
     requires segments { list_all is_segment segments.now ≡ true }
     requires few { length segments.now ≤ 3 }
-    requires room { array_vec_len text.old ≤ 78 }
+    requires room { array_vec_len text.old ≤ 80 }
     ensures spelling { text.new.items ≡ text.old.items ++ marked (segments_marks (codes "-") segments.now) }
 {
     let mut joint = b"-".as_slice();

@@ -1,17 +1,16 @@
 ghost use Rattle.std.specs.Prelude.{◌≡◌, ◌==◌, Some, true, IfSome};
 ghost use Rattle.offer_codes.specs.declared.code.RefundCode.{RefundCode};
+ghost use Rattle.offer_codes.specs.Rows.{is_row};
 ghost use Rattle.offer_codes.specs.Refunds.{is_refund, refund_text, phase_mark};
 ghost use Rattle.offer_codes.specs.Found.{refund_from, refund_at as refund_value_at, has};
 
 use crate::code::RefundCode;
-use crate::numbers::{numbers, push_number};
+use crate::numbers::{numbers, push_number, push_row, row_of};
 use arrayvec::ArrayVec;
 use rail_ids::RowNo;
 use rail_time::Moment;
 
 const MOST_AMOUNT: u64 = 99_999_999_999;
-
-const LAST_ROW: u64 = 262_143;
 
 /// The refund offer's id.
 pub fn write_refund(code: &RefundCode) -> ArrayVec<u8, 128>
@@ -19,7 +18,7 @@ pub fn write_refund(code: &RefundCode) -> ArrayVec<u8, 128>
     ensures spelling { result.items ≡ refund_text code.now }
 {
     let mut text = ArrayVec::new();
-    push_number(&mut text, b"R".as_slice(), code.row.0);
+    push_row(&mut text, b"R".as_slice(), code.row);
     push_number(&mut text, b"-".as_slice(), code.made.seconds());
     push_number(&mut text, mark_of(code.fulfilled), code.amount);
     text
@@ -61,20 +60,24 @@ fn refund_of(numbers: &[u64], fulfilled: bool) -> Option<RefundCode>
     ensures value { result ≡ refund_from fulfilled numbers.now }
     ensures ranges { IfSome result (λ r. is_refund r ≡ true) }
 {
-    if let [row, made, amount] = numbers {
-        return refund_at(*row, *made, *amount, fulfilled);
+    match numbers {
+        [row, made, amount] => refund_at(row_of(*row, 0)?, *made, *amount, fulfilled),
+        [row, generation, made, amount] => {
+            refund_at(row_of(*row, *generation)?, *made, *amount, fulfilled)
+        }
+        _ => None,
     }
-    None
 }
 
-fn refund_at(row: u64, made: u64, amount: u64, fulfilled: bool) -> Option<RefundCode>
+fn refund_at(row: RowNo, made: u64, amount: u64, fulfilled: bool) -> Option<RefundCode>
+    requires row { is_row row ≡ true }
     ensures value { result ≡ refund_value_at row made amount fulfilled }
     ensures ranges { IfSome result (λ r. is_refund r ≡ true) }
 {
     let made = Moment::of(made)?;
-    if row <= LAST_ROW && amount <= MOST_AMOUNT {
+    if amount <= MOST_AMOUNT {
         Some(RefundCode {
-            row: RowNo(row as u32),
+            row,
             made,
             fulfilled,
             amount,

@@ -22,25 +22,29 @@ fn ids_of_the_worked_cases_are_read_and_written(rt: HostRuntime) -> Result<(), F
         assert_eq!(rt; Some(segment.span), Span::new(*from, *to));
     }
     assert_eq!(rt; write_offer(&offer).as_slice(), TWO_TRAINS.as_bytes());
-    for (text, fulfilled, amount) in [
-        ("R0-1780294200-C-3187", false, 3187),
-        ("R0-1780294320-F-2687", true, 2687),
+    for (text, generation, fulfilled, amount) in [
+        ("R0-1780294200-C-3187", 0, false, 3187),
+        ("R0-1780294320-F-2687", 0, true, 2687),
+        ("R0.1-1780294200-C-825", 1, false, 825),
+        ("R0.65535-1780294200-C-825", 65_535, false, 825),
     ] {
         let code = read_refund(text.as_bytes()).expect(&rt, "a refund offer");
         assert_eq!(rt;
             (code.row, code.fulfilled, code.amount),
-            (RowNo(0), fulfilled, amount)
+            (RowNo { row: 0, generation }, fulfilled, amount)
         );
         assert_eq!(rt; write_refund(&code).as_slice(), text.as_bytes());
     }
-    for (text, difference) in [
-        ("X0-1780293600-C-m750-O1780293600-1-0-2-0-1.0.1", -750),
-        ("X0-1780293600-F-p0-O1780293600-1-0-2-0-0.1.2", 0),
+    for (text, generation, difference) in [
+        ("X0-1780293600-C-m750-O1780293600-1-0-2-0-1.0.1", 0, -750),
+        ("X0-1780293600-F-p0-O1780293600-1-0-2-0-0.1.2", 0, 0),
+        ("X0.7-1780293600-C-m750-O1780293600-1-0-2-0-1.0.1", 7, -750),
     ] {
         let code = read_exchange(text.as_bytes()).expect(&rt, "an exchange offer");
         assert_eq!(rt;
-            (code.made, code.difference),
+            (code.row.generation, code.made, code.difference),
             (
+                generation,
                 Moment::of(1_780_293_600).expect(&rt, "a moment"),
                 difference
             )
@@ -76,6 +80,9 @@ fn other_texts_are_no_ids(rt: HostRuntime) -> Result<(), Fail> {
         "R0-0-P-0",
         "R0-0-C-100000000000",
         "R0-0-C-",
+        "R0.0-0-C-0",
+        "R0.01-0-C-0",
+        "R0.65536-0-C-0",
     ] {
         assert!(rt; read_refund(text.as_bytes()).is_none());
     }
@@ -85,6 +92,7 @@ fn other_texts_are_no_ids(rt: HostRuntime) -> Result<(), Fail> {
         "X0-0-C-p100000000000-O0-1-0-2-0-0.0.1",
         "X0-0-C-p1-O0-0-0-2-0-0.0.1",
         "X0-0-C-p1",
+        "X0.0-0-C-p1-O0-1-0-2-0-0.0.1",
     ] {
         assert!(rt; read_exchange(text.as_bytes()).is_none());
     }

@@ -1,13 +1,13 @@
 -- What a request asks, with its ids and codes as the texts that stand in it.
-use Rattle.std.specs.Prelude.{ℕ, List}
+use Rattle.std.specs.Prelude.{ℕ, Bool, List}
 use Rattle.place_map.specs.declared.coach.Class.{Class}
 use Rattle.offer_codes.specs.declared.code.Segment.{Segment}
 use Rattle.trip_builder.specs.declared.trip.TripWish.{TripWish}
 
 pub data Asked : Type 0 where
   offers : TripWish → ℕ → ℕ → Class → ℕ → Asked
-  book : List ℕ → Asked
-  reserve : Segment → Class → ℕ → ℕ → Asked
+  book : List ℕ → Bool → Asked
+  reserve : Segment → Class → ℕ → ℕ → Bool → Asked
   show release confirm fulfil quote_refund : List ℕ → Asked
   accept_refund quote_exchange accept_exchange : List ℕ → List ℕ → Asked
   places : Segment → Asked

@@ -1,8 +1,8 @@
 -- What each route asks, and the command that it is.
-use Rattle.std.specs.Prelude.{◌≡◌, ◌≢◌, ℕ, nat_lt, ◌^◌, Bool, true, false, if◌then◌else◌, List, Option, Some, None, option_map, Result, Ok, codes}
+use Rattle.std.specs.Prelude.{◌≡◌, ◌≢◌, ℕ, nat_lt, nat_le, ◌^◌, ◌&&◌, Bool, true, false, if◌then◌else◌, List, Option, Some, None, option_map, Result, Ok, codes}
 use Rattle.serde_json.specs.Data.{Data, null}
 use Rattle.rail_ids.specs.declared.RowNo.{RowNo}
-use Rattle.rail_ids.specs.Spelling.{booking_id_text}
+use Rattle.rail_ids.specs.Spelling.{booking_id_text, last_generation}
 use Rattle.offer_codes.specs.declared.code.OfferCode.{OfferCode}
 use Rattle.offer_codes.specs.declared.code.RefundCode.{RefundCode}
 use Rattle.offer_codes.specs.declared.code.ExchangeCode.{ExchangeCode}
@@ -62,8 +62,12 @@ abbrev pub Spells : {A : Type 0} → (A → Bool) → (A → List ℕ) → List 
 Spells valid spell text (Some a) = (valid a ≡ true) × (text ≡ spell a)
 Spells valid spell text None = (a : _) → valid a ≡ true → text ≢ spell a
 
+-- a row and a generation that ids have room for
+abbrev pub is_named : RowNo → Bool
+is_named row = nat_lt row.row (2 ^ 32) && nat_le row.generation last_generation
+
 abbrev pub SpellsRow : List ℕ → Option RowNo → Type 0
-SpellsRow text row = Spells (λ n. nat_lt n (2 ^ 32)) booking_id_text text (option_map (λ (r : RowNo). r.0) row)
+SpellsRow text row = Spells is_named (λ r. booking_id_text r.row r.generation) text row
 
 abbrev pub SpellsOffer : List ℕ → Option OfferCode → Type 0
 SpellsOffer text offer = Spells is_offer offer_text text (option_map offer_view offer)
@@ -77,8 +81,8 @@ SpellsExchange text code = Spells is_exchange exchange_text text (option_map exc
 -- the command is what was asked, with the ids and codes that the texts spell
 abbrev pub Asks : Result Asked BodyFault → Command → Type 0
 Asks asked (command.Offers trip adults children class wanted) = asked ≡ Ok (offers trip adults children class wanted)
-Asks asked (command.Book offer) = (text : List ℕ) × (asked ≡ Ok (book text)) × SpellsOffer text offer
-Asks asked (command.Reserve segment class count wanted) = asked ≡ Ok (reserve segment class count wanted)
+Asks asked (command.Book offer together) = (text : List ℕ) × (asked ≡ Ok (book text together)) × SpellsOffer text offer
+Asks asked (command.Reserve segment class count wanted together) = asked ≡ Ok (reserve segment class count wanted together)
 Asks asked (command.Show row) = (text : List ℕ) × (asked ≡ Ok (show text)) × SpellsRow text row
 Asks asked (command.Release row) = (text : List ℕ) × (asked ≡ Ok (release text)) × SpellsRow text row
 Asks asked (command.Confirm row) = (text : List ℕ) × (asked ≡ Ok (confirm text)) × SpellsRow text row

@@ -4,10 +4,10 @@ use Rattle.std.specs.Str.{bytes_eq}
 use Rattle.serde_json.specs.Data.{Data}
 use Rattle.serde_json.specs.Find.{get}
 use Rattle.rail_catalogue.specs.Json.{text_of}
-use Rattle.osdm_texts.specs.declared.field.FieldName.TheVariants.{Status, OfferId, BookingId, ExchangeOfferId}
+use Rattle.osdm_texts.specs.declared.field.FieldName.TheVariants.{Status, OfferId, Together, BookingId, ExchangeOfferId}
 use Rattle.osdm_json.specs.declared.fault.BodyFault.{BodyFault}
 use Rattle.osdm_json.specs.Asked.{Asked, book, quote_exchange, accept_exchange}
-use Rattle.osdm_json.specs.Members.{need}
+use Rattle.osdm_json.specs.Members.{need, flag_in}
 
 -- the text alone that the status may be
 abbrev pub if_status : List ℕ → List ℕ → Option (List ℕ)
@@ -17,7 +17,9 @@ abbrev pub with_status : List ℕ → Asked → Data → Result Asked BodyFault
 with_status wanted asked d = need Status (option_and_then (if_status wanted) (text_of (get (codes "status") d))) (λ _. Ok asked)
 
 abbrev pub book_of : Data → Result Asked BodyFault
-book_of d = need OfferId (text_of (get (codes "offerId") d)) (λ offer. Ok (book offer))
+book_of d =
+    need OfferId (text_of (get (codes "offerId") d)) (λ offer.
+    need Together (flag_in (get (codes "together") d)) (λ together. Ok (book offer together)))
 
 abbrev pub quote_exchange_of : Data → Result Asked BodyFault
 quote_exchange_of d =

@@ -1,9 +1,9 @@
 -- The kinds of member that bodies have, and how a reading goes on or ends.
-use Rattle.std.specs.Prelude.{ℕ, ◌+◌, min, List, [], ◌∷◌, bit_or, if◌then◌else◌, Option, Some, None, option_and_then, Result, Ok, Err}
+use Rattle.std.specs.Prelude.{ℕ, ◌+◌, min, Bool, false, List, [], ◌∷◌, bit_or, if◌then◌else◌, Option, Some, None, option_and_then, Result, Ok, Err}
 use Rattle.std.specs.Result.{result_ok}
 use Rattle.std.specs.Str.{bytes_eq}
 use Rattle.serde_json.specs.Data.{Data}
-use Rattle.serde_json.specs.Find.{as_object, as_str}
+use Rattle.serde_json.specs.Find.{as_bool, as_object, as_str}
 use Rattle.rail_ids.specs.declared.StationNo.{StationNo}
 use Rattle.rail_time.specs.Moments.{last_second, moment_of}
 use Rattle.place_map.specs.declared.coach.Class.{Class}
@@ -39,6 +39,11 @@ in_object (Some d) next = need Body (as_object d) (λ _. next d)
 abbrev pub class_in : Option Data → Option Class
 class_in None = Some Second
 class_in (Some d) = option_and_then class_named (as_str d)
+
+-- true or false, and false where the member is missing
+abbrev pub flag_in : Option Data → Option Bool
+flag_in None = Some false
+flag_in (Some d) = as_bool d
 
 -- the traits found so far with those of the items left
 abbrev pub traits_from : ℕ → List Data → Option ℕ

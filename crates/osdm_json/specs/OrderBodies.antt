@@ -11,11 +11,11 @@ use Rattle.train_runs.specs.Stops.{RunView}
 use Rattle.train_runs.specs.Runs.{span_of}
 use Rattle.rail_catalogue.specs.Json.{whole_in, whole_or, text_of}
 use Rattle.rail_catalogue.specs.Contents.{CatalogueView}
-use Rattle.osdm_texts.specs.declared.field.FieldName.TheVariants.{Class, Wanted, Run, Count, From, To}
+use Rattle.osdm_texts.specs.declared.field.FieldName.TheVariants.{Class, Wanted, Run, Count, From, To, Together}
 use Rattle.osdm_json.specs.declared.fault.BodyFault.{BodyFault}
 use Rattle.osdm_json.specs.declared.fault.BodyFault.TheVariants.{Field}
 use Rattle.osdm_json.specs.Asked.{Asked, reserve, places}
-use Rattle.osdm_json.specs.Members.{need, known, after, class_in, traits_in}
+use Rattle.osdm_json.specs.Members.{need, known, after, class_in, flag_in, traits_in}
 
 abbrev segment_on : RunNo → Option Interval → Result Segment BodyFault
 segment_on run None = Err (Field To)
@@ -40,8 +40,9 @@ reserve_of cat d =
     need Wanted (traits_in (get (codes "wanted") d)) (λ wanted.
     need From (text_of (get (codes "from") d)) (λ from.
     need To (text_of (get (codes "to") d)) (λ to.
+    need Together (flag_in (get (codes "together") d)) (λ together.
     after (segment_of cat run from to) (λ segment.
-    Ok (reserve segment class count wanted))))))))
+    Ok (reserve segment class count wanted together)))))))))
 
 -- the run whose number the text is in decimal digits, where the first of the runs left has the number n
 abbrev pub run_from : ℕ → List ℕ → List RunView → Option RunNo

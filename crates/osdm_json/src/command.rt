@@ -18,6 +18,8 @@ pub enum Command {
     /// A booking of an offer.
     Book {
         offer: Option<OfferCode>,
+        /// Whether the passengers of each segment are to sit side by side, where a stretch is free.
+        together: bool,
     },
     /// A booking of one segment, without an offer, for so many adults.
     Reserve {
@@ -25,6 +27,8 @@ pub enum Command {
         class: Class,
         count: u8,
         wanted: u8,
+        /// Whether the places are to lie side by side, where a stretch is free.
+        together: bool,
     },
     /// A booking as it stands.
     Show {

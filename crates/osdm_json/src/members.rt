@@ -4,7 +4,7 @@ ghost use Rattle.serde_json.specs.View.{view};
 ghost use Rattle.rail_time.specs.Moments.{last_second};
 ghost use Rattle.rail_catalogue.specs.Json.{data_of, json_of, whole_in as whole_of, whole_or as whole_or_of, list_of as list_of_member, text_of};
 ghost use Rattle.rail_catalogue.specs.Coaches.{class_named as class_named_of, trait_named};
-ghost use Rattle.osdm_json.specs.Members.{class_in as class_of, traits_in as traits_of, traits_from, moment_in as moment_of_member, latest_in as latest_of};
+ghost use Rattle.osdm_json.specs.Members.{class_in as class_of, flag_in as flag_of, traits_in as traits_of, traits_from, moment_in as moment_of_member, latest_in as latest_of};
 
 use crate::fault::BodyFault;
 use place_map::Class;
@@ -53,6 +53,16 @@ pub(crate) fn whole_or(value: Option<&Value>, default: u32, least: u32, most: u3
     match value {
         None => Some(default),
         Some(value) => whole_in(Some(value), least, most),
+    }
+}
+
+/// True or false, and false where the member is missing.
+pub(crate) fn flag_in(value: Option<&Value>) -> Option<bool>
+    ensures { result ≡ flag_of (option_map (λ v. view v.now) value.entry) }
+{
+    match value {
+        None => Some(false),
+        Some(value) => value.as_bool(),
     }
 }
 

@@ -11,12 +11,12 @@ ghost use Rattle.osdm_json.specs.Readable.{IsReadable};
 
 use crate::command::Command;
 use crate::fault::BodyFault;
-use crate::members::text_in;
+use crate::members::{flag_in, text_in};
 use crate::spellings::{exchange_of, offer_of, refund_of, row_of};
 use osdm_texts::FieldName;
 use serde_json::Value;
 
-/// The offer that the body books.
+/// The offer that the body books, and whether its passengers are to sit together.
 pub(crate) fn read_book(body: &Value) -> Result<Command, BodyFault>
     ensures ok { IfOk result (λ c. Asks (book_of (view body.now)) c) }
     ensures readable { IfOk result (λ c. (cat : CatalogueView) → IsReadable cat c) }
@@ -27,8 +27,14 @@ pub(crate) fn read_book(body: &Value) -> Result<Command, BodyFault>
             name: FieldName::OfferId,
         });
     };
+    let Some(together) = flag_in(body.get("together")) else {
+        return Err(BodyFault::Field {
+            name: FieldName::Together,
+        });
+    };
     Ok(Command::Book {
         offer: offer_of(offer.as_bytes()),
+        together,
     })
 }
 

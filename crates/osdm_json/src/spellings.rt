@@ -12,7 +12,7 @@ use rail_ids::{RowNo, RunNo, read_booking_id};
 use std::str;
 use train_runs::Runs;
 
-/// The row of a booking's id.
+/// The booking of its id, by its row and generation.
 pub(crate) fn row_of(text: &[u8]) -> Option<RowNo>
     ensures { SpellsRow text.now result }
 {

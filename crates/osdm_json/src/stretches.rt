@@ -8,7 +8,7 @@ ghost use Rattle.osdm_json.specs.Readable.{IsReadable, IsWithinRun};
 
 use crate::command::Command;
 use crate::fault::BodyFault;
-use crate::members::{class_in, text_in, traits_in, whole_in, whole_or};
+use crate::members::{class_in, flag_in, text_in, traits_in, whole_in, whole_or};
 use crate::spellings::run_of;
 use offer_codes::Segment;
 use osdm_texts::FieldName;
@@ -52,12 +52,18 @@ pub(crate) fn read_reserve(cat: &Catalogue, body: &Value) -> Result<Command, Bod
             name: FieldName::To,
         });
     };
+    let Some(together) = flag_in(body.get("together")) else {
+        return Err(BodyFault::Field {
+            name: FieldName::Together,
+        });
+    };
     let segment = find_segment(cat, run, from.as_bytes(), to.as_bytes())?;
     Ok(Command::Reserve {
         segment,
         class,
         count: count as u8,
         wanted,
+        together,
     })
 }
 

@@ -1,5 +1,5 @@
 -- Moments and ids are ASCII.
-use Rattle.std.proofs.Common.{◌≡◌, ℕ, ◌≤◌, ◌<◌, ◌+◌, ◌-◌, ◌^◌, ◌&&◌, Bool, true, false, List, [], ◌∷◌, ◌++◌, length, replicate, codes, decimal, IsAscii, nat_le, nat_lt, refl, sym, arith, lit<, true≢false}
+use Rattle.std.proofs.Common.{◌≡◌, ℕ, ◌≤◌, ◌<◌, ◌+◌, ◌-◌, ◌^◌, ◌&&◌, ◌==◌, cond, Bool, true, false, List, [], ◌∷◌, ◌++◌, length, replicate, codes, decimal, IsAscii, nat_le, nat_lt, refl, sym, arith, lit<, true≢false}
 use Rattle.leg_masks.specs.Interval.{most_legs}
 use Rattle.std.specs.List.{list_all}
 use Rattle.std.specs.Prelude.{zero, suc}
@@ -17,7 +17,10 @@ use Rattle.offer_codes.specs.Offers.{OfferView, is_offer, is_segment, is_party, 
 use Rattle.offer_codes.specs.Refunds.{is_refund, phase_mark}
 use Rattle.offer_codes.specs.Exchanges.{ExchangeView, is_exchange, magnitude, is_less, sign_mark}
 use Rattle.osdm_texts.specs.Times.{time_text}
-use Rattle.osdm_texts.specs.Ids.{booking_id, offer_id, refund_id, exchange_id}
+use Rattle.rail_ids.specs.declared.RowNo.{RowNo}
+use Rattle.rail_ids.specs.Spelling.{generation_text, last_generation}
+use Rattle.offer_codes.specs.Rows.{is_row, row_marks}
+use Rattle.osdm_texts.specs.Ids.{HasId, booking_id, offer_id, refund_id, exchange_id}
 
 pub IsAscii-time_text : (m : ℕ) → m ≤ 4_102_444_799 → IsAscii (time_text m)
 unfolding time_text
@@ -27,10 +30,15 @@ zeros : (n : ℕ) → IsAscii (replicate n 48)
 zeros zero = IsAscii-nil
 zeros (suc n) = IsAscii-cons 48 (replicate n 48) (lit< tt) (zeros n)
 
-pub IsAscii-booking_id : (row : ℕ) → row < 2 ^ 32 → IsAscii (booking_id row)
+ascii_generation : (generation : ℕ) → generation ≤ last_generation → IsAscii (generation_text generation)
+ascii_generation zero h = IsAscii-nil
+ascii_generation (suc n) h = IsAscii-cons 45 (decimal (suc n)) (lit< tt) (IsAscii-decimal (suc n) (omega arith))
+
+pub IsAscii-booking_id : (row : RowNo) → row.row < 2 ^ 32 → HasId row → IsAscii (booking_id row)
 unfolding booking_id
-IsAscii-booking_id row h =
-    IsAscii-cons 66 _ (lit< tt) (IsAscii-append (replicate (6 - length (decimal row)) 48) (decimal row) (zeros _) (IsAscii-decimal row (omega arith)))
+IsAscii-booking_id row h id =
+    let numbers = IsAscii-append (decimal row.row) (generation_text row.generation) (IsAscii-decimal row.row (omega arith)) (ascii_generation row.generation id) in
+    IsAscii-cons 66 _ (lit< tt) (IsAscii-append (replicate (6 - length (decimal row.row)) 48) (decimal row.row ++ generation_text row.generation) (zeros _) numbers)
 
 -- marks of ASCII before numbers of 64 bits
 abbrev AreAscii : List (List ℕ × ℕ) → Type 0
@@ -94,15 +102,29 @@ ascii_phase : (fulfilled : Bool) → IsAscii (phase_mark fulfilled)
 ascii_phase true = three 45 70 45 (lit< tt) (lit< tt) (lit< tt)
 ascii_phase false = three 45 67 45 (lit< tt) (lit< tt) (lit< tt)
 
+abbrev again : Bool → ℕ → List (List ℕ × ℕ)
+again t generation = cond t [] ((codes ".", generation) ∷ [])
+
+ascii_row : (mark : List ℕ) (row : RowNo) → IsAscii mark → is_row row ≡ true → AreAscii (row_marks mark row)
+ascii_row mark row h k = go (row.generation == 0)
+  where
+    numbers : (row.row ≤ 262_143) × (row.generation ≤ last_generation)
+    numbers = let b = both (nat_le row.row 262_143) _ k in (at_most row.row 262_143 b.0, at_most row.generation last_generation b.1)
+
+    go : (t : Bool) → AreAscii ((mark, row.row) ∷ again t row.generation)
+    go true = let n = numbers.0 in ((h, omega arith), tt)
+    go false = let n = numbers.0 in let g = numbers.1 in ((h, omega arith), ((letter 46 (lit< tt), omega arith), tt))
+
 pub IsAscii-refund_id : (r : RefundCode) → is_refund r ≡ true → IsAscii (refund_id r)
 unfolding refund_id
 IsAscii-refund_id r h =
-    let row = both (nat_le r.row.0 262_143) _ h in
+    let row = both (is_row r.row) _ h in
     let made = both (nat_le r.made 4_102_444_799) _ row.1 in
-    let n : r.row.0 ≤ 262_143 = at_most r.row.0 262_143 row.0 in
     let m : r.made ≤ 4_102_444_799 = at_most r.made 4_102_444_799 made.0 in
     let a : r.amount ≤ 99_999_999_999 = at_most r.amount 99_999_999_999 made.1 in
-    IsAscii-marked ((codes "R", r.row.0) ∷ (codes "-", r.made) ∷ (phase_mark r.fulfilled, r.amount) ∷ []) ((letter 82 (lit< tt), omega arith), ((letter 45 (lit< tt), omega arith), ((ascii_phase r.fulfilled, omega arith), tt)))
+    let rest = (codes "-", r.made) ∷ (phase_mark r.fulfilled, r.amount) ∷ [] in
+    IsAscii-marked (row_marks (codes "R") r.row ++ rest) (AreAscii-append (row_marks (codes "R") r.row) rest
+    (ascii_row (codes "R") r.row (letter 82 (lit< tt)) row.0) ((letter 45 (lit< tt), omega arith), ((ascii_phase r.fulfilled, omega arith), tt)))
 
 ascii_sign : (less : Bool) → IsAscii (sign_mark less)
 ascii_sign true = letter 109 (lit< tt)
@@ -111,19 +133,16 @@ ascii_sign false = letter 112 (lit< tt)
 pub IsAscii-exchange_id : (x : ExchangeView) → is_exchange x ≡ true → IsAscii (exchange_id x)
 unfolding exchange_id
 IsAscii-exchange_id x h =
-    let row = both (nat_le x.row 262_143) _ h in
+    let row = both (is_row x.row) _ h in
     let made = both (nat_le x.made 4_102_444_799) _ row.1 in
     let difference = both (nat_le (magnitude x.difference) 99_999_999_999) (is_offer x.offer) made.1 in
-    let n : x.row ≤ 262_143 = at_most x.row 262_143 row.0 in
     let m : x.made ≤ 4_102_444_799 = at_most x.made 4_102_444_799 made.0 in
     let d : magnitude x.difference ≤ 99_999_999_999 = at_most (magnitude x.difference) 99_999_999_999 difference.0 in
-    IsAscii-marked ((codes "X", x.row) ∷ (codes "-", x.made) ∷ (phase_mark x.fulfilled ++ sign_mark (is_less x.difference), magnitude x.difference) ∷ offer_marks (codes "-O") x.offer) (
-      (letter 88 (lit< tt), omega arith),
+    let rest = (codes "-", x.made) ∷ (phase_mark x.fulfilled ++ sign_mark (is_less x.difference), magnitude x.difference) ∷ offer_marks (codes "-O") x.offer in
+    IsAscii-marked (row_marks (codes "X") x.row ++ rest) (AreAscii-append (row_marks (codes "X") x.row) rest (ascii_row (codes "X") x.row (letter 88 (lit< tt)) row.0) (
+      (letter 45 (lit< tt), omega arith),
       (
-        (letter 45 (lit< tt), omega arith),
-        (
-          (IsAscii-append (phase_mark x.fulfilled) (sign_mark (is_less x.difference)) (ascii_phase x.fulfilled) (ascii_sign (is_less x.difference)), omega arith),
-          ascii_offer (codes "-O") x.offer (IsAscii-cons 45 (79 ∷ []) (lit< tt) (letter 79 (lit< tt))) difference.1,
-        ),
+        (IsAscii-append (phase_mark x.fulfilled) (sign_mark (is_less x.difference)) (ascii_phase x.fulfilled) (ascii_sign (is_less x.difference)), omega arith),
+        ascii_offer (codes "-O") x.offer (IsAscii-cons 45 (79 ∷ []) (lit< tt) (letter 79 (lit< tt))) difference.1,
       ),
-    )
+    ))

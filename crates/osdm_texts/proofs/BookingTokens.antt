@@ -1,10 +1,11 @@
 -- The tokens of a booking, part by part.
-use Rattle.std.proofs.Common.{◌≡◌, ℕ, pos, List, ◌∷◌, ◌++◌, map, codes, Option, Some, None, refl, sym, ap}
+use Rattle.std.proofs.Common.{◌≡◌, pos, List, ◌∷◌, ◌++◌, map, codes, Option, Some, None, refl, sym, ap}
 use Rattle.json.specs.Token.{Token, begin_object, key, string}
 use Rattle.serde_json.specs.Data.{boolean, array, Members, member}
 use Rattle.serde_json.specs.Data as json_data
 use Rattle.serde_json.specs.View.{items_of}
 use Rattle.history_model.specs.declared.booking.End.{End}
+use Rattle.rail_ids.specs.declared.RowNo.{RowNo}
 use Rattle.booking_rows.specs.Views.{RowSeen}
 use Rattle.rail_catalogue.specs.Contents.{CatalogueView}
 use Rattle.osdm_texts.specs.Times.{time_text}
@@ -21,14 +22,14 @@ end_members-tokens cat None rest = refl
 end_members-tokens cat (Some e) rest = refl
 
 -- the members from the id on
-abbrev pub later_members : CatalogueView → ℕ → RowSeen → Members
+abbrev pub later_members : CatalogueView → RowNo → RowSeen → Members
 later_members cat row v =
     member (codes "id") (json_data.string (booking_id row)) (member (codes "price") (amount_tree cat.currency (pos v.total))
     (member (codes "reservations") (array (items_of (map (reservation_tree cat) (reservations v.items))))
     (member (codes "settled") (boolean (is_settled v.phase)) (member (codes "status") (json_data.string (phase_text v.phase))
     (successor_members v.phase v.ended)))))
 
-pub booking_tokens : (cat : CatalogueView) (row : ℕ) (v : RowSeen)
+pub booking_tokens : (cat : CatalogueView) (row : RowNo) (v : RowSeen)
     → begin_object ∷ key (codes "confirmableUntil") ∷ string (time_text v.limit) ∷ (end_tokens cat v.ended ++ members_of (later_members cat row v)) ≡ tokens_of (booking_tree cat row v)
 booking_tokens cat row v =
     ap (λ (l : List Token). begin_object ∷ key (codes "confirmableUntil") ∷ string (time_text v.limit) ∷ l) (sym (end_members-tokens cat v.ended (later_members cat row v)))

@@ -4,6 +4,7 @@ use Rattle.serde_json.specs.Written.{compact_text}
 use Rattle.offer_codes.specs.declared.code.Offer.{Offer}
 use Rattle.offer_codes.specs.declared.code.RefundCode.{RefundCode}
 use Rattle.offer_codes.specs.declared.code.ExchangeCode.{ExchangeCode}
+use Rattle.rail_ids.specs.declared.RowNo.{RowNo}
 use Rattle.booking_rows.specs.Views.{RowSeen}
 use Rattle.expiry_sweeper.specs.declared.sweeps.Swept.{Swept}
 use Rattle.rail_catalogue.specs.Contents.{CatalogueView}
@@ -18,11 +19,11 @@ pub of_problem : (cat : CatalogueView) (p : Problem) → refused p ≡ reply_tol
 unfolding reply_told
 of_problem cat p = refl
 
-pub of_booking : (cat : CatalogueView) (row : ℕ) (v : RowSeen) → telling 200 (compact_text (booking_tree cat row v)) ≡ reply_told cat (booking row v)
+pub of_booking : (cat : CatalogueView) (row : RowNo) (v : RowSeen) → telling 200 (compact_text (booking_tree cat row v)) ≡ reply_told cat (booking row v)
 unfolding reply_told
 of_booking cat row v = refl
 
-pub of_created : (cat : CatalogueView) (row : ℕ) (v : RowSeen) → telling 201 (compact_text (booking_tree cat row v)) ≡ reply_told cat (created row v)
+pub of_created : (cat : CatalogueView) (row : RowNo) (v : RowSeen) → telling 201 (compact_text (booking_tree cat row v)) ≡ reply_told cat (created row v)
 unfolding reply_told
 of_created cat row v = refl
 
@@ -46,6 +47,6 @@ pub of_exchange : (cat : CatalogueView) (code : ExchangeCode) → telling 201 (c
 unfolding reply_told
 of_exchange cat code = refl
 
-pub of_exchanged : (cat : CatalogueView) (row : ℕ) (v : RowSeen) (difference : ℤ) (replaced : ℕ) → telling 201 (compact_text (exchanged_tree cat row v difference replaced)) ≡ reply_told cat (exchanged row v difference replaced)
+pub of_exchanged : (cat : CatalogueView) (row : RowNo) (v : RowSeen) (difference : ℤ) (replaced : RowNo) → telling 201 (compact_text (exchanged_tree cat row v difference replaced)) ≡ reply_told cat (exchanged row v difference replaced)
 unfolding reply_told
 of_exchanged cat row v difference replaced = refl

@@ -5,6 +5,7 @@ use Rattle.serde_json.specs.Written.{compact_text}
 use Rattle.offer_codes.specs.declared.code.Offer.{Offer}
 use Rattle.offer_codes.specs.declared.code.RefundCode.{RefundCode}
 use Rattle.offer_codes.specs.declared.code.ExchangeCode.{ExchangeCode}
+use Rattle.rail_ids.specs.declared.RowNo.{RowNo}
 use Rattle.booking_rows.specs.Views.{RowSeen}
 use Rattle.expiry_sweeper.specs.declared.sweeps.Swept.{Swept}
 use Rattle.rail_catalogue.specs.Contents.{CatalogueView}
@@ -23,10 +24,10 @@ use Rattle.osdm_texts.specs.Sweeps.{swept_tree}
 -- a booking is answered as new, or as it stands
 pub data Reply : Type 0 where
   offer_list : List Offer → Reply
-  created booking : ℕ → RowSeen → Reply
+  created booking : RowNo → RowSeen → Reply
   refund_offer : RefundCode → Reply
   exchange_offer : ExchangeCode → Reply
-  exchanged : ℕ → RowSeen → ℤ → ℕ → Reply
+  exchanged : RowNo → RowSeen → ℤ → RowNo → Reply
   place_list : ℕ → List Bool → Reply
   swept : Swept → Reply
   problem : Problem → Reply

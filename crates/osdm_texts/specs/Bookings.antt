@@ -1,16 +1,18 @@
 -- The JSON of bookings.
-use Rattle.std.specs.Prelude.{ℕ, zero, suc, pos, Bool, true, false, map, codes, Option, Some, None}
+use Rattle.std.specs.Prelude.{ℕ, zero, suc, ◌/◌, ◌%◌, pos, Bool, true, false, map, codes, Option, Some, None}
 use Rattle.serde_json.specs.Data.{Data, boolean, string, array, object, Members, no_members, member}
 use Rattle.serde_json.specs.View.{items_of}
 use Rattle.history_model.specs.declared.phase.Phase.{Phase}
 use Rattle.history_model.specs.declared.phase.Phase.TheVariants.{Free, Making, Prebooked, Confirmed, Fulfilled, Ending, Ended}
 use Rattle.history_model.specs.declared.phase.EndKind.TheVariants.{Exchange}
 use Rattle.history_model.specs.declared.booking.End.{End}
-use Rattle.booking_rows.specs.Views.{RowSeen}
+use Rattle.history_model.specs.Booking.{successor_rows}
+use Rattle.rail_ids.specs.declared.RowNo.{RowNo}
+use Rattle.booking_rows.specs.Views.{RowSeen, MaySucceed}
 use Rattle.rail_catalogue.specs.Contents.{CatalogueView}
 use Rattle.osdm_texts.specs.Statuses.{phase_text}
 use Rattle.osdm_texts.specs.Times.{time_text}
-use Rattle.osdm_texts.specs.Ids.{booking_id}
+use Rattle.osdm_texts.specs.Ids.{booking_id, HasId}
 use Rattle.osdm_texts.specs.Amounts.{amount_tree}
 use Rattle.osdm_texts.specs.Reservations.{reservations, reservation_tree}
 
@@ -29,10 +31,17 @@ abbrev pub end_members : CatalogueView → Option End → Members → Members
 end_members cat None rest = rest
 end_members cat (Some e) rest = member (codes "endAmount") (amount_tree cat.currency e.amount) (member (codes "endedAt") (string (time_text e.moment)) rest)
 
--- the successor of a booking, whose number plus 1 stands in its end
+-- the booking whose word as a successor is one more than this
+abbrev pub successor_before : ℕ → RowNo
+successor_before n = record { row = n % successor_rows; generation = n / successor_rows }
+
+abbrev pub succeeding : RowNo → Members
+succeeding row = member (codes "successor") (string (booking_id row)) no_members
+
+-- the successor of a booking, by its word in the end: 0 is for none
 abbrev pub successor_member : ℕ → Members
 successor_member zero = no_members
-successor_member (suc row) = member (codes "successor") (string (booking_id row)) no_members
+successor_member (suc n) = succeeding (successor_before n)
 
 -- only a booking that ended by exchange has a successor
 abbrev pub successor_members : Phase → Option End → Members
@@ -40,7 +49,11 @@ successor_members (Ended Exchange) (Some e) = successor_member e.successor
 successor_members (Ended Exchange) None = no_members
 successor_members phase e = no_members
 
-abbrev pub booking_tree : CatalogueView → ℕ → RowSeen → Data
+-- the booking has an id, and so has its successor
+abbrev pub HasIds : RowNo → RowSeen → Type 0
+HasIds row v = HasId row × MaySucceed v.ended
+
+abbrev pub booking_tree : CatalogueView → RowNo → RowSeen → Data
 booking_tree cat row v =
     object (member (codes "confirmableUntil") (string (time_text v.limit)) (end_members cat v.ended
     (member (codes "id") (string (booking_id row)) (member (codes "price") (amount_tree cat.currency (pos v.total))

@@ -1,7 +1,7 @@
 -- The names of fields.
 use Rattle.std.specs.Prelude.{ℕ, List, codes}
 use Rattle.osdm_texts.specs.declared.field.FieldName.{FieldName}
-use Rattle.osdm_texts.specs.declared.field.FieldName.TheVariants.{Adults, Children, Class, Wanted, Origin, Destination, Earliest, Latest, OfferId, Run, Count, From, To, Status, BookingId, ExchangeOfferId, Id, Offer, Body}
+use Rattle.osdm_texts.specs.declared.field.FieldName.TheVariants.{Adults, Children, Class, Wanted, Origin, Destination, Earliest, Latest, OfferId, Run, Count, From, To, Together, Status, BookingId, ExchangeOfferId, Id, Offer, Body}
 
 abbrev pub name_of : FieldName → List ℕ
 name_of Adults = codes "adults"
@@ -17,6 +17,7 @@ name_of Run = codes "run"
 name_of Count = codes "count"
 name_of From = codes "from"
 name_of To = codes "to"
+name_of Together = codes "together"
 name_of Status = codes "status"
 name_of BookingId = codes "bookingId"
 name_of ExchangeOfferId = codes "exchangeOfferId"

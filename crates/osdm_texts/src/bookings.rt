@@ -1,9 +1,11 @@
 //! Bookings.
-ghost use Rattle.std.specs.Prelude.{◌≡◌, ◌+◌, option_map, OnOk};
+ghost use Rattle.std.specs.Prelude.{◌≡◌, option_map, IfSome, OnOk};
 ghost use Rattle.std.specs.Option.{option_map_or};
 ghost use Rattle.serde_json.specs.Data.{no_members};
 ghost use Rattle.booking_rows.specs.Ends.{shown_end};
-ghost use Rattle.osdm_texts.specs.Bookings.{is_settled as is_settled_of, end_members, successor_member, successor_members, booking_tree};
+ghost use Rattle.booking_rows.specs.Views.{MaySucceed};
+ghost use Rattle.osdm_texts.specs.Ids.{HasId};
+ghost use Rattle.osdm_texts.specs.Bookings.{is_settled as is_settled_of, end_members, succeeding, successor_members, HasIds, booking_tree};
 ghost use Rattle.osdm_texts.specs.EndTokens.{end_tokens};
 ghost use Rattle.osdm_texts.specs.Appends.{Appends, tokens_of, members_of};
 
@@ -23,7 +25,8 @@ pub(crate) fn put_booking(
     row: RowNo,
     view: &RowView,
 ) -> Result<(), AllocError>
-    ensures { OnOk result (Appends out.old out.new (tokens_of (booking_tree cat.now row.0 view.now))) }
+    requires ids { HasIds row view.now }
+    ensures { OnOk result (Appends out.old out.new (tokens_of (booking_tree cat.now row view.now))) }
 {
     out.begin_object()?;
     put_time(out, "confirmableUntil", view.limit)?;
@@ -60,6 +63,7 @@ fn put_end(out: &mut Writer, cat: &Catalogue, ended: Option<EndView>) -> Result<
 
 // The successor of a booking that ended by exchange, and the end of the object.
 fn put_successor(out: &mut Writer, phase: Phase, ended: Option<EndView>) -> Result<(), AllocError>
+    requires successor { MaySucceed (option_map shown_end ended) }
     ensures { OnOk result (Appends out.old out.new (members_of (successor_members phase (option_map shown_end ended)))) }
 {
     if let Some(row) = successor(phase, ended) {
@@ -69,7 +73,9 @@ fn put_successor(out: &mut Writer, phase: Phase, ended: Option<EndView>) -> Resu
 }
 
 fn successor(phase: Phase, ended: Option<EndView>) -> Option<RowNo>
-    ensures { successor_members phase (option_map shown_end ended) ≡ option_map_or (λ row. successor_member (row.0 + 1)) result no_members }
+    requires successor { MaySucceed (option_map shown_end ended) }
+    ensures members { successor_members phase (option_map shown_end ended) ≡ option_map_or succeeding result no_members }
+    ensures id { IfSome result HasId }
 {
     match phase {
         Phase::Ended(EndKind::Exchange) => ended?.successor,

@@ -5,7 +5,7 @@ ghost use Rattle.offer_codes.specs.Offers.{is_offer, offer_view};
 ghost use Rattle.offer_codes.specs.Refunds.{is_refund};
 ghost use Rattle.offer_codes.specs.Exchanges.{is_exchange, exchange_view};
 ghost use Rattle.osdm_texts.specs.Times.{time_text as time_text_of};
-ghost use Rattle.osdm_texts.specs.Ids.{booking_id as booking_id_of, offer_id as offer_id_of, refund_id as refund_id_of, exchange_id as exchange_id_of};
+ghost use Rattle.osdm_texts.specs.Ids.{HasId, booking_id as booking_id_of, offer_id as offer_id_of, refund_id as refund_id_of, exchange_id as exchange_id_of};
 
 use arrayvec::ArrayVec;
 use offer_codes::{ExchangeCode, OfferCode, RefundCode, write_exchange, write_offer, write_refund};
@@ -29,7 +29,8 @@ pub(crate) fn time_text(moment: Moment) -> [u8; 20]
 }
 
 pub(crate) fn booking_id(row: RowNo) -> BookingId
-    ensures text { result.items ≡ booking_id_of row.0 }
+    requires generation { HasId row }
+    ensures text { result.items ≡ booking_id_of row }
     ensures ascii { IsAscii result.items }
 {
     write_booking_id(row)

@@ -2,7 +2,7 @@
 ghost use Rattle.std.specs.Prelude.{◌≡◌, [], ◌∷◌, pos, codes, decimal, OnOk};
 ghost use Rattle.json.specs.Token.{begin_object, end_object, key, string, number, boolean};
 ghost use Rattle.osdm_texts.specs.Times.{time_text as time_text_of};
-ghost use Rattle.osdm_texts.specs.Ids.{booking_id as booking_id_of};
+ghost use Rattle.osdm_texts.specs.Ids.{HasId, booking_id as booking_id_of};
 ghost use Rattle.osdm_texts.specs.Amounts.{amount_tree};
 ghost use Rattle.osdm_texts.specs.Appends.{Appends, tokens_of};
 
@@ -41,7 +41,8 @@ pub(crate) fn put_time(out: &mut Writer, name: &str, moment: Moment) -> Result<(
 }
 
 pub(crate) fn put_booking_id(out: &mut Writer, name: &str, row: RowNo) -> Result<(), AllocError>
-    ensures { OnOk result (Appends out.old out.new (key name.now ∷ string (booking_id_of row.0) ∷ [])) }
+    requires generation { HasId row }
+    ensures { OnOk result (Appends out.old out.new (key name.now ∷ string (booking_id_of row) ∷ [])) }
 {
     let text = booking_id(row);
     put_text(out, name, text_of(text.as_slice()))

@@ -48,7 +48,7 @@ pub enum Problem {
     WrongState { shown: Phase },
     /// 410: the limit of confirmation has passed.
     TooLate { limit: Moment, now: Moment },
-    /// 507: no booking row is free.
+    /// 507: no booking row is free, and none has a booking that has ended.
     RowsFull,
     /// 409: too few places are free.
     NoPlace,

@@ -3,6 +3,8 @@ ghost use Rattle.serde_json.specs.Data.{Data};
 ghost use Rattle.serde_json.specs.Written.{compact_text};
 ghost use Rattle.osdm_texts.specs.Spots.{run_places as run_places_of};
 ghost use Rattle.osdm_texts.specs.Offers.{IsWritable};
+ghost use Rattle.osdm_texts.specs.Ids.{HasId};
+ghost use Rattle.osdm_texts.specs.Bookings.{HasIds};
 ghost use Rattle.osdm_texts.specs.Replies.{offers_tree, exchanged_tree, places_tree, tree_of, CanBeWritten};
 ghost use Rattle.osdm_texts.specs.Appends.{Appends, tokens_of};
 
@@ -29,7 +31,7 @@ pub enum Reply<'r> {
     OfferList {
         offers: &'r [Offer],
     },
-    /// A booking as its row was seen.
+    /// A booking as its row showed it.
     Booking {
         row: RowNo,
         view: RowView,
@@ -145,7 +147,8 @@ fn put_exchanged(
     difference: i64,
     replaced: RowNo,
 ) -> Result<(), AllocError>
-    ensures { OnOk result (Appends out.old out.new (tokens_of (exchanged_tree cat.now row.0 view.now difference replaced.0))) }
+    requires ids { HasIds row view.now × HasId replaced }
+    ensures { OnOk result (Appends out.old out.new (tokens_of (exchanged_tree cat.now row view.now difference replaced))) }
 {
     out.begin_object()?;
     out.key("booking")?;

@@ -4,3 +4,5 @@ pub mod Searching
 pub mod Taking
 pub mod Trying
 pub mod Spoiling
+pub mod Seated
+pub mod Steps

@@ -72,7 +72,7 @@ takes_more row k span (q ∷ ps) p won mine es first (m, more, f, others, one, r
 -- so many places of the stretch are taken
 pub record Took (start now : DeskView) (hold held : HoldView) (span : Interval) (stretch : List PlaceNo) (n : ℕ) : Type 0 where
   pub won : List Item
-  pub takes : ShapeBy (TakesEach hold.row (length hold.items) span (map place_number (take n stretch)) won) start now
+  pub takes : ShapeBy (TakesEach hold.row.row (length hold.items) span (map place_number (take n stretch)) won) start now
   pub held_is : held ≡ with_items hold won
   pub many : length won ≡ n * length (pieces span)
 
@@ -89,15 +89,15 @@ held_then hold mid held xs ys e f =
 
 -- the same hold, by its row and the number of its items
 as_first : (hold mid : HoldView) (xs : List Item) (span : Interval) (ps : List ℕ) (answer : Added) (won : List Item) (es : List Step) → mid ≡ with_items hold xs
-    → Adds mid.row (length mid.items) span 1 ps answer won es → Adds hold.row (length hold.items + length xs) span 1 ps answer won es
+    → Adds mid.row.row (length mid.items) span 1 ps answer won es → Adds hold.row.row (length hold.items + length xs) span 1 ps answer won es
 as_first hold mid xs span ps answer won es e a =
-    subst (λ (n : ℕ). Adds hold.row n span 1 ps answer won es) (length-append hold.items xs) (subst (λ (h : HoldView). Adds h.row (length h.items) span 1 ps answer won es) e a)
+    subst (λ (n : ℕ). Adds hold.row.row n span 1 ps answer won es) (length-append hold.items xs) (subst (λ (h : HoldView). Adds h.row.row (length h.items) span 1 ps answer won es) e a)
 
 places_more : (ps : List PlaceNo) (n : ℕ) (d : PlaceNo) → n < length ps → map place_number (take (n + 1) ps) ≡ map place_number (take n ps) ++ (get_or ps n d).0 ∷ []
 places_more ps n d l = ap (map place_number) (take_more ps n d l) ∙ map-append place_number (take n ps) (get_or ps n d ∷ [])
 
 pub took_more : (a b c : DeskView) (hold mid held : HoldView) (span : Interval) (stretch : List PlaceNo) (n : ℕ) (p d : PlaceNo) (mine : List Item) → Took a b hold mid span stretch n → n < length stretch → p ≡ get_or stretch n d
-    → ShapeBy (Adds mid.row (length mid.items) span 1 (map place_number (p ∷ [])) added.All mine) b c → held ≡ with_items mid mine → Took a c hold held span stretch (n + 1)
+    → ShapeBy (Adds mid.row.row (length mid.items) span 1 (map place_number (p ∷ [])) added.All mine) b c → held ≡ with_items mid mine → Took a c hold held span stretch (n + 1)
 took_more a b c hold mid held span stretch n p d mine so inside is did held_is =
     let adds = as_first hold mid so.won span (p.0 ∷ []) added.All mine did.0 so.held_is did.1 in
     let ps : map place_number (take n stretch) ++ p.0 ∷ [] ≡ map place_number (take (n + 1) stretch) =
@@ -107,13 +107,13 @@ took_more a b c hold mid held span stretch n p d mine so inside is did held_is =
       won = so.won ++ mine;
       takes = (
         so.takes.0 ++ did.0,
-        subst (λ (qs : List ℕ). TakesEach hold.row (length hold.items) span qs (so.won ++ mine) (so.takes.0 ++ did.0)) ps
-            (takes_more hold.row (length hold.items) span (map place_number (take n stretch)) p.0 so.won mine so.takes.0 did.0 so.takes.1 adds),
+        subst (λ (qs : List ℕ). TakesEach hold.row.row (length hold.items) span qs (so.won ++ mine) (so.takes.0 ++ did.0)) ps
+            (takes_more hold.row.row (length hold.items) span (map place_number (take n stretch)) p.0 so.won mine so.takes.0 did.0 so.takes.1 adds),
         shape_then a b c so.takes.0 did.0 so.takes.2 did.2,
       );
       held_is = held_then hold mid held so.won mine so.held_is held_is;
       many = length-append so.won mine
-          ∙ ((λ i. so.many i + one_place hold.row (length hold.items + length so.won) span (p.0 ∷ []) mine did.0 adds i) ∙ sum n l);
+          ∙ ((λ i. so.many i + one_place hold.row.row (length hold.items + length so.won) span (p.0 ∷ []) mine did.0 adds i) ∙ sum n l);
     }
   where
     sum : (n l : ℕ) → n * l + l ≡ (n + 1) * l
@@ -135,14 +135,14 @@ room_more a b hold held span stretch n so inside room =
 
 -- all are taken
 pub took_all : (a b : DeskView) (hold held : HoldView) (span : Interval) (stretch : List PlaceNo) (n : ℕ) → length stretch ≤ n → Took a b hold held span stretch n
-    → (won : List Item) × ShapeBy (TakesEach hold.row (length hold.items) span (map place_number stretch) won) a b × (held ≡ with_items hold won)
+    → (won : List Item) × ShapeBy (TakesEach hold.row.row (length hold.items) span (map place_number stretch) won) a b × (held ≡ with_items hold won)
 took_all a b hold held span stretch n end so =
-    (so.won, subst (λ (ps : List PlaceNo). ShapeBy (TakesEach hold.row (length hold.items) span (map place_number ps) so.won) a b) (take_all n stretch end) so.takes, so.held_is)
+    (so.won, subst (λ (ps : List PlaceNo). ShapeBy (TakesEach hold.row.row (length hold.items) span (map place_number ps) so.won) a b) (take_all n stretch end) so.takes, so.held_is)
 
 -- or one isn't won
 pub took_not : (a b c : DeskView) (hold mid held : HoldView) (span : Interval) (stretch : List PlaceNo) (n : ℕ) (p d : PlaceNo) (answer : Added) (mine : List Item) → Took a b hold mid span stretch n → n < length stretch
-    → p ≡ get_or stretch n d → answer ≢ added.All → mine ≡ [] → ShapeBy (Adds mid.row (length mid.items) span 1 (map place_number (p ∷ [])) answer mine) b c → held ≡ with_items mid mine
-    → (won : List Item) × ShapeBy (LosesAt hold.row (length hold.items) span (map place_number stretch) n won) a c × (held ≡ with_items hold won)
+    → p ≡ get_or stretch n d → answer ≢ added.All → mine ≡ [] → ShapeBy (Adds mid.row.row (length mid.items) span 1 (map place_number (p ∷ [])) answer mine) b c → held ≡ with_items mid mine
+    → (won : List Item) × ShapeBy (LosesAt hold.row.row (length hold.items) span (map place_number stretch) n won) a c × (held ≡ with_items hold won)
 took_not a b c hold mid held span stretch n p d answer mine so inside is stopped none did held_is =
     let adds = as_first hold mid so.won span (p.0 ∷ []) answer mine did.0 so.held_is did.1 in
     let front : List ℕ = map place_number (take n stretch) in
@@ -165,7 +165,7 @@ took_not a b c hold mid held span stretch n p d answer mine so inside is stopped
             takes = so.takes.0;
             last = did.0;
             takes_are = so.takes.1;
-            last_are = subst (λ (is : List Item). Adds hold.row (length hold.items + length so.won) span 1 (p.0 ∷ []) answer is did.0) none adds;
+            last_are = subst (λ (is : List Item). Adds hold.row.row (length hold.items + length so.won) span 1 (p.0 ∷ []) answer is did.0) none adds;
             are = refl;
           },
           length-map (take n stretch) place_number ∙ length-take-le n stretch (let e : n ≤ length stretch = omega (arith, inside) in e),
@@ -180,7 +180,7 @@ took_not a b c hold mid held span stretch n p d answer mine so inside is stopped
 -- of the hold's items so many above `left` are still to be given back
 pub record Gave (start now : DeskView) (hold held : HoldView) (left total more : ℕ) : Type 0 where
   pub gives : List Step
-  pub rest : gives ++ gives_down hold.row left more ≡ gives_down hold.row left total
+  pub rest : gives ++ gives_down hold.row.row left more ≡ gives_down hold.row.row left total
   pub seen : Shape start now gives
   pub gone : List Item
   pub hold_is : hold ≡ with_items held gone
@@ -197,36 +197,36 @@ gave_none start hold left few legal = record {
 }
 
 pub gave_more : (a b c : DeskView) (hold mid held : HoldView) (left total more : ℕ) (i : Item) → Gave a b hold mid left total (suc more) → mid ≡ with_one held i
-    → Shape b c (Give mid.row (length held.items) ∷ []) → Gave a c hold held left total more
+    → Shape b c (Give mid.row.row (length held.items) ∷ []) → Gave a c hold held left total more
 gave_more a b c hold mid held left total more i so one did =
     let count : length mid.items ≡ length held.items + 1 = ap (λ (h : HoldView). length h.items) one ∙ length-append held.items (i ∷ []) in
     let many : length held.items ≡ left + more = let m = so.many in omega (arith, count, m) in
-    let row : mid.row ≡ hold.row = sym (ap (λ (h : HoldView). h.row) so.hold_is) in
-    let step : Shape b c (Give hold.row (left + more) ∷ []) = subst (λ (n : ℕ). Shape b c (Give hold.row n ∷ [])) many (subst (λ (r : ℕ). Shape b c (Give r (length held.items) ∷ [])) row did) in
+    let row : mid.row.row ≡ hold.row.row = sym (ap (λ (h : HoldView). h.row.row) so.hold_is) in
+    let step : Shape b c (Give hold.row.row (left + more) ∷ []) = subst (λ (n : ℕ). Shape b c (Give hold.row.row n ∷ [])) many (subst (λ (r : ℕ). Shape b c (Give r (length held.items) ∷ [])) row did) in
     record {
-      gives = so.gives ++ Give hold.row (left + more) ∷ [];
-      rest = append_assoc so.gives (Give hold.row (left + more) ∷ []) (gives_down hold.row left more) ∙ so.rest;
-      seen = shape_then a b c so.gives (Give hold.row (left + more) ∷ []) so.seen step;
+      gives = so.gives ++ Give hold.row.row (left + more) ∷ [];
+      rest = append_assoc so.gives (Give hold.row.row (left + more) ∷ []) (gives_down hold.row.row left more) ∙ so.rest;
+      seen = shape_then a b c so.gives (Give hold.row.row (left + more) ∷ []) so.seen step;
       gone = i ∷ so.gone;
       hold_is = so.hold_is ∙ (ap (λ (h : HoldView). with_items h so.gone) one ∙ ap (λ (is : List Item). record { row = held.row; items = is }) (append_assoc held.items (i ∷ []) so.gone));
       many = many;
     }
 
-pub gave_all : (a b : DeskView) (hold held : HoldView) (left total : ℕ) → Gave a b hold held left total 0 → Shape a b (gives_down hold.row left total)
+pub gave_all : (a b : DeskView) (hold held : HoldView) (left total : ℕ) → Gave a b hold held left total 0 → Shape a b (gives_down hold.row.row left total)
 gave_all a b hold held left total so = subst (Shape a b) (sym (append-nil so.gives) ∙ so.rest) so.seen
 
 -- a try that lost leaves the hold as it was
-pub given_up : (a b c : DeskView) (hold mid held : HoldView) (span : Interval) (stretch : List ℕ) (n : ℕ) (won gone : List Item) → ShapeBy (LosesAt hold.row (length hold.items) span stretch n won) a b
-    → mid ≡ with_items hold won → Shape b c (gives_down mid.row (length hold.items) (length mid.items - length hold.items)) → mid ≡ with_items held gone → length held.items ≡ length hold.items
-    → ShapeBy (GivesUpAt hold.row (length hold.items) span stretch n) a c × (held ≡ hold)
+pub given_up : (a b c : DeskView) (hold mid held : HoldView) (span : Interval) (stretch : List ℕ) (n : ℕ) (won gone : List Item) → ShapeBy (LosesAt hold.row.row (length hold.items) span stretch n won) a b
+    → mid ≡ with_items hold won → Shape b c (gives_down mid.row.row (length hold.items) (length mid.items - length hold.items)) → mid ≡ with_items held gone → length held.items ≡ length hold.items
+    → ShapeBy (GivesUpAt hold.row.row (length hold.items) span stretch n) a c × (held ≡ hold)
 given_up a b c hold mid held span stretch n won gone did is gave gone_is many =
     let count : length mid.items - length hold.items ≡ length won = let l = ap (λ (h : HoldView). length h.items) is ∙ length-append hold.items won in omega (arith, l) in
-    let gives : Shape b c (gives_down hold.row (length hold.items) (length won)) =
-    subst (λ (m : ℕ). Shape b c (gives_down hold.row (length hold.items) m)) count
-    (subst (λ (r : ℕ). Shape b c (gives_down r (length hold.items) (length mid.items - length hold.items))) (ap (λ (h : HoldView). h.row) is) gave) in
+    let gives : Shape b c (gives_down hold.row.row (length hold.items) (length won)) =
+    subst (λ (m : ℕ). Shape b c (gives_down hold.row.row (length hold.items) m)) count
+    (subst (λ (r : ℕ). Shape b c (gives_down r (length hold.items) (length mid.items - length hold.items))) (ap (λ (h : HoldView). h.row.row) is) gave) in
     let row : held.row ≡ hold.row = sym (ap (λ (h : HoldView). h.row) gone_is) ∙ ap (λ (h : HoldView). h.row) is in
     let items : held.items ≡ hold.items =
     (same_parts held.items gone hold.items won (sym (ap (λ (h : HoldView). h.items) gone_is) ∙ ap (λ (h : HoldView). h.items) is) many).0 in (
-      (did.0 ++ gives_down hold.row (length hold.items) (length won), (won, did.0, did.1, refl), shape_then a b c did.0 (gives_down hold.row (length hold.items) (length won)) did.2 gives),
+      (did.0 ++ gives_down hold.row.row (length hold.items) (length won), (won, did.0, did.1, refl), shape_then a b c did.0 (gives_down hold.row.row (length hold.items) (length won)) did.2 gives),
       (let e : held ≡ hold = (λ i. record { row = row i; items = items i }) in e),
     )

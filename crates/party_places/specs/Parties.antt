@@ -28,7 +28,7 @@ pub record Party : Type 0 where
 abbrev pub asked : List Place → HoldView → Interval → ℕ → List PlaceNo → Party
 asked places hold span count candidates = record {
   places = places;
-  row = hold.row;
+  row = hold.row.row;
   items = length hold.items;
   span = span;
   count = count;
@@ -69,7 +69,7 @@ pub record Loses (row k : ℕ) (span : Interval) (stretch : List ℕ) (won : Lis
 -- all of them are taken so for a hold, which has their items then
 abbrev pub Takes : HoldView → Interval → List PlaceNo → DeskView → DeskView → HoldView → Type 0
 Takes hold span stretch old new held =
-    (won : List Item) × ShapeBy (TakesEach hold.row (length hold.items) span (map place_number stretch) won) old new
+    (won : List Item) × ShapeBy (TakesEach hold.row.row (length hold.items) span (map place_number stretch) won) old new
     × (held ≡ with_items hold won)
 
 -- the one that isn't won is the n-th
@@ -79,7 +79,7 @@ LosesAt row k span stretch n won es = (loses : Loses row k span stretch won es) 
 -- they are taken up to that one for a hold, which has the items won then
 abbrev pub LosesOne : HoldView → Interval → List PlaceNo → ℕ → DeskView → DeskView → HoldView → Type 0
 LosesOne hold span stretch n old new held =
-    (won : List Item) × ShapeBy (LosesAt hold.row (length hold.items) span (map place_number stretch) n won) old new
+    (won : List Item) × ShapeBy (LosesAt hold.row.row (length hold.items) span (map place_number stretch) n won) old new
     × (held ≡ with_items hold won)
 
 -- and what was won is given back
@@ -90,7 +90,7 @@ GivesUpAt row k span stretch n es =
 -- so that the hold has what it had
 abbrev pub GivesUp : HoldView → Interval → List PlaceNo → ℕ → DeskView → DeskView → HoldView → Type 0
 GivesUp hold span stretch n old new held =
-    ShapeBy (GivesUpAt hold.row (length hold.items) span (map place_number stretch) n) old new × (held ≡ hold)
+    ShapeBy (GivesUpAt hold.row.row (length hold.items) span (map place_number stretch) n) old new × (held ≡ hold)
 
 -- A try from these candidates on that failed: a free stretch was found, and its places taken up to one that wasn't won; what was won is given
 -- back, and the candidates behind that one are left.

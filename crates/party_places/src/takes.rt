@@ -49,7 +49,7 @@ fn give_back(books: &Books, desk: &mut Desk, hold: &mut Hold, left: usize)
     requires hold { IsHolding desk.old hold.old }
     requires left { left ≤ length hold.old.items }
     ensures own { IsOf books.now desk.new }
-    ensures entries { Shape desk.old desk.new (gives_down hold.old.row left (length hold.old.items - left)) }
+    ensures entries { Shape desk.old desk.new (gives_down hold.old.row.row left (length hold.old.items - left)) }
     ensures held { (gone : List Item) × (hold.old ≡ with_items hold.new gone) }
     ensures left { length hold.new.items ≡ left }
     ensures hold { IsHolding desk.new hold.new }

@@ -13,8 +13,9 @@ use Rattle.plain_host.proofs.ExchangeLaws.{accept_exchange_plain}
 
 pub command_plain : (cat : CatalogueView) (retailer now : ℕ) (c : Command) → IsReadable cat c → AnswersPlainly cat retailer now c
 command_plain cat retailer now (command.Offers trip adults children class wanted) readable = offers_plain cat retailer now trip adults children class wanted
-command_plain cat retailer now (command.Book offer) readable = book_plain cat retailer now offer readable
-command_plain cat retailer now (command.Reserve segment class count wanted) readable = reserve_plain cat retailer now segment class count wanted readable
+command_plain cat retailer now (command.Book offer together) readable = book_plain cat retailer now offer together readable
+command_plain cat retailer now (command.Reserve segment class count wanted together) readable =
+    reserve_plain cat retailer now segment class count wanted together readable
 command_plain cat retailer now (command.Show row) readable = show_plain cat retailer now row
 command_plain cat retailer now (command.Release row) readable = release_plain cat retailer now row
 command_plain cat retailer now (command.Confirm row) readable = confirm_plain cat retailer now row

@@ -1,5 +1,5 @@
 -- What steps on a row make of its booking.
-use Rattle.std.proofs.Common.{◌≡◌, ◌≢◌, ℕ, zero, suc, Bool, true, false, cond, eq-eqb, List, [], ◌∷◌, ◌++◌, map, length, get_or, set, Some, refl, sym, ap, ◌∙◌, subst, arith}
+use Rattle.std.proofs.Common.{◌≡◌, ◌≢◌, ℕ, zero, suc, Bool, true, false, eq-eqb, List, [], ◌∷◌, ◌++◌, map, length, get_or, set, Some, refl, sym, ap, ◌∙◌, subst, arith}
 use Rattle.std.specs.Prelude.{◌==◌}
 use Rattle.std.specs.List.{AllByRecursion}
 use Rattle.std.proofs.lemmas.Bool.{eqb-true}
@@ -13,15 +13,17 @@ use Rattle.history_model.specs.declared.booking.End.{End}
 use Rattle.history_model.specs.declared.entry.Step.{Step}
 use Rattle.history_model.specs.declared.entry.Step.TheVariants.{Look, Take, Give, Start, SawRow, Note, Seal, Turn, LostTurn, Close, Met}
 use Rattle.history_model.specs.Apply.{apply_step, marked, given, noted, turned, ended_phase, closed}
-use Rattle.history_model.specs.Booking.{Booking, State, change, word_at, amount_word}
-use Rattle.history_model.proofs.Keeping.{turned-row, given_ending}
+use Rattle.history_model.specs.Booking.{Booking, State, key_of, stands_in, change, word_at, amount_word}
+use Rattle.history_model.specs.Lists.{change_first}
+use Rattle.history_model.proofs.Keeping.{turned-key, given_ending}
 use Rattle.claim_rule.specs.Endings.{item_looks}
 use Rattle.claim_rule.specs.EndSteps.{gives_from, closing, ending_steps}
 use Rattle.row_decisions.specs.Ends.{ends_as}
 use Rattle.booking_service.specs.Deciding.{at_end}
 use Rattle.lone_desk.specs.Lone.{after_steps}
-use Rattle.lone_desk.proofs.OwnRow.{IsApart}
+use Rattle.lone_desk.proofs.OwnRow.{changed_behind}
 use Rattle.plain_host.specs.PlainOf.{item_of, end_in, view_of}
+use Rattle.plain_host.proofs.Standings.{Stands, stands_with}
 
 -- a step on the row's booking, and steps one after another
 abbrev pub on_booking : ℕ → Step → Booking → Booking
@@ -40,7 +42,7 @@ abbrev pub is_on : ℕ → Step → Bool
 is_on row (Look place half shown) = true
 is_on row (Take r place span) = false
 is_on row (Give r item) = r == row
-is_on row (Start r) = false
+is_on row (Start r generation) = false
 is_on row (SawRow r word value) = true
 is_on row (Note r word value) = r == row
 is_on row (Seal r phase) = false
@@ -52,53 +54,51 @@ is_on row Met = true
 abbrev pub AreOn : ℕ → List Step → Type 0
 AreOn row steps = AllByRecursion (λ st. is_on row st ≡ true) steps
 
-change_here : (before after : State) (b : Booking) (row : ℕ) (f : Booking → Booking) → b.row ≡ row → IsApart row before
-    → change (before ++ b ∷ after) row f ≡ before ++ f b ∷ after
-change_here [] after b row f here apart = ap (λ (t : Bool). cond t (f b ∷ after) (b ∷ change after row f)) (eq-eqb b.row row here)
-change_here (x ∷ before) after b row f here apart =
-    ap (λ (t : Bool). cond t (f x ∷ (before ++ b ∷ after)) (x ∷ change (before ++ b ∷ after) row f)) apart.0
-    ∙ ap (λ (s : State). x ∷ s) (change_here before after b row f here apart.1)
+pub change_at : (s : State) (b : Booking) (row r : ℕ) (f : Booking → Booking) → (st : Stands s row b) → (r == row) ≡ true → change s r f ≡ st.before ++ f b ∷ st.after
+change_at s b row r f st at =
+    ap (λ (k : ℕ). change s k f) (eqb-true r row at)
+    ∙ (ap (change_first (stands_in s row) f) st.is ∙ changed_behind (stands_in s row) f st.before st.after b st.first st.passes)
 
-change_at : (before after : State) (b : Booking) (row r : ℕ) (f : Booking → Booking) → b.row ≡ row → IsApart row before → (r == row) ≡ true
-    → change (before ++ b ∷ after) r f ≡ before ++ f b ∷ after
-change_at before after b row r f here apart at =
-    ap (λ (k : ℕ). change (before ++ b ∷ after) k f) (eqb-true r row at) ∙ change_here before after b row f here apart
+step_on : (s : State) (b : Booking) (row desk : ℕ) (step : Step) → (st : Stands s row b) → is_on row step ≡ true
+    → apply_step s desk step ≡ st.before ++ on_booking desk step b ∷ st.after
+step_on s b row desk (Look place half shown) st at = st.is
+step_on s b row desk (Take r place span) st at = absurd cc
+step_on s b row desk (Give r item) st at = change_at s b row r (given item) st at
+step_on s b row desk (Start r generation) st at = absurd cc
+step_on s b row desk (SawRow r word value) st at = st.is
+step_on s b row desk (Note r word value) st at = change_at s b row r (noted word value) st at
+step_on s b row desk (Seal r phase) st at = absurd cc
+step_on s b row desk (Turn r from to moment amount successor) st at =
+    change_at s b row r (turned desk to (record { moment = moment; amount = amount; successor = successor })) st at
+step_on s b row desk (LostTurn r wanted shown) st at = st.is
+step_on s b row desk (Close r) st at = change_at s b row r closed st at
+step_on s b row desk Met st at = st.is
 
-step_on : (before after : State) (b : Booking) (row desk : ℕ) (st : Step) → b.row ≡ row → IsApart row before → is_on row st ≡ true
-    → apply_step (before ++ b ∷ after) desk st ≡ before ++ on_booking desk st b ∷ after
-step_on before after b row desk (Look place half shown) here apart at = refl
-step_on before after b row desk (Take r place span) here apart at = absurd cc
-step_on before after b row desk (Give r item) here apart at = change_at before after b row r (given item) here apart at
-step_on before after b row desk (Start r) here apart at = absurd cc
-step_on before after b row desk (SawRow r word value) here apart at = refl
-step_on before after b row desk (Note r word value) here apart at = change_at before after b row r (noted word value) here apart at
-step_on before after b row desk (Seal r phase) here apart at = absurd cc
-step_on before after b row desk (Turn r from to moment amount successor) here apart at =
-    change_at before after b row r (turned desk to (record { moment = moment; amount = amount; successor = successor })) here apart at
-step_on before after b row desk (LostTurn r wanted shown) here apart at = refl
-step_on before after b row desk (Close r) here apart at = change_at before after b row r closed here apart at
-step_on before after b row desk Met here apart at = refl
+pub key_stays : (desk : ℕ) (step : Step) (b : Booking) → key_of (on_booking desk step b) ≡ key_of b
+key_stays desk (Look place half shown) b = refl
+key_stays desk (Take r place span) b = refl
+key_stays desk (Give r item) b = refl
+key_stays desk (Start r generation) b = refl
+key_stays desk (SawRow r word value) b = refl
+key_stays desk (Note r word value) b = refl
+key_stays desk (Seal r phase) b = refl
+key_stays desk (Turn r from to moment amount successor) b = turned-key desk to (record { moment = moment; amount = amount; successor = successor }) b
+key_stays desk (LostTurn r wanted shown) b = refl
+key_stays desk (Close r) b = refl
+key_stays desk Met b = refl
 
-pub row_stays : (desk : ℕ) (st : Step) (b : Booking) → (on_booking desk st b).row ≡ b.row
-row_stays desk (Look place half shown) b = refl
-row_stays desk (Take r place span) b = refl
-row_stays desk (Give r item) b = refl
-row_stays desk (Start r) b = refl
-row_stays desk (SawRow r word value) b = refl
-row_stays desk (Note r word value) b = refl
-row_stays desk (Seal r phase) b = refl
-row_stays desk (Turn r from to moment amount successor) b = turned-row desk to (record { moment = moment; amount = amount; successor = successor }) b
-row_stays desk (LostTurn r wanted shown) b = refl
-row_stays desk (Close r) b = refl
-row_stays desk Met b = refl
+pub steps_key : (desk : ℕ) (steps : List Step) (b : Booking) → key_of (steps_on desk steps b) ≡ key_of b
+steps_key desk [] b = refl
+steps_key desk (step ∷ steps) b = steps_key desk steps (on_booking desk step b) ∙ key_stays desk step b
 
--- steps on a row change its booking, and no other
-pub steps_change : (before after : State) (b : Booking) (row desk : ℕ) (steps : List Step) → b.row ≡ row → IsApart row before → AreOn row steps
-    → after_steps (before ++ b ∷ after) desk steps ≡ before ++ steps_on desk steps b ∷ after
-steps_change before after b row desk [] here apart on = refl
-steps_change before after b row desk (st ∷ steps) here apart on =
-    ap (λ (s : State). after_steps s desk steps) (step_on before after b row desk st here apart on.0)
-    ∙ steps_change before after (on_booking desk st b) row desk steps (row_stays desk st b ∙ here) apart on.1
+-- steps on a row change its present booking, and no other
+pub steps_change : (s : State) (b : Booking) (row desk : ℕ) (steps : List Step) → (st : Stands s row b) → AreOn row steps
+    → after_steps s desk steps ≡ st.before ++ steps_on desk steps b ∷ st.after
+steps_change s b row desk [] st on = st.is
+steps_change s b row desk (step ∷ steps) st on =
+    let c = on_booking desk step b in
+    ap (λ (t : State). after_steps t desk steps) (step_on s b row desk step st on.0)
+    ∙ steps_change (st.before ++ c ∷ st.after) c row desk steps (stands_with s row b c st (key_stays desk step b)) on.1
 
 -- a turn to an end, with all that follows it
 
@@ -123,7 +123,7 @@ map_marked (suc n) (i ∷ is) = ap (λ (l : List Item). item_of i ∷ l) (map_ma
 
 -- the booking as it was, but for the marks of its items
 pub record KeepsAll (b c : Booking) : Type 0 where
-  pub row : c.row ≡ b.row
+  pub key : key_of c ≡ key_of b
   pub phase : c.phase ≡ b.phase
   pub end : c.end ≡ b.end
   pub words : c.words ≡ b.words
@@ -131,7 +131,7 @@ pub record KeepsAll (b c : Booking) : Type 0 where
 
 keeps_then : (b c d : Booking) → KeepsAll b c → KeepsAll c d → KeepsAll b d
 keeps_then b c d h k = record {
-  row = k.row ∙ h.row;
+  key = k.key ∙ h.key;
   phase = k.phase ∙ h.phase;
   end = k.end ∙ h.end;
   words = k.words ∙ h.words;
@@ -144,11 +144,11 @@ looks_keep desk row w (i ∷ is) rest b = looks_keep desk row (suc w) is rest b
 
 gives_keep : (desk row k n : ℕ) (kind : EndKind) (rest : List Step) (b : Booking) → b.phase ≡ Ending kind
     → (c : Booking) × (steps_on desk (gives_from row k n ++ rest) b ≡ steps_on desk rest c) × KeepsAll b c
-gives_keep desk row k zero kind rest b ending = (b, refl, record { row = refl; phase = refl; end = refl; words = refl; items = refl })
+gives_keep desk row k zero kind rest b ending = (b, refl, record { key = refl; phase = refl; end = refl; words = refl; items = refl })
 gives_keep desk row k (suc n) kind rest b ending =
     let more = gives_keep desk row (suc k) n kind rest (given k b) ending in
     let one : KeepsAll b (given k b) = record {
-      row = refl;
+      key = refl;
       phase = refl;
       end = refl;
       words = refl;
@@ -164,18 +164,18 @@ other_word ws w x y z five six seven =
 
 -- what a turn to an end leaves of the booking
 pub record IsEndedAs (kind : EndKind) (end : End) (b c : Booking) : Type 0 where
-  pub row : c.row ≡ b.row
+  pub key : key_of c ≡ key_of b
   pub phase : c.phase ≡ Ended kind
   pub view : view_of c ≡ at_end kind end (view_of b)
 
 ended_in : (p : Phase) (kind : EndKind) (e end : End) → p ≡ Ending kind → e ≡ end → end_in (ended_phase p) e ≡ Some end
 ended_in p kind e end phase same = ap (λ (q : Phase). end_in (ended_phase q) e) phase ∙ ap (λ (x : End). Some x) same
 
-closes : (desk row : ℕ) (kind : EndKind) (end : End) (b d : Booking) → d.row ≡ b.row → d.phase ≡ Ending kind → d.end ≡ end → d.words ≡ b.words
+closes : (desk row : ℕ) (kind : EndKind) (end : End) (b d : Booking) → key_of d ≡ key_of b → d.phase ≡ Ending kind → d.end ≡ end → d.words ≡ b.words
     → map item_of d.items ≡ map item_of b.items → IsEndedAs kind end b (steps_on desk (closing row kind end) d)
-closes desk row kind end b d row_is phase end_is words items =
+closes desk row kind end b d key phase end_is words items =
     record {
-      row = row_is;
+      key = key;
       phase = ap ended_phase phase;
       view = λ i. record {
         phase = ap ended_phase phase i;
@@ -198,4 +198,4 @@ ends_leave desk row from kind end items b =
     let ending : Booking = turned desk (Ending kind) end b in
     let gives = gives_keep desk row 0 (length items) kind (closing row kind end) ending refl in
     subst (IsEndedAs kind end b) (sym (looks_keep desk row 8 items (ending_steps row kind end items) ending ∙ gives.1))
-    (closes desk row kind end b gives.0 gives.2.row gives.2.phase gives.2.end gives.2.words gives.2.items)
+    (closes desk row kind end b gives.0 gives.2.key gives.2.phase gives.2.end gives.2.words gives.2.items)

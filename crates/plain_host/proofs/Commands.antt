@@ -3,22 +3,22 @@ use Rattle.std.proofs.Common.{◌≡◌, ℕ, ◌<◌, ◌≤◌, ◌⊎◌, inl
 use Rattle.history_model.specs.declared.entry.Step.{Step}
 use Rattle.history_model.specs.Phase.{is_sealed}
 use Rattle.history_model.specs.Booking.{Booking, State, present, word_at}
-use Rattle.history_model.specs.History.{IsLegal, IsLegalFrom}
+use Rattle.history_model.specs.History.{IsLegal}
 use Rattle.history_model.proofs.Ranges.{ranges_all}
 use Rattle.claim_rule.specs.Rule.{DeskView, state_seen}
 use Rattle.claim_rule.specs.Calls.{ShapeBy}
 use Rattle.claim_rule.proofs.Moves.{is_sound}
-use Rattle.booking_rows.specs.Views.{RowSeen, saw_row}
+use Rattle.booking_rows.specs.Views.{RowSeen}
 use Rattle.booking_rows.specs.SealedRows.{FitWords}
-use Rattle.booking_rows.proofs.ViewLemmas.{row_all_looks}
+use Rattle.booking_rows.proofs.Looked.{row_looked}
 use Rattle.rail_ids.specs.declared.RowNo.{RowNo}
 use Rattle.rail_catalogue.specs.Contents.{CatalogueView}
 use Rattle.osdm_texts.specs.declared.problem.Problem.TheVariants.{NoMemory}
 use Rattle.osdm_texts.specs.Answers.{Reply, problem}
 use Rattle.osdm_json.specs.declared.command.Command.TheVariants as command
-use Rattle.booking_service.specs.Finding.{FindsBooking}
+use Rattle.refund_core.specs.Quotes.{FindsBooking}
 use Rattle.booking_service.specs.Deciding.{Replying, OnBooking, shows, confirm_reply, ConfirmsIt, fulfil_reply, FulfilsIt, release_reply, ReleasesIt}
-use Rattle.lone_desk.specs.Lone.{IsAlone, entries_of, after_steps}
+use Rattle.lone_desk.specs.Lone.{IsAlone, after_steps}
 use Rattle.lone_desk.proofs.Following.{shape_follows}
 use Rattle.plain_host.specs.Plain.{Plain, Outcome, own_view}
 use Rattle.plain_host.specs.Outcomes.{on_view, on_own, shown, confirmed, fulfilled, released}
@@ -26,48 +26,45 @@ use Rattle.plain_host.specs.PlainOf.{view_of, plain_in, plain_of}
 use Rattle.plain_host.specs.Settled.{IsSettled}
 use Rattle.plain_host.specs.Plainly.{IsLone, IsPlainly}
 use Rattle.plain_host.proofs.Staying.{StaysAlone, stays_by, stays_then, still_lone}
-use Rattle.plain_host.proofs.Standings.{own_is, own_other, own_unsealed, own_past}
-use Rattle.plain_host.proofs.Shown.{phase_is, row_shown}
-use Rattle.plain_host.proofs.Decided.{ComesTo, looks_stay, confirm_comes, fulfil_comes, release_comes}
+use Rattle.plain_host.proofs.Standings.{own_is, own_other, own_unshown, own_past}
+use Rattle.plain_host.proofs.Looks.{looks_stay, none_shown}
+use Rattle.plain_host.proofs.Shown.{row_shown}
+use Rattle.plain_host.proofs.Decided.{ComesTo, confirm_comes, fulfil_comes, release_comes}
 
 -- what is done with a booking that was found comes to this
-abbrev pub ComesOn : ℕ → ℕ → ℕ → (RowSeen → Replying) → (Plain → RowSeen → Outcome) → Type 0
+abbrev pub ComesOn : ℕ → RowNo → ℕ → (RowSeen → Replying) → (Plain → RowSeen → Outcome) → Type 0
 ComesOn rows row retailer Does does =
-    (mid new : DeskView) (b : Booking) (reply : Reply) → IsAlone mid → IsLegal mid.layout mid.seen → present (state_seen mid) row ≡ Some b
-    → is_sealed b.phase ≡ true → word_at b 1 ≡ retailer → row < rows → IsSettled (state_seen mid) → FitWords mid.layout → Does (view_of b) mid new reply
+    (mid new : DeskView) (b : Booking) (reply : Reply) → IsAlone mid → IsLegal mid.layout mid.seen → present (state_seen mid) row.row ≡ Some b → b.generation ≡ row.generation
+    → is_sealed b.phase ≡ true → word_at b 1 ≡ retailer → row.row < rows → IsSettled (state_seen mid) → FitWords mid.layout → Does (view_of b) mid new reply
     → ComesTo (does (plain_in (state_seen mid)) (view_of b)) (state_seen new) reply × StaysAlone mid new
 
 -- no booking of the retailer was found, and there is none
-pub unknown_comes : (cat : CatalogueView) (row retailer : ℕ) (old new : DeskView) → IsLone cat old → ShapeBy (FindsBooking cat.rows row retailer None) old new
+pub unknown_comes : (cat : CatalogueView) (row : RowNo) (retailer : ℕ) (old new : DeskView) → IsLone cat old → ShapeBy (FindsBooking cat.rows row retailer None) old new
     → (own_view (plain_of old) row retailer ≡ None) × (state_seen new ≡ state_seen old) × StaysAlone old new
 unknown_comes cat row retailer old new lone (es, inl (past, none), did) =
-    let f = shape_follows old new es lone.alone did in
-    let good = is_sound old.layout old.seen lone.legal in (
-      own_past old.layout (state_seen old) row retailer good (ranges_all old.layout old.seen lone.legal) (subst (λ (n : ℕ). n ≤ row) (sym lone.rows) past),
+    let f = shape_follows old new es lone.alone did in (
+      own_past old.layout (state_seen old) row retailer (ranges_all old.layout old.seen lone.legal) (subst (λ (n : ℕ). n ≤ row.row) (sym lone.rows) past),
       f.state ∙ ap (λ (l : List Step). after_steps (state_seen old) old.number l) none,
       stays_by old new es lone.alone did,
     )
-unknown_comes cat row retailer old new lone (es, inr (below, inl (p, unsealed, is)), did) =
+unknown_comes cat row retailer old new lone (es, inr (below, inl looks), did) =
     let f = shape_follows old new es lone.alone did in
-    let good = is_sound old.layout old.seen lone.legal in
-    let l = subst (λ (x : List Step). IsLegalFrom old.layout (state_seen old) (entries_of old.number x)) is f.legal in (
-      own_unsealed old.layout (state_seen old) row retailer good (ap is_sealed (phase_is (state_seen old) row p l.0.2) ∙ unsealed),
-      f.state ∙ ap (λ (x : List Step). after_steps (state_seen old) old.number x) is,
+    let good = is_sound old.layout old.seen lone.legal in (
+      own_unshown old.layout (state_seen old) row retailer good (none_shown old.layout (state_seen old) old.number row es looks f.legal),
+      f.state ∙ looks_stay (state_seen old) old.number es (row_looked row None es looks),
       stays_by old new es lone.alone did,
     )
-unknown_comes cat row retailer old new lone (es, inr (below, inr (v, other, (seen, is))), did) =
+unknown_comes cat row retailer old new lone (es, inr (below, inr (v, other, looks)), did) =
     let f = shape_follows old new es lone.alone did in
     let good = is_sound old.layout old.seen lone.legal in
-    let l = subst (λ (x : List Step). IsLegalFrom old.layout (state_seen old) (entries_of old.number x)) is f.legal in
-    let at = row_shown old.layout (state_seen old) old.number row v good (ranges_all old.layout old.seen lone.legal) lone.fit seen l in (
+    let at = row_shown old.layout (state_seen old) old.number row v es good (ranges_all old.layout old.seen lone.legal) lone.fit looks f.legal in (
       own_other old.layout (state_seen old) row retailer at.booking good at.found at.sealed (λ e. other (ap (λ (x : RowSeen). x.retailer) at.view ∙ e)),
-      f.state ∙ (ap (λ (x : List Step). after_steps (state_seen old) old.number x) is
-          ∙ looks_stay (state_seen old) old.number (saw_row row v) (row_all_looks row v)),
+      f.state ∙ looks_stay (state_seen old) old.number es (row_looked row (Some v) es looks),
       stays_by old new es lone.alone did,
     )
 
 -- What a command on a booking comes to: the outcome for the retailer's booking, or nothing changed for want of memory.
-pub booking_comes : (cat : CatalogueView) (row retailer : ℕ) (Does : RowSeen → Replying) (does : Plain → RowSeen → Outcome) (old new : DeskView) (reply : Reply)
+pub booking_comes : (cat : CatalogueView) (row : RowNo) (retailer : ℕ) (Does : RowSeen → Replying) (does : Plain → RowSeen → Outcome) (old new : DeskView) (reply : Reply)
     → IsLone cat old → ComesOn cat.rows row retailer Does does → OnBooking cat.rows row retailer Does old new reply
     → (ComesTo (on_own (plain_of old) row retailer (does (plain_of old))) (state_seen new) reply ⊎ ((reply ≡ problem NoMemory) × (plain_of new ≡ plain_of old))) × IsLone cat new
 booking_comes cat row retailer Does does old new reply lone comes (inl (did, is)) =
@@ -77,70 +74,68 @@ booking_comes cat row retailer Does does old new reply lone comes (inl (did, is)
           (record { reply_is = is; plain_is = ap plain_in none.1; settled = left })),
       still_lone cat old new lone none.2 left,
     )
-booking_comes cat row retailer Does does old new reply lone comes (inr (v, mid, (es, (below, mine, (seen, is)), did), then)) =
+booking_comes cat row retailer Does does old new reply lone comes (inr (v, mid, (es, (below, (mine, looks)), did), then)) =
     let s = state_seen old in
     let f = shape_follows old mid es lone.alone did in
     let good = is_sound old.layout old.seen lone.legal in
-    let l = subst (λ (x : List Step). IsLegalFrom old.layout s (entries_of old.number x)) is f.legal in
-    let at = row_shown old.layout s old.number row v good (ranges_all old.layout old.seen lone.legal) lone.fit seen l in
+    let at = row_shown old.layout s old.number row v es good (ranges_all old.layout old.seen lone.legal) lone.fit looks f.legal in
     let b = at.booking in
     let retailers : word_at b 1 ≡ retailer = sym (ap (λ (x : RowSeen). x.retailer) at.view) ∙ mine in
-    let state : state_seen mid ≡ s =
-    f.state ∙ (ap (λ (x : List Step). after_steps s old.number x) is ∙ looks_stay s old.number (saw_row row v) (row_all_looks row v)) in
-    let owned : own_view (plain_of old) row retailer ≡ Some (view_of b) = own_is old.layout s row retailer b good at.found at.sealed retailers in
-    finish mid b (stays_by old mid es lone.alone did) state at.found at.sealed retailers below owned at.view then
+    let state : state_seen mid ≡ s = f.state ∙ looks_stay s old.number es (row_looked row (Some v) es looks) in
+    let owned : own_view (plain_of old) row retailer ≡ Some (view_of b) = own_is old.layout s row retailer b good at.found at.generation at.sealed retailers in
+    finish mid b (stays_by old mid es lone.alone did) state at.found at.generation at.sealed retailers below owned at.view then
   where
-    finish : (mid : DeskView) (b : Booking) → StaysAlone old mid → state_seen mid ≡ state_seen old → present (state_seen old) row ≡ Some b
-        → is_sealed b.phase ≡ true → word_at b 1 ≡ retailer → row < cat.rows → own_view (plain_of old) row retailer ≡ Some (view_of b) → v ≡ view_of b
+    finish : (mid : DeskView) (b : Booking) → StaysAlone old mid → state_seen mid ≡ state_seen old → present (state_seen old) row.row ≡ Some b → b.generation ≡ row.generation
+        → is_sealed b.phase ≡ true → word_at b 1 ≡ retailer → row.row < cat.rows → own_view (plain_of old) row retailer ≡ Some (view_of b) → v ≡ view_of b
         → Does v mid new reply ⊎ ((new ≡ mid) × (reply ≡ problem NoMemory))
         → (ComesTo (on_own (plain_of old) row retailer (does (plain_of old))) (state_seen new) reply ⊎ ((reply ≡ problem NoMemory) × (plain_of new ≡ plain_of old))) × IsLone cat new
-    finish mid b first same at sealed mine below owned view (inl did) =
-        let found : present (state_seen mid) row ≡ Some b = ap (λ (u : State). present u row) same ∙ at in
+    finish mid b first same at generation sealed mine below owned view (inl did) =
+        let found : present (state_seen mid) row.row ≡ Some b = ap (λ (u : State). present u row.row) same ∙ at in
         let settled : IsSettled (state_seen mid) = subst IsSettled (sym same) lone.settled in
-        let done = comes mid new b reply first.alone first.legal found sealed mine below settled (subst FitWords (sym first.layout) lone.fit) (subst (λ (x : RowSeen). Does x mid new reply) view did) in (
+        let done = comes mid new b reply first.alone first.legal found generation sealed mine below settled (subst FitWords (sym first.layout) lone.fit) (subst (λ (x : RowSeen). Does x mid new reply) view did) in (
           inl (subst (λ (o : Option RowSeen). ComesTo (on_view (does (plain_of old)) (plain_of old) o) (state_seen new) reply) (sym owned)
               (subst (λ (u : State). ComesTo (does (plain_in u) (view_of b)) (state_seen new) reply) same done.0)),
           still_lone cat old new lone (stays_then old mid new first done.1) done.0.settled,
         )
-    finish mid b first same at sealed mine below owned view (inr (is, none)) =
+    finish mid b first same at generation sealed mine below owned view (inr (is, none)) =
         let state : state_seen new ≡ state_seen old = ap state_seen is ∙ same in (
           inr (none, ap plain_in state),
           still_lone cat old new lone (subst (StaysAlone old) (sym is) first) (subst IsSettled (sym state) lone.settled),
         )
 
-show_on : (rows row retailer : ℕ) → ComesOn rows row retailer (shows row) (shown row)
-show_on rows row retailer mid new b reply alone legal at sealed mine below settled fit (is, told) = (
+show_on : (rows : ℕ) (row : RowNo) (retailer : ℕ) → ComesOn rows row retailer (shows row) (shown row)
+show_on rows row retailer mid new b reply alone legal at same sealed mine below settled fit (is, told) = (
   record { reply_is = told; plain_is = ap plain_of is; settled = subst IsSettled (sym (ap state_seen is)) settled },
   subst (StaysAlone mid) (sym is) (record { alone = alone; legal = legal; layout = refl }),
 )
 
-confirm_on : (rows row retailer now : ℕ) → ComesOn rows row retailer (ConfirmsIt rows row retailer now) (confirmed row now)
-confirm_on rows row retailer now mid new b reply alone legal at sealed mine below settled fit (a, (es, did, shape), told) =
+confirm_on : (rows : ℕ) (row : RowNo) (retailer now : ℕ) → ComesOn rows row retailer (ConfirmsIt rows row retailer now) (confirmed row now)
+confirm_on rows row retailer now mid new b reply alone legal at same sealed mine below settled fit (a, (es, did, shape), told) =
     let f = shape_follows mid new es alone shape in
     let s = state_seen mid in (
       subst (λ (r : Reply). ComesTo (confirmed row now (plain_in s) (view_of b)) (state_seen new) r) (sym told)
           (subst (λ (t : State). ComesTo (confirmed row now (plain_in s) (view_of b)) t (confirm_reply row now (view_of b) a)) (sym f.state)
-          (confirm_comes mid.layout s mid.number rows row retailer now b a es (is_sound mid.layout mid.seen legal) at sealed mine below settled f.legal did)),
+          (confirm_comes mid.layout s mid.number rows row retailer now b a es (is_sound mid.layout mid.seen legal) at same sealed mine below settled f.legal did)),
       stays_by mid new es alone shape,
     )
 
-fulfil_on : (rows row retailer : ℕ) → ComesOn rows row retailer (FulfilsIt rows row retailer) (fulfilled row)
-fulfil_on rows row retailer mid new b reply alone legal at sealed mine below settled fit (a, (es, did, shape), told) =
+fulfil_on : (rows : ℕ) (row : RowNo) (retailer : ℕ) → ComesOn rows row retailer (FulfilsIt rows row retailer) (fulfilled row)
+fulfil_on rows row retailer mid new b reply alone legal at same sealed mine below settled fit (a, (es, did, shape), told) =
     let f = shape_follows mid new es alone shape in
     let s = state_seen mid in (
       subst (λ (r : Reply). ComesTo (fulfilled row (plain_in s) (view_of b)) (state_seen new) r) (sym told)
           (subst (λ (t : State). ComesTo (fulfilled row (plain_in s) (view_of b)) t (fulfil_reply row (view_of b) a)) (sym f.state)
-          (fulfil_comes mid.layout s mid.number rows row retailer b a es (is_sound mid.layout mid.seen legal) at sealed mine below settled f.legal did)),
+          (fulfil_comes mid.layout s mid.number rows row retailer b a es (is_sound mid.layout mid.seen legal) at same sealed mine below settled f.legal did)),
       stays_by mid new es alone shape,
     )
 
-release_on : (rows row retailer now : ℕ) → ComesOn rows row retailer (ReleasesIt rows row retailer now) (released row now)
-release_on rows row retailer now mid new b reply alone legal at sealed mine below settled fit (a, (es, did, shape), told) =
+release_on : (rows : ℕ) (row : RowNo) (retailer now : ℕ) → ComesOn rows row retailer (ReleasesIt rows row retailer now) (released row now)
+release_on rows row retailer now mid new b reply alone legal at same sealed mine below settled fit (a, (es, did, shape), told) =
     let f = shape_follows mid new es alone shape in
     let s = state_seen mid in (
       subst (λ (r : Reply). ComesTo (released row now (plain_in s) (view_of b)) (state_seen new) r) (sym told)
           (subst (λ (t : State). ComesTo (released row now (plain_in s) (view_of b)) t (release_reply row now (view_of b) a)) (sym f.state)
-          (release_comes mid.layout s mid.number rows row retailer now b a es (is_sound mid.layout mid.seen legal) at sealed mine below settled f.legal did)),
+          (release_comes mid.layout s mid.number rows row retailer now b a es (is_sound mid.layout mid.seen legal) at same sealed mine below settled f.legal did)),
       stays_by mid new es alone shape,
     )
 
@@ -153,25 +148,25 @@ to_plainly cat retailer now o old new reply (inl comes, lone) = (inl (comes.repl
 to_plainly cat retailer now o old new reply (inr none, lone) = (inr none, lone)
 
 pub show_is_plain : (cat : CatalogueView) (retailer now : ℕ) (row : RowNo) (old new : DeskView) (reply : Reply) → IsLone cat old
-    → OnBooking cat.rows row.0 retailer (shows row.0) old new reply → IsPlainly cat retailer now (command.Show (Some row)) old new reply × IsLone cat new
+    → OnBooking cat.rows row retailer (shows row) old new reply → IsPlainly cat retailer now (command.Show (Some row)) old new reply × IsLone cat new
 show_is_plain cat retailer now row old new reply lone did =
-    to_plainly cat retailer now (on_own (plain_of old) row.0 retailer (shown row.0 (plain_of old))) old new reply
-    (booking_comes cat row.0 retailer (shows row.0) (shown row.0) old new reply lone (show_on cat.rows row.0 retailer) did)
+    to_plainly cat retailer now (on_own (plain_of old) row retailer (shown row (plain_of old))) old new reply
+    (booking_comes cat row retailer (shows row) (shown row) old new reply lone (show_on cat.rows row retailer) did)
 
 pub confirm_is_plain : (cat : CatalogueView) (retailer now : ℕ) (row : RowNo) (old new : DeskView) (reply : Reply) → IsLone cat old
-    → OnBooking cat.rows row.0 retailer (ConfirmsIt cat.rows row.0 retailer now) old new reply → IsPlainly cat retailer now (command.Confirm (Some row)) old new reply × IsLone cat new
+    → OnBooking cat.rows row retailer (ConfirmsIt cat.rows row retailer now) old new reply → IsPlainly cat retailer now (command.Confirm (Some row)) old new reply × IsLone cat new
 confirm_is_plain cat retailer now row old new reply lone did =
-    to_plainly cat retailer now (on_own (plain_of old) row.0 retailer (confirmed row.0 now (plain_of old))) old new reply
-    (booking_comes cat row.0 retailer (ConfirmsIt cat.rows row.0 retailer now) (confirmed row.0 now) old new reply lone (confirm_on cat.rows row.0 retailer now) did)
+    to_plainly cat retailer now (on_own (plain_of old) row retailer (confirmed row now (plain_of old))) old new reply
+    (booking_comes cat row retailer (ConfirmsIt cat.rows row retailer now) (confirmed row now) old new reply lone (confirm_on cat.rows row retailer now) did)
 
 pub fulfil_is_plain : (cat : CatalogueView) (retailer now : ℕ) (row : RowNo) (old new : DeskView) (reply : Reply) → IsLone cat old
-    → OnBooking cat.rows row.0 retailer (FulfilsIt cat.rows row.0 retailer) old new reply → IsPlainly cat retailer now (command.Fulfil (Some row)) old new reply × IsLone cat new
+    → OnBooking cat.rows row retailer (FulfilsIt cat.rows row retailer) old new reply → IsPlainly cat retailer now (command.Fulfil (Some row)) old new reply × IsLone cat new
 fulfil_is_plain cat retailer now row old new reply lone did =
-    to_plainly cat retailer now (on_own (plain_of old) row.0 retailer (fulfilled row.0 (plain_of old))) old new reply
-    (booking_comes cat row.0 retailer (FulfilsIt cat.rows row.0 retailer) (fulfilled row.0) old new reply lone (fulfil_on cat.rows row.0 retailer) did)
+    to_plainly cat retailer now (on_own (plain_of old) row retailer (fulfilled row (plain_of old))) old new reply
+    (booking_comes cat row retailer (FulfilsIt cat.rows row retailer) (fulfilled row) old new reply lone (fulfil_on cat.rows row retailer) did)
 
 pub release_is_plain : (cat : CatalogueView) (retailer now : ℕ) (row : RowNo) (old new : DeskView) (reply : Reply) → IsLone cat old
-    → OnBooking cat.rows row.0 retailer (ReleasesIt cat.rows row.0 retailer now) old new reply → IsPlainly cat retailer now (command.Release (Some row)) old new reply × IsLone cat new
+    → OnBooking cat.rows row retailer (ReleasesIt cat.rows row retailer now) old new reply → IsPlainly cat retailer now (command.Release (Some row)) old new reply × IsLone cat new
 release_is_plain cat retailer now row old new reply lone did =
-    to_plainly cat retailer now (on_own (plain_of old) row.0 retailer (released row.0 now (plain_of old))) old new reply
-    (booking_comes cat row.0 retailer (ReleasesIt cat.rows row.0 retailer now) (released row.0 now) old new reply lone (release_on cat.rows row.0 retailer now) did)
+    to_plainly cat retailer now (on_own (plain_of old) row retailer (released row now (plain_of old))) old new reply
+    (booking_comes cat row retailer (ReleasesIt cat.rows row retailer now) (released row now) old new reply lone (release_on cat.rows row retailer now) did)

@@ -10,6 +10,7 @@ use Rattle.booking_rows.specs.Views.{RowSeen}
 use Rattle.rail_catalogue.specs.Contents.{CatalogueView}
 use Rattle.offer_codes.specs.declared.code.ExchangeCode.{ExchangeCode}
 use Rattle.offer_codes.specs.Offers.{offer_view, is_offer}
+use Rattle.offer_codes.specs.Rows.{is_row}
 use Rattle.offer_codes.specs.Exchanges.{ExchangeView, exchange_view, magnitude, is_exchange}
 use Rattle.offer_engine.specs.Codes.{is_offered}
 use Rattle.refund_core.specs.Quotes.{phase_named, is_stale}
@@ -62,13 +63,13 @@ not_worth cat x retailer now plain v ne =
     ap (λ (t : Bool). cond t (exchanged_by cat x retailer now plain v) (refusing QuoteWrong plain)) (same_no x.difference (difference_at cat v x.made x.fulfilled x.offer) ne)
 
 in_phase_named : (cat : CatalogueView) (x : ExchangeView) (retailer now : ℕ) (plain : Plain) (v : RowSeen) → v.phase ≡ phase_named x.fulfilled
-    → exchanged_by cat x retailer now plain v ≡ with_places_for cat x.offer (exchanged_for cat x retailer now plain v) plain
+    → exchanged_by cat x retailer now plain v ≡ with_places_for cat x.offer false (exchanged_for cat x retailer now v) plain
 in_phase_named cat x retailer now plain v is =
-    ap (λ (t : Bool). cond t (with_places_for cat x.offer (exchanged_for cat x retailer now plain v) plain) (wrong plain v)) (is_in_yes v.phase (phase_named x.fulfilled) is)
+    ap (λ (t : Bool). cond t (with_places_for cat x.offer false (exchanged_for cat x retailer now v) plain) (wrong plain v)) (is_in_yes v.phase (phase_named x.fulfilled) is)
 
 in_another : (cat : CatalogueView) (x : ExchangeView) (retailer now : ℕ) (plain : Plain) (v : RowSeen) → v.phase ≢ phase_named x.fulfilled → exchanged_by cat x retailer now plain v ≡ wrong plain v
 in_another cat x retailer now plain v ne =
-    ap (λ (t : Bool). cond t (with_places_for cat x.offer (exchanged_for cat x retailer now plain v) plain) (wrong plain v)) (is_in_no v.phase (phase_named x.fulfilled) ne)
+    ap (λ (t : Bool). cond t (with_places_for cat x.offer false (exchanged_for cat x retailer now v) plain) (wrong plain v)) (is_in_no v.phase (phase_named x.fulfilled) ne)
 
 -- the reply and the list are the outcome's; or there was no memory, and at most a row is kept more
 abbrev IsExchangedPlainly : CatalogueView → Outcome → DeskView → DeskView → Reply → Type 0
@@ -98,14 +99,14 @@ exchanges_plainly cat x retailer now old new reply lone fit differ fresh (inl (r
 exchanges_plainly cat x retailer now old new reply lone fit differ fresh (inr (mid, (es, (same, (v, right, is)), did), goes)) =
     let has = has_seen cat x.row retailer v es old mid lone right.sees did in
     let b = has.booking in
-    let at : present (state_seen mid) x.row ≡ Some b = ap (λ (u : State). present u x.row) has.same ∙ has.found in
+    let at : present (state_seen mid) x.row.row ≡ Some b = ap (λ (u : State). present u x.row.row) has.same ∙ has.found in
     let named = sym (ap (λ (w : RowSeen). w.phase) has.view) ∙ is in
-    let c = carried_plainly cat x retailer now b mid new reply (stays_seen cat x.row retailer v old mid lone has) fit differ at has.sealed named goes in
+    let c = carried_plainly cat x retailer now b mid new reply (stays_seen cat x.row retailer v old mid lone has) fit differ at has.generation has.sealed named goes in
     let plain : plain_of mid ≡ plain_of old = ap plain_in has.same in
-    let moved : IsExchangedPlainly cat (with_places_for cat x.offer (exchanged_for cat x retailer now (plain_of old) (view_of b)) (plain_of old)) old new reply =
-    subst (λ (p : Plain). IsBy (with_places_for cat x.offer (exchanged_for cat x retailer now p (view_of b)) p) new reply ⊎ ((reply ≡ problem NoMemory) × MayKeepRow cat.rows p (plain_of new))) plain c.0 in
-    let o : with_places_for cat x.offer (exchanged_for cat x retailer now (plain_of old) (view_of b)) (plain_of old) ≡ outcome_for cat x retailer now old =
-    ap (λ (w : RowSeen). with_places_for cat x.offer (exchanged_for cat x retailer now (plain_of old) w) (plain_of old)) (sym has.view)
+    let moved : IsExchangedPlainly cat (with_places_for cat x.offer false (exchanged_for cat x retailer now (view_of b)) (plain_of old)) old new reply =
+    subst (λ (p : Plain). IsBy (with_places_for cat x.offer false (exchanged_for cat x retailer now (view_of b)) p) new reply ⊎ ((reply ≡ problem NoMemory) × MayKeepRow cat.rows p (plain_of new))) plain c.0 in
+    let o : with_places_for cat x.offer false (exchanged_for cat x retailer now (view_of b)) (plain_of old) ≡ outcome_for cat x retailer now old =
+    ap (λ (w : RowSeen). with_places_for cat x.offer false (exchanged_for cat x retailer now w) (plain_of old)) (sym has.view)
     ∙ (sym (by_difference cat x retailer now (plain_of old) v right.difference ∙ in_phase_named cat x retailer now (plain_of old) v is)
     ∙ ap (on_view (exchanged_with cat x retailer now (plain_of old)) (plain_of old)) (sym has.owned)) in
     (subst (λ (y : Outcome). IsExchangedPlainly cat y old new reply) o moved, c.1)
@@ -114,7 +115,7 @@ offer_of : (x : ExchangeView) → is_exchange x ≡ true → is_offer x.offer �
 offer_of x is =
     (and_parts (nat_le (magnitude x.difference) 99_999_999_999) (is_offer x.offer)
     (and_parts (nat_le x.made 4_102_444_799) (nat_le (magnitude x.difference) 99_999_999_999 && is_offer x.offer)
-    (and_parts (nat_le x.row 262_143) (nat_le x.made 4_102_444_799 && (nat_le (magnitude x.difference) 99_999_999_999 && is_offer x.offer)) is).1).1).1
+    (and_parts (is_row x.row) (nat_le x.made 4_102_444_799 && (nat_le (magnitude x.difference) 99_999_999_999 && is_offer x.offer)) is).1).1).1
 
 pub accept_exchange_plain : (cat : CatalogueView) (retailer now : ℕ) (row : Option RowNo) (code : Option ExchangeCode) → IsReadable cat (command.AcceptExchange row code) → AnswersPlainly cat retailer now (command.AcceptExchange row code)
 accept_exchange_plain cat retailer now row None readable = refused_plain cat retailer now (command.AcceptExchange row None) UnknownOffer refl

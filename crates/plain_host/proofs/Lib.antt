@@ -3,11 +3,15 @@ pub mod PlacesFree
 pub mod PlacesTries
 pub mod PlacesRows
 pub mod PlacesHeld
+pub mod PlacesLooks
+pub mod PlacesStretches
+pub mod PlacesParty
 pub mod PlacesSealed
 pub mod PlacesChosen
 pub mod PlacesFit
 pub mod BookingMade
 pub mod Changes
+pub mod Looks
 pub mod Shown
 pub mod Staying
 pub mod Decided

@@ -1,14 +1,16 @@
 -- A desk that is alone and idle has settled bookings.
-use Rattle.std.proofs.Common.{◌≡◌, ◌≢◌, ℕ, true, false, [], ◌∷◌, ◌++◌, Option, Some, IfSome, refl, sym, ap, ◌∙◌, subst, inl, inr, append_assoc}
-use Rattle.std.specs.Prelude.{◌⊎◌}
+use Rattle.std.proofs.Common.{◌≡◌, ◌≢◌, ℕ, true, false, [], ◌∷◌, ◌++◌, Option, Some, None, IfSome, refl, sym, ap, ◌∙◌, subst, inl, inr, append_assoc}
+use Rattle.std.specs.Prelude.{◌⊎◌, option_map}
 use Rattle.std.specs.List.{AllByRecursion}
+use Rattle.rail_ids.specs.declared.RowNo.{RowNo}
 use Rattle.history_model.specs.declared.phase.Phase.{Phase}
 use Rattle.history_model.specs.declared.phase.Phase.TheVariants.{Free, Making, Prebooked, Confirmed, Fulfilled, Ending, Ended}
 use Rattle.history_model.specs.declared.phase.EndKind.{EndKind}
-use Rattle.history_model.specs.Phase.{is_sealed}
+use Rattle.history_model.specs.Phase.{is_sealed, is_ended}
 use Rattle.history_model.specs.Allowed.{IsMadeBy, IsBeingEndedBy}
-use Rattle.history_model.specs.Booking.{Booking, Layout, State, present}
+use Rattle.history_model.specs.Booking.{Booking, Layout, State, booking_at, present}
 use Rattle.history_model.specs.Laws.{IsWellFormed, IsSound, is_owners}
+use Rattle.history_model.proofs.Generations.{stands_there, unended_present}
 use Rattle.history_model.proofs.Owners.{on_row}
 use Rattle.claim_rule.specs.OwnWork.{MakesLast}
 use Rattle.claim_rule.specs.Rule.{BooksView, DeskView, state_seen}
@@ -16,7 +18,7 @@ use Rattle.claim_rule.specs.Seats.{IsOf}
 use Rattle.claim_rule.specs.Holds.{StandsFor, empty_hold}
 use Rattle.claim_rule.specs.Out.{IsIdle}
 use Rattle.claim_rule.proofs.Moves.{is_sound}
-use Rattle.claim_rule.proofs.OwnWork.{IsOwned, stands_there}
+use Rattle.claim_rule.proofs.OwnWork.{IsOwned}
 use Rattle.booking_rows.specs.SealedRows.{FitWords}
 use Rattle.rail_catalogue.specs.Contents.{CatalogueView, legs_in}
 use Rattle.lone_desk.specs.Lone.{IsAlone}
@@ -42,10 +44,16 @@ is_making Fulfilled = inr (λ e. absurd cc)
 is_making (Ending kind) = inr (λ e. absurd cc)
 is_making (Ended kind) = inr (λ e. absurd cc)
 
-kept_empty : (desk : DeskView) (row : ℕ) (b : Booking) → IfSome desk.kept (λ r. StandsFor desk (empty_hold r)) → desk.kept ≡ Some row → present (state_seen desk) row ≡ Some b → b.items ≡ []
-kept_empty desk row b kept is at =
-    let stands : StandsFor desk (empty_hold row) = subst (λ (o : Option ℕ). IfSome o (λ r. StandsFor desk (empty_hold r))) is kept in
-    let same : Some b ≡ Some stands.booking = sym at ∙ stands.found in
+kept_row : (o : Option RowNo) (row : ℕ) → option_map (λ (kept : RowNo). kept.row) o ≡ Some row → (r : RowNo) × (o ≡ Some r) × (r.row ≡ row)
+kept_row None row e = absurd (let never : ◌≡◌ {A = Option ℕ} None (Some row) = e in cc)
+kept_row (Some r) row e = (r, refl, (let same : r.row ≡ row = cc in same))
+
+kept_empty : (desk : DeskView) (b : Booking) → IfSome desk.kept (λ r. StandsFor desk (empty_hold r)) → option_map (λ (kept : RowNo). kept.row) desk.kept ≡ Some b.row
+    → present (state_seen desk) b.row ≡ Some b → b.items ≡ []
+kept_empty desk b kept is at =
+    let k = kept_row desk.kept b.row is in
+    let stands : StandsFor desk (empty_hold k.0) = subst (λ (o : Option RowNo). IfSome o (λ r. StandsFor desk (empty_hold r))) k.1 kept in
+    let same : Some b ≡ Some stands.booking = sym at ∙ (ap (present (state_seen desk)) (sym k.2) ∙ stands.found) in
     let one : b ≡ stands.booking = cc in
     ap (λ (x : Booking). x.items) one ∙ stands.items
 
@@ -64,23 +72,27 @@ settles_from desk front (b ∷ rest) well kept alone idle is sound owned last =
     go (is_making b.phase)
     (settles_from desk (front ++ b ∷ []) rest well kept alone idle (is ∙ sym (append_assoc front (b ∷ []) rest)) sound.1 owned.1 last.1)
   where
-    at : present (state_seen desk) b.row ≡ Some b
-    at = stands_there desk.layout (state_seen desk) front b rest well is
+    here : booking_at (state_seen desk) b.row b.generation ≡ Some b
+    here = stands_there (state_seen desk) front b rest well.keys is
+
+    at : is_ended b.phase ≡ false → present (state_seen desk) b.row ≡ Some b
+    at open_yet = unended_present (state_seen desk) b.row b.generation b well.earlier here open_yet
 
     mine : is_owners b.phase ≡ true → b.owner ≡ desk.number
     mine owners = owned.0 owners ∙ sym alone.number
 
     go : (b.phase ≡ Making) ⊎ (b.phase ≢ Making) → IsSettled rest → IsSettled (b ∷ rest)
     go (inl making) more =
-        let keeps : desk.kept ≡ Some b.row = idle.0 b.row (on_row (state_seen desk) b.row b (IsMadeBy desk.number) at (making, mine (ap is_owners making))) in
+        let made = at (ap is_ended making) in
+        let keeps = idle.0 b.row (on_row (state_seen desk) b.row b (IsMadeBy desk.number) made (making, mine (ap is_owners making))) in
         record {
           standing = [];
           each = tt;
-          is = inr (b, record { making = making; owner = owned.0 (ap is_owners making); none = kept_empty desk b.row b kept keeps at }, ap (λ (l : State). b ∷ l) (last.0 making));
+          is = inr (b, record { making = making; owner = owned.0 (ap is_owners making); none = kept_empty desk b kept keeps made }, ap (λ (l : State). b ∷ l) (last.0 making));
         }
     go (inr other) more =
         let still = stands_still b.phase sound.0.started other
-        (λ kind ending. idle.1 b.row (on_row (state_seen desk) b.row b (IsBeingEndedBy desk.number) at (kind, (ending, mine (ap is_owners ending))))) in
+        (λ kind ending. idle.1 b.row (on_row (state_seen desk) b.row b (IsBeingEndedBy desk.number) (at (ap is_ended ending)) (kind, (ending, mine (ap is_owners ending))))) in
         stands_before b rest (record { sealed = still.0; still = still.1 }) more
 
 alone_settles : (books : BooksView) (desk : DeskView) → IsOf books desk → IsAlone desk → IsIdle desk → IsSettled (state_seen desk)

@@ -1,7 +1,7 @@
 -- A place is free in the plain list exactly where no item that is not given back meets the span.
-use Rattle.std.proofs.Common.{◌≡◌, ◌≢◌, ℕ, ◌<◌, Bool, true, false, cond, List, [], ◌∷◌, ◌++◌, map, refl, sym, ap, ◌∙◌, subst, ⊎_elim, inl, inr, arith, Decides, eqb}
+use Rattle.std.proofs.Common.{◌≡◌, ◌≢◌, ℕ, ◌-◌, ◌<◌, Bool, true, false, List, [], ◌∷◌, ◌++◌, map, refl, sym, ap, ◌∙◌, ⊎_elim, inl, inr, arith, Decides, eqb}
 use Rattle.std.specs.Prelude.{◌⊎◌, ◌↔◌, ◌&&◌, max, min, not}
-use Rattle.std.specs.List.{AllByRecursion, list_any, filter}
+use Rattle.std.specs.List.{AllByRecursion, list_any}
 use Rattle.std.proofs.lemmas.Bool.{or_parts, or_from, not_from_false, false_from_ne_true, true≢false}
 use Rattle.std.proofs.lemmas.Bool.Decides.{Decides-ltb, Decides-eqb, Decides-and, Decides-like, not_from_Decides}
 use Rattle.leg_masks.specs.Interval.{Interval, Meet, PlacedSpan as Item}
@@ -9,15 +9,16 @@ use Rattle.history_model.specs.declared.booking.BookedItem.{BookedItem}
 use Rattle.history_model.specs.declared.phase.Phase.{Phase}
 use Rattle.history_model.specs.declared.phase.Phase.TheVariants.{Free, Making, Prebooked, Confirmed, Fulfilled, Ending, Ended}
 use Rattle.history_model.specs.declared.phase.EndKind.{EndKind}
-use Rattle.history_model.specs.Phase.{is_sealed, is_live}
+use Rattle.history_model.specs.Phase.{is_sealed, is_live, is_ended}
 use Rattle.history_model.specs.Allowed.{Blocks, IsOpen}
-use Rattle.history_model.specs.Booking.{Booking, Layout, State, all_items}
-use Rattle.history_model.specs.Laws.{IsSound, is_owners}
-use Rattle.history_model.proofs.ListLemmas.{All-append, All-left, All-right}
-use Rattle.lone_desk.proofs.OwnRow.{items_with}
-use Rattle.plain_host.specs.Plain.{meets, blocks, has_place, is_taken, is_free}
-use Rattle.plain_host.specs.PlainOf.{item_of, standing_of, is_standing, standings_of}
+use Rattle.history_model.specs.Booking.{Booking, Layout, State, key_of, next_generation, all_items}
+use Rattle.history_model.specs.Laws.{IsSound, IsPresentOrEnded, IsWellFormed, is_owners}
+use Rattle.history_model.proofs.Generations.{test_of_key}
+use Rattle.history_model.proofs.ListLemmas.{All-append, All-left, All-map, All-right}
+use Rattle.plain_host.specs.Plain.{Standing, meets, blocks, has_place, is_taken, is_free}
+use Rattle.plain_host.specs.PlainOf.{item_of, standing_of, standings_of}
 use Rattle.plain_host.specs.Settled.{IsStanding}
+use Rattle.plain_host.proofs.Standings.{standings_by, is_there, by_around, by_beside, both_true, second_false}
 
 -- ---- items
 
@@ -80,31 +81,22 @@ open_by g place span b stands sound = ⊎_elim
     ((λ e. given_open place span b.items (sound.ended other.1.0 other.1.1).0), (λ none. is)))
     (live_or_ended b.phase stands.sealed stands.still)
 
--- the standing bookings are just what stands
-pub all_stand : (s : State) → AllByRecursion IsStanding s → filter is_standing s ≡ s
-all_stand [] each = refl
-all_stand (b ∷ bs) each =
-    ap (λ (t : Bool). cond t (b ∷ filter is_standing bs) (filter is_standing bs)) each.0.sealed ∙ ap (λ (l : State). b ∷ l) (all_stand bs each.1)
+-- an ended booking has no item left
+ended_kind : (p : Phase) → is_ended p ≡ true → (kind : EndKind) × (p ≡ Ended kind)
+ended_kind Free e = absurd (true≢false (sym e))
+ended_kind Making e = absurd (true≢false (sym e))
+ended_kind Prebooked e = absurd (true≢false (sym e))
+ended_kind Confirmed e = absurd (true≢false (sym e))
+ended_kind Fulfilled e = absurd (true≢false (sym e))
+ended_kind (Ending kind) e = absurd (true≢false (sym e))
+ended_kind (Ended kind) e = (kind, refl)
 
-pub standings_are : (s : State) → AllByRecursion IsStanding s → standings_of s ≡ map standing_of s
-standings_are s each = ap (map standing_of) (all_stand s each)
+ended_open : (g : Layout) (place : ℕ) (span : Interval) (b : Booking) → is_ended b.phase ≡ true → IsSound g b → NoneBlocks place span b.items
+ended_open g place span b ended sound =
+    let at = ended_kind b.phase ended in
+    given_open place span b.items (sound.ended at.0 at.1).0
 
-open_from : (g : Layout) (place : ℕ) (span : Interval) (s : State) → AllByRecursion IsStanding s → AllByRecursion (IsSound g) s
-    → is_taken (map standing_of s) span place ≡ false → NoneBlocks place span (all_items s)
-open_from g place span [] each sound e = tt
-open_from g place span (b ∷ bs) each sound e =
-    let both = or_parts (has_place place span (standing_of b)) (is_taken (map standing_of bs) span place) e in
-    All-append (λ i. ¬ Blocks place span i) b.items (all_items bs) ((open_by g place span b each.0 sound.0).0 both.0) (open_from g place span bs each.1 sound.1 both.1)
-
-to_open : (g : Layout) (place : ℕ) (span : Interval) (s : State) → AllByRecursion IsStanding s → AllByRecursion (IsSound g) s
-    → NoneBlocks place span (all_items s) → is_taken (map standing_of s) span place ≡ false
-to_open g place span [] each sound none = refl
-to_open g place span (b ∷ bs) each sound none =
-    or_from (has_place place span (standing_of b)) (is_taken (map standing_of bs) span place)
-    ((open_by g place span b each.0 sound.0).1 (All-left (λ i. ¬ Blocks place span i) b.items (all_items bs) none))
-    (to_open g place span bs each.1 sound.1 (All-right (λ i. ¬ Blocks place span i) b.items (all_items bs) none))
-
--- ---- a hold in progress has items at other places
+-- a hold in progress has items at other places
 
 abbrev pub AreElsewhere : ℕ → List BookedItem → Type 0
 AreElsewhere place is = AllByRecursion (λ i. i.place ≢ place) is
@@ -113,25 +105,87 @@ elsewhere_open : (place : ℕ) (span : Interval) (is : List BookedItem) → AreE
 elsewhere_open place span [] other = tt
 elsewhere_open place span (i ∷ is) other = ((λ here. other.0 here.1), elsewhere_open place span is other.1)
 
+-- the booking stands, or is in the making without an item at the place
+abbrev pub IsQuiet : ℕ → Booking → Type 0
+IsQuiet place b = IsStanding b ⊎ ((is_sealed b.phase ≡ false) × AreElsewhere place b.items)
+
+-- a booking that the test leaves out has ended, or isn't sealed
+abbrev LeavesOut : (Booking → Bool) → Booking → Type 0
+LeavesOut test b = test b ≡ false → is_ended b.phase ≡ true
+
+left_out : (g : Layout) (place : ℕ) (span : Interval) (test : Booking → Bool) (b : Booking) → (test b && is_sealed b.phase) ≡ false → IsQuiet place b → LeavesOut test b → IsSound g b
+    → NoneBlocks place span b.items
+left_out g place span test b out (inr unsealed) leaves sound = elsewhere_open place span b.items unsealed.1
+left_out g place span test b out (inl stands) leaves sound = ended_open g place span b (leaves (by (test b) refl)) sound
+  where
+    by : (t : Bool) → test b ≡ t → test b ≡ false
+    by false is = is
+    by true is = absurd (true≢false (sym (both_true (test b) (is_sealed b.phase) is stands.sealed) ∙ out))
+
+stands_in_it : (place : ℕ) (test : Booking → Bool) (b : Booking) → (test b && is_sealed b.phase) ≡ true → IsQuiet place b → IsStanding b
+stands_in_it place test b in_it (inl stands) = stands
+stands_in_it place test b in_it (inr unsealed) = absurd (true≢false (sym in_it ∙ second_false (test b) (is_sealed b.phase) unsealed.0))
+
+abbrev Taken : (Booking → Bool) → State → ℕ → Interval → Bool
+Taken test s place span = is_taken (standings_by test s) span place
+
+open_from : (g : Layout) (place : ℕ) (span : Interval) (test : Booking → Bool) (s : State) → AllByRecursion (IsQuiet place) s → AllByRecursion (LeavesOut test) s → AllByRecursion (IsSound g) s
+    → Taken test s place span ≡ false → NoneBlocks place span (all_items s)
+open_from g place span test [] quiet leaves sound e = tt
+open_from g place span test (b ∷ bs) quiet leaves sound e =
+    go (test b && is_sealed b.phase) refl (open_from g place span test bs quiet.1 leaves.1 sound.1)
+  where
+    go : (t : Bool) → (test b && is_sealed b.phase) ≡ t → (Taken test bs place span ≡ false → NoneBlocks place span (all_items bs)) → NoneBlocks place span (all_items (b ∷ bs))
+    go true is rest =
+        let shown : Taken test (b ∷ bs) place span ≡ is_taken (standing_of b ∷ standings_by test bs) span place =
+        ap (λ (l : List Standing). is_taken l span place) (by_around test [] bs b is) in
+        let both = or_parts (has_place place span (standing_of b)) (Taken test bs place span) (sym shown ∙ e) in
+        All-append (λ i. ¬ Blocks place span i) b.items (all_items bs) ((open_by g place span b (stands_in_it place test b is quiet.0) sound.0).0 both.0)
+        (rest both.1)
+    go false is rest =
+        let shown : Taken test (b ∷ bs) place span ≡ Taken test bs place span = ap (λ (l : List Standing). is_taken l span place) (by_beside test [] bs b is) in
+        All-append (λ i. ¬ Blocks place span i) b.items (all_items bs) (left_out g place span test b is quiet.0 leaves.0 sound.0)
+        (rest (sym shown ∙ e))
+
+to_open : (g : Layout) (place : ℕ) (span : Interval) (test : Booking → Bool) (s : State) → AllByRecursion (IsQuiet place) s → AllByRecursion (IsSound g) s
+    → NoneBlocks place span (all_items s) → Taken test s place span ≡ false
+to_open g place span test [] quiet sound none = refl
+to_open g place span test (b ∷ bs) quiet sound none =
+    go (test b && is_sealed b.phase) refl (to_open g place span test bs quiet.1 sound.1 (All-right (λ i. ¬ Blocks place span i) b.items (all_items bs) none))
+  where
+    go : (t : Bool) → (test b && is_sealed b.phase) ≡ t → Taken test bs place span ≡ false → Taken test (b ∷ bs) place span ≡ false
+    go true is rest =
+        ap (λ (l : List Standing). is_taken l span place) (by_around test [] bs b is)
+        ∙ or_from (has_place place span (standing_of b)) (Taken test bs place span)
+        ((open_by g place span b (stands_in_it place test b is quiet.0) sound.0).1 (All-left (λ i. ¬ Blocks place span i) b.items (all_items bs) none)) rest
+    go false is rest = ap (λ (l : List Standing). is_taken l span place) (by_beside test [] bs b is) ∙ rest
+
 not_back : (x : Bool) → not x ≡ true → x ≡ false
 not_back true e = absurd (true≢false (sym e))
 not_back false e = refl
 
--- A place is free in the list of what stands exactly where no item there blocks it.
-pub open_is_free : (g : Layout) (s : State) (place : ℕ) (span : Interval) → AllByRecursion IsStanding s → AllByRecursion (IsSound g) s
-    → Decides (is_free (map standing_of s) span place) (IsOpen s place span)
-open_is_free g s place span each sound = (
-  λ free. open_from g place span s each sound (not_back (is_taken (map standing_of s) span place) free),
-  λ none. not_from_false (is_taken (map standing_of s) span place) (to_open g place span s each sound none),
+-- what isn't its row's present booking has ended
+leaves_ended : (g : Layout) (s : State) → IsWellFormed g s → AllByRecursion (LeavesOut (is_there s)) s
+leaves_ended g s well = All-map (λ b either. leaves b either) s well.earlier
+  where
+    leaves : (b : Booking) → IsPresentOrEnded (map key_of s) b → LeavesOut (is_there s) b
+    leaves b (inl top) out =
+        let here : is_there s b ≡ true = test_of_key b.row (next_generation s b.row - 1) b refl (omega (arith, top)) in
+        absurd (true≢false (sym here ∙ out))
+    leaves b (inr ended) out = ended
+
+-- A place is free in the list of what stands exactly where no item blocks it.
+pub open_is_free : (g : Layout) (s : State) (place : ℕ) (span : Interval) → IsWellFormed g s → AllByRecursion (IsQuiet place) s
+    → Decides (is_free (standings_of s) span place) (IsOpen s place span)
+open_is_free g s place span well quiet = (
+  λ free. open_from g place span (is_there s) s quiet (leaves_ended g s well) well.each (not_back (Taken (is_there s) s place span) free),
+  λ none. not_from_false (Taken (is_there s) s place span) (to_open g place span (is_there s) s quiet well.each none),
 )
 
--- The same with a booking behind them that has its items elsewhere.
-pub free_beside : (g : Layout) (s : State) (b : Booking) (place : ℕ) (span : Interval) → AllByRecursion IsStanding s → AllByRecursion (IsSound g) s → AreElsewhere place b.items
-    → Decides (is_free (map standing_of s) span place) (IsOpen (s ++ b ∷ []) place span)
-free_beside g s b place span each sound other =
-    let free = open_is_free g s place span each sound in
-    let parts = items_with s b in (
-      λ yes. subst (NoneBlocks place span) (sym parts)
-          (All-append (λ i. ¬ Blocks place span i) (all_items s) b.items (free.0 yes) (elsewhere_open place span b.items other)),
-      λ open_. free.1 (All-left (λ i. ¬ Blocks place span i) (all_items s) b.items (subst (NoneBlocks place span) parts open_)),
-    )
+-- what stands is quiet, and so is a row in the making behind it
+
+pub quiet_each : (place : ℕ) (s : State) → AllByRecursion IsStanding s → AllByRecursion (IsQuiet place) s
+quiet_each place s each = All-map (λ b stands. inl stands) s each
+
+pub quiet_with : (place : ℕ) (s : State) (b : Booking) → AllByRecursion IsStanding s → is_sealed b.phase ≡ false → AreElsewhere place b.items → AllByRecursion (IsQuiet place) (s ++ b ∷ [])
+quiet_with place s b each unsealed other = All-append (IsQuiet place) s (b ∷ []) (quiet_each place s each) (inr (unsealed, other), tt)

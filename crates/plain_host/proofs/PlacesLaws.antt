@@ -4,6 +4,7 @@ use Rattle.std.specs.Prelude.{◌⊎◌, ◌&&◌, ◌==◌, not, nat_le, nat_lt
 use Rattle.std.specs.List.{list_all}
 use Rattle.std.proofs.lemmas.Bool.{and_parts, or_parts, true≢false, eqb-false}
 use Rattle.std.proofs.lemmas.List.{take-append-drop}
+use Rattle.rail_ids.specs.declared.RowNo.{RowNo}
 use Rattle.place_map.specs.declared.coach.Class.{Class}
 use Rattle.train_runs.specs.Runs.{RunsView}
 use Rattle.trip_builder.specs.declared.trip.TripWish.{TripWish}
@@ -31,14 +32,15 @@ use Rattle.reservation_service.specs.Reserving.{reserved, Reserves}
 use Rattle.search_service.specs.Searching.{numbers_on}
 use Rattle.service_rules.specs.Checks.{code_fault, command_fault}
 use Rattle.service_rules.specs.Answering.{AnswersBy}
-use Rattle.plain_host.specs.Plain.{row_for}
+use Rattle.plain_host.specs.Plain.{choice_for}
 use Rattle.plain_host.specs.Outcomes.{outcome_by}
 use Rattle.plain_host.specs.PlainOf.{plain_in, plain_of}
 use Rattle.plain_host.specs.Settled.{IsSettled}
+use Rattle.plain_host.specs.Found.{ChoosesRow}
 use Rattle.plain_host.specs.Plainly.{IsLone, AnswersPlainly, MayKeepRow}
 use Rattle.plain_host.proofs.Staying.{StaysAlone, stays_by, still_lone}
 use Rattle.plain_host.proofs.Laws.{refused_plain}
-use Rattle.plain_host.proofs.PlacesRows.{has_begun, none_begun}
+use Rattle.plain_host.proofs.PlacesRows.{choice_at, has_begun, none_begun, plain_making}
 use Rattle.plain_host.proofs.PlacesChosen.{Differ}
 use Rattle.plain_host.proofs.PlacesFit.{listed_fit, offer_fits, reserved_fit}
 use Rattle.plain_host.proofs.PlacesSeen.{offers_seen, begun_seen, places_seen}
@@ -88,40 +90,47 @@ offered_differ cat o offered =
 -- ---- booking
 
 -- the row of a new booking
-pub row_started : (cat : CatalogueView) (old new : DeskView) (row : Option ℕ) → IsLone cat old → ShapeBy (StartsHold old new row) old new
-    → row_for cat.rows (plain_of old) ≡ row
+pub row_started : (cat : CatalogueView) (old new : DeskView) (row : Option RowNo) → IsLone cat old → ShapeBy (StartsHold old new row) old new
+    → ChoosesRow cat.rows (plain_of old) row (plain_of new)
 row_started cat old new (Some row) lone did =
-    subst (λ (n : ℕ). row_for n (plain_of old) ≡ Some row) lone.rows
-    (has_begun old new row lone.alone lone.settled (is_sound old.layout old.seen lone.legal) did).chosen
+    let begun = has_begun old new row lone.alone lone.settled (is_sound old.layout old.seen lone.legal) did in
+    let c = choice_at lone.settled.standing row in (
+      c,
+      subst (λ (n : ℕ). choice_for n (plain_of old) ≡ Some c) lone.rows begun.chosen,
+      refl,
+      plain_making lone.settled.standing row [] (state_seen new) lone.settled.each begun.making,
+    )
 row_started cat old new None lone did =
-    subst (λ (n : ℕ). row_for n (plain_of old) ≡ None) lone.rows (none_begun old new lone.alone lone.settled (is_sound old.layout old.seen lone.legal) did).0
+    let none = none_begun old new lone.alone lone.settled (is_sound old.layout old.seen lone.legal) did in
+    (subst (λ (n : ℕ). choice_for n (plain_of old) ≡ None) lone.rows none.0, ap plain_in none.1)
 
-pub book_plain : (cat : CatalogueView) (retailer now : ℕ) (offer : Option OfferCode) → IsReadable cat (command.Book offer) → AnswersPlainly cat retailer now (command.Book offer)
-book_plain cat retailer now None readable = refused_plain cat retailer now (command.Book None) UnknownOffer refl
-book_plain cat retailer now (Some code) readable = go (command_fault cat now (command.Book (Some code))) refl
+pub book_plain : (cat : CatalogueView) (retailer now : ℕ) (offer : Option OfferCode) (together : Bool) → IsReadable cat (command.Book offer together)
+    → AnswersPlainly cat retailer now (command.Book offer together)
+book_plain cat retailer now None together readable = refused_plain cat retailer now (command.Book None together) UnknownOffer refl
+book_plain cat retailer now (Some code) together readable = go (command_fault cat now (command.Book (Some code) together)) refl
   where
     known : (k : Bool) (made : ℕ) → code_fault k made now ≡ None → k ≡ true
     known true made none = refl
     known false made none = absurd (let no : Some UnknownOffer ≡ None = none in cc)
 
-    go : (fault : Option Problem) → command_fault cat now (command.Book (Some code)) ≡ fault → AnswersPlainly cat retailer now (command.Book (Some code))
-    go (Some p) is = refused_plain cat retailer now (command.Book (Some code)) p is
+    go : (fault : Option Problem) → command_fault cat now (command.Book (Some code) together) ≡ fault → AnswersPlainly cat retailer now (command.Book (Some code) together)
+    go (Some p) is = refused_plain cat retailer now (command.Book (Some code) together) p is
     go None is = λ old new reply lone did.
         let o = offer_view code in
-        let did_it : Reserves cat retailer now o old new reply =
-        subst (λ (f : Option Problem). AnswersBy cat retailer now (command.Book (Some code)) f old new reply) is did in
+        let did_it : Reserves cat retailer now o together old new reply =
+        subst (λ (f : Option Problem). AnswersBy cat retailer now (command.Book (Some code) together) f old new reply) is did in
         let offered = known (is_offered cat o) code.made is in
-        let came = reserves_plainly cat retailer now o old new reply lone (offer_fits cat o readable) (offered_differ cat o offered) did_it in (
-          subst (λ (f : Option Problem). (let it = outcome_by cat retailer now (command.Book (Some code)) (plain_of old) f in (reply ≡ it.reply) × (plain_of new ≡ it.plain))
+        let came = reserves_plainly cat retailer now o together old new reply lone (offer_fits cat o readable) (offered_differ cat o offered) did_it in (
+          subst (λ (f : Option Problem). (let it = outcome_by cat retailer now (command.Book (Some code) together) (plain_of old) f in (reply ≡ it.reply) × (plain_of new ≡ it.plain))
               ⊎ ((reply ≡ problem NoMemory) × MayKeepRow cat.rows (plain_of old) (plain_of new))) (sym is) came.0,
           came.1,
         )
 
-pub reserve_plain : (cat : CatalogueView) (retailer now : ℕ) (segment : Segment) (class : Class) (count wanted : ℕ) → IsReadable cat (command.Reserve segment class count wanted)
-    → AnswersPlainly cat retailer now (command.Reserve segment class count wanted)
-reserve_plain cat retailer now segment class count wanted readable = λ old new reply lone did.
+pub reserve_plain : (cat : CatalogueView) (retailer now : ℕ) (segment : Segment) (class : Class) (count wanted : ℕ) (together : Bool) → IsReadable cat (command.Reserve segment class count wanted together)
+    → AnswersPlainly cat retailer now (command.Reserve segment class count wanted together)
+reserve_plain cat retailer now segment class count wanted together readable = λ old new reply lone did.
     let o = reserved segment class count wanted now in
-    reserves_plainly cat retailer now o old new reply lone
+    reserves_plainly cat retailer now o together old new reply lone
     (reserved_fit cat old o segment lone readable.0, tt) (tt, tt) did
 
 -- ---- searching

@@ -1,9 +1,8 @@
 -- What a lone desk's looks show of places is what the plain list says.
-use Rattle.std.proofs.Common.{◌≡◌, ℕ, ◌+◌, ◌≤◌, Bool, true, false, Decides, cond, List, [], ◌∷◌, ◌++◌, map, refl, sym, ap, ◌∙◌, subst, inl, inr}
+use Rattle.std.proofs.Common.{◌≡◌, ℕ, ◌+◌, ◌≤◌, Bool, Decides, cond, List, [], ◌∷◌, ◌++◌, map, refl, sym, ap, ◌∙◌, subst, inl, inr}
 use Rattle.std.specs.Prelude.{◌⊎◌, ◌↔◌, IsTrue, count_by, fold}
 use Rattle.std.specs.List.{AllByRecursion}
-use Rattle.std.proofs.lemmas.Bool.{and_parts, and_from, false_from_ne_true}
-use Rattle.leg_masks.specs.Interval.{Interval, IsClear, half_of, pieces}
+use Rattle.leg_masks.specs.Interval.{Interval, pieces}
 use Rattle.rail_ids.specs.declared.PlaceNo.{PlaceNo}
 use Rattle.offer_codes.specs.declared.code.Segment.{Segment}
 use Rattle.offer_codes.specs.declared.code.Offer.{Offer}
@@ -11,56 +10,45 @@ use Rattle.offer_codes.specs.declared.code.OfferCode.{OfferCode}
 use Rattle.rail_catalogue.specs.Contents.{CatalogueView}
 use Rattle.trip_builder.specs.Trips.{trips_of}
 use Rattle.history_model.specs.declared.entry.Step.{Step}
-use Rattle.history_model.specs.Looks.{look_at}
 use Rattle.history_model.specs.Booking.{Booking, Layout, State}
 use Rattle.history_model.specs.History.{IsLegalFrom}
-use Rattle.history_model.specs.Laws.{IsSound}
-use Rattle.history_model.specs.Words.{place_word}
-use Rattle.history_model.proofs.ListLemmas.{All-left}
+use Rattle.history_model.specs.Phase.{is_sealed}
 use Rattle.claim_rule.specs.Rule.{DeskView, state_seen}
 use Rattle.claim_rule.specs.Calls.{ShapeBy}
 use Rattle.claim_rule.proofs.Moves.{is_sound}
-use Rattle.availability.specs.Looks.{LooksPieces, LooksAt, CountsFree}
+use Rattle.availability.specs.Looks.{LooksAt, CountsFree}
 use Rattle.offer_engine.specs.declared.wish.OfferWish.{OfferWish}
 use Rattle.offer_engine.specs.Offers.{raised, offer_price, code_for, wanted_places, CountsSegments, OffersFor, BeginsOffers}
 use Rattle.lone_desk.specs.Lone.{entries_of, after_steps}
 use Rattle.lone_desk.specs.Decided.{IsFreeAt, HasClearWords}
-use Rattle.lone_desk.proofs.Clear.{AllClearAt, open_is_clear}
+use Rattle.lone_desk.proofs.Clear.{open_is_clear}
 use Rattle.lone_desk.proofs.Following.{shape_follows}
-use Rattle.lone_desk.proofs.Looking.{after-append, legal_parts}
-use Rattle.plain_host.specs.Plain.{Standing, is_free}
+use Rattle.plain_host.specs.Plain.{is_free}
 use Rattle.plain_host.specs.Outcomes.{code_of, offered}
-use Rattle.plain_host.specs.PlainOf.{standing_of, plain_of}
+use Rattle.plain_host.specs.PlainOf.{plain_of}
 use Rattle.plain_host.specs.Settled.{IsEmptyRow, IsSettled}
 use Rattle.plain_host.specs.Plainly.{IsLone}
-use Rattle.plain_host.proofs.PlacesFree.{AreElsewhere, open_is_free, free_beside}
-use Rattle.plain_host.proofs.PlacesRows.{settled_standings}
+use Rattle.plain_host.proofs.PlacesFree.{AreElsewhere, IsQuiet, quiet_each, quiet_with, open_is_free}
 use Rattle.plain_host.proofs.PlacesHeld.{FitsAt}
+use Rattle.plain_host.proofs.PlacesLooks.{both_leave, pieces_leave, two_parts, same_answer, pieces_show}
 use Rattle.plain_host.proofs.PlacesFit.{AllFit, trips_fit}
 
 -- ---- a lone desk between two commands
 
-settled_free : (g : Layout) (s : State) (place : ℕ) (span : Interval) (settled : IsSettled s) → AllByRecursion (IsSound g) s
-    → Decides (is_free (map standing_of settled.standing) span place) (IsFreeAt s span place)
-settled_free g s place span settled sound = by settled.is
+settled_quiet : (s : State) (place : ℕ) → IsSettled s → AllByRecursion (IsQuiet place) s
+settled_quiet s place settled = by settled.is
   where
-    Says : State → Type 0
-    Says t = Decides (is_free (map standing_of settled.standing) span place) (IsFreeAt t span place)
-
-    by : (s ≡ settled.standing) ⊎ ((b : Booking) × IsEmptyRow b × (s ≡ settled.standing ++ b ∷ [])) → Says s
-    by (inl is) = subst Says (sym is) (open_is_free g settled.standing place span settled.each (subst (AllByRecursion (IsSound g)) is sound))
+    by : (s ≡ settled.standing) ⊎ ((b : Booking) × IsEmptyRow b × (s ≡ settled.standing ++ b ∷ [])) → AllByRecursion (IsQuiet place) s
+    by (inl is) = subst (AllByRecursion (IsQuiet place)) (sym is) (quiet_each place settled.standing settled.each)
     by (inr (b, empty, is)) =
-        subst Says (sym is)
-        (free_beside g settled.standing b place span settled.each (All-left (IsSound g) settled.standing (b ∷ []) (subst (AllByRecursion (IsSound g)) is sound))
-        (subst (AreElsewhere place) (sym empty.none) tt))
+        subst (AllByRecursion (IsQuiet place)) (sym is)
+        (quiet_with place settled.standing b settled.each (ap is_sealed empty.making) (subst (AreElsewhere place) (sym empty.none) tt))
 
 -- of each place the list says whether it is free
 pub list_is_free : (cat : CatalogueView) (desk : DeskView) (span : Interval) (place : ℕ) → IsLone cat desk
     → Decides (is_free (plain_of desk).bookings span place) (IsFreeAt (state_seen desk) span place)
 list_is_free cat desk span place lone =
-    let s = state_seen desk in
-    subst (λ (bs : List Standing). Decides (is_free bs span place) (IsFreeAt s span place)) (sym (settled_standings s lone.settled))
-    (settled_free desk.layout s place span lone.settled (is_sound desk.layout desk.seen lone.legal).each)
+    open_is_free desk.layout (state_seen desk) place span (is_sound desk.layout desk.seen lone.legal) (settled_quiet (state_seen desk) place lone.settled)
 
 -- which is whether its words are clear on the pieces
 pub words_are_free : (cat : CatalogueView) (desk : DeskView) (span : Interval) (place : ℕ) → IsLone cat desk → span.to ≤ 126
@@ -71,14 +59,6 @@ words_are_free cat desk span place lone fits =
     (λ free. words.1 (list.0 free), λ clear. list.1 (words.0 clear))
 
 -- ---- looks leave the state as it is
-
-both_leave : (s : State) (desk : ℕ) (first more es : List Step) → es ≡ first ++ more → after_steps s desk first ≡ s → after_steps s desk more ≡ s → after_steps s desk es ≡ s
-both_leave s desk first more es is one two =
-    ap (after_steps s desk) is ∙ (after-append s desk first more ∙ (ap (λ (t : State). after_steps t desk more) one ∙ two))
-
-pieces_leave : (s : State) (desk place : ℕ) (ps : List Interval) (free : Bool) (es : List Step) → LooksPieces place ps free es → after_steps s desk es ≡ s
-pieces_leave s desk place [] free es did = ap (after_steps s desk) did.1
-pieces_leave s desk place (p ∷ ps) free es (word, here, others, more, says, rest, both, is) = ap (after_steps s desk) is ∙ pieces_leave s desk place ps others more rest
 
 looks_leave : (s : State) (desk : ℕ) (places : List PlaceNo) (span : Interval) (states : List Bool) (es : List Step) → LooksAt places span states es → after_steps s desk es ≡ s
 looks_leave s desk [] span [] es is = ap (after_steps s desk) is
@@ -103,34 +83,11 @@ offers_leave s desk cat w now (t ∷ ts) (o ∷ os) es (first, more, (code_is, p
 offers_leave s desk cat w now [] (o ∷ os) es never = absurd never
 offers_leave s desk cat w now (t ∷ ts) [] es never = absurd never
 
--- steps that leave the state, and more behind them
-two_parts : (g : Layout) (s : State) (desk : ℕ) (first more es : List Step) → es ≡ first ++ more → after_steps s desk first ≡ s → IsLegalFrom g s (entries_of desk es)
-    → IsLegalFrom g s (entries_of desk first) × IsLegalFrom g s (entries_of desk more)
-two_parts g s desk first more es is same legal =
-    let both = legal_parts g s desk first more (subst (λ (l : List Step). IsLegalFrom g s (entries_of desk l)) is legal) in
-    (both.0, subst (λ (t : State). IsLegalFrom g t (entries_of desk more)) same both.1)
-
 -- ---- what they show
 
 -- of each place whether the test says that it is free
 abbrev Knows : (Interval → ℕ → Bool) → State → Type 0
 Knows free s = (span : Interval) (place : ℕ) → Decides (free span place) (IsFreeAt s span place)
-
-same_answer : (a b : Bool) (P : Type 0) → Decides b P → (IsTrue a ↔ P) → a ≡ b
-same_answer true b P says is = sym (says.1 (is.0 refl))
-same_answer false b P says is = sym (false_from_ne_true b (λ e. let no : false ≡ true = is.1 (says.0 e) in absurd cc))
-
--- whether the words of all pieces are clear
-pieces_show : (g : Layout) (s : State) (desk place : ℕ) (ps : List Interval) (free : Bool) (es : List Step) → IsLegalFrom g s (entries_of desk es) → LooksPieces place ps free es
-    → IsTrue free ↔ AllClearAt s place ps
-pieces_show g s desk place [] free es legal did = (λ _. tt, λ _. did.0)
-pieces_show g s desk place (p ∷ ps) free es legal (word, here, others, more, says, rest, both, is) =
-    let line : IsLegalFrom g s (entries_of desk (look_at place p word ∷ more)) = subst (λ (l : List Step). IsLegalFrom g s (entries_of desk l)) is legal in
-    let later = pieces_show g s desk place ps others more line.1 rest in
-    let now : IsTrue here ↔ IsClear (place_word s place (half_of p)) p = subst (λ (n : ℕ). IsTrue here ↔ IsClear n p) line.0.2 says in (
-      λ e. let parts = and_parts here others (sym both ∙ e) in (now.0 parts.0, later.0 parts.1),
-      λ all. both ∙ and_from here others (now.1 all.0) (later.1 all.1),
-    )
 
 looks_free : (free : Interval → ℕ → Bool) (g : Layout) (s : State) (desk : ℕ) (places : List PlaceNo) (span : Interval) (states : List Bool) (es : List Step)
     → Knows free s → FitsAt span places → IsLegalFrom g s (entries_of desk es) → LooksAt places span states es → states ≡ map (λ (p : PlaceNo). free span p.0) places

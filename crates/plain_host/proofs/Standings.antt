@@ -1,149 +1,207 @@
--- How a row's booking stands among all bookings, and what a change of it changes.
-use Rattle.std.proofs.Common.{◌≡◌, ◌≢◌, ℕ, ◌≤◌, Bool, true, false, cond, ne_eqb, eq-eqb, List, [], ◌∷◌, ◌++◌, map, Option, Some, None, refl, sym, ap, ◌∙◌, subst, arith}
-use Rattle.std.specs.Prelude.{◌==◌, ◌&&◌, find, option_map}
+-- How a row's present booking stands among all bookings, and what a change of it changes.
+use Rattle.std.proofs.Common.{◌≡◌, ◌≢◌, ◌⊎◌, inl, inr, ℕ, ◌≤◌, ◌-◌, Bool, true, false, cond, ne_eqb, eq-eqb, List, [], ◌∷◌, ◌++◌, map, Option, Some, None, refl, sym, ap, ◌∙◌, subst, arith}
+use Rattle.std.specs.Prelude.{◌==◌, ◌&&◌, nat_eq, find, option_map}
 use Rattle.std.specs.List.{AllByRecursion, filter}
 use Rattle.std.specs.Option.{option_or, option_map_or}
-use Rattle.std.proofs.lemmas.Bool.{eqb-true}
+use Rattle.std.proofs.lemmas.Bool.{eqb-true, cases_eq}
 use Rattle.std.proofs.lemmas.List.Elements.{filter-append}
 use Rattle.std.proofs.lemmas.List.Folds.{find-append}
 use mathlib.Core.List.{map-append}
+use Rattle.rail_ids.specs.declared.RowNo.{RowNo}
 use Rattle.history_model.specs.declared.phase.Phase.{Phase}
 use Rattle.history_model.specs.declared.phase.Phase.TheVariants.{Free, Making, Prebooked, Confirmed, Fulfilled, Ending, Ended}
-use Rattle.history_model.specs.Phase.{is_sealed}
+use Rattle.history_model.specs.Phase.{is_sealed, phase_shown, row_word_of}
 use Rattle.history_model.specs.Lists.{Pairwise}
-use Rattle.history_model.specs.Booking.{Booking, Layout, State, stands_in, present, phase_of_row, word_at}
+use Rattle.history_model.specs.Words.{row_word}
+use Rattle.history_model.specs.Booking.{Booking, Layout, State, key_of, next_in, next_generation, stands_as, stands_in, present, word_at}
 use Rattle.history_model.specs.Laws.{IsWellFormed, IsInRange, AreInRange}
 use Rattle.history_model.proofs.ListLemmas.{split, none_passes, Pairwise-right}
-use Rattle.history_model.proofs.Ranges.{all_found, row_of}
+use Rattle.history_model.proofs.Generations.{and_both, key_of_test, test_of_key}
+use Rattle.history_model.proofs.PhaseWords.{shown_back}
+use Rattle.history_model.proofs.Ranges.{all_found}
 use Rattle.booking_rows.specs.Views.{RowSeen}
-use Rattle.lone_desk.proofs.OwnRow.{IsApart}
-use Rattle.plain_host.specs.Plain.{Standing, is_own, replaced}
-use Rattle.plain_host.specs.PlainOf.{view_of, standing_of, is_standing, standings_of, is_in_making, kept_of}
+use Rattle.plain_host.specs.Plain.{Standing, is_booking, is_own, replaced}
+use Rattle.plain_host.specs.PlainOf.{row_of, view_of, standing_of, standings_of, is_in_making, kept_of}
 
--- a row's booking, with those before and after it, none of which is of the row
+pub not_true : (t : Bool) → (t ≡ true → ⊥) → t ≡ false
+not_true true never = absurd (never refl)
+not_true false never = refl
+
+-- none of these is the row's present booking in the state
+abbrev pub IsAside : State → ℕ → State → Type 0
+IsAside s row xs = AllByRecursion (λ x. stands_in s row x ≡ false) xs
+
+-- a row's present booking, with those before and after it
 pub record Stands (s : State) (row : ℕ) (b : Booking) : Type 0 where
   pub before : State
   pub after : State
   pub is : s ≡ before ++ b ∷ after
   pub same : b.row ≡ row
-  pub first : IsApart row before
-  pub last : IsApart row after
+  pub passes : stands_in s row b ≡ true
+  pub first : IsAside s row before
+  pub last : IsAside s row after
 
-apart_after : (row : ℕ) (xs : State) → AllByRecursion (λ q. row ≢ q) (map (λ (x : Booking). x.row) xs) → IsApart row xs
-apart_after row [] all = tt
-apart_after row (x ∷ xs) all = (ne_eqb x.row row (λ e. all.0 (sym e)), apart_after row xs all.1)
+same_key : (s : State) (row : ℕ) (b x : Booking) → stands_in s row b ≡ true → stands_in s row x ≡ true → key_of b ≡ key_of x
+same_key s row b x t u =
+    let j = key_of_test row (next_generation s row - 1) b t in
+    let k = key_of_test row (next_generation s row - 1) x u in
+    λ i. ((j.0 ∙ sym k.0) i, (j.1 ∙ sym k.1) i)
+
+aside_after : (s : State) (row : ℕ) (b : Booking) (xs : State) → stands_in s row b ≡ true → AllByRecursion (λ k. key_of b ≢ k) (map key_of xs) → IsAside s row xs
+aside_after s row b [] t all = tt
+aside_after s row b (x ∷ xs) t all = (not_true (stands_in s row x) (λ u. all.0 (same_key s row b x t u)), aside_after s row b xs t all.1)
 
 pub stands : (g : Layout) (s : State) (row : ℕ) (b : Booking) → IsWellFormed g s → present s row ≡ Some b → Stands s row b
 stands g s row b good at =
     let parts = split (stands_in s row) s b at in
-    let same : b.row ≡ row = eqb-true b.row row parts.passes in
-    let rows : map (λ (x : Booking). x.row) s ≡ map (λ (x : Booking). x.row) parts.before ++ b.row ∷ map (λ (x : Booking). x.row) parts.after =
-    ap (map (λ (x : Booking). x.row)) parts.is ∙ map-append (λ (x : Booking). x.row) parts.before (b ∷ parts.after) in
-    let apart = Pairwise-right (λ (p q : ℕ). p ≢ q) (map (λ (x : Booking). x.row) parts.before) (b.row ∷ map (λ (x : Booking). x.row) parts.after)
-    (subst (Pairwise (λ (p q : ℕ). p ≢ q)) rows good.rows) in
+    let keys : map key_of s ≡ map key_of parts.before ++ key_of b ∷ map key_of parts.after = ap (map key_of) parts.is ∙ map-append key_of parts.before (b ∷ parts.after) in
+    let apart = Pairwise-right (λ (j k : ℕ × ℕ). j ≢ k) (map key_of parts.before) (key_of b ∷ map key_of parts.after)
+    (subst (Pairwise (λ (j k : ℕ × ℕ). j ≢ k)) keys good.keys) in
     record {
       before = parts.before;
       after = parts.after;
       is = parts.is;
-      same = same;
+      same = (key_of_test row (next_generation s row - 1) b parts.passes).0;
+      passes = parts.passes;
       first = parts.fails;
-      last = apart_after row parts.after (subst (λ (r : ℕ). AllByRecursion (λ q. r ≢ q) (map (λ (x : Booking). x.row) parts.after)) same apart.0);
+      last = aside_after s row b parts.after parts.passes apart.0;
     }
 
--- the list of standing bookings, by its parts
+-- the sealed ones of some bookings that pass a test, as a list of standing bookings
 
-pub standings-append : (xs ys : State) → standings_of (xs ++ ys) ≡ standings_of xs ++ standings_of ys
-standings-append xs ys =
-    ap (map standing_of) (filter-append is_standing xs ys) ∙ map-append standing_of (filter is_standing xs) (filter is_standing ys)
+abbrev pub standings_by : (Booking → Bool) → State → List Standing
+standings_by test xs = map standing_of (filter (λ b. test b && is_sealed b.phase) xs)
 
-pub standings_sealed : (b : Booking) (xs : State) → is_sealed b.phase ≡ true → standings_of (b ∷ xs) ≡ standing_of b ∷ standings_of xs
-standings_sealed b xs sealed = ap (λ (t : Bool). map standing_of (cond t (b ∷ filter is_standing xs) (filter is_standing xs))) sealed
+-- whether the booking is its row's present one in the state
+abbrev pub is_there : State → Booking → Bool
+is_there s b = stands_in s b.row b
 
-pub standings_unsealed : (b : Booking) (xs : State) → is_sealed b.phase ≡ false → standings_of (b ∷ xs) ≡ standings_of xs
-standings_unsealed b xs unsealed = ap (λ (t : Bool). map standing_of (cond t (b ∷ filter is_standing xs) (filter is_standing xs))) unsealed
+by_append : (test : Booking → Bool) (xs ys : State) → standings_by test (xs ++ ys) ≡ standings_by test xs ++ standings_by test ys
+by_append test xs ys =
+    let p : Booking → Bool = λ b. test b && is_sealed b.phase in
+    ap (map standing_of) (filter-append p xs ys) ∙ map-append standing_of (filter p xs) (filter p ys)
 
-pub standings_around : (before after : State) (b : Booking) → is_sealed b.phase ≡ true
-    → standings_of (before ++ b ∷ after) ≡ standings_of before ++ standing_of b ∷ standings_of after
-standings_around before after b sealed =
-    standings-append before (b ∷ after) ∙ ap (λ (l : List Standing). standings_of before ++ l) (standings_sealed b after sealed)
+by_one : (test : Booking → Bool) (b : Booking) (xs : State) (t : Bool) → (test b && is_sealed b.phase) ≡ t
+    → standings_by test (b ∷ xs) ≡ map standing_of (cond t (b ∷ filter (λ x. test x && is_sealed x.phase) xs) (filter (λ x. test x && is_sealed x.phase) xs))
+by_one test b xs t is = ap (λ (u : Bool). map standing_of (cond u (b ∷ filter (λ x. test x && is_sealed x.phase) xs) (filter (λ x. test x && is_sealed x.phase) xs))) is
 
-pub standings_beside : (before after : State) (b : Booking) → is_sealed b.phase ≡ false
-    → standings_of (before ++ b ∷ after) ≡ standings_of before ++ standings_of after
-standings_beside before after b unsealed =
-    standings-append before (b ∷ after) ∙ ap (λ (l : List Standing). standings_of before ++ l) (standings_unsealed b after unsealed)
+pub by_around : (test : Booking → Bool) (before after : State) (b : Booking) → (test b && is_sealed b.phase) ≡ true
+    → standings_by test (before ++ b ∷ after) ≡ standings_by test before ++ standing_of b ∷ standings_by test after
+by_around test before after b is =
+    by_append test before (b ∷ after) ∙ ap (λ (l : List Standing). standings_by test before ++ l) (by_one test b after true is)
+
+pub by_beside : (test : Booking → Bool) (before after : State) (b : Booking) → (test b && is_sealed b.phase) ≡ false
+    → standings_by test (before ++ b ∷ after) ≡ standings_by test before ++ standings_by test after
+by_beside test before after b is =
+    by_append test before (b ∷ after) ∙ ap (λ (l : List Standing). standings_by test before ++ l) (by_one test b after false is)
 
 -- none of them is of the row
 abbrev pub AreElsewhere : ℕ → List Standing → Type 0
-AreElsewhere row bs = AllByRecursion (λ (x : Standing). (x.row == row) ≡ false) bs
+AreElsewhere row bs = AllByRecursion (λ (x : Standing). (x.row.row == row) ≡ false) bs
 
-pub elsewhere : (row : ℕ) (xs : State) → IsApart row xs → AreElsewhere row (standings_of xs)
-elsewhere row [] apart = tt
-elsewhere row (x ∷ xs) apart = go (is_sealed x.phase) (elsewhere row xs apart.1) where
-  go : (t : Bool) → AreElsewhere row (standings_of xs) → AreElsewhere row (map standing_of (cond t (x ∷ filter is_standing xs) (filter is_standing xs)))
-  go true rest = (apart.0, rest)
-  go false rest = rest
+pub elsewhere : (s : State) (row : ℕ) (xs : State) → IsAside s row xs → AreElsewhere row (standings_by (is_there s) xs)
+elsewhere s row [] aside = tt
+elsewhere s row (x ∷ xs) aside = go (is_there s x && is_sealed x.phase) refl (elsewhere s row xs aside.1) where
+  other : is_there s x ≡ true → (x.row == row) ≡ true → ⊥
+  other t here =
+      let u : stands_in s row x ≡ true = subst (λ (r : ℕ). stands_in s r x ≡ true) (eqb-true x.row row here) t in
+      let no : true ≡ false = sym u ∙ aside.0 in cc
 
-none_own : (row retailer : ℕ) (bs : List Standing) → AreElsewhere row bs → find (is_own row retailer) bs ≡ None
+  go : (t : Bool) → (is_there s x && is_sealed x.phase) ≡ t → AreElsewhere row (standings_by (is_there s) xs)
+      → AreElsewhere row (map standing_of (cond t (x ∷ filter (λ y. is_there s y && is_sealed y.phase) xs) (filter (λ y. is_there s y && is_sealed y.phase) xs)))
+  go true is rest = (not_true (x.row == row) (other (and_both (is_there s x) (is_sealed x.phase) is).0), rest)
+  go false is rest = rest
+
+none_own : (row : RowNo) (retailer : ℕ) (bs : List Standing) → AreElsewhere row.row bs → find (is_own row retailer) bs ≡ None
 none_own row retailer [] else = refl
 none_own row retailer (x ∷ bs) else =
-    ap (λ (t : Bool). cond (t && (x.view.retailer == retailer)) (Some x) (find (is_own row retailer) bs)) else.0
+    ap (λ (t : Bool). cond ((t && (x.row.generation == row.generation)) && (x.view.retailer == retailer)) (Some x) (find (is_own row retailer) bs)) else.0
     ∙ none_own row retailer bs else.1
 
-pub none_replaced : (row : ℕ) (v : RowSeen) (bs : List Standing) → AreElsewhere row bs → map (replaced row v) bs ≡ bs
+none_replaced : (row : RowNo) (v : RowSeen) (bs : List Standing) → AreElsewhere row.row bs → map (replaced row v) bs ≡ bs
 none_replaced row v [] else = refl
 none_replaced row v (x ∷ bs) else =
-    ap (λ (t : Bool). cond t (record { row = x.row; view = v }) x ∷ map (replaced row v) bs) else.0
+    ap (λ (t : Bool). cond (t && (x.row.generation == row.generation)) (record { row = x.row; view = v }) x ∷ map (replaced row v) bs) else.0
     ∙ ap (λ (l : List Standing). x ∷ l) (none_replaced row v bs else.1)
 
--- the retailer's booking in a row
+-- a retailer's booking
 
-own_around : (row retailer : ℕ) (os cs : List Standing) (b : Standing) → AreElsewhere row os → AreElsewhere row cs → (b.row == row) ≡ true
-    → find (is_own row retailer) (os ++ b ∷ cs) ≡ cond (b.view.retailer == retailer) (Some b) None
-own_around row retailer os cs b first last here =
+pub there : (s : State) (row : ℕ) (b : Booking) → Stands s row b → is_there s b ≡ true
+there s row b st = subst (λ (r : ℕ). stands_in s r b ≡ true) (sym st.same) st.passes
+
+pub both_true : (s t : Bool) → s ≡ true → t ≡ true → (s && t) ≡ true
+both_true s t p q = ap (λ (u : Bool). u && t) p ∙ q
+
+pub second_false : (s t : Bool) → t ≡ false → (s && t) ≡ false
+second_false true t q = q
+second_false false t q = refl
+
+own_around : (row : RowNo) (retailer : ℕ) (os cs : List Standing) (b : Standing) → AreElsewhere row.row os → AreElsewhere row.row cs
+    → find (is_own row retailer) (os ++ b ∷ cs) ≡ cond (is_own row retailer b) (Some b) None
+own_around row retailer os cs b first last =
     find-append (is_own row retailer) os (b ∷ cs)
     ∙ (ap (λ (o : Option Standing). option_or o (find (is_own row retailer) (b ∷ cs))) (none_own row retailer os first)
-    ∙ (ap (λ (t : Bool). cond (t && (b.view.retailer == retailer)) (Some b) (find (is_own row retailer) cs)) here
-    ∙ ap (cond (b.view.retailer == retailer) (Some b)) (none_own row retailer cs last)))
+    ∙ ap (cond (is_own row retailer b) (Some b)) (none_own row retailer cs last))
 
-found_own : (g : Layout) (s : State) (row retailer : ℕ) (b : Booking) → IsWellFormed g s → present s row ≡ Some b → is_sealed b.phase ≡ true
-    → find (is_own row retailer) (standings_of s) ≡ cond (word_at b 1 == retailer) (Some (standing_of b)) None
+found_own : (g : Layout) (s : State) (row : RowNo) (retailer : ℕ) (b : Booking) → IsWellFormed g s → present s row.row ≡ Some b → is_sealed b.phase ≡ true
+    → find (is_own row retailer) (standings_of s) ≡ cond (is_own row retailer (standing_of b)) (Some (standing_of b)) None
 found_own g s row retailer b good at sealed =
-    let st = stands g s row b good at in
-    ap (find (is_own row retailer)) (ap standings_of st.is ∙ standings_around st.before st.after b sealed)
-    ∙ own_around row retailer (standings_of st.before) (standings_of st.after) (standing_of b)
-    (elsewhere row st.before st.first) (elsewhere row st.after st.last) (eq-eqb b.row row st.same)
+    let st = stands g s row.row b good at in
+    ap (find (is_own row retailer))
+    (ap (standings_by (is_there s)) st.is ∙ by_around (is_there s) st.before st.after b (both_true (is_there s b) (is_sealed b.phase) (there s row.row b st) sealed))
+    ∙ own_around row retailer (standings_by (is_there s) st.before) (standings_by (is_there s) st.after) (standing_of b)
+    (elsewhere s row.row st.before st.first) (elsewhere s row.row st.after st.last)
 
--- it is the one that stands there, where it is the retailer's
-pub own_is : (g : Layout) (s : State) (row retailer : ℕ) (b : Booking) → IsWellFormed g s → present s row ≡ Some b → is_sealed b.phase ≡ true
+-- it is the one that stands there, where it is of the generation and the retailer's
+pub own_is : (g : Layout) (s : State) (row : RowNo) (retailer : ℕ) (b : Booking) → IsWellFormed g s → present s row.row ≡ Some b → b.generation ≡ row.generation → is_sealed b.phase ≡ true
     → word_at b 1 ≡ retailer → option_map (λ (x : Standing). x.view) (find (is_own row retailer) (standings_of s)) ≡ Some (view_of b)
-own_is g s row retailer b good at sealed mine =
-    ap (option_map (λ (x : Standing). x.view))
-    (found_own g s row retailer b good at sealed ∙ ap (λ (t : Bool). cond t (Some (standing_of b)) None) (eq-eqb (word_at b 1) retailer mine))
+own_is g s row retailer b good at generation sealed mine =
+    let st = stands g s row.row b good at in
+    let own : is_own row retailer (standing_of b) ≡ true =
+    both_true (is_booking row (standing_of b)) (word_at b 1 == retailer) (test_of_key row.row row.generation b st.same generation) (eq-eqb (word_at b 1) retailer mine) in
+    ap (option_map (λ (x : Standing). x.view)) (found_own g s row retailer b good at sealed ∙ ap (λ (t : Bool). cond t (Some (standing_of b)) None) own)
 
 -- and else there is none
 
-pub own_other : (g : Layout) (s : State) (row retailer : ℕ) (b : Booking) → IsWellFormed g s → present s row ≡ Some b → is_sealed b.phase ≡ true
+pub own_other : (g : Layout) (s : State) (row : RowNo) (retailer : ℕ) (b : Booking) → IsWellFormed g s → present s row.row ≡ Some b → is_sealed b.phase ≡ true
     → word_at b 1 ≢ retailer → option_map (λ (x : Standing). x.view) (find (is_own row retailer) (standings_of s)) ≡ None
 own_other g s row retailer b good at sealed other =
-    ap (option_map (λ (x : Standing). x.view))
-    (found_own g s row retailer b good at sealed ∙ ap (λ (t : Bool). cond t (Some (standing_of b)) None) (ne_eqb (word_at b 1) retailer other))
+    let own : is_own row retailer (standing_of b) ≡ false = second_false (is_booking row (standing_of b)) (word_at b 1 == retailer) (ne_eqb (word_at b 1) retailer other) in
+    ap (option_map (λ (x : Standing). x.view)) (found_own g s row retailer b good at sealed ∙ ap (λ (t : Bool). cond t (Some (standing_of b)) None) own)
 
-own_unsealed_at : (g : Layout) (s : State) (row retailer : ℕ) (o : Option Booking) → present s row ≡ o → IsWellFormed g s
-    → is_sealed (option_map_or (λ (b : Booking). b.phase) o Free) ≡ false → find (is_own row retailer) (standings_of s) ≡ None
-own_unsealed_at g s row retailer None at good unsealed =
-    none_own row retailer (standings_of s) (elsewhere row s (none_passes (stands_in s row) s at))
-own_unsealed_at g s row retailer (Some b) at good unsealed =
-    let st = stands g s row b good at in
-    ap (find (is_own row retailer)) (ap standings_of st.is ∙ standings_beside st.before st.after b unsealed)
-    ∙ (find-append (is_own row retailer) (standings_of st.before) (standings_of st.after)
-    ∙ (ap (λ (o : Option Standing). option_or o (find (is_own row retailer) (standings_of st.after)))
-    (none_own row retailer (standings_of st.before) (elsewhere row st.before st.first))
-    ∙ none_own row retailer (standings_of st.after) (elsewhere row st.after st.last)))
+other_generation : (row : RowNo) (retailer : ℕ) (x : Standing) → x.row.generation ≢ row.generation → is_own row retailer x ≡ false
+other_generation row retailer x other =
+    ap (λ (t : Bool). t && (x.view.retailer == retailer)) (second_false (x.row.row == row.row) (x.row.generation == row.generation) (ne_eqb x.row.generation row.generation other))
 
-pub own_unsealed : (g : Layout) (s : State) (row retailer : ℕ) → IsWellFormed g s → is_sealed (phase_of_row s row) ≡ false
+own_beside : (g : Layout) (s : State) (row : RowNo) (retailer : ℕ) (b : Booking) → IsWellFormed g s → present s row.row ≡ Some b → is_sealed b.phase ≡ false → find (is_own row retailer) (standings_of s) ≡ None
+own_beside g s row retailer b good at unsealed =
+    let st = stands g s row.row b good at in
+    let os = standings_by (is_there s) st.before in
+    let cs = standings_by (is_there s) st.after in
+    ap (find (is_own row retailer))
+    (ap (standings_by (is_there s)) st.is ∙ by_beside (is_there s) st.before st.after b (second_false (is_there s b) (is_sealed b.phase) unsealed))
+    ∙ (find-append (is_own row retailer) os cs
+    ∙ (ap (λ (o : Option Standing). option_or o (find (is_own row retailer) cs)) (none_own row retailer os (elsewhere s row.row st.before st.first))
+    ∙ none_own row retailer cs (elsewhere s row.row st.after st.last)))
+
+shown_in : (s : State) (row : RowNo) (b : Booking) → present s row.row ≡ Some b → b.generation ≡ row.generation → phase_shown row.generation (row_word s row.row 0) ≡ b.phase
+shown_in s row b at generation =
+    ap (λ (o : Option Booking). phase_shown row.generation (option_map_or (λ (x : Booking). row_word_of x.phase x.generation) o 0)) at
+    ∙ (ap (λ (n : ℕ). phase_shown n (row_word_of b.phase b.generation)) (sym generation) ∙ shown_back b.phase b.generation)
+
+-- where the row's word shows the booking as none that is sealed
+pub own_unshown : (g : Layout) (s : State) (row : RowNo) (retailer : ℕ) → IsWellFormed g s → is_sealed (phase_shown row.generation (row_word s row.row 0)) ≡ false
     → option_map (λ (x : Standing). x.view) (find (is_own row retailer) (standings_of s)) ≡ None
-own_unsealed g s row retailer good unsealed =
-    ap (option_map (λ (x : Standing). x.view)) (own_unsealed_at g s row retailer (present s row) refl good unsealed)
+own_unshown g s row retailer good unshown = ap (option_map (λ (x : Standing). x.view)) (go (present s row.row) refl) where
+  by : (b : Booking) → present s row.row ≡ Some b → (t : Bool) → is_sealed b.phase ≡ t → (b.generation ≡ row.generation) ⊎ (b.generation ≢ row.generation) → find (is_own row retailer) (standings_of s) ≡ None
+  by b at false unsealed which = own_beside g s row retailer b good at unsealed
+  by b at true sealed (inl same) = absurd (let no : true ≡ false = sym sealed ∙ (sym (ap is_sealed (shown_in s row b at same)) ∙ unshown) in cc)
+  by b at true sealed (inr other) =
+      found_own g s row retailer b good at sealed ∙ ap (λ (t : Bool). cond t (Some (standing_of b)) None) (other_generation row retailer (standing_of b) other)
+
+  go : (o : Option Booking) → present s row.row ≡ o → find (is_own row retailer) (standings_of s) ≡ None
+  go None at = none_own row retailer (standings_of s) (elsewhere s row.row s (none_passes (stands_in s row.row) s at))
+  go (Some b) at = by b at (is_sealed b.phase) refl (cases_eq b.generation row.generation)
 
 -- no booking stands past the last row
 pub none_past : (g : Layout) (s : State) (row : ℕ) → AreInRange g s → g.rows ≤ row → present s row ≡ None
@@ -152,38 +210,30 @@ none_past g s row range past = go (present s row) refl where
   go None at = at
   go (Some b) at =
       let below = (all_found (IsInRange g) s row b range at).row in
-      absurd (omega (arith, below, past, row_of s row b at))
+      let same = (key_of_test row (next_generation s row - 1) b (split (stands_in s row) s b at).passes).0 in
+      absurd (omega (arith, below, past, same))
 
-pub own_past : (g : Layout) (s : State) (row retailer : ℕ) → IsWellFormed g s → AreInRange g s → g.rows ≤ row
+pub own_past : (g : Layout) (s : State) (row : RowNo) (retailer : ℕ) → AreInRange g s → g.rows ≤ row.row
     → option_map (λ (x : Standing). x.view) (find (is_own row retailer) (standings_of s)) ≡ None
-own_past g s row retailer good range past =
-    own_unsealed g s row retailer good
-    (ap (λ (o : Option Booking). is_sealed (option_map_or (λ (b : Booking). b.phase) o Free)) (none_past g s row range past))
-
--- a row of a sealed phase has its booking
-pub in_sealed : (s : State) (row : ℕ) (phase : Phase) → phase_of_row s row ≡ phase → is_sealed phase ≡ true
-    → (b : Booking) × (present s row ≡ Some b) × (b.phase ≡ phase)
-in_sealed s row phase is sealed = go (present s row) refl is where
-  go : (o : Option Booking) → present s row ≡ o → option_map_or (λ (b : Booking). b.phase) o Free ≡ phase
-      → (b : Booking) × (present s row ≡ Some b) × (b.phase ≡ phase)
-  go None at is = absurd (let no : false ≡ true = ap is_sealed is ∙ sealed in cc)
-  go (Some b) at is = (b, at, is)
+own_past g s row retailer range past =
+    ap (option_map (λ (x : Standing). x.view))
+    (none_own row retailer (standings_of s) (elsewhere s row.row s (none_passes (stands_in s row.row) s (none_past g s row.row range past))))
 
 -- one booking changed
 
-making_same : (before after : State) (b c : Booking) → c.row ≡ b.row → is_in_making b.phase ≡ false → is_in_making c.phase ≡ false
+making_same : (before after : State) (b c : Booking) → is_in_making b.phase ≡ false → is_in_making c.phase ≡ false
     → kept_of (before ++ c ∷ after) ≡ kept_of (before ++ b ∷ after)
-making_same [] after b c same was is =
-    ap (λ (t : Bool). option_map (λ (x : Booking). x.row) (cond t (Some c) (find (λ (x : Booking). is_in_making x.phase) after))) is
-    ∙ sym (ap (λ (t : Bool). option_map (λ (x : Booking). x.row) (cond t (Some b) (find (λ (x : Booking). is_in_making x.phase) after))) was)
-making_same (x ∷ before) after b c same was is = go (is_in_making x.phase) (making_same before after b c same was is) where
+making_same [] after b c was is =
+    ap (λ (t : Bool). option_map row_of (cond t (Some c) (find (λ (x : Booking). is_in_making x.phase) after))) is
+    ∙ sym (ap (λ (t : Bool). option_map row_of (cond t (Some b) (find (λ (x : Booking). is_in_making x.phase) after))) was)
+making_same (x ∷ before) after b c was is = go (is_in_making x.phase) (making_same before after b c was is) where
   go : (t : Bool) → kept_of (before ++ c ∷ after) ≡ kept_of (before ++ b ∷ after)
-      → option_map (λ (y : Booking). y.row) (cond t (Some x) (find (λ (y : Booking). is_in_making y.phase) (before ++ c ∷ after)))
-      ≡ option_map (λ (y : Booking). y.row) (cond t (Some x) (find (λ (y : Booking). is_in_making y.phase) (before ++ b ∷ after)))
+      → option_map row_of (cond t (Some x) (find (λ (y : Booking). is_in_making y.phase) (before ++ c ∷ after)))
+      ≡ option_map row_of (cond t (Some x) (find (λ (y : Booking). is_in_making y.phase) (before ++ b ∷ after)))
   go true rest = refl
   go false rest = rest
 
-sealed_unmade : (p : Phase) → is_sealed p ≡ true → is_in_making p ≡ false
+pub sealed_unmade : (p : Phase) → is_sealed p ≡ true → is_in_making p ≡ false
 sealed_unmade Free t = refl
 sealed_unmade Making t = absurd (let no : false ≡ true = t in cc)
 sealed_unmade Prebooked t = refl
@@ -192,24 +242,55 @@ sealed_unmade Fulfilled t = refl
 sealed_unmade (Ending k) t = refl
 sealed_unmade (Ended k) t = refl
 
--- where another sealed booking stands in the row, the list has its view there, and the row kept is the same
-pub changed_standing : (s t : State) (row : ℕ) (b c : Booking) → (st : Stands s row b) → t ≡ st.before ++ c ∷ st.after → c.row ≡ b.row
+pub keys_with : (before after : State) (b c : Booking) → key_of c ≡ key_of b → map key_of (before ++ c ∷ after) ≡ map key_of (before ++ b ∷ after)
+keys_with before after b c same =
+    map-append key_of before (c ∷ after)
+    ∙ (ap (λ (k : ℕ × ℕ). map key_of before ++ k ∷ map key_of after) same ∙ sym (map-append key_of before (b ∷ after)))
+
+-- another of the same row and generation stands there as well
+abbrev pub stands_with : (s : State) (row : ℕ) (b c : Booking) → (st : Stands s row b) → key_of c ≡ key_of b → Stands (st.before ++ c ∷ st.after) row c
+stands_with s row b c st same =
+    let keys : map key_of (st.before ++ c ∷ st.after) ≡ map key_of s = keys_with st.before st.after b c same ∙ sym (ap (map key_of) st.is) in
+    record {
+      before = st.before;
+      after = st.after;
+      is = refl;
+      same = ap (λ (k : ℕ × ℕ). k.0) same ∙ st.same;
+      passes = subst (λ (ks : List (ℕ × ℕ)). stands_as row (next_in ks row - 1) c ≡ true) (sym keys)
+          (ap (λ (k : ℕ × ℕ). nat_eq k.0 row && nat_eq k.1 (next_generation s row - 1)) same ∙ st.passes);
+      first = subst (λ (ks : List (ℕ × ℕ)). AllByRecursion (λ x. stands_as row (next_in ks row - 1) x ≡ false) st.before) (sym keys) st.first;
+      last = subst (λ (ks : List (ℕ × ℕ)). AllByRecursion (λ x. stands_as row (next_in ks row - 1) x ≡ false) st.after) (sym keys) st.last;
+    }
+
+-- which bookings are present is by the rows and generations alone
+pub there_same : (s t : State) → map key_of t ≡ map key_of s → (x : Booking) → is_there t x ≡ is_there s x
+there_same s t keys x = ap (λ (ks : List (ℕ × ℕ)). stands_as x.row (next_in ks x.row - 1) x) keys
+
+-- where another sealed booking of the same row and generation stands there, the list has its view, and the row kept is the same
+pub changed_standing : (s t : State) (row : ℕ) (b c : Booking) → (st : Stands s row b) → t ≡ st.before ++ c ∷ st.after → key_of c ≡ key_of b
     → is_sealed b.phase ≡ true → is_sealed c.phase ≡ true
-    → (standings_of t ≡ map (replaced row (view_of c)) (standings_of s)) × (kept_of t ≡ kept_of s)
+    → (standings_of t ≡ map (replaced (row_of b) (view_of c)) (standings_of s)) × (kept_of t ≡ kept_of s)
 changed_standing s t row b c st is same was sealed =
-    let os = standings_of st.before in
-    let cs = standings_of st.after in
+    let test = is_there s in
+    let os = standings_by test st.before in
+    let cs = standings_by test st.after in
     let v = view_of c in
-    let here : replaced row v (standing_of b) ≡ standing_of c =
-    ap (λ (x : Bool). cond x (record { row = b.row; view = v }) (standing_of b)) (eq-eqb b.row row st.same)
-    ∙ ap (λ (r : ℕ). record { row = r; view = v }) (sym same) in
-    let old : map (replaced row v) (standings_of s) ≡ os ++ standing_of c ∷ cs =
-    ap (λ (u : State). map (replaced row v) (standings_of u)) st.is
-    ∙ (ap (map (replaced row v)) (standings_around st.before st.after b was)
-    ∙ (map-append (replaced row v) os (standing_of b ∷ cs)
-    ∙ (ap (λ (l : List Standing). l ++ replaced row v (standing_of b) ∷ map (replaced row v) cs) (none_replaced row v os (elsewhere row st.before st.first))
-    ∙ (ap (λ (l : List Standing). os ++ replaced row v (standing_of b) ∷ l) (none_replaced row v cs (elsewhere row st.after st.last))
+    let keys : map key_of t ≡ map key_of s = ap (map key_of) is ∙ (keys_with st.before st.after b c same ∙ sym (ap (map key_of) st.is)) in
+    let c_there : test c ≡ true =
+    (let e : test c ≡ test b = ap (λ (k : ℕ × ℕ). nat_eq k.0 k.0 && nat_eq k.1 (next_in (map key_of s) k.0 - 1)) same in e) ∙ there s row b st in
+    let here : replaced (row_of b) v (standing_of b) ≡ standing_of c =
+    ap (λ (x : Bool). cond x (record { row = row_of b; view = v }) (standing_of b)) (test_of_key b.row b.generation b refl refl)
+    ∙ (λ i. record { row = record { row = (sym same i).0; generation = (sym same i).1 }; view = v }) in
+    let first = subst (λ (r : ℕ). AreElsewhere r os) (sym st.same) (elsewhere s row st.before st.first) in
+    let last = subst (λ (r : ℕ). AreElsewhere r cs) (sym st.same) (elsewhere s row st.after st.last) in
+    let old : map (replaced (row_of b) v) (standings_of s) ≡ os ++ standing_of c ∷ cs =
+    ap (λ (u : State). map (replaced (row_of b) v) (standings_by test u)) st.is
+    ∙ (ap (map (replaced (row_of b) v)) (by_around test st.before st.after b (both_true (test b) (is_sealed b.phase) (there s row b st) was))
+    ∙ (map-append (replaced (row_of b) v) os (standing_of b ∷ cs)
+    ∙ (ap (λ (l : List Standing). l ++ replaced (row_of b) v (standing_of b) ∷ map (replaced (row_of b) v) cs) (none_replaced (row_of b) v os first)
+    ∙ (ap (λ (l : List Standing). os ++ replaced (row_of b) v (standing_of b) ∷ l) (none_replaced (row_of b) v cs last)
     ∙ ap (λ (x : Standing). os ++ x ∷ cs) here)))) in (
-      ap standings_of is ∙ (standings_around st.before st.after c sealed ∙ sym old),
-      ap kept_of is ∙ (making_same st.before st.after b c same (sealed_unmade b.phase was) (sealed_unmade c.phase sealed) ∙ sym (ap kept_of st.is)),
+      (λ i. standings_by (λ x. there_same s t keys x i) t)
+          ∙ (ap (standings_by test) is ∙ (by_around test st.before st.after c (both_true (test c) (is_sealed c.phase) c_there sealed) ∙ sym old)),
+      ap kept_of is ∙ (making_same st.before st.after b c (sealed_unmade b.phase was) (sealed_unmade c.phase sealed) ∙ sym (ap kept_of st.is)),
     )

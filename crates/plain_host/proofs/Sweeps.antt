@@ -1,6 +1,6 @@
 -- A sweep, and what is refused, come to the outcomes of a plain host.
 use Rattle.std.proofs.Common.{◌≡◌, ℕ, ◌+◌, ◌<◌, inl, Bool, true, false, cond, List, [], ◌∷◌, map, length, Option, Some, sym, ap, ◌∙◌, subst, arith}
-use Rattle.std.specs.Prelude.{count_by}
+use Rattle.std.specs.Prelude.{◌&&◌, count_by}
 use Rattle.std.specs.List.{AllByRecursion, filter}
 use Rattle.history_model.specs.declared.entry.Step.{Step}
 use Rattle.history_model.specs.Phase.{is_sealed}
@@ -25,19 +25,20 @@ use Rattle.lone_desk.specs.Lone.{entries_of, after_steps}
 use Rattle.lone_desk.proofs.Following.{shape_follows}
 use Rattle.plain_host.specs.Plain.{Standing}
 use Rattle.plain_host.specs.Outcomes.{is_late, is_waiting, swept_one, outcome_by}
-use Rattle.plain_host.specs.PlainOf.{standing_of, is_standing, standings_of, plain_in, plain_of}
+use Rattle.plain_host.specs.PlainOf.{standing_of, standings_of, plain_in, plain_of}
 use Rattle.plain_host.specs.Settled.{IsSettled}
 use Rattle.plain_host.specs.Plainly.{IsLone, IsPlainly}
+use Rattle.plain_host.proofs.Standings.{is_there, standings_by}
 use Rattle.plain_host.proofs.Staying.{stays_by, still_lone}
 use Rattle.plain_host.proofs.Sweeping.{rows_swept, all_swept, late_counts, wait_counts}
 
-rows_below : (m : ℕ) (s : State) → AllByRecursion (λ (b : Booking). b.row < m) s → AllByRecursion (λ (x : Standing). x.row < m) (standings_of s)
-rows_below m [] below = tt
-rows_below m (b ∷ s) below = go (is_sealed b.phase) (rows_below m s below.1) where
-  go : (t : Bool) → AllByRecursion (λ (x : Standing). x.row < m) (standings_of s)
-      → AllByRecursion (λ (x : Standing). x.row < m) (map standing_of (cond t (b ∷ filter is_standing s) (filter is_standing s)))
-  go true rest = (below.0, rest)
-  go false rest = rest
+rows_below : (m : ℕ) (test : Booking → Bool) (s : State) → AllByRecursion (λ (b : Booking). b.row < m) s → AllByRecursion (λ (x : Standing). x.row.row < m) (standings_by test s)
+rows_below m test [] below = tt
+rows_below m test (b ∷ s) below = go (test b && is_sealed b.phase) (rows_below m test s below.1) where
+  go : (t : Bool) → AllByRecursion (λ (x : Standing). x.row.row < m) (standings_by test s)
+      → AllByRecursion (λ (x : Standing). x.row.row < m) (map standing_of (cond t (b ∷ filter (λ (x : Booking). test x && is_sealed x.phase) s) (filter (λ (x : Booking). test x && is_sealed x.phase) s)))
+  go true all = (below.0, all)
+  go false all = all
 
 pub sweep_is_plain : (cat : CatalogueView) (retailer now : ℕ) (old new : DeskView) (reply : Reply) → IsLone cat old
     → SweepsRows cat.rows now old new reply → IsPlainly cat retailer now command.Sweep old new reply × IsLone cat new
@@ -52,7 +53,7 @@ sweep_is_plain cat retailer now old new reply lone (n, (es, did, shape), told) =
     let below = All-map (λ (b : Booking) (r : IsInRange new.layout b). let l : b.row < 0 + length did.sweeps = omega (arith, r.row, rows) in l)
     (state_seen new) (ranges_all new.layout new.seen shape.legal) in
     let all = rows_swept old.layout d now did.sweeps 0 s (is_sound old.layout old.seen lone.legal) did.each legal
-    (rows_below (0 + length did.sweeps) (after_steps s d steps) (subst (AllByRecursion (λ (b : Booking). b.row < 0 + length did.sweeps)) state below)) in
+    (rows_below (0 + length did.sweeps) (is_there (after_steps s d steps)) (after_steps s d steps) (subst (AllByRecursion (λ (b : Booking). b.row < 0 + length did.sweeps)) state below)) in
     let settled : IsSettled (state_seen new) = subst IsSettled (sym state) (all.settled lone.settled) in
     let list : standings_of (state_seen new) ≡ map (swept_one now) (standings_of s) =
     ap standings_of state ∙ (all.bookings ∙ all_swept now (standings_of s)) in

@@ -1,29 +1,27 @@
 -- Quotes, and refunds by them, come to the outcomes of a plain host.
 use Rattle.std.proofs.Common.{◌≡◌, ◌≢◌, ℕ, ◌+◌, ◌-◌, ◌<◌, ◌≤◌, inl, inr, Bool, true, false, cond, eq-eqb, ne_eqb, Option, Some, None, List, [], ◌∷◌, ◌++◌, refl, sym, ap, ◌∙◌, subst, arith}
 use Rattle.std.specs.Prelude.{◌==◌, ◌||◌, ◌⊎◌, nat_lt, nat_le}
-use Rattle.std.specs.Option.{option_map_or}
 use Rattle.std.proofs.lemmas.Bool.{le-ltb, leb-true, ltb-false}
-use mathlib.Core.List.{map-append}
 use Rattle.rail_ids.specs.declared.RowNo.{RowNo}
 use Rattle.history_model.specs.declared.entry.Step.{Step}
-use Rattle.history_model.specs.declared.entry.Step.TheVariants.{SawRow, LostTurn}
+use Rattle.history_model.specs.declared.entry.Step.TheVariants.{SawRow}
 use Rattle.history_model.specs.declared.phase.Phase.{Phase}
 use Rattle.history_model.specs.declared.phase.Phase.TheVariants as phase
 use Rattle.history_model.specs.declared.phase.EndKind.TheVariants as kind
 use Rattle.history_model.specs.Phase.{is_sealed, word_of_phase}
 use Rattle.history_model.specs.Laws.{IsWellFormed, AreInRange, is_owners}
 use Rattle.history_model.specs.Booking.{Booking, Layout, State, present, word_at}
-use Rattle.history_model.specs.History.{IsLegalFrom, entry}
-use Rattle.history_model.proofs.Forward.{legal_left, legal_right}
+use Rattle.history_model.specs.Words.{row_word}
+use Rattle.history_model.specs.History.{IsLegalFrom}
 use Rattle.history_model.proofs.Ranges.{ranges_all}
 use Rattle.claim_rule.specs.Rule.{DeskView, state_seen}
-use Rattle.claim_rule.specs.Endings.{items_read}
+use Rattle.claim_rule.specs.Out.{AllLooks}
 use Rattle.claim_rule.proofs.Moves.{is_sound}
-use Rattle.booking_rows.specs.Views.{RowSeen, IsSeen, saw_row, saw_end}
+use Rattle.booking_rows.specs.Views.{RowSeen, saw_words}
 use Rattle.booking_rows.specs.SealedRows.{FitWords}
-use Rattle.booking_rows.specs.Aims.{end_of}
+use Rattle.booking_rows.specs.Aims.{end_of, LosesTurn}
 use Rattle.booking_rows.specs.declared.turns.Aim.TheVariants as aim
-use Rattle.booking_rows.proofs.ViewLemmas.{row_all_looks}
+use Rattle.booking_rows.proofs.Looked.{row_looked}
 use Rattle.row_decisions.specs.Ends.{ends_as}
 use Rattle.rail_catalogue.specs.Contents.{CatalogueView}
 use Rattle.offer_codes.specs.declared.code.RefundCode.{RefundCode}
@@ -32,7 +30,7 @@ use Rattle.offer_codes.specs.declared.code.ExchangeCode.{ExchangeCode}
 use Rattle.offer_codes.specs.Offers.{offer_view}
 use Rattle.offer_codes.specs.Exchanges.{ExchangeView, exchange_view}
 use Rattle.refund_core.specs.Quotes.{SeesOwn, SeesNone, phase_named, is_stale, refund_at}
-use Rattle.refund_core.specs.Refunding.{AcceptsRefund}
+use Rattle.refund_core.specs.Refunding.{AcceptsRefund, LosesQuoted}
 use Rattle.refund_core.specs.declared.quoting.Quoted.TheVariants as quoted
 use Rattle.refund_core.specs.declared.refunding.Refunded.{Refunded}
 use Rattle.refund_core.specs.declared.refunding.Refunded.TheVariants as came
@@ -55,9 +53,10 @@ use Rattle.plain_host.specs.PlainOf.{view_of, plain_in, plain_of}
 use Rattle.plain_host.specs.Settled.{IsSettled}
 use Rattle.plain_host.specs.Plainly.{IsLone, IsPlainly, AnswersPlainly}
 use Rattle.plain_host.proofs.Staying.{stays_by}
-use Rattle.lone_desk.proofs.Looking.{after-append}
+use Rattle.lone_desk.proofs.Looking.{after-append, legal_parts}
 use Rattle.plain_host.proofs.Changes.{ends_on, ends_leave}
-use Rattle.plain_host.proofs.Decided.{ComesTo, looks_stay, row_changed, never_unknown, is_in_yes, is_in_no}
+use Rattle.plain_host.proofs.Looks.{looks_stay, none_shown, phase_seen, never_lost}
+use Rattle.plain_host.proofs.Decided.{ComesTo, row_changed, is_in_yes, is_in_no}
 use Rattle.plain_host.proofs.Commands.{ComesOn, booking_comes, to_plainly}
 use Rattle.plain_host.proofs.Laws.{refused_plain}
 use Rattle.plain_host.proofs.Seeing.{has_seen, seen_again, seen_by, unseen_by, stays_seen}
@@ -78,33 +77,33 @@ not_quotable v one two =
 
 -- quoting a refund
 
-quoted_is : (cat : CatalogueView) (row now : ℕ) (plain : Plain) (v : RowSeen) (code : RefundCode) → v.phase ≡ phase_named code.fulfilled
-    → code ≡ record { row = record { 0 = row }; made = now; fulfilled = code.fulfilled; amount = refund_at cat v now code.fulfilled }
+quoted_is : (cat : CatalogueView) (row : RowNo) (now : ℕ) (plain : Plain) (v : RowSeen) (code : RefundCode) → v.phase ≡ phase_named code.fulfilled
+    → code ≡ record { row = row; made = now; fulfilled = code.fulfilled; amount = refund_at cat v now code.fulfilled }
     → refund_quoted cat row now plain v ≡ outcome (refund_offer code) plain
 quoted_is cat row now plain v code is code_is =
-    let offer : Bool → Outcome = λ f. outcome (refund_offer (record { row = record { 0 = row }; made = now; fulfilled = f; amount = refund_at cat v now f })) plain in
+    let offer : Bool → Outcome = λ f. outcome (refund_offer (record { row = row; made = now; fulfilled = f; amount = refund_at cat v now f })) plain in
     ap (λ (t : Bool). cond t (offer (is_fulfilled v)) (wrong plain v)) (named_quotable v code.fulfilled is)
     ∙ (ap offer (named_fulfilled v code.fulfilled is) ∙ ap (λ (c : RefundCode). outcome (refund_offer c) plain) (sym code_is))
 
-unquoted_is : (cat : CatalogueView) (row now : ℕ) (plain : Plain) (v : RowSeen) → v.phase ≢ phase.Confirmed → v.phase ≢ phase.Fulfilled → refund_quoted cat row now plain v ≡ wrong plain v
+unquoted_is : (cat : CatalogueView) (row : RowNo) (now : ℕ) (plain : Plain) (v : RowSeen) → v.phase ≢ phase.Confirmed → v.phase ≢ phase.Fulfilled → refund_quoted cat row now plain v ≡ wrong plain v
 unquoted_is cat row now plain v one two =
-    ap (λ (t : Bool). cond t (outcome (refund_offer (record { row = record { 0 = row }; made = now; fulfilled = is_fulfilled v; amount = refund_at cat v now (is_fulfilled v) })) plain) (wrong plain v)) (not_quotable v one two)
+    ap (λ (t : Bool). cond t (outcome (refund_offer (record { row = row; made = now; fulfilled = is_fulfilled v; amount = refund_at cat v now (is_fulfilled v) })) plain) (wrong plain v)) (not_quotable v one two)
 
-quotes_refund : (cat : CatalogueView) (retailer now : ℕ) (row : RowNo) (old new : DeskView) (reply : Reply) → IsLone cat old → QuotesIt cat cat.rows row.0 retailer now old new reply
+quotes_refund : (cat : CatalogueView) (retailer now : ℕ) (row : RowNo) (old new : DeskView) (reply : Reply) → IsLone cat old → QuotesIt cat cat.rows row retailer now old new reply
     → IsPlainly cat retailer now (command.QuoteRefund (Some row)) old new reply × IsLone cat new
 quotes_refund cat retailer now row old new reply lone (quoted.Done code, (es, (here, (v, saw, is, code_is)), did), inl told) =
-    let has = has_seen cat row.0 retailer v es old new lone saw did in
-    let c = seen_by cat row.0 retailer v (refund_quoted cat row.0 now (plain_of old)) (refund_offer code) old new reply lone has (quoted_is cat row.0 now (plain_of old) v code is code_is) told in
+    let has = has_seen cat row retailer v es old new lone saw did in
+    let c = seen_by cat row retailer v (refund_quoted cat row now (plain_of old)) (refund_offer code) old new reply lone has (quoted_is cat row now (plain_of old) v code is code_is) told in
     (inl c.0, c.1)
 quotes_refund cat retailer now row old new reply lone (quoted.Done code, (es, (here, (v, saw, is, code_is)), did), inr none) =
-    let has = has_seen cat row.0 retailer v es old new lone saw did in
-    (inr (none, ap plain_in has.same), stays_seen cat row.0 retailer v old new lone has)
+    let has = has_seen cat row retailer v es old new lone saw did in
+    (inr (none, ap plain_in has.same), stays_seen cat row retailer v old new lone has)
 quotes_refund cat retailer now row old new reply lone (quoted.Unknown, did, told) =
-    let c = unseen_by cat row.0 retailer (refund_quoted cat row.0 now (plain_of old)) old new reply lone did told in (inl c.0, c.1)
+    let c = unseen_by cat row retailer (refund_quoted cat row now (plain_of old)) old new reply lone did told in (inl c.0, c.1)
 quotes_refund cat retailer now row old new reply lone (quoted.WrongState shown, (es, (here, one, two, (v, saw, is)), did), told) =
-    let has = has_seen cat row.0 retailer v es old new lone saw did in
-    let c = seen_by cat row.0 retailer v (refund_quoted cat row.0 now (plain_of old)) (problem (WrongState v.phase)) old new reply lone has
-    (unquoted_is cat row.0 now (plain_of old) v (λ e. one (sym is ∙ e)) (λ e. two (sym is ∙ e))) (told ∙ ap (λ (p : Phase). problem (WrongState p)) (sym is)) in
+    let has = has_seen cat row retailer v es old new lone saw did in
+    let c = seen_by cat row retailer v (refund_quoted cat row now (plain_of old)) (problem (WrongState v.phase)) old new reply lone has
+    (unquoted_is cat row now (plain_of old) v (λ e. one (sym is ∙ e)) (λ e. two (sym is ∙ e))) (told ∙ ap (λ (p : Phase). problem (WrongState p)) (sym is)) in
     (inl c.0, c.1)
 
 pub quote_refund_plain : (cat : CatalogueView) (retailer now : ℕ) (row : Option RowNo) → AnswersPlainly cat retailer now (command.QuoteRefund row)
@@ -114,12 +113,12 @@ quote_refund_plain cat retailer now (Some row) = λ old new reply lone did. quot
 -- quoting an exchange
 
 abbrev code_back : ExchangeView → ExchangeCode
-code_back x = record { row = record { 0 = x.row }; made = x.made; fulfilled = x.fulfilled; difference = x.difference; offer = code_of x.offer }
+code_back x = record { row = x.row; made = x.made; fulfilled = x.fulfilled; difference = x.difference; offer = code_of x.offer }
 
-abbrev exchange_code : ℕ → ℕ → CatalogueView → RowSeen → OfferCode → Bool → ExchangeCode
-exchange_code row now cat v offer f = record { row = record { 0 = row }; made = now; fulfilled = f; difference = difference_at cat v now f (offer_view offer); offer = offer }
+abbrev exchange_code : RowNo → ℕ → CatalogueView → RowSeen → OfferCode → Bool → ExchangeCode
+exchange_code row now cat v offer f = record { row = row; made = now; fulfilled = f; difference = difference_at cat v now f (offer_view offer); offer = offer }
 
-offered_is : (cat : CatalogueView) (row now : ℕ) (offer : OfferCode) (plain : Plain) (v : RowSeen) (code : ExchangeCode) → v.phase ≡ phase_named code.fulfilled
+offered_is : (cat : CatalogueView) (row : RowNo) (now : ℕ) (offer : OfferCode) (plain : Plain) (v : RowSeen) (code : ExchangeCode) → v.phase ≡ phase_named code.fulfilled
     → exchange_view code ≡ record { row = row; made = now; fulfilled = code.fulfilled; difference = difference_at cat v now code.fulfilled (offer_view offer); offer = offer_view offer }
     → exchange_quoted cat row offer now plain v ≡ outcome (exchange_offer code) plain
 offered_is cat row now offer plain v code is code_is =
@@ -128,28 +127,28 @@ offered_is cat row now offer plain v code is code_is =
     ap (λ (t : Bool). cond t (offers (is_fulfilled v)) (wrong plain v)) (named_quotable v code.fulfilled is)
     ∙ (ap offers (named_fulfilled v code.fulfilled is) ∙ ap (λ (c : ExchangeCode). outcome (exchange_offer c) plain) (sym same))
 
-unoffered_is : (cat : CatalogueView) (row now : ℕ) (offer : OfferCode) (plain : Plain) (v : RowSeen) → v.phase ≢ phase.Confirmed → v.phase ≢ phase.Fulfilled → exchange_quoted cat row offer now plain v ≡ wrong plain v
+unoffered_is : (cat : CatalogueView) (row : RowNo) (now : ℕ) (offer : OfferCode) (plain : Plain) (v : RowSeen) → v.phase ≢ phase.Confirmed → v.phase ≢ phase.Fulfilled → exchange_quoted cat row offer now plain v ≡ wrong plain v
 unoffered_is cat row now offer plain v one two =
     ap (λ (t : Bool). cond t (outcome (exchange_offer (exchange_code row now cat v offer (is_fulfilled v))) plain) (wrong plain v)) (not_quotable v one two)
 
 quotes_exchange : (cat : CatalogueView) (retailer now : ℕ) (row : RowNo) (offer : OfferCode) (old new : DeskView) (reply : Reply) → IsLone cat old
-    → QuotesExchangeOfIt cat cat.rows row.0 retailer (offer_view offer) now old new reply
-    → (((reply ≡ (on_own (plain_of old) row.0 retailer (exchange_quoted cat row.0 offer now (plain_of old))).reply)
-    × (plain_of new ≡ (on_own (plain_of old) row.0 retailer (exchange_quoted cat row.0 offer now (plain_of old))).plain))
+    → QuotesExchangeOfIt cat cat.rows row retailer (offer_view offer) now old new reply
+    → (((reply ≡ (on_own (plain_of old) row retailer (exchange_quoted cat row offer now (plain_of old))).reply)
+    × (plain_of new ≡ (on_own (plain_of old) row retailer (exchange_quoted cat row offer now (plain_of old))).plain))
     ⊎ ((reply ≡ problem NoMemory) × (plain_of new ≡ plain_of old))) × IsLone cat new
 quotes_exchange cat retailer now row offer old new reply lone (offered.Done code, (es, (here, (v, saw, is, code_is)), did), inl told) =
-    let has = has_seen cat row.0 retailer v es old new lone saw did in
-    let c = seen_by cat row.0 retailer v (exchange_quoted cat row.0 offer now (plain_of old)) (exchange_offer code) old new reply lone has (offered_is cat row.0 now offer (plain_of old) v code is code_is) told in
+    let has = has_seen cat row retailer v es old new lone saw did in
+    let c = seen_by cat row retailer v (exchange_quoted cat row offer now (plain_of old)) (exchange_offer code) old new reply lone has (offered_is cat row now offer (plain_of old) v code is code_is) told in
     (inl c.0, c.1)
 quotes_exchange cat retailer now row offer old new reply lone (offered.Done code, (es, (here, (v, saw, is, code_is)), did), inr none) =
-    let has = has_seen cat row.0 retailer v es old new lone saw did in
-    (inr (none, ap plain_in has.same), stays_seen cat row.0 retailer v old new lone has)
+    let has = has_seen cat row retailer v es old new lone saw did in
+    (inr (none, ap plain_in has.same), stays_seen cat row retailer v old new lone has)
 quotes_exchange cat retailer now row offer old new reply lone (offered.Unknown, did, told) =
-    let c = unseen_by cat row.0 retailer (exchange_quoted cat row.0 offer now (plain_of old)) old new reply lone did told in (inl c.0, c.1)
+    let c = unseen_by cat row retailer (exchange_quoted cat row offer now (plain_of old)) old new reply lone did told in (inl c.0, c.1)
 quotes_exchange cat retailer now row offer old new reply lone (offered.WrongState shown, (es, (here, one, two, (v, saw, is)), did), told) =
-    let has = has_seen cat row.0 retailer v es old new lone saw did in
-    let c = seen_by cat row.0 retailer v (exchange_quoted cat row.0 offer now (plain_of old)) (problem (WrongState v.phase)) old new reply lone has
-    (unoffered_is cat row.0 now offer (plain_of old) v (λ e. one (sym is ∙ e)) (λ e. two (sym is ∙ e))) (told ∙ ap (λ (p : Phase). problem (WrongState p)) (sym is)) in
+    let has = has_seen cat row retailer v es old new lone saw did in
+    let c = seen_by cat row retailer v (exchange_quoted cat row offer now (plain_of old)) (problem (WrongState v.phase)) old new reply lone has
+    (unoffered_is cat row now offer (plain_of old) v (λ e. one (sym is ∙ e)) (λ e. two (sym is ∙ e))) (told ∙ ap (λ (p : Phase). problem (WrongState p)) (sym is)) in
     (inl c.0, c.1)
 
 pub quote_exchange_plain : (cat : CatalogueView) (retailer now : ℕ) (row : Option RowNo) (offer : Option OfferCode) → AnswersPlainly cat retailer now (command.QuoteExchange row offer)
@@ -190,34 +189,39 @@ fresh_code true made now none = go (nat_le made now) refl none where
 
 -- accepting a refund
 
-pub entries_split : (g : Layout) (s : State) (d : ℕ) (xs ys : List Step) → IsLegalFrom g s (entries_of d (xs ++ ys)) → IsLegalFrom g s (entries_of d xs ++ entries_of d ys)
-entries_split g s d xs ys = subst (IsLegalFrom g s) (map-append (entry d) xs ys)
+pub sees_stay : (s : State) (d : ℕ) (row : RowNo) (retailer : ℕ) (v : RowSeen) (es : List Step) → SeesOwn row retailer v es → after_steps s d es ≡ s
+sees_stay s d row retailer v es saw = looks_stay s d es (row_looked row (Some v) es saw.1)
 
-pub sees_stay : (s : State) (d row retailer : ℕ) (v : RowSeen) (es : List Step) → SeesOwn row retailer v es → after_steps s d es ≡ s
-sees_stay s d row retailer v es saw = ap (after_steps s d) saw.steps ∙ looks_stay s d (saw_row row v) (row_all_looks row v)
+-- the booking is known
+never_none : (g : Layout) (s : State) (d rows : ℕ) (row : RowNo) (retailer : ℕ) (b : Booking) (es : List Step) → IsWellFormed g s → AreInRange g s → FitWords g → present s row.row ≡ Some b → b.generation ≡ row.generation
+    → is_sealed b.phase ≡ true → word_at b 1 ≡ retailer → row.row < rows → IsLegalFrom g s (entries_of d es) → SeesNone rows row retailer es → ⊥
+never_none g s d rows row retailer b es good ranges fit at same sealed mine below legal (inl (past, none)) = omega (arith, past, below)
+never_none g s d rows row retailer b es good ranges fit at same sealed mine below legal (inr (here, inl looks)) =
+    let no : false ≡ true = sym (none_shown g s d row es looks legal) ∙ (ap is_sealed (phase_seen s row b (row_word s row.row 0) at same refl) ∙ sealed) in cc
+never_none g s d rows row retailer b es good ranges fit at same sealed mine below legal (inr (here, inr (v, other, looks))) =
+    other (ap (λ (x : RowSeen). x.retailer) (seen_again g s d row v.retailer v b es good ranges fit (refl, looks) at legal) ∙ mine)
 
--- the booking's row is known
-pub never_none : (g : Layout) (s : State) (d rows row retailer : ℕ) (b : Booking) (es : List Step) → present s row ≡ Some b → is_sealed b.phase ≡ true → word_at b 1 ≡ retailer → row < rows → IsLegalFrom g s (entries_of d es)
-    → SeesNone rows row retailer es → ⊥
-never_none g s d rows row retailer b es at sealed mine below legal none =
-    never_unknown g s d rows row retailer b (λ p who l. (v : RowSeen) × IsSeen v × (v.phase ≡ p) × (v.retailer ≡ who) × (l ≡ saw_row row v)) es
-    (λ p who l saw. (rest saw.0, saw.4 ∙ (λ i. SawRow row 0 (word_of_phase (saw.2 i)) ∷ SawRow row 1 (saw.3 i) ∷ rest saw.0))) at sealed mine below legal none
-  where
-    rest : RowSeen → List Step
-    rest v = SawRow row 2 v.limit ∷ SawRow row 3 v.total ∷ items_read row v.items ++ saw_end row v.phase v.ended
+-- no turn is lost behind the looks
+sees_lost : (g : Layout) (s : State) (d : ℕ) (code : RefundCode) (retailer : ℕ) (v : RowSeen) (shown : Phase) (front es : List Step) → SeesOwn code.row retailer v front → LosesQuoted code v front shown es
+    → IsLegalFrom g s (entries_of d es) → ⊥
+sees_lost g s d code retailer v shown front es (mine, (seen, (last, kept, first))) (named, back, loses, is) legal =
+    let row = code.row in
+    let all = subst AllLooks first (row_looked row (Some v) front (seen, (last, kept, first))) in
+    never_lost g s d row v.phase shown (saw_words row.row v ++ SawRow row.row 0 last ∷ []) back es all.1 (subst (λ (p : Phase). LosesTurn row p shown back) (sym named) loses)
+    (is ∙ ap (λ (x : List Step). x ++ back) first) legal
 
 by_value : (cat : CatalogueView) (code : RefundCode) (now : ℕ) (plain : Plain) (v : RowSeen) → code.amount ≡ refund_at cat v code.made code.fulfilled → refunded cat code now plain v ≡ refunded_by code now plain v
 by_value cat code now plain v is =
     ap (λ (t : Bool). cond t (refunded_by code now plain v) (refusing QuoteWrong plain)) (eq-eqb code.amount (refund_at cat v code.made code.fulfilled) is)
 
 paid : (code : RefundCode) (now : ℕ) (plain : Plain) (v : RowSeen) → v.phase ≡ phase_named code.fulfilled
-    → refunded_by code now plain v ≡ changed_to plain code.row.0 (at_end kind.Refund (end_of (aim.Refund now code.amount)) v)
+    → refunded_by code now plain v ≡ changed_to plain code.row (at_end kind.Refund (end_of (aim.Refund now code.amount)) v)
 paid code now plain v is =
-    ap (λ (t : Bool). cond t (changed_to plain code.row.0 (at_end kind.Refund (end_of (aim.Refund now code.amount)) v)) (wrong plain v)) (is_in_yes v.phase (phase_named code.fulfilled) is)
+    ap (λ (t : Bool). cond t (changed_to plain code.row (at_end kind.Refund (end_of (aim.Refund now code.amount)) v)) (wrong plain v)) (is_in_yes v.phase (phase_named code.fulfilled) is)
 
 unpaid : (code : RefundCode) (now : ℕ) (plain : Plain) (v : RowSeen) → v.phase ≢ phase_named code.fulfilled → refunded_by code now plain v ≡ wrong plain v
 unpaid code now plain v ne =
-    ap (λ (t : Bool). cond t (changed_to plain code.row.0 (at_end kind.Refund (end_of (aim.Refund now code.amount)) v)) (wrong plain v)) (is_in_no v.phase (phase_named code.fulfilled) ne)
+    ap (λ (t : Bool). cond t (changed_to plain code.row (at_end kind.Refund (end_of (aim.Refund now code.amount)) v)) (wrong plain v)) (is_in_no v.phase (phase_named code.fulfilled) ne)
 
 not_worth : (cat : CatalogueView) (code : RefundCode) (now : ℕ) (plain : Plain) (v : RowSeen) → code.amount ≢ refund_at cat v code.made code.fulfilled → refunded cat code now plain v ≡ refusing QuoteWrong plain
 not_worth cat code now plain v ne =
@@ -228,36 +232,32 @@ unchanged : (o : Outcome) (s t : State) (r reply : Reply) → IsSettled s → t 
 unchanged o s t r reply settled same is told =
     subst (λ (x : Outcome). ComesTo x t reply) (sym is) (record { reply_is = told; plain_is = ap plain_in same; settled = subst IsSettled (sym same) settled })
 
-pub lost_not : (g : Layout) (s : State) (d row : ℕ) (b : Booking) (wanted shown : Phase) (back : List Step) → present s row ≡ Some b → b.phase ≡ wanted → shown ≢ wanted → back ≡ LostTurn row wanted shown ∷ []
-    → IsLegalFrom g s (entries_of d back) → ⊥
-lost_not g s d row b wanted shown back at is ne lost legal =
-    let l = subst (λ (x : List Step). IsLegalFrom g s (entries_of d x)) lost legal in
-    ne (l.0.1 ∙ (ap (λ (o : Option Booking). option_map_or (λ (x : Booking). x.phase) o phase.Free) at ∙ is))
-
 refund_comes : (cat : CatalogueView) (g : Layout) (s : State) (d retailer : ℕ) (code : RefundCode) (now : ℕ) (b : Booking) (a : Refunded) (es : List Step) → IsWellFormed g s → AreInRange g s → FitWords g
-    → is_stale code.made now ≡ false → present s code.row.0 ≡ Some b → is_sealed b.phase ≡ true → word_at b 1 ≡ retailer → code.row.0 < cat.rows → IsSettled s → IsLegalFrom g s (entries_of d es)
+    → is_stale code.made now ≡ false → present s code.row.row ≡ Some b → b.generation ≡ code.row.generation → is_sealed b.phase ≡ true → word_at b 1 ≡ retailer → code.row.row < cat.rows → IsSettled s → IsLegalFrom g s (entries_of d es)
     → AcceptsRefund cat cat.rows retailer code now a es → ComesTo (refunded cat code now (plain_in s) (view_of b)) (after_steps s d es) (refund_reply code now (view_of b) a)
-refund_comes cat g s d retailer code now b (came.Done amount) es good ranges fit fresh at sealed mine below settled legal (same, (v, front, items, right, is_named, few, is)) =
-    let row = code.row.0 in
+refund_comes cat g s d retailer code now b (came.Done amount) es good ranges fit fresh at generation sealed mine below settled legal (same, (v, front, items, right, is_named, few, is)) =
+    let row = code.row in
     let w = view_of b in
     let end = end_of (aim.Refund now code.amount) in
-    let steps = ends_as row (phase_named code.fulfilled) kind.Refund end items in
-    let both = entries_split g s d front steps (subst (λ (x : List Step). IsLegalFrom g s (entries_of d x)) is legal) in
-    let seen = seen_again g s d row retailer v b front good ranges fit right.sees at (legal_left g s (entries_of d front) (entries_of d steps) both) in
+    let steps = ends_as row.row (phase_named code.fulfilled) kind.Refund end items in
+    let both = legal_parts g s d front steps (subst (λ (x : List Step). IsLegalFrom g s (entries_of d x)) is legal) in
+    let seen = seen_again g s d row retailer v b front good ranges fit right.sees at both.0 in
     let worth : code.amount ≡ refund_at cat w code.made code.fulfilled = right.amount ∙ ap (λ (x : RowSeen). refund_at cat x code.made code.fulfilled) seen in
     let phase_is : w.phase ≡ phase_named code.fulfilled = sym (ap (λ (x : RowSeen). x.phase) seen) ∙ is_named in
-    let ended = ends_leave d row (phase_named code.fulfilled) kind.Refund end items b in
-    let done = row_changed g s d row b steps (at_end kind.Refund end w) good at sealed settled (ends_on row (phase_named code.fulfilled) kind.Refund end items)
-    ended.row (record { sealed = ap is_sealed ended.phase; still = ap is_owners ended.phase }) ended.view in
+    let ended = ends_leave d row.row (phase_named code.fulfilled) kind.Refund end items b in
+    let done = row_changed g s d row b steps (at_end kind.Refund end w) good at generation sealed settled (ends_on row.row (phase_named code.fulfilled) kind.Refund end items)
+    (record { sealed = ap is_sealed ended.phase; still = ap is_owners ended.phase }) ended.view in
     let state : after_steps s d es ≡ after_steps s d steps =
     ap (after_steps s d) is ∙ (after-append s d front steps ∙ ap (λ (u : State). after_steps u d steps) (sees_stay s d row retailer v front right.sees)) in
     subst (λ (t : State). ComesTo (refunded cat code now (plain_in s) w) t (booking row (at_end kind.Refund end w))) (sym state)
     (subst (λ (o : Outcome). ComesTo o (after_steps s d steps) (booking row (at_end kind.Refund end w))) (sym (by_value cat code now (plain_in s) w worth ∙ paid code now (plain_in s) w phase_is))
     (record { reply_is = refl; plain_is = done.0; settled = done.1 }))
-refund_comes cat g s d retailer code now b came.Unknown es good ranges fit fresh at sealed mine below settled legal (fine, none) =
-    absurd (never_none g s d cat.rows code.row.0 retailer b es at sealed mine below legal none)
-refund_comes cat g s d retailer code now b (came.WrongState shown) es good ranges fit fresh at sealed mine below settled legal (v, front, right, inl (phase_is, ne, is)) =
-    let row = code.row.0 in
+refund_comes cat g s d retailer code now b came.Unknown es good ranges fit fresh at generation sealed mine below settled legal (inl (fine, none)) =
+    absurd (never_none g s d cat.rows code.row retailer b es good ranges fit at generation sealed mine below legal none)
+refund_comes cat g s d retailer code now b came.Unknown es good ranges fit fresh at generation sealed mine below settled legal (inr (v, front, right, loses)) =
+    absurd (sees_lost g s d code retailer v phase.Free front es right.sees loses legal)
+refund_comes cat g s d retailer code now b (came.WrongState shown) es good ranges fit fresh at generation sealed mine below settled legal (v, front, right, inl (phase_is, ne, is)) =
+    let row = code.row in
     let w = view_of b in
     let seen = seen_again g s d row retailer v b front good ranges fit right.sees at (subst (λ (x : List Step). IsLegalFrom g s (entries_of d x)) is legal) in
     let worth : code.amount ≡ refund_at cat w code.made code.fulfilled = right.amount ∙ ap (λ (x : RowSeen). refund_at cat x code.made code.fulfilled) seen in
@@ -266,28 +266,24 @@ refund_comes cat g s d retailer code now b (came.WrongState shown) es good range
     (ap (after_steps s d) is ∙ sees_stay s d row retailer v front right.sees)
     (by_value cat code now (plain_in s) w worth ∙ unpaid code now (plain_in s) w (λ e. ne (sym here ∙ e)))
     (ap (λ (p : Phase). problem (WrongState p)) (sym here))
-refund_comes cat g s d retailer code now b (came.WrongState shown) es good ranges fit fresh at sealed mine below settled legal (v, front, right, inr (phase_is, back, lost, is)) =
-    let row = code.row.0 in
-    let both = entries_split g s d front back (subst (λ (x : List Step). IsLegalFrom g s (entries_of d x)) is legal) in
-    let seen = seen_again g s d row retailer v b front good ranges fit right.sees at (legal_left g s (entries_of d front) (entries_of d back) both) in
-    let last = subst (λ (u : State). IsLegalFrom g u (entries_of d back)) (sees_stay s d row retailer v front right.sees) (legal_right g s (entries_of d front) (entries_of d back) both) in
-    absurd (lost_not g s d row b (phase_named code.fulfilled) shown back at (sym (ap (λ (x : RowSeen). x.phase) seen) ∙ phase_is) lost.0 lost.1 last)
-refund_comes cat g s d retailer code now b (came.QuoteStale made then) es good ranges fit fresh at sealed mine below settled legal (stale, one, two, is) =
+refund_comes cat g s d retailer code now b (came.WrongState shown) es good ranges fit fresh at generation sealed mine below settled legal (v, front, right, inr (some, loses)) =
+    absurd (sees_lost g s d code retailer v shown front es right.sees loses legal)
+refund_comes cat g s d retailer code now b (came.QuoteStale made then) es good ranges fit fresh at generation sealed mine below settled legal (stale, one, two, is) =
     absurd (let no : false ≡ true = sym fresh ∙ stale in cc)
-refund_comes cat g s d retailer code now b came.QuoteWrong es good ranges fit fresh at sealed mine below settled legal (fine, here, (v, saw, ne)) =
-    let row = code.row.0 in
+refund_comes cat g s d retailer code now b came.QuoteWrong es good ranges fit fresh at generation sealed mine below settled legal (fine, here, (v, saw, ne)) =
+    let row = code.row in
     let w = view_of b in
     let seen = seen_again g s d row retailer v b es good ranges fit saw at legal in
     unchanged (refunded cat code now (plain_in s) w) s (after_steps s d es) (problem QuoteWrong) (problem QuoteWrong) settled (sees_stay s d row retailer v es saw)
     (not_worth cat code now (plain_in s) w (λ e. ne (e ∙ ap (λ (x : RowSeen). refund_at cat x code.made code.fulfilled) (sym seen)))) refl
 
-refund_on : (cat : CatalogueView) (retailer : ℕ) (code : RefundCode) (now : ℕ) → is_stale code.made now ≡ false → ComesOn cat.rows code.row.0 retailer (RefundsIt cat cat.rows retailer code now) (refunded cat code now)
-refund_on cat retailer code now fresh mid new b reply alone legal at sealed mine below settled fit (a, (es, did, shape), told) =
+refund_on : (cat : CatalogueView) (retailer : ℕ) (code : RefundCode) (now : ℕ) → is_stale code.made now ≡ false → ComesOn cat.rows code.row retailer (RefundsIt cat cat.rows retailer code now) (refunded cat code now)
+refund_on cat retailer code now fresh mid new b reply alone legal at generation sealed mine below settled fit (a, (es, did, shape), told) =
     let f = shape_follows mid new es alone shape in
     let s = state_seen mid in (
       subst (λ (r : Reply). ComesTo (refunded cat code now (plain_in s) (view_of b)) (state_seen new) r) (sym told)
           (subst (λ (t : State). ComesTo (refunded cat code now (plain_in s) (view_of b)) t (refund_reply code now (view_of b) a)) (sym f.state)
-          (refund_comes cat mid.layout s mid.number retailer code now b a es (is_sound mid.layout mid.seen legal) (ranges_all mid.layout mid.seen legal) fit fresh at sealed mine below settled f.legal did)),
+          (refund_comes cat mid.layout s mid.number retailer code now b a es (is_sound mid.layout mid.seen legal) (ranges_all mid.layout mid.seen legal) fit fresh at generation sealed mine below settled f.legal did)),
       stays_by mid new es alone shape,
     )
 
@@ -297,10 +293,10 @@ accept_refund_plain cat retailer now row (Some code) = go (command_fault cat now
   go : (fault : Option Problem) → command_fault cat now (command.AcceptRefund row (Some code)) ≡ fault → AnswersPlainly cat retailer now (command.AcceptRefund row (Some code))
   go (Some p) is = refused_plain cat retailer now (command.AcceptRefund row (Some code)) p is
   go None is = λ old new reply lone did.
-      let did_it : OnBooking cat.rows code.row.0 retailer (RefundsIt cat cat.rows retailer code now) old new reply =
+      let did_it : OnBooking cat.rows code.row retailer (RefundsIt cat cat.rows retailer code now) old new reply =
       subst (λ (f : Option Problem). AnswersBy cat retailer now (command.AcceptRefund row (Some code)) f old new reply) is did in
-      let came = to_plainly cat retailer now (on_own (plain_of old) code.row.0 retailer (refunded cat code now (plain_of old))) old new reply
-      (booking_comes cat code.row.0 retailer (RefundsIt cat cat.rows retailer code now) (refunded cat code now) old new reply lone (refund_on cat retailer code now (fresh_code (is_of_row row code.row) code.made now is)) did_it) in (
+      let came = to_plainly cat retailer now (on_own (plain_of old) code.row retailer (refunded cat code now (plain_of old))) old new reply
+      (booking_comes cat code.row retailer (RefundsIt cat cat.rows retailer code now) (refunded cat code now) old new reply lone (refund_on cat retailer code now (fresh_code (is_of_row row code.row) code.made now is)) did_it) in (
         subst (λ (f : Option Problem). (let it = outcome_by cat retailer now (command.AcceptRefund row (Some code)) (plain_of old) f in (reply ≡ it.reply) × (plain_of new ≡ it.plain))
             ⊎ ((reply ≡ problem NoMemory) × (plain_of new ≡ plain_of old))) (sym is) came.0,
         came.1,

@@ -1,6 +1,7 @@
 -- The usual life of a booking at a plain host, worked: booked, confirmed, collected; and what is swept, and refused.
-use Rattle.std.specs.Prelude.{◌≡◌, refl, ℕ, pos, ◌+◌, true, List, [], ◌∷◌, ◌++◌, Some, None, codes}
+use Rattle.std.specs.Prelude.{◌≡◌, refl, ℕ, pos, ◌+◌, Bool, true, false, List, [], ◌∷◌, ◌++◌, Some, None, codes}
 use Rattle.leg_masks.specs.Interval.{Interval, PlacedSpan as Item}
+use Rattle.rail_ids.specs.declared.RowNo.{RowNo}
 use Rattle.history_model.specs.declared.phase.Phase.TheVariants as phase
 use Rattle.history_model.specs.declared.phase.EndKind.TheVariants as kind
 use Rattle.booking_rows.specs.Views.{RowSeen}
@@ -71,6 +72,12 @@ segment run from to = record { run = record { 0 = run }; span = span from to }
 abbrev family : OfferView
 family = record { made = six; adults = 2; children = 1; class = Second; wanted = 1; segments = segment 0 0 2 ∷ segment 1 0 1 ∷ [] }
 
+abbrev row_at : ℕ → ℕ → RowNo
+row_at row generation = record { row = row; generation = generation }
+
+abbrev row0 : RowNo
+row0 = row_at 0 0
+
 abbrev empty : Plain
 empty = record { bookings = []; kept = None }
 
@@ -89,47 +96,47 @@ family_view = record {
 
 -- five minutes after six
 abbrev after_booking : Outcome
-after_booking = booked (example 2) 1 (six + 300) family empty
+after_booking = booked (example 2) 1 (six + 300) family false empty
 
-is_booked : after_booking.reply ≡ created 0 family_view
+is_booked : after_booking.reply ≡ created row0 family_view
 is_booked = refl
 
 abbrev after_confirming : Outcome
-after_confirming = outcome_of (example 2) 1 (six + 360) (command.Confirm (Some (record { 0 = 0 }))) after_booking.plain
+after_confirming = outcome_of (example 2) 1 (six + 360) (command.Confirm (Some row0)) after_booking.plain
 
-is_confirmed : after_confirming.reply ≡ booking 0 (record family_view { phase = phase.Confirmed })
+is_confirmed : after_confirming.reply ≡ booking row0 (record family_view { phase = phase.Confirmed })
 is_confirmed = refl
 
 abbrev after_collecting : Outcome
-after_collecting = outcome_of (example 2) 1 (six + 420) (command.Fulfil (Some (record { 0 = 0 }))) after_confirming.plain
+after_collecting = outcome_of (example 2) 1 (six + 420) (command.Fulfil (Some row0)) after_confirming.plain
 
-is_collected : after_collecting.reply ≡ booking 0 (record family_view { phase = phase.Fulfilled })
+is_collected : after_collecting.reply ≡ booking row0 (record family_view { phase = phase.Fulfilled })
 is_collected = refl
 
 -- another family finds one window place too few, and keeps row 1
 abbrev after_second : Outcome
-after_second = booked (example 2) 2 (six + 300) family after_booking.plain
+after_second = booked (example 2) 2 (six + 300) family false after_booking.plain
 
-none_left : (after_second.reply ≡ problem NoPlace) × (after_second.plain.kept ≡ Some 1)
+none_left : (after_second.reply ≡ problem NoPlace) × (after_second.plain.kept ≡ Some (row_at 1 0))
 none_left = (refl, refl)
 
 -- with one row there is no second booking
-is_full : (booked (example 1) 2 (six + 300) family (booked (example 1) 1 (six + 300) family empty).plain).reply ≡ problem RowsFull
+is_full : (booked (example 1) 2 (six + 300) family false (booked (example 1) 1 (six + 300) family false empty).plain).reply ≡ problem RowsFull
 is_full = refl
 
 -- at the limit itself it is confirmed, a second later it is too late
-at_limit : (outcome_of (example 2) 1 (six + 1200) (command.Confirm (Some (record { 0 = 0 }))) after_booking.plain).reply
-    ≡ booking 0 (record family_view { phase = phase.Confirmed })
+at_limit : (outcome_of (example 2) 1 (six + 1200) (command.Confirm (Some row0)) after_booking.plain).reply
+    ≡ booking row0 (record family_view { phase = phase.Confirmed })
 at_limit = refl
 
-past_limit : (outcome_of (example 2) 1 (six + 1201) (command.Confirm (Some (record { 0 = 0 }))) after_booking.plain).reply ≡ problem (TooLate (six + 1200) (six + 1201))
+past_limit : (outcome_of (example 2) 1 (six + 1201) (command.Confirm (Some row0)) after_booking.plain).reply ≡ problem (TooLate (six + 1200) (six + 1201))
 past_limit = refl
 
 -- a confirmed booking isn't released; another retailer's isn't known
-is_wrong : (outcome_of (example 2) 1 (six + 420) (command.Release (Some (record { 0 = 0 }))) after_confirming.plain).reply ≡ problem (WrongState phase.Confirmed)
+is_wrong : (outcome_of (example 2) 1 (six + 420) (command.Release (Some row0)) after_confirming.plain).reply ≡ problem (WrongState phase.Confirmed)
 is_wrong = refl
 
-is_unknown : (outcome_of (example 2) 2 (six + 420) (command.Show (Some (record { 0 = 0 }))) after_confirming.plain).reply ≡ problem UnknownBooking
+is_unknown : (outcome_of (example 2) 2 (six + 420) (command.Show (Some row0)) after_confirming.plain).reply ≡ problem UnknownBooking
 is_unknown = refl
 
 -- a sweep waits at the limit, and expires the booking after it; its places are free again
@@ -142,8 +149,8 @@ after_sweep = outcome_of (example 2) 1 (six + 1201) command.Sweep after_booking.
 expires : after_sweep.reply ≡ swept (record { expired = 1; lost = 0; waiting = 0 })
 expires = refl
 
-is_expired : (outcome_of (example 2) 1 (six + 1300) (command.Show (Some (record { 0 = 0 }))) after_sweep.plain).reply
-    ≡ booking 0 (record family_view { phase = phase.Ended kind.Expire; ended = Some (end_at (six + 1201) (pos 0) 0) })
+is_expired : (outcome_of (example 2) 1 (six + 1300) (command.Show (Some row0)) after_sweep.plain).reply
+    ≡ booking row0 (record family_view { phase = phase.Ended kind.Expire; ended = Some (end_at (six + 1201) (pos 0) 0) })
 is_expired = refl
 
 frees : (outcome_of (example 2) 1 (six + 1300) (command.Places (segment 1 0 1)) after_sweep.plain).reply
@@ -157,9 +164,72 @@ over_the_border adults from = record { made = six; adults = adults; children = 0
 abbrev pair : OfferView
 pair = over_the_border 2 62
 
-has_two_items : chosen (example 2) [] pair pair.segments ≡ Some (item 12 62 63 ∷ item 12 63 64 ∷ item 13 62 63 ∷ item 13 63 64 ∷ [])
+has_two_items : chosen (example 2) [] pair false pair.segments ≡ Some (item 12 62 63 ∷ item 12 63 64 ∷ item 13 62 63 ∷ item 13 63 64 ∷ [])
 has_two_items = refl
 
-finds_whole_spans : chosen (example 2) (booked (example 2) 1 (six + 300) (over_the_border 1 63) empty).plain.bookings pair pair.segments
+finds_whole_spans : chosen (example 2) (booked (example 2) 1 (six + 300) (over_the_border 1 63) false empty).plain.bookings pair false pair.segments
     ≡ Some (item 13 62 63 ∷ item 13 63 64 ∷ item 14 62 63 ∷ item 14 63 64 ∷ [])
 finds_whole_spans = refl
+
+-- with one row a released booking gives way to the next generation, and is then known no more
+abbrev after_release : Outcome
+after_release = outcome_of (example 1) 1 (six + 310) (command.Release (Some row0)) (booked (example 1) 1 (six + 300) family false empty).plain
+
+abbrev after_again : Outcome
+after_again = booked (example 1) 1 (six + 320) family false after_release.plain
+
+is_again : (after_again.reply ≡ created (row_at 0 1) (record family_view { limit = six + 1220 })) × (after_again.plain.kept ≡ None)
+is_again = (refl, refl)
+
+is_gone : (outcome_of (example 1) 1 (six + 330) (command.Show (Some row0)) after_again.plain).reply ≡ problem UnknownBooking
+is_gone = refl
+
+is_full_again : (booked (example 1) 1 (six + 330) family false after_again.plain).reply ≡ problem RowsFull
+is_full_again = refl
+
+-- where no place was found it has given way in vain: the row is kept with the next generation
+abbrev too_many : OfferView
+too_many = record family { adults = 5 }
+
+abbrev after_vain : Outcome
+after_vain = booked (example 1) 1 (six + 320) too_many false after_release.plain
+
+in_vain : (after_vain.reply ≡ problem NoPlace) × (after_vain.plain ≡ record { bookings = []; kept = Some (row_at 0 1) })
+in_vain = (refl, refl)
+
+is_next : (booked (example 1) 1 (six + 330) family false after_vain.plain).reply ≡ created (row_at 0 1) (record family_view { limit = six + 1230 })
+is_next = refl
+
+-- from Basel to Bern one passenger by a window, one by the aisle; then parties
+abbrev reserving : ℕ → ℕ → Bool → Plain → Outcome
+reserving count wanted together plain = outcome_of (example 9) 1 six (command.Reserve (segment 0 0 2) Second count wanted together) plain
+
+abbrev party_view : ℕ → List Item → RowSeen
+party_view total items = record { phase = phase.Prebooked; retailer = 1; limit = six + 900; total = total; items = items; ended = None }
+
+abbrev after_two : Outcome
+after_two = reserving 1 2 false (reserving 1 1 false empty).plain
+
+abbrev after_three : Outcome
+after_three = reserving 3 0 true after_two.plain
+
+sit_apart : (reserving 1 1 false empty).reply ≡ created row0 (party_view 1100 (item 4 0 2 ∷ []))
+sit_apart = refl
+
+sits_by_aisle : after_two.reply ≡ created (row_at 1 0) (party_view 1100 (item 8 0 2 ∷ []))
+sits_by_aisle = refl
+
+-- the first three neighbours that are free, and the next
+sit_together : after_three.reply ≡ created (row_at 2 0) (party_view 3300 (item 5 0 2 ∷ item 6 0 2 ∷ item 7 0 2 ∷ []))
+sit_together = refl
+
+sit_behind : (reserving 3 0 true after_three.plain).reply ≡ created (row_at 3 0) (party_view 3300 (item 9 0 2 ∷ item 10 0 2 ∷ item 11 0 2 ∷ []))
+sit_behind = refl
+
+-- for four there is no such stretch: they get the first free places
+sit_where_free : (reserving 4 0 true after_two.plain).reply ≡ created (row_at 2 0) (party_view 4400 (item 5 0 2 ∷ item 6 0 2 ∷ item 7 0 2 ∷ item 9 0 2 ∷ []))
+sit_where_free = refl
+
+-- and seven have too few
+too_few : (reserving 7 0 true after_two.plain).reply ≡ problem NoPlace
+too_few = refl

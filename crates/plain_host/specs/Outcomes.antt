@@ -1,7 +1,9 @@
 -- What a host of one thread answers to each command, and leaves.
-use Rattle.std.specs.Prelude.{ℕ, ◌+◌, ◌==◌, ℤ, pos, negsuc, Bool, false, ◌&&◌, ◌||◌, nat_lt, nat_le, List, map, count_by, Option, Some, None, if◌then◌else◌}
+use Rattle.std.specs.Prelude.{ℕ, ◌==◌, ℤ, pos, negsuc, Bool, false, ◌&&◌, ◌||◌, nat_lt, nat_le, List, map, count_by, Option, Some, None, if◌then◌else◌}
 use Rattle.leg_masks.specs.Interval.{PlacedSpan as Item}
 use Rattle.rail_ids.specs.declared.PlaceNo.{PlaceNo}
+use Rattle.rail_ids.specs.declared.RowNo.{RowNo}
+use Rattle.history_model.specs.Booking.{successor_word}
 use Rattle.history_model.specs.declared.phase.Phase.TheVariants as phase
 use Rattle.history_model.specs.declared.phase.EndKind.TheVariants as kind
 use Rattle.booking_rows.specs.Views.{RowSeen}
@@ -28,33 +30,34 @@ use Rattle.booking_service.specs.Deciding.{in_phase, at_end}
 use Rattle.reservation_service.specs.Reserving.{reserved, detail_of, made_view}
 use Rattle.search_service.specs.Searching.{numbers_on}
 use Rattle.service_rules.specs.Checks.{command_fault}
-use Rattle.plain_host.specs.Plain.{Standing, Plain, Outcome, outcome, is_free, chosen, row_for, own_view, is_in, with_view, keeping, with_new}
+use Rattle.plain_host.specs.Plain.{Standing, Plain, Outcome, outcome, is_free, chosen, Choice, choice_for, keeping, own_view, is_in, with_view, with_new}
 
 abbrev pub refusing : Problem → Plain → Outcome
 refusing p plain = outcome (problem p) plain
 
 -- booking
 
--- what is made in this row of the places chosen; without them the row is kept
-abbrev pub placed : (ℕ → List Item → Outcome) → Plain → ℕ → Option (List Item) → Outcome
-placed makes plain row None = refusing NoPlace (keeping plain row)
-placed makes plain row (Some items) = makes row items
+-- what is made in the row of the places found; without them the row is kept
+abbrev pub placed : (Plain → RowNo → List Item → Outcome) → Choice → Option (List Item) → Outcome
+placed makes c None = refusing NoPlace (keeping c)
+placed makes c (Some items) = makes (keeping c) c.row items
 
-abbrev pub placed_in : CatalogueView → OfferView → (ℕ → List Item → Outcome) → Plain → Option ℕ → Outcome
-placed_in cat o makes plain None = refusing RowsFull plain
-placed_in cat o makes plain (Some row) = placed makes plain row (chosen cat plain.bookings o o.segments)
+abbrev pub placed_in : CatalogueView → OfferView → Bool → (Plain → RowNo → List Item → Outcome) → Plain → Option Choice
+    → Outcome
+placed_in cat o together makes plain None = refusing RowsFull plain
+placed_in cat o together makes plain (Some c) = placed makes c (chosen cat c.left o together o.segments)
 
 -- what is made in the row of a new booking, of the offer's places
-abbrev pub with_places_for : CatalogueView → OfferView → (ℕ → List Item → Outcome) → Plain → Outcome
-with_places_for cat o makes plain = placed_in cat o makes plain (row_for cat.rows plain)
+abbrev pub with_places_for : CatalogueView → OfferView → Bool → (Plain → RowNo → List Item → Outcome) → Plain → Outcome
+with_places_for cat o together makes plain = placed_in cat o together makes plain (choice_for cat.rows plain)
 
-abbrev pub prebooked : CatalogueView → ℕ → ℕ → OfferView → Plain → ℕ → List Item → Outcome
+abbrev pub prebooked : CatalogueView → ℕ → ℕ → OfferView → Plain → RowNo → List Item → Outcome
 prebooked cat retailer now o plain row items =
     let v = made_view phase.Prebooked (detail_of cat o retailer now) items in
     outcome (created row v) (with_new plain row v)
 
-abbrev pub booked : CatalogueView → ℕ → ℕ → OfferView → Plain → Outcome
-booked cat retailer now o plain = with_places_for cat o (prebooked cat retailer now o plain) plain
+abbrev pub booked : CatalogueView → ℕ → ℕ → OfferView → Bool → Plain → Outcome
+booked cat retailer now o together plain = with_places_for cat o together (prebooked cat retailer now o) plain
 
 -- what is done with a retailer's booking
 
@@ -62,30 +65,30 @@ abbrev pub on_view : (RowSeen → Outcome) → Plain → Option RowSeen → Outc
 on_view does plain None = refusing UnknownBooking plain
 on_view does plain (Some v) = does v
 
-abbrev pub on_own : Plain → ℕ → ℕ → (RowSeen → Outcome) → Outcome
+abbrev pub on_own : Plain → RowNo → ℕ → (RowSeen → Outcome) → Outcome
 on_own plain row retailer does = on_view does plain (own_view plain row retailer)
 
-abbrev pub shown : ℕ → Plain → RowSeen → Outcome
+abbrev pub shown : RowNo → Plain → RowSeen → Outcome
 shown row plain v = outcome (booking row v) plain
 
-abbrev pub changed_to : Plain → ℕ → RowSeen → Outcome
+abbrev pub changed_to : Plain → RowNo → RowSeen → Outcome
 changed_to plain row v = outcome (booking row v) (with_view plain row v)
 
 abbrev pub wrong : Plain → RowSeen → Outcome
 wrong plain v = refusing (WrongState v.phase) plain
 
 -- before the limit, and at it
-abbrev pub confirmed_by : ℕ → ℕ → Plain → RowSeen → Outcome
+abbrev pub confirmed_by : RowNo → ℕ → Plain → RowSeen → Outcome
 confirmed_by row now plain v =
     if nat_lt v.limit now then refusing (TooLate v.limit now) plain else changed_to plain row (in_phase phase.Confirmed v)
 
-abbrev pub confirmed : ℕ → ℕ → Plain → RowSeen → Outcome
+abbrev pub confirmed : RowNo → ℕ → Plain → RowSeen → Outcome
 confirmed row now plain v = if is_in phase.Prebooked v then confirmed_by row now plain v else wrong plain v
 
-abbrev pub fulfilled : ℕ → Plain → RowSeen → Outcome
+abbrev pub fulfilled : RowNo → Plain → RowSeen → Outcome
 fulfilled row plain v = if is_in phase.Confirmed v then changed_to plain row (in_phase phase.Fulfilled v) else wrong plain v
 
-abbrev pub released : ℕ → ℕ → Plain → RowSeen → Outcome
+abbrev pub released : RowNo → ℕ → Plain → RowSeen → Outcome
 released row now plain v =
     if is_in phase.Prebooked v then changed_to plain row (at_end kind.Release (end_of (aim.Release now)) v) else wrong plain v
 
@@ -97,17 +100,17 @@ is_quotable v = is_in phase.Confirmed v || is_in phase.Fulfilled v
 abbrev pub is_fulfilled : RowSeen → Bool
 is_fulfilled v = is_in phase.Fulfilled v
 
-abbrev pub refund_quoted : CatalogueView → ℕ → ℕ → Plain → RowSeen → Outcome
+abbrev pub refund_quoted : CatalogueView → RowNo → ℕ → Plain → RowSeen → Outcome
 refund_quoted cat row now plain v =
     if is_quotable v
-    then outcome (refund_offer (record { row = record { 0 = row }; made = now; fulfilled = is_fulfilled v; amount = refund_at cat v now (is_fulfilled v) })) plain
+    then outcome (refund_offer (record { row = row; made = now; fulfilled = is_fulfilled v; amount = refund_at cat v now (is_fulfilled v) })) plain
     else wrong plain v
 
 -- in the phase that the quote names
 abbrev pub refunded_by : RefundCode → ℕ → Plain → RowSeen → Outcome
 refunded_by code now plain v =
     if is_in (phase_named code.fulfilled) v
-    then changed_to plain code.row.0 (at_end kind.Refund (end_of (aim.Refund now code.amount)) v)
+    then changed_to plain code.row (at_end kind.Refund (end_of (aim.Refund now code.amount)) v)
     else wrong plain v
 
 abbrev pub refunded : CatalogueView → RefundCode → ℕ → Plain → RowSeen → Outcome
@@ -116,24 +119,24 @@ refunded cat code now plain v =
 
 -- exchanges
 
-abbrev pub exchange_quoted : CatalogueView → ℕ → OfferCode → ℕ → Plain → RowSeen → Outcome
+abbrev pub exchange_quoted : CatalogueView → RowNo → OfferCode → ℕ → Plain → RowSeen → Outcome
 exchange_quoted cat row offer now plain v =
     if is_quotable v
-    then outcome (exchange_offer (record { row = record { 0 = row }; made = now; fulfilled = is_fulfilled v; difference = difference_at cat v now (is_fulfilled v) (offer_view offer); offer = offer })) plain
+    then outcome (exchange_offer (record { row = row; made = now; fulfilled = is_fulfilled v; difference = difference_at cat v now (is_fulfilled v) (offer_view offer); offer = offer })) plain
     else wrong plain v
 
 -- the old booking ends, and a new one stands in this row
-abbrev pub exchanged_for : CatalogueView → ExchangeView → ℕ → ℕ → Plain → RowSeen → ℕ → List Item → Outcome
-exchanged_for cat x retailer now plain v row items =
+abbrev pub exchanged_for : CatalogueView → ExchangeView → ℕ → ℕ → RowSeen → Plain → RowNo → List Item → Outcome
+exchanged_for cat x retailer now v plain row items =
     let new = made_view phase.Confirmed (detail_of cat x.offer retailer now) items in
-    let old = at_end kind.Exchange (end_at now x.difference (row + 1)) v in
+    let old = at_end kind.Exchange (end_at now x.difference (successor_word row.row row.generation)) v in
     outcome (exchanged row new x.difference x.row) (with_new (with_view plain x.row old) row new)
 
 -- the places of the new booking are chosen while the old one has its own
 abbrev pub exchanged_by : CatalogueView → ExchangeView → ℕ → ℕ → Plain → RowSeen → Outcome
 exchanged_by cat x retailer now plain v =
     if is_in (phase_named x.fulfilled) v
-    then with_places_for cat x.offer (exchanged_for cat x retailer now plain v) plain
+    then with_places_for cat x.offer false (exchanged_for cat x retailer now v) plain
     else wrong plain v
 
 abbrev pub is_same : ℤ → ℤ → Bool
@@ -187,27 +190,29 @@ listed cat plain s = outcome (place_list s.run.0 (map (λ (p : PlaceNo). is_free
 abbrev pub performed : CatalogueView → ℕ → ℕ → Command → Plain → Outcome
 performed cat retailer now (command.Offers trip adults children class wanted) plain =
     outcome (offer_list (offered cat plain (record { trip = trip; adults = adults; children = children; class = class; wanted = wanted }) now)) plain
-performed cat retailer now (command.Book None) plain = refusing UnknownOffer plain
-performed cat retailer now (command.Book (Some code)) plain = booked cat retailer now (offer_view code) plain
-performed cat retailer now (command.Reserve segment class count wanted) plain = booked cat retailer now (reserved segment class count wanted now) plain
+performed cat retailer now (command.Book None together) plain = refusing UnknownOffer plain
+performed cat retailer now (command.Book (Some code) together) plain =
+    booked cat retailer now (offer_view code) together plain
+performed cat retailer now (command.Reserve segment class count wanted together) plain =
+    booked cat retailer now (reserved segment class count wanted now) together plain
 performed cat retailer now (command.Show None) plain = refusing UnknownBooking plain
-performed cat retailer now (command.Show (Some row)) plain = on_own plain row.0 retailer (shown row.0 plain)
+performed cat retailer now (command.Show (Some row)) plain = on_own plain row retailer (shown row plain)
 performed cat retailer now (command.Release None) plain = refusing UnknownBooking plain
-performed cat retailer now (command.Release (Some row)) plain = on_own plain row.0 retailer (released row.0 now plain)
+performed cat retailer now (command.Release (Some row)) plain = on_own plain row retailer (released row now plain)
 performed cat retailer now (command.Confirm None) plain = refusing UnknownBooking plain
-performed cat retailer now (command.Confirm (Some row)) plain = on_own plain row.0 retailer (confirmed row.0 now plain)
+performed cat retailer now (command.Confirm (Some row)) plain = on_own plain row retailer (confirmed row now plain)
 performed cat retailer now (command.Fulfil None) plain = refusing UnknownBooking plain
-performed cat retailer now (command.Fulfil (Some row)) plain = on_own plain row.0 retailer (fulfilled row.0 plain)
+performed cat retailer now (command.Fulfil (Some row)) plain = on_own plain row retailer (fulfilled row plain)
 performed cat retailer now (command.QuoteRefund None) plain = refusing UnknownBooking plain
-performed cat retailer now (command.QuoteRefund (Some row)) plain = on_own plain row.0 retailer (refund_quoted cat row.0 now plain)
+performed cat retailer now (command.QuoteRefund (Some row)) plain = on_own plain row retailer (refund_quoted cat row now plain)
 performed cat retailer now (command.AcceptRefund row None) plain = refusing UnknownOffer plain
-performed cat retailer now (command.AcceptRefund row (Some code)) plain = on_own plain code.row.0 retailer (refunded cat code now plain)
+performed cat retailer now (command.AcceptRefund row (Some code)) plain = on_own plain code.row retailer (refunded cat code now plain)
 performed cat retailer now (command.QuoteExchange None offer) plain = refusing UnknownBooking plain
 performed cat retailer now (command.QuoteExchange (Some row) None) plain = refusing UnknownOffer plain
-performed cat retailer now (command.QuoteExchange (Some row) (Some offer)) plain = on_own plain row.0 retailer (exchange_quoted cat row.0 offer now plain)
+performed cat retailer now (command.QuoteExchange (Some row) (Some offer)) plain = on_own plain row retailer (exchange_quoted cat row offer now plain)
 performed cat retailer now (command.AcceptExchange row None) plain = refusing UnknownOffer plain
 performed cat retailer now (command.AcceptExchange row (Some code)) plain =
-    on_own plain code.row.0 retailer (exchanged_with cat (exchange_view code) retailer now plain)
+    on_own plain code.row retailer (exchanged_with cat (exchange_view code) retailer now plain)
 performed cat retailer now (command.Places segment) plain = listed cat plain segment
 performed cat retailer now command.Sweep plain = swept_all now plain
 

@@ -1,5 +1,5 @@
--- What stands in a state: its sealed bookings, and the row that a desk makes.
-use Rattle.std.specs.Prelude.{ℕ, Bool, true, false, List, map, find, Option, Some, None, option_map}
+-- What stands in a state: the sealed ones among its rows' present bookings, and the row that a desk makes.
+use Rattle.std.specs.Prelude.{◌&&◌, Bool, true, false, List, map, find, Option, Some, None, option_map}
 use Rattle.std.specs.List.{filter}
 use Rattle.leg_masks.specs.Interval.{PlacedSpan as Item}
 use Rattle.history_model.specs.declared.phase.Phase.{Phase}
@@ -7,7 +7,8 @@ use Rattle.history_model.specs.declared.phase.Phase.TheVariants.{Making, Ended}
 use Rattle.history_model.specs.declared.booking.BookedItem.{BookedItem}
 use Rattle.history_model.specs.declared.booking.End.{End}
 use Rattle.history_model.specs.Phase.{is_sealed}
-use Rattle.history_model.specs.Booking.{Booking, State, word_at}
+use Rattle.rail_ids.specs.declared.RowNo.{RowNo}
+use Rattle.history_model.specs.Booking.{Booking, State, word_at, stands_in}
 use Rattle.claim_rule.specs.Rule.{DeskView, state_seen}
 use Rattle.booking_rows.specs.Views.{RowSeen}
 use Rattle.plain_host.specs.Plain.{Standing, Plain}
@@ -30,23 +31,26 @@ view_of b = record {
   ended = end_in b.phase b.end;
 }
 
-abbrev pub standing_of : Booking → Standing
-standing_of b = record { row = b.row; view = view_of b }
+abbrev pub row_of : Booking → RowNo
+row_of b = record { row = b.row; generation = b.generation }
 
--- a booking stands once it is sealed
-abbrev pub is_standing : Booking → Bool
-is_standing b = is_sealed b.phase
+abbrev pub standing_of : Booking → Standing
+standing_of b = record { row = row_of b; view = view_of b }
+
+-- a booking stands once it is sealed, for as long as it is its row's present one
+abbrev pub is_standing : State → Booking → Bool
+is_standing s b = stands_in s b.row b && is_sealed b.phase
 
 abbrev pub standings_of : State → List Standing
-standings_of s = map standing_of (filter is_standing s)
+standings_of s = map standing_of (filter (is_standing s) s)
 
 abbrev pub is_in_making : Phase → Bool
 is_in_making Making = true
 is_in_making phase = false
 
--- the row in the making
-abbrev pub kept_of : State → Option ℕ
-kept_of s = option_map (λ (b : Booking). b.row) (find (λ (b : Booking). is_in_making b.phase) s)
+-- the row in the making, with its generation
+abbrev pub kept_of : State → Option RowNo
+kept_of s = option_map row_of (find (λ (b : Booking). is_in_making b.phase) s)
 
 -- what a state has
 abbrev pub plain_in : State → Plain

@@ -1,5 +1,5 @@
 -- A desk that is alone answers as a host of one thread.
-use Rattle.std.specs.Prelude.{◌≡◌, ◌⊎◌, ℕ}
+use Rattle.std.specs.Prelude.{◌≡◌, ◌⊎◌, ℕ, Some}
 use Rattle.history_model.specs.History.{IsLegal}
 use Rattle.claim_rule.specs.Rule.{DeskView, state_seen}
 use Rattle.booking_rows.specs.SealedRows.{FitWords}
@@ -10,7 +10,7 @@ use Rattle.osdm_json.specs.declared.command.Command.{Command}
 use Rattle.osdm_json.specs.declared.command.Command.TheVariants as command
 use Rattle.service_rules.specs.Answering.{Answers}
 use Rattle.lone_desk.specs.Lone.{IsAlone}
-use Rattle.plain_host.specs.Plain.{Plain, row_for}
+use Rattle.plain_host.specs.Plain.{Plain, Choice, choice_for, keeping}
 use Rattle.plain_host.specs.Outcomes.{outcome_of}
 use Rattle.plain_host.specs.PlainOf.{plain_of}
 use Rattle.plain_host.specs.Settled.{IsSettled}
@@ -24,14 +24,14 @@ pub record IsLone (cat : CatalogueView) (desk : DeskView) : Type 0 where
   pub legs : desk.layout.legs ≡ legs_in cat
   pub fit : FitWords desk.layout
 
--- the bookings are as before; so is the row kept, or it is the one that the booking came to
+-- all is as before; or the row that the booking came to was chosen, and is kept
 abbrev pub MayKeepRow : ℕ → Plain → Plain → Type 0
-MayKeepRow rows before after = (after.bookings ≡ before.bookings) × ((after.kept ≡ before.kept) ⊎ (after.kept ≡ row_for rows before))
+MayKeepRow rows before after = (after ≡ before) ⊎ ((c : Choice) × (choice_for rows before ≡ Some c) × (after ≡ keeping c))
 
--- what a command without memory leaves: all as before, but that a booking may keep its row
+-- what a command without memory leaves: all as before, or as it is once a booking's row was chosen
 abbrev pub MayKeep : ℕ → Command → Plain → Plain → Type 0
-MayKeep rows (command.Book offer) before after = MayKeepRow rows before after
-MayKeep rows (command.Reserve segment class count wanted) before after = MayKeepRow rows before after
+MayKeep rows (command.Book offer together) before after = MayKeepRow rows before after
+MayKeep rows (command.Reserve segment class count wanted together) before after = MayKeepRow rows before after
 MayKeep rows (command.AcceptExchange row code) before after = MayKeepRow rows before after
 MayKeep rows c before after = after ≡ before
 

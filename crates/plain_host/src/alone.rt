@@ -8,8 +8,8 @@ ghost use Rattle.booking_rows.specs.SealedRows.{FitWords};
 ghost use Rattle.lone_desk.specs.Lone.{IsAlone};
 ghost use Rattle.plain_host.specs.Plainly.{IsLone};
 
-/// The law of a desk that is alone at the books of a catalogue, whatever its calls were: where nothing is out it is a lone desk between two
-/// commands, so its bookings are settled.
+/// The law of a desk that is alone at the books of a catalogue, whatever its calls were: where nothing is out it is a
+/// lone desk between two commands, so its bookings are settled.
 pub fn alone_is_lone()
     ensures { (cat : CatalogueView) (books : BooksView) (desk : DeskView) → IsOf books desk → IsAlone desk → IsIdle desk
         → books.layout.rows ≡ cat.rows → books.layout.legs ≡ legs_in cat → FitWords books.layout → IsLone cat desk }

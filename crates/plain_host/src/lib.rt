@@ -1,7 +1,8 @@
 //! What a service of one thread answers: a plain list of bookings, and what each command makes of it.
 //!
-//! A desk that is alone at its books answers each command as this plain host does at the list of the desk's bookings, and leaves the list
-//! that the plain host leaves. The crate has definitions and laws alone: it does nothing when it runs.
+//! A desk that is alone at its books answers each command as this plain host does at the list of the desk's bookings,
+//! and leaves the list that the plain host leaves. The crate has definitions and laws alone: it does nothing when it
+//! runs.
 #![tactic(auto)]
 
 mod alone;

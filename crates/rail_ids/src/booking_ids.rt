@@ -1,20 +1,34 @@
-ghost use Rattle.std.specs.Prelude.{◌≡◌, ◌≢◌, ◌^◌, ◌<◌, ℕ, decimal, ◌++◌, replicate, Some, IfSome, IfNone};
-ghost use Rattle.rail_ids.specs.Spelling.{booking_id_text};
+ghost use Rattle.std.specs.Prelude.{◌≡◌, ◌≢◌, ◌^◌, ◌<◌, ◌≤◌, ◌+◌, ℕ, decimal, length, ◌++◌, replicate, ◌==◌, position, Some, IfSome, IfNone};
+ghost use Rattle.arrayvec.specs.ArrayVec.{array_vec_len};
+ghost use Rattle.rail_ids.specs.Spelling.{booking_id_text, generation_text, last_generation};
 
-use crate::RowNo;
+use crate::{LAST_GENERATION, RowNo};
 use arrayvec::ArrayVec;
 use itoa::Buffer;
 use std::str;
 
-/// The text of a booking's id: `B` and the row's number in at least six digits.
-pub type BookingId = ArrayVec<u8, 11>;
+/// The text of a booking's id: `B`, the row's number in at least six digits, and `-` and the generation behind it where
+/// that isn't 0.
+pub type BookingId = ArrayVec<u8, 17>;
 
-/// The one spelling of a row's id: `B`, then the number in decimal digits, with zeros before it up to six.
+/// The one spelling of a booking's id: `B`, then the row's number in decimal digits, with zeros before it up to six, and
+/// for a further booking of the row `-` and its generation.
 pub fn write_booking_id(row: RowNo) -> BookingId
-    ensures spelling { result.items ≡ booking_id_text row.0 }
+    requires generation { row.generation ≤ last_generation }
+    ensures spelling { result.items ≡ booking_id_text row.row row.generation }
+{
+    let mut id = row_id(row.row);
+    push_generation(&mut id, row.generation);
+    id
+}
+
+// `B` and the row's number.
+fn row_id(row: u32) -> BookingId
+    ensures spelling { result.items ≡ booking_id_text row 0 }
+    ensures short { array_vec_len result ≤ 11 }
 {
     let mut buffer = Buffer::new();
-    let digits = buffer.format(row.0);
+    let digits = buffer.format(row);
     let mut id = BookingId::new();
     id.push(b'B');
     for _ in 0..6usize.saturating_sub(digits.len()) {
@@ -26,27 +40,71 @@ pub fn write_booking_id(row: RowNo) -> BookingId
     id
 }
 
-/// The row whose id this text is: `None` exactly where it is no row's. No other row has this id.
-pub fn read_booking_id(text: &[u8]) -> Option<RowNo>
-    ensures some { IfSome result (λ row. text.now ≡ booking_id_text row.0) }
-    ensures only { IfSome result (λ row. (other : ℕ) → other < 2 ^ 32 → text.now ≡ booking_id_text other → other ≡ row.0) }
-    ensures none { IfNone result ((row : ℕ) → row < 2 ^ 32 → text.now ≢ booking_id_text row) }
+fn push_generation(id: &mut BookingId, generation: u32)
+    requires generation { generation ≤ last_generation }
+    requires room { array_vec_len id.old ≤ 11 }
+    ensures spelling { id.new.items ≡ id.old.items ++ generation_text generation }
 {
-    let (_, digits) = text.split_first()?;
-    let row = RowNo(u32::try_from(parse(digits)?).ok()?);
-    if write_booking_id(row).as_slice() == text {
+    if generation == 0 {
+        return;
+    }
+    let mut buffer = Buffer::new();
+    let digits = buffer.format(generation as u16);
+    id.push(b'-');
+    for digit in digits.as_bytes() {
+        id.push(*digit);
+    }
+}
+
+/// The booking whose id this text is, by its row and generation: `None` exactly where it is no booking's. No other
+/// booking has this id.
+pub fn read_booking_id(text: &[u8]) -> Option<RowNo>
+    ensures some { IfSome result (λ r. (r.generation ≤ last_generation) × (text.now ≡ booking_id_text r.row r.generation)) }
+    ensures only { IfSome result (λ r. (row generation : ℕ) → row < 2 ^ 32 → generation ≤ last_generation → text.now ≡ booking_id_text row generation → (row ≡ r.row) × (generation ≡ r.generation)) }
+    ensures none { IfNone result ((row generation : ℕ) → row < 2 ^ 32 → generation ≤ last_generation → text.now ≢ booking_id_text row generation) }
+{
+    let row = numbers_of(text)?;
+    if row.generation <= LAST_GENERATION && write_booking_id(row).as_slice() == text {
         Some(row)
     } else {
         None
     }
 }
 
+// The numbers behind the letter, where the text is an id. Another text may give some too.
+fn numbers_of(text: &[u8]) -> Option<RowNo>
+    ensures { (row generation : ℕ) → row < 2 ^ 32 → generation ≤ last_generation → text.now ≡ booking_id_text row generation → result ≡ Some (record { row = row; generation = generation }) }
+{
+    let (_, numbers) = text.split_first()?;
+    let (row, generation) = parts_of(numbers);
+    Some(RowNo {
+        row: parse(row)?,
+        generation: parse(generation)?,
+    })
+}
+
+// The digits of the row and of the generation, which is 0 where no `-` stands between them.
+fn parts_of(numbers: &[u8]) -> (&[u8], &[u8])
+    ensures { (k row generation : ℕ) → row < 2 ^ 32 → numbers.now ≡ replicate k 48 ++ (decimal row ++ generation_text generation) → (result.0.now ≡ replicate k 48 ++ decimal row) × (result.1.now ≡ decimal generation) }
+{
+    match dash_of(numbers) {
+        Some(at) => (&numbers[..at], &numbers[at + 1..]),
+        None => (numbers, b"0".as_slice()),
+    }
+}
+
+fn dash_of(numbers: &[u8]) -> Option<usize>
+    ensures { result ≡ position (λ b. b == 45) numbers.now }
+{
+    numbers.iter().position(|byte| *byte == b'-')
+}
+
 // The number of digits, where there may be zeros in front. A text that is no number may give one too.
-fn parse(digits: &[u8]) -> Option<u64>
-    ensures { (k n : ℕ) → n < 2 ^ 64 → digits.now ≡ replicate k 48 ++ decimal n → result ≡ Some n }
+fn parse(digits: &[u8]) -> Option<u32>
+    ensures { (k n : ℕ) → n < 2 ^ 32 → digits.now ≡ replicate k 48 ++ decimal n → result ≡ Some n }
 {
     match str::from_utf8(digits) {
-        Ok(text) => match text.parse::<u64>() {
+        Ok(text) => match text.parse::<u32>() {
             Ok(number) => Some(number),
             Err(_) => None,
         },

@@ -85,3 +85,9 @@ pub served_there : {C : Type 0} (told : C → Option (ℕ → ℕ)) (cat : Catal
 served_there {C} told cat before service desk clock taken left written end same_desk same_clock is =
     subst (λ (d : DeskView). IsServed cat before (record { desk = d; first = service.first; clock = told clock }) taken left written end) (sym same_desk)
     (subst (λ (k : C). IsServed cat before (record { desk = service.desk.now; first = service.first; clock = told k }) taken left written end) (sym same_clock) is)
+
+pub idle_there : {C : Type 0} (service : Service C) (desk : DeskView) → desk ≡ service.desk.now → IsIdle service.desk.now → IsIdle desk
+idle_there {C} service desk same idle = subst (λ (d : DeskView). IsIdle d) (sym same) idle
+
+pub tidy_there : {C : Type 0} (service : Service C) (desk : DeskView) → desk ≡ service.desk.now → IsTidy service.desk.now → IsTidy desk
+tidy_there {C} service desk same tidy = subst (λ (d : DeskView). IsTidy d) (sym same) tidy

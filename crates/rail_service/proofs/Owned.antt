@@ -1,5 +1,5 @@
 -- Every answer is a list of the desk's own steps.
-use Rattle.std.proofs.Common.{◌≡◌, ℕ, List, [], ◌∷◌, ◌++◌, Option, Some, None, Ok, Err, sym, subst, inl, inr}
+use Rattle.std.proofs.Common.{◌≡◌, ℕ, Bool, false, List, [], ◌++◌, Option, Some, None, Ok, Err, sym, subst, inl, inr}
 use Rattle.std.specs.Prelude.{Result}
 use Rattle.leg_masks.specs.Interval.{PlacedSpan as Item}
 use Rattle.offer_codes.specs.declared.code.Segment.{Segment}
@@ -16,6 +16,7 @@ use Rattle.claim_rule.specs.Seats.{Shape}
 use Rattle.claim_rule.specs.Calls.{Calls, ShapeBy}
 use Rattle.claim_rule.proofs.Shapes.{shape_then, shape_none}
 use Rattle.rail_ids.specs.declared.RetailerNo.{RetailerNo}
+use Rattle.rail_ids.specs.declared.RowNo.{RowNo}
 use Rattle.rail_catalogue.specs.Contents.{CatalogueView}
 use Rattle.http_wire.specs.Requests.{RequestText}
 use Rattle.booking_rows.specs.Views.{RowSeen}
@@ -25,8 +26,9 @@ use Rattle.osdm_json.specs.declared.command.Command.{Command}
 use Rattle.osdm_json.specs.declared.command.Command.TheVariants as command
 use Rattle.booking_service.specs.Deciding.{Replying, OnBooking, shows, ConfirmsIt, FulfilsIt, ReleasesIt}
 use Rattle.reservation_service.specs.declared.holding.Placing.{Placing}
-use Rattle.reservation_service.specs.Holding.{HoldsPlaces, PlacesAll}
+use Rattle.reservation_service.specs.Holding.{HoldsPlaces}
 use Rattle.reservation_service.specs.Reserving.{reserved, FailsToHold, Reserves}
+use Rattle.reservation_service.proofs.Adding.{places_only}
 use Rattle.search_service.specs.Searching.{SearchesOffers, ListsPlaces}
 use Rattle.service_rules.specs.Checks.{command_fault}
 use Rattle.service_rules.specs.Performing.{Performs}
@@ -46,35 +48,30 @@ own_then a b c p q = (p.0 ++ q.0, shape_then a b c p.0 q.0 p.1 q.1)
 pub own_same : (a b : DeskView) → IsLegal a.layout a.seen → b ≡ a → Own a b
 own_same a b legal e = ([], subst (λ (d : DeskView). Shape a d []) (sym e) (shape_none a legal))
 
-places_own : (cat : CatalogueView) (o : OfferView) (row : ℕ) (items : List Item) (segments : List Segment) (placing : Placing) (all : List Item) (old new : DeskView)
-    → IsLegal old.layout old.seen → PlacesAll cat o row items segments placing all old new → Own old new
-places_own cat o row items [] placing all old new legal (whole, is, same) = own_same old new legal same
-places_own cat o row items (s ∷ rest) placing all old new legal (inl (answer, won, mid, did, inl (all_won, more))) =
-    own_then old mid new (own_by _ old mid did) (places_own cat o row (items ++ won) rest placing all mid new did.2.legal more)
-places_own cat o row items (s ∷ rest) placing all old new legal (inl (answer, won, mid, did, inr (stops, is, same))) =
-    own_then old mid new (own_by _ old mid did) (own_same mid new did.2.legal same)
-places_own cat o row items (s ∷ rest) placing all old new legal (inr (stops, is, same)) = own_same old new legal same
+abbrev Anything : Step → Type 0
+Anything st = Unit {0}
 
-holds_own : (cat : CatalogueView) (o : OfferView) (segments : List Segment) (row : ℕ) (placing : Placing) (items : List Item) (old new : DeskView)
-    → HoldsPlaces cat o segments row placing items old new → Own old new
-holds_own cat o segments row placing items old new (mid, start, placed) =
-    own_then old mid new (own_by _ old mid start) (places_own cat o row [] segments placing items mid new start.2.legal placed)
+holds_own : (cat : CatalogueView) (o : OfferView) (together : Bool) (segments : List Segment) (row : RowNo) (placing : Placing) (items : List Item) (old new : DeskView)
+    → HoldsPlaces cat o together segments row placing items old new → Own old new
+holds_own cat o together segments row placing items old new (mid, start, placed) =
+    own_then old mid new (own_by _ old mid start) (own_by _ mid new
+    (places_only Anything cat o together row [] segments placing items mid new (record { look = λ place half shown. tt; take = λ place span. tt; note = λ word value. tt; give = λ item. tt }) start.2.legal placed))
 
-fails_own : (cat : CatalogueView) (o : OfferView) (old new : DeskView) (reply : Reply) → FailsToHold cat o old new reply → Own old new
-fails_own cat o old new reply (inl (none, eq)) = own_by _ old new none
-fails_own cat o old new reply (inr (row, placing, reason, items, mid, holds, short, gives, eq)) =
-    own_then old mid new (holds_own cat o o.segments row placing items old mid holds) (_, gives)
+fails_own : (cat : CatalogueView) (o : OfferView) (together : Bool) (old new : DeskView) (reply : Reply) → FailsToHold cat o together old new reply → Own old new
+fails_own cat o together old new reply (inl (none, eq)) = own_by _ old new none
+fails_own cat o together old new reply (inr (row, placing, reason, items, mid, holds, short, gives, eq)) =
+    own_then old mid new (holds_own cat o together o.segments row placing items old mid holds) (_, gives)
 
-reserves_own : (cat : CatalogueView) (retailer now : ℕ) (o : OfferView) (old new : DeskView) (reply : Reply) → Reserves cat retailer now o old new reply → Own old new
-reserves_own cat retailer now o old new reply (inl (row, items, mid, holds, seals, eq)) =
-    own_then old mid new (holds_own cat o o.segments row _ items old mid holds) (_, seals)
-reserves_own cat retailer now o old new reply (inr (inl fails)) = fails_own cat o old new reply fails
-reserves_own cat retailer now o old new reply (inr (inr ((row, items, mid, holds, gives), eq))) =
-    own_then old mid new (holds_own cat o o.segments row _ items old mid holds) (_, gives)
+reserves_own : (cat : CatalogueView) (retailer now : ℕ) (o : OfferView) (together : Bool) (old new : DeskView) (reply : Reply) → Reserves cat retailer now o together old new reply → Own old new
+reserves_own cat retailer now o together old new reply (inl (row, items, mid, holds, seals, eq)) =
+    own_then old mid new (holds_own cat o together o.segments row _ items old mid holds) (_, seals)
+reserves_own cat retailer now o together old new reply (inr (inl fails)) = fails_own cat o together old new reply fails
+reserves_own cat retailer now o together old new reply (inr (inr ((row, items, mid, holds, gives), eq))) =
+    own_then old mid new (holds_own cat o together o.segments row _ items old mid holds) (_, gives)
 
 -- what a look at a booking leads to
 module _ (Does : RowSeen → Replying) (does_own : (v : RowSeen) (old new : DeskView) (reply : Reply) → IsLegal old.layout old.seen → Does v old new reply → Own old new) where
-  on_booking : (rows row retailer : ℕ) (old new : DeskView) (reply : Reply) → OnBooking rows row retailer Does old new reply → Own old new
+  on_booking : (rows : ℕ) (row : RowNo) (retailer : ℕ) (old new : DeskView) (reply : Reply) → OnBooking rows row retailer Does old new reply → Own old new
   on_booking rows row retailer old new reply (inl (none, eq)) = own_by _ old new none
   on_booking rows row retailer old new reply (inr (v, mid, sees, inl did)) =
       own_then old mid new (own_by _ old mid sees) (does_own v mid new reply sees.2.legal did)
@@ -89,16 +86,16 @@ lists_own : (cat : CatalogueView) (s : Segment) (old new : DeskView) (reply : Re
 lists_own cat s old new reply legal (inl (free, did, told)) = own_by _ old new did
 lists_own cat s old new reply legal (inr (same, eq)) = own_same old new legal same
 
-pub decides_own : (ready : ReadyView) (row : ℕ) (items : List Item) (d : Detail) (old new : DeskView) (reply : Reply) → DecidesOrNot ready row items d old new reply → Own old new
+pub decides_own : (ready : ReadyView) (row : RowNo) (items : List Item) (d : Detail) (old new : DeskView) (reply : Reply) → DecidesOrNot ready row items d old new reply → Own old new
 decides_own ready row items d old new reply (inl (noted, notes, inl (made, difference, did, seals, is))) = own_then old noted new (_, notes) (own_by _ noted new did)
 decides_own ready row items d old new reply (inl (noted, notes, inr (shown, hold, lost, did, gave, is))) =
     own_then old noted new (_, notes) (own_then noted lost new (own_by _ noted lost did) (_, gave))
 decides_own ready row items d old new reply (inr (gave, is)) = (_, gave)
 
 carries_own : (cat : CatalogueView) (ready : ReadyView) (old new : DeskView) (reply : Reply) → CarriesOut cat ready old new reply → Own old new
-carries_own cat ready old new reply (inl fails) = fails_own cat ready.code.offer old new reply fails
+carries_own cat ready old new reply (inl fails) = fails_own cat ready.code.offer false old new reply fails
 carries_own cat ready old new reply (inr (row, items, mid, places, did)) =
-    own_then old mid new (holds_own cat ready.code.offer ready.code.offer.segments row _ items old mid places) (decides_own ready row items _ mid new reply did)
+    own_then old mid new (holds_own cat ready.code.offer false ready.code.offer.segments row _ items old mid places) (decides_own ready row items _ mid new reply did)
 
 exchanges_own : (cat : CatalogueView) (rows retailer : ℕ) (x : ExchangeView) (now : ℕ) (old new : DeskView) (reply : Reply) → ExchangesIt cat rows retailer x now old new reply → Own old new
 exchanges_own cat rows retailer x now old new reply (inl (a, p, did, un, is)) = own_by _ old new did
@@ -108,27 +105,27 @@ exchanges_own cat rows retailer x now old new reply (inr (mid, did, goes)) =
 performs_own : (cat : CatalogueView) (retailer now : ℕ) (c : Command) (old new : DeskView) (reply : Reply) → IsLegal old.layout old.seen
     → Performs cat retailer now c old new reply → Own old new
 performs_own cat retailer now (command.Offers trip adults children class wanted) old new reply legal did = searches_own cat _ now old new reply did
-performs_own cat retailer now (command.Book None) old new reply legal did = absurd did
-performs_own cat retailer now (command.Book (Some code)) old new reply legal did = reserves_own cat retailer now (offer_view code) old new reply did
-performs_own cat retailer now (command.Reserve segment class count wanted) old new reply legal did =
-    reserves_own cat retailer now (reserved segment class count wanted now) old new reply did
+performs_own cat retailer now (command.Book None together) old new reply legal did = absurd did
+performs_own cat retailer now (command.Book (Some code) together) old new reply legal did = reserves_own cat retailer now (offer_view code) together old new reply did
+performs_own cat retailer now (command.Reserve segment class count wanted together) old new reply legal did =
+    reserves_own cat retailer now (reserved segment class count wanted now) together old new reply did
 performs_own cat retailer now (command.Show None) old new reply legal did = absurd did
 performs_own cat retailer now (command.Show (Some row)) old new reply legal did =
-    on_booking (shows row.0) (λ v a b r l is. own_same a b l is.0) cat.rows row.0 retailer old new reply did
+    on_booking (shows row) (λ v a b r l is. own_same a b l is.0) cat.rows row retailer old new reply did
 performs_own cat retailer now (command.Release None) old new reply legal did = absurd did
 performs_own cat retailer now (command.Release (Some row)) old new reply legal did =
-    on_booking (ReleasesIt cat.rows row.0 retailer now) (λ v a b r l is. own_by _ a b is.1) cat.rows row.0 retailer old new reply did
+    on_booking (ReleasesIt cat.rows row retailer now) (λ v a b r l is. own_by _ a b is.1) cat.rows row retailer old new reply did
 performs_own cat retailer now (command.Confirm None) old new reply legal did = absurd did
 performs_own cat retailer now (command.Confirm (Some row)) old new reply legal did =
-    on_booking (ConfirmsIt cat.rows row.0 retailer now) (λ v a b r l is. own_by _ a b is.1) cat.rows row.0 retailer old new reply did
+    on_booking (ConfirmsIt cat.rows row retailer now) (λ v a b r l is. own_by _ a b is.1) cat.rows row retailer old new reply did
 performs_own cat retailer now (command.Fulfil None) old new reply legal did = absurd did
 performs_own cat retailer now (command.Fulfil (Some row)) old new reply legal did =
-    on_booking (FulfilsIt cat.rows row.0 retailer) (λ v a b r l is. own_by _ a b is.1) cat.rows row.0 retailer old new reply did
+    on_booking (FulfilsIt cat.rows row retailer) (λ v a b r l is. own_by _ a b is.1) cat.rows row retailer old new reply did
 performs_own cat retailer now (command.QuoteRefund None) old new reply legal did = absurd did
 performs_own cat retailer now (command.QuoteRefund (Some row)) old new reply legal did = own_by _ old new did.1
 performs_own cat retailer now (command.AcceptRefund row None) old new reply legal did = absurd did
 performs_own cat retailer now (command.AcceptRefund row (Some code)) old new reply legal did =
-    on_booking (RefundsIt cat cat.rows retailer code now) (λ v a b r l is. own_by _ a b is.1) cat.rows code.row.0 retailer old new reply did
+    on_booking (RefundsIt cat cat.rows retailer code now) (λ v a b r l is. own_by _ a b is.1) cat.rows code.row retailer old new reply did
 performs_own cat retailer now (command.QuoteExchange None offer) old new reply legal did = absurd did
 performs_own cat retailer now (command.QuoteExchange (Some row) None) old new reply legal did = absurd did
 performs_own cat retailer now (command.QuoteExchange (Some row) (Some offer)) old new reply legal did = own_by _ old new did.1

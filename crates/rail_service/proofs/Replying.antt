@@ -9,7 +9,7 @@ use Rattle.osdm_texts.specs.Answers.{Reply}
 use Rattle.rail_service.specs.Bytes.{reply_bytes}
 use Rattle.rail_service.specs.Serving.{retailer_of, first_after, AnswersRequest}
 use Rattle.rail_service.specs.Connections.{ServiceView, IsReading, IsAnswer}
-use Rattle.reservation_service.specs.Reserving.{HasNoItem}
+use Rattle.claim_rule.specs.Out.{MakesEmpty}
 use Rattle.rail_service.proofs.Sparing.{request_makes}
 
 pub reading_of : (before after : Option (ℕ → ℕ)) (moment : ℕ) → IfSome before (λ readings. moment ≡ readings 0)
@@ -20,7 +20,7 @@ reading_of (Some readings) after moment first rest = (first, rest)
 pub answer_by : (cat : CatalogueView) (before : ServiceView) (request : RequestText) (written : List ℕ) (after : ServiceView) (moment : ℕ) (reply : Reply)
     → IsLegal before.desk.layout before.desk.seen → IsReading before.clock moment after.clock
     → AnswersRequest cat before.first request moment before.desk after.desk reply → written ≡ reply_bytes cat request.last reply
-    → after.first ≡ first_after before.first (retailer_of cat request) → IsIdle after.desk → HasNoItem after.desk
+    → after.first ≡ first_after before.first (retailer_of cat request) → IsIdle after.desk → MakesEmpty after.desk
     → IsAnswer cat before request written after
 answer_by cat before request written after moment reply legal reading is bytes first idle none =
     let own = request_makes cat before.first request moment before.desk after.desk reply legal is in

@@ -13,15 +13,11 @@ use Rattle.claim_rule.specs.Rule.{DeskView}
 use Rattle.claim_rule.specs.Calls.{ShapeBy}
 use Rattle.claim_rule.specs.Out.{is_look, AllLooks}
 use Rattle.claim_rule.proofs.Shapes.{shape_then, shape_none}
-use Rattle.booking_rows.specs.Starts.{Misses, misses_steps, StartsHold}
-use Rattle.booking_rows.specs.Views.{RowSeen, saw_row}
-use Rattle.booking_rows.proofs.ViewLemmas.{row_all_looks}
+use Rattle.booking_rows.specs.Starts.{Misses, misses_steps, Passed, search_steps, StartsHold}
+use Rattle.booking_rows.specs.Views.{RowSeen}
+use Rattle.booking_rows.proofs.Looked.{row_looked}
 use Rattle.booking_rows.specs.declared.notes.Detail.{Detail}
-use Rattle.hold_core.specs.declared.adds.Added.{Added}
-use Rattle.hold_core.specs.declared.tries.Outcome.{Outcome}
-use Rattle.hold_core.specs.declared.tries.Outcome.TheVariants as outcome
-use Rattle.hold_core.specs.Tries.{Part, Try, looks_at, won_steps, part_steps, parts_steps, undone, try_steps}
-use Rattle.hold_core.specs.Places.{won_by, tries_steps, gives_back}
+use Rattle.hold_core.specs.Places.{gives_back}
 use Rattle.confirm_core.specs.declared.confirming.Confirmed.{Confirmed}
 use Rattle.confirm_core.specs.declared.confirming.Confirmed.TheVariants as confirmed
 use Rattle.confirm_core.specs.declared.fulfilling.Fulfilment.{Fulfilment}
@@ -49,14 +45,18 @@ use Rattle.osdm_texts.specs.declared.problem.Problem.TheVariants.{UnknownBooking
 use Rattle.osdm_texts.specs.Answers.{Reply, problem}
 use Rattle.osdm_json.specs.declared.command.Command.{Command}
 use Rattle.osdm_json.specs.declared.command.Command.TheVariants as command
-use Rattle.booking_service.specs.Finding.{FindsBooking}
+use Rattle.refund_core.specs.Quotes.{SeesOwn, FindsBooking}
+use Rattle.rail_ids.specs.declared.RowNo.{RowNo}
+use Rattle.history_model.specs.declared.phase.Phase.{Phase}
+use Rattle.history_model.specs.declared.phase.Phase.TheVariants as phase
 use Rattle.booking_service.specs.Deciding.{Replying, OnBooking, shows, ConfirmsIt, confirm_reply, FulfilsIt, fulfil_reply, ReleasesIt, release_reply}
 use Rattle.reservation_service.specs.declared.holding.Placing.{Placing}
-use Rattle.reservation_service.specs.Holding.{AddsSegment, PlacesAll, HoldsPlaces, GivesUp}
+use Rattle.reservation_service.specs.Holding.{HoldsPlaces, GivesUp}
 use Rattle.reservation_service.specs.Reserving.{reserved, FailsToHold, Reserves}
+use Rattle.reservation_service.proofs.Adding.{places_only}
 use Rattle.search_service.specs.Searching.{SearchesOffers, ListsPlaces}
 use Rattle.trade_service.specs.Refunds.{QuotesIt, RefundsIt, refund_reply}
-use Rattle.trade_service.specs.Exchanges.{QuotesExchangeOfIt, DecidesOrNot, CarriesOut, ExchangesIt, ready_of}
+use Rattle.trade_service.specs.Exchanges.{QuotesExchangeOfIt, DecidesOrNot, lost_problem, CarriesOut, ExchangesIt, ready_of}
 use Rattle.service_rules.specs.Checks.{command_fault}
 use Rattle.service_rules.specs.Performing.{Performs}
 use Rattle.service_rules.specs.Answering.{AnswersBy, Answers}
@@ -86,7 +86,7 @@ look (LostTurn row wanted shown) is = refl
 look Met is = refl
 look (Take row place span) is = refl
 look (Give row item) is = refl
-look (Start row) is = refl
+look (Start row generation) is = refl
 look (Note row word value) is = refl
 look (Seal row phase) is = absurd (let no : false ≡ true = is in cc)
 look (Close row) is = absurd (let no : false ≡ true = is in cc)
@@ -96,11 +96,11 @@ looks : (es : List Step) → AllLooks es → NoStep decides es
 looks [] all = tt
 looks (st ∷ es) all = (look st all.0, looks es all.1)
 
-saw : (row : ℕ) (v : RowSeen) (es : List Step) → es ≡ saw_row row v → NoStep decides es
-saw row v es is = subst (NoStep decides) (sym is) (looks (saw_row row v) (row_all_looks row v))
+saw : (row : RowNo) (retailer : ℕ) (v : RowSeen) (es : List Step) → SeesOwn row retailer v es → NoStep decides es
+saw row retailer v es (mine, is) = looks es (row_looked row (Some v) es is)
 
-found : (rows row retailer : ℕ) (v : RowSeen) (es : List Step) → FindsBooking rows row retailer (Some v) es → NoStep decides es
-found rows row retailer v es (here, mine, (seen, is)) = saw row v es is
+found : (rows : ℕ) (row : RowNo) (retailer : ℕ) (v : RowSeen) (es : List Step) → FindsBooking rows row retailer (Some v) es → NoStep decides es
+found rows row retailer v es (here, sees) = saw row retailer v es sees
 
 -- the parts of a booking
 
@@ -108,69 +108,34 @@ misses : (ms : Misses) → NoStep decides (misses_steps ms)
 misses [] = tt
 misses ((row, word) ∷ rest) = (refl, misses rest)
 
-starts : (old mid : DeskView) (row : ℕ) (es : List Step) → StartsHold old mid (Some row) es → NoStep decides es
+searched : (row : ℕ) (passed : List Passed) → NoStep decides (search_steps row passed)
+searched row [] = tt
+searched row ((n, None) ∷ ps) = (refl, searched (suc row) ps)
+searched row ((n, Some m) ∷ ps) = (refl, (refl, searched (suc row) ps))
+
+starts : (old mid : DeskView) (row : RowNo) (es : List Step) → StartsHold old mid (Some row) es → NoStep decides es
 starts old mid row es (inl (makes, is)) = subst (NoStep decides) (sym is) tt
-starts old mid row es (inr (none, least, found)) =
-    subst (NoStep decides) (sym found.2) (append (misses_steps found.0) (Start row ∷ []) (misses found.0) (refl, tt))
+starts old mid row es (inr (inl (none, first, least, found))) =
+    subst (NoStep decides) (sym found.2) (append (misses_steps found.0) (Start row.row 0 ∷ []) (misses found.0) (refl, tt))
+starts old mid row es (inr (inr (none, full, (ms, rest, are, (n, may, next, (passed, many, each, steps)), is)))) =
+    subst (NoStep decides) (sym is) (append (misses_steps ms) rest (misses ms)
+    (subst (NoStep decides) (sym steps) (append (search_steps 0 passed) (SawRow row.row 0 n ∷ Start row.row row.generation ∷ []) (searched 0 passed) (refl, (refl, tt)))))
 
-looked : (place : ℕ) (piece : Interval) (shown : List ℕ) → NoStep decides (looks_at place piece shown)
-looked place piece [] = tt
-looked place piece (word ∷ rest) = (refl, looked place piece rest)
-
-won : (row k place : ℕ) (piece : Interval) (o : Outcome) → NoStep decides (won_steps row k place piece o)
-won row k place piece outcome.Won = (refl, (refl, tt))
-won row k place piece outcome.Refused = tt
-won row k place piece outcome.Contended = tt
-
-part : (row k place : ℕ) (t : Part) → NoStep decides (part_steps row k place t)
-part row k place t = append (looks_at place t.piece t.shown) (won_steps row k place t.piece t.outcome) (looked place t.piece t.shown) (won row k place t.piece t.outcome)
-
-parts : (row k place : ℕ) (ts : List Part) → NoStep decides (parts_steps row k place ts)
-parts row k place [] = tt
-parts row k place (t ∷ ts) = append (part_steps row k place t) (parts_steps row (k + 1) place ts) (part row k place t) (parts row (k + 1) place ts)
-
-undid : (row k : ℕ) (o : Outcome) (ts : List Part) → NoStep decides (undone row k o ts)
-undid row k outcome.Won ts = tt
-undid row k outcome.Refused [] = tt
-undid row k outcome.Refused (t ∷ []) = tt
-undid row k outcome.Refused (t ∷ u ∷ ts) = (refl, tt)
-undid row k outcome.Contended [] = tt
-undid row k outcome.Contended (t ∷ []) = tt
-undid row k outcome.Contended (t ∷ u ∷ ts) = (refl, tt)
-
-tries : (row k : ℕ) (span : Interval) (ts : List Try) → NoStep decides (tries_steps row k span ts)
-tries row k span [] = tt
-tries row k span (t ∷ ts) =
-    append (try_steps row k t) (tries_steps row (k + length (won_by span t)) span ts)
-    (append (parts_steps row k t.place t.parts) (undone row k t.outcome t.parts) (parts row k t.place t.parts) (undid row k t.outcome t.parts))
-    (tries row (k + length (won_by span t)) span ts)
+abbrev DecidesNot : Step → Type 0
+DecidesNot st = decides st ≡ false
 
 gives : (row n : ℕ) → NoStep decides (gives_back row n)
 gives row zero = tt
 gives row (suc n) = (refl, gives row n)
 
-adds : (cat : CatalogueView) (o : OfferView) (row : ℕ) (items more : List Item) (s : Segment) (answer : Added) (old new : DeskView)
-    → AddsSegment cat o row items s answer more old new → Spares old new
-adds cat o row items more s answer old new did =
-    (did.0, subst (NoStep decides) (sym did.1.steps) (tries row (length items) s.span did.1.tries), did.2)
-
-places : (cat : CatalogueView) (o : OfferView) (row : ℕ) (items : List Item) (segments : List Segment) (p : Placing) (all : List Item) (old new : DeskView)
-    → IsLegal old.layout old.seen → PlacesAll cat o row items segments p all old new → Spares old new
-places cat o row items [] p all old new legal is = spares_same old new legal is.2
-places cat o row items (s ∷ rest) p all old new legal (inl (answer, more, mid, did, inl go)) =
-    spares_then old mid new (adds cat o row items more s answer old mid did) (places cat o row (items ++ more) rest p all mid new did.2.legal go.1)
-places cat o row items (s ∷ rest) p all old new legal (inl (answer, more, mid, did, inr stop)) =
-    spares_then old mid new (adds cat o row items more s answer old mid did) (spares_same mid new did.2.legal stop.2)
-places cat o row items (s ∷ rest) p all old new legal (inr none) = spares_same old new legal none.2
-
-holds : (cat : CatalogueView) (o : OfferView) (segments : List Segment) (row : ℕ) (p : Placing) (items : List Item) (old new : DeskView)
-    → HoldsPlaces cat o segments row p items old new → Spares old new
-holds cat o segments row p items old new (mid, started, placed) =
+holds : (cat : CatalogueView) (o : OfferView) (together : Bool) (segments : List Segment) (row : RowNo) (p : Placing) (items : List Item) (old new : DeskView)
+    → HoldsPlaces cat o together segments row p items old new → Spares old new
+holds cat o together segments row p items old new (mid, started, placed) =
     spares_then old mid new (started.0, starts old mid row started.0 started.1, started.2)
-    (places cat o row [] segments p items mid new started.2.legal placed)
+    (places_only DecidesNot cat o together row [] segments p items mid new (record { look = λ place half shown. refl; take = λ place span. refl; note = λ word value. refl; give = λ item. refl }) started.2.legal placed)
 
-gave : (row : ℕ) (items : List Item) (old new : DeskView) → GivesUp row items old new → Spares old new
-gave row items old new did = (gives_back row (length items), gives row (length items), did)
+gave : (row : RowNo) (items : List Item) (old new : DeskView) → GivesUp row items old new → Spares old new
+gave row items old new did = (gives_back row.row (length items), gives row.row (length items), did)
 
 -- the looks of searches
 
@@ -228,38 +193,38 @@ lists : (cat : CatalogueView) (s : Segment) (old new : DeskView) (reply : Reply)
 lists cat s old new reply legal (inl (free, did, told)) = spared old new reply (did.0, counts _ s.span free did.0 did.1, did.2)
 lists cat s old new reply legal (inr (same, eq)) = spared old new reply (spares_same old new legal same)
 
-fails : (cat : CatalogueView) (o : OfferView) (old new : DeskView) (reply : Reply) → FailsToHold cat o old new reply → MakesFor old new reply
-fails cat o old new reply (inl (none, eq)) = other old new reply (problem RowsFull) (none.0, none.2) eq refl
-fails cat o old new reply (inr (row, p, reason, items, mid, held, why, back, eq)) =
-    spared old new reply (spares_then old mid new (holds cat o o.segments row p items old mid held) (gave row items mid new back))
+fails : (cat : CatalogueView) (o : OfferView) (together : Bool) (old new : DeskView) (reply : Reply) → FailsToHold cat o together old new reply → MakesFor old new reply
+fails cat o together old new reply (inl (none, eq)) = other old new reply (problem RowsFull) (none.0, none.2) eq refl
+fails cat o together old new reply (inr (row, p, reason, items, mid, held, why, back, eq)) =
+    spared old new reply (spares_then old mid new (holds cat o together o.segments row p items old mid held) (gave row items mid new back))
 
-reserves : (cat : CatalogueView) (retailer now : ℕ) (o : OfferView) (old new : DeskView) (reply : Reply) → Reserves cat retailer now o old new reply → MakesFor old new reply
-reserves cat retailer now o old new reply (inl (row, items, mid, held, seals, eq)) =
-    makes_then old mid new reply (holds cat o o.segments row _ items old mid held) (other mid new reply _ (_, seals) eq refl)
-reserves cat retailer now o old new reply (inr (inl short)) = fails cat o old new reply short
-reserves cat retailer now o old new reply (inr (inr ((row, items, mid, held, back), eq))) =
-    spared old new reply (spares_then old mid new (holds cat o o.segments row _ items old mid held) (gave row items mid new back))
+reserves : (cat : CatalogueView) (retailer now : ℕ) (o : OfferView) (together : Bool) (old new : DeskView) (reply : Reply) → Reserves cat retailer now o together old new reply → MakesFor old new reply
+reserves cat retailer now o together old new reply (inl (row, items, mid, held, seals, eq)) =
+    makes_then old mid new reply (holds cat o together o.segments row _ items old mid held) (other mid new reply _ (_, seals) eq refl)
+reserves cat retailer now o together old new reply (inr (inl short)) = fails cat o together old new reply short
+reserves cat retailer now o together old new reply (inr (inr ((row, items, mid, held, back), eq))) =
+    spared old new reply (spares_then old mid new (holds cat o together o.segments row _ items old mid held) (gave row items mid new back))
 
 module _ (Does : RowSeen → Replying) (does : (v : RowSeen) (old new : DeskView) (reply : Reply) → IsLegal old.layout old.seen → Does v old new reply → MakesFor old new reply) where
-  on_booking : (rows row retailer : ℕ) (old new : DeskView) (reply : Reply) → OnBooking rows row retailer Does old new reply → MakesFor old new reply
+  on_booking : (rows : ℕ) (row : RowNo) (retailer : ℕ) (old new : DeskView) (reply : Reply) → OnBooking rows row retailer Does old new reply → MakesFor old new reply
   on_booking rows row retailer old new reply (inl (none, eq)) = other old new reply (problem UnknownBooking) (none.0, none.2) eq refl
   on_booking rows row retailer old new reply (inr (v, mid, sees, inl did)) =
       makes_then old mid new reply (sees.0, found rows row retailer v sees.0 sees.1, sees.2) (does v mid new reply sees.2.legal did)
   on_booking rows row retailer old new reply (inr (v, mid, sees, inr (same, eq))) =
       spared old new reply (spares_then old mid new (sees.0, found rows row retailer v sees.0 sees.1, sees.2) (spares_same mid new sees.2.legal same))
 
-confirm_told : (row now : ℕ) (v : RowSeen) (a : Confirmed) → is_500 (confirm_reply row now v a) ≡ false
+confirm_told : (row : RowNo) (now : ℕ) (v : RowSeen) (a : Confirmed) → is_500 (confirm_reply row now v a) ≡ false
 confirm_told row now v confirmed.Done = refl
 confirm_told row now v confirmed.Unknown = refl
 confirm_told row now v (confirmed.TooLate limit) = refl
 confirm_told row now v (confirmed.WrongState shown) = refl
 
-fulfil_told : (row : ℕ) (v : RowSeen) (a : Fulfilment) → is_500 (fulfil_reply row v a) ≡ false
+fulfil_told : (row : RowNo) (v : RowSeen) (a : Fulfilment) → is_500 (fulfil_reply row v a) ≡ false
 fulfil_told row v fulfilled.Done = refl
 fulfil_told row v fulfilled.Unknown = refl
 fulfil_told row v (fulfilled.WrongState shown) = refl
 
-release_told : (row now : ℕ) (v : RowSeen) (a : Released) → is_500 (release_reply row now v a) ≡ false
+release_told : (row : RowNo) (now : ℕ) (v : RowSeen) (a : Released) → is_500 (release_reply row now v a) ≡ false
 release_told row now v released.Done = refl
 release_told row now v released.Unknown = refl
 release_told row now v (released.WrongState shown) = refl
@@ -271,31 +236,40 @@ refund_told code now v (refunded.WrongState shown) = refl
 refund_told code now v (refunded.QuoteStale made at) = refl
 refund_told code now v refunded.QuoteWrong = refl
 
-quotes : (cat : CatalogueView) (rows row retailer now : ℕ) (old new : DeskView) (reply : Reply) → QuotesIt cat rows row retailer now old new reply → MakesFor old new reply
+quotes : (cat : CatalogueView) (rows : ℕ) (row : RowNo) (retailer now : ℕ) (old new : DeskView) (reply : Reply) → QuotesIt cat rows row retailer now old new reply → MakesFor old new reply
 quotes cat rows row retailer now old new reply (quoted.Done code, (es, (here, (v, sees, phase, is)), shape), told) =
-    spared old new reply (es, saw row v es sees.steps, shape)
+    spared old new reply (es, saw row retailer v es sees, shape)
 quotes cat rows row retailer now old new reply (quoted.Unknown, did, told) = other old new reply _ (did.0, did.2) told refl
 quotes cat rows row retailer now old new reply (quoted.WrongState shown, did, told) = other old new reply _ (did.0, did.2) told refl
 
-quotes_exchange : (cat : CatalogueView) (rows row retailer : ℕ) (o : OfferView) (now : ℕ) (old new : DeskView) (reply : Reply)
+quotes_exchange : (cat : CatalogueView) (rows : ℕ) (row : RowNo) (retailer : ℕ) (o : OfferView) (now : ℕ) (old new : DeskView) (reply : Reply)
     → QuotesExchangeOfIt cat rows row retailer o now old new reply → MakesFor old new reply
 quotes_exchange cat rows row retailer o now old new reply (quoted_exchange.Done code, (es, (here, (v, sees, phase, is)), shape), told) =
-    spared old new reply (es, saw row v es sees.steps, shape)
+    spared old new reply (es, saw row retailer v es sees, shape)
 quotes_exchange cat rows row retailer o now old new reply (quoted_exchange.Unknown, did, told) = other old new reply _ (did.0, did.2) told refl
 quotes_exchange cat rows row retailer o now old new reply (quoted_exchange.WrongState shown, did, told) = other old new reply _ (did.0, did.2) told refl
 
-decides_or_not : (ready : ReadyView) (row : ℕ) (items : List Item) (d : Detail) (old new : DeskView) (reply : Reply)
+lost_told : (shown : Phase) → is_500 (problem (lost_problem shown)) ≡ false
+lost_told phase.Free = refl
+lost_told phase.Making = refl
+lost_told phase.Prebooked = refl
+lost_told phase.Confirmed = refl
+lost_told phase.Fulfilled = refl
+lost_told (phase.Ending kind) = refl
+lost_told (phase.Ended kind) = refl
+
+decides_or_not : (ready : ReadyView) (row : RowNo) (items : List Item) (d : Detail) (old new : DeskView) (reply : Reply)
     → DecidesOrNot ready row items d old new reply → MakesFor old new reply
 decides_or_not ready row items d old new reply (inl (noted, notes, inl (made, difference, did, seals, is))) =
     other old new reply _ (decides_own ready row items d old new reply (inl (noted, notes, inl (made, difference, did, seals, is)))) is refl
 decides_or_not ready row items d old new reply (inl (noted, notes, inr (shown, hold, lost, did, back, is))) =
-    other old new reply _ (decides_own ready row items d old new reply (inl (noted, notes, inr (shown, hold, lost, did, back, is)))) is refl
+    other old new reply _ (decides_own ready row items d old new reply (inl (noted, notes, inr (shown, hold, lost, did, back, is)))) is (lost_told shown)
 decides_or_not ready row items d old new reply (inr (back, is)) = spared old new reply (gave row items old new back)
 
 carries : (cat : CatalogueView) (ready : ReadyView) (old new : DeskView) (reply : Reply) → CarriesOut cat ready old new reply → MakesFor old new reply
-carries cat ready old new reply (inl short) = fails cat ready.code.offer old new reply short
+carries cat ready old new reply (inl short) = fails cat ready.code.offer false old new reply short
 carries cat ready old new reply (inr (row, items, mid, held, did)) =
-    makes_then old mid new reply (holds cat ready.code.offer ready.code.offer.segments row _ items old mid held) (decides_or_not ready row items _ mid new reply did)
+    makes_then old mid new reply (holds cat ready.code.offer false ready.code.offer.segments row _ items old mid held) (decides_or_not ready row items _ mid new reply did)
 
 exchanges_it : (cat : CatalogueView) (rows retailer : ℕ) (x : ExchangeView) (now : ℕ) (old new : DeskView) (reply : Reply)
     → ExchangesIt cat rows retailer x now old new reply → MakesFor old new reply
@@ -307,35 +281,35 @@ exchanges_it cat rows retailer x now old new reply (inl (readied.QuoteStale made
     other old new reply (problem (OfferTooOld made at)) (did.0, did.2) (is ∙ ap problem un) refl
 exchanges_it cat rows retailer x now old new reply (inl (readied.QuoteWrong, p, did, un, is)) = other old new reply (problem QuoteWrong) (did.0, did.2) (is ∙ ap problem un) refl
 exchanges_it cat rows retailer x now old new reply (inr (mid, (es, (same, (v, right, phase)), shape), goes)) =
-    makes_then old mid new reply (es, saw x.row v es right.sees.steps, shape) (carries cat (ready_of retailer x now) mid new reply goes)
+    makes_then old mid new reply (es, saw x.row retailer v es right.sees, shape) (carries cat (ready_of retailer x now) mid new reply goes)
 
 performs : (cat : CatalogueView) (retailer now : ℕ) (c : Command) (old new : DeskView) (reply : Reply) → IsLegal old.layout old.seen
     → Performs cat retailer now c old new reply → MakesFor old new reply
 performs cat retailer now (command.Offers trip adults children class wanted) old new reply legal did = searches cat _ now old new reply did
-performs cat retailer now (command.Book None) old new reply legal did = absurd did
-performs cat retailer now (command.Book (Some code)) old new reply legal did = reserves cat retailer now (offer_view code) old new reply did
-performs cat retailer now (command.Reserve segment class count wanted) old new reply legal did =
-    reserves cat retailer now (reserved segment class count wanted now) old new reply did
+performs cat retailer now (command.Book None together) old new reply legal did = absurd did
+performs cat retailer now (command.Book (Some code) together) old new reply legal did = reserves cat retailer now (offer_view code) together old new reply did
+performs cat retailer now (command.Reserve segment class count wanted together) old new reply legal did =
+    reserves cat retailer now (reserved segment class count wanted now) together old new reply did
 performs cat retailer now (command.Show None) old new reply legal did = absurd did
 performs cat retailer now (command.Show (Some row)) old new reply legal did =
-    on_booking (shows row.0) (λ v a b r l is. other a b r _ (own_same a b l is.0) is.1 refl) cat.rows row.0 retailer old new reply did
+    on_booking (shows row) (λ v a b r l is. other a b r _ (own_same a b l is.0) is.1 refl) cat.rows row retailer old new reply did
 performs cat retailer now (command.Release None) old new reply legal did = absurd did
 performs cat retailer now (command.Release (Some row)) old new reply legal did =
-    on_booking (ReleasesIt cat.rows row.0 retailer now) (λ v a b r l is. other a b r _ (is.1.0, is.1.2) is.2 (release_told row.0 now v is.0)) cat.rows row.0 retailer old new reply did
+    on_booking (ReleasesIt cat.rows row retailer now) (λ v a b r l is. other a b r _ (is.1.0, is.1.2) is.2 (release_told row now v is.0)) cat.rows row retailer old new reply did
 performs cat retailer now (command.Confirm None) old new reply legal did = absurd did
 performs cat retailer now (command.Confirm (Some row)) old new reply legal did =
-    on_booking (ConfirmsIt cat.rows row.0 retailer now) (λ v a b r l is. other a b r _ (is.1.0, is.1.2) is.2 (confirm_told row.0 now v is.0)) cat.rows row.0 retailer old new reply did
+    on_booking (ConfirmsIt cat.rows row retailer now) (λ v a b r l is. other a b r _ (is.1.0, is.1.2) is.2 (confirm_told row now v is.0)) cat.rows row retailer old new reply did
 performs cat retailer now (command.Fulfil None) old new reply legal did = absurd did
 performs cat retailer now (command.Fulfil (Some row)) old new reply legal did =
-    on_booking (FulfilsIt cat.rows row.0 retailer) (λ v a b r l is. other a b r _ (is.1.0, is.1.2) is.2 (fulfil_told row.0 v is.0)) cat.rows row.0 retailer old new reply did
+    on_booking (FulfilsIt cat.rows row retailer) (λ v a b r l is. other a b r _ (is.1.0, is.1.2) is.2 (fulfil_told row v is.0)) cat.rows row retailer old new reply did
 performs cat retailer now (command.QuoteRefund None) old new reply legal did = absurd did
-performs cat retailer now (command.QuoteRefund (Some row)) old new reply legal did = quotes cat cat.rows row.0 retailer now old new reply did
+performs cat retailer now (command.QuoteRefund (Some row)) old new reply legal did = quotes cat cat.rows row retailer now old new reply did
 performs cat retailer now (command.AcceptRefund row None) old new reply legal did = absurd did
 performs cat retailer now (command.AcceptRefund row (Some code)) old new reply legal did =
-    on_booking (RefundsIt cat cat.rows retailer code now) (λ v a b r l is. other a b r _ (is.1.0, is.1.2) is.2 (refund_told code now v is.0)) cat.rows code.row.0 retailer old new reply did
+    on_booking (RefundsIt cat cat.rows retailer code now) (λ v a b r l is. other a b r _ (is.1.0, is.1.2) is.2 (refund_told code now v is.0)) cat.rows code.row retailer old new reply did
 performs cat retailer now (command.QuoteExchange None offer) old new reply legal did = absurd did
 performs cat retailer now (command.QuoteExchange (Some row) None) old new reply legal did = absurd did
-performs cat retailer now (command.QuoteExchange (Some row) (Some offer)) old new reply legal did = quotes_exchange cat cat.rows row.0 retailer (offer_view offer) now old new reply did
+performs cat retailer now (command.QuoteExchange (Some row) (Some offer)) old new reply legal did = quotes_exchange cat cat.rows row retailer (offer_view offer) now old new reply did
 performs cat retailer now (command.AcceptExchange row None) old new reply legal did = absurd did
 performs cat retailer now (command.AcceptExchange row (Some code)) old new reply legal did = exchanges_it cat cat.rows retailer (exchange_view code) now old new reply did
 performs cat retailer now (command.Places segment) old new reply legal did = lists cat segment old new reply legal did

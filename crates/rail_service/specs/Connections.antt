@@ -16,7 +16,7 @@ use Rattle.claim_rule.specs.Out.{IsIdle}
 use Rattle.rail_catalogue.specs.Contents.{CatalogueView}
 use Rattle.osdm_texts.specs.Answers.{Reply, problem}
 use Rattle.rail_service.specs.Bytes.{reply_bytes}
-use Rattle.reservation_service.specs.Reserving.{HasNoItem}
+use Rattle.claim_rule.specs.Out.{MakesEmpty}
 use Rattle.rail_service.specs.Sparing.{SparesBookings}
 use Rattle.rail_service.specs.Refusals.{problem_of_wire}
 use Rattle.rail_service.specs.Serving.{retailer_of, first_after, AnswersRequest}
@@ -46,7 +46,7 @@ pub record IsAnswer (cat : CatalogueView) (before : ServiceView) (request : Requ
   pub shape : Shape before.desk after.desk steps
   pub spares : SparesBookings reply steps
   pub idle : IsIdle after.desk
-  pub no_item : HasNoItem after.desk
+  pub no_item : MakesEmpty after.desk
 
 abbrev pub answers_of : CatalogueView → Answering ServiceView
 answers_of cat = λ before request written after. IsAnswer cat before request written after

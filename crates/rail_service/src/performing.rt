@@ -3,14 +3,13 @@ ghost use Rattle.std.specs.Prelude.{◌≡◌, None};
 ghost use Rattle.session_loop.specs.Answered.{answer_bytes};
 ghost use Rattle.rail_catalogue.specs.Contents.{legs_in};
 ghost use Rattle.claim_rule.specs.Seats.{IsOf};
-ghost use Rattle.claim_rule.specs.Out.{IsIdle, IsTidy};
+ghost use Rattle.claim_rule.specs.Out.{IsIdle, IsTidy, MakesEmpty};
 ghost use Rattle.osdm_texts.specs.Answers.{Reply, told_of};
 ghost use Rattle.osdm_json.specs.declared.command.Command.TheVariants as command;
 ghost use Rattle.osdm_json.specs.Readable.{IsReadable};
 ghost use Rattle.service_rules.specs.Checks.{command_fault};
 ghost use Rattle.service_rules.specs.Answering.{Answers, BooksAllOrNone};
 ghost use Rattle.rail_service.specs.Bytes.{reply_bytes};
-ghost use Rattle.reservation_service.specs.Reserving.{HasNoItem};
 ghost use Rattle.rail_service.specs.Commands.{SaysOf, CarriesOut, GoesOn};
 ghost use Rattle.rail_service.specs.Sparing.{MakesFor};
 
@@ -55,7 +54,7 @@ pub fn perform(
     ensures own { IsOf books.now desk.new }
     ensures idle { IsIdle desk.new }
     ensures tidy { IsTidy desk.old → IsTidy desk.new }
-    ensures no_item { HasNoItem desk.new }
+    ensures no_item { MakesEmpty desk.new }
     ensures goes_on { GoesOn desk.old desk.new }
     ensures answer { (reply : Reply) × Answers cat.now retailer.0 now command.now desk.old desk.new reply
         × BooksAllOrNone cat.now now command.now desk.old desk.new reply
@@ -132,18 +131,20 @@ fn carry_out(
             };
             search_offers(shop, desk, &wish, asker.moment)
         }
-        Command::Book { offer } => book(shop, desk, asker, offer),
+        Command::Book { offer, together } => book(shop, desk, asker, offer, *together),
         Command::Reserve {
             segment,
             class,
             count,
             wanted,
+            together,
         } => {
             let reservation = Reservation {
                 segment: *segment,
                 class: *class,
                 count: *count,
                 traits: *wanted,
+                together: *together,
             };
             reserve_places(shop, desk, asker, reservation)
         }
@@ -166,19 +167,21 @@ fn book(
     desk: &mut Desk,
     asker: Asker,
     offer: &Option<OfferCode>,
+    together: bool,
 ) -> Result<Written, Problem>
     requires own { IsOf shop.now.books.now desk.old }
     requires legs { shop.now.books.now.layout.legs ≡ legs_in shop.now.cat.now }
     requires idle { IsIdle desk.old }
-    requires command { IsReadable shop.now.cat.now (command.Book offer.now) }
-    requires sound { command_fault shop.now.cat.now asker.moment (command.Book offer.now) ≡ None }
+    requires command { IsReadable shop.now.cat.now (command.Book offer.now together) }
+    requires sound { command_fault shop.now.cat.now asker.moment (command.Book offer.now together) ≡ None }
     ensures own { IsOf shop.now.books.now desk.new }
     ensures idle { IsIdle desk.new }
     ensures tidy { IsTidy desk.old → IsTidy desk.new }
-    ensures answer { CarriesOut shop.now.cat.now asker.retailer.0 asker.moment (command.Book offer.now) desk.old desk.new (told_of result) }
+    ensures answer { CarriesOut shop.now.cat.now asker.retailer.0 asker.moment (command.Book offer.now together)
+        desk.old desk.new (told_of result) }
 {
     let Some(code) = offer else {
         unreachable!();
     };
-    book_offer(shop, desk, asker, code)
+    book_offer(shop, desk, asker, code, together)
 }

@@ -1,3 +1,2 @@
 pub mod ReleaseSteps
-pub mod QuoteSteps
 pub mod RefundSteps

@@ -1,28 +1,27 @@
 -- What a quote rests on: the booking as one look shows it, the phase that a code names, the age of a code, and the amount.
-use Rattle.std.specs.Prelude.{◌≡◌, ℕ, ◌-◌, ◌<◌, ◌||◌, nat_lt, Bool, List, if◌then◌else◌, Option, Some, None}
+use Rattle.std.specs.Prelude.{◌≡◌, ◌≢◌, ◌⊎◌, ℕ, ◌-◌, ◌<◌, ◌≤◌, [], ◌||◌, nat_lt, Bool, List, if◌then◌else◌, Option, Some, None}
 use Rattle.history_model.specs.declared.entry.Step.{Step}
 use Rattle.history_model.specs.declared.phase.Phase.{Phase}
 use Rattle.history_model.specs.declared.phase.Phase.TheVariants.{Confirmed, Fulfilled}
-use Rattle.booking_rows.specs.Views.{RowSeen, IsSeen, saw_row}
-use Rattle.row_decisions.specs.Looks.{IsUnknown}
+use Rattle.rail_ids.specs.declared.RowNo.{RowNo}
+use Rattle.booking_rows.specs.Views.{RowSeen, LooksRow}
 use Rattle.rail_catalogue.specs.Contents.{CatalogueView, least_departure}
 use Rattle.tariff.specs.Refunds.{refund_of}
 
 -- this booking of the retailer was seen
-pub record SeesOwn (row retailer : ℕ) (v : RowSeen) (es : List Step) : Type 0 where
-  pub seen : IsSeen v
-  pub mine : v.retailer ≡ retailer
-  pub steps : es ≡ saw_row row v
+abbrev pub SeesOwn : RowNo → ℕ → RowSeen → List Step → Type 0
+SeesOwn row retailer v es = (v.retailer ≡ retailer) × LooksRow row (Some v) es
 
--- no booking of the retailer was seen
-abbrev pub SeesNone : ℕ → ℕ → ℕ → List Step → Type 0
+-- no booking of the retailer was seen: the row is past the last, or the looks show none, or another retailer's
+abbrev pub SeesNone : ℕ → RowNo → ℕ → List Step → Type 0
 SeesNone rows row retailer es =
-    IsUnknown rows row retailer (λ shown who es'. (v : RowSeen) × IsSeen v × (v.phase ≡ shown) × (v.retailer ≡ who) × (es' ≡ saw_row row v)) es
+    ((rows ≤ row.row) × (es ≡ []))
+    ⊎ ((row.row < rows) × (LooksRow row None es ⊎ ((v : RowSeen) × (v.retailer ≢ retailer) × LooksRow row (Some v) es)))
 
 -- the steps of a look for this retailer's booking, by what it shows
-abbrev pub FindsBooking : ℕ → ℕ → ℕ → Option RowSeen → List Step → Type 0
+abbrev pub FindsBooking : ℕ → RowNo → ℕ → Option RowSeen → List Step → Type 0
 FindsBooking rows row retailer None es = SeesNone rows row retailer es
-FindsBooking rows row retailer (Some v) es = (row < rows) × SeesOwn row retailer v es
+FindsBooking rows row retailer (Some v) es = (row.row < rows) × SeesOwn row retailer v es
 
 -- the phase that a code names: whether the ticket was collected
 abbrev pub phase_named : Bool → Phase

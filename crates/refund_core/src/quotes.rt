@@ -2,10 +2,11 @@
 ghost use Rattle.std.specs.Prelude.{◌≡◌, ◌≢◌, ◌<◌, ◌≤◌, ◌+◌, ◌↔◌, IsTrue, IfSome, IfNone};
 ghost use Rattle.history_model.specs.declared.phase.Phase.TheVariants.{Confirmed, Fulfilled};
 ghost use Rattle.history_model.specs.Booking.{most_items, most_rows, greatest_amount};
+ghost use Rattle.rail_ids.specs.Spelling.{last_generation};
 ghost use Rattle.claim_rule.specs.Seats.{IsOf, AddsAtMost};
 ghost use Rattle.claim_rule.specs.Calls.{ShapeBy};
 ghost use Rattle.claim_rule.specs.Out.{KeepsHolds, KeepsEndings};
-ghost use Rattle.row_decisions.specs.Looks.{IsSealedRow};
+ghost use Rattle.booking_rows.specs.SealedRows.{IsSealedRow};
 ghost use Rattle.refund_core.specs.Quotes.{FindsBooking, phase_named as phase_named_of, is_stale as is_stale_at, refund_at as worth_at};
 
 use booking_rows::{RowView, look_row};
@@ -19,8 +20,8 @@ use tariff::refund_value;
 /// For how many seconds a quote stands.
 pub const QUOTE_SECONDS: u64 = 900;
 
-/// This retailer's booking in a row, as one look shows it. `None` exactly where the row is past the last, or its look shows it free, in the
-/// making, or another retailer's.
+/// This retailer's booking, as looks at its row show it. `None` exactly where the row is past the last, the first look shows the booking
+/// free or in the making, the last one free, or its retailer is another.
 pub fn find_booking(
     books: &Books,
     desk: &mut Desk,
@@ -29,15 +30,16 @@ pub fn find_booking(
 ) -> Option<RowView>
     requires own { IsOf books.now desk.old }
     ensures own { IsOf books.now desk.new }
-    ensures entries { ShapeBy (FindsBooking books.now.layout.rows row.0 retailer.0 result) desk.old desk.new }
-    ensures sealed { IfSome result (λ _. IsSealedRow desk.new row.0) }
-    ensures row { IfSome result (λ _. row.0 < most_rows) }
+    ensures entries { ShapeBy (FindsBooking books.now.layout.rows row retailer.0 result) desk.old desk.new }
+    ensures sealed { IfSome result (λ _. IsSealedRow desk.new row) }
+    ensures row { IfSome result (λ _. row.row < most_rows) }
+    ensures generation { IfSome result (λ _. row.generation ≤ last_generation) }
     ensures total { IfSome result (λ v. v.total ≤ greatest_amount) }
     ensures holds { KeepsHolds desk.old desk.new }
     ensures endings { KeepsEndings desk.old desk.new }
-    ensures bound { AddsAtMost (most_items + 8) desk.old desk.new }
+    ensures bound { AddsAtMost (most_items + 9) desk.old desk.new }
 {
-    if row.0 >= books.rows() {
+    if row.row >= books.rows() {
         return None;
     }
     let view = look_row(books, desk, row)?;

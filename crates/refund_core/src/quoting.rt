@@ -20,14 +20,15 @@ use rail_time::Moment;
 pub enum Quoted {
     /// The quote.
     Done(RefundCode),
-    /// The row is past the last, or its look shows it free, in the making, or another retailer's.
+    /// The row is past the last, or its look shows the booking free, in the making, or another retailer's; or its last look shows it
+    /// free.
     Unknown,
     /// The look shows another phase than confirmed and fulfilled.
     WrongState { shown: Phase },
 }
 
 /// Quotes a refund of this retailer's confirmed or fulfilled booking: what it is worth now, in the phase that its look shows. The quote is
-/// in the ranges of its spelling. At most 56 entries are added.
+/// in the ranges of its spelling. At most 57 entries are added.
 pub fn quote_refund(
     cat: &Catalogue,
     books: &Books,
@@ -38,11 +39,11 @@ pub fn quote_refund(
 ) -> Quoted
     requires own { IsOf books.now desk.old }
     ensures own { IsOf books.now desk.new }
-    ensures entries { ShapeBy (QuotesRefund cat.now books.now.layout.rows row.0 retailer.0 now result) desk.old desk.new }
+    ensures entries { ShapeBy (QuotesRefund cat.now books.now.layout.rows row retailer.0 now result) desk.old desk.new }
     ensures range { IfQuoted result (λ code. is_refund code ≡ true) }
     ensures holds { KeepsHolds desk.old desk.new }
     ensures endings { KeepsEndings desk.old desk.new }
-    ensures bound { AddsAtMost (most_items + 8) desk.old desk.new }
+    ensures bound { AddsAtMost (most_items + 9) desk.old desk.new }
 {
     let Some(view) = find_booking(books, desk, row, retailer) else {
         return Quoted::Unknown;

@@ -21,9 +21,10 @@ use row_decisions::end_row;
 pub enum Refunded {
     /// The booking is refunded by this call, with the code's amount in minor units, and all its items are given back.
     Done { amount: u64 },
-    /// The row is past the last, or its look shows it free, in the making, or another retailer's.
+    /// The row is past the last, or its look shows the booking free, in the making, or another retailer's; or the last look, or the
+    /// lost turn of this call, shows it free.
     Unknown,
-    /// The look, or the lost turn of this call, shows another phase than the code names.
+    /// The look, or the lost turn of this call, shows another phase than the code names, and no look shows it free.
     WrongState { shown: Phase },
     /// The quote was made after now, or more than 900 seconds before.
     QuoteStale { made: Moment, now: Moment },
@@ -32,7 +33,7 @@ pub enum Refunded {
 }
 
 /// Refunds this retailer's booking by a quote, in just the phase that the quote names. Refusals are tried in this order: `QuoteStale`,
-/// `Unknown`, `QuoteWrong`, `WrongState`. The desk has no ending out. At most 158 entries are added.
+/// `Unknown`, `QuoteWrong`, `WrongState`. The desk has no ending out. At most 159 entries are added.
 pub fn accept_refund(
     cat: &Catalogue,
     books: &Books,
@@ -47,7 +48,7 @@ pub fn accept_refund(
     ensures entries { ShapeBy (AcceptsRefund cat.now books.now.layout.rows retailer.0 code.now now result) desk.old desk.new }
     ensures none { EndsNone desk.new }
     ensures holds { KeepsHolds desk.old desk.new }
-    ensures bound { AddsAtMost (3 * most_items + 14) desk.old desk.new }
+    ensures bound { AddsAtMost (3 * most_items + 15) desk.old desk.new }
 {
     let made = code.made;
     if is_stale(made, now) {
@@ -64,8 +65,11 @@ pub fn accept_refund(
     }
     let from = phase_named(code.fulfilled);
     let amount = code.amount;
-    match end_row(books, desk, code.row, from, Aim::Refund { now, amount }) {
-        None => Refunded::Done { amount },
-        Some(shown) => Refunded::WrongState { shown },
+    let Some(found) = end_row(books, desk, code.row, from, Aim::Refund { now, amount }) else {
+        return Refunded::Done { amount };
+    };
+    if let Phase::Free = found {
+        return Refunded::Unknown;
     }
+    Refunded::WrongState { shown: found }
 }

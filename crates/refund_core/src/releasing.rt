@@ -18,13 +18,14 @@ use row_decisions::{end_row, find_owned};
 pub enum Released {
     /// The booking is released by this call, and all its items are given back.
     Done,
-    /// The row is past the last, or its look shows it free, in the making, or another retailer's.
+    /// The row is past the last, or its look shows the booking free, in the making, or another retailer's; or the second look, or the
+    /// lost turn of this call, shows it free.
     Unknown,
-    /// The look, or the lost turn of this call, shows another phase than prebooked.
+    /// The look, or the lost turn of this call, shows another phase than prebooked, and no look shows it free.
     WrongState { shown: Phase },
 }
 
-/// Releases a prebooked booking of this retailer, also after its limit. The desk has no ending out. At most 104 entries are added.
+/// Releases a prebooked booking of this retailer, also after its limit. The desk has no ending out. At most 105 entries are added.
 pub fn release(
     books: &Books,
     desk: &mut Desk,
@@ -35,10 +36,10 @@ pub fn release(
     requires own { IsOf books.now desk.old }
     requires none { EndsNone desk.old }
     ensures own { IsOf books.now desk.new }
-    ensures entries { ShapeBy (Releases books.now.layout.rows row.0 retailer.0 now result) desk.old desk.new }
+    ensures entries { ShapeBy (Releases books.now.layout.rows row retailer.0 now result) desk.old desk.new }
     ensures none { EndsNone desk.new }
     ensures holds { KeepsHolds desk.old desk.new }
-    ensures bound { AddsAtMost (2 * most_items + 8) desk.old desk.new }
+    ensures bound { AddsAtMost (2 * most_items + 9) desk.old desk.new }
 {
     let Some(shown) = find_owned(books, desk, row, retailer) else {
         return Released::Unknown;
@@ -46,8 +47,11 @@ pub fn release(
     let Phase::Prebooked = shown else {
         return Released::WrongState { shown };
     };
-    match end_row(books, desk, row, Phase::Prebooked, Aim::Release { now }) {
-        None => Released::Done,
-        Some(shown) => Released::WrongState { shown },
+    let Some(found) = end_row(books, desk, row, Phase::Prebooked, Aim::Release { now }) else {
+        return Released::Done;
+    };
+    if let Phase::Free = found {
+        return Released::Unknown;
     }
+    Released::WrongState { shown: found }
 }

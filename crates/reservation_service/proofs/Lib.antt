@@ -1,4 +1,5 @@
 pub mod Candidates
+pub mod Adding
 pub mod Won
 pub mod Placed
 pub mod Runs

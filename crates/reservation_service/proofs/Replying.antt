@@ -1,9 +1,9 @@
 -- The replies to a booking of an offer.
-use Rattle.std.proofs.Common.{◌≡◌, ◌∙◌, inl, inr, ℕ, ◌≤◌, List, [], ◌∷◌, ◌++◌, map, length, Option, Some, None, refl, sym, ap, subst, arith, append_assoc}
-use Rattle.std.specs.Prelude.{IfSome, IsSomeAnd}
+use Rattle.std.proofs.Common.{◌≡◌, Bool, ◌∙◌, inl, inr, ℕ, ◌≤◌, List, [], ◌∷◌, ◌++◌, length, Option, Some, None, refl, sym, ap, subst, arith, append_assoc}
+use Rattle.rail_ids.specs.declared.RowNo.{RowNo}
 use mathlib.Core.List.{IsPrefix}
 use Rattle.leg_masks.specs.Interval.{PlacedSpan as Item}
-use Rattle.history_model.specs.Booking.{Booking, Layout}
+use Rattle.history_model.specs.Booking.{Layout}
 use Rattle.history_model.specs.Allowed.{OnRow}
 use Rattle.history_model.specs.History.{entry, state_of}
 use Rattle.history_model.specs.declared.entry.Entry.{Entry}
@@ -12,12 +12,16 @@ use Rattle.history_model.specs.declared.entry.Step.TheVariants.{Seal}
 use Rattle.history_model.specs.declared.phase.Phase.{Phase}
 use Rattle.history_model.specs.declared.phase.Phase.TheVariants as phase
 use Rattle.claim_rule.specs.Rule.{BooksView, DeskView}
-use Rattle.claim_rule.specs.Holds.{HoldView, StandsFor, empty_hold, held}
+use Rattle.claim_rule.specs.Holds.{HoldView}
 use Rattle.claim_rule.specs.Seats.{IsOf, Shape}
 use Rattle.claim_rule.proofs.Shapes.{shape_then}
 use Rattle.booking_rows.specs.declared.notes.Detail.{Detail}
+use Rattle.booking_rows.specs.Views.{RowSeen, MaySucceed}
+use Rattle.booking_rows.proofs.ViewLemmas.{generation_of_hold}
+use Rattle.osdm_texts.specs.Ids.{HasId}
+use Rattle.osdm_texts.specs.Bookings.{HasIds}
 use Rattle.booking_rows.specs.Notes.{detail_notes}
-use Rattle.claim_rule.specs.Out.{HoldsNone, SealsItems, IsIdle, IsTidy}
+use Rattle.claim_rule.specs.Out.{IsHolding, MakesEmpty, IsSealedAs, SealsItems, IsIdle, IsTidy}
 use Rattle.offer_codes.specs.Offers.{OfferView}
 use Rattle.rail_catalogue.specs.Contents.{CatalogueView}
 use Rattle.osdm_texts.specs.declared.problem.Problem.{Problem}
@@ -27,7 +31,7 @@ use Rattle.osdm_texts.proofs.Telling.{of_problem}
 use Rattle.reservation_service.specs.declared.holding.Placing.{Placing}
 use Rattle.reservation_service.specs.declared.holding.Placing.TheVariants.{Whole, Short, Contended, NoMemory}
 use Rattle.reservation_service.specs.Holding.{count_of, HoldsPlaces, FindsNoRow, GivesUp, HasAllPlaces, problem_of}
-use Rattle.reservation_service.specs.Reserving.{detail_of, made_view, Reserves, SealsHold, HasAllOrNone, HasNoItem, AnswersReserving}
+use Rattle.reservation_service.specs.Reserving.{detail_of, made_view, Reserves, SealsHold, HasAllOrNone, AnswersReserving}
 use Rattle.reservation_service.proofs.Placed.{whole_places, places_many}
 use Rattle.reservation_service.proofs.Calm.{held_calmly, reserves_tidy}
 
@@ -37,36 +41,35 @@ whole_of Short e = absurd (let no : ◌≡◌ {A = Option Problem} (Some reason.
 whole_of Contended e = absurd (let no : ◌≡◌ {A = Option Problem} (Some reason.Contended) None = e in cc)
 whole_of NoMemory e = absurd (let no : ◌≡◌ {A = Option Problem} (Some reason.NoMemory) None = e in cc)
 
--- a desk of the books that holds nothing: the row that it keeps has no item
-pub no_item : (books : BooksView) (desk : DeskView) → IsOf books desk → HoldsNone desk → HasNoItem desk
-no_item books desk of none row makes =
-    let stands = subst (λ (o : Option ℕ). IfSome o (λ kept. StandsFor desk (empty_hold kept))) (none row makes) of.kept in
-    subst (λ (o : Option Booking). IsSomeAnd o (λ b. b.items ≡ [])) (sym stands.found) stands.items
+-- the ids of a new booking
+pub made_ids : (books : BooksView) (desk : DeskView) (hold : HoldView) (row : RowNo) (v : RowSeen) (phase : Phase) (d : Detail) (items : List Item) → IsOf books desk → IsHolding desk hold → row ≡ hold.row → v ≡ made_view phase d items → HasIds row v
+made_ids books desk hold row v phase d items of out same is =
+    (subst HasId (sym same) (generation_of_hold books desk hold of out), subst (λ (s : RowSeen). MaySucceed s.ended) (sym is) tt)
 
-pub no_row : (cat : CatalogueView) (retailer now : ℕ) (o : OfferView) (old new : DeskView) → FindsNoRow old new → HasNoItem new
-    → AnswersReserving cat retailer now o old new (refused reason.RowsFull)
-no_row cat retailer now o old new did none = (problem reason.RowsFull, inr (inl (inl (did, refl))), none, of_problem cat reason.RowsFull)
+pub no_row : (cat : CatalogueView) (retailer now : ℕ) (o : OfferView) (together : Bool) (old new : DeskView) → FindsNoRow old new → MakesEmpty new
+    → AnswersReserving cat retailer now o together old new (refused reason.RowsFull)
+no_row cat retailer now o together old new did none = (problem reason.RowsFull, inr (inl (inl (did, refl))), none, of_problem cat reason.RowsFull)
 
-pub given_up : (cat : CatalogueView) (retailer now : ℕ) (o : OfferView) (row : ℕ) (p : Placing) (why : Problem) (items : List Item) (old mid new : DeskView)
-    → HoldsPlaces cat o o.segments row p items old mid → problem_of p ≡ Some why → GivesUp row items mid new → HasNoItem new
-    → AnswersReserving cat retailer now o old new (refused why)
-given_up cat retailer now o row p why items old mid new placed is gave none =
+pub given_up : (cat : CatalogueView) (retailer now : ℕ) (o : OfferView) (together : Bool) (row : RowNo) (p : Placing) (why : Problem) (items : List Item) (old mid new : DeskView)
+    → HoldsPlaces cat o together o.segments row p items old mid → problem_of p ≡ Some why → GivesUp row items mid new → MakesEmpty new
+    → AnswersReserving cat retailer now o together old new (refused why)
+given_up cat retailer now o together row p why items old mid new placed is gave none =
     (problem why, inr (inl (inr (row, p, why, items, mid, placed, is, gave, refl))), none, of_problem cat why)
 
 -- a whole placing of some segments holds some items
-pub some_held : (cat : CatalogueView) (o : OfferView) (row : ℕ) (p : Placing) (items : List Item) (old mid : DeskView) → HoldsPlaces cat o o.segments row p items old mid → problem_of p ≡ None → 1 ≤ count_of o → count_of o ≤ 8 → 1 ≤ length o.segments
+pub some_held : (cat : CatalogueView) (o : OfferView) (together : Bool) (row : RowNo) (p : Placing) (items : List Item) (old mid : DeskView) → HoldsPlaces cat o together o.segments row p items old mid → problem_of p ≡ None → 1 ≤ count_of o → count_of o ≤ 8 → 1 ≤ length o.segments
     → 1 ≤ length items
-some_held cat o row p items old mid (start, started, placed) none some few segments =
-    let m = (places_many cat o row [] o.segments p items start mid placed (whole_of p none) some few).0 in omega arith
+some_held cat o together row p items old mid (start, started, placed) none some few segments =
+    let m = (places_many cat o together row [] o.segments p items start mid placed (whole_of p none) some few).0 in omega arith
 
 -- a seal as an earlier view of the desk has it
-abbrev SealsBy : List Entry → Layout → ℕ → DeskView → ℕ → Phase → List Item → Type 0
+abbrev SealsBy : List Entry → Layout → ℕ → DeskView → RowNo → Phase → List Item → Type 0
 SealsBy seen layout number new row phase items =
     (before : List Entry) × (after : List Entry) × IsPrefix seen before
-    × (new.seen ≡ before ++ entry number (Seal row phase) ∷ after)
-    × OnRow (state_of layout (before ++ entry number (Seal row phase) ∷ [])) row (λ b. (b.owner ≡ number) × (b.phase ≡ phase) × (b.items ≡ map held items))
+    × (new.seen ≡ before ++ entry number (Seal row.row phase) ∷ after)
+    × OnRow (state_of layout (before ++ entry number (Seal row.row phase) ∷ [])) row.row (IsSealedAs row.generation number phase items)
 
-pub seals_since : (old mid new : DeskView) (row : ℕ) (phase : Phase) (items : List Item) (es : List Step) → Shape old mid es → SealsItems mid new row phase items → SealsItems old new row phase items
+pub seals_since : (old mid new : DeskView) (row : RowNo) (phase : Phase) (items : List Item) (es : List Step) → Shape old mid es → SealsItems mid new row phase items → SealsItems old new row phase items
 seals_since old mid new row phase items es did seals =
     let s : SealsBy mid.seen old.layout old.number new row phase items = subst (λ (x : Layout × ℕ). SealsBy mid.seen x.0 x.1 new row phase items) (λ i. (did.same.1 i, did.same.2 i)) seals in
     let start = did.front.0 in (
@@ -77,39 +80,39 @@ seals_since old mid new row phase items es did seals =
       s.4,
     )
 
-pub has_places : (cat : CatalogueView) (o : OfferView) (row : ℕ) (items : List Item) (old mid : DeskView) → HoldsPlaces cat o o.segments row Whole items old mid → HasAllPlaces cat o o.segments items
-has_places cat o row items old mid (start, started, placed) =
-    let more = whole_places cat o row [] o.segments Whole items start mid placed refl in
+pub has_places : (cat : CatalogueView) (o : OfferView) (together : Bool) (row : RowNo) (items : List Item) (old mid : DeskView) → HoldsPlaces cat o together o.segments row Whole items old mid → HasAllPlaces cat o o.segments items
+has_places cat o together row items old mid (start, started, placed) =
+    let more = whole_places cat o together row [] o.segments Whole items start mid placed refl in
     subst (HasAllPlaces cat o o.segments) (sym more.2) more.1
 
 -- the notes and the seal of a hold
 noted_and_sealed : (row count : ℕ) (d : Detail) (old mid new : DeskView) → Shape old mid (detail_notes row d count) → Shape mid new (Seal row phase.Prebooked ∷ []) → Shape old new (detail_notes row d count ++ Seal row phase.Prebooked ∷ [])
 noted_and_sealed row count d old mid new = shape_then old mid new (detail_notes row d count) (Seal row phase.Prebooked ∷ [])
 
-pub seals_hold : (hold noted : HoldView) (d : Detail) (old mid new : DeskView) (reply : Reply) → noted ≡ hold → Shape old mid (detail_notes hold.row d (length hold.items)) → Shape mid new (Seal noted.row phase.Prebooked ∷ []) → SealsItems mid new noted.row phase.Prebooked noted.items
+pub seals_hold : (hold noted : HoldView) (d : Detail) (old mid new : DeskView) (reply : Reply) → noted ≡ hold → Shape old mid (detail_notes hold.row.row d (length hold.items)) → Shape mid new (Seal noted.row.row phase.Prebooked ∷ []) → SealsItems mid new noted.row phase.Prebooked noted.items
     → reply ≡ created hold.row (made_view phase.Prebooked d hold.items) → SealsHold hold.row hold.items d old new reply
 seals_hold hold noted d old mid new reply same notes seal items is = inl (
-  noted_and_sealed hold.row (length hold.items) d old mid new notes (subst (λ (h : HoldView). Shape mid new (Seal h.row phase.Prebooked ∷ [])) same seal),
-  seals_since old mid new hold.row phase.Prebooked hold.items (detail_notes hold.row d (length hold.items)) notes (subst (λ (h : HoldView). SealsItems mid new h.row phase.Prebooked h.items) same items),
+  noted_and_sealed hold.row.row (length hold.items) d old mid new notes (subst (λ (h : HoldView). Shape mid new (Seal h.row.row phase.Prebooked ∷ [])) same seal),
+  seals_since old mid new hold.row phase.Prebooked hold.items (detail_notes hold.row.row d (length hold.items)) notes (subst (λ (h : HoldView). SealsItems mid new h.row phase.Prebooked h.items) same items),
   is,
 )
 
-sealed : (cat : CatalogueView) (retailer now : ℕ) (o : OfferView) (row : ℕ) (items : List Item) (old mid new : DeskView) (reply : Reply) → HoldsPlaces cat o o.segments row Whole items old mid
-    → SealsHold row items (detail_of cat o retailer now) mid new reply → HasNoItem new → Reserves cat retailer now o old new reply × HasAllOrNone cat o old new reply
-sealed cat retailer now o row items old mid new reply placed (inl (did, seals, is)) none =
-    let held = held_calmly cat o o.segments row Whole items old mid placed in (
+sealed : (cat : CatalogueView) (retailer now : ℕ) (o : OfferView) (together : Bool) (row : RowNo) (items : List Item) (old mid new : DeskView) (reply : Reply) → HoldsPlaces cat o together o.segments row Whole items old mid
+    → SealsHold row items (detail_of cat o retailer now) mid new reply → MakesEmpty new → Reserves cat retailer now o together old new reply × HasAllOrNone cat o old new reply
+sealed cat retailer now o together row items old mid new reply placed (inl (did, seals, is)) none =
+    let held = held_calmly cat o together o.segments row Whole items old mid placed in (
       inl (row, items, mid, placed, did, is),
-      subst (HasAllOrNone cat o old new) (sym is) (seals_since old mid new row phase.Prebooked items held.0 held.2 seals, has_places cat o row items old mid placed),
+      subst (HasAllOrNone cat o old new) (sym is) (seals_since old mid new row phase.Prebooked items held.0 held.2 seals, has_places cat o together row items old mid placed),
     )
-sealed cat retailer now o row items old mid new reply placed (inr (gave, is)) none =
+sealed cat retailer now o together row items old mid new reply placed (inr (gave, is)) none =
     (inr (inr ((row, items, mid, placed, gave), is)), subst (HasAllOrNone cat o old new) (sym is) none)
 
-pub prebooked : (cat : CatalogueView) (retailer now : ℕ) (o : OfferView) (row : ℕ) (p : Placing) (items : List Item) (old mid new : DeskView) (reply : Reply) (written : Told) → HoldsPlaces cat o o.segments row p items old mid
-    → problem_of p ≡ None → SealsHold row items (detail_of cat o retailer now) mid new reply → HasNoItem new → written ≡ reply_told cat reply → AnswersReserving cat retailer now o old new written
-prebooked cat retailer now o row p items old mid new reply written placed whole_is did none bytes =
-    let whole = subst (λ (q : Placing). HoldsPlaces cat o o.segments row q items old mid) (whole_of p whole_is) placed in
-    let s = sealed cat retailer now o row items old mid new reply whole did none in
+pub prebooked : (cat : CatalogueView) (retailer now : ℕ) (o : OfferView) (together : Bool) (row : RowNo) (p : Placing) (items : List Item) (old mid new : DeskView) (reply : Reply) (written : Told) → HoldsPlaces cat o together o.segments row p items old mid
+    → problem_of p ≡ None → SealsHold row items (detail_of cat o retailer now) mid new reply → MakesEmpty new → written ≡ reply_told cat reply → AnswersReserving cat retailer now o together old new written
+prebooked cat retailer now o together row p items old mid new reply written placed whole_is did none bytes =
+    let whole = subst (λ (q : Placing). HoldsPlaces cat o together o.segments row q items old mid) (whole_of p whole_is) placed in
+    let s = sealed cat retailer now o together row items old mid new reply whole did none in
     (reply, s.0, s.1, bytes)
 
-pub answered_tidy : (cat : CatalogueView) (retailer now : ℕ) (o : OfferView) (old new : DeskView) (written : Told) → AnswersReserving cat retailer now o old new written → IsIdle new → IsTidy old → IsTidy new
-answered_tidy cat retailer now o old new written a = reserves_tidy cat retailer now o old new a.0 a.1
+pub answered_tidy : (cat : CatalogueView) (retailer now : ℕ) (o : OfferView) (together : Bool) (old new : DeskView) (written : Told) (books : BooksView) → IsOf books new → AnswersReserving cat retailer now o together old new written → IsIdle new → IsTidy old → IsTidy new
+answered_tidy cat retailer now o together old new written books of a = reserves_tidy cat retailer now o together books old new a.0 of a.1

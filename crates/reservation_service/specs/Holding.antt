@@ -1,8 +1,9 @@
 -- Places for each segment of an offer, on a hold.
-use Rattle.std.specs.Prelude.{◌≡◌, ◌≢◌, ◌⊎◌, ℕ, ◌+◌, ◌*◌, List, [], ◌∷◌, ◌++◌, length, map, Option, Some, None}
+use Rattle.std.specs.Prelude.{◌≡◌, ◌≢◌, ◌⊎◌, ℕ, Bool, true, false, ◌+◌, ◌*◌, List, [], ◌∷◌, ◌++◌, length, map, Option, Some, None}
 use Rattle.std.specs.List.{AllByRecursion, flat_map}
 use Rattle.leg_masks.specs.Interval.{items_at, pieces}
 use Rattle.leg_masks.specs.Interval.{PlacedSpan as Item}
+use Rattle.rail_ids.specs.declared.RowNo.{RowNo}
 use Rattle.place_map.specs.Candidates.{candidates_of}
 use Rattle.offer_codes.specs.declared.code.Segment.{Segment}
 use Rattle.offer_codes.specs.Offers.{OfferView}
@@ -16,6 +17,10 @@ use Rattle.hold_core.specs.declared.adds.Added.{Added}
 use Rattle.hold_core.specs.declared.adds.Added.TheVariants as added
 use Rattle.hold_core.specs.Tries.{place_number}
 use Rattle.hold_core.specs.Places.{Adds, gives_back}
+use Rattle.party_places.specs.declared.party.PartyAdded.{PartyAdded}
+use Rattle.party_places.specs.declared.party.PartyAdded.TheVariants as party
+use Rattle.party_places.specs.Parties.{Party, SeatsParty}
+use Rattle.party_places.specs.Causes.{SpoilsAll}
 use Rattle.osdm_texts.specs.declared.problem.Problem.{Problem}
 use Rattle.osdm_texts.specs.declared.problem.Problem.TheVariants as problem
 use Rattle.reservation_service.specs.declared.holding.Placing.{Placing}
@@ -33,38 +38,61 @@ items_wanted o s = count_of o * length (pieces s.span)
 abbrev pub candidates_in : CatalogueView → OfferView → Segment → List ℕ
 candidates_in cat o s = map place_number (candidates_of s.run.0 o.class o.wanted cat.places)
 
--- places were added for this segment to a hold of the row that had these items, with this answer
-abbrev pub AddsSegment : CatalogueView → OfferView → ℕ → List Item → Segment → Added → List Item → DeskView → DeskView → Type 0
-AddsSegment cat o row items s answer won old new =
-    ShapeBy (Adds row (length items) s.span (count_of o) (candidates_in cat o s) answer won) old new
+-- what an answer means for a segment, where places were added one by one, and for a party
+abbrev pub placing_of : Added → Placing
+placing_of added.All = Whole
+placing_of (added.NoPlace won) = Short
+placing_of (added.Contended place) = Contended
 
--- how the segment's answer ends the placing
-abbrev pub Stops : Added → Placing → Type 0
-Stops added.All placing = ⊥
-Stops (added.NoPlace won) placing = placing ≡ Short
-Stops (added.Contended place) placing = placing ≡ Contended
+abbrev pub placing_of_party : PartyAdded → Placing
+placing_of_party (party.Together first) = Whole
+placing_of_party party.Apart = Whole
+placing_of_party (party.NoPlace won) = Short
+placing_of_party (party.Contended place) = Contended
 
--- From a hold of the row with these items to one with all of those: each segment in order, up to the first that is not answered All, or
+-- what is asked for a party at a segment, on a hold of the row that has so many items
+abbrev pub party_at : CatalogueView → OfferView → RowNo → ℕ → Segment → Party
+party_at cat o row items s = record {
+  places = cat.places;
+  row = row.row;
+  items = items;
+  span = s.span;
+  count = count_of o;
+  candidates = candidates_in cat o s;
+}
+
+-- Places were added for this segment to a hold of the row that had these items: side by side where that was asked for and a stretch was
+-- free, else one by one
+abbrev pub AddsSegment : CatalogueView → OfferView → Bool → RowNo → List Item → Segment → Placing → List Item → DeskView → DeskView → Type 0
+AddsSegment cat o false row items s placing won old new =
+    (answer : Added) × (placing ≡ placing_of answer)
+    × ShapeBy (Adds row.row (length items) s.span (count_of o) (candidates_in cat o s) answer won) old new
+AddsSegment cat o true row items s placing won old new =
+    (answer : PartyAdded) × (placing ≡ placing_of_party answer)
+    × ShapeBy (SeatsParty (party_at cat o row (length items) s) answer won) old new
+    × ShapeBy (SpoilsAll (party_at cat o row (length items) s) answer) old new
+
+-- From a hold of the row with these items to one with all of those: each segment in order, up to the first that hasn't all its places, or
 -- for which there was no memory
-abbrev pub PlacesAll : CatalogueView → OfferView → ℕ → List Item → List Segment → Placing → List Item → DeskView → DeskView → Type 0
-PlacesAll cat o row items [] placing all old new = (placing ≡ Whole) × (all ≡ items) × (new ≡ old)
-PlacesAll cat o row items (s ∷ rest) placing all old new =
-    ((answer : Added) × (won : List Item) × (mid : DeskView) × AddsSegment cat o row items s answer won old mid
-    × (((answer ≡ added.All) × PlacesAll cat o row (items ++ won) rest placing all mid new)
-    ⊎ (Stops answer placing × (all ≡ items ++ won) × (new ≡ mid))))
+abbrev pub PlacesAll : CatalogueView → OfferView → Bool → RowNo → List Item → List Segment → Placing → List Item → DeskView → DeskView → Type 0
+PlacesAll cat o together row items [] placing all old new = (placing ≡ Whole) × (all ≡ items) × (new ≡ old)
+PlacesAll cat o together row items (s ∷ rest) placing all old new =
+    ((mine : Placing) × (won : List Item) × (mid : DeskView) × AddsSegment cat o together row items s mine won old mid
+    × (((mine ≡ Whole) × PlacesAll cat o together row (items ++ won) rest placing all mid new)
+    ⊎ ((mine ≢ Whole) × (placing ≡ mine) × (all ≡ items ++ won) × (new ≡ mid))))
     ⊎ ((placing ≡ NoMemory) × (all ≡ items) × (new ≡ old))
 
 -- a hold was started on the row, and places added for these segments
-abbrev pub HoldsPlaces : CatalogueView → OfferView → List Segment → ℕ → Placing → List Item → DeskView → DeskView → Type 0
-HoldsPlaces cat o segments row placing items old new =
-    (mid : DeskView) × ShapeBy (StartsHold old mid (Some row)) old mid × PlacesAll cat o row [] segments placing items mid new
+abbrev pub HoldsPlaces : CatalogueView → OfferView → Bool → List Segment → RowNo → Placing → List Item → DeskView → DeskView → Type 0
+HoldsPlaces cat o together segments row placing items old new =
+    (mid : DeskView) × ShapeBy (StartsHold old mid (Some row)) old mid × PlacesAll cat o together row [] segments placing items mid new
 
 abbrev pub FindsNoRow : DeskView → DeskView → Type 0
 FindsNoRow old new = ShapeBy (StartsHold old new None) old new
 
 -- what was held is given back
-abbrev pub GivesUp : ℕ → List Item → DeskView → DeskView → Type 0
-GivesUp row items old new = Shape old new (gives_back row (length items))
+abbrev pub GivesUp : RowNo → List Item → DeskView → DeskView → Type 0
+GivesUp row items old new = Shape old new (gives_back row.row (length items))
 
 -- what is wrong with a placing that is not whole
 abbrev pub problem_of : Placing → Option Problem

@@ -1,6 +1,7 @@
 -- Booking the places of an offer, and what is answered.
-use Rattle.std.specs.Prelude.{◌≡◌, ◌⊎◌, ℕ, ◌+◌, min, List, [], ◌∷◌, ◌++◌, length, Some, None}
+use Rattle.std.specs.Prelude.{◌≡◌, ◌⊎◌, ℕ, ◌+◌, min, Bool, List, [], ◌∷◌, ◌++◌, length, Some, None}
 use Rattle.leg_masks.specs.Interval.{PlacedSpan as Item}
+use Rattle.rail_ids.specs.declared.RowNo.{RowNo}
 use Rattle.rail_time.specs.Moments.{last_second}
 use Rattle.place_map.specs.declared.coach.Class.{Class}
 use Rattle.offer_codes.specs.declared.code.Segment.{Segment}
@@ -10,10 +11,9 @@ use Rattle.offer_engine.specs.Offers.{offer_price}
 use Rattle.history_model.specs.declared.entry.Step.TheVariants.{Seal}
 use Rattle.history_model.specs.declared.phase.Phase.{Phase}
 use Rattle.history_model.specs.declared.phase.Phase.TheVariants as phase
-use Rattle.history_model.specs.Allowed.{OnRow}
-use Rattle.claim_rule.specs.Rule.{DeskView, state_seen}
+use Rattle.claim_rule.specs.Rule.{DeskView}
 use Rattle.claim_rule.specs.Seats.{Shape}
-use Rattle.claim_rule.specs.Out.{Makes, SealsItems}
+use Rattle.claim_rule.specs.Out.{MakesEmpty, SealsItems}
 use Rattle.booking_rows.specs.declared.notes.Detail.{Detail}
 use Rattle.booking_rows.specs.Notes.{detail_notes}
 use Rattle.booking_rows.specs.Views.{RowSeen}
@@ -38,50 +38,48 @@ made_view phase d items =
     record { phase = phase; retailer = d.retailer.0; limit = d.limit; total = d.total; items = items; ended = None }
 
 -- all places are held, noted and sealed
-abbrev pub Prebooks : CatalogueView → ℕ → ℕ → OfferView → DeskView → DeskView → Reply → Type 0
-Prebooks cat retailer now o old new reply =
-    (row : ℕ) × (items : List Item) × (mid : DeskView) × HoldsPlaces cat o o.segments row Whole items old mid
-    × Shape mid new (detail_notes row (detail_of cat o retailer now) (length items) ++ Seal row phase.Prebooked ∷ [])
+abbrev pub Prebooks : CatalogueView → ℕ → ℕ → OfferView → Bool → DeskView → DeskView → Reply → Type 0
+Prebooks cat retailer now o together old new reply =
+    (row : RowNo) × (items : List Item) × (mid : DeskView) × HoldsPlaces cat o together o.segments row Whole items old mid
+    × Shape mid new (detail_notes row.row (detail_of cat o retailer now) (length items) ++ Seal row.row phase.Prebooked ∷ [])
     × (reply ≡ created row (made_view phase.Prebooked (detail_of cat o retailer now) items))
 
--- No row was free; or there were too few places for a segment, or one was contended, or no memory to go on, and what was held is given
+-- No row was free or could be started again; or there were too few places for a segment, or one was contended, or no memory to go on, and what was held is given
 -- back
-abbrev pub FailsToHold : CatalogueView → OfferView → DeskView → DeskView → Reply → Type 0
-FailsToHold cat o old new reply =
+abbrev pub FailsToHold : CatalogueView → OfferView → Bool → DeskView → DeskView → Reply → Type 0
+FailsToHold cat o together old new reply =
     (FindsNoRow old new × (reply ≡ problem RowsFull))
-    ⊎ ((row : ℕ) × (placing : Placing) × (reason : Problem) × (items : List Item) × (mid : DeskView)
-    × HoldsPlaces cat o o.segments row placing items old mid × (problem_of placing ≡ Some reason) × GivesUp row items mid new
+    ⊎ ((row : RowNo) × (placing : Placing) × (reason : Problem) × (items : List Item) × (mid : DeskView)
+    × HoldsPlaces cat o together o.segments row placing items old mid × (problem_of placing ≡ Some reason) × GivesUp row items mid new
     × (reply ≡ problem reason))
 
 -- all places were held, and are given back, since there was no memory for the answer
-abbrev pub Falters : CatalogueView → OfferView → DeskView → DeskView → Type 0
-Falters cat o old new =
-    (row : ℕ) × (items : List Item) × (mid : DeskView) × HoldsPlaces cat o o.segments row Whole items old mid × GivesUp row items mid new
+abbrev pub Falters : CatalogueView → OfferView → Bool → DeskView → DeskView → Type 0
+Falters cat o together old new =
+    (row : RowNo) × (items : List Item) × (mid : DeskView) × HoldsPlaces cat o together o.segments row Whole items old mid × GivesUp row items mid new
 
 -- a hold with all its places is sealed with this detail; or given back, since there was no memory for the answer
-abbrev pub SealsHold : ℕ → List Item → Detail → DeskView → DeskView → Reply → Type 0
+abbrev pub SealsHold : RowNo → List Item → Detail → DeskView → DeskView → Reply → Type 0
 SealsHold row items d old new reply =
-    (Shape old new (detail_notes row d (length items) ++ Seal row phase.Prebooked ∷ []) × SealsItems old new row phase.Prebooked items
+    (Shape old new (detail_notes row.row d (length items) ++ Seal row.row phase.Prebooked ∷ []) × SealsItems old new row phase.Prebooked items
     × (reply ≡ created row (made_view phase.Prebooked d items)))
     ⊎ (GivesUp row items old new × (reply ≡ problem NoMemory))
 
 -- what booking the places of an offer does, and is answered
-abbrev pub Reserves : CatalogueView → ℕ → ℕ → OfferView → DeskView → DeskView → Reply → Type 0
-Reserves cat retailer now o old new reply =
-    Prebooks cat retailer now o old new reply ⊎ (FailsToHold cat o old new reply ⊎ (Falters cat o old new × (reply ≡ problem NoMemory)))
+abbrev pub Reserves : CatalogueView → ℕ → ℕ → OfferView → Bool → DeskView → DeskView → Reply → Type 0
+Reserves cat retailer now o together old new reply =
+    Prebooks cat retailer now o together old new reply
+    ⊎ (FailsToHold cat o together old new reply ⊎ (Falters cat o together old new × (reply ≡ problem NoMemory)))
 
--- the desk's row in the making, where it has one, has no item
-abbrev pub HasNoItem : DeskView → Type 0
-HasNoItem desk = (row : ℕ) → Makes desk row → OnRow (state_seen desk) row (λ b. b.items ≡ [])
-
--- the booking that the seal left has all its places, and nothing else; after any other answer the desk has none
+-- the booking that the seal left has all its places, and nothing else; after any other answer the desk's row in
+-- the making, where it has one, has no item
 abbrev pub HasAllOrNone : CatalogueView → OfferView → DeskView → DeskView → Reply → Type 0
 HasAllOrNone cat o old new (created row v) = SealsItems old new row phase.Prebooked v.items × HasAllPlaces cat o o.segments v.items
 HasAllOrNone cat o old new (exchanged row v difference replaced) =
     SealsItems old new row phase.Confirmed v.items × HasAllPlaces cat o o.segments v.items
-HasAllOrNone cat o old new reply = HasNoItem new
+HasAllOrNone cat o old new reply = MakesEmpty new
 
 -- such a reply, which has all places or none, and what is told of it
-abbrev pub AnswersReserving : CatalogueView → ℕ → ℕ → OfferView → DeskView → DeskView → Told → Type 0
-AnswersReserving cat retailer now o old new said =
-    (reply : Reply) × Reserves cat retailer now o old new reply × HasAllOrNone cat o old new reply × (said ≡ reply_told cat reply)
+abbrev pub AnswersReserving : CatalogueView → ℕ → ℕ → OfferView → Bool → DeskView → DeskView → Told → Type 0
+AnswersReserving cat retailer now o together old new said =
+    (reply : Reply) × Reserves cat retailer now o together old new reply × HasAllOrNone cat o old new reply × (said ≡ reply_told cat reply)

@@ -10,6 +10,7 @@ ghost use Rattle.leg_masks.specs.Interval.{PlacedSpan};
 ghost use Rattle.claim_rule.specs.Seats.{IsOf};
 ghost use Rattle.claim_rule.specs.Out.{IsHolding, HasNotedItems, HoldsNone, IsIdle, IsTidy, KeepsEndings};
 ghost use Rattle.osdm_texts.specs.Answers.{Reply as Replied, created, reply_told, told_of};
+ghost use Rattle.osdm_texts.specs.Bookings.{HasIds};
 ghost use Rattle.reservation_service.specs.Holding.{GivesUp};
 ghost use Rattle.reservation_service.specs.Reserving.{SealsHold, AnswersReserving, made_view, reserved};
 
@@ -28,7 +29,8 @@ use place_map::Class;
 use rail_ids::RowNo;
 use shop::{Asker, Shop};
 
-/// Books the places of an offer for a retailer (OSDM's prebooking): one for each passenger at each segment, or none.
+/// Books the places of an offer for a retailer (OSDM's prebooking): one for each passenger at each segment, or none. Where they are to
+/// sit together, a segment's places lie side by side if a stretch is free.
 ///
 /// The booking can be confirmed from the asker's moment on for the time that the catalogue gives. The books have the catalogue's places,
 /// each segment's run holds its span, and there are one to eight passengers and one to three segments.
@@ -37,6 +39,7 @@ pub fn book_offer(
     desk: &mut Desk,
     asker: Asker,
     offer: &OfferCode,
+    together: bool,
 ) -> Result<Written, Problem>
     requires own { IsOf shop.now.books.now desk.old }
     requires legs { shop.now.books.now.layout.legs ≡ legs_in shop.now.cat.now }
@@ -47,10 +50,10 @@ pub fn book_offer(
     ensures own { IsOf shop.now.books.now desk.new }
     ensures idle { IsIdle desk.new }
     ensures tidy { IsTidy desk.old → IsTidy desk.new }
-    ensures answer { AnswersReserving shop.now.cat.now asker.retailer.0 asker.moment (offer_view offer.now)
+    ensures answer { AnswersReserving shop.now.cat.now asker.retailer.0 asker.moment (offer_view offer.now) together
         desk.old desk.new (told_of result) }
 {
-    let Some(Held { hold, placing }) = hold_places(shop, desk, offer) else {
+    let Some(Held { hold, placing }) = hold_places(shop, desk, offer, together) else {
         return Err(Problem::RowsFull);
     };
     match placing.problem() {
@@ -74,6 +77,8 @@ pub struct Reservation {
     pub count: u8,
     /// The traits that each place has, as a mask.
     pub traits: u8,
+    /// Whether the places are to lie side by side, where a stretch is free.
+    pub together: bool,
 }
 
 /// Reserves places of one segment, without an offer.
@@ -96,7 +101,7 @@ pub fn reserve_places(
     ensures tidy { IsTidy desk.old → IsTidy desk.new }
     ensures answer { AnswersReserving shop.now.cat.now asker.retailer.0 asker.moment
         (reserved reservation.segment reservation.class reservation.count reservation.traits asker.moment)
-        desk.old desk.new (told_of result) }
+        reservation.together desk.old desk.new (told_of result) }
 {
     let mut segments = ArrayVec::new();
     segments.push(reservation.segment);
@@ -108,7 +113,7 @@ pub fn reserve_places(
         wanted: reservation.traits,
         segments,
     };
-    book_offer(shop, desk, asker, &offer)
+    book_offer(shop, desk, asker, &offer, reservation.together)
 }
 
 // Seals the hold's booking with this detail, once its whole answer is written. Where there is no memory for it, all is given back.
@@ -141,7 +146,8 @@ fn prebook(
 
 // The text that shows a new booking, or `None` where there is no memory for it.
 fn created_answer(shop: &Shop<'_>, row: RowNo, view: RowView) -> Option<Written>
-    ensures told { IfSome result (λ written. told_of (Ok written) ≡ reply_told shop.now.cat.now (created row.0 view)) }
+    requires ids { HasIds row view }
+    ensures told { IfSome result (λ written. told_of (Ok written) ≡ reply_told shop.now.cat.now (created row view)) }
 {
     write_reply(
         shop.alloc,

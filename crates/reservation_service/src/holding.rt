@@ -8,13 +8,14 @@ ghost use Rattle.offer_engine.specs.Codes.{is_of_runs};
 ghost use Rattle.history_model.specs.Booking.{most_items};
 ghost use Rattle.claim_rule.specs.Seats.{IsOf};
 ghost use Rattle.claim_rule.specs.Out.{IsHolding, HasNotedItems, HoldsNone, KeepsEndings};
-ghost use Rattle.reservation_service.specs.Holding.{PlacesAll, HoldsPlaces, FindsNoRow, items_wanted, problem_of};
+ghost use Rattle.reservation_service.specs.Holding.{PlacesAll, HoldsPlaces, FindsNoRow, items_wanted, placing_of as placing_of_added, placing_of_party as placing_of_party_added, problem_of};
 
 use booking_rows::start_hold;
 use claim_rule::{Desk, Hold};
 use hold_core::{Added, add_places};
 use offer_codes::{OfferCode, Segment};
 use osdm_texts::Problem;
+use party_places::{PartyAdded, add_party};
 use rail_ids::PlaceNo;
 use shop::Shop;
 
@@ -52,19 +53,25 @@ pub struct Held {
 }
 
 /// Starts a hold, and adds a place for each passenger at each segment in order, up to the first segment that lacks one:
-/// an item for each piece of the segment's span. `None` where no row is free.
+/// an item for each piece of the segment's span. Where they are to sit together, a segment gets neighbours in one coach
+/// if it can. `None` where no row is free, and none has an ended booking that may be followed by another.
 ///
 /// The books have the catalogue's places, each segment's run holds its span, and there are one to eight passengers. A
 /// hold keeps what it won: after another placing than `Whole` the caller abandons it.
-pub fn hold_places(shop: &Shop<'_>, desk: &mut Desk, offer: &OfferCode) -> Option<Held>
+pub fn hold_places(
+    shop: &Shop<'_>,
+    desk: &mut Desk,
+    offer: &OfferCode,
+    together: bool,
+) -> Option<Held>
     requires own { IsOf shop.now.books.now desk.old }
     requires legs { shop.now.books.now.layout.legs ≡ legs_in shop.now.cat.now }
     requires none { HoldsNone desk.old }
     requires party { is_party offer.now.adults offer.now.children ≡ true }
     requires runs { list_all (is_of_runs shop.now.cat.now.runs) offer.now.segments.items ≡ true }
     ensures own { IsOf shop.now.books.now desk.new }
-    ensures placed { IfSome result (λ held. HoldsPlaces shop.now.cat.now (offer_view offer.now) offer.now.segments.items
-        held.hold.row held.placing held.hold.items desk.old desk.new) }
+    ensures placed { IfSome result (λ held. HoldsPlaces shop.now.cat.now (offer_view offer.now) together
+        offer.now.segments.items held.hold.row held.placing held.hold.items desk.old desk.new) }
     ensures hold { IfSome result (λ held. IsHolding desk.new held.hold) }
     ensures noted { IfSome result (λ held. HasNotedItems desk.new held.hold) }
     ensures no_row { IfNone result (FindsNoRow desk.old desk.new) }
@@ -72,12 +79,18 @@ pub fn hold_places(shop: &Shop<'_>, desk: &mut Desk, offer: &OfferCode) -> Optio
     ensures endings { KeepsEndings desk.old desk.new }
 {
     let mut hold = start_hold(shop.books, desk)?;
-    let placing = place_segments(shop, desk, &mut hold, offer);
+    let placing = place_segments(shop, desk, &mut hold, offer, together);
     Some(Held { hold, placing })
 }
 
 // Adds places for each segment to a hold without items.
-fn place_segments(shop: &Shop<'_>, desk: &mut Desk, hold: &mut Hold, offer: &OfferCode) -> Placing
+fn place_segments(
+    shop: &Shop<'_>,
+    desk: &mut Desk,
+    hold: &mut Hold,
+    offer: &OfferCode,
+    together: bool,
+) -> Placing
     requires own { IsOf shop.now.books.now desk.old }
     requires legs { shop.now.books.now.layout.legs ≡ legs_in shop.now.cat.now }
     requires hold { IsHolding desk.old hold.old }
@@ -87,14 +100,14 @@ fn place_segments(shop: &Shop<'_>, desk: &mut Desk, hold: &mut Hold, offer: &Off
     requires runs { list_all (is_of_runs shop.now.cat.now.runs) offer.now.segments.items ≡ true }
     ensures own { IsOf shop.now.books.now desk.new }
     ensures row { hold.new.row ≡ hold.old.row }
-    ensures placed { PlacesAll shop.now.cat.now (offer_view offer.now) hold.old.row [] offer.now.segments.items
+    ensures placed { PlacesAll shop.now.cat.now (offer_view offer.now) together hold.old.row [] offer.now.segments.items
         result hold.new.items desk.old desk.new }
     ensures hold { IsHolding desk.new hold.new }
     ensures noted { HasNotedItems desk.new hold.new }
     ensures endings { KeepsEndings desk.old desk.new }
 {
     for segment in offer.segments.as_slice() {
-        match place_segment(shop, desk, hold, offer, *segment) {
+        match place_segment(shop, desk, hold, offer, *segment, together) {
             Placing::Whole => {}
             stopped => return stopped,
         }
@@ -109,6 +122,7 @@ fn place_segment(
     hold: &mut Hold,
     offer: &OfferCode,
     segment: Segment,
+    together: bool,
 ) -> Placing
     requires own { IsOf shop.now.books.now desk.old }
     requires legs { shop.now.books.now.layout.legs ≡ legs_in shop.now.cat.now }
@@ -119,8 +133,8 @@ fn place_segment(
     requires room { length hold.old.items + items_wanted (offer_view offer.now) segment ≤ most_items }
     ensures own { IsOf shop.now.books.now desk.new }
     ensures row { hold.new.row ≡ hold.old.row }
-    ensures placed { PlacesAll shop.now.cat.now (offer_view offer.now) hold.old.row hold.old.items (segment ∷ [])
-        result hold.new.items desk.old desk.new }
+    ensures placed { PlacesAll shop.now.cat.now (offer_view offer.now) together hold.old.row hold.old.items
+        (segment ∷ []) result hold.new.items desk.old desk.new }
     ensures hold { IsHolding desk.new hold.new }
     ensures noted { HasNotedItems desk.new hold.new }
     ensures endings { KeepsEndings desk.old desk.new }
@@ -128,21 +142,22 @@ fn place_segment(
     let places = shop.cat.places();
     if offer.wanted == 0 {
         let all = places.class_places(segment.run, offer.class);
-        return place_among(shop, desk, hold, offer, segment, all);
+        return place_among(shop, desk, hold, offer, segment, together, all);
     }
     match places.candidates(shop.alloc, segment.run, offer.class, offer.wanted) {
-        Ok(some) => place_among(shop, desk, hold, offer, segment, some.as_slice()),
+        Ok(some) => place_among(shop, desk, hold, offer, segment, together, some.as_slice()),
         Err(_) => Placing::NoMemory,
     }
 }
 
-// Adds places for one segment to the hold, out of its candidates.
+// Adds places for one segment to the hold, out of its candidates: side by side or one by one, as is wished.
 fn place_among(
     shop: &Shop<'_>,
     desk: &mut Desk,
     hold: &mut Hold,
     offer: &OfferCode,
     segment: Segment,
+    together: bool,
     candidates: &[PlaceNo],
 ) -> Placing
     requires own { IsOf shop.now.books.now desk.old }
@@ -158,16 +173,40 @@ fn place_among(
     requires rising { AreRising 0 candidates.now }
     ensures own { IsOf shop.now.books.now desk.new }
     ensures row { hold.new.row ≡ hold.old.row }
-    ensures placed { PlacesAll shop.now.cat.now (offer_view offer.now) hold.old.row hold.old.items (segment ∷ [])
-        result hold.new.items desk.old desk.new }
+    ensures placed { PlacesAll shop.now.cat.now (offer_view offer.now) together hold.old.row hold.old.items
+        (segment ∷ []) result hold.new.items desk.old desk.new }
     ensures hold { IsHolding desk.new hold.new }
     ensures noted { HasNotedItems desk.new hold.new }
     ensures endings { KeepsEndings desk.old desk.new }
 {
     let count = offer.adults + offer.children;
-    match add_places(shop.books, desk, hold, candidates, segment.span, count) {
+    let span = segment.span;
+    if together {
+        let places = shop.cat.places();
+        placing_of_party(add_party(places, shop.books, desk, hold, candidates, span, count))
+    } else {
+        placing_of(add_places(shop.books, desk, hold, candidates, span, count))
+    }
+}
+
+// What an answer means for a segment whose places were added one by one.
+fn placing_of(added: Added) -> Placing
+    ensures { result ≡ placing_of_added added }
+{
+    match added {
         Added::All => Placing::Whole,
         Added::NoPlace { won: _ } => Placing::Short,
         Added::Contended { place: _ } => Placing::Contended,
+    }
+}
+
+// What an answer means for a segment whose places were added for a party.
+fn placing_of_party(added: PartyAdded) -> Placing
+    ensures { result ≡ placing_of_party_added added }
+{
+    match added {
+        PartyAdded::Together { first: _ } | PartyAdded::Apart => Placing::Whole,
+        PartyAdded::NoPlace { won: _ } => Placing::Short,
+        PartyAdded::Contended { place: _ } => Placing::Contended,
     }
 }

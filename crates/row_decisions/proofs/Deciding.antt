@@ -1,34 +1,39 @@
 -- A sealed row may be turned.
-use Rattle.std.proofs.Common.{◌≡◌, ◌≢◌, inl, inr, ℕ, ◌+◌, ◌<◌, ◌≤◌, ℤ, true, false, List, [], ◌∷◌, length, Some, refl, sym, ap, subst, arith, length-append}
+use Rattle.std.proofs.Common.{◌≡◌, ◌≢◌, inl, inr, ℕ, ◌+◌, ◌<◌, ◌≤◌, ℤ, true, false, List, [], ◌∷◌, length, Option, IsSomeAnd, refl, sym, ap, subst, arith, length-append}
 use Rattle.history_model.specs.declared.entry.Step.{Step}
 use Rattle.history_model.specs.declared.entry.Step.TheVariants.{SawRow}
 use Rattle.history_model.specs.declared.phase.Phase.{Phase}
-use Rattle.history_model.specs.Phase.{is_sealed, is_turn}
-use Rattle.history_model.specs.Booking.{Layout, present, limit_of}
+use Rattle.history_model.specs.Phase.{is_sealed, is_turn, phase_shown}
+use Rattle.rail_ids.specs.declared.RowNo.{RowNo}
+use Rattle.history_model.specs.declared.phase.Phase.TheVariants.{Free}
+use Rattle.history_model.specs.Booking.{Booking, Layout, booking_at, limit_of}
 use Rattle.history_model.specs.Allowed.{TurnsWith}
 use Rattle.history_model.specs.History.{IsLegal, state_of}
 use Rattle.history_model.proofs.Keeping.{found}
-use Rattle.history_model.proofs.Owners.{on_row}
-use Rattle.claim_rule.specs.Rule.{DeskView, state_seen}
+use Rattle.claim_rule.specs.Rule.{DeskView, OnBooking}
 use Rattle.claim_rule.specs.Seats.{Shape, CanTurn, AddsAtMost}
 use Rattle.claim_rule.specs.Calls.{Calls, ShapeBy}
 use Rattle.claim_rule.proofs.Shapes.{shape_then, shape_none, adds_length}
-use Rattle.row_decisions.specs.Looks.{IsSealedRow, HasLimit, IsUnknown, IsWrong, saw_phase, saw_owner, saw_terms}
+use Rattle.booking_rows.specs.SealedRows.{IsSealedRow}
+use Rattle.booking_rows.specs.Views.{saw_phase}
+use Rattle.row_decisions.specs.Looks.{HasLimit, IsUnknown, IsWrong, LosesRow, SawPhase, saw_owner, saw_terms}
 
 -- a turn that asks nothing of the limit
-pub can_turn : (lay : Layout) (desk : DeskView) (r : ℕ) (from to : Phase) (m : ℕ) (x : ℤ) (q : ℕ) → desk.layout ≡ lay → r < lay.rows → is_turn from to ≡ true → m ≤ 4102444799 → ((limit : ℕ) → TurnsWith (state_of lay desk.seen) desk.number limit to m x q) → IsSealedRow desk r → CanTurn lay desk.seen desk.number r from to m x q
-can_turn lay desk r from to m x q same row is years with sealed =
-    let b = found (present (state_seen desk) r) (λ b. is_sealed b.phase ≡ true) sealed in
-    (row, is, years, on_row (state_of lay desk.seen) r b.0 (λ y. (is_sealed y.phase ≡ true) × TurnsWith (state_of lay desk.seen) desk.number (limit_of y) to m x q) (subst (λ (g : Layout). present (state_of g desk.seen) r ≡ Some b.0) same b.1) (b.2, with (limit_of b.0)))
+pub can_turn : (lay : Layout) (desk : DeskView) (row : RowNo) (from to : Phase) (m : ℕ) (x : ℤ) (q : ℕ) → desk.layout ≡ lay → row.row < lay.rows → is_turn from to ≡ true → m ≤ 4102444799 → ((limit : ℕ) → TurnsWith (state_of lay desk.seen) desk.number limit to m x q) → IsSealedRow desk row → CanTurn lay desk.seen desk.number row from to m x q
+can_turn lay desk row from to m x q same here is years with sealed =
+    let on = subst (λ (g : Layout). OnBooking (state_of g desk.seen) row (λ b. is_sealed b.phase ≡ true)) same sealed in
+    let b = found (booking_at (state_of lay desk.seen) row.row row.generation) (λ b. is_sealed b.phase ≡ true) on in
+    (here, is, years, subst (λ (o : Option Booking). IsSomeAnd o (λ y. (is_sealed y.phase ≡ true) × TurnsWith (state_of lay desk.seen) desk.number (limit_of y) to m x q)) (sym b.1) (b.2, with (limit_of b.0)))
 
 -- and one at a limit that was seen
-pub can_turn_by : (lay : Layout) (desk : DeskView) (r limit : ℕ) (from to : Phase) (m : ℕ) (x : ℤ) (q : ℕ) → desk.layout ≡ lay → r < lay.rows → is_turn from to ≡ true → m ≤ 4102444799 → TurnsWith (state_of lay desk.seen) desk.number limit to m x q → HasLimit desk r limit → CanTurn lay desk.seen desk.number r from to m x q
-can_turn_by lay desk r limit from to m x q same row is years with has =
-    let b = found (present (state_seen desk) r) (λ b. (is_sealed b.phase ≡ true) × (limit_of b ≡ limit)) has in (
-      row,
+pub can_turn_by : (lay : Layout) (desk : DeskView) (row : RowNo) (limit : ℕ) (from to : Phase) (m : ℕ) (x : ℤ) (q : ℕ) → desk.layout ≡ lay → row.row < lay.rows → is_turn from to ≡ true → m ≤ 4102444799 → TurnsWith (state_of lay desk.seen) desk.number limit to m x q → HasLimit desk row limit → CanTurn lay desk.seen desk.number row from to m x q
+can_turn_by lay desk row limit from to m x q same here is years with has =
+    let on = subst (λ (g : Layout). OnBooking (state_of g desk.seen) row (λ b. (is_sealed b.phase ≡ true) × (limit_of b ≡ limit))) same has in
+    let b = found (booking_at (state_of lay desk.seen) row.row row.generation) (λ b. (is_sealed b.phase ≡ true) × (limit_of b ≡ limit)) on in (
+      here,
       is,
       years,
-      on_row (state_of lay desk.seen) r b.0 (λ y. (is_sealed y.phase ≡ true) × TurnsWith (state_of lay desk.seen) desk.number (limit_of y) to m x q) (subst (λ (g : Layout). present (state_of g desk.seen) r ≡ Some b.0) same b.1)
+      subst (λ (o : Option Booking). IsSomeAnd o (λ y. (is_sealed y.phase ≡ true) × TurnsWith (state_of lay desk.seen) desk.number (limit_of y) to m x q)) (sym b.1)
           (b.2.0, subst (λ (l : ℕ). TurnsWith (state_of lay desk.seen) desk.number l to m x q) (sym b.2.1) with),
     )
 
@@ -36,32 +41,50 @@ can_turn_by lay desk r limit from to m x q same row is years with has =
 pub by_length : (P : Calls) (n : ℕ) (a b : DeskView) → ((es : List Step) → P es → length es ≤ n) → ShapeBy P a b → AddsAtMost n a b
 by_length P n a b few did = adds_length a b did.0 n did.2 (few did.0 did.1)
 
-pub unknown_most : (rows row retailer n : ℕ) (Saw : Phase → ℕ → List Step → Type 0) → 1 ≤ n → ((shown : Phase) (who : ℕ) (es : List Step) → Saw shown who es → length es ≤ n) → (es : List Step) → IsUnknown rows row retailer Saw es → length es ≤ n
+pub unknown_most : (rows : ℕ) (row : RowNo) (retailer n : ℕ) (Saw : Phase → ℕ → ℕ → List Step → Type 0) → 1 ≤ n → ((shown : Phase) (who last : ℕ) (es : List Step) → Saw shown who last es → length es ≤ n) → (es : List Step) → IsUnknown rows row retailer Saw es → length es ≤ n
 unknown_most rows row retailer n Saw some few es (inl (past, is)) = subst (λ (l : List Step). length l ≤ n) (sym is) (omega arith)
-unknown_most rows row retailer n Saw some few es (inr (here, shown, inl (not_so, is))) = subst (λ (l : List Step). length l ≤ n) (sym is) some
-unknown_most rows row retailer n Saw some few es (inr (here, shown, inr (is_so, who, ne, saw))) = few shown who es saw
+unknown_most rows row retailer n Saw some few es (inr (here, shown, inl (not_so, (m, shows, is)))) = subst (λ (l : List Step). length l ≤ n) (sym is) some
+unknown_most rows row retailer n Saw some few es (inr (here, shown, inr (is_so, who, last, why, saw))) = few shown who last es saw
 
-pub wrong_most : (row n : ℕ) (wanted shown : Phase) (Saw : Phase → List Step → Type 0) → ((was : Phase) (es : List Step) → Saw was es → length es ≤ n) → (es : List Step) → IsWrong row wanted shown Saw es → length es ≤ n + 1
+pub wrong_most : (row : RowNo) (n : ℕ) (wanted shown : Phase) (Saw : Phase → List Step → Type 0) → ((was : Phase) (es : List Step) → Saw was es → length es ≤ n) → (es : List Step) → IsWrong row wanted shown Saw es → length es ≤ n + 1
 wrong_most row n wanted shown Saw few es (inl (ne, sealed, saw)) = let l = few shown es saw in omega arith
-wrong_most row n wanted shown Saw few es (inr (front, back, saw, lost, is)) =
+wrong_most row n wanted shown Saw few es (inr (some, front, back, saw, lost, is)) =
     let l = few wanted front saw in
-    let m : length back ≡ 1 = ap length lost.1 in
+    let m : length back ≡ 1 = ap length lost.3 in
+    let k = length-append front back in
+    subst (λ (x : List Step). length x ≤ n + 1) (sym is) (omega arith)
+
+pub loses_most : (row : RowNo) (n : ℕ) (wanted : Phase) (Saw : Phase → List Step → Type 0) → ((was : Phase) (es : List Step) → Saw was es → length es ≤ n) → (es : List Step) → LosesRow row wanted Saw es → length es ≤ n + 1
+loses_most row n wanted Saw few es (front, back, saw, lost, is) =
+    let l = few wanted front saw in
+    let m : length back ≡ 1 = ap length lost.3 in
     let k = length-append front back in
     subst (λ (x : List Step). length x ≤ n + 1) (sym is) (omega arith)
 
 -- a search for a retailer's booking
 
-pub past_last : (rows row retailer : ℕ) (Saw : Phase → ℕ → List Step → Type 0) (a : DeskView) → rows ≤ row → IsLegal a.layout a.seen → ShapeBy (IsUnknown rows row retailer Saw) a a
+pub past_last : (rows : ℕ) (row : RowNo) (retailer : ℕ) (Saw : Phase → ℕ → ℕ → List Step → Type 0) (a : DeskView) → rows ≤ row.row → IsLegal a.layout a.seen → ShapeBy (IsUnknown rows row retailer Saw) a a
 past_last rows row retailer Saw a past legal = ([], inl (past, refl), shape_none a legal)
 
-pub unsealed : (rows row retailer : ℕ) (Saw : Phase → ℕ → List Step → Type 0) (shown : Phase) (a b : DeskView) → row < rows → is_sealed shown ≡ false → Shape a b (saw_phase row shown ∷ []) → ShapeBy (IsUnknown rows row retailer Saw) a b
-unsealed rows row retailer Saw shown a b here not_so did = (saw_phase row shown ∷ [], inr (here, shown, inl (not_so, refl)), did)
+pub unsealed : (rows : ℕ) (row : RowNo) (retailer : ℕ) (Saw : Phase → ℕ → ℕ → List Step → Type 0) (shown : Phase) (a b : DeskView) → row.row < rows → is_sealed shown ≡ false → ShapeBy (SawPhase row shown) a b → ShapeBy (IsUnknown rows row retailer Saw) a b
+unsealed rows row retailer Saw shown a b here not_so did = (did.0, inr (here, shown, inl (not_so, did.1)), did.2)
 
-pub anothers : (rows row retailer who : ℕ) (Saw : Phase → ℕ → List Step → Type 0) (shown : Phase) (es : List Step) (a b : DeskView) → row < rows → is_sealed shown ≡ true → who ≢ retailer → Saw shown who es → Shape a b es → ShapeBy (IsUnknown rows row retailer Saw) a b
-anothers rows row retailer who Saw shown es a b here is_so ne saw did = (es, inr (here, shown, inr (is_so, who, ne, saw)), did)
+pub given_away : (rows : ℕ) (row : RowNo) (retailer who last : ℕ) (Saw : Phase → ℕ → ℕ → List Step → Type 0) (shown : Phase) (es : List Step) (a b : DeskView) → row.row < rows → is_sealed shown ≡ true → phase_shown row.generation last ≡ Free → Saw shown who last es → Shape a b es → ShapeBy (IsUnknown rows row retailer Saw) a b
+given_away rows row retailer who last Saw shown es a b here is_so free saw did = (es, inr (here, shown, inr (is_so, who, last, inl free, saw)), did)
 
-pub owner_seen : (a b c : DeskView) (row who : ℕ) (shown : Phase) → Shape a b (saw_phase row shown ∷ []) → Shape b c (SawRow row 1 who ∷ []) → Shape a c (saw_owner row shown who)
-owner_seen a b c row who shown p o = shape_then a b c (saw_phase row shown ∷ []) (SawRow row 1 who ∷ []) p o
+pub anothers : (rows : ℕ) (row : RowNo) (retailer who last : ℕ) (Saw : Phase → ℕ → ℕ → List Step → Type 0) (shown : Phase) (es : List Step) (a b : DeskView) → row.row < rows → is_sealed shown ≡ true → who ≢ retailer → Saw shown who last es → Shape a b es → ShapeBy (IsUnknown rows row retailer Saw) a b
+anothers rows row retailer who last Saw shown es a b here is_so ne saw did = (es, inr (here, shown, inr (is_so, who, last, inr ne, saw)), did)
 
-pub terms_seen : (a b c d : DeskView) (row who limit : ℕ) (shown : Phase) → Shape a b (saw_phase row shown ∷ []) → Shape b c (SawRow row 1 who ∷ []) → Shape c d (SawRow row 2 limit ∷ []) → Shape a d (saw_terms row shown who limit)
-terms_seen a b c d row who limit shown p o l = shape_then a c d (saw_owner row shown who) (SawRow row 2 limit ∷ []) (owner_seen a b c row who shown p o) l
+-- the looks at a booking, one after another; the last is the one that a look at its phase made
+
+pub owner_seen : (a b c d : DeskView) (row : RowNo) (who last : ℕ) (shown : Phase) → Shape a b (saw_phase row shown ∷ []) → Shape b c (SawRow row.row 1 who ∷ []) → Shape c d (SawRow row.row 0 last ∷ []) → Shape a d (saw_owner row shown who last)
+owner_seen a b c d row who last shown p o l = shape_then a b d (saw_phase row shown ∷ []) (SawRow row.row 1 who ∷ SawRow row.row 0 last ∷ []) p (shape_then b c d (SawRow row.row 1 who ∷ []) (SawRow row.row 0 last ∷ []) o l)
+
+pub terms_seen : (a b c d e : DeskView) (row : RowNo) (who limit last : ℕ) (shown : Phase) → Shape a b (saw_phase row shown ∷ []) → Shape b c (SawRow row.row 1 who ∷ []) → Shape c d (SawRow row.row 2 limit ∷ []) → Shape d e (SawRow row.row 0 last ∷ []) → Shape a e (saw_terms row shown who limit last)
+terms_seen a b c d e row who limit last shown p o l z =
+    shape_then a b e (saw_phase row shown ∷ []) (SawRow row.row 1 who ∷ SawRow row.row 2 limit ∷ SawRow row.row 0 last ∷ []) p
+    (shape_then b c e (SawRow row.row 1 who ∷ []) (SawRow row.row 2 limit ∷ SawRow row.row 0 last ∷ []) o (shape_then c d e (SawRow row.row 2 limit ∷ []) (SawRow row.row 0 last ∷ []) l z))
+
+-- the word of a look at the phase, with its step
+pub last_look : (a b : DeskView) (row : RowNo) (shown : Phase) → ShapeBy (SawPhase row shown) a b → (last : ℕ) × (phase_shown row.generation last ≡ shown) × Shape a b (SawRow row.row 0 last ∷ [])
+last_look a b row shown did = (did.1.0, did.1.1, subst (Shape a b) did.1.2 did.2)

@@ -18,17 +18,18 @@ use Rattle.claim_rule.specs.EndSteps.{ending_steps, gives_from, closing}
 use Rattle.claim_rule.specs.Out.{IsEnding}
 use Rattle.claim_rule.proofs.Reading.{sound_now}
 use Rattle.claim_rule.proofs.Shapes.{shape_then}
+use Rattle.rail_ids.specs.declared.RowNo.{RowNo}
 use Rattle.booking_rows.specs.declared.turns.Aim.{Aim}
 use Rattle.booking_rows.specs.declared.turns.Turned.TheVariants as turned
 use Rattle.booking_rows.specs.Aims.{aimed, end_of, turn_of, turn_step, fresh_ending, Turns}
 use Rattle.row_decisions.specs.Ends.{ends_as}
 
 -- all items are given back, and the end is closed
-pub gave_and_closed : (a b c : DeskView) (e now : EndingView) → e.given ≡ 0 → now ≡ record e { given = length e.items } → Shape a b (gives_from e.row e.given (length e.items - e.given)) → Shape b c (closing now.row now.kind now.end) → Shape a c (ending_steps e.row e.kind e.end e.items)
+pub gave_and_closed : (a b c : DeskView) (e now : EndingView) → e.given ≡ 0 → now ≡ record e { given = length e.items } → Shape a b (gives_from e.row.row e.given (length e.items - e.given)) → Shape b c (closing now.row.row now.kind now.end) → Shape a c (ending_steps e.row.row e.kind e.end e.items)
 gave_and_closed a b c e now fresh is gave closed =
-    shape_then a b c (gives_from e.row 0 (length e.items)) (closing e.row e.kind e.end)
-    (subst (λ (n : ℕ). Shape a b (gives_from e.row 0 n)) (all_of (length e.items)) (subst (λ (n : ℕ). Shape a b (gives_from e.row n (length e.items - n))) fresh gave))
-    (subst (λ (x : EndingView). Shape b c (closing x.row x.kind x.end)) is closed)
+    shape_then a b c (gives_from e.row.row 0 (length e.items)) (closing e.row.row e.kind e.end)
+    (subst (λ (n : ℕ). Shape a b (gives_from e.row.row 0 n)) (all_of (length e.items)) (subst (λ (n : ℕ). Shape a b (gives_from e.row.row n (length e.items - n))) fresh gave))
+    (subst (λ (x : EndingView). Shape b c (closing x.row.row x.kind x.end)) is closed)
   where
     all_of : (n : ℕ) → n - 0 ≡ n
     all_of n = omega arith
@@ -43,14 +44,14 @@ same_kind : (a b : EndKind) (p : Phase) → p ≡ Ending a → p ≡ Ending b �
 same_kind a b p e f = let g : Ending a ≡ Ending b = sym e ∙ f in cc
 
 -- the turn to an end, its items read, and the rest
-pub ended : (a b c : DeskView) (row : ℕ) (from : Phase) (aim : Aim) (e : EndingView) (kind : EndKind) → aimed aim ≡ Ending e.kind → e ≡ fresh_ending row e.kind (end_of aim) e → length e.items ≤ most_items → aimed aim ≡ Ending kind → ShapeBy (Turns row from aim (turned.Ending e)) a b → Shape b c (ending_steps e.row e.kind e.end e.items) → (es : List Step) × ((items : List Item) × (length items ≤ most_items) × (es ≡ ends_as row from kind (end_of aim) items)) × Shape a c es
+pub ended : (a b c : DeskView) (row : RowNo) (from : Phase) (aim : Aim) (e : EndingView) (kind : EndKind) → aimed aim ≡ Ending e.kind → e ≡ fresh_ending row e.kind (end_of aim) e → length e.items ≤ most_items → aimed aim ≡ Ending kind → ShapeBy (Turns row from aim (turned.Ending e)) a b → Shape b c (ending_steps e.row.row e.kind e.end e.items) → (es : List Step) × ((items : List Item) × (length items ≤ most_items) × (es ≡ ends_as row.row from kind (end_of aim) items)) × Shape a c es
 ended a b c row from aim e kind to is few wanted did rest =
     let same : e.kind ≡ kind = same_kind e.kind kind (aimed aim) to wanted in
     let k : EndKind = kind in
-    let last : Shape b c (ending_steps row kind (end_of aim) e.items) = subst (λ (x : EndKind). Shape b c (ending_steps row x (end_of aim) e.items)) same (subst (λ (x : EndingView). Shape b c (ending_steps x.row e.kind x.end e.items)) is rest) in
-    let first : Shape a b (turn_of row from aim ∷ items_read row e.items) = subst (Shape a b) did.1 did.2 in
-    let whole : Shape a c (turn_of row from aim ∷ items_read row e.items ++ ending_steps row kind (end_of aim) e.items) = shape_then a b c (turn_of row from aim ∷ items_read row e.items) (ending_steps row kind (end_of aim) e.items) first last in
-    (ends_as row from kind (end_of aim) e.items, (e.items, few, refl), subst (λ (p : Phase). Shape a c (turn_step row from p (end_of aim) ∷ items_read row e.items ++ ending_steps row kind (end_of aim) e.items)) wanted whole)
+    let last : Shape b c (ending_steps row.row kind (end_of aim) e.items) = subst (λ (x : EndKind). Shape b c (ending_steps row.row x (end_of aim) e.items)) same (subst (λ (x : EndingView). Shape b c (ending_steps x.row.row e.kind x.end e.items)) is rest) in
+    let first : Shape a b (turn_of row.row from aim ∷ items_read row.row e.items) = subst (Shape a b) did.1 did.2 in
+    let whole : Shape a c (turn_of row.row from aim ∷ items_read row.row e.items ++ ending_steps row.row kind (end_of aim) e.items) = shape_then a b c (turn_of row.row from aim ∷ items_read row.row e.items) (ending_steps row.row kind (end_of aim) e.items) first last in
+    (ends_as row.row from kind (end_of aim) e.items, (e.items, few, refl), subst (λ (p : Phase). Shape a c (turn_step row.row from p (end_of aim) ∷ items_read row.row e.items ++ ending_steps row.row kind (end_of aim) e.items)) wanted whole)
 
 -- how many steps an end has
 

@@ -9,6 +9,7 @@ use Rattle.history_model.specs.declared.phase.Phase.TheVariants.{Ending}
 use Rattle.history_model.specs.Booking.{most_items}
 use Rattle.claim_rule.specs.Endings.{items_read}
 use Rattle.claim_rule.specs.EndSteps.{ending_steps}
+use Rattle.rail_ids.specs.declared.RowNo.{RowNo}
 use Rattle.booking_rows.specs.declared.turns.Aim.{Aim}
 use Rattle.booking_rows.specs.Aims.{turn_step, end_of, LosesTurn}
 
@@ -16,7 +17,7 @@ use Rattle.booking_rows.specs.Aims.{turn_step, end_of, LosesTurn}
 abbrev pub ends_as : ℕ → Phase → EndKind → End → List Item → List Step
 ends_as row from kind end items = turn_step row from (Ending kind) end ∷ items_read row items ++ ending_steps row kind end items
 
--- the steps of ending a row, by the phase that was shown where another turn had decided
-abbrev pub EndsRow : ℕ → Phase → EndKind → Aim → Option Phase → List Step → Type 0
-EndsRow row from kind aim None es = (items : List Item) × (length items ≤ most_items) × (es ≡ ends_as row from kind (end_of aim) items)
-EndsRow row from kind aim (Some shown) es = LosesTurn row from shown es
+-- the steps of ending a booking, by the phase that its row showed it where another turn had decided
+abbrev pub EndsBooking : RowNo → Phase → EndKind → Aim → Option Phase → List Step → Type 0
+EndsBooking row from kind aim None es = (items : List Item) × (length items ≤ most_items) × (es ≡ ends_as row.row from kind (end_of aim) items)
+EndsBooking row from kind aim (Some shown) es = LosesTurn row from shown es

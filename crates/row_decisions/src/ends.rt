@@ -3,12 +3,12 @@ ghost use Rattle.std.specs.Prelude.{◌≡◌, true};
 ghost use Rattle.history_model.specs.Booking.{most_items};
 ghost use Rattle.history_model.specs.declared.phase.EndKind.{EndKind};
 ghost use Rattle.history_model.specs.declared.phase.Phase.TheVariants.{Ending as IsEndingPhase};
-ghost use Rattle.claim_rule.specs.Seats.{IsOf, Shape, CanTurn};
+ghost use Rattle.claim_rule.specs.Seats.{IsOf, Shape};
 ghost use Rattle.claim_rule.specs.Calls.{ShapeBy};
 ghost use Rattle.claim_rule.specs.EndSteps.{ending_steps};
 ghost use Rattle.claim_rule.specs.Out.{IsEnding, EndsNone, KeepsHolds};
-ghost use Rattle.booking_rows.specs.Aims.{aimed, end_of};
-ghost use Rattle.row_decisions.specs.Ends.{EndsRow};
+ghost use Rattle.booking_rows.specs.Aims.{aimed, HasGeneration, MayAim};
+ghost use Rattle.row_decisions.specs.Ends.{EndsBooking};
 
 use booking_rows::{Aim, Turned, close_end, turn};
 use claim_rule::{Books, Desk, Ending};
@@ -23,7 +23,7 @@ pub fn finish_end(books: &Books, desk: &mut Desk, mut ending: Ending)
     requires read { ending.read ≡ true }
     requires fresh { ending.given ≡ 0 }
     ensures own { IsOf books.now desk.new }
-    ensures entries { Shape desk.old desk.new (ending_steps ending.row ending.kind ending.end ending.items) }
+    ensures entries { Shape desk.old desk.new (ending_steps ending.row.row ending.kind ending.end ending.items) }
     ensures none { EndsNone desk.new }
     ensures holds { KeepsHolds desk.old desk.new }
 {
@@ -31,15 +31,16 @@ pub fn finish_end(books: &Books, desk: &mut Desk, mut ending: Ending)
     close_end(books, desk, ending);
 }
 
-/// Turns a row from this phase to an end, gives all of its items back, and closes it. `Some` is the phase shown exactly where it was
-/// another than this one: then nothing else is done.
+/// Turns a booking from this phase to an end, gives all of its items back, and closes its row. `Some` is the phase that its row
+/// showed it exactly where that was another than this one, free where the row was given away: then nothing else is done.
 pub fn end_row(books: &Books, desk: &mut Desk, row: RowNo, from: Phase, to: Aim) -> Option<Phase>
     requires own { IsOf books.now desk.old }
-    requires turn { CanTurn books.now.layout desk.old.seen desk.old.number row.0 from (aimed to) (end_of to).moment (end_of to).amount (end_of to).successor }
+    requires turn { MayAim books.now.layout desk.old row from to }
+    requires generation { HasGeneration to }
     requires ends { (kind : EndKind) × (aimed to ≡ IsEndingPhase kind) }
     requires none { EndsNone desk.old }
     ensures own { IsOf books.now desk.new }
-    ensures entries { (kind : EndKind) → aimed to ≡ IsEndingPhase kind → ShapeBy (EndsRow row.0 from kind to result) desk.old desk.new }
+    ensures entries { (kind : EndKind) → aimed to ≡ IsEndingPhase kind → ShapeBy (EndsBooking row from kind to result) desk.old desk.new }
     ensures none { EndsNone desk.new }
     ensures holds { KeepsHolds desk.old desk.new }
 {

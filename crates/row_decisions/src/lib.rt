@@ -1,5 +1,5 @@
-//! What the calls that decide a booking's fate share: looks at a row's phase, retailer and limit, and a turn to an end with all that follows
-//! it.
+//! What the calls that decide a booking's fate share: looks at the phase and at other words of its row, and a turn to an end with all
+//! that follows it.
 //!
 //! No call takes memory, and none waits.
 #![tactic(auto)]
@@ -8,4 +8,4 @@ mod ends;
 mod looks;
 
 pub use ends::{end_row, finish_end};
-pub use looks::{find_owned, is_sealed, look_limit, look_phase, look_retailer};
+pub use looks::{find_owned, is_sealed, look_phase, look_word};

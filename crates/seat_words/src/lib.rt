@@ -1,19 +1,20 @@
 //! Places as a desk's calls see them: looks, tries to take legs, and gives.
 //!
-//! Each call says which entries of its own it adds to what its desk has seen, and in which state it leaves the desk's hold and
-//! ending. A taken leg is set by one compare and exchange on a word that was free there; a give clears the legs of its item alone.
+//! Each call says which entries of its own it adds to what its desk has seen, and in which state it leaves the desk's
+//! hold and ending. A taken leg is set by one compare and exchange on a word that was free there; a give clears the
+//! legs of its item alone.
 //!
 //! No call takes memory, and none waits.
 #![tactic(auto)]
 
-ghost use Rattle.std.specs.Prelude.{ℕ, ◌≡◌, ◌≢◌, ◌<◌, ◌≤◌, ◌-◌, true, List, [], ◌∷◌, length, slice_index};
+ghost use Rattle.std.specs.Prelude.{ℕ, ◌≡◌, ◌≢◌, ◌<◌, ◌≤◌, true, List, [], ◌∷◌, length, slice_index};
 ghost use Rattle.history_model.specs.declared.entry.Step.TheVariants.{Look, Give};
 ghost use Rattle.history_model.specs.Booking.{most_items};
 ghost use Rattle.leg_masks.specs.Interval.{IsClear, IsPiece, PlacedSpan as Item, halves};
 ghost use Rattle.claim_rule.specs.Seats.{IsOf, Shape};
 ghost use Rattle.claim_rule.specs.Holds.{with_one};
 ghost use Rattle.claim_rule.specs.Out.{IsHolding, IsEnding, HasNoted, HasNotedButLast, HasNotedItems, KeepsHolds, KeepsEndings};
-ghost use Rattle.claim_rule.specs.EndSteps.{gives_from};
+ghost use Rattle.seat_words.specs.Gives.{gives_left};
 ghost use Rattle.seat_words.specs.Takes.{HasTried};
 
 use claim_rule::{Books, Desk, Ending, Hold};
@@ -44,8 +45,8 @@ pub enum Take {
     Moving { shown: u64 },
 }
 
-/// Takes legs of a place, which lie in one half, by one compare and exchange, where the word of that half is still the one
-/// expected. The word expected is free on them, and the hold has fewer than 48 items.
+/// Takes legs of a place, which lie in one half, by one compare and exchange, where the word of that half is still the
+/// one expected. The word expected is free on them, and the hold has fewer than 48 items.
 pub fn try_take(
     books: &Books,
     desk: &mut Desk,
@@ -64,7 +65,7 @@ pub fn try_take(
     ensures own { IsOf books.now desk.new }
     ensures take { HasTried desk.old hold.old place.0 span expected desk.new hold.new result }
     ensures hold { IsHolding desk.new hold.new }
-    ensures noted { HasNotedItems desk.old hold.old → HasNoted desk.new hold.new.row hold.old.items }
+    ensures noted { HasNotedItems desk.old hold.old → HasNoted desk.new hold.new.row.row hold.old.items }
     ensures endings { KeepsEndings desk.old desk.new }
 {
     let item = books.item_at(place, span);
@@ -89,10 +90,11 @@ pub fn undo_last(books: &Books, desk: &mut Desk, hold: &mut Hold)
     requires some { 0 < length hold.old.items }
     ensures own { IsOf books.now desk.new }
     ensures last { (i : Item) × (hold.old ≡ with_one hold.new i) }
-    ensures entries { Shape desk.old desk.new (Give hold.old.row (length hold.new.items) ∷ []) }
+    ensures entries { Shape desk.old desk.new (Give hold.old.row.row (length hold.new.items) ∷ []) }
     ensures hold { IsHolding desk.new hold.new }
     ensures noted { HasNotedButLast desk.old hold.old → HasNotedItems desk.new hold.new }
-    ensures still { (items : List Item) → HasNoted desk.old hold.old.row items → HasNoted desk.new hold.new.row items }
+    ensures still { (items : List Item) → HasNoted desk.old hold.old.row.row items
+        → HasNoted desk.new hold.new.row.row items }
     ensures endings { KeepsEndings desk.old desk.new }
 {
     books.step_undo(desk, hold);
@@ -105,7 +107,7 @@ pub fn give_all(books: &Books, desk: &mut Desk, ending: &mut Ending)
     requires read { ending.old.read ≡ true }
     ensures own { IsOf books.now desk.new }
     ensures all { ending.new ≡ record ending.old { given = length ending.old.items } }
-    ensures entries { Shape desk.old desk.new (gives_from ending.old.row ending.old.given (length ending.old.items - ending.old.given)) }
+    ensures entries { Shape desk.old desk.new (gives_left ending.old) }
     ensures ending { IsEnding desk.new ending.new }
     ensures holds { KeepsHolds desk.old desk.new }
 {

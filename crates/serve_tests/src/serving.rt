@@ -11,7 +11,6 @@ use host_catalogue::{load_catalogue, open_books};
 use host_io::CountTicker;
 use host_serve::{Common, Post, ServeEnd, Server, Streams, Sweeper, run_serve};
 use rail_catalogue::Catalogue;
-use rail_ids::RowNo;
 use rail_io::{BytesSource, MapShelf, Pulled, Pushed, ScriptClock, Sink, Source, VecSink};
 use rail_service::{Accepted, Bound, Finished, ListListener, Listener, Waiting, serve_waiting};
 use rail_time::Moment;
@@ -113,9 +112,9 @@ fn has_two_bookings(wall: &Option<Wall>) -> bool {
         return false;
     };
     let prebooked = Some(phase_word(Phase::Prebooked));
-    wall.row_word(RowNo(0), 0) == prebooked
-        && wall.row_word(RowNo(1), 0) == prebooked
-        && wall.row_word(RowNo(0), 8) != wall.row_word(RowNo(1), 8)
+    wall.row_word(0, 0) == prebooked
+        && wall.row_word(1, 0) == prebooked
+        && wall.row_word(0, 8) != wall.row_word(1, 8)
 }
 
 /// Two connections, each with one reservation, and two members.
@@ -515,7 +514,7 @@ fn sweeps_twice(rt: HostRuntime) -> Result<(), Fail> {
     assert_eq!(rt; sweeper.clock.next.seconds(), SIX + 903);
     let wall = books.finish(first);
     assert_eq!(rt;
-        wall.row_word(RowNo(0), 0),
+        wall.row_word(0, 0),
         Some(phase_word(Phase::Ended(EndKind::Expire)))
     );
     Ok(())

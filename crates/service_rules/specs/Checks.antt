@@ -39,10 +39,10 @@ abbrev pub or_else : Option Problem → Option Problem → Option Problem
 or_else (Some p) next = Some p
 or_else None next = next
 
--- the id spells this row
+-- the id spells this booking's row and generation
 abbrev pub is_of_row : Option RowNo → RowNo → Bool
 is_of_row None row = false
-is_of_row (Some id) row = id.0 == row.0
+is_of_row (Some id) row = id.row == row.row && id.generation == row.generation
 
 -- a quote of a refund, under the id of the quote's row
 abbrev pub refund_fault : ℕ → Option RowNo → Option RefundCode → Option Problem
@@ -60,8 +60,8 @@ exchange_fault cat now row (Some c) = code_fault (is_of_row row c.row && is_quot
 
 abbrev pub command_fault : CatalogueView → ℕ → Command → Option Problem
 command_fault cat now (command.Offers trip adults children class wanted) = None
-command_fault cat now (command.Book offer) = offer_fault cat now offer
-command_fault cat now (command.Reserve segment class count wanted) = None
+command_fault cat now (command.Book offer together) = offer_fault cat now offer
+command_fault cat now (command.Reserve segment class count wanted together) = None
 command_fault cat now (command.Show row) = row_fault row
 command_fault cat now (command.Release row) = row_fault row
 command_fault cat now (command.Confirm row) = row_fault row

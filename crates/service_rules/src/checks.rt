@@ -14,14 +14,14 @@ const VALIDITY: u64 = 900;
 
 /// What the command is refused for by its ids, its codes and the moment alone: an id or a code that is no spelling, an offer that the
 /// catalogue doesn't have or that was made after now, and then one that was made over 900 seconds ago; of quotes also those of another
-/// row than the id's, and those whose offer wasn't good when the quote was made. `None` where it isn't.
+/// booking than the id's, and those whose offer wasn't good when the quote was made. `None` where it isn't.
 ///
 /// No memory is taken.
 pub fn command_problem(cat: &Catalogue, command: &Command, now: Moment) -> Option<Problem>
     ensures { result ≡ command_fault cat.now now command.now }
 {
     match command {
-        Command::Book { offer } => offer_problem(cat, offer, now),
+        Command::Book { offer, .. } => offer_problem(cat, offer, now),
         Command::Show { row } => row_problem(*row),
         Command::Release { row } => row_problem(*row),
         Command::Confirm { row } => row_problem(*row),
@@ -58,12 +58,12 @@ fn offer_problem(cat: &Catalogue, offer: &Option<OfferCode>, now: Moment) -> Opt
     }
 }
 
-// Whether the id spells this row.
+// Whether the id spells this booking's row and generation.
 fn is_of_row(id: Option<RowNo>, row: RowNo) -> bool
     ensures { result ≡ is_row_of id row }
 {
     match id {
-        Some(named) => named.0 == row.0,
+        Some(named) => named.row == row.row && named.generation == row.generation,
         None => false,
     }
 }

@@ -100,22 +100,34 @@ const BAD_OFFERS: [(&str, &str); 28] = [
     ),
 ];
 
-const RESERVATIONS: [(&str, &str); 19] = [
+const RESERVATIONS: [(&str, &str); 22] = [
     (
         r#"{"class":"SECOND","count":4,"from":"BASEL","run":0,"to":"BERN","wanted":["AISLE"]}"#,
-        "reserve 0 0 2 Second 4 2",
+        "reserve 0 0 2 Second 4 2 false",
     ),
     (
         r#"{"run":1,"from":"BERN","to":"THUN"}"#,
-        "reserve 1 0 1 Second 1 0",
+        "reserve 1 0 1 Second 1 0 false",
     ),
     (
         r#"{"class":"FIRST","from":"BASEL","run":0,"to":"BERN"}"#,
-        "reserve 0 0 2 First 1 0",
+        "reserve 0 0 2 First 1 0 false",
+    ),
+    (
+        r#"{"from":"BASEL","run":0,"to":"BERN","together":true}"#,
+        "reserve 0 0 2 Second 1 0 true",
+    ),
+    (
+        r#"{"from":"NOWHERE","run":0,"to":"BERN","together":1}"#,
+        "Field { name: Together }",
+    ),
+    (
+        r#"{"from":"BASEL","run":0,"together":1}"#,
+        "Field { name: To }",
     ),
     (
         r#"{"class":"SECOND","count":6,"from":"BERN","run":1,"to":"THUN"}"#,
-        "reserve 1 0 1 Second 6 0",
+        "reserve 1 0 1 Second 6 0 false",
     ),
     (r#"5"#, "Field { name: Body }"),
     (r#"{}"#, "Field { name: Run }"),
@@ -149,12 +161,24 @@ const RESERVATIONS: [(&str, &str); 19] = [
     ),
 ];
 
-const BOOKS: [(&str, &str); 4] = [
+const BOOKS: [(&str, &str); 7] = [
     (
         r#"{"offerId":"O1780293600-2-1-2-1-0.0.2_1.0.1"}"#,
-        "book 1780293600 2 1 Second 1 2",
+        "book 1780293600 2 1 Second 1 2 false",
     ),
-    (r#"{"offerId":"O01780293600-1-0-2-0-0.0.2"}"#, "book none"),
+    (
+        r#"{"offerId":"O01780293600-1-0-2-0-0.0.2"}"#,
+        "book none false",
+    ),
+    (
+        r#"{"offerId":"O01780293600-1-0-2-0-0.0.2","together":true}"#,
+        "book none true",
+    ),
+    (
+        r#"{"offerId":"O01780293600-1-0-2-0-0.0.2","together":null}"#,
+        "Field { name: Together }",
+    ),
+    (r#"{"offerId":5,"together":1}"#, "Field { name: OfferId }"),
     (r#"{}"#, "Field { name: OfferId }"),
     (r#"{"offerId":5}"#, "Field { name: OfferId }"),
 ];
@@ -205,11 +229,17 @@ const COLLECTED: [(&str, &str); 3] = [
     (r#"{}"#, "Field { name: Status }"),
 ];
 
-const IDS: [(&str, &str); 4] = [
+const IDS: [(&str, &str); 10] = [
     ("B000007", "show 7"),
     ("B0000001", "show none"),
     ("b000000", "show none"),
     ("B4294967296", "show none"),
+    ("B000000-1", "show 0 again 1"),
+    ("B000000-65535", "show 0 again 65535"),
+    ("B000000-0", "show none"),
+    ("B000000-01", "show none"),
+    ("B000000-65536", "show none"),
+    ("B000000-", "show none"),
 ];
 
 const PLACES: [(&str, &str, &str, &str); 11] = [
@@ -231,9 +261,17 @@ const PLACES: [(&str, &str, &str, &str); 11] = [
     ("1", "BASEL", "OLTEN", "Field { name: To }"),
 ];
 
+fn booking_told(alloc: Global, row: RowNo) -> Result<String, AllocError> {
+    if row.generation == 0 {
+        format!(in alloc; "{}", row.row)
+    } else {
+        format!(in alloc; "{} again {}", row.row, row.generation)
+    }
+}
+
 fn row_told(alloc: Global, row: &Option<RowNo>) -> Result<String, AllocError> {
     match row {
-        Some(row) => format!(in alloc; "{}", row.0),
+        Some(row) => booking_told(alloc, *row),
         None => String::from_str(alloc, "none"),
     }
 }
@@ -277,19 +315,26 @@ fn told(alloc: Global, command: &Command) -> Result<String, AllocError> {
                 trip.latest.seconds()
             )
         }
-        Command::Book { offer: Some(offer) } => {
+        Command::Book {
+            offer: Some(offer),
+            together,
+        } => {
             let offer = offer_told(alloc, offer)?;
-            format!(in alloc; "book {offer}")
+            format!(in alloc; "book {offer} {together}")
         }
-        Command::Book { offer: None } => String::from_str(alloc, "book none"),
+        Command::Book {
+            offer: None,
+            together,
+        } => format!(in alloc; "book none {together}"),
         Command::Reserve {
             segment,
             class,
             count,
             wanted,
+            together,
         } => {
             let segment = segment_told(alloc, segment)?;
-            format!(in alloc; "reserve {segment} {class:?} {count} {wanted}")
+            format!(in alloc; "reserve {segment} {class:?} {count} {wanted} {together}")
         }
         Command::Show { row } => {
             let row = row_told(alloc, row)?;
@@ -315,9 +360,9 @@ fn told(alloc: Global, command: &Command) -> Result<String, AllocError> {
             let row = row_told(alloc, row)?;
             match code {
                 Some(code) => {
+                    let quoted = booking_told(alloc, code.row)?;
                     format!(in alloc;
-                        "accept refund {row} {} {} {} {}",
-                        code.row.0,
+                        "accept refund {row} {quoted} {} {} {}",
                         code.made.seconds(),
                         code.fulfilled,
                         code.amount
@@ -340,10 +385,10 @@ fn told(alloc: Global, command: &Command) -> Result<String, AllocError> {
             let row = row_told(alloc, row)?;
             match code {
                 Some(code) => {
+                    let quoted = booking_told(alloc, code.row)?;
                     let offer = offer_told(alloc, &code.offer)?;
                     format!(in alloc;
-                        "accept exchange {row} {} {} {} {} {offer}",
-                        code.row.0,
+                        "accept exchange {row} {quoted} {} {} {} {offer}",
                         code.made.seconds(),
                         code.fulfilled,
                         code.difference

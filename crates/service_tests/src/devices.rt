@@ -3,7 +3,7 @@ use crate::conversation::check;
 use crate::lives::{USUAL_SECONDS, usual_turns};
 use claim_rule::Wall;
 use rail_catalogue::{Catalogue, read_catalogue};
-use rail_ids::{PlaceNo, RowNo};
+use rail_ids::PlaceNo;
 use rail_io::ListClock;
 use rail_service::serve_connection;
 use sample_shop::{
@@ -89,7 +89,7 @@ fn life_in_pieces(rt: HostRuntime) -> Result<(), Fail> {
         let (end, wall) = live(&rt, &cat, &mut source, &mut sink);
         assert_eq!(rt; end, ConnEnd::Done, "by {size}");
         assert_eq!(rt; sink.taken(), output.as_bytes(), "by {size}");
-        assert_eq!(rt; wall.row_word(RowNo(0), 0), Some(4), "by {size}");
+        assert_eq!(rt; wall.row_word(0, 0), Some(4), "by {size}");
     }
     Ok(())
 }
@@ -140,7 +140,7 @@ fn writes_fail(rt: HostRuntime) -> Result<(), Fail> {
         );
         let before = whole_answers(alloc, turns.as_slice(), sink.taken().len())?;
         let phase = PHASES.get(before).copied();
-        assert_eq!(rt; wall.row_word(RowNo(0), 0), phase, "after {calls} writes");
+        assert_eq!(rt; wall.row_word(0, 0), phase, "after {calls} writes");
         let taken = if before > 0 { 3 } else { 0 };
         assert_eq!(rt;
             wall.place_word(PlaceNo(4), 0),

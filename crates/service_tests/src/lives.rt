@@ -224,6 +224,97 @@ fn one_row_only(rt: HostRuntime) -> Result<(), Fail> {
     converse_alone(&rt, 1, [0].as_slice(), turns.as_slice())
 }
 
+const RELEASED_AT_SIX: &str =
+    r#"{"confirmableUntil":"2026-06-01T06:15:00Z","endAmount":{"amount":0,"currency":"EUR","scale":2},"endedAt":"2026-06-01T06:00:00Z","id":"B000000","price":{"amount":1100,"currency":"EUR","scale":2},"reservations":[{"coach":2,"from":"BASEL","place":11,"run":0,"to":"BERN","train":501}],"settled":true,"status":"RELEASED"}"#;
+
+const SECOND_OF_THE_ROW: &str =
+    r#"{"confirmableUntil":"2026-06-01T06:15:00Z","id":"B000000-1","price":{"amount":1100,"currency":"EUR","scale":2},"reservations":[{"coach":2,"from":"BASEL","place":11,"run":0,"to":"BERN","train":501}],"settled":false,"status":"PREBOOKED"}"#;
+
+const SECOND_CONFIRMED: &str =
+    r#"{"confirmableUntil":"2026-06-01T06:15:00Z","id":"B000000-1","price":{"amount":1100,"currency":"EUR","scale":2},"reservations":[{"coach":2,"from":"BASEL","place":11,"run":0,"to":"BERN","train":501}],"settled":false,"status":"CONFIRMED"}"#;
+
+const SECOND_QUOTED: &str =
+    r#"{"amount":{"amount":825,"currency":"EUR","scale":2},"id":"R0.1-1780294200-C-825","validUntil":"2026-06-01T06:25:00Z"}"#;
+
+const FIVE_AISLES: &str =
+    r#"{"class":"SECOND","count":5,"from":"BASEL","run":0,"to":"BERN","wanted":["AISLE"]}"#;
+
+fn unknown_booking() -> Wanted {
+    refused(
+        "404 Not Found",
+        r#"{"code":"UnknownBooking","status":404,"title":"Unknown booking"}"#,
+    )
+}
+
+// The one row is given to a second booking once the first has ended; the first one's id then names none.
+#[test]
+fn a_row_used_again(rt: HostRuntime) -> Result<(), Fail> {
+    let turns = [
+        (
+            ask("north", "POST /reservations", TO_BERN),
+            told("201 Created", AT_SIX),
+        ),
+        (
+            ask("north", "DELETE /bookings/B000000", ""),
+            told("200 OK", RELEASED_AT_SIX),
+        ),
+        (
+            ask("north", "POST /reservations", TO_BERN),
+            told("201 Created", SECOND_OF_THE_ROW),
+        ),
+        (ask("north", "GET /bookings/B000000", ""), unknown_booking()),
+        (
+            ask("north", "GET /bookings/B000000-0", ""),
+            unknown_booking(),
+        ),
+        (
+            ask("north", "POST /reservations", TO_BERN),
+            refused(
+                "507 Insufficient Storage",
+                r#"{"code":"RowsFull","status":507,"title":"Rows full"}"#,
+            ),
+        ),
+        (
+            ask("north", "POST /bookings/B000000-1/fulfillments", ""),
+            told("200 OK", SECOND_CONFIRMED),
+        ),
+        (
+            ask("north", "POST /bookings/B000000-1/refund-offers", ""),
+            told("201 Created", SECOND_QUOTED),
+        ),
+    ];
+    let seconds = [0, 0, 0, 0, 0, 0, 0, 600];
+    converse_alone(&rt, 1, seconds.as_slice(), turns.as_slice())
+}
+
+// A request that finds no place has given the ended booking's row away all the same, and keeps it.
+#[test]
+fn a_row_given_away_in_vain(rt: HostRuntime) -> Result<(), Fail> {
+    let turns = [
+        (
+            ask("north", "POST /reservations", TO_BERN),
+            told("201 Created", AT_SIX),
+        ),
+        (
+            ask("north", "DELETE /bookings/B000000", ""),
+            told("200 OK", RELEASED_AT_SIX),
+        ),
+        (
+            ask("north", "POST /reservations", FIVE_AISLES),
+            refused(
+                "409 Conflict",
+                r#"{"code":"NoPlace","status":409,"title":"No place"}"#,
+            ),
+        ),
+        (ask("north", "GET /bookings/B000000", ""), unknown_booking()),
+        (
+            ask("north", "POST /reservations", TO_BERN),
+            told("201 Created", SECOND_OF_THE_ROW),
+        ),
+    ];
+    converse_alone(&rt, 1, [0].as_slice(), turns.as_slice())
+}
+
 const TO_THUN: &str = r#"{"class":"SECOND","from":"BERN","run":1,"to":"THUN","wanted":["AISLE"]}"#;
 
 const FOUR_TO_BERN: &str =

@@ -11,6 +11,11 @@ fn at(rt: &impl Abort, seconds: u64) -> Moment {
     Moment::of(seconds).expect(rt, "a moment")
 }
 
+// The id of the row's first booking.
+fn first_on(row: u32) -> Option<RowNo> {
+    Some(RowNo { row, generation: 0 })
+}
+
 #[test]
 fn refuses_offers_by_their_ids(rt: HostRuntime) -> Result<(), Fail> {
     let alloc = rt.alloc();
@@ -29,7 +34,14 @@ fn refuses_offers_by_their_ids(rt: HostRuntime) -> Result<(), Fail> {
         ("O1780293600-2-1-2-1-0.0.2_1.0.1", None),
     ] {
         let offer = read_offer(id.as_bytes());
-        let found = command_problem(&cat, &Command::Book { offer }, now);
+        let found = command_problem(
+            &cat,
+            &Command::Book {
+                offer,
+                together: false,
+            },
+            now,
+        );
         assert_eq!(rt; found, want, "{id}");
     }
     Ok(())
@@ -40,10 +52,7 @@ fn refuses_ids_of_no_booking(rt: HostRuntime) -> Result<(), Fail> {
     let alloc = rt.alloc();
     let cat = sample(alloc).expect(&rt, "a catalogue");
     let now = at(&rt, SIX);
-    for (row, want) in [
-        (None, Some(Problem::UnknownBooking)),
-        (Some(RowNo(777)), None),
-    ] {
+    for (row, want) in [(None, Some(Problem::UnknownBooking)), (first_on(777), None)] {
         for command in [
             Command::Show { row },
             Command::Release { row },
@@ -65,27 +74,38 @@ fn refuses_quotes_of_refunds_by_their_ids(rt: HostRuntime) -> Result<(), Fail> {
     let made = at(&rt, 1_780_294_200);
     let now = at(&rt, 1_780_295_101);
     let too_old = Problem::OfferTooOld { made, now };
+    let second = Some(RowNo {
+        row: 0,
+        generation: 1,
+    });
     for (row, id, seconds, want) in [
-        (Some(RowNo(0)), "R0-1780294200-C-3187", 1_780_294_200, None),
-        (Some(RowNo(0)), "R0-1780294200-C-3187", 1_780_295_100, None),
+        (first_on(0), "R0-1780294200-C-3187", 1_780_294_200, None),
+        (first_on(0), "R0-1780294200-C-3187", 1_780_295_100, None),
         (
-            Some(RowNo(0)),
+            first_on(0),
             "R0-1780294200-C-3187",
             1_780_295_101,
             Some(too_old),
         ),
         (
-            Some(RowNo(0)),
+            first_on(0),
             "R0-1780294200-C-3187",
             1_780_294_199,
             Some(Problem::UnknownOffer),
         ),
         (
-            Some(RowNo(1)),
+            first_on(1),
             "R0-1780294200-C-3187",
             1_780_295_101,
             Some(Problem::UnknownOffer),
         ),
+        (
+            second,
+            "R0-1780294200-C-3187",
+            1_780_294_200,
+            Some(Problem::UnknownOffer),
+        ),
+        (second, "R0.1-1780294200-C-3187", 1_780_294_200, None),
         (
             None,
             "R0-1780294200-C-3187",
@@ -93,7 +113,7 @@ fn refuses_quotes_of_refunds_by_their_ids(rt: HostRuntime) -> Result<(), Fail> {
             Some(Problem::UnknownOffer),
         ),
         (
-            Some(RowNo(0)),
+            first_on(0),
             "R0-1780294200-C-03187",
             1_780_294_200,
             Some(Problem::UnknownOffer),
@@ -121,32 +141,32 @@ fn refuses_exchanges_by_their_ids(rt: HostRuntime) -> Result<(), Fail> {
     };
     for (row, id, want) in [
         (
-            Some(RowNo(0)),
+            first_on(0),
             "X0-1780293600-C-m750-O1780293600-1-0-2-0-1.0.1",
             None,
         ),
         (
-            Some(RowNo(0)),
+            first_on(0),
             "X0-1780293600-C-m750-O1780292700-1-0-2-0-1.0.1",
             None,
         ),
         (
-            Some(RowNo(0)),
+            first_on(0),
             "X0-1780293600-C-m750-O1780292699-1-0-2-0-1.0.1",
             Some(Problem::UnknownOffer),
         ),
         (
-            Some(RowNo(0)),
+            first_on(0),
             "X0-1780293500-C-m750-O1780293600-1-0-2-0-1.0.1",
             Some(Problem::UnknownOffer),
         ),
         (
-            Some(RowNo(0)),
+            first_on(0),
             "X0-1780293600-C-m750-O1780293600-1-0-2-0-1.0.2",
             Some(Problem::UnknownOffer),
         ),
         (
-            Some(RowNo(1)),
+            first_on(1),
             "X0-1780293600-C-m750-O1780293600-1-0-2-0-1.0.1",
             Some(Problem::UnknownOffer),
         ),
@@ -156,17 +176,17 @@ fn refuses_exchanges_by_their_ids(rt: HostRuntime) -> Result<(), Fail> {
             Some(Problem::UnknownOffer),
         ),
         (
-            Some(RowNo(0)),
+            first_on(0),
             "X0-1780292700-C-m750-O1780292700-1-0-2-0-1.0.1",
             None,
         ),
         (
-            Some(RowNo(0)),
+            first_on(0),
             "X0-1780292699-C-m750-O1780292699-1-0-2-0-1.0.1",
             Some(stale),
         ),
         (
-            Some(RowNo(0)),
+            first_on(0),
             "X0-1780293601-C-m750-O1780293600-1-0-2-0-1.0.1",
             Some(Problem::UnknownOffer),
         ),
@@ -191,7 +211,7 @@ fn refuses_exchanges_by_their_ids(rt: HostRuntime) -> Result<(), Fail> {
             "O1780293600-1-0-2-0-0.0.2",
             Some(Problem::UnknownBooking),
         ),
-        (Some(RowNo(0)), "O1780293600-1-0-2-0-0.0.2", None),
+        (first_on(0), "O1780293600-1-0-2-0-0.0.2", None),
     ] {
         let offer = read_offer(id.as_bytes());
         let found = command_problem(&cat, &Command::QuoteExchange { row, offer }, now);

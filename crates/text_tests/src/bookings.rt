@@ -1,3 +1,7 @@
+ghost use Rattle.std.specs.Prelude.{option_map};
+ghost use Rattle.booking_rows.specs.Ends.{shown_end};
+ghost use Rattle.booking_rows.specs.Views.{MaySucceed};
+
 use arrayvec::ArrayVec;
 use booking_rows::{EndView, RowView};
 use history_model::phase::{EndKind, Phase};
@@ -61,7 +65,10 @@ pub(crate) fn view(
     total: u64,
     items: &[(u32, u8, u8)],
     ended: Option<EndView>,
-) -> RowView {
+) -> RowView
+    requires ended { MaySucceed (option_map shown_end ended) }
+    ensures ended { MaySucceed result.ended }
+{
     RowView {
         phase,
         retailer: NORTH,
@@ -73,9 +80,14 @@ pub(crate) fn view(
 }
 
 // The text of row 0's booking, by the sample's catalogue.
-fn check_booking(rt: &(impl Abort + AllocGlobal), view: RowView, want: &str) -> Result<(), Fail> {
+fn check_booking(rt: &(impl Abort + AllocGlobal), view: RowView, want: &str) -> Result<(), Fail>
+    requires ended { MaySucceed view.ended }
+{
     let cat = sample(rt.alloc()).expect(rt, "a catalogue");
-    let row = RowNo(0);
+    let row = RowNo {
+        row: 0,
+        generation: 0,
+    };
     let text = reply_text(rt.alloc(), &cat, &Reply::Booking { row, view })?;
     assert_eq!(rt; text.as_slice(), want.as_bytes());
     Ok(())
@@ -111,10 +123,16 @@ fn exchanges(rt: HostRuntime) -> Result<(), Fail> {
     let cat = sample(rt.alloc()).expect(&rt, "a catalogue");
     let items = [(4, 1, 2)];
     let reply = Reply::Exchange {
-        row: RowNo(2),
+        row: RowNo {
+            row: 2,
+            generation: 0,
+        },
         view: view(&rt, Phase::Confirmed, 900, 800, items.as_slice(), None),
         difference: -550,
-        replaced: RowNo(0),
+        replaced: RowNo {
+            row: 0,
+            generation: 0,
+        },
     };
     let text = reply_text(rt.alloc(), &cat, &reply)?;
     assert_eq!(rt; text.as_slice(), EXCHANGE.as_bytes());
@@ -129,7 +147,10 @@ fn exchanged_bookings(rt: HostRuntime) -> Result<(), Fail> {
     let ended = EndView {
         amount: -550,
         moment: after_six(0),
-        successor: Some(RowNo(2)),
+        successor: Some(RowNo {
+            row: 2,
+            generation: 0,
+        }),
     };
     let phase = Phase::Ended(EndKind::Exchange);
     let seen = view(&rt, phase, 900, 2200, items.as_slice(), Some(ended));

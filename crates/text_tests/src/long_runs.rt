@@ -89,7 +89,10 @@ fn check_shown(
 ) -> Result<(), Fail> {
     let alloc = rt.alloc();
     let view = view(rt, Phase::Prebooked, 1200, 1100, items, None);
-    let row = RowNo(0);
+    let row = RowNo {
+        row: 0,
+        generation: 0,
+    };
     let text = reply_text(alloc, cat, &Reply::Booking { row, view })?;
     let want = format!(in alloc;
         r#"{{"confirmableUntil":"2026-06-01T06:20:00Z","id":"B000000","price":{{"amount":1100,"currency":"EUR","scale":2}},"reservations":[{reservations}],"settled":false,"status":"PREBOOKED"}}"#

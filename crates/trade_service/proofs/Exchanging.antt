@@ -1,15 +1,16 @@
 -- The replies to commands on exchanges.
-use Rattle.std.proofs.Common.{◌≡◌, ◌∙◌, inl, inr, ℕ, ℤ, ◌≤◌, true, List, length, Some, None, refl, sym, subst}
+use Rattle.std.proofs.Common.{false, ◌≡◌, ◌∙◌, inl, inr, ℕ, ℤ, ◌≤◌, true, List, length, Some, None, refl, sym, subst}
 use Rattle.std.specs.Prelude.{nat_le}
 use Rattle.std.proofs.lemmas.Bool.{leb-true}
 use Rattle.leg_masks.specs.Interval.{PlacedSpan as Item}
 use Rattle.rail_ids.specs.declared.RowNo.{RowNo}
 use Rattle.history_model.specs.declared.phase.Phase.{Phase}
-use Rattle.claim_rule.specs.Rule.{DeskView}
-use Rattle.claim_rule.specs.Seats.{Shape}
+use Rattle.claim_rule.specs.Rule.{BooksView, DeskView}
+use Rattle.claim_rule.specs.Seats.{IsOf, Shape}
+use Rattle.claim_rule.proofs.Out.{makes_empty}
 use Rattle.claim_rule.specs.Calls.{ShapeBy}
 use Rattle.claim_rule.specs.Holds.{HoldView}
-use Rattle.claim_rule.specs.Out.{SealsItems, IsIdle, IsTidy}
+use Rattle.claim_rule.specs.Out.{SealsItems, MakesEmpty, IsIdle, IsTidy}
 use Rattle.booking_rows.specs.declared.notes.Detail.{Detail}
 use Rattle.booking_rows.specs.Notes.{detail_notes}
 use Rattle.booking_rows.specs.Views.{RowSeen}
@@ -33,32 +34,32 @@ use Rattle.history_model.specs.declared.phase.Phase.TheVariants as phase
 use Rattle.reservation_service.specs.declared.holding.Placing.{Placing}
 use Rattle.reservation_service.specs.declared.holding.Placing.TheVariants.{Whole}
 use Rattle.reservation_service.specs.Holding.{HoldsPlaces, FindsNoRow, GivesUp, problem_of}
-use Rattle.reservation_service.specs.Reserving.{detail_of, made_view, HasAllOrNone, HasNoItem}
+use Rattle.reservation_service.specs.Reserving.{detail_of, made_view, HasAllOrNone}
 use Rattle.reservation_service.proofs.Calm.{held_calmly}
 use Rattle.reservation_service.proofs.Placed.{both}
 use Rattle.reservation_service.proofs.Replying.{whole_of, seals_since, has_places}
-use Rattle.trade_service.specs.Exchanges.{QuotesExchangeOfIt, DecidesOrNot, IsUnready, ready_of, AnswersReady, AnswersExchange}
+use Rattle.trade_service.specs.Exchanges.{QuotesExchangeOfIt, DecidesOrNot, IsUnready, lost_problem, ready_of, AnswersReady, AnswersExchange}
 use Rattle.booking_service.specs.Deciding.{Answered}
-use Rattle.trade_service.proofs.Settling.{exchanges_settles}
+use Rattle.trade_service.proofs.Settling.{Settles}
 
 -- the replies to a quote
 
-pub offers_exchange : (cat : CatalogueView) (rows row retailer : ℕ) (offer : OfferView) (now : ℕ) (code : ExchangeCode) (old new : DeskView) (said : Told)
+pub offers_exchange : (cat : CatalogueView) (rows : ℕ) (row : RowNo) (retailer : ℕ) (offer : OfferView) (now : ℕ) (code : ExchangeCode) (old new : DeskView) (said : Told)
     → ShapeBy (QuotesExchange cat rows row retailer offer now (quoted.Done code)) old new → said ≡ reply_told cat (exchange_offer code)
     → Answered cat (QuotesExchangeOfIt cat rows row retailer offer now) old new said
 offers_exchange cat rows row retailer offer now code old new said did is = (exchange_offer code, (quoted.Done code, did, inl refl), is)
 
-pub offers_none : (cat : CatalogueView) (rows row retailer : ℕ) (offer : OfferView) (now : ℕ) (code : ExchangeCode) (old new : DeskView)
+pub offers_none : (cat : CatalogueView) (rows : ℕ) (row : RowNo) (retailer : ℕ) (offer : OfferView) (now : ℕ) (code : ExchangeCode) (old new : DeskView)
     → ShapeBy (QuotesExchange cat rows row retailer offer now (quoted.Done code)) old new
     → Answered cat (QuotesExchangeOfIt cat rows row retailer offer now) old new (refused_told NoMemory)
 offers_none cat rows row retailer offer now code old new did = (problem NoMemory, (quoted.Done code, did, inr refl), of_problem cat NoMemory)
 
-pub offers_unknown : (cat : CatalogueView) (rows row retailer : ℕ) (offer : OfferView) (now : ℕ) (old new : DeskView)
+pub offers_unknown : (cat : CatalogueView) (rows : ℕ) (row : RowNo) (retailer : ℕ) (offer : OfferView) (now : ℕ) (old new : DeskView)
     → ShapeBy (QuotesExchange cat rows row retailer offer now quoted.Unknown) old new
     → Answered cat (QuotesExchangeOfIt cat rows row retailer offer now) old new (refused_told UnknownBooking)
 offers_unknown cat rows row retailer offer now old new did = (problem UnknownBooking, (quoted.Unknown, did, refl), of_problem cat UnknownBooking)
 
-pub offers_wrong : (cat : CatalogueView) (rows row retailer : ℕ) (offer : OfferView) (now : ℕ) (shown : Phase) (old new : DeskView)
+pub offers_wrong : (cat : CatalogueView) (rows : ℕ) (row : RowNo) (retailer : ℕ) (offer : OfferView) (now : ℕ) (shown : Phase) (old new : DeskView)
     → ShapeBy (QuotesExchange cat rows row retailer offer now (quoted.WrongState shown)) old new
     → Answered cat (QuotesExchangeOfIt cat rows row retailer offer now) old new (refused_told (WrongState shown))
 offers_wrong cat rows row retailer offer now shown old new did = (problem (WrongState shown), (quoted.WrongState shown, did, refl), of_problem cat (WrongState shown))
@@ -76,13 +77,13 @@ has_segments o is =
     leb-true 1 (length o.segments) (both (nat_le 1 (length o.segments)) _ some).0
 
 -- what was made ready stays so while places are held
-pub ready_held : (cat : CatalogueView) (o : OfferView) (row : ℕ) (p : Placing) (items : List Item) (ready : ReadyView) (old mid : DeskView) → HoldsPlaces cat o o.segments row p items old mid → IsReadyFor old ready → IsReadyFor mid ready
+pub ready_held : (cat : CatalogueView) (o : OfferView) (row : RowNo) (p : Placing) (items : List Item) (ready : ReadyView) (old mid : DeskView) → HoldsPlaces cat o false o.segments row p items old mid → IsReadyFor old ready → IsReadyFor mid ready
 ready_held cat o row p items ready old mid placed is =
-    let w = held_calmly cat o o.segments row p items old mid placed in ready_on old mid w.0 ready w.2 is
+    let w = held_calmly cat o false o.segments row p items old mid placed in ready_on old mid w.0 ready w.2 is
 
 -- the exchange is made, or its turn is lost
 
-pub made : (ready : ReadyView) (hold then : HoldView) (d : Detail) (m : RowNo) (x : ℤ) (old noted new : DeskView) → then ≡ hold → Shape old noted (detail_notes hold.row d (length hold.items)) → ShapeBy (AcceptsExchange ready then.row (accepted.Done m x)) noted new
+pub made : (ready : ReadyView) (hold then : HoldView) (d : Detail) (m : RowNo) (x : ℤ) (old noted new : DeskView) → then ≡ hold → Shape old noted (detail_notes hold.row.row d (length hold.items)) → ShapeBy (AcceptsExchange ready then.row (accepted.Done m x)) noted new
     → SealsItems noted new then.row phase.Confirmed then.items → DecidesOrNot ready hold.row hold.items d old new (exchanged hold.row (made_view phase.Confirmed d hold.items) ready.code.difference ready.code.row)
 made ready hold then d m x old noted new same notes did seals = inl (
   noted,
@@ -91,13 +92,13 @@ made ready hold then d m x old noted new same notes did seals = inl (
     m,
     x,
     subst (λ (h : HoldView). ShapeBy (AcceptsExchange ready h.row (accepted.Done m x)) noted new) same did,
-    seals_since old noted new hold.row phase.Confirmed hold.items (detail_notes hold.row d (length hold.items)) notes (subst (λ (h : HoldView). SealsItems noted new h.row phase.Confirmed h.items) same seals),
+    seals_since old noted new hold.row phase.Confirmed hold.items (detail_notes hold.row.row d (length hold.items)) notes (subst (λ (h : HoldView). SealsItems noted new h.row phase.Confirmed h.items) same seals),
     refl,
   ),
 )
 
-pub lost : (ready : ReadyView) (hold then back : HoldView) (d : Detail) (shown : Phase) (old noted last new : DeskView) → then ≡ hold → back ≡ then → Shape old noted (detail_notes hold.row d (length hold.items)) → ShapeBy (AcceptsExchange ready then.row (accepted.WrongState shown back)) noted last
-    → GivesUp back.row back.items last new → DecidesOrNot ready hold.row hold.items d old new (problem (WrongState shown))
+pub lost : (ready : ReadyView) (hold then back : HoldView) (d : Detail) (shown : Phase) (old noted last new : DeskView) → then ≡ hold → back ≡ then → Shape old noted (detail_notes hold.row.row d (length hold.items)) → ShapeBy (AcceptsExchange ready then.row (accepted.WrongState shown back)) noted last
+    → GivesUp back.row back.items last new → DecidesOrNot ready hold.row hold.items d old new (problem (lost_problem shown))
 lost ready hold then back d shown old noted last new same kept notes did gave = inl (
   noted,
   notes,
@@ -112,32 +113,32 @@ lost ready hold then back d shown old noted last new same kept notes did gave = 
 )
 
 -- the bytes that show it
-pub shown_by : (cat : CatalogueView) (p row : ℕ) (v w : RowSeen) (x y : ℤ) (q r : ℕ) (written : Told) → p ≡ row → v ≡ w → x ≡ y → q ≡ r → written ≡ reply_told cat (exchanged p v x q) → written ≡ reply_told cat (exchanged row w y r)
+pub shown_by : (cat : CatalogueView) (p row : RowNo) (v w : RowSeen) (x y : ℤ) (q r : RowNo) (written : Told) → p ≡ row → v ≡ w → x ≡ y → q ≡ r → written ≡ reply_told cat (exchanged p v x q) → written ≡ reply_told cat (exchanged row w y r)
 shown_by cat p row v w x y q r written rows views differences replaced is = is ∙ (λ i. reply_told cat (exchanged (rows i) (views i) (differences i) (replaced i)))
 
-pub no_row : (cat : CatalogueView) (ready : ReadyView) (old new : DeskView) → FindsNoRow old new → HasNoItem new → AnswersReady cat ready old new (refused_told RowsFull)
+pub no_row : (cat : CatalogueView) (ready : ReadyView) (old new : DeskView) → FindsNoRow old new → MakesEmpty new → AnswersReady cat ready old new (refused_told RowsFull)
 no_row cat ready old new did none = (problem RowsFull, inl (inl (did, refl)), none, of_problem cat RowsFull)
 
-pub given_up : (cat : CatalogueView) (ready : ReadyView) (row : ℕ) (p : Placing) (why : Problem) (items : List Item) (old mid new : DeskView)
-    → HoldsPlaces cat ready.code.offer ready.code.offer.segments row p items old mid → problem_of p ≡ Some why → GivesUp row items mid new → HasNoItem new
+pub given_up : (cat : CatalogueView) (ready : ReadyView) (row : RowNo) (p : Placing) (why : Problem) (items : List Item) (old mid new : DeskView)
+    → HoldsPlaces cat ready.code.offer false ready.code.offer.segments row p items old mid → problem_of p ≡ Some why → GivesUp row items mid new → MakesEmpty new
     → AnswersReady cat ready old new (refused_told why)
 given_up cat ready row p why items old mid new placed is gave none =
     (problem why, inl (inr (row, p, why, items, mid, placed, is, gave, refl)), none, of_problem cat why)
 
-has_all : (cat : CatalogueView) (ready : ReadyView) (row : ℕ) (items : List Item) (d : Detail) (old mid new : DeskView) (reply : Reply) → HoldsPlaces cat ready.code.offer ready.code.offer.segments row Whole items old mid → DecidesOrNot ready row items d mid new reply → HasNoItem new
+has_all : (cat : CatalogueView) (ready : ReadyView) (row : RowNo) (items : List Item) (d : Detail) (old mid new : DeskView) (reply : Reply) → HoldsPlaces cat ready.code.offer false ready.code.offer.segments row Whole items old mid → DecidesOrNot ready row items d mid new reply → MakesEmpty new
     → HasAllOrNone cat ready.code.offer old new reply
 has_all cat ready row items d old mid new reply placed (inl (noted, notes, inl (m, x, did, seals, is))) none =
     let o = ready.code.offer in
-    let held = held_calmly cat o o.segments row Whole items old mid placed in
-    subst (HasAllOrNone cat o old new) (sym is) (seals_since old mid new row phase.Confirmed items held.0 held.2 seals, has_places cat o row items old mid placed)
+    let held = held_calmly cat o false o.segments row Whole items old mid placed in
+    subst (HasAllOrNone cat o old new) (sym is) (seals_since old mid new row phase.Confirmed items held.0 held.2 seals, has_places cat o false row items old mid placed)
 has_all cat ready row items d old mid new reply placed (inl (noted, notes, inr (shown, hold, last, did, gave, is))) none = subst (HasAllOrNone cat ready.code.offer old new) (sym is) none
 has_all cat ready row items d old mid new reply placed (inr (gave, is)) none = subst (HasAllOrNone cat ready.code.offer old new) (sym is) none
 
-pub decided : (cat : CatalogueView) (ready was : ReadyView) (row : ℕ) (p : Placing) (items : List Item) (d : Detail) (old mid new : DeskView) (reply : Reply) (written : Told) → HoldsPlaces cat ready.code.offer ready.code.offer.segments row p items old mid
-    → problem_of p ≡ None → was ≡ ready → d ≡ detail_of cat ready.code.offer ready.retailer ready.moment → DecidesOrNot was row items d mid new reply → HasNoItem new → written ≡ reply_told cat reply → AnswersReady cat ready old new written
+pub decided : (cat : CatalogueView) (ready was : ReadyView) (row : RowNo) (p : Placing) (items : List Item) (d : Detail) (old mid new : DeskView) (reply : Reply) (written : Told) → HoldsPlaces cat ready.code.offer false ready.code.offer.segments row p items old mid
+    → problem_of p ≡ None → was ≡ ready → d ≡ detail_of cat ready.code.offer ready.retailer ready.moment → DecidesOrNot was row items d mid new reply → MakesEmpty new → written ≡ reply_told cat reply → AnswersReady cat ready old new written
 decided cat ready was row p items d old mid new reply written placed whole_is same detail did none bytes =
     let o = ready.code.offer in
-    let whole = subst (λ (q : Placing). HoldsPlaces cat o o.segments row q items old mid) (whole_of p whole_is) placed in
+    let whole = subst (λ (q : Placing). HoldsPlaces cat o false o.segments row q items old mid) (whole_of p whole_is) placed in
     let go = subst (λ (x : ReadyView). DecidesOrNot x row items (detail_of cat o ready.retailer ready.moment) mid new reply) same (subst (λ (x : Detail). DecidesOrNot was row items x mid new reply) detail did) in
     (reply, inr (row, items, mid, whole, go), has_all cat ready row items (detail_of cat o ready.retailer ready.moment) old mid new reply whole go none, bytes)
 
@@ -168,9 +169,9 @@ carried cat rows retailer code now ready old mid new written did (reply, go, all
 )
 
 pub refused : (cat : CatalogueView) (rows retailer : ℕ) (code : ExchangeView) (now : ℕ) (p : Problem) (old new : DeskView)
-    → ((a : Readied) × ShapeBy (Readies cat rows retailer code now a) old new × IsUnready a p) → HasNoItem new
+    → ((a : Readied) × ShapeBy (Readies cat rows retailer code now a) old new × IsUnready a p) → MakesEmpty new
     → AnswersExchange cat rows retailer code now old new (refused_told p)
 refused cat rows retailer code now p old new (a, did, un) none = (problem p, inl (a, p, did, un, refl), none, of_problem cat p)
 
-pub exchanged_tidy : (cat : CatalogueView) (rows retailer : ℕ) (code : ExchangeView) (now : ℕ) (old new : DeskView) (written : Told) → AnswersExchange cat rows retailer code now old new written → IsIdle new → IsTidy old → IsTidy new
-exchanged_tidy cat rows retailer code now old new written a idle tidy = (idle, exchanges_settles cat rows retailer code now old new a.0 a.1 tidy.1)
+pub exchanged_tidy : (books : BooksView) (old new : DeskView) → IsOf books new → IsIdle new → Settles old new → IsTidy old → IsTidy new
+exchanged_tidy books old new of idle settles tidy = (idle, settles tidy.1, makes_empty books new of idle.0)

@@ -1,3 +1,4 @@
+pub mod Ids
 pub mod Calm
 pub mod Replying
 pub mod Settling

@@ -1,5 +1,6 @@
 -- The replies to commands on refunds.
 use Rattle.std.proofs.Common.{◌≡◌, ◌∙◌, inl, inr, ℕ, Option, Some, None, refl, ap}
+use Rattle.rail_ids.specs.declared.RowNo.{RowNo}
 use Rattle.claim_rule.specs.Rule.{DeskView}
 use Rattle.claim_rule.specs.Calls.{ShapeBy}
 use Rattle.history_model.specs.declared.phase.Phase.{Phase}
@@ -14,28 +15,28 @@ use Rattle.osdm_texts.specs.declared.problem.Problem.{Problem}
 use Rattle.osdm_texts.specs.declared.problem.Problem.TheVariants.{UnknownBooking, WrongState, NoMemory}
 use Rattle.osdm_texts.specs.Answers.{refund_offer, problem, Told, refused as refused_told, reply_told}
 use Rattle.osdm_texts.proofs.Telling.{of_problem}
-use Rattle.booking_service.specs.Finding.{FindsBooking}
+use Rattle.refund_core.specs.Quotes.{FindsBooking}
 use Rattle.booking_service.specs.Deciding.{OnBooking, Answered}
 use Rattle.trade_service.specs.Refunds.{QuotesIt, RefundsIt, refusal_of, unless, refund_reply}
 
 -- the replies to a quote
 
-pub offers_refund : (cat : CatalogueView) (rows row retailer now : ℕ) (code : RefundCode) (old new : DeskView) (said : Told)
+pub offers_refund : (cat : CatalogueView) (rows : ℕ) (row : RowNo) (retailer now : ℕ) (code : RefundCode) (old new : DeskView) (said : Told)
     → ShapeBy (QuotesRefund cat rows row retailer now (quoted.Done code)) old new → said ≡ reply_told cat (refund_offer code)
     → Answered cat (QuotesIt cat rows row retailer now) old new said
 offers_refund cat rows row retailer now code old new said did is = (refund_offer code, (quoted.Done code, did, inl refl), is)
 
-pub offers_none : (cat : CatalogueView) (rows row retailer now : ℕ) (code : RefundCode) (old new : DeskView)
+pub offers_none : (cat : CatalogueView) (rows : ℕ) (row : RowNo) (retailer now : ℕ) (code : RefundCode) (old new : DeskView)
     → ShapeBy (QuotesRefund cat rows row retailer now (quoted.Done code)) old new
     → Answered cat (QuotesIt cat rows row retailer now) old new (refused_told NoMemory)
 offers_none cat rows row retailer now code old new did = (problem NoMemory, (quoted.Done code, did, inr refl), of_problem cat NoMemory)
 
-pub offers_unknown : (cat : CatalogueView) (rows row retailer now : ℕ) (old new : DeskView)
+pub offers_unknown : (cat : CatalogueView) (rows : ℕ) (row : RowNo) (retailer now : ℕ) (old new : DeskView)
     → ShapeBy (QuotesRefund cat rows row retailer now quoted.Unknown) old new
     → Answered cat (QuotesIt cat rows row retailer now) old new (refused_told UnknownBooking)
 offers_unknown cat rows row retailer now old new did = (problem UnknownBooking, (quoted.Unknown, did, refl), of_problem cat UnknownBooking)
 
-pub offers_wrong : (cat : CatalogueView) (rows row retailer now : ℕ) (shown : Phase) (old new : DeskView)
+pub offers_wrong : (cat : CatalogueView) (rows : ℕ) (row : RowNo) (retailer now : ℕ) (shown : Phase) (old new : DeskView)
     → ShapeBy (QuotesRefund cat rows row retailer now (quoted.WrongState shown)) old new
     → Answered cat (QuotesIt cat rows row retailer now) old new (refused_told (WrongState shown))
 offers_wrong cat rows row retailer now shown old new did = (problem (WrongState shown), (quoted.WrongState shown, did, refl), of_problem cat (WrongState shown))
@@ -43,9 +44,9 @@ offers_wrong cat rows row retailer now shown old new did = (problem (WrongState 
 -- the replies to an acceptance
 
 pub decided : (cat : CatalogueView) (rows retailer : ℕ) (code : RefundCode) (now : ℕ) (v : RowSeen) (a : Refunded) (old mid new : DeskView) (said : Told)
-    → ShapeBy (FindsBooking rows code.row.0 retailer (Some v)) old mid → ShapeBy (AcceptsRefund cat rows retailer code now a) mid new
+    → ShapeBy (FindsBooking rows code.row retailer (Some v)) old mid → ShapeBy (AcceptsRefund cat rows retailer code now a) mid new
     → said ≡ reply_told cat (refund_reply code now v a)
-    → Answered cat (OnBooking rows code.row.0 retailer (RefundsIt cat rows retailer code now)) old new said
+    → Answered cat (OnBooking rows code.row retailer (RefundsIt cat rows retailer code now)) old new said
 decided cat rows retailer code now v a old mid new said found did is = (refund_reply code now v a, inr (v, mid, found, inl (a, did, refl)), is)
 
 -- an acceptance that was refused, and one that was not

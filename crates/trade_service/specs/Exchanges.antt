@@ -1,5 +1,5 @@
 -- Quoting an exchange, and carrying it out: what is done, and what is answered.
-use Rattle.std.specs.Prelude.{◌≡◌, ◌⊎◌, ℕ, ℤ, List, length}
+use Rattle.std.specs.Prelude.{false, ◌≡◌, ◌⊎◌, ℕ, ℤ, List, length}
 use Rattle.leg_masks.specs.Interval.{PlacedSpan as Item}
 use Rattle.rail_ids.specs.declared.RowNo.{RowNo}
 use Rattle.history_model.specs.declared.phase.Phase.{Phase}
@@ -36,7 +36,7 @@ IsExchangeQuote (quoted.Done code) reply = (reply ≡ exchange_offer code) ⊎ (
 IsExchangeQuote quoted.Unknown reply = reply ≡ problem UnknownBooking
 IsExchangeQuote (quoted.WrongState shown) reply = reply ≡ problem (WrongState shown)
 
-abbrev pub QuotesExchangeOfIt : CatalogueView → ℕ → ℕ → ℕ → OfferView → ℕ → Replying
+abbrev pub QuotesExchangeOfIt : CatalogueView → ℕ → RowNo → ℕ → OfferView → ℕ → Replying
 QuotesExchangeOfIt cat rows row retailer offer now old new reply =
     (a : QuotedExchange) × ShapeBy (QuotesExchange cat rows row retailer offer now a) old new × IsExchangeQuote a reply
 
@@ -52,25 +52,30 @@ IsUnready readied.QuoteWrong p = p ≡ QuoteWrong
 abbrev pub ready_of : ℕ → ExchangeView → ℕ → ReadyView
 ready_of retailer code now = record { code = code; retailer = retailer; moment = now }
 
+-- why an exchange whose turn was lost wasn't made: the booking's row was given away, or it is in another phase
+abbrev pub lost_problem : Phase → Problem
+lost_problem phase.Free = UnknownBooking
+lost_problem shown = WrongState shown
+
 -- The detail is noted and the exchange made, with a booking that has just these items; or its turn was lost, and what was held is given
 -- back.
-abbrev pub Decides : ReadyView → ℕ → List Item → Detail → Replying
+abbrev pub Decides : ReadyView → RowNo → List Item → Detail → Replying
 Decides ready row items d old new reply =
-    (noted : DeskView) × Shape old noted (detail_notes row d (length items))
+    (noted : DeskView) × Shape old noted (detail_notes row.row d (length items))
     × (((made : RowNo) × (difference : ℤ) × ShapeBy (AcceptsExchange ready row (accepted.Done made difference)) noted new × SealsItems old new row phase.Confirmed items
     × (reply ≡ exchanged row (made_view phase.Confirmed d items) ready.code.difference ready.code.row))
     ⊎ ((shown : Phase) × (hold : HoldView) × (lost : DeskView) × ShapeBy (AcceptsExchange ready row (accepted.WrongState shown hold)) noted lost × GivesUp row items lost new
-    × (reply ≡ problem (WrongState shown))))
+    × (reply ≡ problem (lost_problem shown))))
 
 -- with all places held: the exchange is decided; or there is no memory for the answer, and what was held is given back
-abbrev pub DecidesOrNot : ReadyView → ℕ → List Item → Detail → Replying
+abbrev pub DecidesOrNot : ReadyView → RowNo → List Item → Detail → Replying
 DecidesOrNot ready row items d old new reply = Decides ready row items d old new reply ⊎ (GivesUp row items old new × (reply ≡ problem NoMemory))
 
 -- by a quote that was checked: the places of the new booking are held, and the exchange is decided
 abbrev pub CarriesOut : CatalogueView → ReadyView → Replying
 CarriesOut cat ready old new reply =
-    FailsToHold cat ready.code.offer old new reply
-    ⊎ ((row : ℕ) × (items : List Item) × (held : DeskView) × HoldsPlaces cat ready.code.offer ready.code.offer.segments row Whole items old held
+    FailsToHold cat ready.code.offer false old new reply
+    ⊎ ((row : RowNo) × (items : List Item) × (held : DeskView) × HoldsPlaces cat ready.code.offer false ready.code.offer.segments row Whole items old held
     × DecidesOrNot ready row items (detail_of cat ready.code.offer ready.retailer ready.moment) held new reply)
 
 -- the quote is checked, and refused or carried out

@@ -1,5 +1,6 @@
 -- Quoting and accepting a refund: what is done, and what is answered.
 use Rattle.std.specs.Prelude.{◌≡◌, ◌⊎◌, ℕ, Option, Some, None}
+use Rattle.rail_ids.specs.declared.RowNo.{RowNo}
 use Rattle.history_model.specs.declared.phase.EndKind.TheVariants as kind
 use Rattle.claim_rule.specs.Calls.{ShapeBy}
 use Rattle.booking_rows.specs.Views.{RowSeen}
@@ -23,7 +24,7 @@ IsQuoteReply (quoted.Done code) reply = (reply ≡ refund_offer code) ⊎ (reply
 IsQuoteReply quoted.Unknown reply = reply ≡ problem UnknownBooking
 IsQuoteReply (quoted.WrongState shown) reply = reply ≡ problem (WrongState shown)
 
-abbrev pub QuotesIt : CatalogueView → ℕ → ℕ → ℕ → ℕ → Replying
+abbrev pub QuotesIt : CatalogueView → ℕ → RowNo → ℕ → ℕ → Replying
 QuotesIt cat rows row retailer now old new reply =
     (a : Quoted) × ShapeBy (QuotesRefund cat rows row retailer now a) old new × IsQuoteReply a reply
 
@@ -41,7 +42,7 @@ unless (Some p) reply = problem p
 
 -- the booking at its end, unless it was refused
 abbrev pub refund_reply : RefundCode → ℕ → RowSeen → Refunded → Reply
-refund_reply code now v a = unless (refusal_of a) (booking code.row.0 (at_end kind.Refund (end_of (aim.Refund now code.amount)) v))
+refund_reply code now v a = unless (refusal_of a) (booking code.row (at_end kind.Refund (end_of (aim.Refund now code.amount)) v))
 
 abbrev pub RefundsIt : CatalogueView → ℕ → ℕ → RefundCode → ℕ → RowSeen → Replying
 RefundsIt cat rows retailer code now v old new reply =

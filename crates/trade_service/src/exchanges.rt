@@ -3,8 +3,9 @@ ghost use Rattle.std.specs.Prelude.{◌≡◌, ◌≤◌, true, length, Ok, IfSo
 ghost use Rattle.std.specs.List.{list_all};
 ghost use Rattle.claim_rule.specs.Seats.{IsOf};
 ghost use Rattle.claim_rule.specs.Calls.{ShapeBy};
-ghost use Rattle.claim_rule.specs.Out.{IsTidy, IsIdle, IsHolding, HasNotedItems, HoldsNone, EndsNone, KeepsHolds, KeepsEndings};
+ghost use Rattle.claim_rule.specs.Out.{IsTidy, IsIdle, IsHolding, HasNotedItems, HoldsNone, EndsNone, AreSettled, KeepsHolds, KeepsEndings};
 ghost use Rattle.history_model.specs.Booking.{greatest_amount};
+ghost use Rattle.history_model.specs.History.{own};
 ghost use Rattle.offer_codes.specs.Offers.{is_offer, offer_view};
 ghost use Rattle.offer_codes.specs.Exchanges.{is_exchange, exchange_view};
 ghost use Rattle.rail_catalogue.specs.Contents.{legs_in};
@@ -14,8 +15,10 @@ ghost use Rattle.exchange_core.specs.Exchanges.{Readies};
 ghost use Rattle.exchange_core.specs.declared.readying.Readied.{Readied as ReadiedBy};
 ghost use Rattle.exchange_core.specs.declared.readying.Readied.TheVariants as readied;
 ghost use Rattle.osdm_texts.specs.Answers.{Reply as Replied, exchange_offer, exchanged, reply_told, told_of};
+ghost use Rattle.osdm_texts.specs.Ids.{HasId};
+ghost use Rattle.osdm_texts.specs.Bookings.{HasIds};
 ghost use Rattle.booking_service.specs.Deciding.{Answered};
-ghost use Rattle.trade_service.specs.Exchanges.{QuotesExchangeOfIt, AnswersExchange, AnswersReady, DecidesOrNot, IsUnready, ready_of};
+ghost use Rattle.trade_service.specs.Exchanges.{QuotesExchangeOfIt, AnswersExchange, AnswersReady, DecidesOrNot, IsUnready, lost_problem as lost_problem_of, ready_of};
 
 use booking_rows::{Detail, RowView, note_detail};
 use claim_rule::{Desk, Hold};
@@ -60,7 +63,7 @@ pub fn quote_exchange_booking(
     ensures idle { IsIdle desk.new }
     ensures tidy { IsTidy desk.old → IsTidy desk.new }
     ensures answer { Answered shop.now.cat.now (QuotesExchangeOfIt shop.now.cat.now shop.now.books.now.layout.rows
-        row.0 asker.retailer.0 (offer_view offer.now) asker.moment) desk.old desk.new (told_of result) }
+        row asker.retailer.0 (offer_view offer.now) asker.moment) desk.old desk.new (told_of result) }
 {
     let quoted = quote_exchange(
         shop.cat,
@@ -154,10 +157,11 @@ fn carry_out(
     requires same { ready ≡ ready_of asker.retailer.0 (exchange_view code.now) asker.moment }
     ensures own { IsOf shop.now.books.now desk.new }
     ensures idle { IsIdle desk.new }
+    ensures settled { AreSettled (own desk.old.seen desk.old.number) → AreSettled (own desk.new.seen desk.new.number) }
     ensures answer { AnswersReady shop.now.cat.now (ready_of asker.retailer.0 (exchange_view code.now) asker.moment)
         desk.old desk.new (told_of result) }
 {
-    let Some(Held { hold, placing }) = hold_places(shop, desk, &code.offer) else {
+    let Some(Held { hold, placing }) = hold_places(shop, desk, &code.offer, false) else {
         return Err(Problem::RowsFull);
     };
     match placing.problem() {
@@ -193,6 +197,7 @@ fn decide(
     ensures own { IsOf shop.now.books.now desk.new }
     ensures holds_none { HoldsNone desk.new }
     ensures none { EndsNone desk.new }
+    ensures settled { AreSettled (own desk.old.seen desk.old.number) → AreSettled (own desk.new.seen desk.new.number) }
     ensures answer { (reply : Replied) × DecidesOrNot ready hold.row hold.items detail desk.old desk.new reply
         × (told_of result ≡ reply_told shop.now.cat.now reply) }
 {
@@ -209,8 +214,18 @@ fn decide(
         } => Ok(answer),
         Exchanged::WrongState { shown, hold } => {
             abandon(shop.books, desk, hold);
-            Err(Problem::WrongState { shown })
+            Err(lost_problem(shown))
         }
+    }
+}
+
+// What is wrong where the turn was lost: the booking's row was given away, or it is in another phase.
+fn lost_problem(shown: Phase) -> Problem
+    ensures problem { result ≡ lost_problem_of shown }
+{
+    match shown {
+        Phase::Free => Problem::UnknownBooking,
+        _ => Problem::WrongState { shown },
     }
 }
 
@@ -222,8 +237,9 @@ fn exchanged_answer(
     difference: i64,
     replaced: RowNo,
 ) -> Option<Written>
+    requires ids { HasIds row view × HasId replaced }
     ensures told { IfSome result (λ written. told_of (Ok written)
-        ≡ reply_told shop.now.cat.now (exchanged row.0 view difference replaced.0)) }
+        ≡ reply_told shop.now.cat.now (exchanged row view difference replaced)) }
 {
     let reply = Reply::Exchange {
         row,

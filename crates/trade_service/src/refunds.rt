@@ -12,14 +12,14 @@ ghost use Rattle.booking_service.specs.Deciding.{Answered, OnBooking, at_end};
 ghost use Rattle.trade_service.specs.Refunds.{QuotesIt, RefundsIt, refusal_of};
 
 use booking_rows::{EndView, RowView};
-use booking_service::{booking_answer, find_booking};
+use booking_service::booking_answer;
 use claim_rule::Desk;
 use history_model::phase::{EndKind, Phase};
 use offer_codes::RefundCode;
 use osdm_texts::{Problem, Reply, Success, Written, write_reply};
 use rail_ids::RowNo;
 use rail_time::Moment;
-use refund_core::{Quoted, Refunded, accept_refund, quote_refund};
+use refund_core::{Quoted, Refunded, accept_refund, find_booking, quote_refund};
 use shop::{Asker, Shop};
 
 // The text that offers a refund, or `None` where there is no memory for it.
@@ -48,7 +48,7 @@ pub fn quote_refund_booking(
     ensures idle { IsIdle desk.new }
     ensures tidy { IsTidy desk.old → IsTidy desk.new }
     ensures answer { Answered shop.now.cat.now
-        (QuotesIt shop.now.cat.now shop.now.books.now.layout.rows row.0 asker.retailer.0 asker.moment)
+        (QuotesIt shop.now.cat.now shop.now.books.now.layout.rows row asker.retailer.0 asker.moment)
         desk.old desk.new (told_of result) }
 {
     match quote_refund(
@@ -111,7 +111,7 @@ pub fn accept_refund_booking(
     ensures own { IsOf shop.now.books.now desk.new }
     ensures idle { IsIdle desk.new }
     ensures tidy { IsTidy desk.old → IsTidy desk.new }
-    ensures answer { Answered shop.now.cat.now (OnBooking shop.now.books.now.layout.rows code.now.row.0 asker.retailer.0
+    ensures answer { Answered shop.now.cat.now (OnBooking shop.now.books.now.layout.rows code.now.row asker.retailer.0
         (RefundsIt shop.now.cat.now shop.now.books.now.layout.rows asker.retailer.0 code.now asker.moment))
         desk.old desk.new (told_of result) }
 {

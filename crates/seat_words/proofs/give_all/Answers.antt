@@ -48,5 +48,5 @@ returns c =
       ending = i.ending;
       holds = i.holds;
       all = all_given c.args.ending.now c.loop.ending n is i.all;
-      entries = all_shape c.args.desk.now c.loop.desk c.args.ending.now n i.all (subst (λ (k : ℕ). Shape c.args.desk.now c.loop.desk (gives_from c.args.ending.now.row c.args.ending.now.given k)) done i.seen);
+      entries = all_shape c.args.desk.now c.loop.desk c.args.ending.now n i.all (subst (λ (k : ℕ). Shape c.args.desk.now c.loop.desk (gives_from c.args.ending.now.row.row c.args.ending.now.given k)) done i.seen);
     }

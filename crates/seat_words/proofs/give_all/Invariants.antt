@@ -13,5 +13,5 @@ invariant-loop l = record {
   is : l.ending ≡ so_far l.initial.ending l.counter;
   read : l.ending.read ≡ true;
   all : l.end + l.initial.ending.given ≡ length l.initial.ending.items;
-  seen : Shape l.initial.desk l.desk (gives_from l.initial.ending.row l.initial.ending.given l.counter);
+  seen : Shape l.initial.desk l.desk (gives_from l.initial.ending.row.row l.initial.ending.given l.counter);
 }

@@ -30,4 +30,4 @@ loop-place-preserved c =
 pub returns-clause-tidy : goal.returns-clause-tidy
 returns-clause-tidy c =
     let i = c.loop-place.invariant in
-    counted_tidy c.args.desk.now c.loop-place.desk _ c.args.span c.loop-place.free i.looked i.holds i.endings
+    counted_tidy c.args.books.now c.args.desk.now c.loop-place.desk _ c.args.span c.loop-place.free i.own i.looked i.holds i.endings

@@ -38,4 +38,4 @@ loop-place-preserved c =
 pub returns-clause-tidy : goal.returns-clause-tidy
 returns-clause-tidy c =
     let i = c.loop-place.invariant in
-    looked_tidy c.args.desk.now c.loop-place.desk _ c.args.span c.loop-place.states.items i.looked i.holds i.endings
+    looked_tidy c.args.books.now c.args.desk.now c.loop-place.desk _ c.args.span c.loop-place.states.items i.own i.looked i.holds i.endings

@@ -1,10 +1,14 @@
 use Rattle.std.proofs.Common.{◌∙◌, arith, rules}
 use Rattle.std.proofs.lemmas.Grind.{common_steps}
 use Rattle.claim_rule.proofs.Out.{endings_then}
+use Rattle.booking_lives.proofs.Sealing.{may_prebook}
 use Rattle.booking_lives.proofs.tests.prebooked.Goals as goal
 
 pub seal-requires-clause-ready : goal.seal-requires-clause-ready
 seal-requires-clause-ready g c = c.note_detail.ensures.ready (c.add_places-added.ensures.noted (search rules)) (grind (arith, common_steps)) (omega arith)
+
+pub seal-requires-clause-phase : goal.seal-requires-clause-phase
+seal-requires-clause-phase g c = may_prebook c.note_detail.new.desk c.note_detail.new.hold c.note_detail.ensures.hold
 
 pub returns-clause-endings : goal.returns-clause-endings
 returns-clause-endings g c =

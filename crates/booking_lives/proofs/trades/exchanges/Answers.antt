@@ -8,3 +8,6 @@ accept_exchange-requires-clause-none g c = c.ready_exchange.ensures.endings.none
 
 pub returns-clause-idle : goal.returns-clause-idle
 returns-clause-idle g c = (c.in-Done.ensures.holds_none, c.accept_exchange.ensures.none)
+
+pub accept_exchange-requires-clause-noted : goal.accept_exchange-requires-clause-noted
+accept_exchange-requires-clause-noted g c = c.ready_exchange.ensures.holds.ready c.held-hold.result c.held-hold.ensures.hold c.held-hold.ensures.noted

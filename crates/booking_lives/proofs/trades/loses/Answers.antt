@@ -13,3 +13,8 @@ accept_exchange-requires-clause-ready g c =
 
 pub returns-clause-idle : goal.returns-clause-idle
 returns-clause-idle g c = (c.abandon.ensures.none, c.abandon.ensures.endings.none c.accept_exchange.ensures.none)
+
+pub accept_exchange-requires-clause-noted : goal.accept_exchange-requires-clause-noted
+accept_exchange-requires-clause-noted g c =
+    c.fulfil-done.ensures.holds.ready c.held-hold.result (c.ready_exchange.ensures.holds.hold c.held-hold.result c.held-hold.ensures.hold)
+    (c.ready_exchange.ensures.holds.ready c.held-hold.result c.held-hold.ensures.hold c.held-hold.ensures.noted)

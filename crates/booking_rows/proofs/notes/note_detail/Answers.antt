@@ -8,7 +8,7 @@ use Rattle.booking_rows.proofs.notes.note_detail.Goals as goal
 
 pub returns-clause-entries : goal.returns-clause-entries
 returns-clause-entries c =
-    let row : HoldView → ℕ = λ h. h.row in
+    let row : HoldView → ℕ = λ h. h.row.row in
     let one = c.step_note.ensures in
     let two = c.step_note-2.ensures in
     let three = c.step_note-3.ensures in
@@ -18,8 +18,8 @@ returns-clause-entries c =
     let s3 = ap row three.hold.1 ∙ s2 in
     let h = c.args.hold.now in
     let d = c.args.detail in
-    subst (λ (x : ℕ × ℕ × ℕ). Shape c.args.desk.now c.step_note-4.new.desk (Note h.row 1 x.0 ∷ Note h.row 2 x.1 ∷ Note h.row 3 d.total ∷ Note h.row 4 x.2 ∷ [])) (λ i. (c.number_word.ensures.value i, c.seconds.ensures.value i, ap length c.items.ensures.items i))
-    (four_notes c.args.desk.now c.step_note.new.desk c.step_note-2.new.desk c.step_note-3.new.desk c.step_note-4.new.desk h.row c.step_note.new.hold.row c.step_note-2.new.hold.row c.step_note-3.new.hold.row c.number_word.result c.seconds.result d.total (length c.items.result.now)
+    subst (λ (x : ℕ × ℕ × ℕ). Shape c.args.desk.now c.step_note-4.new.desk (Note h.row.row 1 x.0 ∷ Note h.row.row 2 x.1 ∷ Note h.row.row 3 d.total ∷ Note h.row.row 4 x.2 ∷ [])) (λ i. (c.number_word.ensures.value i, c.seconds.ensures.value i, ap length c.items.ensures.items i))
+    (four_notes c.args.desk.now c.step_note.new.desk c.step_note-2.new.desk c.step_note-3.new.desk c.step_note-4.new.desk h.row.row c.step_note.new.hold.row.row c.step_note-2.new.hold.row.row c.step_note-3.new.hold.row.row c.number_word.result c.seconds.result d.total (length c.items.result.now)
     s1 s2 s3 one.noted two.noted three.noted four.noted)
 
 pub returns-clause-same : goal.returns-clause-same
@@ -29,7 +29,7 @@ pub returns-clause-hold : goal.returns-clause-hold
 returns-clause-hold c =
     let d = c.args.detail in
     let h = c.args.hold.now in
-    detail_hold h.row d.retailer.0 d.limit d.total (length h.items) c.args.desk.now c.step_note-4.new.desk h c.step_note-4.new.hold refl (returns-clause-entries c) (returns-clause-same c) c.requires.hold c.step_note-4.ensures.hold.0
+    detail_hold h.row.row d.retailer.0 d.limit d.total (length h.items) c.args.desk.now c.step_note-4.new.desk h c.step_note-4.new.hold refl (returns-clause-entries c) (returns-clause-same c) c.requires.hold c.step_note-4.ensures.hold.0
 
 pub returns-clause-endings : goal.returns-clause-endings
 returns-clause-endings c =
@@ -39,7 +39,7 @@ returns-clause-endings c =
 
 pub returns-clause-ready : goal.returns-clause-ready
 returns-clause-ready c = λ noted some total.
-    let row : HoldView → ℕ = λ h. h.row in
+    let row : HoldView → ℕ = λ h. h.row.row in
     let one = c.step_note.ensures in
     let two = c.step_note-2.ensures in
     let three = c.step_note-3.ensures in

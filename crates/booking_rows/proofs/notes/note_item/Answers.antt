@@ -27,12 +27,12 @@ returns c =
     let n = length c.items.result.now in
     let many : n ≡ length h.items = ap length c.items.ensures.items in
     let read : i ≡ get_or h.items (n - 1) i = c.index-items-last.is ∙ (λ j. get_or (c.items-2.ensures.items j) (n - 1) i) in
-    let did : (front : List Item) (last : Item) → h.items ≡ front ++ last ∷ [] → Stepped (Note h.row (8 + length front) (item_word last.place last.span)) old new =
-    (λ front last e. last_note h.row (8 + (n - 1)) c.write_item-word.result n h.items front last i old new e many read refl c.write_item-word.ensures.value s.ensures.noted) in
+    let did : (front : List Item) (last : Item) → h.items ≡ front ++ last ∷ [] → Stepped (Note h.row.row (8 + length front) (item_word last.place last.span)) old new =
+    (λ front last e. last_note h.row.row (8 + (n - 1)) c.write_item-word.result n h.items front last i old new e many read refl c.write_item-word.ensures.value s.ensures.noted) in
     let few : length h.items ≤ most_items = subst (λ (k : ℕ). k ≤ most_items) many c.items.ensures.few in
     let at = s.ensures.noted in record {
       own = s.ensures.own;
-      entries = λ front last e. step_shape (Note h.row (8 + length front) (item_word last.place last.span)) old new (did front last e);
+      entries = λ front last e. step_shape (Note h.row.row (8 + length front) (item_word last.place last.span)) old new (did front last e);
       same = s.ensures.hold.1;
       hold = noted_hold _ _ old new h s.new.hold at s.ensures.hold.1 c.requires.hold s.ensures.hold.0;
       noted = λ b. last_noted old new h s.new.hold b.0 b.1 c.requires.own.legal c.requires.hold s.ensures.hold.1 few b.2 b.3 (did b.0 b.1 b.2);

@@ -10,8 +10,8 @@ use Rattle.booking_rows.proofs.CloseLemmas.{may_close, closing, closed_all, clos
 use Rattle.booking_rows.proofs.turns.close_end.Goals as goal
 
 -- a note of an end word, as the ending at the beginning has it
-as_first : (a b : DeskView) (e f : EndingView) (w n : ℕ) → f ≡ e → n ≡ end_word f.kind f.end w → Stepped (Note f.row w n) a b → Stepped (Note e.row w (end_word e.kind e.end w)) a b
-as_first a b e f w n same is did = subst (λ (v : EndingView). Stepped (Note v.row w (end_word v.kind v.end w)) a b) same (subst (λ (m : ℕ). Stepped (Note f.row w m) a b) is did)
+as_first : (a b : DeskView) (e f : EndingView) (w n : ℕ) → f ≡ e → n ≡ end_word f.kind f.end w → Stepped (Note f.row.row w n) a b → Stepped (Note e.row.row w (end_word e.kind e.end w)) a b
+as_first a b e f w n same is did = subst (λ (v : EndingView). Stepped (Note v.row.row w (end_word v.kind v.end w)) a b) same (subst (λ (m : ℕ). Stepped (Note f.row.row w m) a b) is did)
 
 pub step_close-requires-clause-ready : goal.step_close-requires-clause-ready
 step_close-requires-clause-ready c =
@@ -25,8 +25,8 @@ step_close-requires-clause-ready c =
     (as_first c.args.desk.now c.step_end.new.desk e e 5 c.end_word-successor.result (λ i. e) c.end_word-successor.ensures c.step_end.ensures.noted)
     (as_first c.step_end.new.desk c.step_end-2.new.desk e c.step_end.new.ending 6 c.end_word-amount.result s1 c.end_word-amount.ensures c.step_end-2.ensures.noted)
     (as_first c.step_end-2.new.desk d e c.step_end-2.new.ending 7 c.end_word-moment.result s2 c.end_word-moment.ensures c.step_end-3.ensures.noted) in (
-      subst (λ (x : EndingView × Layout). x.0.row < x.1.rows) (λ i. (sym s3 i, c.requires.own.layout i)) c.requires.ending.of.row,
-      subst (λ (x : EndingView × Layout). OnRow (state_of x.1 d.seen) x.0.row (MayClose d.number)) (λ i. (sym s3 i, c.step_end-3.ensures.own.layout i)) may,
+      subst (λ (x : EndingView × Layout). x.0.row.row < x.1.rows) (λ i. (sym s3 i, c.requires.own.layout i)) c.requires.ending.of.row,
+      subst (λ (x : EndingView × Layout). OnRow (state_of x.1 d.seen) x.0.row.row (MayClose d.number)) (λ i. (sym s3 i, c.step_end-3.ensures.own.layout i)) may,
     )
 
 pub returns-clause-entries : goal.returns-clause-entries
@@ -40,7 +40,7 @@ returns-clause-entries c =
     (as_first c.args.desk.now c.step_end.new.desk e e 5 c.end_word-successor.result (λ i. e) c.end_word-successor.ensures c.step_end.ensures.noted)
     (as_first c.step_end.new.desk c.step_end-2.new.desk e c.step_end.new.ending 6 c.end_word-amount.result s1 c.end_word-amount.ensures c.step_end-2.ensures.noted)
     (as_first c.step_end-2.new.desk d e c.step_end-2.new.ending 7 c.end_word-moment.result s2 c.end_word-moment.ensures c.step_end-3.ensures.noted)
-    (subst (λ (v : EndingView). Stepped (Close v.row) d c.step_close.new.desk) s3 c.step_close.ensures.closed)
+    (subst (λ (v : EndingView). Stepped (Close v.row.row) d c.step_close.new.desk) s3 c.step_close.ensures.closed)
 
 pub returns-clause-none : goal.returns-clause-none
 returns-clause-none c =
@@ -53,7 +53,7 @@ returns-clause-none c =
     (as_first c.args.desk.now c.step_end.new.desk e e 5 c.end_word-successor.result (λ i. e) c.end_word-successor.ensures c.step_end.ensures.noted)
     (as_first c.step_end.new.desk c.step_end-2.new.desk e c.step_end.new.ending 6 c.end_word-amount.result s1 c.end_word-amount.ensures c.step_end-2.ensures.noted)
     (as_first c.step_end-2.new.desk d e c.step_end-2.new.ending 7 c.end_word-moment.result s2 c.end_word-moment.ensures c.step_end-3.ensures.noted)
-    (subst (λ (v : EndingView). Stepped (Close v.row) d c.step_close.new.desk) s3 c.step_close.ensures.closed)
+    (subst (λ (v : EndingView). Stepped (Close v.row.row) d c.step_close.new.desk) s3 c.step_close.ensures.closed)
 
 pub returns-clause-holds : goal.returns-clause-holds
 returns-clause-holds c =

@@ -1,59 +1,63 @@
-use Rattle.std.proofs.Common.{◌≡◌, ◌<◌, ◌≤◌, ℕ, ◌∷◌, sym, refl, arith}
+use Rattle.std.proofs.Common.{◌∷◌, [], refl, sym, ◌∙◌}
 use Rattle.claim_rule.specs.declared.ending.StepTurned.TheVariants as answer
 use Rattle.claim_rule.proofs.Out.{holds_then}
-use Rattle.history_model.specs.Booking.{most_rows}
+use Rattle.claim_rule.proofs.Shapes.{step_shape}
 use Rattle.booking_rows.specs.Aims.{aimed, end_of, turn_of}
 use Rattle.claim_rule.specs.Endings.{items_read}
 use Rattle.booking_rows.proofs.TurnLemmas.{turn_in_range, turned_as, turn_holds, turn_endings, lost_entries, lost_holds, lost_endings, turned_ending, ending_shape, items_bound, amount_fits}
 use Rattle.booking_rows.proofs.turns.turn.Goals as goal
 
-within : (a b c : ℕ) → a ≤ b → b ≡ c → c ≤ most_rows → a < 4294967296
-within a b c l e m = omega arith
-
 pub successor-successor-requires : goal.successor-successor-requires
-successor-successor-requires c = record {
-  successor =
-      within (end_of c.args.to).successor c.args.books.now.layout.rows c.rows.result (turn_in_range c.args.books.now c.args.desk.now c.args.row.0 c.args.from c.args.to c.requires.own c.requires.turn).2 (sym c.rows.ensures.count) c.rows.ensures.most;
-}
+successor-successor-requires c = record { generation = c.requires.generation }
 
 pub amount-amount-requires : goal.amount-amount-requires
-amount-amount-requires c = record { amount = (turn_in_range c.args.books.now c.args.desk.now c.args.row.0 c.args.from c.args.to c.requires.own c.requires.turn).1 }
+amount-amount-requires c = record { amount = (turn_in_range c.args.books.now c.args.desk.now c.args.row c.args.from c.args.to c.requires.own c.requires.turn).1 }
 
 pub with_items-requires-clause-ending : goal.with_items-requires-clause-ending
 with_items-requires-clause-ending c =
     let a = c.args in
     let mid = c.step_turn.new.desk in
     let e = c.in-Ending.ending in
-    turned_ending a.row.0 a.from a.to e a.desk.now mid c.requires.none
-    (turned_as a.row.0 a.from c.phase.result c.moment-moment.result _ c.successor-successor.result a.to a.desk.now mid (answer.Ending e) c.phase.ensures.phase c.moment-moment.ensures.moment (amount_fits a.books.now a.desk.now a.row.0 a.from a.to c.amount-amount.result c.requires.own c.requires.turn c.amount-amount.ensures.amount) c.successor-successor.ensures.successor c.in-Ending.ensures.turned)
+    turned_ending a.row a.from a.to e a.desk.now mid c.requires.none
+    (turned_as a.row a.from c.phase.result c.moment-moment.result _ c.successor-successor.result a.to a.desk.now mid (answer.Ending e) c.phase.ensures.phase c.moment-moment.ensures.moment (amount_fits a.books.now a.desk.now a.row a.from a.to c.amount-amount.result c.requires.own c.requires.turn c.amount-amount.ensures.amount) c.successor-successor.ensures.successor c.in-Ending.ensures.turned)
+
+pub step_turn-requires-clause-none : goal.step_turn-requires-clause-none
+step_turn-requires-clause-none c = λ kind is. c.requires.none kind (sym c.phase.ensures.phase ∙ is)
+
+pub returns-in-Won-clause-entries : goal.returns-in-Won-clause-entries
+returns-in-Won-clause-entries c =
+    let a = c.args in
+    let new = c.step_turn.new.desk in
+    let t = turned_as a.row a.from c.phase.result c.moment-moment.result _ c.successor-successor.result a.to a.desk.now new answer.Won c.phase.ensures.phase c.moment-moment.ensures.moment (amount_fits a.books.now a.desk.now a.row a.from a.to c.amount-amount.result c.requires.own c.requires.turn c.amount-amount.ensures.amount) c.successor-successor.ensures.successor c.in-Won.ensures.turned in
+    (turn_of a.row.row a.from a.to ∷ [], refl, step_shape (turn_of a.row.row a.from a.to) a.desk.now new t.0.0)
 
 pub returns-in-Won-clause-leaves : goal.returns-in-Won-clause-leaves
 returns-in-Won-clause-leaves c =
     let a = c.args in
     let new = c.step_turn.new.desk in
     let e = end_of a.to in
-    let t = turned_as a.row.0 a.from c.phase.result c.moment-moment.result _ c.successor-successor.result a.to a.desk.now new answer.Won c.phase.ensures.phase c.moment-moment.ensures.moment (amount_fits a.books.now a.desk.now a.row.0 a.from a.to c.amount-amount.result c.requires.own c.requires.turn c.amount-amount.ensures.amount) c.successor-successor.ensures.successor c.in-Won.ensures.turned in
-    (t.1, turn_endings a.row.0 a.from (aimed a.to) e.moment e.amount e.successor a.desk.now new t.1 t.0)
+    let t = turned_as a.row a.from c.phase.result c.moment-moment.result _ c.successor-successor.result a.to a.desk.now new answer.Won c.phase.ensures.phase c.moment-moment.ensures.moment (amount_fits a.books.now a.desk.now a.row a.from a.to c.amount-amount.result c.requires.own c.requires.turn c.amount-amount.ensures.amount) c.successor-successor.ensures.successor c.in-Won.ensures.turned in
+    (t.1, turn_endings a.row.row a.from (aimed a.to) e.moment e.amount e.successor a.desk.now new t.1 t.0.0)
 
 pub returns-in-Won-clause-holds : goal.returns-in-Won-clause-holds
 returns-in-Won-clause-holds c =
     let a = c.args in
     let new = c.step_turn.new.desk in
     let e = end_of a.to in
-    let t = turned_as a.row.0 a.from c.phase.result c.moment-moment.result _ c.successor-successor.result a.to a.desk.now new answer.Won c.phase.ensures.phase c.moment-moment.ensures.moment (amount_fits a.books.now a.desk.now a.row.0 a.from a.to c.amount-amount.result c.requires.own c.requires.turn c.amount-amount.ensures.amount) c.successor-successor.ensures.successor c.in-Won.ensures.turned in
-    turn_holds a.books.now a.desk.now new a.row.0 a.from (aimed a.to) e.moment e.amount e.successor c.requires.own c.requires.turn t.0
+    let t = turned_as a.row a.from c.phase.result c.moment-moment.result _ c.successor-successor.result a.to a.desk.now new answer.Won c.phase.ensures.phase c.moment-moment.ensures.moment (amount_fits a.books.now a.desk.now a.row a.from a.to c.amount-amount.result c.requires.own c.requires.turn c.amount-amount.ensures.amount) c.successor-successor.ensures.successor c.in-Won.ensures.turned in
+    turn_holds a.books.now a.desk.now new a.row a.from (aimed a.to) e.moment e.amount e.successor c.requires.own c.requires.turn t.0
 
 pub returns-in-Missed-clause-entries : goal.returns-in-Missed-clause-entries
 returns-in-Missed-clause-entries c =
     let a = c.args in
     let m = c.in-Missed.ensures.turned in
-    lost_entries a.row.0 c.in-Missed.shown a.from c.phase_said.result a.to a.desk.now c.step_turn.new.desk c.phase_said.ensures.phase m.1
+    lost_entries a.row c.in-Missed.shown a.from c.phase_shown.result a.to a.desk.now c.step_turn.new.desk c.phase_shown.ensures m
 
 pub returns-in-Missed-clause-leaves : goal.returns-in-Missed-clause-leaves
-returns-in-Missed-clause-leaves c = lost_endings c.args.row.0 c.args.from _ c.args.desk.now c.step_turn.new.desk c.in-Missed.ensures.turned.1
+returns-in-Missed-clause-leaves c = lost_endings c.args.row.row _ _ c.args.desk.now c.step_turn.new.desk c.in-Missed.ensures.turned.1
 
 pub returns-in-Missed-clause-holds : goal.returns-in-Missed-clause-holds
-returns-in-Missed-clause-holds c = lost_holds c.args.row.0 c.args.from _ c.args.desk.now c.step_turn.new.desk c.in-Missed.ensures.turned.1
+returns-in-Missed-clause-holds c = lost_holds c.args.row.row _ _ c.args.desk.now c.step_turn.new.desk c.in-Missed.ensures.turned.1
 
 pub returns-in-Ending-clause-entries : goal.returns-in-Ending-clause-entries
 returns-in-Ending-clause-entries c =
@@ -61,8 +65,8 @@ returns-in-Ending-clause-entries c =
     let mid = c.step_turn.new.desk in
     let w = c.with_items in
     let e = c.in-Ending.ending in
-    let t = turned_as a.row.0 a.from c.phase.result c.moment-moment.result _ c.successor-successor.result a.to a.desk.now mid (answer.Ending e) c.phase.ensures.phase c.moment-moment.ensures.moment (amount_fits a.books.now a.desk.now a.row.0 a.from a.to c.amount-amount.result c.requires.own c.requires.turn c.amount-amount.ensures.amount) c.successor-successor.ensures.successor c.in-Ending.ensures.turned in
-    (turn_of a.row.0 a.from a.to ∷ items_read a.row.0 w.result.items, refl, ending_shape a.row.0 a.from a.to e w.result a.desk.now mid w.new.desk t w.ensures.entries)
+    let t = turned_as a.row a.from c.phase.result c.moment-moment.result _ c.successor-successor.result a.to a.desk.now mid (answer.Ending e) c.phase.ensures.phase c.moment-moment.ensures.moment (amount_fits a.books.now a.desk.now a.row a.from a.to c.amount-amount.result c.requires.own c.requires.turn c.amount-amount.ensures.amount) c.successor-successor.ensures.successor c.in-Ending.ensures.turned in
+    (turn_of a.row.row a.from a.to ∷ items_read a.row.row w.result.items, refl, ending_shape a.row a.from a.to e w.result a.desk.now mid w.new.desk t w.ensures.entries)
 
 pub returns-in-Ending-clause-holds : goal.returns-in-Ending-clause-holds
 returns-in-Ending-clause-holds c =
@@ -70,8 +74,8 @@ returns-in-Ending-clause-holds c =
     let mid = c.step_turn.new.desk in
     let e = c.in-Ending.ending in
     let n = end_of a.to in
-    let t = turned_as a.row.0 a.from c.phase.result c.moment-moment.result _ c.successor-successor.result a.to a.desk.now mid (answer.Ending e) c.phase.ensures.phase c.moment-moment.ensures.moment (amount_fits a.books.now a.desk.now a.row.0 a.from a.to c.amount-amount.result c.requires.own c.requires.turn c.amount-amount.ensures.amount) c.successor-successor.ensures.successor c.in-Ending.ensures.turned in
-    holds_then a.desk.now mid c.with_items.new.desk (turn_holds a.books.now a.desk.now mid a.row.0 a.from (aimed a.to) n.moment n.amount n.successor c.requires.own c.requires.turn t.0) c.with_items.ensures.holds
+    let t = turned_as a.row a.from c.phase.result c.moment-moment.result _ c.successor-successor.result a.to a.desk.now mid (answer.Ending e) c.phase.ensures.phase c.moment-moment.ensures.moment (amount_fits a.books.now a.desk.now a.row a.from a.to c.amount-amount.result c.requires.own c.requires.turn c.amount-amount.ensures.amount) c.successor-successor.ensures.successor c.in-Ending.ensures.turned in
+    holds_then a.desk.now mid c.with_items.new.desk (turn_holds a.books.now a.desk.now mid a.row a.from (aimed a.to) n.moment n.amount n.successor c.requires.own c.requires.turn t.0) c.with_items.ensures.holds
 
 pub returns-in-Ending-clause-bound : goal.returns-in-Ending-clause-bound
 returns-in-Ending-clause-bound c =
@@ -79,5 +83,5 @@ returns-in-Ending-clause-bound c =
     let mid = c.step_turn.new.desk in
     let w = c.with_items in
     let e = c.in-Ending.ending in
-    let t = turned_as a.row.0 a.from c.phase.result c.moment-moment.result _ c.successor-successor.result a.to a.desk.now mid (answer.Ending e) c.phase.ensures.phase c.moment-moment.ensures.moment (amount_fits a.books.now a.desk.now a.row.0 a.from a.to c.amount-amount.result c.requires.own c.requires.turn c.amount-amount.ensures.amount) c.successor-successor.ensures.successor c.in-Ending.ensures.turned in
-    items_bound a.desk.now w.new.desk (turn_of a.row.0 a.from a.to) a.row.0 w.result.items (ending_shape a.row.0 a.from a.to e w.result a.desk.now mid w.new.desk t w.ensures.entries) w.ensures.few
+    let t = turned_as a.row a.from c.phase.result c.moment-moment.result _ c.successor-successor.result a.to a.desk.now mid (answer.Ending e) c.phase.ensures.phase c.moment-moment.ensures.moment (amount_fits a.books.now a.desk.now a.row a.from a.to c.amount-amount.result c.requires.own c.requires.turn c.amount-amount.ensures.amount) c.successor-successor.ensures.successor c.in-Ending.ensures.turned in
+    items_bound a.desk.now w.new.desk (turn_of a.row.row a.from a.to) a.row.row w.result.items (ending_shape a.row a.from a.to e w.result a.desk.now mid w.new.desk t w.ensures.entries) w.ensures.few

@@ -1,94 +1,79 @@
-use Rattle.std.proofs.Common.{◌<◌, ◌≤◌, ◌+◌, ℕ, ◌≡◌, List, [], ◌∷◌, ◌++◌, length-append, length, ap, ◌∙◌, subst, sym, arith, All}
+use Rattle.std.proofs.Common.{◌≡◌, ◌<◌, ◌≤◌, ◌+◌, ℕ, min, List, [], ◌∷◌, length-append, length, ap, ◌∙◌, subst, sym, arith, All}
 use Rattle.std.specs.List.{AllByRecursion}
-use Rattle.leg_masks.specs.Interval.{most_places, most_legs, PlacedSpan as Item}
+use Rattle.leg_masks.specs.Interval.{most_places, most_legs}
 use Rattle.history_model.specs.Booking.{Layout, most_items, row_words}
 use Rattle.history_model.specs.declared.entry.Step.TheVariants.{SawRow}
 use Rattle.claim_rule.specs.Seats.{Shape}
-use Rattle.claim_rule.specs.Endings.{item_looks}
-use Rattle.claim_rule.proofs.Shapes.{step_shape}
-use Rattle.history_model.proofs.ListLemmas.{All-append}
-use Rattle.booking_rows.specs.Views.{HasWord}
-use Rattle.booking_rows.proofs.ViewLemmas.{count_fits, shows_item, items_on, one_more}
+use Rattle.claim_rule.proofs.Shapes.{step_shape, shape_none}
+use Rattle.booking_rows.specs.SealedRows.{IsItemWord, IsStillPresent}
+use Rattle.booking_rows.specs.Views.{word_looks}
+use Rattle.booking_rows.proofs.ViewLemmas.{shows_item, items_on, sealed_on, still_before, one_more, words_on}
 use Rattle.booking_rows.proofs.views.read_items.Goals as goal
 
-small : (v : ℕ) → v ≤ most_items → v < 256
-small v l = omega arith
+below : (i n count : ℕ) → i < n → n ≡ min count most_items → (i < count) × (i < most_items)
+below i n count l e = (omega (arith, l, e), omega (arith, l, e))
 
-below_word : (i n : ℕ) → i < n → n ≤ most_items → 8 + i < row_words
-below_word i n l m = omega arith
+small_word : (i : ℕ) → i < most_items → 8 + i < row_words
+small_word i l = omega arith
 
-below_byte : (i n : ℕ) → i < n → n ≤ most_items → 8 + i < 256
-below_byte i n l m = omega arith
-
-below_items : (i n : ℕ) → i < n → n ≤ most_items → i < most_items
-below_items i n l m = omega arith
-
-pub overflow_cast-count : goal.overflow_cast-count
-overflow_cast-count c = record { fits = small c.step_read-count.result (count_fits c.args.row.0 c.step_read-count.result c.args.desk.now c.step_read-count.new.desk c.step_read-count.ensures.look c.requires.sealed).0 }
+small_byte : (i : ℕ) → i < most_items → 8 + i < 256
+small_byte i l = omega arith
 
 pub loop-i-init : goal.loop-i-init
 loop-i-init c =
-    let v = c.step_read-count.result in
-    let new = c.step_read-count.new.desk in
-    let look = c.step_read-count.ensures.look in
-    let none = c.new-items.ensures in record {
-      own = c.step_read-count.ensures.own;
-      counted = (count_fits c.args.row.0 v c.args.desk.now new look c.requires.sealed).1;
+    let none = c.new-items.ensures in
+    let desk = c.args.desk.now in record {
+      own = c.requires.own;
+      sealed = c.requires.sealed;
+      counted = c.requires.count;
       many = ap length none;
-      kept = look.same.5;
-      few = subst (λ (l : List Item). length l ≤ most_items) (sym none) (omega arith);
-      words = subst (AllByRecursion HasWord) (sym none) tt;
-      seen = subst (λ (l : List Item). Shape c.args.desk.now new (SawRow c.args.row.0 4 v ∷ item_looks c.args.row.0 8 l)) (sym none) (step_shape (SawRow c.args.row.0 4 v) c.args.desk.now new look);
+      kept = λ i. desk.kept;
+      words = λ _. subst (AllByRecursion IsItemWord) (sym none) tt;
+      seen = subst (λ (l : List ℕ). Shape desk desk (word_looks c.args.row.row 8 l)) (sym none) (shape_none desk c.requires.own.legal);
     }
 
 pub overflow_add-i : goal.overflow_add-i
-overflow_add-i c = record { fits = below_byte c.loop-i.i c.step_read-count.result c.loop-i-test.true (count_fits c.args.row.0 c.step_read-count.result c.args.desk.now c.step_read-count.new.desk c.step_read-count.ensures.look c.requires.sealed).0 }
+overflow_add-i c = record { fits = small_byte c.loop-i.i (below c.loop-i.i c.at_most_items-i-end.result c.args.count c.loop-i-test.true c.at_most_items-i-end.ensures.least).1 }
 
-pub step_read-word-requires-clause-row : goal.step_read-word-requires-clause-row
-step_read-word-requires-clause-row c = (
-  c.requires.row,
-  below_word c.loop-i.i c.step_read-count.result c.loop-i-test.true (count_fits c.args.row.0 c.step_read-count.result c.args.desk.now c.step_read-count.new.desk c.step_read-count.ensures.look c.requires.sealed).0,
-)
-
-pub item_of-requires : goal.item_of-requires
-item_of-requires c =
-    let new = c.step_read-word.new.desk in
-    let lay = sym c.step_read-word.ensures.own.layout in
-    record {
-      item = shows_item c.args.row.0 c.step_read-word.result c.loop-i.i c.step_read-count.result c.loop-i.desk new
-          (subst (λ (l : Layout). length l.legs ≤ most_places) lay c.requires.fit.places)
-          (subst (λ (l : Layout). All (λ n. n ≤ most_legs) l.legs) lay c.requires.fit.legs)
-          c.step_read-word.ensures.look c.loop-i.invariant.counted c.loop-i-test.true;
-    }
+pub step_read-requires-clause-row : goal.step_read-requires-clause-row
+step_read-requires-clause-row c = (c.requires.row, small_word c.loop-i.i (below c.loop-i.i c.at_most_items-i-end.result c.args.count c.loop-i-test.true c.at_most_items-i-end.ensures.least).1)
 
 pub push-requires : goal.push-requires
 push-requires c =
-    (omega arith, subst (λ (n : ℕ). n < most_items) (sym c.loop-i.invariant.many) (below_items c.loop-i.i c.step_read-count.result c.loop-i-test.true (count_fits c.args.row.0 c.step_read-count.result c.args.desk.now c.step_read-count.new.desk c.step_read-count.ensures.look c.requires.sealed).0))
-
-one_less : (is : List Item) (i : Item) (k n : ℕ) → length is ≡ k → k < n → n ≤ most_items → length (is ++ i ∷ []) ≤ most_items
-one_less is i k n e l m = let a = length-append is (i ∷ []) in omega arith
+    (omega arith, subst (λ (n : ℕ). n < most_items) (sym c.loop-i.invariant.many) (below c.loop-i.i c.at_most_items-i-end.result c.args.count c.loop-i-test.true c.at_most_items-i-end.ensures.least).1)
 
 pub loop-i-preserved : goal.loop-i-preserved
 loop-i-preserved c =
-    let v = c.step_read-word.result in
+    let v = c.step_read.result in
     let k = c.loop-i.i in
-    let row = c.args.row.0 in
-    let count = c.step_read-count.result in
+    let row = c.args.row in
     let old = c.loop-i.desk in
-    let new = c.step_read-word.new.desk in
-    let i = c.item_of.result in
+    let new = c.step_read.new.desk in
     let is = c.loop-i.items.items in
     let so = c.loop-i.invariant in
-    let look = c.step_read-word.ensures.look in
-    let few = (count_fits row count c.args.desk.now c.step_read-count.new.desk c.step_read-count.ensures.look c.requires.sealed).0 in
+    let look = c.step_read.ensures.look in
+    let shape = step_shape (SawRow row.row (8 + k) v) old new look in
+    let low = (below k c.at_most_items-i-end.result c.args.count c.loop-i-test.true c.at_most_items-i-end.ensures.least).0 in
+    let lay = sym c.step_read.ensures.own.layout in
+    let before : IsStillPresent new row → IsStillPresent old row = still_before old new (SawRow row.row (8 + k) v ∷ []) row shape so.sealed in
     let pushed = c.push.ensures.items in record {
-      own = c.step_read-word.ensures.own;
-      counted = items_on old new (SawRow row (8 + k) v ∷ []) row count (step_shape (SawRow row (8 + k) v) old new look) so.counted;
-      many = ap length pushed ∙ (length-append is (i ∷ []) ∙ ap (λ (n : ℕ). n + 1) so.many);
+      own = c.step_read.ensures.own;
+      sealed = sealed_on old new (SawRow row.row (8 + k) v ∷ []) row shape so.sealed;
+      counted = λ now. items_on old new (SawRow row.row (8 + k) v ∷ []) row c.args.count shape (so.counted (before now));
+      many = ap length pushed ∙ (length-append is (v ∷ []) ∙ ap (λ (n : ℕ). n + 1) so.many);
       kept = look.same.5 ∙ so.kept;
-      few = subst (λ (l : List Item). length l ≤ most_items) (sym pushed) (one_less is i k count so.many c.loop-i-test.true few);
-      words = subst (AllByRecursion HasWord) (sym pushed)
-          (All-append HasWord is (i ∷ []) so.words ((c.item_of.ensures.item.0, c.item_of.ensures.item.1, c.item_of.ensures.item.2, c.item_of.ensures.item.3), tt));
-      seen = subst (λ (l : List Item). Shape c.args.desk.now new (SawRow row 4 count ∷ item_looks row 8 l)) (sym pushed)
-          (one_more c.args.desk.now old new row v k count is i so.many c.item_of.ensures.item so.seen look);
+      words = λ now. subst (AllByRecursion IsItemWord) (sym pushed) (words_on IsItemWord is v (so.words (before now))
+          (shows_item row v k c.args.count old new
+          (subst (λ (l : Layout). length l.legs ≤ most_places) lay c.requires.fit.places)
+          (subst (λ (l : Layout). All (λ n. n ≤ most_legs) l.legs) lay c.requires.fit.legs)
+          look so.sealed (so.counted (before now)) now low));
+      seen = subst (λ (l : List ℕ). Shape c.args.desk.now new (word_looks row.row 8 l)) (sym pushed) (one_more c.args.desk.now old new row.row v k is so.many so.seen look);
     }
+
+-- the loop ended
+at_end : (n i many count : ℕ) → n ≡ i → i ≤ many → many ≤ i → many ≡ min count most_items → n ≡ min count most_items
+at_end n i many count a l m b = omega (arith, a, l, m, b)
+
+pub returns-clause-many : goal.returns-clause-many
+returns-clause-many c =
+    at_end (length c.loop-i.items.items) c.loop-i.i c.at_most_items-i-end.result c.args.count c.loop-i.invariant.many c.loop-i.auto.i-end c.loop-i-test.false c.at_most_items-i-end.ensures.least

@@ -4,4 +4,4 @@ use Rattle.osdm_texts.proofs.Telling.{of_booking}
 use Rattle.booking_service.proofs.deciding.booking_answer.Goals as goal
 
 pub returns : goal.returns
-returns c = record { told = IfSome_then c.write_reply.result c.write_reply.ensures.told (λ written e. e ∙ of_booking c.args.shop.now.cat.now c.args.row.0 c.args.view) }
+returns c = record { told = IfSome_then c.write_reply.result c.write_reply.ensures.told (λ written e. e ∙ of_booking c.args.shop.now.cat.now c.args.row c.args.view) }

@@ -1,8 +1,16 @@
-use Rattle.std.proofs.Common.{rules, ◌≡◌, sym, ap, ◌∙◌}
+use Rattle.std.proofs.Common.{rules, ◌≡◌, ◌≢◌, Bool, true, false, sym, ap, ◌∙◌}
 use Rattle.booking_rows.specs.Views.{RowSeen}
 use Rattle.offer_codes.specs.Exchanges.{ExchangeView, exchange_view}
-use Rattle.exchange_core.proofs.Kept.{fine, is_ready}
+use Rattle.refund_core.specs.Quotes.{phase_named}
+use Rattle.exchange_core.proofs.Kept.{fine, in_other_phase, is_ready}
 use Rattle.exchange_core.proofs.readying.ready_exchange.Goals as goal
+
+pub returns-then-not-is_named-clause-entries : goal.returns-then-not-is_named-clause-entries
+returns-then-not-is_named-clause-entries c =
+    let amount : c.difference_at.result ≡ c.args.code.now.difference = search rules in
+    let other : c.view.inside.phase ≢ phase_named c.args.code.now.fulfilled = λ e. let no : ◌≡◌ {A = Bool} false true = sym c.if-not-is_named.true ∙ c.is_named.ensures.named.1 e in cc in
+    in_other_phase c.args.cat.now c.args.books.now.layout.rows c.args.retailer.0 c.args.now (exchange_view c.args.code.now) c.in-Some.view c.view.inside.phase c.args.desk.now c.find_booking.new.desk
+    (sym c.is_stale.ensures.stale ∙ c.if-is_stale.false) (sym amount ∙ c.difference_at.ensures.value) (ap (λ (v : RowSeen). v.phase) (sym c.view.view_is)) other c.in-Some.ensures.entries
 
 pub returns-clause-entries : goal.returns-clause-entries
 returns-clause-entries c =

@@ -44,7 +44,7 @@ returns-clause-entries c =
 pub returns-clause-tidy : goal.returns-clause-tidy
 returns-clause-tidy c =
     let l = c.loop-row in
-    swept_tidy c.args.desk.now l.desk c.args.now l.row l.swept l.invariant.swept l.invariant.holds l.invariant.none
+    swept_tidy c.args.books.now c.args.desk.now l.desk c.args.now l.row l.swept l.invariant.own l.invariant.swept l.invariant.holds l.invariant.none
 
 pub returns-clause-bound : goal.returns-clause-bound
 returns-clause-bound c =

@@ -1,4 +1,5 @@
 use Rattle.std.proofs.Common.{◌≡◌, [], ◌∷◌, ℕ, suc, ◌+◌, ◌≤◌, Some, length, ap, refl, sym, ◌∙◌, subst, arith, add-zero}
+use Rattle.rail_ids.specs.declared.RowNo.{RowNo}
 use Rattle.claim_rule.specs.Rule.{DeskView}
 use Rattle.claim_rule.specs.Seats.{Shape}
 use Rattle.history_model.specs.declared.entry.Step.TheVariants.{Give}
@@ -14,7 +15,7 @@ loop-init c = record {
   hold = c.requires.hold;
   row = refl;
   left = add-zero (length c.args.hold.items);
-  seen = gave_none c.args.desk.now c.args.hold.row (length c.args.hold.items) c.requires.own.legal;
+  seen = gave_none c.args.desk.now c.args.hold.row.row (length c.args.hold.items) c.requires.own.legal;
   endings = endings_same c.args.desk.now;
 }
 
@@ -39,9 +40,9 @@ loop-preserved c =
       hold = u.ensures.hold;
       row = same_row c.loop.hold u.new.hold one.0 one.1 ∙ i.row;
       left = count_down (length c.loop.hold.items) (length u.new.hold.items) c.loop.counter (length c.args.hold.items) i.left less;
-      seen = gave_more c.args.desk.now c.loop.desk u.new.desk c.args.hold.row (length c.args.hold.items) (length u.new.hold.items)
-          (subst (GaveSome c.args.desk.now c.loop.desk c.args.hold.row (length c.args.hold.items)) less i.seen)
-          (subst (λ (r : ℕ). Shape c.loop.desk u.new.desk (Give r (length u.new.hold.items) ∷ [])) i.row u.ensures.entries);
+      seen = gave_more c.args.desk.now c.loop.desk u.new.desk c.args.hold.row.row (length c.args.hold.items) (length u.new.hold.items)
+          (subst (GaveSome c.args.desk.now c.loop.desk c.args.hold.row.row (length c.args.hold.items)) less i.seen)
+          (subst (λ (r : ℕ). Shape c.loop.desk u.new.desk (Give r (length u.new.hold.items) ∷ [])) (ap (λ (k : RowNo). k.row) i.row) u.ensures.entries);
       endings = endings_then c.args.desk.now c.loop.desk u.new.desk i.endings u.ensures.endings;
     }
 
@@ -51,8 +52,8 @@ returns-clause-entries c =
     let h = c.args.hold in
     let total : length c.items-end.result.now ≡ length h.items = ap length c.items-end.ensures.items in
     let none : c.loop.hold.items ≡ [] = none_left c.loop.hold.items (length h.items) c.loop.counter i.left (subst (λ (n : ℕ). n ≤ c.loop.counter) total c.loop-test.false) in
-    let gave = gave_all c.args.desk.now c.loop.desk h.row (length h.items) (subst (GaveSome c.args.desk.now c.loop.desk h.row (length h.items)) (ap length none) i.seen) in
-    subst (λ (d : DeskView). Shape c.args.desk.now d (gives_back h.row (length h.items))) (sym c.keep_row.ensures.kept) (shape_kept c.args.desk.now c.loop.desk (gives_back h.row (length h.items)) (Some c.loop.hold.row) gave)
+    let gave = gave_all c.args.desk.now c.loop.desk h.row.row (length h.items) (subst (GaveSome c.args.desk.now c.loop.desk h.row.row (length h.items)) (ap length none) i.seen) in
+    subst (λ (d : DeskView). Shape c.args.desk.now d (gives_back h.row.row (length h.items))) (sym c.keep_row.ensures.kept) (shape_kept c.args.desk.now c.loop.desk (gives_back h.row.row (length h.items)) (Some c.loop.hold.row) gave)
 
 pub returns-clause-endings : goal.returns-clause-endings
 returns-clause-endings c = endings_then c.args.desk.now c.loop.desk c.keep_row.new.desk c.loop.invariant.endings c.keep_row.ensures.endings
@@ -63,8 +64,8 @@ few n m k e l f = omega arith
 pub returns-clause-bound : goal.returns-clause-bound
 returns-clause-bound c =
     let h = c.args.hold in
-    adds_length c.args.desk.now c.keep_row.new.desk (gives_back h.row (length h.items)) 48 (returns-clause-entries c)
-    (few (length h.items) (length c.items-end.result.now) (length (gives_back h.row (length h.items))) (sym (ap length c.items-end.ensures.items)) c.items-end.ensures.few (gives_length h.row (length h.items)))
+    adds_length c.args.desk.now c.keep_row.new.desk (gives_back h.row.row (length h.items)) 48 (returns-clause-entries c)
+    (few (length h.items) (length c.items-end.result.now) (length (gives_back h.row.row (length h.items))) (sym (ap length c.items-end.ensures.items)) c.items-end.ensures.few (gives_length h.row.row (length h.items)))
 
 pub returns-clause-own : goal.returns-clause-own
 returns-clause-own c = c.keep_row.ensures.own c.args.books.now c.loop.invariant.own

@@ -10,6 +10,6 @@ invariant-loop l = record {
   hold : IsHolding l.desk l.hold;
   row : l.hold.row ≡ l.initial.hold.row;
   left : length l.hold.items + l.counter ≡ length l.initial.hold.items;
-  seen : GaveSome l.initial.desk l.desk l.initial.hold.row (length l.initial.hold.items) (length l.hold.items);
+  seen : GaveSome l.initial.desk l.desk l.initial.hold.row.row (length l.initial.hold.items) (length l.hold.items);
   endings : KeepsEndings l.initial.desk l.desk;
 }

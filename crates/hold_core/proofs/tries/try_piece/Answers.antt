@@ -60,7 +60,7 @@ returns-in-Won-clause-noted c on =
 pub returns-in-Taken-clause-noted : goal.returns-in-Taken-clause-noted
 returns-in-Taken-clause-noted c on =
     let e = c.in-Taken.ensures in
-    subst (λ (h : HoldView). HasNoted c.try_take.new.desk c.try_take.new.hold.row h.items) (sym e.take.2) (e.noted (c.loop.invariant.noted on))
+    subst (λ (h : HoldView). HasNoted c.try_take.new.desk c.try_take.new.hold.row.row h.items) (sym e.take.2) (e.noted (c.loop.invariant.noted on))
 
 pub returns-in-Taken-clause-endings : goal.returns-in-Taken-clause-endings
 returns-in-Taken-clause-endings c = endings_then c.args.desk.now c.loop.desk c.try_take.new.desk c.loop.invariant.endings c.in-Taken.ensures.endings
@@ -73,7 +73,7 @@ loop-preserved c =
     record {
       own = e.own;
       hold = e.hold;
-      noted = λ on. subst (λ (h : HoldView). HasNoted c.try_take.new.desk c.try_take.new.hold.row h.items) (sym t.2) (e.noted (i.noted on));
+      noted = λ on. subst (λ (h : HoldView). HasNoted c.try_take.new.desk c.try_take.new.hold.row.row h.items) (sym t.2) (e.noted (i.noted on));
       endings = endings_then c.args.desk.now c.loop.desk c.try_take.new.desk i.endings e.endings;
       same = t.2 ∙ i.same;
       clear = t.3;

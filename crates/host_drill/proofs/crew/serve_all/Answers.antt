@@ -13,6 +13,11 @@ returns-clause-served g c i none less =
     subst (λ (d : Connection). Serves c.args.cat.now d (slice_index_or c.for_each_mut.new.s i none)) call.argument_is
     (subst (λ (d : Connection). Serves c.args.cat.now call.argument.now d) call.left call.call.1.1)
 
+pub returns-clause-idle : goal.returns-clause-idle
+returns-clause-idle g c i none less =
+    let call = (c.for_each_mut.ensures i none less).1 in
+    subst (λ (d : Connection). IsIdle d.desk) call.left call.call.1.0
+
 pub for_each_mut-requires-clause-accepts : goal.for_each_mut-requires-clause-accepts
 for_each_mut-requires-clause-accepts g c κs within i p less is =
     let own = All-get_or (λ (d : Connection). IsOf c.args.books.now d.desk) c.args.crew.now i p.now less c.requires.own in

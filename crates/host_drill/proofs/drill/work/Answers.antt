@@ -1,4 +1,5 @@
-use Rattle.std.proofs.Common.{◌≡◌, ◌∙◌, ◌++◌, ℕ, List, length, take, drop, ◌*◌, sym, ap, subst, refl, rules}
+use Rattle.std.proofs.Common.{◌≡◌, ◌∙◌, ◌++◌, ◌<◌, ℕ, List, length, take, drop, ◌*◌, sym, ap, subst, refl, rules}
+use Rattle.std.specs.Prelude.{slice_index_or}
 use Rattle.claim_rule.specs.Seats.{IsOf}
 use Rattle.claim_rule.specs.Out.{IsIdle}
 use Rattle.drill_totals.specs.Meeting.{EachAt, EachPair}
@@ -10,6 +11,12 @@ use Rattle.host_drill.proofs.Serving.{all_done, all_written}
 use Rattle.host_drill.proofs.Drilling.{drilled}
 use Rattle.host_drill.proofs.Work.{worked}
 use Rattle.host_drill.proofs.drill.work.Goals as goal
+
+pub serve_all-requires-clause-idle : goal.serve_all-requires-clause-idle
+serve_all-requires-clause-idle g c κs within k d less =
+    let same = c.as_mut_slice.ensures.value in
+    subst (λ (l : List Connection). IsIdle (slice_index_or l k d).desk) (sym same)
+    (c.in_ok-crew.ensures.ready k d (subst (λ (l : List Connection). k < length l) same less)).idle
 
 pub meet_all-requires-clause-done : goal.meet_all-requires-clause-done
 meet_all-requires-clause-done g c =

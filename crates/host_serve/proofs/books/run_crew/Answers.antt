@@ -3,7 +3,7 @@ use Rattle.claim_rule.specs.Seats.{IsOf}
 use Rattle.claim_rule.specs.Out.{IsTidy}
 use Rattle.worker_pool.specs.declared.member.Member.{Member}
 use Rattle.worker_pool.specs.Turns.{KeepsDesk, RunsToEnd}
-use Rattle.host_serve.specs.Crews.{IsMember, HasMetAll}
+use Rattle.host_serve.specs.Crews.{IsCrew, IsMember, HasMetAll}
 use Rattle.host_serve.proofs.Crewing.{after_run, all_written, since}
 use Rattle.host_serve.proofs.books.run_crew.Goals as goal
 
@@ -40,3 +40,27 @@ returns g c =
         left = left;
       };
     }
+
+pub run_workers-requires-clause-tidy : goal.run_workers-requires-clause-tidy
+run_workers-requires-clause-tidy g c κs within k d lt =
+    let same = c.as_mut_slice.ensures.value in
+    subst (λ (l : List (Member g.row.W.Denot)). IsTidy (slice_index_or l k d).desk) (sym same)
+    (c.requires.crew k d (subst (λ (l : List (Member g.row.W.Denot)). k < length l) same lt)).desk.tidy
+
+pub meet_others-requires-clause-crew : goal.meet_others-requires-clause-crew
+meet_others-requires-clause-crew g c =
+    let books = c.args.books.now in
+    let was = c.as_mut_slice.result.now in
+    let old = c.args.crew.items in
+    let crew = c.run_workers.new.crew in
+    let same : was ≡ old = c.as_mut_slice.ensures.value in
+    let ran = c.run_workers.ensures in
+    let count : length crew ≡ length old = search rules in
+    let is = after_run g.W.Worker.fits books old crew c.requires.crew count
+    (since (λ _ m. g.W.Worker.fits m.worker books) was old crew same ran.fits)
+    (since (λ _ m. IsOf books m.desk) was old crew same ran.own)
+    (since (λ _ m. IsTidy m.desk) was old crew same ran.tidy)
+    (since (λ m n. KeepsDesk m.desk n.desk) was old crew same ran.keeps) in
+    let same_len : length crew ≡ c.args.crew.len = search rules in
+    let written : take c.args.crew.len (crew ++ drop (length crew) old) ≡ crew = all_written c.args.crew.len old crew same_len count in
+    subst (λ (l : List (Member g.row.W.Denot)). IsCrew g.W.Worker.fits books l) (sym written) is

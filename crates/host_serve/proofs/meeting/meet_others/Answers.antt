@@ -2,8 +2,8 @@ use Rattle.std.proofs.Common.{◌≡◌, ◌+◌, ◌++◌, ◌∷◌, [], List,
 use mathlib.Core.List.{IsPrefix}
 use Rattle.std.proofs.lemmas.List.{length-append}
 use Rattle.worker_pool.specs.declared.member.Member.{Member}
-use Rattle.host_serve.specs.Crews.{HasMetAll}
-use Rattle.host_serve.proofs.Crewing.{front_of, last_of, met_one}
+use Rattle.host_serve.specs.Crews.{IsMember, HasMetAll}
+use Rattle.host_serve.proofs.Crewing.{front_of, last_of, met_one, popped}
 use Rattle.host_serve.proofs.meeting.meet_others.Goals as goal
 
 pub loop-crew-preserved : goal.loop-crew-preserved
@@ -21,4 +21,18 @@ loop-crew-preserved g c =
       some = omega (arith, count, c.loop-crew-test.true);
       front = front_of g.W.Worker.fits c.args.books.now all crew m front;
       met = met_one g.W.Worker.fits c.args.books.now all crew m c.loop-crew.first c.meet.new.desk front last.0 met c.meet.ensures.met c.meet.ensures.own (c.meet.ensures.tidy inv.met.tidy);
+    }
+
+pub meet-requires : goal.meet-requires
+meet-requires g c =
+    let rest = c.pop.new.self.items in
+    let m = c.unwrap-member.result in
+    let whole : c.loop-crew.crew.items ≡ rest ++ m ∷ [] = search rules in
+    let last : IsMember g.W.Worker.fits c.args.books.now (length rest + 1) m =
+    popped g.W.Worker.fits c.args.books.now c.args.crew.items c.loop-crew.crew.items rest m c.requires.crew c.loop-crew.invariant.front whole in
+    let number = last.desk.number in
+    record {
+      own = (c.loop-crew.invariant.met.own, last.desk.own);
+      other = λ e. absurd (omega (arith, number, e));
+      idle = (c.loop-crew.invariant.met.tidy.0, last.desk.tidy.0);
     }

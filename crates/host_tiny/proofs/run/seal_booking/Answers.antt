@@ -12,11 +12,11 @@ returns-clause-entries c =
     let old = c.args.desk.now in
     let mid = c.note_detail.new.desk in
     let new = c.seal-row.new.desk in
-    let sealed : Shape mid new (Seal c.args.hold.row Prebooked ∷ []) =
-    subst (λ (h : HoldView). Shape mid new (Seal h.row Prebooked ∷ [])) c.note_detail.ensures.same c.seal-row.ensures.entries in (
+    let sealed : Shape mid new (Seal c.args.hold.row.row Prebooked ∷ []) =
+    subst (λ (h : HoldView). Shape mid new (Seal h.row.row Prebooked ∷ [])) c.note_detail.ensures.same c.seal-row.ensures.entries in (
       1,
       c.no_limit.result,
       0,
-      shape_then old mid new (detail_notes c.args.hold.row (record { retailer = record { 0 = 1 }; limit = c.no_limit.result; total = 0 }) (length c.args.hold.items)) (Seal c.args.hold.row Prebooked ∷ [])
+      shape_then old mid new (detail_notes c.args.hold.row.row (record { retailer = record { 0 = 1 }; limit = c.no_limit.result; total = 0 }) (length c.args.hold.items)) (Seal c.args.hold.row.row Prebooked ∷ [])
           c.note_detail.ensures.entries sealed,
     )

@@ -12,5 +12,5 @@ invariant-loop-segment l = record {
   left : list_all is_segment (drop l.segment-index l.segments) ≡ true;
   few : length l.segments ≤ 3;
   joint : length l.joint ≡ 1;
-  short : array_vec_len l.text ≤ 78 + 14 * l.segment-index;
+  short : array_vec_len l.text ≤ 80 + 14 * l.segment-index;
 }

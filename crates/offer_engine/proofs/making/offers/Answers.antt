@@ -66,3 +66,6 @@ returns-in_err-push-clause-holds c = holds_then c.args.desk.now c.loop-trip.desk
 
 pub returns-in_err-push-clause-endings : goal.returns-in_err-push-clause-endings
 returns-in_err-push-clause-endings c = endings_then c.args.desk.now c.loop-trip.desk c.offer_of.new.desk c.loop-trip.invariant.endings c.offer_of.ensures.endings
+
+pub returns-in_err-push-clause-tidy : goal.returns-in_err-push-clause-tidy
+returns-in_err-push-clause-tidy c = λ is. c.offer_of.ensures.tidy (c.loop-trip.invariant.tidy is)

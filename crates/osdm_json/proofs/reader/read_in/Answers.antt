@@ -15,3 +15,6 @@ returns-in-Confirm-clause-ok c = (c.in-Confirm.id.now, rw c.in-Confirm.is refl, 
 
 pub returns-in-QuoteRefund-clause-ok : goal.returns-in-QuoteRefund-clause-ok
 returns-in-QuoteRefund-clause-ok c = (c.in-QuoteRefund.id.now, rw c.in-QuoteRefund.is refl, c.row_of-in-QuoteRefund.ensures)
+
+pub returns-in-Reserve-clause-ok : goal.returns-in-Reserve-clause-ok
+returns-in-Reserve-clause-ok c = rw c.in-Reserve.is c.read_reserve.ensures.ok

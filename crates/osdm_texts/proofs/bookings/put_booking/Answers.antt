@@ -21,4 +21,4 @@ returns c =
     let later = last_call r end _ (step (step (step c.in_ok-put_booking_id.ensures (rw c.currency_text.ensures.value at c.in_ok-put_price.ensures)) (one c.in_ok-key.ensures)) (one c.in_ok-begin_array.ensures)) items refl in
     let from_end = last_call r end _ c.in_ok-put_end.ensures later refl in
     last_call r end _ (step (one c.in_ok-begin_object.ensures) c.in_ok-put_time.ensures) from_end
-    (booking_tokens c.args.cat.now c.args.row.0 seen ∙ ap (λ (v : RowSeen). tokens_of (booking_tree c.args.cat.now c.args.row.0 v)) same)
+    (booking_tokens c.args.cat.now c.args.row seen ∙ ap (λ (v : RowSeen). tokens_of (booking_tree c.args.cat.now c.args.row v)) same)

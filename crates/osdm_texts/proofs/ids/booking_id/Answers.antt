@@ -9,4 +9,4 @@ returns-clause-text c = c.write_booking_id.ensures.spelling
 
 pub returns-clause-ascii : goal.returns-clause-ascii
 unfolding booking_id
-returns-clause-ascii c = subst (λ (bs : List ℕ). IsAscii bs) (sym c.write_booking_id.ensures.spelling) (IsAscii-booking_id c.args.row.0 (omega arith))
+returns-clause-ascii c = subst (λ (bs : List ℕ). IsAscii bs) (sym c.write_booking_id.ensures.spelling) (IsAscii-booking_id c.args.row (omega arith) c.requires.generation)

@@ -62,7 +62,7 @@ returns-in-None-clause-entries c =
     let d = c.take_stretch.new.desk in
     let takes : ShapeBy (TakesEach g.row g.items g.span (map place_number stretch) took.0) b d =
     subst (λ (ps : List PlaceNo). ShapeBy (TakesEach g.row g.items g.span (map place_number ps) took.0) b d) c.last_of-stretch.ensures.places
-    (subst (λ (h : HoldView). ShapeBy (TakesEach h.row (length h.items) g.span (map place_number c.last_of-stretch.result.now) took.0) b d) i.same took.1) in
+    (subst (λ (h : HoldView). ShapeBy (TakesEach h.row.row (length h.items) g.span (map place_number c.last_of-stretch.result.now) took.0) b d) i.same took.1) in
     let at : slice_index_or c.last_of-stretch.result.now 0 first ≡ get_or stretch 0 first = ap (λ (ps : List PlaceNo). get_or ps 0 first) c.last_of-stretch.ensures.places in
     let sits = together g c.loop-end.desk b d left n (slice_index_or c.last_of-stretch.result.now 0 first) first took.0 c.requires.some within.0 within.1 c.in-Some.ensures.found takes at in (
       took.0,
@@ -72,6 +72,10 @@ returns-in-None-clause-entries c =
 
 pub returns-in-None-clause-causes : goal.returns-in-None-clause-causes
 returns-in-None-clause-causes c = let e = returns-in-None-clause-entries c in (e.1.0, tt, e.1.2)
+
+pub returns-in-None-clause-noted : goal.returns-in-None-clause-noted
+returns-in-None-clause-noted c =
+    let x = c.loop-end in λ on. c.in-None.ensures.noted (c.in-Some.ensures.holds.noted x.hold x.hold.items x.invariant.hold (x.invariant.noted on))
 
 pub returns-in-None-clause-endings : goal.returns-in-None-clause-endings
 returns-in-None-clause-endings c =
@@ -94,7 +98,7 @@ loop-end-preserved c =
     let stretch : List PlaceNo = take c.args.count (drop (n - c.args.count) left) in
     let gave : ShapeBy (GivesUpAt g.row g.items g.span (map place_number stretch) k) b d =
     subst (λ (ps : List PlaceNo). ShapeBy (GivesUpAt g.row g.items g.span (map place_number ps) k) b d) c.last_of-stretch.ensures.places
-    (subst (λ (h : HoldView). ShapeBy (GivesUpAt h.row (length h.items) g.span (map place_number c.last_of-stretch.result.now) k) b d) i.same t.lost.0) in
+    (subst (λ (h : HoldView). ShapeBy (GivesUpAt h.row.row (length h.items) g.span (map place_number c.last_of-stretch.result.now) k) b d) i.same t.lost.0) in
     let from : c.behind-left.result.now ≡ drop (n - c.args.count + k + 1) left =
     c.behind-left.ensures.places ∙ ap (λ (m : ℕ). drop (n - m + k + 1) left) c.from.ensures in
     record {
@@ -124,7 +128,7 @@ returns-clause-entries c =
     let b = c.find_stretch.new.desk in
     let d = c.add_places.new.desk in
     let added : ShapeBy (Adds g.row g.items g.span g.count g.candidates c.add_places.result adds.0) b d =
-    subst (λ (h : HoldView). ShapeBy (Adds h.row (length h.items) g.span g.count g.candidates c.add_places.result adds.0) b d) i.same adds.1 in
+    subst (λ (h : HoldView). ShapeBy (Adds h.row.row (length h.items) g.span g.count g.candidates c.add_places.result adds.0) b d) i.same adds.1 in
     let sits = apart g c.loop-end.desk b d (map place_number c.loop-end.left.now) c.add_places.result adds.0 c.in_default.ensures.none added in
     let all = tried_all g c.args.desk.now c.loop-end.desk d (map place_number c.loop-end.left.now) (answer_apart c.add_places.result) adds.0 i.tried sits in (
       adds.0,
@@ -142,3 +146,7 @@ pub returns-clause-endings : goal.returns-clause-endings
 returns-clause-endings c =
     let mid = c.find_stretch.new.desk in
     endings_then c.args.desk.now mid c.add_places.new.desk (endings_then c.args.desk.now c.loop-end.desk mid c.loop-end.invariant.endings c.in_default.ensures.endings) c.add_places.ensures.endings
+
+pub returns-clause-noted : goal.returns-clause-noted
+returns-clause-noted c =
+    let x = c.loop-end in λ on. c.add_places.ensures.noted (c.in_default.ensures.holds.noted x.hold x.hold.items x.invariant.hold (x.invariant.noted on))

@@ -22,7 +22,7 @@ pub returns-in-NoPlace-clause-lost : goal.returns-in-NoPlace-clause-lost
 returns-in-NoPlace-clause-lost c =
     let x = c.loop-at in
     let a = c.in-NoPlace.ensures.entries in
-    let none = none_short x.hold.row _ c.args.span _ c.in-NoPlace.won a.0 a.1.0 a.1.1 in
+    let none = none_short x.hold.row.row _ c.args.span _ c.in-NoPlace.won a.0 a.1.0 a.1.1 in
     took_not c.args.desk.now x.desk c.add_places.new.desk c.args.hold.now x.hold c.add_places.new.hold c.args.span c.args.stretch.now x.at (slice_index_or c.args.stretch.now x.at first) first
     (added.NoPlace c.in-NoPlace.won) a.0 x.invariant.took c.loop-at-test.true refl (λ e. let f : added.NoPlace c.in-NoPlace.won ≡ added.All = e in cc) none a.1 a.2
 
@@ -33,7 +33,7 @@ pub returns-in-Contended-clause-lost : goal.returns-in-Contended-clause-lost
 returns-in-Contended-clause-lost c =
     let x = c.loop-at in
     let a = c.in-Contended.ensures.entries in
-    let none = none_contended x.hold.row _ c.args.span _ c.in-Contended.place a.0 a.1.0 a.1.1 in
+    let none = none_contended x.hold.row.row _ c.args.span _ c.in-Contended.place a.0 a.1.0 a.1.1 in
     took_not c.args.desk.now x.desk c.add_places.new.desk c.args.hold.now x.hold c.add_places.new.hold c.args.span c.args.stretch.now x.at (slice_index_or c.args.stretch.now x.at first) first
     (added.Contended c.in-Contended.place) a.0 x.invariant.took c.loop-at-test.true refl (λ e. let f : added.Contended c.in-Contended.place ≡ added.All = e in cc) none a.1 a.2
 

@@ -1,7 +1,7 @@
 use Rattle.std.proofs.Common.{[], None, refl, inl, inr, rules}
 use Rattle.session_loop.proofs.WriteLemmas.{end_none}
 use Rattle.session_loop.proofs.Serving.{front_none}
-use Rattle.rail_service.proofs.Connecting.{served_there}
+use Rattle.rail_service.proofs.Connecting.{served_there, idle_there, tidy_there}
 use Rattle.plain_host.proofs.OwnWork.{alone_is_lone}
 use Rattle.rail_service.proofs.Alone.{plainly_there}
 use Rattle.rail_service.proofs.connection.serve_connection.Goals as goal
@@ -25,6 +25,12 @@ returns-in_default-start_router-clause-served g c = (
   end_none (g.K.Sink.told c.args.sink.now),
   inl (refl, record { no_read = refl; no_write = refl; same = refl }),
 )
+
+pub returns-clause-idle : goal.returns-clause-idle
+returns-clause-idle g c = idle_there c.serve.new.service c.desk-1.given.0 (search rules) c.serve.ensures.served.4.idle
+
+pub returns-clause-tidy : goal.returns-clause-tidy
+returns-clause-tidy g c = λ tidy. tidy_there c.serve.new.service c.desk-1.given.0 (search rules) (c.serve.ensures.tidy tidy)
 
 pub returns-clause-served : goal.returns-clause-served
 returns-clause-served g c =

@@ -1,8 +1,12 @@
-use Rattle.rail_service.proofs.Carried.{released, confirmed, fulfilled, refund_quoted}
+use Rattle.rail_service.proofs.Carried.{shown, released, confirmed, fulfilled, refund_quoted}
 use Rattle.rail_service.proofs.performing.carry_out.Goals as goal
 
 pub returns-in-Reserve-clause-answer : goal.returns-in-Reserve-clause-answer
 returns-in-Reserve-clause-answer c = rw c.in-Reserve.is c.reserve_places.ensures.answer
+
+pub returns-in-Show-clause-answer : goal.returns-in-Show-clause-answer
+returns-in-Show-clause-answer c =
+    rw c.in-Show.is (shown c.args.shop.now.cat.now c.args.asker.retailer.0 c.args.asker.moment c.args.shop.now.books.now.layout.rows c.unwrap.result c.in-Show.row c.args.desk.now c.show_booking.new.desk _ c.unwrap.ensures c.requires.rows c.show_booking.ensures.answer)
 
 pub returns-in-Release-clause-answer : goal.returns-in-Release-clause-answer
 returns-in-Release-clause-answer c =

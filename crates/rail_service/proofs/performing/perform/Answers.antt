@@ -1,4 +1,4 @@
-use Rattle.reservation_service.proofs.Replying.{no_item}
+use Rattle.claim_rule.proofs.Out.{makes_empty}
 use Rattle.rail_service.proofs.Telling.{written_so}
 use Rattle.rail_service.proofs.Owned.{answers_own}
 use Rattle.rail_service.proofs.Sparing.{answers_make}
@@ -12,7 +12,7 @@ returns-clause-answer c =
     (reply, did, all, makes, written_so c.args.cat.now c.args.last reply _ _ c.answer_of.ensures.bytes so)
 
 pub returns-clause-no_item : goal.returns-clause-no_item
-returns-clause-no_item c = no_item c.args.books.now _ c.say-said.ensures.own c.say-said.ensures.idle.0
+returns-clause-no_item c = makes_empty c.args.books.now _ c.say-said.ensures.own c.say-said.ensures.idle.0
 
 pub returns-clause-goes_on : goal.returns-clause-goes_on
 returns-clause-goes_on c =

@@ -1,4 +1,5 @@
-use Rattle.std.proofs.Common.{ℕ, [], Some, sym, subst}
+use Rattle.std.proofs.Common.{[], Some, sym, subst}
+use Rattle.rail_ids.specs.declared.RowNo.{RowNo}
 use Rattle.claim_rule.specs.Calls.{ShapeBy}
 use Rattle.claim_rule.proofs.Out.{endings_then}
 use Rattle.booking_rows.specs.Starts.{StartsHold}
@@ -12,8 +13,8 @@ returns-clause-placed c =
     let mid = c.start_hold.new.desk in
     let did = c.place_segments-placing in (
       mid,
-      subst (λ (r : ℕ). ShapeBy (StartsHold old mid (Some r)) old mid) (sym did.ensures.row) c.in_ok-hold.ensures.entries,
-      subst (λ (r : ℕ). PlacesAll c.args.shop.now.cat.now (offer_view c.args.offer.now) r [] c.args.offer.now.segments.items did.result did.new.hold.items mid did.new.desk) (sym did.ensures.row) did.ensures.placed,
+      subst (λ (r : RowNo). ShapeBy (StartsHold old mid (Some r)) old mid) (sym did.ensures.row) c.in_ok-hold.ensures.entries,
+      subst (λ (r : RowNo). PlacesAll c.args.shop.now.cat.now (offer_view c.args.offer.now) c.args.together r [] c.args.offer.now.segments.items did.result did.new.hold.items mid did.new.desk) (sym did.ensures.row) did.ensures.placed,
     )
 
 pub returns-clause-endings : goal.returns-clause-endings

@@ -12,6 +12,6 @@ invariant-loop-segment l = record {
   hold : IsHolding l.desk l.hold;
   noted : HasNotedItems l.desk l.hold;
   row : l.hold.row ≡ l.fn.hold.row;
-  placed : PlacesAll l.shop.cat.now (offer_view l.offer) l.fn.hold.row [] (take l.segment-index l.offer.segments.items) Whole l.hold.items l.fn.desk l.desk;
+  placed : PlacesAll l.shop.cat.now (offer_view l.offer) l.together l.fn.hold.row [] (take l.segment-index l.offer.segments.items) Whole l.hold.items l.fn.desk l.desk;
   endings : KeepsEndings l.fn.desk l.desk;
 }

@@ -1,25 +1,21 @@
-use Rattle.std.proofs.Common.{ℕ, [], ◌∷◌, sym, ◌∙◌, subst}
+use Rattle.std.proofs.Common.{sym, refl}
 use Rattle.history_model.specs.declared.entry.Step.TheVariants.{SawRow}
-use Rattle.history_model.specs.Booking.{phase_of_row}
-use Rattle.claim_rule.specs.Rule.{state_seen}
-use Rattle.claim_rule.specs.Seats.{Shape}
 use Rattle.claim_rule.proofs.Shapes.{step_shape}
-use Rattle.row_decisions.proofs.Seeing.{is_phase_word, same_phase, read_holds, read_endings}
+use Rattle.booking_rows.proofs.ViewLemmas.{first_shape, sealed_since, shown_still}
+use Rattle.row_decisions.proofs.Seeing.{read_holds, read_endings}
 use Rattle.row_decisions.proofs.looks.look_phase.Goals as goal
-
-pub unreachable-requires : goal.unreachable-requires
-unreachable-requires c = let s = c.step_read-word in
-    c.in-None.ensures.none (phase_of_row (state_seen s.new.desk) c.args.row.0) (is_phase_word c.args.row.0 s.result c.args.desk.now s.new.desk s.ensures.look)
 
 pub returns : goal.returns
 returns c =
-    let s = c.step_read-word in
-    let found = c.in-Some.ensures.found in
+    let s = c.step_read in
     let old = c.args.desk.now in
-    let r = c.args.row.0 in record {
+    let row = c.args.row in
+    let ph = c.phase_shown.result in record {
       own = s.ensures.own;
-      entries = subst (λ (n : ℕ). Shape old s.new.desk (SawRow r 0 n ∷ [])) (sym found) (step_shape (SawRow r 0 s.result) old s.new.desk s.ensures.look);
-      shown = same_phase (phase_of_row (state_seen s.new.desk) r) c.in-Some.phase (is_phase_word r s.result old s.new.desk s.ensures.look ∙ sym found);
-      holds = read_holds r 0 s.result old s.new.desk s.ensures.look;
-      endings = read_endings r 0 s.result old s.new.desk s.ensures.look;
+      entries = (_, (s.result, sym c.phase_shown.ensures, refl), step_shape (SawRow row.row 0 s.result) old s.new.desk s.ensures.look);
+      word = λ is. first_shape row s.result ph old s.new.desk s.ensures.look c.phase_shown.ensures is;
+      sealed = λ is. sealed_since row s.result ph old s.new.desk s.ensures.look c.phase_shown.ensures is;
+      present = λ some. shown_still row s.result ph old s.new.desk s.ensures.look some c.phase_shown.ensures;
+      holds = read_holds row.row 0 s.result old s.new.desk s.ensures.look;
+      endings = read_endings row.row 0 s.result old s.new.desk s.ensures.look;
     }

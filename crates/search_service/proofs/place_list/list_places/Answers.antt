@@ -3,6 +3,7 @@ use Rattle.rail_ids.specs.declared.PlaceNo.{PlaceNo}
 use Rattle.rail_catalogue.specs.Contents.{CatalogueView}
 use Rattle.place_map.specs.declared.coach.Place.{Place}
 use Rattle.place_map.specs.Candidates.{numbers_of}
+use Rattle.claim_rule.proofs.Out.{still_idle}
 use Rattle.search_service.specs.Searching.{numbers_on}
 use Rattle.search_service.proofs.Numbers.{of_books, one_each}
 use Rattle.search_service.proofs.Answers.{listed_untold, unlisted}
@@ -34,3 +35,12 @@ pub returns-clause-answer : goal.returns-clause-answer
 returns-clause-answer c =
     listed_untold c.args.shop.now.cat.now c.args.segment c.as_slice.result.now c.in-Ok-place_states.free.items c.args.desk.now c.place_states.new.desk
     (are_numbers c.args.shop.now.cat.now c.args.segment.run.0 c.places.result.now c.in-Ok.numbers.items c.as_slice.result.now c.as_slice.ensures.value c.in-Ok.ensures.numbers c.places.ensures.value) c.in-Ok-place_states.ensures.entries
+
+pub returns-in_default-place_states-clause-idle : goal.returns-in_default-place_states-clause-idle
+returns-in_default-place_states-clause-idle c = still_idle c.args.desk.now c.place_states.new.desk c.place_states.ensures.holds c.place_states.ensures.endings c.requires.idle
+
+pub returns-in-Some-clause-idle : goal.returns-in-Some-clause-idle
+returns-in-Some-clause-idle c = still_idle c.args.desk.now c.place_states.new.desk c.place_states.ensures.holds c.place_states.ensures.endings c.requires.idle
+
+pub returns-clause-idle : goal.returns-clause-idle
+returns-clause-idle c = still_idle c.args.desk.now c.place_states.new.desk c.place_states.ensures.holds c.place_states.ensures.endings c.requires.idle

@@ -9,6 +9,6 @@ returns c =
     let amount : to_z w64 (of_z w64 c.args.difference) ≡ c.args.difference = search rules in
     record {
       told = IfSome_then c.write_reply.result c.write_reply.ensures.told
-          (λ written e. e ∙ (of_exchanged c.args.shop.now.cat.now c.args.row.0 c.args.view (to_z w64 (of_z w64 c.args.difference)) c.args.replaced.0
-          ∙ ap (λ (x : ℤ). reply_told c.args.shop.now.cat.now (exchanged c.args.row.0 c.args.view x c.args.replaced.0)) amount));
+          (λ written e. e ∙ (of_exchanged c.args.shop.now.cat.now c.args.row c.args.view (to_z w64 (of_z w64 c.args.difference)) c.args.replaced
+          ∙ ap (λ (x : ℤ). reply_told c.args.shop.now.cat.now (exchanged c.args.row c.args.view x c.args.replaced)) amount));
     }

@@ -8,5 +8,5 @@ use Rattle.claim_rule.proofs.books.Books.close_at.Goals as goal
 
 pub exchange_as-requires-clause-step : goal.exchange_as-requires-clause-step
 exchange_as-requires-clause-step c =
-    subst (λ (x : ℕ × ℕ). Steps c.args.self.now.layout c.args.seat.now.me.0 (Row c.args.row 0) (λ n. either (n == x.0) x.1 n) (λ _. Close c.args.row)) (λ i. (sym c.phase_word-old.ensures i, sym c.phase_word-new.ensures i))
+    subst (λ (x : ℕ × ℕ). Steps c.args.self.now.layout c.args.seat.now.me.0 (Row c.args.row.row 0) (λ n. either (n == x.0) x.1 n) (λ _. Close c.args.row.row)) (λ i. (sym c.row_word_of-old.ensures i, sym c.row_word_of-new.ensures i))
     (closes c.args.self.now.layout c.args.seat.now c.args.row c.args.kind c.requires.row c.requires.ready)

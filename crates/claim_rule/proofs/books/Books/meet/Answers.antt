@@ -36,4 +36,4 @@ pub returns-clause-idle : goal.returns-clause-idle
 returns-clause-idle c = met_idle c.args.desk.now c.args.other (desk_view c.load_as.new.seat c.desk.inside.kept c.desk.inside.past) (returns-clause-met c) c.requires.idle.0
 
 pub returns-clause-tidy : goal.returns-clause-tidy
-returns-clause-tidy c is = met_tidy c.args.desk.now c.args.other (desk_view c.load_as.new.seat c.desk.inside.kept c.desk.inside.past) (returns-clause-met c) is
+returns-clause-tidy c is = met_tidy c.args.self.now c.args.desk.now c.args.other (desk_view c.load_as.new.seat c.desk.inside.kept c.desk.inside.past) (returns-clause-own c) (returns-clause-met c) is

@@ -65,7 +65,7 @@ pub returns-clause-still : goal.returns-clause-still
 returns-clause-still c =
     let did = returns-clause-met c in
     let now = desk_view c.split_seat-seat.new.seat c.desk.inside.kept c.desk.inside.past in
-    (part_idle c.args.desk.now now did, part_tidy c.args.desk.now now did)
+    (part_idle c.args.desk.now now did, part_tidy c.args.self.now c.args.desk.now now (returns-clause-own c).0 did)
 
 pub returns-clause-holds : goal.returns-clause-holds
 returns-clause-holds c = part_holds c.args.desk.now (desk_view c.split_seat-seat.new.seat c.desk.inside.kept c.desk.inside.past) (returns-clause-met c)

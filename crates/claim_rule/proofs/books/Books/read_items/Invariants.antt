@@ -12,5 +12,5 @@ invariant-loop-i l = record {
   so_far : ReadSoFar l.desk l.ending l.count l.i l.items.items;
   kept : l.desk.kept ≡ l.fn.desk.kept;
   few : length l.items.items ≤ most_items;
-  seen : Shape l.fn.desk l.desk (SawRow l.ending.row 4 l.count ∷ item_looks l.ending.row 8 l.items.items);
+  seen : Shape l.fn.desk l.desk (SawRow l.ending.row.row 4 l.count ∷ item_looks l.ending.row.row 8 l.items.items);
 }

@@ -8,7 +8,5 @@ use Rattle.history_model.specs.declared.word.Word.TheVariants.{Row}
 
 pub exchange_as-requires-clause-step : goal.exchange_as-requires-clause-step
 exchange_as-requires-clause-step c =
-    let lay = c.args.self.now.layout in
-    subst (λ (y : ℕ). Steps lay c.args.seat.now.me.0 (Row c.args.row 0) (λ n. either (n == y) c.phase_word-new.result n) (λ _. Seal c.args.row c.args.phase)) (sym c.phase_word-making.ensures)
-    (subst (λ (x : ℕ). Steps lay c.args.seat.now.me.0 (Row c.args.row 0) (λ n. either (n == 1) x n) (λ _. Seal c.args.row c.args.phase)) (sym c.phase_word-new.ensures)
-    (seals lay c.args.seat.now c.args.row c.args.phase c.requires.ready))
+    subst (λ (x : ℕ × ℕ). Steps c.args.self.now.layout c.args.seat.now.me.0 (Row c.args.row.row 0) (λ n. either (n == x.0) x.1 n) (λ _. Seal c.args.row.row c.args.phase)) (λ i. (sym c.row_word_of-making.ensures i, sym c.row_word_of-new.ensures i))
+    (seals c.args.self.now.layout c.args.seat.now c.args.row c.args.phase c.requires.ready)

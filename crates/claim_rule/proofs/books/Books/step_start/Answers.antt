@@ -9,27 +9,29 @@ use Rattle.history_model.specs.Booking.{Layout}
 use Rattle.history_model.specs.declared.entry.Step.TheVariants.{SawRow, Start}
 use Rattle.history_model.specs.declared.word.Word.TheVariants.{Row}
 
-pub returns-then-found-ne0 : goal.returns-then-found-ne0
-returns-then-found-ne0 c =
+pub returns-then-found-expected : goal.returns-then-found-expected
+returns-then-found-expected c =
     let f = c.start_at-found in
     let lay = c.args.self.now.layout in
-    let r = c.args.row.0 in
+    let r = c.args.row.row in
+    let hit = Start r c.args.row.generation in
     let did = steps_as lay (SawRow r 0 f.result) c.desk.inside.seat f.new.seat c.desk.inside.kept c.desk.inside.past c.args.desk.now c.desk.view_is (ap (λ (d : DeskView). d.layout) c.desk.view_is ∙ c.requires.own.layout)
-    (missed (Row r 0) f.result 0 (Start r) lay c.desk.inside.seat f.new.seat c.if-found-ne0.true f.ensures) in
-    record { own = still_alone (SawRow r 0 f.result) c.args.self.now c.args.desk.now (desk_view f.new.seat c.desk.inside.kept c.desk.inside.past) refl c.requires.kept did c.requires.own; started = (did, c.if-found-ne0.true) }
+    (missed (Row r 0) f.result c.args.expected hit lay c.desk.inside.seat f.new.seat c.if-found-expected.true f.ensures) in
+    record { own = still_alone (SawRow r 0 f.result) c.args.self.now c.args.desk.now (desk_view f.new.seat c.desk.inside.kept c.desk.inside.past) refl c.requires.kept did c.requires.own; started = (did, c.if-found-expected.true) }
 
 pub returns : goal.returns
 returns c =
     let f = c.start_at-found in
     let lay = c.args.self.now.layout in
-    let r = c.args.row.0 in
-    let did = steps_as lay (Start r) c.desk.inside.seat f.new.seat c.desk.inside.kept c.desk.inside.past c.args.desk.now c.desk.view_is (ap (λ (d : DeskView). d.layout) c.desk.view_is ∙ c.requires.own.layout)
-    (won (Row r 0) f.result 0 (Start r) lay c.desk.inside.seat f.new.seat c.if-found-ne0.false f.ensures) in
-    let new : HoldView = record { row = r; items = c.new.result.items } in
-    let none : HoldView = empty_hold r in
-    let is : new ≡ none = (λ j. record { row = r; items = c.new.ensures j }) in
-    let hold = hold_starts r c.args.desk.now (desk_view f.new.seat c.desk.inside.kept c.desk.inside.past) (subst (λ (l : Layout). r < l.rows) (sym c.requires.own.layout) c.requires.row) did in
+    let row = c.args.row in
+    let hit = Start row.row row.generation in
+    let did = steps_as lay hit c.desk.inside.seat f.new.seat c.desk.inside.kept c.desk.inside.past c.args.desk.now c.desk.view_is (ap (λ (d : DeskView). d.layout) c.desk.view_is ∙ c.requires.own.layout)
+    (won (Row row.row 0) f.result c.args.expected hit lay c.desk.inside.seat f.new.seat c.if-found-expected.false f.ensures) in
+    let new : HoldView = record { row = row; items = c.new.result.items } in
+    let none : HoldView = empty_hold row in
+    let is : new ≡ none = (λ j. record { row = row; items = c.new.ensures j }) in
+    let hold = hold_starts row c.args.desk.now (desk_view f.new.seat c.desk.inside.kept c.desk.inside.past) (subst (λ (l : Layout). row.row < l.rows) (sym c.requires.own.layout) c.requires.row) did in
     record {
-      own = still_started r c.args.self.now c.args.desk.now (desk_view f.new.seat c.desk.inside.kept c.desk.inside.past) c.requires.kept c.requires.none did c.requires.own;
+      own = still_started row.row row.generation c.args.self.now c.args.desk.now (desk_view f.new.seat c.desk.inside.kept c.desk.inside.past) c.requires.kept c.requires.none did c.requires.own;
       started = (did, subst (IsHoldOf (desk_view f.new.seat c.desk.inside.kept c.desk.inside.past)) (sym is) (hold, did.same.5 ∙ c.requires.kept), is);
     }

@@ -22,19 +22,19 @@ returns-clause-hold c =
     let less : HoldView = record { row = row; items = c.pop.new.self.items } in
     let one : c.args.hold.now ≡ with_one less c.in-Some.item = sym c.hold.view_is ∙ (λ j. record { row = row; items = e j }) in
     let k = c.len-left.result in
-    let did = steps_as c.args.self.now.layout (Give row k) c.desk.inside.seat c.undo_at.new.seat c.desk.inside.kept c.desk.inside.past c.args.desk.now c.desk.view_is (ap (λ (d : DeskView). d.layout) c.desk.view_is ∙ c.requires.own.layout) c.undo_at.ensures in
-    (hold_gives c.in-Some.item k c.args.desk.now (desk_view c.undo_at.new.seat c.desk.inside.kept c.desk.inside.past) c.args.hold.now less one (subst (λ (r : ℕ). Stepped (Give r k) c.args.desk.now (desk_view c.undo_at.new.seat c.desk.inside.kept c.desk.inside.past)) (ap (λ (h : HoldView). h.row) c.hold.view_is) did) c.requires.hold.0, did.same.5 ∙ c.requires.hold.1)
+    let did = steps_as c.args.self.now.layout (Give row.row k) c.desk.inside.seat c.undo_at.new.seat c.desk.inside.kept c.desk.inside.past c.args.desk.now c.desk.view_is (ap (λ (d : DeskView). d.layout) c.desk.view_is ∙ c.requires.own.layout) c.undo_at.ensures in
+    (hold_gives c.in-Some.item k c.args.desk.now (desk_view c.undo_at.new.seat c.desk.inside.kept c.desk.inside.past) c.args.hold.now less one (subst (λ (r : ℕ). Stepped (Give r k) c.args.desk.now (desk_view c.undo_at.new.seat c.desk.inside.kept c.desk.inside.past)) (ap (λ (h : HoldView). h.row.row) c.hold.view_is) did) c.requires.hold.0, did.same.5 ∙ c.requires.hold.1)
 
 pub returns-clause-given : goal.returns-clause-given
 returns-clause-given c =
     let row = c.hold.inside.row in
     let k = c.len-left.result in
-    let did = steps_as c.args.self.now.layout (Give row k) c.desk.inside.seat c.undo_at.new.seat c.desk.inside.kept c.desk.inside.past c.args.desk.now c.desk.view_is (ap (λ (d : DeskView). d.layout) c.desk.view_is ∙ c.requires.own.layout) c.undo_at.ensures in
-    subst (λ (x : ℕ × ℕ). Stepped (Give x.0 x.1) c.args.desk.now (desk_view c.undo_at.new.seat c.desk.inside.kept c.desk.inside.past)) (λ j. (ap (λ (h : HoldView). h.row) c.hold.view_is j, c.len-left.ensures.value j)) did
+    let did = steps_as c.args.self.now.layout (Give row.row k) c.desk.inside.seat c.undo_at.new.seat c.desk.inside.kept c.desk.inside.past c.args.desk.now c.desk.view_is (ap (λ (d : DeskView). d.layout) c.desk.view_is ∙ c.requires.own.layout) c.undo_at.ensures in
+    subst (λ (x : ℕ × ℕ). Stepped (Give x.0 x.1) c.args.desk.now (desk_view c.undo_at.new.seat c.desk.inside.kept c.desk.inside.past)) (λ j. (ap (λ (h : HoldView). h.row.row) c.hold.view_is j, c.len-left.ensures.value j)) did
 
 pub returns-clause-own : goal.returns-clause-own
 returns-clause-own c =
     let row = c.hold.inside.row in
     let k = c.len-left.result in
-    let did = steps_as c.args.self.now.layout (Give row k) c.desk.inside.seat c.undo_at.new.seat c.desk.inside.kept c.desk.inside.past c.args.desk.now c.desk.view_is (ap (λ (d : DeskView). d.layout) c.desk.view_is ∙ c.requires.own.layout) c.undo_at.ensures in
-    still_alone (Give row k) c.args.self.now c.args.desk.now (desk_view c.undo_at.new.seat c.desk.inside.kept c.desk.inside.past) refl c.requires.hold.1 did c.requires.own
+    let did = steps_as c.args.self.now.layout (Give row.row k) c.desk.inside.seat c.undo_at.new.seat c.desk.inside.kept c.desk.inside.past c.args.desk.now c.desk.view_is (ap (λ (d : DeskView). d.layout) c.desk.view_is ∙ c.requires.own.layout) c.undo_at.ensures in
+    still_alone (Give row.row k) c.args.self.now c.args.desk.now (desk_view c.undo_at.new.seat c.desk.inside.kept c.desk.inside.past) refl c.requires.hold.1 did c.requires.own

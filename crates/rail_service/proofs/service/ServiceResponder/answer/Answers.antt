@@ -3,7 +3,7 @@ use Rattle.rail_ids.specs.declared.RetailerNo.{RetailerNo}
 use Rattle.http_wire.specs.Pieces.{request_text}
 use Rattle.claim_rule.proofs.Shapes.{shape_none}
 use Rattle.osdm_texts.specs.Answers.{problem}
-use Rattle.reservation_service.proofs.Replying.{no_item}
+use Rattle.claim_rule.proofs.Out.{makes_empty}
 use Rattle.rail_service.specs.Bytes.{reply_bytes}
 use Rattle.rail_service.proofs.Telling.{of_problem}
 use Rattle.rail_service.specs.Serving.{first_after}
@@ -39,7 +39,7 @@ returns-in-Err-clause-answers g c =
           (Err c.in-Err.problem, c.in-Err.ensures.asks, (shape_none c.args.self.now.desk.now c.requires.ready.own.legal, refl))
           (c.problem_answer.ensures.bytes ∙ (of_problem cat c.args.last c.in-Err.problem ∙ ap (λ (last : Bool). reply_bytes cat last reply) c.requires.last))
           (c.first_after-self.ensures.value ∙ ap (λ (retailer : Option RetailerNo). first_after c.args.self.now.first retailer) c.retailer_of.ensures.value)
-          c.requires.ready.idle (no_item c.args.self.now.books.now c.args.self.now.desk.now c.requires.ready.own c.requires.ready.idle.0);
+          c.requires.ready.idle (makes_empty c.args.self.now.books.now c.args.self.now.desk.now c.requires.ready.own c.requires.ready.idle.0);
       tidy = λ tidy. tidy;
       cat = refl;
       books = refl;
