@@ -8,7 +8,7 @@ import json
 import pathlib
 
 STAGES = ["first-path", "machine", "wire", "service", "refunds", "drill", "long-runs", "reuse", "party", "restart", "settlement"]
-BUILT = "party"
+BUILT = "settlement"
 CASES = pathlib.Path(__file__).resolve().parent / "cases"
 
 

@@ -3,7 +3,7 @@
 
     tests/clients/parties.py PROGRAM
 
-Each client reserves three or four places with `"together":true`, and releases them, for a bounded number of rounds and seconds. The
+Each client reserves three or four places with `"together":true`, shows and releases them, for a bounded number of rounds and seconds. The
 coach is nearly full all the time, so that a stretch which one of them was shown free is often taken by another before it is won whole.
 Ends with status 0 where each party that was answered has all its places, no place was held by two at once, both ways of sitting and a
 refusal were met, and at the end, when all is released, a party finds the first places again: none is left behind by a try that failed.
@@ -73,12 +73,15 @@ def seat_parties(port, ledger, number, end):
         count = 3 + (number + turn) % 2
         status, booking = ask(stream, reader, b"POST /reservations", wish(count))
         if status == 201:
-            places = ledger.seated(booking, count)
+            places, path = ledger.seated(booking, count), b"/bookings/" + booking["id"].encode()
+            status, shown = ask(stream, reader, b"GET " + path)
+            if status != 200 or shown["reservations"] != booking["reservations"]:
+                ledger.fault(f"GET {booking['id']}: {status} {shown}")
             ledger.releases(places)
-            status, released = ask(stream, reader, b"DELETE /bookings/" + booking["id"].encode())
+            status, released = ask(stream, reader, b"DELETE " + path)
             if status != 200 or released["status"] != "RELEASED":
                 ledger.fault(f"DELETE {booking['id']}: {status} {released}")
-        elif status == 409 and booking["code"] in ("NoPlace", "Contended"):
+        elif (status, booking["code"]) in ((409, "NoPlace"), (503, "Contended")):
             with ledger.lock:
                 ledger.refused += 1
         else:

@@ -49,7 +49,8 @@ MISSING = [
 ]
 
 WORDS_REFUSED = [
-    "", "help", "--help", "--version", "Tiny 3 2", "export k1.json",
+    "", "help", "--help", "--version", "Tiny 3 2", "exports k1.json", "settle", "settle k1.json", "settle k1.json x y",
+    "export", "export k1.json k2.json", "export k1.json --from", "replay k1.json --from x --from x", "serve k1.json --port 80 --from x",
     "tiny", "tiny 3", "tiny 3 2 1", "tiny 0 2", "tiny 127 2", "tiny 03 2", "tiny +3 2", "tiny 3 0", "tiny 3 1201", "tiny 3 x",
     "tiny '' 2", "replay", "replay --help", "replay -h", "replay k1.json --help", "replay --version", "replay k1.json -V",
     "replay k1.json k2.json", "replay k1.json --tick", "replay k1.json --tick -5", "replay k1.json --tick=-5",

@@ -26,7 +26,7 @@ from words import Device, Outcome
 
 LIMIT_SECONDS = 120
 IDLE = b"GET / HTTP/1.1\r\n\r\n"
-COMMANDS = ("tiny", "replay", "drill", "serve")
+COMMANDS = ("tiny", "replay", "export", "settle", "drill", "serve")
 NEVER_MET = ("Contended", "NoMemory")
 NEVER_ANSWERED = (500, 503)
 
@@ -164,6 +164,14 @@ class Met:
         note = outcome.note.decode("utf-8").strip()
         if note.startswith("rail_host: catalogue"):
             self.counts["catalogue", " ".join(note.split(" ")[1:4])] += 1
+        if note.startswith("rail_host: export"):
+            self.counts["export", note.partition(": ")[2]] += 1
+        if command == "export" and outcome.status == 0:
+            for line in outcome.output.decode("ascii").split("\n")[1:-2]:
+                self.counts["line", line.split(" ")[3]] += 1
+                self.counts["line of", "a row kept" if line.split(" ")[4] == "0" else "a booking"] += 1
+        if "--from" in b" ".join(case.words).decode("latin-1") and outcome.status == 0:
+            self.counts["begun with an export", command] += 1
         if command not in ("tiny", "replay") or outcome.status not in (0, 6):
             return
         requests, rest = wire.read_requests(b"".join(case.pieces))
@@ -232,9 +240,14 @@ class Met:
         wanted += [("over the border", phase.value) for phase in Phase] + [("over the border", "offered")]
         wanted += [("rest", rest.value) for rest in wire.Rest]
         wanted += [("catalogue", "catalogue fault %d" % number) for number in range(1, 8)]
-        wanted += [("catalogue", "catalogue missing")]
+        wanted += [("catalogue", "catalogue missing"), ("export", "export missing")]
+        wanted += [("export", "export fault %d" % number) for number in range(1, 6)]
+        wanted += [("line", letter) for letter in "PCFrefx"] + [("line of", "a row kept"), ("line of", "a booking")]
+        wanted += [("begun with an export", command) for command in ("replay", "export")]
         wanted += [("command", "%s %d" % ended) for ended in (("tiny", 0), ("tiny", 2), ("tiny", 6), ("replay", 0), ("replay", 1),
                                                               ("replay", 2), ("replay", 6), ("drill", 0), ("drill", 2),
+                                                              ("export", 0), ("export", 1), ("export", 2), ("export", 6),
+                                                              ("settle", 0), ("settle", 1), ("settle", 2),
                                                               ("serve", 1), ("serve", 2), ("other", 2))]
         return wanted
 

@@ -4,6 +4,7 @@ from dataclasses import dataclass, field
 
 import random_requests
 from catalogue import CatalogueFault, read_catalogue
+from random_exports import changed_export, export_of
 from random_catalogues import catalogue_bytes, faulty_catalogue_bytes, random_catalogue, random_start, random_tick
 from random_texts import BROKEN, WHOLE_BUT_ODD, chance, json_text, junk, moment_text, wrong_moment_text
 from words import Device
@@ -34,11 +35,15 @@ def random_case(seed: int) -> Case:
 def case_of_some_kind(rng: random.Random, seed: int) -> Case:
     kind = rng.random()
     name = "seed %d" % seed
-    if kind < 0.60:
+    if kind < 0.50:
         return replay_case(rng, name)
-    if kind < 0.82:
+    if kind < 0.58:
+        return export_case(rng, name)
+    if kind < 0.75:
+        return restart_case(rng, name)
+    if kind < 0.87:
         return faulty_catalogue_case(rng, name)
-    if kind < 0.92:
+    if kind < 0.94:
         return tiny_case(rng, name)
     return words_case(rng, name)
 
@@ -65,6 +70,32 @@ def replay_case(rng: random.Random, name: str) -> Case:
     data = catalogue_bytes(rng, random_catalogue(rng, start, tick))
     pieces = random_requests.random_pieces(rng, read_catalogue(data), start, tick)
     return Case(name, replay_words(rng, start, tick), {"k.json": data}, pieces)
+
+
+def export_case(rng: random.Random, name: str) -> Case:
+    """What a host comes to, as a text."""
+    case = replay_case(rng, name)
+    case.words[0] = b"export"
+    return case
+
+
+def restart_case(rng: random.Random, name: str) -> Case:
+    """A host that begins with the export of one that served the first part of the input, and the table of such an export."""
+    start, tick = random_start(rng), random_tick(rng)
+    data = catalogue_bytes(rng, random_catalogue(rng, start, tick))
+    catalogue = read_catalogue(data)
+    pieces = random_requests.random_pieces(rng, catalogue, start, tick)
+    cut = rng.randrange(len(pieces) + 1)
+    text, then = export_of(catalogue, b"".join(pieces[:cut]), start, tick)
+    if chance(rng, 0.5):
+        text = changed_export(rng, text)
+    files = {"k.json": data, "x.txt": text}
+    if chance(rng, 0.25):
+        return Case(name, [b"settle", b"k.json", b"x.txt"], files)
+    words = replay_words(rng, then, tick)
+    words[0] = rng.choice([b"replay", b"replay", b"export"])
+    words[1:1] = rng.choice([[b"--from", b"x.txt"], [b"--from=x.txt"]])
+    return Case(name, words, files, pieces[cut:])
 
 
 def faulty_catalogue_case(rng: random.Random, name: str) -> Case:
@@ -108,7 +139,8 @@ def words_case(rng: random.Random, name: str) -> Case:
     """Words of every command, mostly refused. A serve never gets as far as a listener."""
     start = random_start(rng)
     data = catalogue_bytes(rng, random_catalogue(rng, start, 0))
-    make = rng.choice([replay_wrong_words, drill_words, drill_words, serve_words, tiny_wrong_words, no_command_words])
+    make = rng.choice([replay_wrong_words, replay_wrong_words, drill_words, serve_words, serve_words, tiny_wrong_words, settle_words,
+                       no_command_words])
     words = [word if isinstance(word, bytes) else word.encode("utf-8") for word in make(rng, start)]
     if chance(rng, 0.05):
         words.insert(rng.randrange(len(words) + 1), rng.choice([b"\xff", b"--\xff", b"\xed\xa0\x80"]))
@@ -162,7 +194,14 @@ def replay_wrong_words(rng: random.Random, start: int) -> list:
         options.append(option_words(rng, "--start", text))
     if chance(rng, 0.6):
         options.append(option_words(rng, "--tick", number_word(rng, 0, 86_400, 86_400)))
-    return shuffled(rng, "replay", options)
+    if chance(rng, 0.4):
+        options.append(option_words(rng, "--from", rng.choice(["nothere.txt", "nothere.txt", "", "k.json"])))
+    return shuffled(rng, rng.choice(["replay", "replay", "export"]), options)
+
+
+def settle_words(rng: random.Random, _start: int) -> list:
+    good = ["settle", rng.choice(["k.json", "nothere.json"]), rng.choice(["nothere.txt", "k.json", "--", "-x"])]
+    return rng.choice([good, good, changed_words(rng, good)])
 
 
 def drill_words(rng: random.Random, _start: int) -> list:
@@ -178,6 +217,10 @@ def serve_words(rng: random.Random, _start: int) -> list:
     for name, low, high, small in (("--workers", 1, 16, 16), ("--connections", 1, 4_294_967_295, 9), ("--sweep", 1, 86_400, 86_400)):
         if chance(rng, 0.5):
             options.append(option_words(rng, name, number_word(rng, low, high, small)))
+    if chance(rng, 0.3):
+        options.append(rng.choice([["--export"], ["--export"], ["--export=1"], ["--export", "x"]]))
+    if chance(rng, 0.3):
+        options.append(option_words(rng, "--from", "nothere.txt"))
     return [word for word in shuffled(rng, "serve", options) if word != "k.json"]
 
 
@@ -189,5 +232,5 @@ def tiny_wrong_words(rng: random.Random, _start: int) -> list:
 
 
 def no_command_words(rng: random.Random, _start: int) -> list:
-    return rng.choice([[], ["--help"], ["--version"], ["help"], ["replays", "k.json"], ["Tiny", "3", "2"], ["export", "k.json"],
-                       ["settle", "k.json", "x"], [""], ["-"], ["--", "tiny", "3", "2"], [" tiny", "3", "2"]])
+    return rng.choice([[], ["--help"], ["--version"], ["help"], ["replays", "k.json"], ["Tiny", "3", "2"], ["exports", "k.json"],
+                       ["Settle", "k.json", "x"], [""], ["-"], ["--", "tiny", "3", "2"], [" tiny", "3", "2"]])

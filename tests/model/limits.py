@@ -29,7 +29,7 @@ def limit_cases() -> list:
         Case("a head of %d lines" % count, replay, {"k.json": good}, [plain + b"a: b\n" * (count - 1) + b"\n", sweep])
         for count in (64, 65)
     ]
-    return heads + limit_catalogues() + [
+    return heads + limit_catalogues() + refused_exports(rng, start, sweep) + [
         Case("rows of the small host", [b"tiny", b"9", b"1200"], {}, rows),
         Case("the last request that a connection may have", [b"tiny", b"1", b"1"], {}, [b"GET / HTTP/1.1\n\n" * 65_537]),
         Case("a catalogue of the largest size", replay, {"k.json": good + padding}, [sweep]),
@@ -92,3 +92,18 @@ def many_runs(count: int) -> bytes:
            b"\"coaches\":[{\"coach\":1,\"class\":\"FIRST\",\"places\":[{\"first\":1,\"last\":1}]}]}")
     return (b"{\"currency\":\"EUR\",\"retailers\":[{\"number\":1,\"key\":\"a\"}],\"stations\":[{\"code\":\"A\"},{\"code\":\"B\"}],"
             b"\"refundSteps\":[{\"before\":0,\"fee\":0}],\"runs\":[" + b",".join([run] * count) + b"]}")
+
+
+def refused_exports(rng: random.Random, start: int, sweep: bytes) -> list:
+    """An export of each fault, for a catalogue of some rows, and one that is right."""
+    data = catalogue_bytes(rng, random_catalogue(rng, start, 1))
+    while read_catalogue(data).rows < 2:
+        data = catalogue_bytes(rng, random_catalogue(rng, start, 1))
+    catalogue = read_catalogue(data)
+    first = "rail-export 1 %d %d\n" % (len(catalogue.places), catalogue.rows)
+    live, ended = "row 0 0 C 1 0 0 1 0.0.1\n", "row 0 0 x 1 0 0 1 0.0.1 p0 0 %d.0\n"
+    texts = [first + live + "end 1\n", first + live, "rail-export 1 %d %d\nend 0\n" % (len(catalogue.places) + 1, catalogue.rows),
+             first + live.replace("0.0.1", "0.0.127") + "end 1\n", first + live + live.replace("row 0", "row 1") + "end 2\n",
+             first + ended % 0 + "end 1\n"]
+    return [Case("an export of fault %d" % fault, [b"replay", b"k.json", b"--from", b"x.txt"], {"k.json": data, "x.txt": text.encode("ascii")}, [sweep])
+            for fault, text in enumerate(texts)]

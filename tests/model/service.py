@@ -163,6 +163,14 @@ class Host:
             return wire.write_problem(refusal.code, refusal.detail, request.last)
         return wire.write_answer(status, False, write_json(reply), request.last)
 
+    def serve(self, data: bytes, clock: Clock) -> tuple:
+        """The bytes of all answers to one connection, and its rest. The clock is read once for each whole request."""
+        requests, rest = wire.read_requests(data)
+        answers = [self.answer(request, clock.now()) for request in requests]
+        if rest in wire.FAULTS:
+            answers.append(wire.write_fault(rest))
+        return b"".join(answers), rest
+
     def admit(self, key: bytes):
         """The first known key of the connection is its retailer's for good."""
         retailer = None if key is None else self.catalogue.retailers.get(key.decode("latin-1"))
@@ -373,13 +381,3 @@ class Host:
 
 def valid_until(made: int) -> str:
     return moments.write_moment(moments.later(made, QUOTE_SECONDS))
-
-
-def serve(catalogue: Catalogue, data: bytes, clock: Clock) -> tuple:
-    """The bytes of all answers to one connection, and its rest. The clock is read once for each whole request."""
-    requests, rest = wire.read_requests(data)
-    host = Host(catalogue)
-    answers = [host.answer(request, clock.now()) for request in requests]
-    if rest in wire.FAULTS:
-        answers.append(wire.write_fault(rest))
-    return b"".join(answers), rest

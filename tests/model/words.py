@@ -7,7 +7,8 @@ import drill
 import moments
 import service
 import tiny
-from catalogue import LARGEST_CATALOGUE, CatalogueFault, read_catalogue
+from catalogue import LARGEST_CATALOGUE, Catalogue, CatalogueFault, read_catalogue
+from export import LARGEST_EXPORT, ExportFault, read_export, settlement, write_export
 from wire import FAULTS, Rest
 
 PLAIN_NUMBER = re.compile("0|[1-9][0-9]*")
@@ -25,6 +26,13 @@ class WordsRefused(Exception):
     """The words are refused before anything is read."""
 
 
+class NotThere(Exception):
+    """A file is missing or too large."""
+
+    def note(self) -> str:
+        return self.args[0]
+
+
 class Device(enum.Enum):
     """A device that fails at its first call: the source before it gives a byte, the sink before it takes one."""
     SOURCE = "source"
@@ -38,7 +46,7 @@ def run(words: list, files: dict, data: bytes, failing: Device = None) -> Outcom
         return run_texts(texts, files, data, failing)
     except (WordsRefused, UnicodeDecodeError):
         return ended(b"", 2, "words refused")
-    except CatalogueFault as fault:
+    except (CatalogueFault, ExportFault, NotThere) as fault:
         return ended(b"", 1, fault.note())
 
 
@@ -51,6 +59,10 @@ def run_texts(words: list, files: dict, data: bytes, failing: Device) -> Outcome
         return run_tiny(words[1:], data, failing)
     if words[:1] == ["replay"]:
         return run_replay(words[1:], files, data, failing)
+    if words[:1] == ["export"]:
+        return run_export(words[1:], files, data, failing)
+    if words[:1] == ["settle"]:
+        return run_settle(words[1:], files, failing)
     if words[:1] == ["drill"]:
         return run_drill(words[1:])
     if words[:1] == ["serve"]:
@@ -67,16 +79,38 @@ def run_tiny(words: list, data: bytes, failing: Device) -> Outcome:
 
 
 def run_replay(words: list, files: dict, data: bytes, failing: Device) -> Outcome:
-    names, options = read_simple_command(words, ["--start", "--tick"], 1)
+    host, clock = open_host(words, files)
+    output, rest = host.serve(data, clock)
+    return connection_ended(output, rest, failing)
+
+
+def run_export(words: list, files: dict, data: bytes, failing: Device) -> Outcome:
+    """The input is served as for a replay. What is written is the export, and only where the connection ended well."""
+    host, clock = open_host(words, files)
+    _, rest = host.serve(data, clock)
+    return connection_ended(write_export(host.books) if rest in (Rest.END, Rest.CLOSED) else b"", rest, failing)
+
+
+def open_host(words: list, files: dict) -> tuple:
+    """The host that the words of a replay or an export open, and its clock."""
+    names, options = read_simple_command(words, ["--start", "--tick", "--from"], 1)
     start = moments.read_moment(options.get("--start", "1970-01-01T00:00:00Z"))
     if isinstance(start, moments.MomentFault):
         raise WordsRefused()
     tick = option_number(options, "--tick", 0, 86_400, 0)
-    catalogue = fetch_catalogue(names[0], files)
-    if isinstance(catalogue, Outcome):
-        return catalogue
-    output, rest = service.serve(catalogue, data, service.Clock(start, tick))
-    return connection_ended(output, rest, failing)
+    host = service.Host(fetch_catalogue(names[0], files))
+    if "--from" in options:
+        host.books.bookings = fetch_export(options["--from"], files, host.catalogue)
+    return host, service.Clock(start, tick)
+
+
+def run_settle(words: list, files: dict, failing: Device) -> Outcome:
+    """Two words, read as they stand. The input is not read."""
+    if len(words) != 2:
+        raise WordsRefused()
+    catalogue = fetch_catalogue(words[0], files)
+    table = settlement(fetch_export(words[1], files, catalogue))
+    return ended(b"", 4, "write fault") if failing is Device.SINK else ended(table, 0, "")
 
 
 def run_drill(words: list) -> Outcome:
@@ -95,9 +129,7 @@ def run_serve(words: list, files: dict) -> Outcome:
     option_number(options, "--workers", 1, 16, 4)
     option_number(options, "--connections", 1, 4_294_967_295, 4_294_967_295)
     option_number(options, "--sweep", 1, 86_400, 30)
-    catalogue = fetch_catalogue(names[0], files)
-    if isinstance(catalogue, Outcome):
-        return catalogue
+    fetch_catalogue(names[0], files)
     raise NotImplementedError("a listener is no part of this model")
 
 
@@ -149,13 +181,20 @@ def read_simple_command(words: list, known: list, positionals: int) -> tuple:
     return names, options
 
 
-def fetch_catalogue(name: str, files: dict):
-    """The catalogue of that file, or the outcome where it is missing or too large. A refused text raises its fault."""
+def fetch(name: str, files: dict, kind: str, largest: int) -> bytes:
     if name not in files:
-        return ended(b"", 1, "catalogue missing")
-    if len(files[name]) > LARGEST_CATALOGUE:
-        return ended(b"", 1, "catalogue too large")
-    return read_catalogue(files[name])
+        raise NotThere(kind + " missing")
+    if len(files[name]) > largest:
+        raise NotThere(kind + " too large")
+    return files[name]
+
+
+def fetch_catalogue(name: str, files: dict) -> Catalogue:
+    return read_catalogue(fetch(name, files, "catalogue", LARGEST_CATALOGUE))
+
+
+def fetch_export(name: str, files: dict, catalogue: Catalogue) -> list:
+    return read_export(catalogue, fetch(name, files, "export", LARGEST_EXPORT))
 
 
 def connection_ended(output: bytes, rest: Rest, failing: Device) -> Outcome:

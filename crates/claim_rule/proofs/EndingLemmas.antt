@@ -8,7 +8,7 @@ use Rattle.claim_rule.specs.declared.rule.View.{View}
 use Rattle.claim_rule.specs.declared.ending.StepTurned.{StepTurned}
 use Rattle.claim_rule.specs.declared.ending.StepTurned.TheVariants as answer
 use Rattle.rail_ids.specs.declared.RowNo.{RowNo}
-use Rattle.claim_rule.specs.Rule.{DeskView, BooksView, Each, Found, state_seen}
+use Rattle.claim_rule.specs.Rule.{DeskView, BooksView, Each, Found}
 use Rattle.claim_rule.specs.Seats.{Stepped, IsOf, CanGive, CanNote, CanClose, desk_view}
 use Rattle.claim_rule.specs.Holds.{held, IsItem}
 use Rattle.claim_rule.specs.Endings.{EndingView, IsEndingOf, unread, given_front}

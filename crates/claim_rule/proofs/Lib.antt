@@ -11,3 +11,6 @@ pub mod EndingLemmas
 pub mod Reading
 pub mod Out
 pub mod Noting
+pub mod OpeningKept
+pub mod OpeningWords
+pub mod Begins

@@ -1,22 +1,18 @@
 -- Parting and joining keep the rule.
-use Rattle.std.proofs.Common.{◌≡◌, ◌≢◌, ◌⊎◌, ℕ, zero, suc, ◌+◌, ◌<◌, ◌≤◌, Bool, true, false, true≢false, cond, leb, List, [], ◌∷◌, ◌++◌, length, set, replicate, refl, sym, ap, ◌∙◌, subst, ⊎_elim, inl, inr, arith, append-nil, length-set, length-append, leb-true}
+use Rattle.std.proofs.Common.{◌≡◌, ◌≢◌, ◌⊎◌, ℕ, zero, suc, ◌+◌, ◌<◌, ◌≤◌, Bool, true, false, true≢false, cond, leb, List, [], ◌∷◌, ◌++◌, length, set, refl, sym, ap, ◌∙◌, subst, ⊎_elim, inl, inr, arith, append-nil, length-set, length-append, leb-true}
 use Rattle.std.proofs.lemmas.Bool.{cases_eq, cases_Bool, leb-false}
-use Rattle.std.proofs.lemmas.List.{length-replicate}
 use mathlib.Core.Option.{some, some-injective, some-ne-none}
 use mathlib.Core.List.{IsPrefix}
 use lib.ListN.{get_elem?}
-use Rattle.atomic_table.specs.Table.{Splits, Joins, opening}
+use Rattle.atomic_table.specs.Table.{Splits, Joins}
 use Rattle.atomic_table.proofs.Lists.{at_set, set_here, set_else, at_longer}
 use Rattle.claim_rule.specs.declared.rule.View.{View}
-use Rattle.claim_rule.specs.Rule.{Each, In, IsSpent, HasAll, IsOld, Fits, Kept, parting, parted, longer, joined, nobody, newcomer}
+use Rattle.claim_rule.specs.Rule.{Each, In, IsSpent, HasAll, IsOld, Fits, Kept, parting, parted, longer, joined, nobody}
 use Rattle.claim_rule.proofs.Views.{each_map, apart, spent_stays}
 use Rattle.claim_rule.proofs.Adds.{in_range, counts}
 use Rattle.history_model.proofs.Seen.{own_between, own_none}
-use Rattle.history_model.proofs.Writing.{empty_value, no_word}
-use Rattle.history_model.specs.Booking.{Layout, State}
+use Rattle.history_model.specs.Booking.{Layout}
 use Rattle.history_model.specs.History.{own}
-use Rattle.history_model.specs.Laws.{IsOpening}
-use Rattle.history_model.specs.Words.{index, value, word_count}
 use Rattle.history_model.specs.declared.entry.Entry.{Entry}
 
 -- what is so of a view stays so where spent seats stay spent
@@ -210,18 +206,3 @@ joins lay id other v w fresh fresh' apart_zero s k at n there_set =
           (λ (e : 0 ≡ id → ⊥). let x = k.first in (x.0, set_else one other 0 nobody not_zero ∙ (set_else s.views id 0 (joined v w) e ∙ x.1), x.2, many ∙ x.3))
           (cases_eq 0 id);
     }
-
--- the books at the start
-pub begins : (lay : Layout) (n : ℕ) → lay.opening ≡ [] → n ≡ word_count lay → Kept lay (opening (replicate n 0) [] (newcomer lay 0 []))
-begins lay n none is = record {
-  history = [];
-  legal = (subst (IsOpening lay) (sym none) (record { well_formed = record { keys = tt; earlier = tt; apart = tt; each = tt }; settled = tt; owner = tt; in_range = tt }), tt);
-  words = record { length_is = length-replicate n 0 ∙ is; each = λ a _. no_word n (index lay a) ∙ sym (ap (λ (s : State). value s a) none ∙ empty_value a) };
-  seats = λ j u at alive. one j u at;
-  later = λ k past. refl;
-  first = (newcomer lay 0 [], refl, refl, refl);
-}
-  where
-    one : (j : ℕ) (u : View) → get_elem? (newcomer lay 0 [] ∷ []) j ≡ some u → Fits [] (newcomer lay 0 [] ∷ []) j u
-    one zero u e = subst (Fits [] (newcomer lay 0 [] ∷ []) 0) (some-injective (newcomer lay 0 []) u e) record { number = refl; front = ([], refl); own_all = refl; taken = tt; olds = tt }
-    one (suc j) u e = absurd (some-ne-none u (sym e))

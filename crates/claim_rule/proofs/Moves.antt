@@ -1,5 +1,5 @@
 -- Each kind of step is allowed, and writes what it says.
-use Rattle.std.proofs.Common.{◌≡◌, ◌⊎◌, ℕ, ◌+◌, ◌-◌, ◌<◌, ◌≤◌, Bool, true, false, cond, eqb, bit_or, bit_and, w64, lit<, lit≤, ℤ, List, [], ◌++◌, length, arith, Option, Some, None, IsSomeAnd, refl, sym, ap, ◌∙◌, subst, ⊎_elim, inl, inr, eq-eqb, ne_eqb, slice_get}
+use Rattle.std.proofs.Common.{◌≡◌, ◌⊎◌, ℕ, ◌+◌, ◌<◌, ◌≤◌, Bool, true, false, cond, eqb, bit_or, bit_and, w64, lit<, lit≤, ℤ, List, [], ◌++◌, length, arith, Option, Some, IsSomeAnd, refl, sym, ap, ◌∙◌, subst, ⊎_elim, inl, inr, eq-eqb, ne_eqb, slice_get}
 use Rattle.std.proofs.lemmas.Bool.{cases_eq}
 use Rattle.std.specs.Int.{bit_not}
 use Rattle.std.specs.List.{Any}

@@ -1,5 +1,5 @@
 -- What a hold stands for.
-use Rattle.std.specs.Prelude.{◌≡◌, ℕ, ◌<◌, ◌≤◌, List, [], ◌∷◌, ◌++◌, map, length, slice_index, Some, None, false}
+use Rattle.std.specs.Prelude.{◌≡◌, ◌<◌, ◌≤◌, List, [], ◌∷◌, ◌++◌, map, length, slice_index, Some, None, false}
 use Rattle.rail_ids.specs.declared.RowNo.{RowNo}
 use Rattle.leg_masks.specs.Interval.{IsPiece, most_legs}
 use Rattle.leg_masks.specs.Interval.{PlacedSpan as Item}

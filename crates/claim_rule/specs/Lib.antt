@@ -10,3 +10,4 @@ pub mod Turns
 pub mod Out
 pub mod Calls
 pub mod EndSteps
+pub mod Openings

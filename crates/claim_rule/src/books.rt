@@ -1,5 +1,5 @@
 //! The books: the shared table, and one step of each kind of atomic operation on it.
-ghost use Rattle.std.specs.Prelude.{◌≡◌, ◌<◌, length, ◌==◌, ◌≤◌, bit_and, All, [], IfOk};
+ghost use Rattle.std.specs.Prelude.{◌≡◌, ◌<◌, length, ◌==◌, ◌≤◌, bit_and, All, List, [], IfOk};
 ghost use prog.Atomic.{either};
 ghost use Rattle.leg_masks.specs.Interval.{IsPiece, most_legs, most_places};
 ghost use Rattle.history_model.specs.Booking.{most_rows};
@@ -7,9 +7,11 @@ ghost use Rattle.history_model.specs.Words.{IsWord, index};
 ghost use Rattle.claim_rule.specs.Rule.{Found, Steps};
 ghost use Rattle.claim_rule.specs.Seats.{IsNew, IsSeatOf, HasMade, IsOf};
 ghost use Rattle.claim_rule.specs.Out.{IsTidy};
+ghost use Rattle.claim_rule.specs.Openings.{AllOpenings, IsLayoutOf, KeptBooking, OpensWith};
 
 use crate::desk::Desk;
 use crate::numbers::{number_of_place, number_of_row};
+use crate::opening::choose;
 use crate::rule::{Adds, Finds, OneHistory, Plan, Says, View};
 use atomic_table::{Seat, Table};
 use history_model::entry::Step;
@@ -17,7 +19,7 @@ use history_model::word::Word;
 use leg_masks::{Item, Span};
 use rail_ids::PlaceNo;
 use std::alloc::{AllocError, Global};
-use std::marker::Model;
+use std::marker::{Brand, Model};
 
 /// The table under the rule.
 pub type Board = Table<u64, View, Plan, OneHistory, Global>;
@@ -59,15 +61,32 @@ pub fn start_books(alloc: Global, legs: &[u8], rows: u32) -> Result<(Books, Desk
     ensures desk { IfOk result (λ t. IsNew t.1 0 []) }
     ensures tidy { IfOk result (λ t. IsTidy t.1) }
 {
-    let copy = Vec::from_slice(alloc, legs)?;
-    let plan = Plan {
-        legs: copy,
-        rows,
-        opening: Vec::new(alloc),
-    };
     let count = number_of_row(legs.len() as u32, rows, 0);
     let words = Vec::from_elem(alloc, 0u64, count)?;
-    let (table, seat): (Board, Seat<u64, View>) = Table::of_words(alloc, words.as_slice(), &plan)?;
+    adopt_books(alloc, legs, rows, words.as_slice())
+}
+
+/// Books with a place for each number of legs that open with bookings, and their first desk. The words are those of the
+/// opening state, and the history is empty.
+///
+/// Want of memory is the one error.
+pub fn adopt_books(
+    alloc: Global,
+    legs: &[u8],
+    rows: u32,
+    words: &[u64],
+) -> Result<(Books, Desk), AllocError>
+    requires places { (0 < length legs.now) × (length legs.now ≤ most_places) }
+    requires legs { All (λ n. (0 < n) × (n ≤ most_legs)) legs.now }
+    requires rows { (0 < rows) × (rows ≤ most_rows) }
+    requires opening { (kept : List KeptBooking) × OpensWith legs.now rows words.now kept }
+    ensures layout { IfOk result (λ t. AllOpenings legs.now rows words.now t.0.layout) }
+    ensures own { IfOk result (λ t. IsOf t.0 t.1) }
+    ensures desk { IfOk result (λ t. IsNew t.1 0 []) }
+    ensures tidy { IfOk result (λ t. IsTidy t.1) }
+{
+    let plan = plan_of(alloc, legs, rows, words)?;
+    let (table, seat): (Board, Seat<u64, View>) = Table::of_words(alloc, words, &plan)?;
     let books = Books {
         table,
         places: legs.len() as u32,
@@ -83,6 +102,18 @@ pub fn start_books(alloc: Global, legs: &[u8], rows: u32) -> Result<(Books, Desk
     ))
 }
 
+// The plan of books that open with the bookings of these words.
+fn plan_of(alloc: Global, legs: &[u8], rows: u32, words: &[u64]) -> Result<Plan, AllocError>
+    requires opening { (kept : List KeptBooking) × OpensWith legs.now rows words.now kept }
+    ensures { IfOk result (λ p. IsLayoutOf legs.now rows words.now p) }
+{
+    let copy = Vec::from_slice(alloc, legs)?;
+    Ok(Plan {
+        legs: copy,
+        rows,
+        opening: choose::<Brand>(alloc, legs, rows, words)?,
+    })
+}
 
 impl Books {
     /// How many places there are: at most 4,194,304, each of at most 126 legs.

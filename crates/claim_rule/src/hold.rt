@@ -26,7 +26,7 @@ use rail_ids::RowNo;
 use std::marker::{Brand, Model};
 
 /// A booking of a desk in the making, by its row and generation, with the items that it has taken. It must be spent: by
-/// `keep`, or by a seal.
+/// `keep`, by a seal or by `leave`.
 pub struct Hold {
     pub(crate) row: RowNo,
     pub(crate) items: ArrayVec<Item, MOST_ITEMS>,
@@ -60,6 +60,15 @@ impl Hold {
         ensures few { length result.now ≤ most_items }
     {
         self.items.as_slice()
+    }
+
+    /// Gives up the desk in the middle of this booking, without a step: the row stays in the making for good.
+    pub fn leave(self, desk: Desk)
+        requires hold { IsHoldOf desk self }
+        requires other { desk.number ≢ 0 }
+    {
+        let _ = desk;
+        let Hold { row: _, items: _ } = self;
     }
 }
 

@@ -8,7 +8,7 @@
 //! A row serves one booking after another, each with a generation of its own. Once its booking has ended, a row may be
 //! started again with the next generation; it is never free again.
 //!
-//! No call takes memory but `start_books`, and none waits.
+//! No call takes memory but `start_books` and `adopt_books`, and none waits.
 #![tactic(auto)]
 
 mod books;
@@ -20,10 +20,11 @@ mod hold;
 mod joins;
 mod looks;
 mod numbers;
+mod opening;
 mod rule;
 mod wall;
 
-pub use books::{Books, start_books};
+pub use books::{Books, adopt_books, start_books};
 pub use crossing::crosses;
 pub use desk::Desk;
 pub use ending::{Ending, StepTurned};

@@ -41,6 +41,20 @@ impl Model for Wall {
 }
 
 impl Wall {
+    /// How many places there are.
+    pub fn places(&self) -> u32
+        ensures { result ≡ length self.now.layout.legs }
+    {
+        self.places
+    }
+
+    /// How many booking rows there are.
+    pub fn rows(&self) -> u32
+        ensures { result ≡ self.now.layout.rows }
+    {
+        self.rows
+    }
+
     /// The word of a half of a place. Bit b of half 0 is set where leg b is taken, of half 1 where leg b + 63 is.
     /// `None` exactly where there is no such place or half.
     pub fn place_word(&self, place: PlaceNo, half: u8) -> Option<u64>

@@ -1,2 +1,4 @@
+pub mod Files
 pub mod Loading
+pub mod Opening
 pub mod Notes

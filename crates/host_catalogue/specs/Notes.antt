@@ -1,9 +1,12 @@
--- The notes on a catalogue that can't be had.
+-- The notes on a file that can't be had.
 use Rattle.std.specs.Prelude.{ℕ, List, [], ◌++◌, codes, string_bytes}
 use Rattle.rail_catalogue.specs.declared.fault.CatalogueFault.{CatalogueFault}
 use Rattle.rail_catalogue.specs.declared.fault.CatalogueFault.TheVariants as fault
-use Rattle.host_catalogue.specs.declared.load.LoadFault.{LoadFault}
-use Rattle.host_catalogue.specs.declared.load.LoadFault.TheVariants.{Missing, TooLarge, Refused, Failed, NoMemory}
+use Rattle.cold_store.specs.declared.fault.ImportFault.{ImportFault}
+use Rattle.cold_store.specs.declared.fault.ImportFault.TheVariants as import
+use Rattle.host_catalogue.specs.declared.file.File.TheVariants as file
+use Rattle.host_catalogue.specs.declared.file.LoadFault.{LoadFault}
+use Rattle.host_catalogue.specs.declared.file.LoadFault.TheVariants.{Missing, TooLarge, Refused, RefusedExport, Failed, NoMemory}
 
 -- a fault's number, and the path of a member at fault
 abbrev pub fault_note : CatalogueFault → List ℕ
@@ -16,9 +19,21 @@ fault_note (fault.UnknownStation code) = codes "rail_host: catalogue fault 6\n"
 fault_note fault.DoubleKey = codes "rail_host: catalogue fault 7\n"
 fault_note fault.NoMemory = codes "rail_host: no memory\n"
 
+-- a fault's number
+abbrev pub export_note : ImportFault → List ℕ
+export_note (import.NotAnExport line) = codes "rail_host: export fault 1\n"
+export_note import.Sizes = codes "rail_host: export fault 2\n"
+export_note (import.RowWrong row) = codes "rail_host: export fault 3\n"
+export_note (import.Overlap place) = codes "rail_host: export fault 4\n"
+export_note (import.OwnSuccessor row) = codes "rail_host: export fault 5\n"
+export_note import.NoMemory = codes "rail_host: no memory\n"
+
 abbrev pub load_note : LoadFault → List ℕ
-load_note Missing = codes "rail_host: catalogue missing\n"
-load_note TooLarge = codes "rail_host: catalogue too large\n"
+load_note (Missing file.Catalogue) = codes "rail_host: catalogue missing\n"
+load_note (Missing file.Export) = codes "rail_host: export missing\n"
+load_note (TooLarge file.Catalogue) = codes "rail_host: catalogue too large\n"
+load_note (TooLarge file.Export) = codes "rail_host: export too large\n"
 load_note (Refused e) = fault_note e
+load_note (RefusedExport e) = export_note e
 load_note Failed = codes "rail_host: read fault\n"
 load_note NoMemory = codes "rail_host: no memory\n"

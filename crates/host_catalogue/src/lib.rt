@@ -1,13 +1,16 @@
-//! The catalogue of a command: loaded from a shelf, or why there is none with its note, and the books that begin with it.
+//! The files of a command: the catalogue, loaded from a shelf, and the export that its books may open with; or why there are no books,
+//! with the note on it.
 //!
-//! It is a room of its own since it alone says what a command's file may be: its limit, what is read of it, each fault with the count of
-//! the shelf that shows it, and the fault's note.
+//! It is a room of its own since it alone says what a command's files may be: their limits, what is read of them, each fault with the count
+//! of the shelf that shows it, and the fault's note.
 #![tactic(auto)]
 
+mod file;
 mod load;
 mod note;
 mod opening;
 
-pub use load::{LoadFault, load_catalogue};
+pub use file::{File, LoadFault};
+pub use load::load_catalogue;
 pub use note::NoteText;
-pub use opening::open_books;
+pub use opening::{load_books, open_books};

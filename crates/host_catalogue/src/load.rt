@@ -1,28 +1,12 @@
 // A catalogue out of a shelf.
-ghost use Rattle.std.specs.Prelude.{◌≡◌};
-ghost use Rattle.host_catalogue.specs.Loading.{HasCause, Loads, Reads};
+ghost use Rattle.std.specs.Prelude.{◌≡◌, ◌≤◌, IfErr, IfOk};
+ghost use Rattle.host_catalogue.specs.Files.{HasCause};
+ghost use Rattle.host_catalogue.specs.Loading.{Loads, Reads};
 
+use crate::file::{File, LoadFault, fetch_text};
 use rail_catalogue::{Catalogue, CatalogueFault, read_catalogue};
-use rail_io::{Fetched, Shelf};
+use rail_io::Shelf;
 use std::alloc::Global;
-
-/// The most bytes of a catalogue.
-const MOST_BYTES: u32 = 33_554_432;
-
-/// Why there is no catalogue.
-#[derive(Debug, Drop)]
-pub enum LoadFault {
-    /// There is no file with the name.
-    Missing,
-    /// The file has more than 33,554,432 bytes.
-    TooLarge,
-    /// The file's text is no catalogue.
-    Refused(CatalogueFault),
-    /// The shelf failed.
-    Failed,
-    /// There was no memory for the text or for what it says.
-    NoMemory,
-}
 
 fn read(alloc: Global, text: &[u8]) -> Result<Catalogue, LoadFault>
     ensures { Reads text.now result }
@@ -42,13 +26,12 @@ pub fn load_catalogue<F: Shelf>(
 ) -> Result<Catalogue, LoadFault>
     ensures loads { Loads (F.told shelf.old) name.now result }
     ensures same { F.told shelf.new ≡ F.told shelf.old }
-    ensures cause { HasCause result (F.faults shelf.old) (F.faults shelf.new) (F.misses shelf.old) (F.misses shelf.new) }
+    ensures steady { IfOk result (λ _. F.faults shelf.new ≡ F.faults shelf.old) }
+    ensures never_falls { F.misses shelf.old ≤ F.misses shelf.new }
+    ensures cause { IfErr result (λ e. HasCause e (F.faults shelf.old) (F.faults shelf.new) (F.misses shelf.old) (F.misses shelf.new)) }
 {
-    match shelf.fetch(alloc, name, MOST_BYTES) {
-        Fetched::Got(text) => read(alloc, text.as_slice()),
-        Fetched::Missing => Err(LoadFault::Missing),
-        Fetched::TooLarge => Err(LoadFault::TooLarge),
-        Fetched::Failed => Err(LoadFault::Failed),
-        Fetched::NoMemory => Err(LoadFault::NoMemory),
+    match fetch_text(alloc, shelf, File::Catalogue, name) {
+        Ok(text) => read(alloc, text.as_slice()),
+        Err(fault) => Err(fault),
     }
 }

@@ -1,9 +1,11 @@
-// The note on a catalogue that can't be had.
+// The note on a file that can't be had.
 ghost use Rattle.std.specs.Prelude.{◌≡◌, ◌++◌, [], List, ℕ};
 ghost use Rattle.rail_catalogue.specs.declared.fault.CatalogueFault.{CatalogueFault};
-ghost use Rattle.host_catalogue.specs.Notes.{fault_note, load_note};
+ghost use Rattle.cold_store.specs.declared.fault.ImportFault.{ImportFault};
+ghost use Rattle.host_catalogue.specs.Notes.{export_note, fault_note, load_note};
 
-use crate::load::LoadFault;
+use crate::file::{File, LoadFault};
+use cold_store::ImportFault;
 use rail_catalogue::CatalogueFault;
 
 /// A note in three parts, of which the middle one is a path or nothing.
@@ -46,15 +48,33 @@ fn fault_note(fault: &CatalogueFault) -> NoteText<'_>
     }
 }
 
+fn export_note(fault: ImportFault) -> NoteText<'static>
+    ensures { result.front.now ++ (result.path.now ++ result.end.now) ≡ export_note fault }
+{
+    match fault {
+        ImportFault::NotAnExport { .. } => NoteText::of(b"rail_host: export fault 1\n"),
+        ImportFault::Sizes => NoteText::of(b"rail_host: export fault 2\n"),
+        ImportFault::RowWrong { .. } => NoteText::of(b"rail_host: export fault 3\n"),
+        ImportFault::Overlap { .. } => NoteText::of(b"rail_host: export fault 4\n"),
+        ImportFault::OwnSuccessor { .. } => NoteText::of(b"rail_host: export fault 5\n"),
+        ImportFault::NoMemory => NoteText::of(b"rail_host: no memory\n"),
+    }
+}
+
 impl LoadFault {
     /// The note that stands for it, with its line feed.
     pub fn note(&self) -> NoteText<'_>
         ensures { result.front.now ++ (result.path.now ++ result.end.now) ≡ load_note self.now }
     {
         match self {
-            LoadFault::Missing => NoteText::of(b"rail_host: catalogue missing\n"),
-            LoadFault::TooLarge => NoteText::of(b"rail_host: catalogue too large\n"),
+            LoadFault::Missing(File::Catalogue) => NoteText::of(b"rail_host: catalogue missing\n"),
+            LoadFault::Missing(File::Export) => NoteText::of(b"rail_host: export missing\n"),
+            LoadFault::TooLarge(File::Catalogue) => NoteText::of(
+                b"rail_host: catalogue too large\n",
+            ),
+            LoadFault::TooLarge(File::Export) => NoteText::of(b"rail_host: export too large\n"),
             LoadFault::Refused(fault) => fault_note(fault),
+            LoadFault::RefusedExport(fault) => export_note(*fault),
             LoadFault::Failed => NoteText::of(b"rail_host: read fault\n"),
             LoadFault::NoMemory => NoteText::of(b"rail_host: no memory\n"),
         }

@@ -1,12 +1,21 @@
 // The books of a catalogue.
-ghost use Rattle.std.specs.Prelude.{◌≡◌, [], IfOk};
+ghost use Rattle.std.specs.Prelude.{◌≡◌, ◌≤◌, List, [], Ok, option_map, IfErr, IfOk};
+ghost use Rattle.claim_rule.specs.Openings.{KeptBooking};
 ghost use Rattle.claim_rule.specs.Seats.{IsNew, IsOf};
 ghost use Rattle.claim_rule.specs.Out.{IsTidy};
 ghost use Rattle.booking_rows.specs.SealedRows.{FitWords};
+ghost use Rattle.history_model.specs.Booking.{most_rows};
 ghost use Rattle.rail_catalogue.specs.Contents.{legs_in};
+ghost use Rattle.cold_store.specs.Imports.{IsImportFault, OpensAs};
+ghost use Rattle.host_catalogue.specs.Files.{HasCause};
+ghost use Rattle.host_catalogue.specs.Opening.{BeginsWith, Fails, HasBooks, IsExportFor, IsNotImported, IsNotOpened, IsOpened};
 
+use crate::file::{File, LoadFault, fetch_text};
+use crate::load::load_catalogue;
 use claim_rule::{Books, Desk, start_books};
+use cold_store::{ImportFault, import_books};
 use rail_catalogue::Catalogue;
+use rail_io::Shelf;
 use std::alloc::{AllocError, Global};
 
 /// New books with the catalogue's places and rows, and their first desk, which has seen nothing.
@@ -19,4 +28,87 @@ pub fn open_books(alloc: Global, catalogue: &Catalogue) -> Result<(Books, Desk),
 {
     let legs = catalogue.legs(alloc)?;
     start_books(alloc, legs.as_slice(), catalogue.rows())
+}
+
+/// Books of the catalogue that open with the bookings of an export, and their first desk.
+fn import(alloc: Global, catalogue: &Catalogue, text: &[u8]) -> Result<(Books, Desk), ImportFault>
+    ensures layout { IfOk result (λ t. OpensAs (legs_in catalogue.now) catalogue.now.rows text.now t.0.layout) }
+    ensures own { IfOk result (λ t. IsOf t.0 t.1) }
+    ensures desk { IfOk result (λ t. IsNew t.1 0 []) }
+    ensures tidy { IfOk result (λ t. IsTidy t.1) }
+    ensures rows { IfOk result (λ _. catalogue.now.rows ≤ most_rows) }
+    ensures fit { IfOk result (λ _. FitWords (record { legs = legs_in catalogue.now; rows = catalogue.now.rows; opening = [] })) }
+    ensures err { IfErr result (IsImportFault (legs_in catalogue.now) catalogue.now.rows text.now) }
+{
+    let legs = catalogue.legs(alloc)?;
+    import_books(alloc, legs.as_slice(), catalogue.rows(), text)
+}
+
+/// The same, or why the command has no books.
+fn open_export(
+    alloc: Global,
+    catalogue: &Catalogue,
+    text: &[u8],
+) -> Result<(Books, Desk), LoadFault>
+    ensures ok { IfOk result (λ t. (kept : List KeptBooking) × IsExportFor catalogue.now text.now kept × IsOpened catalogue.now kept t.0 t.1) }
+    ensures err { IfErr result (IsNotImported catalogue.now text.now) }
+{
+    match import(alloc, catalogue, text) {
+        Ok(opened) => Ok(opened),
+        Err(ImportFault::NoMemory) => Err(LoadFault::NoMemory),
+        Err(fault) => Err(LoadFault::RefusedExport(fault)),
+    }
+}
+
+/// The books of the catalogue: new ones, or those that open with the bookings of the export with the name.
+fn open_from<F: Shelf>(
+    alloc: Global,
+    shelf: &mut F,
+    catalogue: &Catalogue,
+    from: Option<&str>,
+) -> Result<(Books, Desk), LoadFault>
+    ensures ok { IfOk result (λ t. (kept : List KeptBooking)
+        × BeginsWith (F.told shelf.old) catalogue.now (option_map (λ name. name.now) from.entry) kept
+        × IsOpened catalogue.now kept t.0 t.1) }
+    ensures err { IfErr result (IsNotOpened (F.told shelf.old) catalogue.now (option_map (λ name. name.now) from.entry)) }
+    ensures same { F.told shelf.new ≡ F.told shelf.old }
+    ensures steady { IfOk result (λ _. F.faults shelf.new ≡ F.faults shelf.old) }
+    ensures cause { IfErr result (λ e. HasCause e (F.faults shelf.old) (F.faults shelf.new) (F.misses shelf.old) (F.misses shelf.new)) }
+{
+    let Some(name) = from else {
+        let Ok(opened) = open_books(alloc, catalogue) else {
+            return Err(LoadFault::NoMemory);
+        };
+        return Ok(opened);
+    };
+    match fetch_text(alloc, shelf, File::Export, name) {
+        Ok(text) => open_export(alloc, catalogue, text.as_slice()),
+        Err(fault) => Err(fault),
+    }
+}
+
+/// The catalogue of the file with the name, its books, and their first desk, which has seen nothing. The books open with the bookings of
+/// the export with the other name, of at most 268,435,456 bytes, which is read after the catalogue; or, without one, with none.
+pub fn load_books<F: Shelf>(
+    alloc: Global,
+    shelf: &mut F,
+    name: &str,
+    from: Option<&str>,
+) -> Result<(Catalogue, Books, Desk), LoadFault>
+    ensures ok { IfOk result (λ t. (kept : List KeptBooking)
+        × HasBooks (F.told shelf.old) name.now (option_map (λ name. name.now) from.entry) t.0 kept
+        × IsOpened t.0 kept t.1 t.2) }
+    ensures err { IfErr result (Fails (F.told shelf.old) name.now (option_map (λ name. name.now) from.entry)) }
+    ensures same { F.told shelf.new ≡ F.told shelf.old }
+    ensures steady { IfOk result (λ _. F.faults shelf.new ≡ F.faults shelf.old) }
+    ensures cause { IfErr result (λ e. HasCause e (F.faults shelf.old) (F.faults shelf.new) (F.misses shelf.old) (F.misses shelf.new)) }
+{
+    let catalogue = match load_catalogue(alloc, shelf, name) {
+        Ok(catalogue) => catalogue,
+        Err(fault) => return Err(fault),
+    };
+    match open_from(alloc, shelf, &catalogue, from) {
+        Ok((books, desk)) => Ok((catalogue, books, desk)),
+        Err(fault) => Err(fault),
+    }
 }

@@ -3,22 +3,23 @@ use Rattle.std.specs.Prelude.{ℕ, List, [], codes}
 use Rattle.session_loop.specs.declared.end.ConnEnd.{ConnEnd}
 use Rattle.session_loop.specs.declared.end.ConnEnd.TheVariants as conn
 use Rattle.host_catalogue.specs.Notes.{load_note}
-use Rattle.host_catalogue.specs.declared.load.LoadFault.{LoadFault}
-use Rattle.host_catalogue.specs.declared.load.LoadFault.TheVariants as load
+use Rattle.host_catalogue.specs.declared.file.LoadFault.{LoadFault}
+use Rattle.host_catalogue.specs.declared.file.LoadFault.TheVariants as load
 use Rattle.host_notes.specs.declared.ending.CommandEnd.{CommandEnd}
-use Rattle.host_notes.specs.declared.ending.CommandEnd.TheVariants.{Done, NoCatalogue, WordsRefused, ReadFault, WriteFault, NoMemory, InputCut, InputRefused}
+use Rattle.host_notes.specs.declared.ending.CommandEnd.TheVariants.{Done, NotLoaded, WordsRefused, ReadFault, WriteFault, NoMemory, InputCut, InputRefused}
 
--- the status without a catalogue
+-- the status without books
 abbrev pub status_of_fault : LoadFault → ℕ
-status_of_fault load.Missing = 1
-status_of_fault load.TooLarge = 1
+status_of_fault (load.Missing file) = 1
+status_of_fault (load.TooLarge file) = 1
 status_of_fault (load.Refused fault) = 1
+status_of_fault (load.RefusedExport fault) = 1
 status_of_fault load.Failed = 3
 status_of_fault load.NoMemory = 5
 
 abbrev pub status_of : CommandEnd → ℕ
 status_of Done = 0
-status_of (NoCatalogue fault) = status_of_fault fault
+status_of (NotLoaded fault) = status_of_fault fault
 status_of WordsRefused = 2
 status_of ReadFault = 3
 status_of WriteFault = 4
@@ -28,7 +29,7 @@ status_of InputRefused = 6
 
 abbrev pub note_of : CommandEnd → List ℕ
 note_of Done = []
-note_of (NoCatalogue fault) = load_note fault
+note_of (NotLoaded fault) = load_note fault
 note_of WordsRefused = codes "rail_host: words refused\n"
 note_of ReadFault = codes "rail_host: read fault\n"
 note_of WriteFault = codes "rail_host: write fault\n"

@@ -13,8 +13,9 @@ use session_loop::ConnEnd;
 pub enum CommandEnd {
     /// 0: all that was asked for is done.
     Done,
-    /// 1: there is no catalogue; 3 where the shelf failed, and 5 where there was no memory for it.
-    NoCatalogue(LoadFault),
+    /// 1: there is no catalogue, or not the export that its books are to open with; 3 where the shelf failed, and 5 where there was no
+    /// memory for them.
+    NotLoaded(LoadFault),
     /// 2: the words are refused.
     WordsRefused,
     /// 3: the input or the listener failed.
@@ -50,9 +51,9 @@ impl CommandEnd {
     {
         match self {
             CommandEnd::Done => 0,
-            CommandEnd::NoCatalogue(LoadFault::Failed) => 3,
-            CommandEnd::NoCatalogue(LoadFault::NoMemory) => 5,
-            CommandEnd::NoCatalogue(_) => 1,
+            CommandEnd::NotLoaded(LoadFault::Failed) => 3,
+            CommandEnd::NotLoaded(LoadFault::NoMemory) => 5,
+            CommandEnd::NotLoaded(_) => 1,
             CommandEnd::WordsRefused => 2,
             CommandEnd::ReadFault => 3,
             CommandEnd::WriteFault => 4,
@@ -67,7 +68,7 @@ impl CommandEnd {
     {
         match self {
             CommandEnd::Done => NoteText::of(b""),
-            CommandEnd::NoCatalogue(fault) => fault.note(),
+            CommandEnd::NotLoaded(fault) => fault.note(),
             CommandEnd::WordsRefused => NoteText::of(b"rail_host: words refused\n"),
             CommandEnd::ReadFault => NoteText::of(b"rail_host: read fault\n"),
             CommandEnd::WriteFault => NoteText::of(b"rail_host: write fault\n"),

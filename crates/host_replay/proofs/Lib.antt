@@ -1,1 +1,3 @@
+pub mod Finishing
 pub mod Replaying
+pub mod Exporting

@@ -3,19 +3,25 @@ ghost use Rattle.std.specs.Prelude.{◌≡◌, ◌++◌, ◌⊎◌, ℕ, List, O
 ghost use Rattle.rail_io.specs.Told.{with_front, with_end};
 ghost use Rattle.rail_io.specs.Faults.{Rose};
 ghost use Rattle.session_loop.specs.declared.end.ConnEnd.TheVariants.{ReadFault, WriteFault};
+ghost use Rattle.claim_rule.specs.Openings.{KeptBooking};
 ghost use Rattle.host_words.specs.Options.{words_texts};
 ghost use Rattle.host_words.specs.Replay.{ReplayView};
-ghost use Rattle.host_catalogue.specs.Loading.{HasNone};
+ghost use Rattle.host_words.specs.Said.{view_of};
+ghost use Rattle.host_words.specs.declared.command.CommandName.TheVariants.{Replay};
+ghost use Rattle.host_catalogue.specs.Opening.{HasNoBooks, IsOpened};
 ghost use Rattle.host_notes.specs.Ends.{note_of};
 ghost use Rattle.host_notes.specs.Noted.{IsNoted};
 ghost use Rattle.host_notes.specs.declared.ending.CommandEnd.TheVariants.{WordsRefused};
-ghost use Rattle.host_replay.specs.Replay.{Ends, HasShelfCause, IsForReplay, IsNoReplay, IsOfRefusedText, IsReplay, IsReplayEnd};
-ghost use Rattle.host_replay.specs.Replay.{IsUntouched, IsWithoutCatalogue, RepliesAll, RepliesCut, RepliesPart, RepliesTaken};
-ghost use Rattle.host_replay.specs.Replay.{Replays, end_of_replay, said_of, status_of_replay};
-ghost use Rattle.host_replay.specs.declared.command.ReplayEnd.{ReplayEnd};
-ghost use Rattle.host_replay.specs.declared.command.ReplayEnd.TheVariants.{Served};
+ghost use Rattle.host_replay.specs.Input.{HasShelfCause, IsInputEnd, IsOfRefusedText, IsUntouched, IsWithoutBooks};
+ghost use Rattle.host_replay.specs.Input.{end_of_replay, status_of_replay};
+ghost use Rattle.host_replay.specs.Replay.{Ends, IsForReplay, IsNoReplay, IsReplay, RepliesAll, RepliesCut, RepliesPart, RepliesTaken};
+ghost use Rattle.host_replay.specs.Replay.{Replays};
+ghost use Rattle.host_replay.specs.declared.end.ReplayEnd.{ReplayEnd};
+ghost use Rattle.host_replay.specs.declared.end.ReplayEnd.TheVariants.{Served};
 
-use host_catalogue::{LoadFault, load_catalogue, open_books};
+use crate::end::{ReplayEnd, command_end};
+use claim_rule::{Books, Desk};
+use host_catalogue::load_books;
 use host_notes::{CommandEnd, end_command};
 use host_words::{ReplayWords, WordsFault, read_replay};
 use rail_catalogue::Catalogue;
@@ -24,43 +30,31 @@ use rail_service::serve_connection;
 use session_loop::ConnEnd;
 use std::alloc::Global;
 
-/// How a replay ended.
-#[derive(Debug, Drop)]
-pub enum ReplayEnd {
-    /// There was no memory for the words.
-    NoMemory,
-    /// There is no catalogue to serve.
-    NoCatalogue(LoadFault),
-    /// The connection ended so.
-    Served(ConnEnd),
-}
-
-/// One connection on new books, with the clock of the words.
+/// One connection at the first desk of the books, with the clock of the words.
 fn serve<S: Source, K: Sink>(
     alloc: Global,
-    catalogue: &Catalogue,
+    opened: (Catalogue, Books, Desk),
     said: &ReplayWords<'_>,
     input: &mut S,
     output: &mut K,
 ) -> ConnEnd
+    requires opened { (kept : List KeptBooking) × IsOpened opened.0 kept opened.1 opened.2 }
     ensures serves { (taken written : List ℕ)
         × (S.told input.old ≡ with_front taken (S.told input.new))
         × (K.told output.new ≡ with_end (K.told output.old) written)
-        × IsReplayEnd catalogue.now (said_of said.now) taken (S.told input.new) written result }
+        × IsInputEnd opened.0 opened.2 (view_of said.now) taken (S.told input.new) written result }
     ensures read_cause { result ≡ ReadFault → Rose (S.faults input.old) (S.faults input.new) }
     ensures write_cause { result ≡ WriteFault → Rose (K.faults output.old) (K.faults output.new) }
     ensures read_steady { (result ≡ ReadFault → ⊥) → S.faults input.new ≡ S.faults input.old }
     ensures write_steady { (result ≡ WriteFault → ⊥) → K.faults output.new ≡ K.faults output.old }
 {
-    let Ok((books, mut desk)) = open_books(alloc, catalogue) else {
-        return ConnEnd::NoMemory;
-    };
+    let (catalogue, books, mut desk) = opened;
     let mut clock = ScriptClock {
         next: said.start,
         tick: said.tick,
     };
     serve_connection(
-        alloc, catalogue, &books, &mut desk, input, output, &mut clock,
+        alloc, &catalogue, &books, &mut desk, input, output, &mut clock,
     )
 }
 
@@ -72,7 +66,7 @@ fn replay<F: Shelf, S: Source, K: Sink>(
     input: &mut S,
     output: &mut K,
 ) -> ReplayEnd
-    ensures ends { Ends (said_of said.now) (F.told shelf.old) (S.told input.old) (S.told input.new)
+    ensures ends { Ends (view_of said.now) (F.told shelf.old) (S.told input.old) (S.told input.new)
         (K.told output.old) (K.told output.new) result }
     ensures same { F.told shelf.new ≡ F.told shelf.old }
     ensures read_cause { result ≡ Served ReadFault → Rose (S.faults input.old) (S.faults input.new) }
@@ -81,31 +75,21 @@ fn replay<F: Shelf, S: Source, K: Sink>(
     ensures write_steady { (result ≡ Served WriteFault → ⊥) → K.faults output.new ≡ K.faults output.old }
     ensures cause { HasShelfCause result (F.faults shelf.old) (F.faults shelf.new) (F.misses shelf.old) (F.misses shelf.new) }
 {
-    let catalogue = match load_catalogue(alloc, shelf, said.catalogue) {
-        Ok(catalogue) => catalogue,
-        Err(fault) => return ReplayEnd::NoCatalogue(fault),
+    let opened = match load_books(alloc, shelf, said.catalogue, said.from) {
+        Ok(opened) => opened,
+        Err(fault) => return ReplayEnd::NotLoaded(fault),
     };
-    ReplayEnd::Served(serve(alloc, &catalogue, said, input, output))
-}
-
-/// The command's end.
-fn command_end(end: ReplayEnd) -> CommandEnd
-    ensures { result ≡ end_of_replay end }
-{
-    match end {
-        ReplayEnd::NoMemory => CommandEnd::NoMemory,
-        ReplayEnd::NoCatalogue(fault) => CommandEnd::NoCatalogue(fault),
-        ReplayEnd::Served(end) => CommandEnd::of(end),
-    }
+    ReplayEnd::Served(serve(alloc, opened, said, input, output))
 }
 
 /// `replay` by its words, of which the first is the command's name: it serves the catalogue of the named file to the input as one
-/// connection, with the words' clock. Answers the status, and notes how it ended.
+/// connection, with the words' clock. Its books open with the bookings of the export that the words name, or with none. Answers the
+/// status, and notes how it ended.
 ///
 /// | status | where |
 /// |---|---|
 /// | 0 | all requests of the input are answered, to its end or to the last of the connection |
-/// | 1 | the catalogue is missing, larger than 33,554,432 bytes, or refused |
+/// | 1 | the catalogue is missing, larger than 33,554,432 bytes, or refused; or the export is, at 268,435,456 bytes |
 /// | 2 | the words are refused; nothing is read, written or fetched |
 /// | 3 | the input or the shelf failed in this call |
 /// | 4 | the output failed in this call |
@@ -160,13 +144,13 @@ pub fn run_replay<F: Shelf, S: Source, K: Sink, E: Sink>(
     ensures write_steady { (result ≡ 4 → ⊥) → K.faults output.new ≡ K.faults output.old }
     ensures shelf_steady { (result ≡ 3 → ⊥) → F.faults shelf.new ≡ F.faults shelf.old }
 
-    // Status 1 comes where the shelf has no catalogue of the name: no file, one too large, or a text that is refused. Where it has
-    // none, and tells so, no other status comes but for its failure and for want of memory.
-    ensures without { result ≡ 1 → IsWithoutCatalogue (words_texts words.now) (F.told shelf.old) }
-    ensures no_catalogue { (files : List ℕ → Option (List ℕ)) → F.told shelf.old ≡ Some files → (said : ReplayView)
-        → IsReplay (words_texts words.now) said → HasNone files said.catalogue → (result ≡ 1) ⊎ (result ≡ 3) ⊎ (result ≡ 5) }
+    // Status 1 comes where the shelf has no books: of the catalogue's name or of the export's no file, one too large, or a text that
+    // is refused. Where it has none, and tells so, no other status comes but for its failure and for want of memory.
+    ensures without { result ≡ 1 → IsWithoutBooks Replay (words_texts words.now) (F.told shelf.old) }
+    ensures no_books { (files : List ℕ → Option (List ℕ)) → F.told shelf.old ≡ Some files → (said : ReplayView)
+        → IsReplay (words_texts words.now) said → HasNoBooks files said.catalogue said.from → (result ≡ 1) ⊎ (result ≡ 3) ⊎ (result ≡ 5) }
     ensures missed { result ≡ 1 → Rose (F.misses shelf.old) (F.misses shelf.new)
-        ⊎ IsOfRefusedText (words_texts words.now) (F.told shelf.old) }
+        ⊎ IsOfRefusedText Replay (words_texts words.now) (F.told shelf.old) }
     ensures files { F.told shelf.new ≡ F.told shelf.old }
 {
     match read_replay(alloc, words) {

@@ -1,7 +1,8 @@
 -- How the books were served and closed is how what the words ask for ended.
 use Rattle.std.specs.Prelude.{Ok}
 use Rattle.rail_catalogue.specs.Contents.{CatalogueView}
-use Rattle.host_catalogue.specs.Loading.{Files, Loads}
+use Rattle.host_catalogue.specs.Files.{Files}
+use Rattle.host_catalogue.specs.Loading.{Loads}
 use Rattle.host_words.specs.Serve.{ServeView}
 use Rattle.host_serve.specs.declared.end.ServeOutcome.{ServeOutcome}
 use Rattle.host_serve.specs.declared.end.ServeOutcome.TheVariants as end

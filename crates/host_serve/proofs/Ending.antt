@@ -4,8 +4,9 @@ use Rattle.std.specs.Prelude.{IsSomeAnd, Ok}
 use Rattle.rail_io.specs.Faults.{Rose}
 use Rattle.claim_rule.specs.Walls.{WallView}
 use Rattle.rail_catalogue.specs.Contents.{CatalogueView}
-use Rattle.host_catalogue.specs.Loading.{Files, HasNone, Loads}
-use Rattle.host_catalogue.specs.declared.load.LoadFault.TheVariants as load
+use Rattle.host_catalogue.specs.Files.{Files}
+use Rattle.host_catalogue.specs.Loading.{HasNone, Loads}
+use Rattle.host_catalogue.specs.declared.file.LoadFault.TheVariants as load
 use Rattle.host_notes.proofs.Without.{fault_status, lacks, missed as missed_file, never_loaded}
 use Rattle.host_words.specs.Serve.{ServeView}
 use Rattle.host_serve.specs.declared.end.ServeOutcome.{ServeOutcome}
@@ -16,9 +17,10 @@ use Rattle.host_serve.specs.Serve.{Left, Runs, HasShelfCause, IsNoServe, IsOfRef
 pub refused_by : (o : ServeOutcome) → status_of_serve o ≡ 2 → o ≡ end.Refused
 refused_by end.Refused e = refl
 refused_by end.NoMemory e = absurd (omega (arith, e))
-refused_by (end.NoCatalogue load.Missing) e = absurd (omega (arith, e))
-refused_by (end.NoCatalogue load.TooLarge) e = absurd (omega (arith, e))
+refused_by (end.NoCatalogue (load.Missing f)) e = absurd (omega (arith, e))
+refused_by (end.NoCatalogue (load.TooLarge f)) e = absurd (omega (arith, e))
 refused_by (end.NoCatalogue (load.Refused fault)) e = absurd (omega (arith, e))
+refused_by (end.NoCatalogue (load.RefusedExport fault)) e = absurd (omega (arith, e))
 refused_by (end.NoCatalogue load.Failed) e = absurd (omega (arith, e))
 refused_by (end.NoCatalogue load.NoMemory) e = absurd (omega (arith, e))
 refused_by end.NotBound e = absurd (omega (arith, e))
@@ -65,9 +67,10 @@ module _ (words : List (List ℕ)) (files : Files) (left : Left) where
       → status_of_serve o ≡ 3 → left.wall ≡ None → Rose failed fails ⊎ IsOnlyLimited words left.before left.after
   wall_missing end.Refused failed fails before after r cause e none = absurd (omega (arith, e))
   wall_missing end.NoMemory failed fails before after r cause e none = absurd (omega (arith, e))
-  wall_missing (end.NoCatalogue load.Missing) failed fails before after r cause e none = absurd (omega (arith, e))
-  wall_missing (end.NoCatalogue load.TooLarge) failed fails before after r cause e none = absurd (omega (arith, e))
+  wall_missing (end.NoCatalogue (load.Missing f)) failed fails before after r cause e none = absurd (omega (arith, e))
+  wall_missing (end.NoCatalogue (load.TooLarge f)) failed fails before after r cause e none = absurd (omega (arith, e))
   wall_missing (end.NoCatalogue (load.Refused fault)) failed fails before after r cause e none = absurd (omega (arith, e))
+  wall_missing (end.NoCatalogue (load.RefusedExport fault)) failed fails before after r cause e none = absurd (omega (arith, e))
   wall_missing (end.NoCatalogue load.Failed) failed fails before after r cause e none = inl cause
   wall_missing (end.NoCatalogue load.NoMemory) failed fails before after r cause e none = absurd (omega (arith, e))
   wall_missing end.NotBound failed fails before after r cause e none = inr (record { said = r.0; words_are = r.1; only = r.2.0.only })

@@ -10,7 +10,7 @@ use Rattle.host_serve.specs.declared.end.ServeOutcome.TheVariants as end
 abbrev pub end_of_serve : ServeOutcome → CommandEnd
 end_of_serve end.Refused = ended.WordsRefused
 end_of_serve end.NoMemory = ended.NoMemory
-end_of_serve (end.NoCatalogue fault) = ended.NoCatalogue fault
+end_of_serve (end.NoCatalogue fault) = ended.NotLoaded fault
 end_of_serve end.NotBound = ended.ReadFault
 end_of_serve end.AcceptFailed = ended.ReadFault
 end_of_serve end.Served = ended.Done

@@ -11,7 +11,8 @@ use Rattle.rail_service.specs.Listeners.{ListenerView}
 use Rattle.host_words.specs.Serve.{ServeView, serve_words}
 use Rattle.host_words.specs.declared.serve.Serving.{Serving}
 use Rattle.host_words.specs.declared.serve.ServeWords.{ServeWords}
-use Rattle.host_catalogue.specs.Loading.{Files, HasCause, IsRefusedText, LacksCatalogue, Loads}
+use Rattle.host_catalogue.specs.Files.{Files, HasCause}
+use Rattle.host_catalogue.specs.Loading.{IsRefusedText, LacksCatalogue, Loads}
 use Rattle.host_words.specs.Commands.{IsFor}
 use Rattle.host_words.specs.declared.command.CommandName.TheVariants as command
 use Rattle.host_serve.specs.Crews.{OnlyMet}
@@ -122,7 +123,7 @@ Runs words files left (end.NoCatalogue fault) = (said : ServeView) × IsServe wo
 
 -- Where the shelf gave no catalogue, its counts show why; and at every other end its count of faults is as it was.
 abbrev pub HasShelfCause : ServeOutcome → ℕ → ℕ → ℕ → ℕ → Type 0
-HasShelfCause (end.NoCatalogue fault) failed fails missed misses = HasCause (Err fault) failed fails missed misses
+HasShelfCause (end.NoCatalogue fault) failed fails missed misses = HasCause fault failed fails missed misses
 HasShelfCause end.Served failed fails missed misses = fails ≡ failed
 HasShelfCause end.AcceptFailed failed fails missed misses = fails ≡ failed
 HasShelfCause end.NotBound failed fails missed misses = fails ≡ failed

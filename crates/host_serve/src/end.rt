@@ -41,7 +41,7 @@ pub fn command_end(outcome: ServeOutcome) -> CommandEnd
     match outcome {
         ServeOutcome::Refused => CommandEnd::WordsRefused,
         ServeOutcome::NoMemory => CommandEnd::NoMemory,
-        ServeOutcome::NoCatalogue(fault) => CommandEnd::NoCatalogue(fault),
+        ServeOutcome::NoCatalogue(fault) => CommandEnd::NotLoaded(fault),
         ServeOutcome::NotBound | ServeOutcome::AcceptFailed => CommandEnd::ReadFault,
         ServeOutcome::Served => CommandEnd::Done,
     }

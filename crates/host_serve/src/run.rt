@@ -4,7 +4,8 @@ ghost use Rattle.rail_io.specs.Faults.{Rose};
 ghost use Rattle.host_words.specs.Options.{words_texts};
 ghost use Rattle.host_words.specs.Serve.{IsInRange, ServeView};
 ghost use Rattle.host_words.specs.declared.fault.WordsFault.TheVariants as words_fault;
-ghost use Rattle.host_catalogue.specs.Loading.{HasCause, HasNone, Loads};
+ghost use Rattle.host_catalogue.specs.Files.{HasCause};
+ghost use Rattle.host_catalogue.specs.Loading.{HasNone, Loads};
 ghost use Rattle.host_notes.specs.Ends.{note_of};
 ghost use Rattle.host_notes.specs.Noted.{IsNoted};
 ghost use Rattle.host_serve.specs.Crews.{IsFirst};
@@ -42,7 +43,7 @@ fn open<F: Shelf>(
     ensures opening { IfOk result (λ t. t.1.layout.opening ≡ []) }
     ensures first { IfOk result (λ t. IsFirst t.1 0 t.2) }
     ensures same { F.told shelf.new ≡ F.told shelf.old }
-    ensures cause { IfErr result (λ e. HasCause (Err e) (F.faults shelf.old) (F.faults shelf.new) (F.misses shelf.old) (F.misses shelf.new)) }
+    ensures cause { IfErr result (λ e. HasCause e (F.faults shelf.old) (F.faults shelf.new) (F.misses shelf.old) (F.misses shelf.new)) }
     ensures steady { IfOk result (λ _. F.faults shelf.new ≡ F.faults shelf.old) }
 {
     let cat = match load_catalogue(alloc, shelf, name) {

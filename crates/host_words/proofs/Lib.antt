@@ -3,3 +3,4 @@ pub mod Rows
 pub mod Ranges
 pub mod ServeRows
 pub mod Drilling
+pub mod Three

@@ -9,8 +9,12 @@ ghost use Rattle.host_words.specs.declared.command.CommandName.{CommandName as N
 pub enum CommandName {
     /// `tiny LEGS PLACES`
     Tiny,
-    /// `replay CATALOGUE --start MOMENT --tick N`
+    /// `replay CATALOGUE --start MOMENT --tick N --from EXPORT`
     Replay,
+    /// `export CATALOGUE --start MOMENT --tick N --from EXPORT`
+    Export,
+    /// `settle CATALOGUE EXPORT`
+    Settle,
     /// `drill --seed N --workers N --size N --places N`
     Drill,
     /// `serve CATALOGUE --port N --workers N --connections N --sweep N`
@@ -25,6 +29,8 @@ impl CommandName {
         match self {
             CommandName::Tiny => "tiny",
             CommandName::Replay => "replay",
+            CommandName::Export => "export",
+            CommandName::Settle => "settle",
             CommandName::Drill => "drill",
             CommandName::Serve => "serve",
         }
@@ -51,6 +57,10 @@ pub fn command_of(words: &[String]) -> Option<CommandName>
         Some(CommandName::Tiny)
     } else if is_for(words, CommandName::Replay) {
         Some(CommandName::Replay)
+    } else if is_for(words, CommandName::Export) {
+        Some(CommandName::Export)
+    } else if is_for(words, CommandName::Settle) {
+        Some(CommandName::Settle)
     } else if is_for(words, CommandName::Drill) {
         Some(CommandName::Drill)
     } else if is_for(words, CommandName::Serve) {

@@ -1,11 +1,20 @@
 // A command's words by `clap`.
-ghost use Rattle.std.specs.Prelude.{◌≡◌, ◌<◌, Some, None, true, IfOk, IfErr, option_and_then};
-ghost use Rattle.clap.specs.Words.{app_of, found_of, is_simple_and_free, one_text, rows_of};
-ghost use Rattle.host_words.specs.Options.{number_in, taken, words_texts};
+ghost use Rattle.std.specs.Prelude.{◌≡◌, ◌<◌, Some, None, true, false, codes, IfOk, IfErr, option_and_then};
+ghost use Rattle.clap.specs.Words.{app_of, found_of, is_simple_and_free, one_text, rows_of, rule_of};
+ghost use Rattle.host_words.specs.Options.{number_in, option_rule, taken, words_texts};
 
 use crate::fault::WordsFault;
 use clap::error::ErrorKind;
-use clap::{ArgMatches, Command};
+use clap::{Arg, ArgMatches, Command};
+use std::alloc::Global;
+
+/// `--from EXPORT`, which may be left out.
+pub fn from_option<'a>(alloc: Global) -> Arg<'a>
+    ensures rule { rule_of result ≡ option_rule (codes "from") }
+    ensures local { result.global ≡ false }
+{
+    Arg::new(alloc, "from").long("from")
+}
 
 /// What the command takes of the words, of which the first is its name.
 pub fn matches_of<'a>(

@@ -28,3 +28,4 @@ pub mod ExchangeLaws
 pub mod AllLaws
 mod UsualLife
 pub mod OwnWork
+pub mod Kept

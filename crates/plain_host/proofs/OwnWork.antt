@@ -95,7 +95,7 @@ settles_from desk front (b ∷ rest) well kept alone idle is sound owned last =
         (λ kind ending. idle.1 b.row (on_row (state_seen desk) b.row b (IsBeingEndedBy desk.number) (at (ap is_ended ending)) (kind, (ending, mine (ap is_owners ending))))) in
         stands_before b rest (record { sealed = still.0; still = still.1 }) more
 
-alone_settles : (books : BooksView) (desk : DeskView) → IsOf books desk → IsAlone desk → IsIdle desk → IsSettled (state_seen desk)
+pub alone_settles : (books : BooksView) (desk : DeskView) → IsOf books desk → IsAlone desk → IsIdle desk → IsSettled (state_seen desk)
 alone_settles books desk of alone idle =
     let well = is_sound desk.layout desk.seen of.legal in
     let work = of.work alone.number alone.made in

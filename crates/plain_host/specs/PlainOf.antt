@@ -9,6 +9,7 @@ use Rattle.history_model.specs.declared.booking.End.{End}
 use Rattle.history_model.specs.Phase.{is_sealed}
 use Rattle.rail_ids.specs.declared.RowNo.{RowNo}
 use Rattle.history_model.specs.Booking.{Booking, State, word_at, stands_in}
+use Rattle.claim_rule.specs.Openings.{KeptBooking}
 use Rattle.claim_rule.specs.Rule.{DeskView, state_seen}
 use Rattle.booking_rows.specs.Views.{RowSeen}
 use Rattle.plain_host.specs.Plain.{Standing, Plain}
@@ -55,6 +56,25 @@ kept_of s = option_map row_of (find (λ (b : Booking). is_in_making b.phase) s)
 -- what a state has
 abbrev pub plain_in : State → Plain
 plain_in s = record { bookings = standings_of s; kept = kept_of s }
+
+-- a booking that books open with
+abbrev pub standing_kept : KeptBooking → Standing
+standing_kept k =
+    record {
+      row = record { row = k.row; generation = k.generation };
+      view = record {
+        phase = k.phase;
+        retailer = k.retailer;
+        limit = k.limit;
+        total = k.total;
+        items = k.items;
+        ended = end_in k.phase k.end;
+      };
+    }
+
+-- what a host has that begins with these
+abbrev pub plain_kept : List KeptBooking → Plain
+plain_kept kept = record { bookings = map standing_kept kept; kept = None }
 
 -- what a desk that is alone has
 abbrev pub plain_of : DeskView → Plain

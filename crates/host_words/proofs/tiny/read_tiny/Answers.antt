@@ -1,16 +1,9 @@
-use Rattle.std.proofs.Common.{◌≡◌, ℕ, ◌<◌, ◌≤◌, List, [], ◌∷◌, length, get_or, sym, ◌∙◌, ap, subst, arith, rules}
+use Rattle.std.proofs.Common.{◌≡◌, ℕ, sym, ◌∙◌, ap, subst, rules}
 use Rattle.std.specs.Prelude.{string_bytes, codes}
 use Rattle.host_words.specs.Options.{words_texts}
 use Rattle.host_words.specs.Tiny.{IsNumber}
+use Rattle.host_words.proofs.Three.{three}
 use Rattle.host_words.proofs.tiny.read_tiny.Goals as goal
-
-three : {X : Type 0} (ws : List X) (a b c : X) → 3 ≤ length ws → length ws < 4
-    → a ≡ get_or ws 0 a → b ≡ get_or ws 1 b → c ≡ get_or ws 2 c → ws ≡ a ∷ b ∷ c ∷ []
-three [] a b c low high p q r = absurd (omega (arith, low))
-three (x ∷ []) a b c low high p q r = absurd (omega (arith, low))
-three (x ∷ y ∷ []) a b c low high p q r = absurd (omega (arith, low))
-three (x ∷ y ∷ z ∷ []) a b c low high p q r = cc
-three (x ∷ y ∷ z ∷ w ∷ ws) a b c low high p q r = absurd (omega (arith, high))
 
 pub returns-in-Some-number_spelled-clause-some : goal.returns-in-Some-number_spelled-clause-some
 returns-in-Some-number_spelled-clause-some c =

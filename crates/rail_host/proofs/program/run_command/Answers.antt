@@ -1,10 +1,11 @@
 use Rattle.std.proofs.Common.{inl, inr, refl}
 use Rattle.host_words.specs.Options.{words_texts}
-use Rattle.host_words.specs.declared.command.CommandName.TheVariants.{Replay, Drill, Serve}
+use Rattle.host_words.specs.declared.command.CommandName.TheVariants.{Replay, Export, Drill, Serve}
 use Rattle.host_notes.specs.Ends.{end_of}
 use Rattle.host_notes.specs.declared.ending.CommandEnd.TheVariants.{WordsRefused}
-use Rattle.host_replay.specs.Replay.{end_of_replay}
-use Rattle.rail_host.proofs.Naming.{one_name, no_tiny, serve_tiny, serve_replay, serve_drill, drill_tiny, drill_replay}
+use Rattle.host_replay.specs.Input.{end_of_replay}
+use Rattle.host_settle.specs.Settle.{end_of_settle}
+use Rattle.rail_host.proofs.Naming.{one_name, no_tiny, no_settle, serve_tiny, serve_replay, serve_export, serve_settle, serve_drill, drill_tiny, drill_replay, drill_export, drill_settle}
 use Rattle.rail_host.proofs.program.run_command.Goals as goal
 
 pub returns-then-is_for-clause-words : goal.returns-then-is_for-clause-words
@@ -14,6 +15,8 @@ returns-then-is_for-clause-words g c two =
     record {
       tiny = no_tiny Serve words serve serve_tiny;
       replay = λ said is. serve_replay (one_name Serve Replay words serve is.command);
+      export = λ said is. serve_export (one_name Serve Export words serve is.command);
+      settle = no_settle Serve words serve serve_settle;
       drill = λ said is. serve_drill (one_name Serve Drill words serve is.command);
       serve = c.serve_port.ensures.words two;
     }
@@ -25,6 +28,8 @@ returns-then-is_for-2-clause-words g c two =
     record {
       tiny = no_tiny Drill words drill drill_tiny;
       replay = λ said is. drill_replay (one_name Drill Replay words drill is.command);
+      export = λ said is. drill_export (one_name Drill Export words drill is.command);
+      settle = no_settle Drill words drill drill_settle;
       drill = c.run_drill.ensures.words two;
       serve = λ said is. c.if-is_for.ensures.no refl is.command;
     }
@@ -33,6 +38,8 @@ pub returns-else-is_for-2-clause-words : goal.returns-else-is_for-2-clause-words
 returns-else-is_for-2-clause-words g c two = record {
   tiny = (c.run_plain.ensures.words two).0;
   replay = (c.run_plain.ensures.words two).1;
+  export = (c.run_plain.ensures.words two).2;
+  settle = (c.run_plain.ensures.words two).3;
   drill = λ said is. c.if-is_for-2.ensures.no refl is.command;
   serve = λ said is. c.if-is_for.ensures.no refl is.command;
 }
@@ -40,5 +47,11 @@ returns-else-is_for-2-clause-words g c two = record {
 pub returns-else-is_for-2-clause-ended : goal.returns-else-is_for-2-clause-ended
 returns-else-is_for-2-clause-ended g c = elim c.run_plain.ensures.run [
   | inl two ↦ (WordsRefused, two, c.run_plain.ensures.refused two)
-  | inr more ↦ elim more [ inl tiny ↦ (end_of tiny.0, tiny.1, tiny.3) | inr replay ↦ (end_of_replay replay.0, replay.1, replay.3) ]
+  | inr more ↦ elim more [
+    | inl tiny ↦ (end_of tiny.0, tiny.1, tiny.3)
+    | inr files ↦ elim files [
+      | inl replay ↦ (end_of_replay replay.0, replay.1, replay.3)
+      | inr settle ↦ (end_of_settle settle.0, settle.1, settle.3)
+    ]
+  ]
 ]

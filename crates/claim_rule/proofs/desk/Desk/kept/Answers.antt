@@ -1,5 +1,4 @@
 use Rattle.std.proofs.Common.{sym, subst}
-use Rattle.claim_rule.specs.Rule.{DeskView}
 use Rattle.claim_rule.specs.Holds.{HoldView}
 use Rattle.claim_rule.specs.Seats.{IsOf, desk_view}
 use Rattle.claim_rule.specs.Out.{HoldsNone}

@@ -1,0 +1,147 @@
+-- Bookings that are kept: the list of them that a state gives, and the state that a later history opens with.
+use Rattle.std.specs.Prelude.{◌≡◌, ℕ, ◌-◌, ◌<◌, pos, Bool, List, [], ◌∷◌, ◌++◌, map, length, filter_map, replicate, Option, Some, None, option_and_then, ◌==◌, if◌then◌else◌}
+use Rattle.std.specs.List.{AllByRecursion, range_with_len}
+use Rattle.leg_masks.specs.Interval.{item_word}
+use Rattle.leg_masks.specs.Interval.{PlacedSpan as Item}
+use Rattle.history_model.specs.declared.booking.BookedItem.{BookedItem}
+use Rattle.history_model.specs.declared.booking.End.{End}
+use Rattle.history_model.specs.declared.phase.Phase.{Phase}
+use Rattle.history_model.specs.declared.phase.Phase.TheVariants.{Free, Making, Ended}
+use Rattle.history_model.specs.declared.phase.EndKind.TheVariants.{Release}
+use Rattle.history_model.specs.Lists.{Pairwise}
+use Rattle.history_model.specs.Phase.{is_ended}
+use Rattle.history_model.specs.Booking.{Booking, Layout, State, amount_word, first_item_word, present, row_words, word_at}
+use Rattle.history_model.specs.Laws.{IsOpening}
+use Rattle.history_model.specs.Words.{AreWordsOf}
+
+-- a booking that is kept. Where it hasn't ended its end is `no_end`
+pub record KeptBooking : Type 0 where
+  pub row : ℕ
+  pub generation : ℕ
+  pub phase : Phase
+  pub retailer : ℕ
+  pub limit : ℕ
+  pub total : ℕ
+  pub items : List Item
+  pub end : End
+
+abbrev pub no_end : End
+no_end = record { moment = 0; amount = pos 0; successor = 0 }
+
+-- the end that counts: an ended booking's own
+abbrev pub end_in : Phase → End → End
+end_in (Ended kind) end = end
+end_in _ end = no_end
+
+abbrev pub placed : BookedItem → Item
+placed i = record { place = i.place; span = i.span }
+
+abbrev pub kept_as : Booking → KeptBooking
+kept_as b =
+    record {
+      row = b.row;
+      generation = b.generation;
+      phase = b.phase;
+      retailer = word_at b 1;
+      limit = word_at b 2;
+      total = word_at b 3;
+      items = map placed b.items;
+      end = end_in b.phase b.end;
+    }
+
+-- what is kept of a row that serves again, and whose booking isn't made yet: that the generations up to this one are gone. No
+-- retailer has number 0, so it is unknown to all
+abbrev pub stub : ℕ → ℕ → KeptBooking
+stub row generation =
+    record {
+      row = row;
+      generation = generation;
+      phase = Ended Release;
+      retailer = 0;
+      limit = 0;
+      total = 0;
+      items = record { place = 0; span = record { from = 0; to = 1 } } ∷ [];
+      end = no_end;
+    }
+
+-- what is kept of a booking in this phase
+abbrev pub kept_in : Phase → Booking → Option KeptBooking
+kept_in Free b = None
+kept_in Making b = if b.generation == 0 then None else Some (stub b.row b.generation)
+kept_in _ b = Some (kept_as b)
+
+abbrev pub kept_of_row : State → ℕ → Option KeptBooking
+kept_of_row s row = option_and_then (λ b. kept_in b.phase b) (present s row)
+
+-- the present bookings of the rows below a number that are kept, in rising row
+abbrev pub kept_bookings : ℕ → State → List KeptBooking
+kept_bookings rows s = filter_map (kept_of_row s) (range_with_len 0 rows)
+
+-- the item as a booking has it, given back or not
+abbrev pub booked : Bool → Item → BookedItem
+booked given i = record { place = i.place; span = i.span; given_back = given }
+
+-- the words 5 to 7
+abbrev pub end_words : Phase → End → List ℕ
+end_words (Ended kind) end = end.successor ∷ amount_word kind end.amount ∷ end.moment ∷ []
+end_words _ end = 0 ∷ 0 ∷ 0 ∷ []
+
+-- the words of the items, and 0 in all words behind them
+abbrev pub item_words : List Item → List ℕ
+item_words items =
+    map (λ i. item_word i.place i.span) items ++ replicate ((row_words - first_item_word) - length items) 0
+
+-- the words of the row; word 0 is not used here
+abbrev pub opening_words : KeptBooking → List ℕ
+opening_words k =
+    (0 ∷ k.retailer ∷ k.limit ∷ k.total ∷ length k.items ∷ end_words k.phase k.end) ++ item_words k.items
+
+abbrev pub opening_booking : KeptBooking → Booking
+opening_booking k =
+    record {
+      row = k.row;
+      generation = k.generation;
+      owner = 0;
+      phase = k.phase;
+      items = map (booked (is_ended k.phase)) k.items;
+      words = opening_words k;
+      end = end_in k.phase k.end;
+    }
+
+-- the state that a history opens with
+abbrev pub opening_of : List KeptBooking → State
+opening_of kept = map opening_booking kept
+
+-- the layout of books that open with these bookings
+abbrev pub layout_with : List ℕ → ℕ → List KeptBooking → Layout
+layout_with legs rows kept = record { legs = legs; rows = rows; opening = opening_of kept }
+
+-- in rising row
+abbrev pub AreRising : List KeptBooking → Type 0
+AreRising kept = Pairwise (λ j k. j.row < k.row) kept
+
+-- a booking that hasn't ended has no end
+abbrev pub HasOwnEnd : KeptBooking → Type 0
+HasOwnEnd k = k.end ≡ end_in k.phase k.end
+
+-- The bookings may be kept ones of books of these legs and rows. An opening has its rows, ends and successors in range
+pub record MayOpen (legs : List ℕ) (rows : ℕ) (kept : List KeptBooking) : Type 0 where
+  pub rising : AreRising kept
+  pub ends : AllByRecursion HasOwnEnd kept
+  pub opening : IsOpening (layout_with legs rows kept) (opening_of kept)
+
+-- And the words are those of the state that they open with. Where no place has more legs than there may be, no other list
+-- has the same words
+pub record OpensWith (legs : List ℕ) (rows : ℕ) (words : List ℕ) (kept : List KeptBooking) : Type 0 where
+  pub may : MayOpen legs rows kept
+  pub are : AreWordsOf (layout_with legs rows kept) (opening_of kept) words
+
+-- the layout opens with the list of each such words, of which there is just one
+abbrev pub AllOpenings : List ℕ → ℕ → List ℕ → Layout → Type 0
+AllOpenings legs rows words layout =
+    (kept : List KeptBooking) → OpensWith legs rows words kept → layout ≡ layout_with legs rows kept
+
+-- the layout opens with one such list
+abbrev pub IsLayoutOf : List ℕ → ℕ → List ℕ → Layout → Type 0
+IsLayoutOf legs rows words layout =
+    (kept : List KeptBooking) × OpensWith legs rows words kept × (layout ≡ layout_with legs rows kept)

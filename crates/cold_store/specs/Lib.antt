@@ -1,0 +1,8 @@
+pub mod Lines
+pub mod Exports
+pub mod Tidy
+pub mod Right
+pub mod Reads
+pub mod Drafts
+pub mod Imports
+pub mod Laws

@@ -1,0 +1,51 @@
+-- What the books of a catalogue are, opened with no booking or with those of an export.
+use Rattle.std.proofs.Common.{◌≡◌, ◌≤◌, ℕ, List, [], map, refl, sym, subst}
+use Rattle.history_model.specs.Booking.{Layout, most_rows}
+use Rattle.history_model.specs.Laws.{IsOpening}
+use Rattle.rail_catalogue.specs.Contents.{CatalogueView, legs_in}
+use Rattle.booking_rows.specs.SealedRows.{FitWords}
+use Rattle.claim_rule.specs.Openings.{KeptBooking, layout_with}
+use Rattle.claim_rule.specs.Out.{IsTidy}
+use Rattle.claim_rule.specs.Rule.{BooksView, DeskView}
+use Rattle.claim_rule.specs.Seats.{IsNew, IsOf}
+use Rattle.cold_store.specs.Imports.{OpensAs}
+use Rattle.cold_store.specs.Right.{kept_of}
+use Rattle.cold_store.specs.Tidy.{AreSucceeded}
+use Rattle.cold_store.proofs.Begun.{may_open, succeeded}
+use Rattle.host_catalogue.specs.Opening.{IsExportFor, IsOpened}
+
+-- books open with an opening state
+opens : (books : BooksView) (desk : DeskView) (g : Layout) → IsOf books desk → books.layout ≡ g → IsOpening g g.opening
+opens books desk g own is =
+    let first : IsOpening desk.layout desk.layout.opening = own.legal.0 in
+    subst (λ (l : Layout). IsOpening l l.opening) is (subst (λ (l : Layout). IsOpening l l.opening) own.layout first)
+
+module _ (cat : CatalogueView) (books : BooksView) (desk : DeskView) (own : IsOf books desk) (new : IsNew desk 0 []) (tidy : IsTidy desk) where
+  pub opened_new : FitWords books.layout → books.layout ≡ record { legs = legs_in cat; rows = cat.rows; opening = [] } → IsOpened cat [] books desk
+  opened_new fit is = record {
+    layout = is;
+    own = own;
+    new = new;
+    tidy = tidy;
+    fit = fit;
+    may = record { rising = tt; ends = tt; opening = opens books desk (layout_with (legs_in cat) cat.rows []) own is };
+    succeeded = subst (λ (g : Layout). AreSucceeded g.opening) (sym is) tt;
+  }
+
+  pub opened_as : (text : List ℕ) → cat.rows ≤ most_rows → FitWords (record { legs = legs_in cat; rows = cat.rows; opening = [] })
+      → OpensAs (legs_in cat) cat.rows text books.layout → (kept : List KeptBooking) × IsExportFor cat text kept × IsOpened cat kept books desk
+  opened_as text few fit (said, sound, is) =
+      let kept = map kept_of said in
+      let opening = opens books desk (layout_with (legs_in cat) cat.rows kept) own is in (
+        kept,
+        (said, sound, refl),
+        record {
+          layout = is;
+          own = own;
+          new = new;
+          tidy = tidy;
+          fit = subst FitWords (sym is) (record { places = fit.places; legs = fit.legs });
+          may = may_open (legs_in cat) cat.rows text said sound few opening;
+          succeeded = subst (λ (g : Layout). AreSucceeded g.opening) (sym is) (succeeded (legs_in cat) cat.rows text said sound few opening);
+        },
+      )

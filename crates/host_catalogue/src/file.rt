@@ -1,0 +1,69 @@
+// The files that a command reads.
+ghost use Rattle.std.specs.Prelude.{◌≡◌, ◌≤◌, IfErr, IfOk};
+ghost use Rattle.host_catalogue.specs.Files.{HasCause, IsFileFault, IsTextOf, most_of};
+
+use cold_store::ImportFault;
+use rail_catalogue::CatalogueFault;
+use rail_io::{Fetched, Shelf};
+use std::alloc::Global;
+
+/// A file that a command reads.
+#[derive(Clone, Copy, Debug, PartialEq, Eq)]
+pub enum File {
+    /// What is sold.
+    Catalogue,
+    /// The bookings that the books open with.
+    Export,
+}
+
+impl File {
+    /// The most bytes that it may have.
+    pub fn most(self) -> u32
+        ensures { result ≡ most_of self }
+    {
+        match self {
+            File::Catalogue => 33_554_432,
+            File::Export => 268_435_456,
+        }
+    }
+}
+
+/// Why a command has no books.
+#[derive(Debug, Drop)]
+pub enum LoadFault {
+    /// There is no file with the name.
+    Missing(File),
+    /// The file has more bytes than it may have.
+    TooLarge(File),
+    /// The file's text is no catalogue.
+    Refused(CatalogueFault),
+    /// The file's text is no export of such books.
+    RefusedExport(ImportFault),
+    /// The shelf failed.
+    Failed,
+    /// There was no memory for a text or for what it says.
+    NoMemory,
+}
+
+/// The text of the file with the name. The shelf is asked once.
+pub(crate) fn fetch_text<F: Shelf>(
+    alloc: Global,
+    shelf: &mut F,
+    file: File,
+    name: &str,
+) -> Result<Vec<u8>, LoadFault>
+    ensures ok { IfOk result (λ text. IsTextOf file (F.told shelf.old) name.now text.items) }
+    ensures err { IfErr result (IsFileFault file (F.told shelf.old) name.now) }
+    ensures same { F.told shelf.new ≡ F.told shelf.old }
+    ensures steady { IfOk result (λ _. F.faults shelf.new ≡ F.faults shelf.old) }
+    ensures never_falls { F.misses shelf.old ≤ F.misses shelf.new }
+    ensures cause { IfErr result (λ e. HasCause e (F.faults shelf.old) (F.faults shelf.new) (F.misses shelf.old) (F.misses shelf.new)) }
+{
+    match shelf.fetch(alloc, name, file.most()) {
+        Fetched::Got(text) => Ok(text),
+        Fetched::Missing => Err(LoadFault::Missing(file)),
+        Fetched::TooLarge => Err(LoadFault::TooLarge(file)),
+        Fetched::Failed => Err(LoadFault::Failed),
+        Fetched::NoMemory => Err(LoadFault::NoMemory),
+    }
+}

@@ -1,0 +1,5 @@
+pub mod RowFacts
+pub mod AccountFacts
+pub mod TableFacts
+pub mod TextFacts
+pub mod Opened
