@@ -1,8 +1,9 @@
-/* Sends the requests of a file over several connections at once, each after the answer of the one before, and prints what it took.
+/* Sends the requests of a file over several connections at once, so many of each in flight, and prints what it took.
  *
- *   load PORT SECONDS FILE..
+ *   load PORT SECONDS DEPTH FILE..
  *
- * One connection for each file. A connection ends with its file or after SECONDS. The one line printed: answers, answers of another status
+ * One connection for each file, which at first sends DEPTH requests by one call, and then as many as were answered. A connection ends with
+ * its file or after SECONDS. The one line printed: answers, answers of another status
  * than 2xx, seconds from the first request to the last answer, and the latencies in microseconds: half, nine tenths, 99 hundredths, greatest.
  */
 #include <arpa/inet.h>
@@ -30,6 +31,7 @@ struct client {
 };
 
 static int port;
+static size_t depth;
 static double limit;
 static pthread_barrier_t together;
 
@@ -54,32 +56,52 @@ static void send_all(int stream, const char *data, size_t length) {
     }
 }
 
+/* The place behind the requests that are sent next, so that as many are in flight as may be. */
+static size_t ahead(struct client *client, size_t at, size_t *flight) {
+    size_t size;
+    while (*flight < depth && at < client->length && (size = message(client->requests + at, client->length - at)) > 0) {
+        at += size;
+        ++*flight;
+    }
+    return at;
+}
+
 static void *serve(void *given) {
     struct client *client = given;
     char *room = malloc(ROOM);
-    size_t at = 0, size;
+    double *begun = malloc(depth * sizeof(double));
+    size_t at = 0, held = 0, flight = 0, sent = 0, size;
     pthread_barrier_wait(&together);
     client->first = now();
-    while (at < client->length && (size = message(client->requests + at, client->length - at)) > 0) {
+    for (;;) {
         double begin = now();
-        if (begin - client->first > limit)
+        size_t end = begin - client->first > limit ? at : ahead(client, at, &flight);
+        send_all(client->stream, client->requests + at, end - at);
+        at = end;
+        while (sent < client->answers + flight)
+            begun[sent++ % depth] = begin;
+        if (flight == 0)
             break;
-        send_all(client->stream, client->requests + at, size);
-        at += size;
-        size_t held = 0;
-        while (message(room, held) == 0) {
-            if (held == ROOM)
-                fail("an answer without an end");
-            ssize_t got = read(client->stream, room + held, ROOM - held);
-            if (got <= 0)
-                fail("read");
-            held += got;
-        }
+        if (held == ROOM)
+            fail("an answer without an end");
+        ssize_t got = read(client->stream, room + held, ROOM - held);
+        if (got <= 0)
+            fail("read");
+        held += got;
+        size_t begins = 0;
         client->last = now();
-        client->latencies[client->answers++] = client->last - begin;
-        client->refused += room[9] != '2';
+        while ((size = message(room + begins, held - begins)) > 0) {
+            client->latencies[client->answers] = client->last - begun[client->answers % depth];
+            client->refused += room[begins + 9] != '2';
+            client->answers++;
+            begins += size;
+            flight--;
+        }
+        memmove(room, room + begins, held - begins);
+        held -= begins;
     }
     close(client->stream);
+    free(begun);
     free(room);
     return NULL;
 }
@@ -111,16 +133,17 @@ static int rising(const void *a, const void *b) {
 }
 
 int main(int count, char **words) {
-    if (count < 4)
+    if (count < 5)
         return 2;
-    int clients = count - 3;
+    int clients = count - 4;
     port = atoi(words[1]);
     limit = atof(words[2]);
+    depth = atol(words[3]);
     struct client *all = calloc(clients, sizeof *all);
     pthread_t *threads = calloc(clients, sizeof *threads);
     pthread_barrier_init(&together, NULL, clients);
     for (int n = 0; n < clients; n++)
-        prepare(&all[n], words[3 + n]);
+        prepare(&all[n], words[4 + n]);
     for (int n = 0; n < clients; n++)
         pthread_create(&threads[n], NULL, serve, &all[n]);
     size_t answers = 0, refused = 0;

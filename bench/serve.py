@@ -3,9 +3,10 @@
 
   bench/serve.py [--program PATH] [--requests N] [--seconds N]
 
-Each connection sends its requests one after another, each after the answer of the one before: N of them (20,000), for at most so many seconds
-(10). There is a worker for each connection. load.c sends and measures, for all servers alike. The peer (peer.rs) is a plain host of the same
-job; fixed.c answers every request with the first answer that the host gave in that mix, so as many bytes over the same sockets.
+Each connection sends its requests one after another, each after the answer of the one before, and at last with 16 of them in flight:
+N of them (20,000), for at most so many seconds (10). There is a worker for each connection. load.c sends and measures, for all servers
+alike. The peer (peer.rs) is a plain host of the same job; fixed.c answers every request with the first answer that the host gave in that
+mix, so as many bytes over the same sockets.
 """
 import argparse
 import os
@@ -37,10 +38,12 @@ MIXES = [
     ("lists of 600 places", catalogue(1, 2, 600), lambda connection, number: lists(number)),
     ("offers", catalogue(400, 10, 600), lambda connection, number: offers(number)),
 ]
+# Connections, and how many requests of each are in flight.
+LOADS = [(1, 1), (2, 1), (4, 1), (4, 16)]
 MOST_ROWS = 262_144
 # The host ends at a tick of its sweeping member, so this is how long its end may take; one sweep in so many seconds is part of the load.
 SWEEP_SECONDS = 3
-TITLES = ("mix", "connections", "answers/s", "by the peer", "by fixed text", "p50 us", "p90", "p99", "greatest", "peer p50", "fixed p50", "refused", "memory MB")
+TITLES = ("mix", "connections", "in flight", "answers/s", "by the peer", "by fixed text", "p50 us", "p90", "p99", "greatest", "peer p50", "fixed p50", "refused", "memory MB")
 
 
 def built(folder, name):
@@ -79,12 +82,12 @@ def ended(server):
     sys.exit("the server doesn't end")
 
 
-def loaded(words, port, load, seconds, files):
+def loaded(words, port, load, files):
     """What the load printed of a server that these words start, and the server's greatest memory."""
     server = subprocess.Popen(words, stdin=subprocess.DEVNULL, stdout=subprocess.DEVNULL)
     try:
         wait_for(port, server)
-        told = subprocess.run([load, str(port), str(seconds)] + files, capture_output=True, text=True)
+        told = subprocess.run(load[:1] + [str(port)] + load[1:] + files, capture_output=True, text=True)
         if told.returncode != 0:
             sys.exit("load: %s" % told.stderr)
         return [float(number) for number in told.stdout.split()], ended(server)
@@ -105,7 +108,8 @@ def measure(program, peer, folder, load, fixed, number, seconds):
         rows = min(MOST_ROWS, 4 * number)
         (folder / "catalogue.json").write_text(text.replace('"rows":65536', '"rows":%d' % rows))
         (folder / "answer").write_bytes(first_answer(program, folder, next(iter(mix(0, 1)))))
-        for connections in [1, 2, 4]:
+        for connections, depth in LOADS:
+            way = [load, str(seconds), str(depth)]
             files = []
             for connection in range(connections):
                 file = folder / ("requests%d" % connection)
@@ -114,16 +118,17 @@ def measure(program, peer, folder, load, fixed, number, seconds):
                 files.append(str(file))
             port = free_port()
             ours = [program, "serve", str(folder / "catalogue.json"), "--port", str(port), "--workers", str(connections)]
-            told, memory = loaded(ours + ["--connections", str(connections), "--sweep", str(SWEEP_SECONDS)], port, load, seconds, files)
+            told, memory = loaded(ours + ["--connections", str(connections), "--sweep", str(SWEEP_SECONDS)], port, way, files)
             port = free_port()
             theirs = [peer, "serve", str(folder / "catalogue.json"), str(port), str(connections), str(connections)]
-            plain, _ = loaded(theirs, port, load, seconds, files)
+            plain, _ = loaded(theirs, port, way, files)
             port = free_port()
-            text_alone, _ = loaded([fixed, str(port), str(connections), str(connections), str(folder / "answer")], port, load, seconds, files)
+            text_alone, _ = loaded([fixed, str(port), str(connections), str(connections), str(folder / "answer")], port, way, files)
             rate = told[0] / told[2]
             yield (
                 label,
                 connections,
+                depth,
                 "%.0f" % rate,
                 "%.2f" % (rate * plain[2] / plain[0]),
                 "%.2f" % (rate * text_alone[2] / text_alone[0]),

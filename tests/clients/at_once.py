@@ -40,9 +40,9 @@ def connect(port, limit=20.0):
             time.sleep(0.1)
 
 
-def request(line, body=b"", last=False):
+def request(line, body=b"", last=False, key=b"north"):
     close = b"Connection: close\r\n" if last else b""
-    head = line + b" HTTP/1.1\r\nRetailer-Key: north\r\n" + close + b"Content-Length: %d\r\n\r\n" % len(body)
+    head = line + b" HTTP/1.1\r\nRetailer-Key: " + key + b"\r\n" + close + b"Content-Length: %d\r\n\r\n" % len(body)
     return head + body
 
 

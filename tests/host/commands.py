@@ -12,6 +12,7 @@ import struct
 import subprocess
 import sys
 import tempfile
+import time
 from datetime import datetime, timedelta
 
 SECONDS = 60
@@ -20,6 +21,7 @@ READ_FAULT = "rail_host: read fault\n"
 WRITE_FAULT = "rail_host: write fault\n"
 NO_MEMORY = "rail_host: no memory\n"
 LARGEST = 33_554_432
+LARGEST_EXPORT = 268_435_456
 EXAMPLE = os.path.join(os.path.dirname(__file__), "..", "..", "examples", "k1.json")
 
 TINY = b'POST /reservations HTTP/1.1\r\nHost: h\r\nContent-Length: 17\r\n\r\n{"from":0,"to":2}'
@@ -45,12 +47,20 @@ MISSING = [
     "serve nothere.json --port 8080", "serve --port=1 nothere.json",
     "serve nothere.json --sweep 1 --connections 1 --workers 1 --port 65535",
     "serve nothere.json --port +7 --workers 016 --connections=4294967295 --sweep=86400",
-    "serve --port 80 -- --sweep",
+    "serve --port 80 -- --sweep", "serve --export nothere.json --port 80", "serve nothere.json --from nothere.txt --port 80",
+    "serve nothere.json --export --from= --port 80", "serve --port 80 --export -- nothere.json",
+]
+
+# Words that name an export that isn't there, beside a catalogue that is.
+WITHOUT_EXPORT = [
+    "serve k1.json --port 80 --from nothere.txt", "serve --from=nothere.txt --export --port=80 k1.json", "serve k1.json --port 80 --from ''",
+    "serve k1.json --port 80 --from -", "serve k1.json --port 80 --from=-x --export",
+    "replay k1.json --from nothere.txt", "export --from=nothere.txt k1.json", "settle k1.json --help",
 ]
 
 WORDS_REFUSED = [
     "", "help", "--help", "--version", "Tiny 3 2", "exports k1.json", "settle", "settle k1.json", "settle k1.json x y",
-    "export", "export k1.json k2.json", "export k1.json --from", "replay k1.json --from x --from x", "serve k1.json --port 80 --from x",
+    "export", "export k1.json k2.json", "export k1.json --from", "replay k1.json --from x --from x", "replay k1.json --export",
     "tiny", "tiny 3", "tiny 3 2 1", "tiny 0 2", "tiny 127 2", "tiny 03 2", "tiny +3 2", "tiny 3 0", "tiny 3 1201", "tiny 3 x",
     "tiny '' 2", "replay", "replay --help", "replay -h", "replay k1.json --help", "replay --version", "replay k1.json -V",
     "replay k1.json k2.json", "replay k1.json --tick", "replay k1.json --tick -5", "replay k1.json --tick=-5",
@@ -63,7 +73,9 @@ WORDS_REFUSED = [
     "serve k1.json --port 80 --port 81", "serve k1.json --port 80 --workers 0", "serve k1.json --port 80 --workers 17",
     "serve k1.json --port 80 --connections 0", "serve k1.json --port 80 --connections 4294967296",
     "serve k1.json --port 80 --sweep 0", "serve k1.json --port 80 --sweep 86401", "serve k1.json --port 80 --tick 1",
-    "serve k1.json --port 80 --help", "serve --help", "serve -V",
+    "serve k1.json --port 80 --help", "serve --help", "serve -V", "serve k1.json --port 80 --from", "serve k1.json --port 80 --from --export",
+    "serve k1.json --port 80 --from x --from x", "serve k1.json --port 80 --export --export", "serve k1.json --port 80 --export=",
+    "serve k1.json --port 80 --export=true", "serve k1.json --port 80 --export true", "serve k1.json --port 80 --exp", "serve --export --port 80",
     "drill", "drill --help", "drill --seed 7 --workers 4 --size 40", "drill --seed 7 --workers 4 --places 30",
     "drill --seed 7 --size 40 --places 30", "drill --workers 4 --size 40 --places 30",
     "drill --seed 65536 --workers 4 --size 40 --places 30", "drill --seed 7 --workers 0 --size 40 --places 30",
@@ -92,6 +104,18 @@ CATALOGUES = [
     ("\"fee\":2500", "\"fee\":10001", "catalogue fault 5"),
     ("{\"station\":\"THUN\"", "{\"station\":\"SPIEZ\"", "catalogue fault 6"),
     ("\"south\"", "\"north\"", "catalogue fault 7"),
+]
+
+# Lines of an export for the example, and the note on it.
+FIRST_LINE = "rail-export 1 18 65536\n"
+SOLD_LINE = "row 0 0 C 1 1780294500 800 1 4.1.2\n"
+EXPORTS = [
+    (FIRST_LINE + SOLD_LINE, "export fault 1"),
+    (FIRST_LINE + SOLD_LINE + "end 2\n", "export fault 1"),
+    ("rail-export 1 17 65536\n" + SOLD_LINE + "end 1\n", "export fault 2"),
+    (FIRST_LINE + SOLD_LINE.replace("4.1.2", "4.1.3") + "end 1\n", "export fault 3"),
+    (FIRST_LINE + SOLD_LINE + SOLD_LINE.replace("row 0", "row 1") + "end 2\n", "export fault 4"),
+    (FIRST_LINE + SOLD_LINE.replace("C", "x").replace("\n", " p0 0 0.0\n") + "end 1\n", "export fault 5"),
 ]
 
 TEXTS = [
@@ -127,7 +151,10 @@ class Runs:
             devices["input"] = data
         for name in ("stdout", "stderr"):
             devices.setdefault(name, subprocess.PIPE)
-        done = subprocess.run([self.program] + words_of(line), cwd=self.folder, timeout=SECONDS, preexec_fn=limit, **devices)
+        try:
+            done = subprocess.run([self.program] + words_of(line), cwd=self.folder, timeout=SECONDS, preexec_fn=limit, **devices)
+        except subprocess.TimeoutExpired:
+            return "no end in %d s" % SECONDS, b"", ""
         return done.returncode, done.stdout or b"", (done.stderr or b"").decode()
 
     def check(self, title: str, got, wanted):
@@ -154,6 +181,8 @@ def words(runs: Runs):
         runs.check(line, runs.run(line, TINY), (2, b"", REFUSED))
     for line in MISSING:
         runs.check(line, runs.run(line, TINY), (1, b"", "rail_host: catalogue missing\n"))
+    for line in WITHOUT_EXPORT:
+        runs.check(line, runs.run(line, TINY), (1, b"", "rail_host: export missing\n"))
     for line, start, tick in REPLAYS:
         status, output, note = runs.run(line, RESERVES * 2)
         wanted = [moment(start + 900), moment(start + tick + 900)]
@@ -179,6 +208,63 @@ def catalogues(runs: Runs):
     os.mkdir(os.path.join(runs.folder, "folder"))
     for line in ("replay folder", "serve folder --port 8080"):
         runs.check(line + ", which is no file", runs.run(line, RESERVES), (3, b"", READ_FAULT))
+
+
+def exports(runs: Runs):
+    """Exports that are refused, and one that is served: all that a host sold, written to its notes."""
+    for number, (text, note) in enumerate(EXPORTS):
+        runs.write("wrong.txt", text.encode("ascii"))
+        for line in ("serve k1.json --port 8080 --from wrong.txt --export", "replay k1.json --from wrong.txt"):
+            runs.check("export %d: %s" % (number, line), runs.run(line), (1, b"", "rail_host: %s\n" % note))
+    os.truncate(os.path.join(runs.folder, "wrong.txt"), LARGEST_EXPORT + 1)
+    line = "serve k1.json --port 8080 --from wrong.txt"
+    runs.check("a large export", runs.run(line), (1, b"", "rail_host: export too large\n"))
+    runs.check("a folder as an export", runs.run("serve k1.json --port 8080 --from folder"), (3, b"", READ_FAULT))
+    text = FIRST_LINE + SOLD_LINE + "end 1\n"
+    runs.write("x.txt", text.encode("ascii"))
+    for words, wanted in [("--from x.txt --export", text), ("--from x.txt", ""), ("--export", FIRST_LINE + "end 0\n")]:
+        runs.check("serve " + words, served_once(runs, words), (0, b"", wanted))
+    for status, device in notes_that_fail():
+        runs.check("serve --export: notes that fail, " + status, served_once(runs, "--from x.txt --export", device)[:2], (4, b""))
+        runs.check("serve: notes that fail, " + status, served_once(runs, "--from x.txt", device)[:2], (0, b""))
+        os.close(device)
+
+
+def notes_that_fail():
+    """A device that is full, and a pipe that nobody reads."""
+    yield "a full device", os.open("/dev/full", os.O_WRONLY)
+    reading, writing = os.pipe()
+    os.close(reading)
+    yield "a pipe that nobody reads", writing
+
+
+def served_once(runs: Runs, words: str, notes=subprocess.PIPE) -> tuple:
+    """A host of one connection that says nothing: its status, its output and its notes."""
+    runs.count += 1
+    port = free_port()
+    line = "serve k1.json --port %d --connections 1 --sweep 1 %s" % (port, words)
+    host = subprocess.Popen([runs.program] + words_of(line), cwd=runs.folder, stdout=subprocess.PIPE, stderr=notes)
+    try:
+        say_nothing(host, port)
+        output, said = host.communicate(timeout=SECONDS)
+    finally:
+        host.kill()
+        host.communicate()
+    return host.returncode, output, (said or b"").decode()
+
+
+def free_port() -> int:
+    with socket.create_server(("127.0.0.1", 0)) as free:
+        return free.getsockname()[1]
+
+
+def say_nothing(host, port: int):
+    """A connection, as soon as the host listens, that is closed at once."""
+    while host.poll() is None:
+        try:
+            return socket.create_connection(("127.0.0.1", port), timeout=SECONDS).close()
+        except ConnectionRefusedError:
+            time.sleep(0.05)
 
 
 def inputs(runs: Runs):
@@ -254,7 +340,7 @@ def memories(runs: Runs):
 def main() -> int:
     with tempfile.TemporaryDirectory() as folder:
         runs = Runs(sys.argv[1], folder)
-        for part in (catalogues, words, drills, inputs, outputs, broken_input, listeners, memories):
+        for part in (catalogues, words, exports, drills, inputs, outputs, broken_input, listeners, memories):
             part(runs)
     for difference in runs.differences:
         print(difference)

@@ -8,11 +8,15 @@ twice: with that one refused, and with that one and all later ones. What may com
 - no memory: status 5 with its note, and nothing is written; or
 - every answer is written, and each is the one that the model gives, where a request that is answered 500 changed nothing.
 
+`export` of the usual life with a cut request behind it then runs with each allocation refused. It writes nothing, and
+ends with status 5 just where the export of the same requests without the cut does, else with that of a cut input.
+
 It needs cc and glibc: `refuse.c` stands before the C library and refuses. --checked tries `rt try --fail-alloc` for
 these numbers in their place, which builds the program without proofs and with checks; a minute for each number.
 """
 import argparse
 import collections
+import copy
 import os
 import pathlib
 import struct
@@ -31,6 +35,7 @@ from stages import cases, files_of, input_of  # noqa: E402
 SECONDS = 60
 NAMES = ["usual-life", "exchange"]
 NO_MEMORY = b"rail_host: no memory\n"
+CUT = b"rail_host: input cut\n"
 LOOKS = b"".join(b"GET %s HTTP/1.1\r\nRetailer-Key: north\r\n\r\n" % path
                  for path in (b"/runs/0/places/BASEL/BERN", b"/runs/1/places/BERN/THUN"))
 
@@ -131,6 +136,25 @@ def sweep(refuser: Refuser, run: Run) -> collections.Counter:
     return kinds
 
 
+def sweep_cut(refuser: Refuser, run: Run) -> collections.Counter:
+    """Exports the requests with and without a cut behind them, and refuses each allocation of the first in both."""
+    whole, cut = copy.copy(run), copy.copy(run)
+    whole.words = cut.words = ["export", *run.words[1:]]
+    cut.data = run.data + b"GET /"
+    *end, all_calls = refuser.run(cut, 0, False)
+    if end != [b"", 6, CUT]:
+        raise Differs("%s, cut: %r" % (run.name, end))
+    kinds = collections.Counter()
+    for refused in range(1, all_calls + 1):
+        short = refuser.run(whole, refused, False)[1] == 5
+        *end, _ = refuser.run(cut, refused, False)
+        if end != ([b"", 5, NO_MEMORY] if short else [b"", 6, CUT]):
+            raise Differs("%s, cut, allocation %d of %d: %r" % (run.name, refused, all_calls, end))
+        kinds["no memory" if short else "input cut"] += 1
+    print("%s, cut, exported with each of %d allocations refused alone: %s" % (run.name, all_calls, dict(kinds)))
+    return kinds
+
+
 def try_checked(run: Run, folder: pathlib.Path, first: int, last: int):
     """The same by `rt try`, whose notes stand among its own lines."""
     data = [word for name, text in run.files.items() for word in ("--data", "%s=%s" % (name, folder / name))
@@ -159,6 +183,7 @@ def main() -> int:
             refuser = Refuser(given.program, pathlib.Path(folder))
             for run in runs:
                 kinds += sweep(refuser, run)
+            kinds += sweep_cut(refuser, runs[-1])
     except Differs as differs:
         print(differs)
         return 1

@@ -1,4 +1,4 @@
-"""`serve` over real sockets: idle and stalled connections, refusals of long bodies, want of file handles, and its end.
+"""`serve` over real sockets: idle and stalled connections, requests sent ahead, refusals of long bodies, want of file handles, and its end.
 
   sockets.py PROGRAM
 
@@ -160,6 +160,31 @@ def refusals(program: str):
         host.end()
 
 
+def ahead(program: str):
+    """Requests that come together are answered in order, and all that are whole before the host waits for the rest of the next one."""
+    with Host(program, 1, 1) as host:
+        client = host.connect()
+        for count in [1, 40, 400]:
+            client.sendall(ASKS * count + HALF)
+            answers = b""
+            while answers.count(UNKNOWN) < count:
+                piece = client.recv(65_536)
+                expect(piece != b"", "the connection ended behind %d answers" % answers.count(UNKNOWN))
+                answers += piece
+            first = answers[:answers.index(UNKNOWN)] + UNKNOWN
+            expect(answers == first * count, "there are other answers than those of %d requests" % count)
+            client.sendall(REST)
+            read_answer(client, UNKNOWN)
+        client.sendall(ASKS * 3)
+        client.shutdown(socket.SHUT_WR)
+        answers = b""
+        while piece := client.recv(65_536):
+            answers += piece
+        expect(answers == first * 3, "there are other answers than those of the last 3 requests")
+        client.close()
+        host.end()
+
+
 def handles(program: str):
     """With six handles of files two connections are open at once; a third one waits until one of them has ended."""
     with Host(program, 6, 4, handles=6) as host:
@@ -201,7 +226,7 @@ def ticks(program: str):
 
 def main() -> int:
     program = os.path.abspath(sys.argv[1])
-    parts = [ticks, refusals, handles, time_limits]
+    parts = [ticks, refusals, ahead, handles, time_limits]
     for part in parts:
         try:
             part(program)

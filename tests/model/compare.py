@@ -166,6 +166,7 @@ class Met:
             self.counts["catalogue", " ".join(note.split(" ")[1:4])] += 1
         if note.startswith("rail_host: export"):
             self.counts["export", note.partition(": ")[2]] += 1
+            self.counts["no export for", command] += 1
         if command == "export" and outcome.status == 0:
             for line in outcome.output.decode("ascii").split("\n")[1:-2]:
                 self.counts["line", line.split(" ")[3]] += 1
@@ -244,6 +245,7 @@ class Met:
         wanted += [("export", "export fault %d" % number) for number in range(1, 6)]
         wanted += [("line", letter) for letter in "PCFrefx"] + [("line of", "a row kept"), ("line of", "a booking")]
         wanted += [("begun with an export", command) for command in ("replay", "export")]
+        wanted += [("no export for", command) for command in ("replay", "export", "settle", "serve")]
         wanted += [("command", "%s %d" % ended) for ended in (("tiny", 0), ("tiny", 2), ("tiny", 6), ("replay", 0), ("replay", 1),
                                                               ("replay", 2), ("replay", 6), ("drill", 0), ("drill", 2),
                                                               ("export", 0), ("export", 1), ("export", 2), ("export", 6),

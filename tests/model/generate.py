@@ -136,7 +136,7 @@ def tiny_case(rng: random.Random, name: str) -> Case:
 
 
 def words_case(rng: random.Random, name: str) -> Case:
-    """Words of every command, mostly refused. A serve never gets as far as a listener."""
+    """Words of every command, mostly refused. A serve never gets as far as a listener, for want of a catalogue or an export."""
     start = random_start(rng)
     data = catalogue_bytes(rng, random_catalogue(rng, start, 0))
     make = rng.choice([replay_wrong_words, replay_wrong_words, drill_words, serve_words, serve_words, tiny_wrong_words, settle_words,
@@ -213,12 +213,17 @@ def drill_words(rng: random.Random, _start: int) -> list:
 
 
 def serve_words(rng: random.Random, _start: int) -> list:
-    options = [["nothere.json"], option_words(rng, "--port", number_word(rng, 1, 65_535, 65_535))]
+    has_catalogue = chance(rng, 0.3)
+    options = [["k.json" if has_catalogue else "nothere.json"], option_words(rng, "--port", number_word(rng, 1, 65_535, 65_535))]
     for name, low, high, small in (("--workers", 1, 16, 16), ("--connections", 1, 4_294_967_295, 9), ("--sweep", 1, 86_400, 86_400)):
         if chance(rng, 0.5):
             options.append(option_words(rng, name, number_word(rng, low, high, small)))
     if chance(rng, 0.3):
-        options.append(rng.choice([["--export"], ["--export"], ["--export=1"], ["--export", "x"]]))
+        options.append(rng.choice([["--export"], ["--export"], ["--export"], ["--export=1"], ["--export="], ["--export", "x"]]))
+    if has_catalogue:
+        options.append(option_words(rng, "--from", rng.choice(["nothere.txt", "nothere.txt", "k.json"])))
+        rng.shuffle(options)
+        return ["serve"] + [word for option in options for word in option]
     if chance(rng, 0.3):
         options.append(option_words(rng, "--from", "nothere.txt"))
     return [word for word in shuffled(rng, "serve", options) if word != "k.json"]

@@ -4,7 +4,8 @@
 
 What one retailer sold is there for the next one, who tries the same ids. The second at which a request is answered isn't known
 beforehand: the model is asked at each one from before the request went out until its answer was there, and has to give the
-answer at one of them. A connection sends its next request only then.
+answer at one of them. A connection sends its next request only then. Each host ends with an export, which has to be the model's,
+and a second one begins with it.
 """
 import argparse
 import collections
@@ -22,6 +23,7 @@ import service
 import wire
 from bookings import Books
 from catalogue import Catalogue, read_catalogue
+from export import read_export, write_export
 from random_catalogues import catalogue_bytes, random_catalogue
 from random_requests import ACTIONS, Stream
 
@@ -141,9 +143,9 @@ def sellable_catalogue(rng: random.Random) -> bytes:
     return catalogue_bytes(rng, catalogue)
 
 
-def sell(rng: random.Random, catalogue: Catalogue, port: int, connections: int) -> collections.Counter:
-    """So many connections, each with a few requests. How often each status was answered."""
-    statuses, stream = collections.Counter(), None
+def sell(rng: random.Random, catalogue: Catalogue, port: int, connections: int, stream: Stream) -> tuple:
+    """So many connections, each with a few requests. How often each status was answered, and the last of them."""
+    statuses = collections.Counter()
     for _ in range(connections):
         stream = LiveStream(rng, catalogue, Connection(port), stream)
         for _ in range(rng.choice([5, 15, 30])):
@@ -151,7 +153,7 @@ def sell(rng: random.Random, catalogue: Catalogue, port: int, connections: int) 
                 rng.choices([action for action, _ in ACTIONS], [weight for _, weight in ACTIONS])[0](stream)
         stream.connection.close(stream.closed)
         statuses += stream.statuses
-    return statuses
+    return statuses, stream
 
 
 def free_port() -> int:
@@ -166,25 +168,44 @@ def free_port() -> int:
     raise OSError("no port is free")
 
 
+def run_host(program: str, rng: random.Random, folder: str, catalogue: Catalogue, before: Stream) -> tuple:
+    """One host from its start to its end, behind the last connection of one before it: how often each status was answered, and its
+    own last connection."""
+    connections, port = rng.randint(2, 6), free_port()
+    words = ["serve", "k.json", "--port", str(port), "--workers", "1", "--connections", str(connections), "--sweep", "1", "--export"]
+    if before is not None:
+        words += ["--from", "x.txt"]
+    host = subprocess.Popen([program] + words, cwd=folder, stdout=subprocess.PIPE, stderr=subprocess.PIPE)
+    try:
+        statuses, stream = sell(rng, catalogue, port, connections, before)
+        output, notes = host.communicate(timeout=LIMIT_SECONDS)
+    finally:
+        host.kill()
+        host.communicate()
+    wanted = write_export(stream.host.books)
+    if (output, notes, host.returncode) != (b"", wanted, 0):
+        raise Difference("it ended with status %r, %r and %r\nmodel %r" % (host.returncode, output, notes, wanted))
+    return statuses, stream
+
+
 def run(program: str, seed: int) -> collections.Counter:
-    """One host from its start to its end."""
+    """Two hosts, of which the second begins with the export of the first."""
     rng = random.Random(seed)
     data = sellable_catalogue(rng)
-    connections, port = rng.randint(2, 8), free_port()
-    with tempfile.NamedTemporaryFile(suffix=".json") as file:
+    catalogue = read_catalogue(data)
+    with tempfile.TemporaryDirectory() as folder:
+        write(folder, "k.json", data)
+        statuses, stream = run_host(program, rng, folder, catalogue, None)
+        text = write_export(stream.host.books)
+        write(folder, "x.txt", text)
+        stream.host.books = Books(catalogue)
+        stream.host.books.bookings = read_export(catalogue, text)
+        return statuses + run_host(program, rng, folder, catalogue, stream)[0]
+
+
+def write(folder: str, name: str, data: bytes):
+    with open(os.path.join(folder, name), "wb") as file:
         file.write(data)
-        file.flush()
-        words = ["serve", file.name, "--port", str(port), "--workers", "1", "--connections", str(connections), "--sweep", "1"]
-        host = subprocess.Popen([program] + words, stdout=subprocess.PIPE, stderr=subprocess.PIPE)
-        try:
-            statuses = sell(rng, read_catalogue(data), port, connections)
-            output, notes = host.communicate(timeout=LIMIT_SECONDS)
-        finally:
-            host.kill()
-            host.communicate()
-    if (output, notes, host.returncode) != (b"", b"", 0):
-        raise Difference("it ended with status %r, %r and %r" % (host.returncode, output, notes))
-    return statuses
 
 
 def main() -> int:
@@ -201,7 +222,7 @@ def main() -> int:
             print("seed %d: %s" % (seed, difference))
             return 1
     print("  " + ", ".join("%d %d" % entry for entry in sorted(statuses.items())))
-    print("%d hosts with %d answers compared, 0 differ" % (given.seeds, sum(statuses.values())))
+    print("%d hosts with %d answers and %d exports compared, 0 differ" % (2 * given.seeds, sum(statuses.values()), 2 * given.seeds))
     return 0
 
 

@@ -123,13 +123,15 @@ def run_drill(words: list) -> Outcome:
 
 
 def run_serve(words: list, files: dict) -> Outcome:
-    """Only what is answered before a listener is asked for: refused words, and a catalogue that is refused."""
-    names, options = read_simple_command(words, ["--port", "--workers", "--connections", "--sweep"], 1)
+    """Only what is answered before a listener is asked for: refused words, and a catalogue or an export that is refused."""
+    names, options = read_simple_command(words, ["--port", "--workers", "--connections", "--sweep", "--from"], 1, ["--export"])
     option_number(options, "--port", 1, 65_535)
     option_number(options, "--workers", 1, 16, 4)
     option_number(options, "--connections", 1, 4_294_967_295, 4_294_967_295)
     option_number(options, "--sweep", 1, 86_400, 30)
-    fetch_catalogue(names[0], files)
+    catalogue = fetch_catalogue(names[0], files)
+    if "--from" in options:
+        fetch_export(options["--from"], files, catalogue)
     raise NotImplementedError("a listener is no part of this model")
 
 
@@ -152,11 +154,11 @@ def option_number(options: dict, name: str, low: int, high: int, default: int = 
     return int(word)
 
 
-def read_simple_command(words: list, known: list, positionals: int) -> tuple:
+def read_simple_command(words: list, known: list, positionals: int, flags: list = ()) -> tuple:
     """The words that are no options, and the options by name.
 
     An option is `--name value` or `--name=value`, at most once, and a value that stands as a word of its own doesn't
-    begin with a dash unless it is the dash alone. After `--` no word is an option.
+    begin with a dash unless it is the dash alone. A flag is `--name`, at most once. After `--` no word is one of these.
     """
     names, options, at, only_names = [], {}, 0, False
     while at < len(words):
@@ -168,9 +170,9 @@ def read_simple_command(words: list, known: list, positionals: int) -> tuple:
             only_names = True
         else:
             name, equals, value = word.partition("=")
-            if name not in known or name in options:
+            if name not in known and word not in flags or name in options:
                 raise WordsRefused()
-            if not equals:
+            if not equals and name in known:
                 if at == len(words) or (words[at].startswith("-") and words[at] != "-"):
                     raise WordsRefused()
                 value = words[at]

@@ -60,6 +60,11 @@ OPERATION = [
     r"[0-9a-f]{64}  ",
     r"north 404\nsouth 404\neast 401\nnorth 404\nsouth 404\n",
     r"pool=unkept .*\n.*pool=retailer_1 .*\n.*pool=retailer_2 ",
+    r'"id":"B000000".*"status":"PREBOOKED"',
+    r'"id":"B000000".*"status":"CONFIRMED"',
+    r"end 1\n",
+    r'"id":"B000000".*"status":"CONFIRMED"',
+    r"the same bookings\nretailer,bookings,live,sold,refunded,exchanged\n1,1,1,2200,0,0\nforgotten,0,0,0,0,0",
 ]
 
 

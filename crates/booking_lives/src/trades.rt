@@ -528,7 +528,8 @@ fn adds_three(
     requires own { IsOf books.now desk.old }
     requires hold { IsHolding desk.old hold.old }
     requires noted { HasNotedItems desk.old hold.old }
-    requires places { All (λ p. (p.0 < length books.now.layout.legs) × (legs ≤ slice_index books.now.layout.legs p.0)) candidates.now }
+    requires places { All
+        (λ p. (p.0 < length books.now.layout.legs) × (legs ≤ slice_index books.now.layout.legs p.0)) candidates.now }
     ensures own { IsOf books.now desk.new }
     ensures hold { IsHolding desk.new hold.new }
     ensures noted { HasNotedItems desk.new hold.new }

@@ -5,3 +5,4 @@ pub mod CloseLemmas
 pub mod ViewLemmas
 pub mod TurnLemmas
 pub mod Looked
+pub mod Ended

@@ -15,7 +15,7 @@ use Rattle.rail_ids.specs.Spelling.{last_generation}
 use Rattle.history_model.specs.Laws.{IsSound}
 use Rattle.history_model.specs.Allows.{IsNoRowWord}
 use Rattle.history_model.proofs.Generations.{and_both}
-use Rattle.history_model.proofs.Owners.{taken_stays}
+use Rattle.history_model.proofs.Owners.{phase_some, taken_stays}
 use Rattle.history_model.proofs.Ranges.{all_found}
 use Rattle.history_model.proofs.PhaseWords.{said_none, said_found}
 use Rattle.history_model.proofs.Writing.{word_in}
@@ -28,7 +28,7 @@ use Rattle.claim_rule.specs.Seats.{Shape, Stepped, AreTaken}
 use Rattle.claim_rule.proofs.Shapes.{step_shape, shape_then, shape_rest, shape_none}
 use Rattle.claim_rule.proofs.Reading.{saw}
 use Rattle.std.specs.List.{AllByRecursion}
-use Rattle.booking_rows.specs.Starts.{row_looks, AllSome, Misses, misses_steps, AreMisses, AreMissesFrom, IsLeastFree, IsFull, MakesNone, StartsHold, StartsAgain, StartsNone, Finds, FindsAgain, first_of, is_startable, Passed, IsPassed, Passes, Restarts, passed_steps, search_steps, IsNextOf, HasNext}
+use Rattle.booking_rows.specs.Starts.{row_looks, AllSome, Misses, misses_steps, AreMissesFrom, IsLeastFree, IsFull, MakesNone, StartsHold, StartsAgain, StartsNone, Finds, FindsAgain, first_of, is_startable, Passed, IsPassed, Passes, Restarts, passed_steps, search_steps, IsNextOf, HasNext, LearnsFull}
 use Rattle.std.specs.Prelude.{IsSome, option_map}
 use Rattle.std.proofs.Common.{◌-◌, ◌*◌, ◌/◌, ◌%◌, ◌&&◌, nat_lt, Bool, true, false, not, ne_eqb, inl, inr, append-nil, append_assoc}
 use Rattle.history_model.specs.Booking.{Layout}
@@ -55,15 +55,6 @@ stage_on st old new r legal did was =
     let x = shape_rest old new (st ∷ []) (step_shape st old new did) in
     let up = taken_stays old.layout (state_of old.layout old.seen) (step_shape st old new did).front.0 r (is_sound old.layout old.seen legal) x.0 was in
     subst (λ (s : State). 1 ≤ stage (phase_of_row s r)) (sym x.2) up
-
-phase_some : (ph : Phase) → (ph ≡ Free → ⊥) → 1 ≤ stage ph
-phase_some Free n = absurd (n refl)
-phase_some Making n = omega arith
-phase_some Prebooked n = omega arith
-phase_some Confirmed n = omega arith
-phase_some Fulfilled n = omega arith
-phase_some (Ending k) n = omega arith
-phase_some (Ended k) n = omega arith
 
 pub taken_now : (r n : ℕ) (old new : DeskView) → n ≢ 0 → Stepped (SawRow r 0 n) old new → 1 ≤ stage (phase_of_row (state_of new.layout new.seen) r)
 taken_now r n old new some did = go (present s r) refl
@@ -214,7 +205,7 @@ found_entries old new hold none kept taken f =
         makes_none old none kept,
         f.2,
         least_free new hold.row.row taken (subst (λ (n : ℕ). hold.row.row ≤ n) (sym f.3) (more hold.row.row)),
-        (misses, are_misses 0 old.past hold.row.row ns (omega arith) (same_le (old.past + length ns) hold.row.row f.4.1) f.4.2, refl),
+        (misses, are_misses old.past old.past hold.row.row ns (omega arith) (same_le (old.past + length ns) hold.row.row f.4.1) f.4.2, refl),
       )),
       subst (λ (l : List Step). Shape old new (l ++ Start hold.row.row 0 ∷ [])) (steps_of old.past ns) f.4.3,
     )
@@ -232,7 +223,7 @@ again_entries old mid new result none kept taken front layout f g =
     let ns = f.2.0 in
     let misses = misses_of old.past ns in
     let rows : new.layout.rows ≡ old.layout.rows = ap (λ (l : Layout). l.rows) layout in
-    let all : AreMisses new.layout.rows misses = are_misses 0 old.past new.layout.rows ns (omega arith) (le_sum (old.past + length ns) old.layout.rows new.layout.rows f.2.1 rows) f.2.2 in
+    let all : AreMissesFrom old.past new.layout.rows misses = are_misses old.past old.past new.layout.rows ns (omega arith) (le_sum (old.past + length ns) old.layout.rows new.layout.rows f.2.1 rows) f.2.2 in
     let first : Shape old mid (misses_steps misses) = subst (Shape old mid) (steps_of old.past ns) f.2.3 in
     ends misses all first result g
   where
@@ -245,7 +236,7 @@ again_entries old mid new result none kept taken front layout f g =
     full : new.past ≡ mid.past → IsFull new
     full e = least_free new new.layout.rows taken (le_of new.layout.rows old.layout.rows new.past mid.past (ap (λ (l : Layout). l.rows) layout) f.1 e)
 
-    ends : (misses : Misses) → AreMisses new.layout.rows misses → Shape old mid (misses_steps misses) → (result : Option HoldView) → FindsAgain mid new result → ShapeBy (StartsHold old new (option_map (λ (h : HoldView). h.row) result)) old new
+    ends : (misses : Misses) → AreMissesFrom old.past new.layout.rows misses → Shape old mid (misses_steps misses) → (result : Option HoldView) → FindsAgain mid new result → ShapeBy (StartsHold old new (option_map (λ (h : HoldView). h.row) result)) old new
     ends misses all first (Some hold) g = (
       misses_steps misses ++ g.3.0,
       inr (inr (makes_none old none kept, full g.2, (misses, g.3.0, all, g.3.1, refl))),
@@ -446,3 +437,9 @@ no_word word none = false_from_ne_true (is_startable word) (λ t.
 
     whole : (ph : Phase) → word_of_phase ph ≡ word % 16 → row_word_of ph (word / 16) ≡ word
     whole ph e = omega (arith, e)
+
+-- a second search, behind one that found no free row, leaves the desk knowing that all are in use
+pub learns_full : (old mid new : DeskView) (result : Option HoldView) → mid.layout ≡ old.layout → new.layout ≡ old.layout → Finds old mid None → FindsAgain mid new result → (first : DeskView)
+    → LearnsFull first new (option_map (λ (h : HoldView). h.row) result)
+learns_full old mid new (Some hold) at to f g first = λ _ _. g.2 ∙ (f.1 ∙ sym (ap (λ (l : Layout). l.rows) to))
+learns_full old mid new None at to f g first = g.1 ∙ (f.1 ∙ sym (ap (λ (l : Layout). l.rows) to))

@@ -1,6 +1,7 @@
 -- What looks at the words of a sealed booking's row show.
 use Rattle.std.proofs.Common.{◌≡◌, ℕ, zero, suc, ◌+◌, ◌<◌, ◌≤◌, min, ℤ, pos, negsuc, ◌≤ℤ◌, ⊎_elim, List, [], ◌∷◌, ◌++◌, map, take, drop, length, get_or, slice_index, All, Bool, true, false, cond, Option, Some, None, IsSomeAnd, inr, refl, sym, ap, ◌∙◌, subst, arith, length-append, eqb, ne_eqb}
 use Rattle.std.proofs.lemmas.Int.{ints}
+use Rattle.std.proofs.lemmas.List.{get_or-take, get_or-drop}
 use Rattle.std.specs.List.{AllByRecursion}
 use Rattle.std.proofs.lemmas.List.{length-map}
 use Rattle.leg_masks.specs.Interval.{item_word, most_places, most_legs}
@@ -138,17 +139,6 @@ count_fits row v old new did on now =
 
 -- a word of an item
 
-get_take : (n k : ℕ) (ws : List ℕ) → k < n → get_or (take n ws) k 0 ≡ get_or ws k 0
-get_take zero k ws l = absurd (omega arith)
-get_take (suc n) k [] l = refl
-get_take (suc n) zero (w ∷ ws) l = refl
-get_take (suc n) (suc k) (w ∷ ws) l = get_take n k ws (omega arith)
-
-get_drop : (n k : ℕ) (ws : List ℕ) → get_or (drop n ws) k 0 ≡ get_or ws (k + n) 0
-get_drop zero k ws = ap (λ (m : ℕ). get_or ws m 0) (let e : k ≡ k + 0 = omega arith in e)
-get_drop (suc n) k [] = refl
-get_drop (suc n) k (w ∷ ws) = get_drop n k ws ∙ ap (λ (m : ℕ). get_or (w ∷ ws) m 0) (let e : suc (k + n) ≡ k + suc n = omega arith in e)
-
 item_there : (f : BookedItem → ℕ) (P : BookedItem → Type 0) (is : List BookedItem) (k : ℕ) → k < length is → AllByRecursion P is → (x : BookedItem) × P x × (get_or (map f is) k 0 ≡ f x)
 item_there f P [] k l all = absurd (omega arith)
 item_there f P (i ∷ is) zero l all = (i, all.0, refl)
@@ -165,7 +155,7 @@ shows_item row v k count old new places legs did sealed on now below =
     let less : k < length items = subst (λ (n : ℕ). k < n) (sym b.2.1) below in
     let x = item_there f (LiesWithin new.layout) items k less sound.within in
     let word : word_at b.0 (8 + k) ≡ f x.0 =
-    ap (λ (m : ℕ). get_or words m 0) (let s : 8 + k ≡ k + 8 = omega arith in s) ∙ (sym (get_drop 8 k words) ∙ (sym (get_take (length items) k (drop 8 words) less) ∙ (ap (λ (l : List ℕ). get_or l k 0) (sound.sealed b.2.0).items ∙ x.2))) in (
+    sym (get_or-drop 8 words k 0) ∙ (sym (get_or-take (length items) (drop 8 words) k 0 less) ∙ (ap (λ (l : List ℕ). get_or l k 0) (sound.sealed b.2.0).items ∙ x.2)) in (
       x.0.place,
       x.0.span,
       (

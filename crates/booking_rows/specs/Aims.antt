@@ -77,3 +77,13 @@ abbrev pub LeavesTurned : RowNo → Aim → DeskView → DeskView → Turned →
 LeavesTurned row aim old new Won = ((k : EndKind) → aimed aim ≢ phase.Ending k) × KeepsEndings old new
 LeavesTurned row aim old new (Ending e) = (aimed aim ≡ phase.Ending e.kind) × (e ≡ fresh_ending row e.kind (end_of aim) e) × IsEnding new e
 LeavesTurned row aim old new (Lost shown) = KeepsEndings old new
+
+-- what holds where the turn was made
+abbrev pub IfMade : Turned → Type 0 → Type 0
+IfMade Won P = P
+IfMade (Ending e) P = P
+IfMade (Lost shown) P = Unit {0}
+
+-- what holds of the kind of ending that the turn aims at, where it aims at one
+abbrev pub OfEnding : Aim → (EndKind → Type 0) → Type 0
+OfEnding aim P = (kind : EndKind) → aimed aim ≡ phase.Ending kind → P kind

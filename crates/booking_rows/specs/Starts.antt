@@ -28,9 +28,6 @@ abbrev pub AreMissesFrom : ℕ → ℕ → Misses → Type 0
 AreMissesFrom from last [] = Unit {0}
 AreMissesFrom from last ((row, word) ∷ rest) = (from ≤ row) × (row < last) × (word ≢ 0) × AreMissesFrom (row + 1) last rest
 
-abbrev pub AreMisses : ℕ → Misses → Type 0
-AreMisses last misses = AreMissesFrom 0 last misses
-
 -- all rows below this one are in use
 abbrev pub IsLeastFree : State → ℕ → Type 0
 IsLeastFree s row = (lower : ℕ) → lower < row → IsSome (present s lower)
@@ -84,17 +81,17 @@ IsFull desk = IsLeastFree (state_seen desk) desk.layout.rows
 
 -- The row that a hold is started on: the one that the desk makes already, without an entry; else, after misses, the row below which all
 -- are in use in what the desk has then seen; else, where all rows are in use there, the first one that is started again. None where
--- all rows are in use, and none could be started again.
+-- all rows are in use, and none could be started again. The misses begin at the row up to which the desk knew that all are in use.
 abbrev pub StartsHold : DeskView → DeskView → Option RowNo → List Step → Type 0
 StartsHold old new (Some row) es =
     (MakesBooking old row × (es ≡ []))
     ⊎ ((MakesNone old × (row.generation ≡ 0) × IsLeastFree (state_seen new) row.row
-    × ((misses : Misses) × AreMisses row.row misses × (es ≡ misses_steps misses ++ Start row.row 0 ∷ [])))
+    × ((misses : Misses) × AreMissesFrom old.past row.row misses × (es ≡ misses_steps misses ++ Start row.row 0 ∷ [])))
     ⊎ (MakesNone old × IsFull new
-    × ((misses : Misses) × (rest : List Step) × AreMisses new.layout.rows misses × StartsAgain row rest × (es ≡ misses_steps misses ++ rest))))
+    × ((misses : Misses) × (rest : List Step) × AreMissesFrom old.past new.layout.rows misses × StartsAgain row rest × (es ≡ misses_steps misses ++ rest))))
 StartsHold old new None es =
     MakesNone old × IsFull new
-    × ((misses : Misses) × (rest : List Step) × AreMisses new.layout.rows misses × StartsNone new.layout.rows rest × (es ≡ misses_steps misses ++ rest))
+    × ((misses : Misses) × (rest : List Step) × AreMissesFrom old.past new.layout.rows misses × StartsNone new.layout.rows rest × (es ≡ misses_steps misses ++ rest))
 
 -- looks at word 0 of rows in rising number, from one on, with what they showed
 abbrev pub row_looks : ℕ → List ℕ → List Step
@@ -143,3 +140,8 @@ IsNextOf word generation = (is_startable word ≡ true) × (generation ≡ word 
 -- a start of a first generation has at most one entry for each row that the desk has learned to be taken by it, and the start
 abbrev pub RemembersFree : DeskView → DeskView → HoldView → Type 0
 RemembersFree old new hold = hold.row.generation ≡ 0 → AddsAtMost (new.past - old.past) old new
+
+-- where it keeps no row, and starts none for the first time, the desk knows then that all rows are in use
+abbrev pub LearnsFull : DeskView → DeskView → Option RowNo → Type 0
+LearnsFull old new (Some row) = old.kept ≡ None → 1 ≤ row.generation → new.past ≡ new.layout.rows
+LearnsFull old new None = new.past ≡ new.layout.rows

@@ -7,7 +7,7 @@ ghost use Rattle.claim_rule.specs.Holds.{empty_hold};
 ghost use Rattle.claim_rule.specs.Calls.{ShapeBy};
 ghost use Rattle.claim_rule.specs.Out.{IsHolding, HoldsNone, HasNotedItems, KeepsHolds, KeepsEndings};
 ghost use Rattle.history_model.specs.Phase.{generation_words};
-ghost use Rattle.booking_rows.specs.Starts.{StartsHold, Finds, FindsAgain, HasFirst, HasNext, Passes, RemembersFree};
+ghost use Rattle.booking_rows.specs.Starts.{StartsHold, Finds, FindsAgain, HasFirst, HasNext, Passes, RemembersFree, LearnsFull};
 ghost use Rattle.booking_rows.specs.Starts.{IsNextOf, MayFollowOn, is_startable};
 
 use claim_rule::{Books, Desk, Hold, Started};
@@ -42,6 +42,7 @@ pub fn start_hold(books: &Books, desk: &mut Desk) -> Option<Hold>
     ensures none_out { IfNone result (HoldsNone desk.new) }
     ensures endings { KeepsEndings desk.old desk.new }
     ensures remembers { IfSome result (RemembersFree desk.old desk.new) }
+    ensures learns { LearnsFull desk.old desk.new (option_map (λ h. h.row) result) }
     ensures bound { AddsAtMost (3 * books.now.layout.rows) desk.old desk.new }
 {
     if let Some(hold) = desk.kept() {

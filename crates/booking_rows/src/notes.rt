@@ -5,7 +5,7 @@ ghost use Rattle.history_model.specs.declared.entry.Step.TheVariants.{Note, Seal
 ghost use Rattle.history_model.specs.Booking.{first_item_word, greatest_amount, greatest_retailer};
 ghost use Rattle.claim_rule.specs.Seats.{IsOf, Shape};
 ghost use Rattle.claim_rule.specs.Out.{IsHolding, HoldsNone, HasNotedItems, HasNotedButLast, IsToBeSealed, MaySealHold, KeepsEndings, SealsItems};
-ghost use Rattle.booking_rows.specs.Notes.{sealed_phase, detail_notes};
+ghost use Rattle.booking_rows.specs.Notes.{sealed_phase, detail_notes, NotesLastItem, MakesReady};
 
 use claim_rule::{Books, Desk, Hold};
 use history_model::booking::FIRST_ITEM_WORD;
@@ -47,7 +47,7 @@ pub fn note_item(books: &Books, desk: &mut Desk, hold: &mut Hold)
     requires hold { IsHolding desk.old hold.old }
     requires some { 0 < length hold.old.items }
     ensures own { IsOf books.now desk.new }
-    ensures entries { (front : List Item) (last : Item) → hold.old.items ≡ front ++ last ∷ [] → Shape desk.old desk.new (Note hold.old.row.row (first_item_word + length front) (item_word last.place last.span) ∷ []) }
+    ensures entries { NotesLastItem hold.old desk.old desk.new }
     ensures same { hold.new ≡ hold.old }
     ensures hold { IsHolding desk.new hold.new }
     ensures noted { HasNotedButLast desk.old hold.old → HasNotedItems desk.new hold.new }
@@ -67,7 +67,7 @@ pub fn note_detail(books: &Books, desk: &mut Desk, hold: &mut Hold, detail: Deta
     ensures entries { Shape desk.old desk.new (detail_notes hold.old.row.row detail (length hold.old.items)) }
     ensures same { hold.new ≡ hold.old }
     ensures hold { IsHolding desk.new hold.new }
-    ensures ready { HasNotedItems desk.old hold.old → 1 ≤ length hold.old.items → detail.total ≤ greatest_amount → IsToBeSealed desk.new hold.new }
+    ensures ready { MakesReady detail desk.old hold.old desk.new hold.new }
     ensures endings { KeepsEndings desk.old desk.new }
 {
     let count = hold.items().len() as u64;

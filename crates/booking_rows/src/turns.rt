@@ -1,14 +1,14 @@
 //! Turns of a row's phase, and the close of an ending.
 ghost use Rattle.std.specs.Prelude.{ℕ, ◌≡◌, ◌≤◌, ◌+◌, true, false, length};
-ghost use Rattle.history_model.specs.declared.phase.EndKind.{EndKind};
-ghost use Rattle.history_model.specs.declared.phase.Phase.TheVariants.{Ending as IsEndingPhase};
 ghost use Rattle.claim_rule.specs.Seats.{IsOf, Shape, AddsAtMost};
 ghost use Rattle.claim_rule.specs.Calls.{ShapeBy};
 ghost use Rattle.claim_rule.specs.EndSteps.{closing};
 ghost use Rattle.claim_rule.specs.Out.{IsEnding, EndsNone, KeepsHolds};
 ghost use Rattle.history_model.specs.Booking.{most_items};
 ghost use Rattle.claim_rule.specs.Endings.{items_read};
-ghost use Rattle.booking_rows.specs.Aims.{aimed, end_of, HasGeneration, MayAim, Turns, LeavesTurned};
+ghost use Rattle.claim_rule.specs.Turns.{IsPresentIn};
+ghost use Rattle.booking_rows.specs.Ends.{IsEndedAs};
+ghost use Rattle.booking_rows.specs.Aims.{aimed, end_of, HasGeneration, MayAim, Turns, LeavesTurned, IfMade, OfEnding};
 
 use claim_rule::{Books, Desk, Ending, StepTurned};
 use history_model::phase::{EndKind, Phase, phase_shown};
@@ -117,9 +117,10 @@ pub fn turn(books: &Books, desk: &mut Desk, row: RowNo, from: Phase, to: Aim) ->
     requires own { IsOf books.now desk.old }
     requires turn { MayAim books.now.layout desk.old row from to }
     requires generation { HasGeneration to }
-    requires none { (kind : EndKind) → aimed to ≡ IsEndingPhase kind → EndsNone desk.old }
+    requires none { OfEnding to (λ _. EndsNone desk.old) }
     ensures own { IsOf books.now desk.new }
     ensures entries { ShapeBy (Turns row from to result) desk.old desk.new }
+    ensures turned { IfMade result (IsPresentIn desk.new row (aimed to)) }
     ensures leaves { LeavesTurned row to desk.old desk.new result }
     ensures holds { KeepsHolds desk.old desk.new }
     ensures bound { AddsAtMost (most_items + 2) desk.old desk.new }
@@ -161,6 +162,7 @@ pub fn close_end(books: &Books, desk: &mut Desk, mut ending: Ending)
     requires all { ending.given ≡ length ending.items }
     ensures own { IsOf books.now desk.new }
     ensures entries { Shape desk.old desk.new (closing ending.row.row ending.kind ending.end) }
+    ensures ended { IsEndedAs desk.new ending.row ending.kind ending.end }
     ensures none { EndsNone desk.new }
     ensures holds { KeepsHolds desk.old desk.new }
 {

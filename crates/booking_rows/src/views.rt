@@ -52,7 +52,14 @@ impl Model for RowView {
 
     ghost Value = { RowSeen };
 
-    ghost view = { λ v. record { phase = v.phase; retailer = v.retailer.0; limit = v.limit; total = v.total; items = v.items.items; ended = option_map shown_end v.ended } };
+    ghost view = { λ v. record {
+      phase = v.phase;
+      retailer = v.retailer.0;
+      limit = v.limit;
+      total = v.total;
+      items = v.items.items;
+      ended = option_map shown_end v.ended;
+    } };
 }
 
 /// Looks at a booking: word 0 of its row, of a sealed one its other words after it, and word 0 again.
@@ -108,7 +115,15 @@ impl Model for RowWords {
 
     ghost Value = { RowWordsView };
 
-    ghost view = { λ w. record { phase = w.phase; retailer = w.retailer; limit = w.limit; total = w.total; count = w.count; items = w.items.items; end = w.end.items } };
+    ghost view = { λ w. record {
+      phase = w.phase;
+      retailer = w.retailer;
+      limit = w.limit;
+      total = w.total;
+      count = w.count;
+      items = w.items.items;
+      end = w.end.items;
+    } };
 }
 
 // Reads the words of a row that showed the booking sealed, in this phase.

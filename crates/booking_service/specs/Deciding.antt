@@ -60,6 +60,9 @@ abbrev pub ConfirmsIt : ℕ → RowNo → ℕ → ℕ → RowSeen → Replying
 ConfirmsIt rows row retailer now v old new reply =
     (a : Confirmed) × ShapeBy (Confirms rows row retailer now a) old new × (reply ≡ confirm_reply row now v a)
 
+abbrev pub ConfirmsBooking : ℕ → RowNo → ℕ → ℕ → Replying
+ConfirmsBooking rows row retailer now = OnBooking rows row retailer (ConfirmsIt rows row retailer now)
+
 abbrev pub fulfil_reply : RowNo → RowSeen → Fulfilment → Reply
 fulfil_reply row v fulfilled.Done = booking row (in_phase phase.Fulfilled v)
 fulfil_reply row v fulfilled.Unknown = problem UnknownBooking
@@ -77,3 +80,6 @@ release_reply row now v (released.WrongState shown) = problem (WrongState shown)
 abbrev pub ReleasesIt : ℕ → RowNo → ℕ → ℕ → RowSeen → Replying
 ReleasesIt rows row retailer now v old new reply =
     (a : Released) × ShapeBy (Releases rows row retailer now a) old new × (reply ≡ release_reply row now v a)
+
+abbrev pub ReleasesBooking : ℕ → RowNo → ℕ → ℕ → Replying
+ReleasesBooking rows row retailer now = OnBooking rows row retailer (ReleasesIt rows row retailer now)

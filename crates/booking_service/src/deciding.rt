@@ -1,13 +1,16 @@
 //! Showing, confirming, collecting and releasing a booking.
-ghost use Rattle.std.specs.Prelude.{◌≡◌, Ok, IfSome};
+ghost use Rattle.std.specs.Prelude.{◌≡◌, Ok, IfOk, IfSome};
 ghost use Rattle.claim_rule.specs.Seats.{IsOf};
-ghost use Rattle.claim_rule.specs.Out.{IsTidy, IsIdle, KeepsHolds, KeepsEndings};
+ghost use Rattle.claim_rule.specs.Out.{IsTidy, IsIdle};
+ghost use Rattle.claim_rule.specs.Turns.{IsPresentIn};
+ghost use Rattle.history_model.specs.declared.phase.Phase.TheVariants as phase;
 ghost use Rattle.history_model.specs.declared.phase.EndKind.TheVariants as kind;
 ghost use Rattle.booking_rows.specs.declared.turns.Aim.TheVariants as aim;
 ghost use Rattle.booking_rows.specs.Aims.{end_of};
-ghost use Rattle.osdm_texts.specs.Answers.{booking, reply_told, told_of};
+ghost use Rattle.refund_core.specs.Releasing.{IsReleased};
+ghost use Rattle.osdm_texts.specs.Answers.{booking, told_of, Tells};
 ghost use Rattle.osdm_texts.specs.Bookings.{HasIds};
-ghost use Rattle.booking_service.specs.Deciding.{OnBooking, Answered, shows, ConfirmsIt, FulfilsIt, ReleasesIt, in_phase as in_phase_of, at_end};
+ghost use Rattle.booking_service.specs.Deciding.{OnBooking, Answered, shows, ConfirmsBooking, FulfilsIt, ReleasesBooking, in_phase as in_phase_of, at_end};
 
 use booking_rows::{EndView, RowView};
 use claim_rule::Desk;
@@ -24,7 +27,7 @@ use shop::{Asker, Shop};
 /// The booking has an id, and so has its successor, where it has one.
 pub fn booking_answer(shop: &Shop<'_>, row: RowNo, view: RowView) -> Option<Written>
     requires ids { HasIds row view }
-    ensures told { IfSome result (λ written. told_of (Ok written) ≡ reply_told shop.now.cat.now (booking row view)) }
+    ensures told { IfSome result (Tells shop.now.cat.now (booking row view)) }
 {
     write_reply(
         shop.alloc,
@@ -78,10 +81,12 @@ pub fn confirm_booking(
     requires own { IsOf shop.now.books.now desk.old }
     requires idle { IsIdle desk.old }
     ensures own { IsOf shop.now.books.now desk.new }
+    ensures confirmed { IfOk result (λ _. IsPresentIn desk.new row phase.Confirmed) }
     ensures idle { IsIdle desk.new }
     ensures tidy { IsTidy desk.old → IsTidy desk.new }
-    ensures answer { Answered shop.now.cat.now (OnBooking shop.now.books.now.layout.rows row asker.retailer.0
-        (ConfirmsIt shop.now.books.now.layout.rows row asker.retailer.0 asker.moment)) desk.old desk.new (told_of result) }
+    ensures answer { Answered shop.now.cat.now
+        (ConfirmsBooking shop.now.books.now.layout.rows row asker.retailer.0 asker.moment)
+        desk.old desk.new (told_of result) }
 {
     let Some(view) = find_booking(shop.books, desk, row, asker.retailer) else {
         return Err(Problem::UnknownBooking);
@@ -108,6 +113,7 @@ pub fn fulfil_booking(
     requires own { IsOf shop.now.books.now desk.old }
     requires idle { IsIdle desk.old }
     ensures own { IsOf shop.now.books.now desk.new }
+    ensures fulfilled { IfOk result (λ _. IsPresentIn desk.new row phase.Fulfilled) }
     ensures idle { IsIdle desk.new }
     ensures tidy { IsTidy desk.old → IsTidy desk.new }
     ensures answer { Answered shop.now.cat.now (OnBooking shop.now.books.now.layout.rows row retailer.0
@@ -150,10 +156,12 @@ pub fn release_booking(
     requires own { IsOf shop.now.books.now desk.old }
     requires idle { IsIdle desk.old }
     ensures own { IsOf shop.now.books.now desk.new }
+    ensures released { IfOk result (λ _. IsReleased desk.new row asker.moment) }
     ensures idle { IsIdle desk.new }
     ensures tidy { IsTidy desk.old → IsTidy desk.new }
-    ensures answer { Answered shop.now.cat.now (OnBooking shop.now.books.now.layout.rows row asker.retailer.0
-        (ReleasesIt shop.now.books.now.layout.rows row asker.retailer.0 asker.moment)) desk.old desk.new (told_of result) }
+    ensures answer { Answered shop.now.cat.now
+        (ReleasesBooking shop.now.books.now.layout.rows row asker.retailer.0 asker.moment)
+        desk.old desk.new (told_of result) }
 {
     let Some(view) = find_booking(shop.books, desk, row, asker.retailer) else {
         return Err(Problem::UnknownBooking);

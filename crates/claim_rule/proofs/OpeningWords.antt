@@ -81,7 +81,7 @@ same_end (Ended kind) d e p q each = λ i. record {
   successor = each 0 (omega arith) i;
 }
 
-end_long : (ph : Phase) (e : End) → length (end_words ph e) ≡ 3
+pub end_long : (ph : Phase) (e : End) → length (end_words ph e) ≡ 3
 end_long Free e = refl
 end_long Making e = refl
 end_long Prebooked e = refl

@@ -1,5 +1,6 @@
 -- What the looks at the item words of an ending's row show.
 use Rattle.std.proofs.Common.{◌≡◌, ℕ, zero, suc, ◌+◌, ◌<◌, ◌≤◌, List, [], ◌∷◌, ◌++◌, map, take, drop, length, get_or, slice_get, Bool, true, false, cond, Option, Some, None, refl, sym, ap, ◌∙◌, subst, arith, length-append, eqb, ne_eqb, slice_index}
+use Rattle.std.proofs.lemmas.List.{get_or-take, get_or-drop}
 use Rattle.std.specs.List.{All, AllByRecursion}
 use Rattle.std.proofs.Math.Numerals.{add-one}
 use Rattle.leg_masks.specs.Interval.{Interval, item_word, IsItemOf, most_legs, most_places}
@@ -47,17 +48,6 @@ read_count v old new e did was =
     let shown : v ≡ length is.booking.items = saw e.row.row 4 v old new did ∙ (ap (word_in 4) is.found ∙ (sound.sealed (ap is_sealed is.phase)).count) in
     (is, shown, subst (λ (n : ℕ). n ≤ most_items) (sym shown) sound.count, refl)
 
-get_take : (n k : ℕ) (ws : List ℕ) → k < n → get_or (take n ws) k 0 ≡ get_or ws k 0
-get_take zero k ws l = absurd (omega arith)
-get_take (suc n) k [] l = refl
-get_take (suc n) zero (w ∷ ws) l = refl
-get_take (suc n) (suc k) (w ∷ ws) l = get_take n k ws (omega arith)
-
-get_drop : (n k : ℕ) (ws : List ℕ) → get_or (drop n ws) k 0 ≡ get_or ws (k + n) 0
-get_drop zero k ws = ap (λ (m : ℕ). get_or ws m 0) (let e : k ≡ k + 0 = omega arith in e)
-get_drop (suc n) k [] = refl
-get_drop (suc n) k (w ∷ ws) = get_drop n k ws ∙ ap (λ (m : ℕ). get_or (w ∷ ws) m 0) (let e : suc (k + n) ≡ k + suc n = omega arith in e)
-
 item_there : (f : BookedItem → ℕ) (is : List BookedItem) (k : ℕ) → k < length is → (x : BookedItem) × (slice_get is k ≡ Some x) × (get_or (map f is) k 0 ≡ f x)
 item_there f [] k l = absurd (omega arith)
 item_there f (i ∷ is) zero l = (i, refl, refl)
@@ -81,7 +71,7 @@ read_at v k old new e few did unread was below fits =
     let x = item_there f items k below in
     let shown : v ≡ word_at was.booking (8 + k) = saw e.row.row (8 + k) v old new did ∙ (ap (word_in (8 + k)) is.found ∙ not_first k (row_word_of was.booking.phase was.booking.generation) (get_or words (8 + k) 0)) in
     let word : get_or words (8 + k) 0 ≡ f x.0 =
-    ap (λ (m : ℕ). get_or words m 0) (let s : 8 + k ≡ k + 8 = omega arith in s) ∙ (sym (get_drop 8 k words) ∙ (sym (get_take (length items) k (drop 8 words) below) ∙ (ap (λ (l : List ℕ). get_or l k 0) sealed.items ∙ x.2))) in
+    sym (get_or-drop 8 words k 0) ∙ (sym (get_or-take (length items) (drop 8 words) k 0 below) ∙ (ap (λ (l : List ℕ). get_or l k 0) sealed.items ∙ x.2)) in
     let lies = all_at (LiesWithin new.layout) items k x.0 sound.within x.1 in (
       is,
       refl,

@@ -36,8 +36,9 @@ impl Model for Wall {
       history = w.chronicle.view.history;
     } };
 
-    ghost invariant = { λ w. (w.places ≡ length w.chronicle.view.plan.legs) × (w.rows ≡ w.chronicle.view.plan.rows) × IsFull w.closed.words
-        × (slots_len w.closed.words ≡ halves * w.places + row_words * w.rows) × (slots_len w.closed.slots ≡ 0) };
+    ghost invariant = { λ w. (w.places ≡ length w.chronicle.view.plan.legs) × (w.rows ≡ w.chronicle.view.plan.rows)
+        × IsFull w.closed.words × (slots_len w.closed.words ≡ halves * w.places + row_words * w.rows)
+        × (slots_len w.closed.slots ≡ 0) };
 }
 
 impl Wall {

@@ -22,6 +22,7 @@ use Rattle.history_model.proofs.Generations.{present_latest}
 use Rattle.history_model.proofs.ListLemmas.{Across-parts, All-both, All-map, All-of_map, Pairwise-append}
 use Rattle.claim_rule.specs.Openings.{AreRising, HasOwnEnd, KeptBooking, MayOpen, booked, end_in, end_words, item_words, layout_with, opening_booking, opening_of}
 use Rattle.claim_rule.proofs.OpeningKept.{kept_at, present_found}
+use Rattle.claim_rule.proofs.OpeningWords.{end_long}
 use Rattle.cold_store.specs.declared.bookings.SaidItem.{SaidItem}
 use Rattle.cold_store.specs.declared.ends.SaidEnd.{SaidEnd}
 use Rattle.cold_store.specs.declared.ends.SaidRow.{SaidRow}
@@ -80,15 +81,6 @@ unmade Confirmed h = ((λ e. cc), (λ e. cc), refl)
 unmade Fulfilled h = ((λ e. cc), (λ e. cc), refl)
 unmade (Ending kind) h = absurd (h refl)
 unmade (Ended kind) h = ((λ e. cc), (λ e. cc), refl)
-
-end_long : (ph : Phase) (e : End) → length (end_words ph e) ≡ 3
-end_long Free e = refl
-end_long Making e = refl
-end_long Prebooked e = refl
-end_long Confirmed e = refl
-end_long Fulfilled e = refl
-end_long (Ending kind) e = refl
-end_long (Ended kind) e = refl
 
 abbrev front : KeptBooking → List ℕ
 front k = 0 ∷ k.retailer ∷ k.limit ∷ k.total ∷ length k.items ∷ end_words k.phase k.end

@@ -1,5 +1,6 @@
 -- What the words of a closed wall say of a row.
 use Rattle.std.proofs.Common.{◌≡◌, ◌≢◌, ◌∙◌, ℕ, zero, suc, ◌+◌, ◌<◌, ◌≤◌, Bool, true, cond, eqb, ne_eqb, List, [], ◌∷◌, map, take, drop, length, get_or, slice_index, refl, sym, ap, Option, Some, None, IsSomeAnd, arith}
+use Rattle.std.proofs.lemmas.List.{get_or-take, get_or-drop}
 use Rattle.std.specs.Prelude.{slice_get}
 use Rattle.std.specs.List.{AllByRecursion}
 use Rattle.std.specs.Option.{option_map_or}
@@ -17,6 +18,7 @@ use Rattle.history_model.specs.Phase.{is_sealed, row_word_of}
 use Rattle.history_model.specs.Words.{row_number, row_word}
 use Rattle.history_model.proofs.Keeping.{found}
 use Rattle.history_model.proofs.PhaseWords.{row_word_same}
+use Rattle.history_model.proofs.RowWords.{word_there as word_in_row, some_phase as says_phase}
 use Rattle.history_model.proofs.Writing.{sound_of}
 use Rattle.claim_rule.proofs.Moves.{is_sound}
 use Rattle.claim_rule.specs.Openings.{placed}
@@ -32,27 +34,13 @@ sound_on w row b closed at = sound_of w.layout (state_on w) row b (well_formed w
 -- the word that the wall has there
 pub word_there : (w : WallView) (row word n : ℕ) → IsClosed w → row < w.layout.rows → word < row_words
     → slice_get w.words (row_number w.layout row word) ≡ Some n → n ≡ row_word (state_on w) row word
-word_there w row word n closed within some is =
-    sym (get_or_from_slice_get w.words (row_number w.layout row word) n 0 is) ∙ closed.are.each (Row row word) (within, some)
+word_there w row word n closed within some is = word_in_row w.layout (state_on w) w.words row word n closed.are within some is
 
 -- word 0 of a row is that of a phase
 pub some_phase : (w : WallView) (row : ℕ) → IsClosed w → ¬ IsNoRowWord (row_word (state_on w) row 0)
-some_phase w row closed none = go (present (state_on w) row) refl
-  where
-    go : (o : Option Booking) → present (state_on w) row ≡ o → ⊥
-    go None e = none Free 0 (omega arith) (sym (ap (λ (p : Option Booking). option_map_or (λ (b : Booking). row_word_of b.phase b.generation) p 0) e))
-    go (Some b) e =
-        let fits = (sound_on w row b closed e).generation in
-        none b.phase b.generation (omega (arith, fits)) (sym (ap (λ (p : Option Booking). option_map_or (λ (b : Booking). row_word_of b.phase b.generation) p 0) e))
+some_phase w row closed = says_phase w.layout (state_on w) row (well_formed w closed)
 
--- the phase and the generation that it says
-pub said_phase_of : (s : State) (row : ℕ) (phase : Phase) (generation : ℕ) → row_word_of phase generation ≡ row_word s row 0 → phase ≡ phase_of_row s row
-said_phase_of s row phase generation is = go (present s row) is
-  where
-    go : (o : Option Booking) → row_word_of phase generation ≡ option_map_or (λ (b : Booking). row_word_of b.phase b.generation) o 0 → phase ≡ option_map_or (λ (b : Booking). b.phase) o Free
-    go None e = (row_word_same phase Free generation 0 e).0
-    go (Some b) e = (row_word_same phase b.phase generation b.generation e).0
-
+-- the generation that it says
 pub said_generation : (s : State) (row : ℕ) (phase : Phase) (generation : ℕ) → row_word_of phase generation ≡ row_word s row 0 → phase ≢ Free
     → OnRow s row (λ b. b.generation ≡ generation)
 said_generation s row phase generation is some = go (present s row) is
@@ -68,17 +56,6 @@ less_than_most a b c l m = omega arith
 
 at_most_both : (a b c : ℕ) → a ≤ b → b ≤ c → a ≤ c
 at_most_both a b c l m = omega arith
-
-get_take : (n k : ℕ) (ws : List ℕ) → k < n → get_or (take n ws) k 0 ≡ get_or ws k 0
-get_take zero k ws l = absurd (omega arith)
-get_take (suc n) k [] l = refl
-get_take (suc n) zero (w ∷ ws) l = refl
-get_take (suc n) (suc k) (w ∷ ws) l = get_take n k ws (omega arith)
-
-get_drop : (n k : ℕ) (ws : List ℕ) → get_or (drop n ws) k 0 ≡ get_or ws (k + n) 0
-get_drop zero k ws = ap (λ (m : ℕ). get_or ws m 0) (let e : k ≡ k + 0 = omega arith in e)
-get_drop (suc n) k [] = refl
-get_drop (suc n) k (w ∷ ws) = get_drop n k ws ∙ ap (λ (m : ℕ). get_or (w ∷ ws) m 0) (let e : suc (k + n) ≡ k + suc n = omega arith in e)
 
 one_of : (f : BookedItem → ℕ) (P : BookedItem → Type 0) (is : List BookedItem) (k : ℕ) → k < length is → AllByRecursion P is
     → (i : BookedItem) × (slice_get is k ≡ Some i) × P i × (get_or (map f is) k 0 ≡ f i)
@@ -115,8 +92,7 @@ item_there w row k closed has =
     let less = b.2.1 in
     let x = one_of f (LiesWithin w.layout) items k less sound.within in
     let word : word_at b.0 (8 + k) ≡ f x.0 =
-    ap (λ (m : ℕ). get_or words m 0) (let e : 8 + k ≡ k + 8 = omega arith in e)
-    ∙ (sym (get_drop 8 k words) ∙ (sym (get_take (length items) k (drop 8 words) less) ∙ (ap (λ (l : List ℕ). get_or l k 0) (sound.sealed b.2.0).items ∙ x.3))) in (
+    sym (get_or-drop 8 words k 0) ∙ (sym (get_or-take (length items) (drop 8 words) k 0 less) ∙ (ap (λ (l : List ℕ). get_or l k 0) (sound.sealed b.2.0).items ∙ x.3)) in (
       b.0,
       x.0,
       record {

@@ -296,7 +296,8 @@ impl Draft {
         requires row { IsRowOf self.old line.now.head.row }
         requires places { IfSome line.now.items (All (λ i. IsPlaceOf self.old i.place)) }
         ensures draft { self.new ≡ with_line self.old line.now }
-        ensures spans { is_live_phase line.now.head.phase ≡ true → IsSomeAnd line.now.items (All (λ i. i.span.to ≤ most_legs)) }
+        ensures spans { is_live_phase line.now.head.phase ≡ true
+            → IsSomeAnd line.now.items (All (λ i. i.span.to ≤ most_legs)) }
     {
         if let Some(items) = &line.items {
             let words = words_of(&line.head, line.end, items.as_slice());

@@ -48,7 +48,8 @@ pub fn import_books(
 fn fault_of(draft: &Draft) -> Option<ImportFault>
     requires draft { IsSomeDraft draft.now }
     requires rows { draft.now.rows ≤ most_rows }
-    ensures some { IfSome result (λ fault. EachDraft draft.now (λ legs said. IsFaultOf legs draft.now.rows said fault)) }
+    ensures some { IfSome result
+        (λ fault. EachDraft draft.now (λ legs said. IsFaultOf legs draft.now.rows said fault)) }
     ensures none { IfNone result (EachDraft draft.now (λ legs said. AreSound legs draft.now.rows said)) }
 {
     if let Some(row) = draft.first_wrong() {

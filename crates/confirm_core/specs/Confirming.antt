@@ -40,3 +40,8 @@ Confirms rows row retailer now (confirmed.TooLate limit) es =
     (row.row < rows) × (limit < now) × ((last : ℕ) × IsKept row last × (es ≡ saw_terms row Prebooked retailer limit last))
 Confirms rows row retailer now (confirmed.WrongState shown) es =
     (row.row < rows) × ((limit : ℕ) × IsWrong row Prebooked shown (SawInTime row retailer now limit) es)
+
+-- what holds where the call confirmed the booking
+abbrev pub IfConfirmed : Confirmed → Type 0 → Type 0
+IfConfirmed confirmed.Done P = P
+IfConfirmed _ P = Unit {0}

@@ -16,3 +16,8 @@ Fulfils rows row retailer fulfilled.Done es =
 Fulfils rows row retailer fulfilled.Unknown es =
     FindsOwned rows row retailer None es ⊎ ((row.row < rows) × LosesRow row Confirmed (SawOwned row retailer) es)
 Fulfils rows row retailer (fulfilled.WrongState shown) es = (row.row < rows) × IsWrong row Confirmed shown (SawOwned row retailer) es
+
+-- what holds where the call collected the ticket
+abbrev pub IfFulfilled : Fulfilment → Type 0 → Type 0
+IfFulfilled fulfilled.Done P = P
+IfFulfilled _ P = Unit {0}

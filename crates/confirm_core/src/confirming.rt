@@ -4,7 +4,9 @@ ghost use Rattle.claim_rule.specs.Seats.{IsOf, AddsAtMost};
 ghost use Rattle.claim_rule.specs.Calls.{ShapeBy};
 ghost use Rattle.claim_rule.specs.Out.{KeepsHolds, KeepsEndings};
 ghost use Rattle.row_decisions.specs.Looks.{HasLimit};
-ghost use Rattle.confirm_core.specs.Confirming.{Confirms, FindsTerms};
+ghost use Rattle.claim_rule.specs.Turns.{IsPresentIn};
+ghost use Rattle.history_model.specs.declared.phase.Phase.TheVariants.{Confirmed as IsConfirmedPhase};
+ghost use Rattle.confirm_core.specs.Confirming.{Confirms, IfConfirmed, FindsTerms};
 
 use booking_rows::{Aim, Turned, turn};
 use claim_rule::{Books, Desk};
@@ -38,6 +40,7 @@ pub fn confirm(
     requires own { IsOf books.now desk.old }
     ensures own { IsOf books.now desk.new }
     ensures entries { ShapeBy (Confirms books.now.layout.rows row retailer.0 now result) desk.old desk.new }
+    ensures confirmed { IfConfirmed result (IsPresentIn desk.new row IsConfirmedPhase) }
     ensures holds { KeepsHolds desk.old desk.new }
     ensures endings { KeepsEndings desk.old desk.new }
     ensures bound { AddsAtMost 6 desk.old desk.new }

@@ -2,7 +2,9 @@
 ghost use Rattle.claim_rule.specs.Seats.{IsOf, AddsAtMost};
 ghost use Rattle.claim_rule.specs.Calls.{ShapeBy};
 ghost use Rattle.claim_rule.specs.Out.{KeepsHolds, KeepsEndings};
-ghost use Rattle.confirm_core.specs.Fulfilling.{Fulfils};
+ghost use Rattle.claim_rule.specs.Turns.{IsPresentIn};
+ghost use Rattle.history_model.specs.declared.phase.Phase.TheVariants.{Fulfilled};
+ghost use Rattle.confirm_core.specs.Fulfilling.{Fulfils, IfFulfilled};
 
 use booking_rows::{Aim, Turned, turn};
 use claim_rule::{Books, Desk};
@@ -27,6 +29,7 @@ pub fn fulfil(books: &Books, desk: &mut Desk, row: RowNo, retailer: RetailerNo) 
     requires own { IsOf books.now desk.old }
     ensures own { IsOf books.now desk.new }
     ensures entries { ShapeBy (Fulfils books.now.layout.rows row retailer.0 result) desk.old desk.new }
+    ensures fulfilled { IfFulfilled result (IsPresentIn desk.new row Fulfilled) }
     ensures holds { KeepsHolds desk.old desk.new }
     ensures endings { KeepsEndings desk.old desk.new }
     ensures bound { AddsAtMost 6 desk.old desk.new }

@@ -4,16 +4,16 @@ use Rattle.leg_masks.specs.Interval.{PlacedSpan as Item}
 use Rattle.history_model.specs.declared.booking.End.{End}
 use Rattle.history_model.specs.declared.entry.Step.{Step}
 use Rattle.history_model.specs.declared.entry.Step.TheVariants.{Seal}
-use Rattle.history_model.specs.declared.phase.Phase.TheVariants.{Confirmed, Ending, Ended}
+use Rattle.history_model.specs.declared.phase.Phase.TheVariants.{Confirmed, Ending}
 use Rattle.history_model.specs.declared.phase.EndKind.TheVariants.{Exchange}
 use Rattle.history_model.specs.Booking.{most_items, successor_word}
-use Rattle.history_model.specs.Allowed.{AllGiven}
 use Rattle.rail_ids.specs.declared.RowNo.{RowNo}
-use Rattle.claim_rule.specs.Rule.{DeskView, OnBooking, state_seen}
+use Rattle.claim_rule.specs.Rule.{DeskView}
 use Rattle.claim_rule.specs.Holds.{HoldView}
 use Rattle.claim_rule.specs.Endings.{items_read}
 use Rattle.claim_rule.specs.EndSteps.{ending_steps}
 use Rattle.booking_rows.specs.Aims.{end_at, turn_step, LosesTurn}
+use Rattle.booking_rows.specs.Ends.{IsEndedAs}
 use Rattle.refund_core.specs.Quotes.{phase_named}
 use Rattle.exchange_core.specs.Ready.{ReadyView}
 use Rattle.exchange_core.specs.declared.accepting.Exchanged.{Exchanged}
@@ -48,4 +48,4 @@ OnLost (WrongState shown hold) P = P hold
 
 -- the booking has ended by exchange with this end, and all its items are given back
 abbrev pub IsExchanged : DeskView → RowNo → End → Type 0
-IsExchanged desk row end = OnBooking (state_seen desk) row (λ b. (b.phase ≡ Ended Exchange) × (b.end ≡ end) × AllGiven b)
+IsExchanged desk row end = IsEndedAs desk row Exchange end

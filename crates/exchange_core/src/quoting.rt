@@ -44,7 +44,8 @@ pub fn quote_exchange(
     requires own { IsOf books.now desk.old }
     requires offer { is_offer (offer_view offer.now) ≡ true }
     ensures own { IsOf books.now desk.new }
-    ensures entries { ShapeBy (QuotesExchange cat.now books.now.layout.rows row retailer.0 (offer_view offer.now) now result) desk.old desk.new }
+    ensures entries { ShapeBy (QuotesExchange
+        cat.now books.now.layout.rows row retailer.0 (offer_view offer.now) now result) desk.old desk.new }
     ensures range { IfQuoted result (λ code. is_exchange (exchange_view code) ≡ true) }
     ensures holds { KeepsHolds desk.old desk.new }
     ensures endings { KeepsEndings desk.old desk.new }

@@ -66,7 +66,8 @@ pub fn ready_exchange(
     requires own { IsOf books.now desk.old }
     requires offer { is_offer (offer_view code.now.offer) ≡ true }
     ensures own { IsOf books.now desk.new }
-    ensures entries { ShapeBy (Readies cat.now books.now.layout.rows retailer.0 (exchange_view code.now) now result) desk.old desk.new }
+    ensures entries { ShapeBy
+        (Readies cat.now books.now.layout.rows retailer.0 (exchange_view code.now) now result) desk.old desk.new }
     ensures ready { IfFine result (IsReadyFor desk.new) }
     ensures holds { KeepsHolds desk.old desk.new }
     ensures endings { KeepsEndings desk.old desk.new }

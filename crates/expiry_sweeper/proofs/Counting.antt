@@ -1,7 +1,12 @@
 -- What a sweep has counted, and seen, up to a row.
-use Rattle.std.proofs.Common.{◌≡◌, ℕ, suc, ◌+◌, ◌*◌, ◌≤◌, List, [], ◌∷◌, ◌++◌, length, refl, sym, ap, ◌∙◌, subst, arith, length-append}
+use Rattle.std.proofs.Common.{◌≡◌, ℕ, suc, ◌+◌, ◌*◌, ◌≤◌, List, [], ◌∷◌, ◌++◌, length, refl, sym, ap, ◌∙◌, subst, arith, length-append, add-zero}
 use Rattle.history_model.specs.Booking.{most_items}
 use Rattle.std.specs.List.{AllByRecursion}
+use Rattle.history_model.specs.declared.entry.Step.{Step}
+use Rattle.history_model.specs.declared.phase.EndKind.TheVariants.{Expire}
+use Rattle.booking_rows.specs.declared.turns.Aim.TheVariants as aim
+use Rattle.booking_rows.specs.Aims.{end_of}
+use Rattle.booking_rows.proofs.Ended.{ended_stays}
 use Rattle.history_model.specs.History.{IsLegal}
 use Rattle.claim_rule.specs.Rule.{BooksView, DeskView}
 use Rattle.claim_rule.specs.Seats.{IsOf, Shape, AddsAtMost}
@@ -12,8 +17,8 @@ use Rattle.claim_rule.proofs.Out.{settled_calm, tidy_through}
 use Rattle.expiry_sweeper.specs.declared.rows.RowSwept.{RowSwept}
 use Rattle.expiry_sweeper.specs.declared.rows.RowSwept.TheVariants as came
 use Rattle.expiry_sweeper.specs.declared.sweeps.Swept.{Swept}
-use Rattle.expiry_sweeper.specs.OneRow.{RowSweep, IsRowSweep, SweepsRow, outcome_of, row_sweep_steps}
-use Rattle.expiry_sweeper.specs.AllRows.{Sweeps, sweeps_steps, counted, counts_of}
+use Rattle.expiry_sweeper.specs.OneRow.{RowSweep, passed, given_away, waiting, expired, lost, IsRowSweep, HasExpired, SweepsRow, outcome_of, row_sweep_steps}
+use Rattle.expiry_sweeper.specs.AllRows.{Sweeps, HaveExpired, ExpiresCounted, sweeps_steps, counted, counts_of}
 use Rattle.expiry_sweeper.proofs.Sweeping.{steps_more, sweeps_length, calm_sweeps}
 
 all_more : {X : Type 0} (P : X → Type 0) (xs : List X) (x : X) → AllByRecursion P xs → P x → AllByRecursion P (xs ++ x ∷ [])
@@ -56,6 +61,26 @@ are_small : (ss : List RowSweep) → AreSmall (counts_of ss) (length ss)
 are_small [] = (omega arith, omega arith, omega arith)
 are_small (s ∷ ss) = one_more (outcome_of s) (counts_of ss) (length ss) (are_small ss)
 
+-- what has expired stays so, and one row more
+
+stays_expired : (b c : DeskView) (steps : List Step) (now row : ℕ) (s : RowSweep) → Shape b c steps → HasExpired b now row s → HasExpired c now row s
+stays_expired b c steps now row (passed n) did has = tt
+stays_expired b c steps now row (given_away s) did has = tt
+stays_expired b c steps now row (waiting s) did has = tt
+stays_expired b c steps now row (expired s items) did has = ended_stays b c steps (record { row = row; generation = s.generation }) Expire (end_of (aim.Expire now)) did has
+stays_expired b c steps now row (lost s shown) did has = tt
+
+expired_stay : (b c : DeskView) (steps : List Step) (now row : ℕ) (ss : List RowSweep) → Shape b c steps → HaveExpired b now row ss → HaveExpired c now row ss
+expired_stay b c steps now row [] did all = tt
+expired_stay b c steps now row (s ∷ ss) did all = (stays_expired b c steps now row s did all.0, expired_stay b c steps now (suc row) ss did all.1)
+
+expired_more : (c : DeskView) (now row : ℕ) (ss : List RowSweep) (s : RowSweep) → HaveExpired c now row ss → HasExpired c now (row + length ss) s → HaveExpired c now row (ss ++ s ∷ [])
+expired_more c now row [] s all has = (subst (λ (r : ℕ). HasExpired c now r s) (add-zero row) has, tt)
+expired_more c now row (x ∷ ss) s all has = (all.0, expired_more c now (suc row) ss s all.1 (subst (λ (r : ℕ). HasExpired c now r s) (moved row (length ss)) has))
+  where
+    moved : (r n : ℕ) → r + suc n ≡ suc r + n
+    moved r n = omega arith
+
 -- the rows below this one are swept
 pub record SweptTo (start now_at : DeskView) (now row : ℕ) (swept : Swept) : Type 0 where
   pub sweeps : List RowSweep
@@ -63,17 +88,19 @@ pub record SweptTo (start now_at : DeskView) (now row : ℕ) (swept : Swept) : T
   pub each : AllByRecursion (IsRowSweep now) sweeps
   pub seen : Shape start now_at (sweeps_steps now 0 sweeps)
   pub counts : swept ≡ counts_of sweeps
+  pub expired : HaveExpired now_at now 0 sweeps
 
 pub swept_none : (start : DeskView) (now : ℕ) → IsLegal start.layout start.seen → SweptTo start start now 0 (record { expired = 0; lost = 0; waiting = 0 })
-swept_none start now legal = record { sweeps = []; every = refl; each = tt; seen = shape_none start legal; counts = refl }
+swept_none start now legal = record { sweeps = []; every = refl; each = tt; seen = shape_none start legal; counts = refl; expired = tt }
 
 pub swept_more : (a b c : DeskView) (now row : ℕ) (n : Swept) (o : RowSwept) → SweptTo a b now row n → SweepsRow now row b c o → SweptTo a c now (row + 1) (counted o n)
-swept_more a b c now row n o so (s, is, came_to, did) = record {
+swept_more a b c now row n o so (s, is, came_to, did, ended) = record {
   sweeps = so.sweeps ++ s ∷ [];
   every = length-append so.sweeps (s ∷ []) ∙ ap (λ (k : ℕ). k + 1) so.every;
   each = all_more (IsRowSweep now) so.sweeps s so.each is;
   seen = subst (Shape a c) (sym (steps_more now 0 so.sweeps s)) (shape_then a b c (sweeps_steps now 0 so.sweeps) (row_sweep_steps now (0 + length so.sweeps) s) so.seen (subst (λ (r : ℕ). Shape b c (row_sweep_steps now r s)) (first row (length so.sweeps) so.every) did));
   counts = ap (counted o) so.counts ∙ (ap (λ (x : RowSwept). counted x (counts_of so.sweeps)) (sym came_to) ∙ sym (counts_more so.sweeps s));
+  expired = expired_more c now 0 so.sweeps s (expired_stay b c (row_sweep_steps now row s) now 0 so.sweeps did so.expired) (subst (λ (r : ℕ). HasExpired c now r s) (first row (length so.sweeps) so.every) ended);
 }
   where
     first : (r n : ℕ) → n ≡ r → r ≡ 0 + n
@@ -84,6 +111,9 @@ small_counts a b now row n so = subst (AreSmall n) so.every (subst (λ (x : Swep
 
 pub swept_all : (a b : DeskView) (now row rows : ℕ) (n : Swept) → row ≡ rows → SweptTo a b now row n → ShapeBy (Sweeps rows now n) a b
 swept_all a b now row rows n whole so = (sweeps_steps now 0 so.sweeps, record { sweeps = so.sweeps; every = so.every ∙ whole; each = so.each; steps = refl; counts = so.counts }, so.seen)
+
+pub swept_expired : (a b : DeskView) (now row rows : ℕ) (n : Swept) → row ≡ rows → SweptTo a b now row n → ExpiresCounted rows now n a b
+swept_expired a b now row rows n whole so = (so.sweeps, so.every ∙ whole, so.counts, so.seen, so.expired)
 
 pub swept_bound : (a b : DeskView) (now row rows : ℕ) (n : Swept) → row ≡ rows → SweptTo a b now row n → AddsAtMost ((2 * most_items + 9) * rows) a b
 swept_bound a b now row rows n whole so =

@@ -29,6 +29,7 @@ use Rattle.claim_rule.proofs.Shapes.{shape_then, step_shape}
 use Rattle.claim_rule.proofs.Out.{holds_then}
 use Rattle.booking_rows.specs.declared.turns.Aim.TheVariants as aim
 use Rattle.booking_rows.specs.Aims.{end_of}
+use Rattle.booking_rows.specs.Ends.{IsEndedAs}
 use Rattle.booking_rows.specs.SealedRows.{IsSealedSince}
 use Rattle.booking_rows.specs.Views.{saw_phase}
 use Rattle.booking_rows.proofs.ViewLemmas.{first_shown, first_word, first_shape, sealed_since}
@@ -69,7 +70,7 @@ first_look row generation n phase a b did is said =
 -- the sweep of one row
 
 pub passes : (now row n : ℕ) (a b : DeskView) → said_phase (n % generation_words) ≢ Prebooked → Stepped (SawRow row 0 n) a b → SweepsRow now row a b came.Passed
-passes now row n a b ne did = (passed n, ne, refl, step_shape (SawRow row 0 n) a b did)
+passes now row n a b ne did = (passed n, ne, refl, step_shape (SawRow row 0 n) a b did, tt)
 
 -- all three looks at a prebooked booking
 pub all_looks : (row : ℕ) (s : SeenPrebooked) (a b c d : DeskView) → Shape a b (saw_phase (record { row = row; generation = s.generation }) Prebooked ∷ []) → Shape b c (SawRow row 2 s.limit ∷ []) → Shape c d (SawRow row 0 s.last ∷ []) → Shape a d (saw_prebooked row s)
@@ -79,20 +80,21 @@ pub three_holds : (a b c d : DeskView) → KeepsHolds a b → KeepsHolds b c →
 three_holds a b c d p q r = holds_then a b d p (holds_then b c d q r)
 
 pub gives_away : (now row : ℕ) (s : SeenPrebooked) (a b : DeskView) → phase_shown s.generation s.last ≡ Free → Shape a b (saw_prebooked row s) → SweepsRow now row a b came.Passed
-gives_away now row s a b free did = (given_away s, free, refl, did)
+gives_away now row s a b free did = (given_away s, free, refl, did, tt)
 
 pub waits : (now row : ℕ) (s : SeenPrebooked) (a b : DeskView) → IsThere s → now ≤ s.limit → Shape a b (saw_prebooked row s) → SweepsRow now row a b came.Waiting
-waits now row s a b there early did = (waiting s, (there, early), refl, did)
+waits now row s a b there early did = (waiting s, (there, early), refl, did, tt)
 
-pub expires : (now row : ℕ) (s : SeenPrebooked) (a b c : DeskView) → IsThere s → s.limit < now → Shape a b (saw_prebooked row s) → ShapeBy (EndsBooking (record { row = row; generation = s.generation }) Prebooked Expire (aim.Expire now) None) b c → SweepsRow now row a c came.Expired
-expires now row s a b c there late did ended =
+pub expires : (now row : ℕ) (s : SeenPrebooked) (a b c : DeskView) → IsThere s → s.limit < now → Shape a b (saw_prebooked row s) → ShapeBy (EndsBooking (record { row = row; generation = s.generation }) Prebooked Expire (aim.Expire now) None) b c
+    → IsEndedAs c (record { row = row; generation = s.generation }) Expire (end_of (aim.Expire now)) → SweepsRow now row a c came.Expired
+expires now row s a b c there late did ended so =
     let e = ended.1 in
-    (expired s e.0, (there, late, e.1), refl, shape_then a b c (saw_prebooked row s) (ends_as row Prebooked Expire (end_of (aim.Expire now)) e.0) did (subst (Shape b c) e.2 ended.2))
+    (expired s e.0, (there, late, e.1), refl, shape_then a b c (saw_prebooked row s) (ends_as row Prebooked Expire (end_of (aim.Expire now)) e.0) did (subst (Shape b c) e.2 ended.2), so)
 
 pub loses : (now row : ℕ) (s : SeenPrebooked) (shown : Phase) (a b c : DeskView) → IsThere s → s.limit < now → Shape a b (saw_prebooked row s) → ShapeBy (EndsBooking (record { row = row; generation = s.generation }) Prebooked Expire (aim.Expire now) (Some shown)) b c → SweepsRow now row a c came.Lost
 loses now row s shown a b c there late did ended =
     let e = ended.1 in
-    (lost s e.0, (there, late, e.1), refl, shape_then a b c (saw_prebooked row s) (LostTurn row (row_word_of Prebooked s.generation) e.0 ∷ []) did (subst (Shape b c) e.3 ended.2))
+    (lost s e.0, (there, late, e.1), refl, shape_then a b c (saw_prebooked row s) (LostTurn row (row_word_of Prebooked s.generation) e.0 ∷ []) did (subst (Shape b c) e.3 ended.2), tt)
 
 -- one row more
 

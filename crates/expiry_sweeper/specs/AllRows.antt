@@ -5,7 +5,9 @@ use Rattle.history_model.specs.declared.entry.Step.{Step}
 use Rattle.expiry_sweeper.specs.declared.rows.RowSwept.{RowSwept}
 use Rattle.expiry_sweeper.specs.declared.rows.RowSwept.TheVariants as came
 use Rattle.expiry_sweeper.specs.declared.sweeps.Swept.{Swept}
-use Rattle.expiry_sweeper.specs.OneRow.{RowSweep, IsRowSweep, outcome_of, row_sweep_steps}
+use Rattle.claim_rule.specs.Rule.{DeskView}
+use Rattle.claim_rule.specs.Seats.{Shape}
+use Rattle.expiry_sweeper.specs.OneRow.{RowSweep, IsRowSweep, HasExpired, outcome_of, row_sweep_steps}
 
 -- the steps of the sweeps of rows in rising number, from one on
 abbrev pub sweeps_steps : ℕ → ℕ → List RowSweep → List Step
@@ -30,3 +32,13 @@ pub record Sweeps (rows now : ℕ) (answer : Swept) (es : List Step) : Type 0 wh
   pub each : AllByRecursion (IsRowSweep now) sweeps
   pub steps : es ≡ sweeps_steps now 0 sweeps
   pub counts : answer ≡ counts_of sweeps
+
+-- each booking that these sweeps expired has ended so, of rows in rising number from one on
+abbrev pub HaveExpired : DeskView → ℕ → ℕ → List RowSweep → Type 0
+HaveExpired desk now row [] = Unit {0}
+HaveExpired desk now row (s ∷ rest) = HasExpired desk now row s × HaveExpired desk now (suc row) rest
+
+-- the entries of the sweep say which bookings it expired, and each of them has ended so
+abbrev pub ExpiresCounted : ℕ → ℕ → Swept → DeskView → DeskView → Type 0
+ExpiresCounted rows now answer old new = (sweeps : List RowSweep) × (length sweeps ≡ rows) × (answer ≡ counts_of sweeps)
+    × Shape old new (sweeps_steps now 0 sweeps) × HaveExpired new now 0 sweeps

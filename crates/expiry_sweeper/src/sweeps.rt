@@ -4,7 +4,7 @@ ghost use Rattle.history_model.specs.Booking.{most_items};
 ghost use Rattle.claim_rule.specs.Seats.{IsOf, AddsAtMost};
 ghost use Rattle.claim_rule.specs.Calls.{ShapeBy};
 ghost use Rattle.claim_rule.specs.Out.{EndsNone, KeepsHolds, IsTidy};
-ghost use Rattle.expiry_sweeper.specs.AllRows.{Sweeps, counted as counted_of};
+ghost use Rattle.expiry_sweeper.specs.AllRows.{Sweeps, ExpiresCounted, counted as counted_of};
 
 use crate::rows::{RowSwept, sweep_row};
 use claim_rule::{Books, Desk};
@@ -28,6 +28,7 @@ pub fn sweep(books: &Books, desk: &mut Desk, now: Moment) -> Swept
     requires none { EndsNone desk.old }
     ensures own { IsOf books.now desk.new }
     ensures entries { ShapeBy (Sweeps books.now.layout.rows now result) desk.old desk.new }
+    ensures expired { ExpiresCounted books.now.layout.rows now result desk.old desk.new }
     ensures none { EndsNone desk.new }
     ensures holds { KeepsHolds desk.old desk.new }
     ensures tidy { IsTidy desk.old → IsTidy desk.new }

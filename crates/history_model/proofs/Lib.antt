@@ -25,3 +25,4 @@ pub mod Successors
 pub mod Work
 pub mod Ranges
 pub mod Unused
+pub mod RowWords

@@ -122,6 +122,16 @@ next_of_taken s row some = ⊎_elim
     free_stage None e l = omega (arith, l)
     free_stage (Some b) e l = let no : ◌≡◌ {A = Option Booking} (Some b) None = e in cc
 
+-- a phase but free is one of a booking
+pub phase_some : (p : Phase) → p ≢ Free → 1 ≤ stage p
+phase_some Free n = absurd (n refl)
+phase_some Making n = omega arith
+phase_some Prebooked n = omega arith
+phase_some Confirmed n = omega arith
+phase_some Fulfilled n = omega arith
+phase_some (Ending k) n = omega arith
+phase_some (Ended k) n = omega arith
+
 pub taken_stays : (g : Layout) (s : State) (es : List Entry) (row : ℕ) → IsWellFormed g s → IsLegalFrom g s es → 1 ≤ stage (phase_of_row s row) → 1 ≤ stage (phase_of_row (state_after s es) row)
 taken_stays g s es row good legal some =
     let t : State = state_after s es in
@@ -129,15 +139,6 @@ taken_stays g s es row good legal some =
     let up = next-history g s es row legal in
     go (present t row) refl (λ free. let zero = free_next t row free in absurd (omega (arith, before, up, zero)))
   where
-    phase_some : (p : Phase) → p ≢ Free → 1 ≤ stage p
-    phase_some Free n = absurd (n refl)
-    phase_some Making n = omega arith
-    phase_some Prebooked n = omega arith
-    phase_some Confirmed n = omega arith
-    phase_some Fulfilled n = omega arith
-    phase_some (Ending k) n = omega arith
-    phase_some (Ended k) n = omega arith
-
     go : (o : Option Booking) → present (state_after s es) row ≡ o → (present (state_after s es) row ≡ None → ⊥) → 1 ≤ stage (phase_of_row (state_after s es) row)
     go None e none = absurd (none e)
     go (Some b) e none =

@@ -1,6 +1,7 @@
 -- What a list host allows and shows, and what bookings have, as contracts say it.
 use Rattle.std.specs.Prelude.{◌≡◌, ◌≢◌, ◌<◌, ◌≤◌, ◌^◌, ℕ, if◌then◌else◌, List, map, take, drop, length, slice_index}
-use Rattle.leg_masks.specs.Interval.{Interval, IsPiece, halves, item_word}
+use Rattle.std.specs.Int.{bit_at}
+use Rattle.leg_masks.specs.Interval.{Interval, IsPiece, halves, item_word, leg_of, word_legs}
 use Rattle.history_model.specs.declared.booking.BookedItem.{BookedItem}
 use Rattle.history_model.specs.declared.booking.End.{End}
 use Rattle.history_model.specs.declared.entry.Entry.{Entry}
@@ -34,6 +35,10 @@ ShowsOther h row wanted shown = IsRow h.layout row × (shown ≡ row_word h.book
 -- 1 where a leg of a place is occupied
 abbrev pub occupied_bit : Host → ℕ → ℕ → ℕ
 occupied_bit h place leg = if is_occupied h.bookings place leg then 1 else 0
+
+-- each bit of the word says whether its leg of this half of the place is occupied
+abbrev pub HasOccupiedBits : Host → ℕ → ℕ → ℕ → Type 0
+HasOccupiedBits h place half word = (bit : ℕ) → bit < word_legs → bit_at word bit ≡ occupied_bit h place (leg_of half bit)
 
 -- the words of a row have those of the items, in order
 abbrev pub AreWrittenIn : List ℕ → List BookedItem → Type 0

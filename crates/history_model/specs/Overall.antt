@@ -5,7 +5,7 @@ use Rattle.history_model.specs.declared.entry.Step.TheVariants.{Look}
 use Rattle.history_model.specs.declared.phase.EndKind.{EndKind}
 use Rattle.history_model.specs.declared.phase.Phase.{Phase}
 use Rattle.history_model.specs.declared.phase.Phase.TheVariants.{Free, Ending, Ended}
-use Rattle.history_model.specs.Booking.{Layout, most_items, first_item_word, booking_at, present, phase_at, next_generation}
+use Rattle.history_model.specs.Booking.{Layout, layout_of, most_items, first_item_word, booking_at, present, phase_at, next_generation}
 use Rattle.history_model.specs.Allowed.{IsAllowed}
 use Rattle.history_model.specs.Apply.{apply}
 use Rattle.history_model.specs.History.{IsLegal, IsTurnFrom, entry, own, state_of}
@@ -25,6 +25,11 @@ LegalIsInRange = (g : Layout) (history : List Entry) → IsLegal g history → A
 
 abbrev pub LegalHasNoDouble : Type 0
 LegalHasNoDouble = (g : Layout) (history : List Entry) → IsLegal g history → NoDouble (state_of g history)
+
+-- the history without entries is legal, and its state is that of books without bookings
+
+abbrev pub EmptyIsLegal : Type 0
+EmptyIsLegal = (places rows : ℕ) → IsLegal (layout_of places rows) [] × (state_of (layout_of places rows) [] ≡ [])
 
 -- with one allowed entry behind it a legal history is legal, and its state is the applied one
 

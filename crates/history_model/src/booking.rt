@@ -79,7 +79,15 @@ impl Model for BookingRow {
 
     ghost Value = { Booking };
 
-    ghost view = { λ b. record { row = b.row; generation = b.generation; owner = b.owner; phase = b.phase; items = b.items.items; words = b.words; end = b.end } };
+    ghost view = { λ b. record {
+      row = b.row;
+      generation = b.generation;
+      owner = b.owner;
+      phase = b.phase;
+      items = b.items.items;
+      words = b.words;
+      end = b.end;
+    } };
 }
 
 impl BookedItem {

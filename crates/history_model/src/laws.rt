@@ -1,12 +1,10 @@
 //! What holds of every legal history, as contracts of functions that do nothing.
 
-ghost use Rattle.std.specs.Prelude.{◌≡◌, false, [], ℕ};
+ghost use Rattle.std.specs.Prelude.{◌≡◌, false};
 ghost use Rattle.history_model.specs.declared.phase.Phase.{Phase};
 ghost use Rattle.history_model.specs.declared.phase.Phase.TheVariants.{Confirmed};
-ghost use Rattle.history_model.specs.Booking.{layout_of};
-ghost use Rattle.history_model.specs.History.{IsLegal, state_of};
 ghost use Rattle.history_model.specs.Life.{LeadsTo, is_let_go};
-ghost use Rattle.history_model.specs.Overall.{LegalIsWellFormed, LegalHasNoDouble, LegalIsInRange, LegalGoesOn, StateGoesOn};
+ghost use Rattle.history_model.specs.Overall.{LegalIsWellFormed, LegalHasNoDouble, LegalIsInRange, EmptyIsLegal, LegalGoesOn, StateGoesOn};
 ghost use Rattle.history_model.specs.Overall.{OwnersChangeAlone, OwnersStayPresent, UnendedIsPresent};
 ghost use Rattle.history_model.specs.Overall.{StagesRise, PhasesLeadOn, GenerationsRise};
 ghost use Rattle.history_model.specs.Overall.{OneTurnFrom, FirstTurnDecides, LosersSeeIt, EndingsStayOfKind};
@@ -25,7 +23,7 @@ pub fn legal_histories()
 pub fn histories_go_on()
     ensures legal { LegalGoesOn }
     ensures state { StateGoesOn }
-    ensures begins { (places rows : ℕ) → IsLegal (layout_of places rows) [] × (state_of (layout_of places rows) [] ≡ []) }
+    ensures begins { EmptyIsLegal }
 {}
 
 /// A booking in the making or ending is changed by the entries of its owner alone. A booking that hasn't ended is its

@@ -2,10 +2,9 @@
 
 ghost use Rattle.std.specs.Prelude.{◌≡◌, ◌<◌, ◌≤◌, ◌↔◌, ◌≢◌, [], true, Err, IsTrue, OnOk, OnErr, None, slice_index, ℕ, cond};
 ghost use Rattle.history_model.specs.Allowed.{IsAllowed, IsAllowedStep, IsRow, IsPlace, MayStart};
-ghost use Rattle.history_model.specs.Allows.{FitsIn, IsAllowedIn, IsTurnIn, ShowsOther, ShowsPlace, ShowsRow, occupied_bit};
+ghost use Rattle.history_model.specs.Allows.{FitsIn, IsAllowedIn, IsTurnIn, ShowsOther, ShowsPlace, ShowsRow, HasOccupiedBits};
 ghost use Rattle.history_model.specs.declared.entry.Step.{Step};
-ghost use Rattle.std.specs.Int.{bit_at};
-ghost use Rattle.leg_masks.specs.Interval.{IsPiece, halves, leg_of, most_places, word_legs};
+ghost use Rattle.leg_masks.specs.Interval.{IsPiece, halves, most_places};
 ghost use Rattle.history_model.specs.Booking.{most_rows, layout_of, is_occupied, row_words};
 ghost use Rattle.history_model.specs.Laws.{IsWellFormed, NoDouble, GoesOn};
 ghost use Rattle.history_model.specs.Words.{place_word, row_word};
@@ -51,7 +50,8 @@ impl Model for ListHost {
 
     ghost view = { λ h. record { layout = layout_of h.places h.rows; bookings = h.bookings.items } };
 
-    ghost invariant = { λ h. (h.places ≤ most_places) × (h.rows ≤ most_rows) × IsWellFormed (layout_of h.places h.rows) h.bookings.items };
+    ghost invariant = { λ h. (h.places ≤ most_places) × (h.rows ≤ most_rows)
+        × IsWellFormed (layout_of h.places h.rows) h.bookings.items };
 }
 
 impl ListHost {
@@ -99,7 +99,7 @@ impl ListHost {
     pub fn occupied(&self, place: PlaceNo, half: u8) -> u64
         requires half { half < halves }
         ensures word { result ≡ place_word self.now.bookings place.0 half }
-        ensures bits { (bit : ℕ) → bit < word_legs → bit_at result bit ≡ occupied_bit self.now place.0 (leg_of half bit) }
+        ensures bits { HasOccupiedBits self.now place.0 half result }
     {
         word_of_place(&self.bookings, place.0, half)
     }

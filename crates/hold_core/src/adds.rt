@@ -45,7 +45,8 @@ pub fn add_places(
     requires some { 1 ≤ count }
     requires room { length hold.old.items + count * length (pieces span) ≤ most_items }
     ensures own { IsOf books.now desk.new }
-    ensures entries { AddsPlaces desk.old hold.old span count (map place_number candidates.now) result desk.new hold.new }
+    ensures entries { AddsPlaces
+        desk.old hold.old span count (map place_number candidates.now) result desk.new hold.new }
     ensures hold { IsHolding desk.new hold.new }
     ensures noted { HasNotedItems desk.old hold.old → HasNotedItems desk.new hold.new }
     ensures endings { KeepsEndings desk.old desk.new }

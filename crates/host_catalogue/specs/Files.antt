@@ -47,3 +47,7 @@ HasCause (Refused fault) failed fails missed misses = fails ≡ failed
 HasCause (RefusedExport fault) failed fails missed misses = fails ≡ failed
 HasCause Failed failed fails missed misses = Rose failed fails
 HasCause NoMemory failed fails missed misses = fails ≡ failed
+
+-- a fact of a shelf's counts of faults and of misses, each before and after
+abbrev pub OfCounts : {F : Type 0} → (F → ℕ) → (F → ℕ) → F → F → (ℕ → ℕ → ℕ → ℕ → Type 0) → Type 0
+OfCounts faults misses old new P = P (faults old) (faults new) (misses old) (misses new)

@@ -1,5 +1,5 @@
 -- The books that a command begins with: those of its catalogue, with no booking or with those of an export.
-use Rattle.std.specs.Prelude.{◌≡◌, ◌⊎◌, ℕ, List, [], map, Option, Some, None, IfSome, Ok, Err}
+use Rattle.std.specs.Prelude.{◌≡◌, ◌⊎◌, ℕ, List, [], map, Option, Some, None, IfSome, Ok, Err, option_map}
 use Rattle.rail_catalogue.specs.Contents.{CatalogueView, legs_in}
 use Rattle.booking_rows.specs.SealedRows.{FitWords}
 use Rattle.claim_rule.specs.Openings.{KeptBooking, MayOpen, layout_with}
@@ -17,10 +17,20 @@ use Rattle.host_catalogue.specs.Loading.{HasNone, IsRefusedText, LacksCatalogue,
 use Rattle.host_catalogue.specs.declared.file.File.TheVariants.{Export}
 use Rattle.host_catalogue.specs.declared.file.LoadFault.{LoadFault}
 use Rattle.host_catalogue.specs.declared.file.LoadFault.TheVariants.{RefusedExport, NoMemory}
+use Rattle.std.specs.Borrow.{Bor}
+use Rattle.history_model.specs.Booking.{Layout}
 
 -- the text is an export for books of the catalogue, and these are its bookings
 abbrev pub IsExportFor : CatalogueView → List ℕ → List KeptBooking → Type 0
 IsExportFor cat text kept = (said : List SaidBooking) × IsSound (legs_in cat) cat.rows text said × (kept ≡ map kept_of said)
+
+-- what new books of the catalogue have
+abbrev pub new_layout : CatalogueView → Layout
+new_layout cat = record { legs = legs_in cat; rows = cat.rows; opening = [] }
+
+-- the name of the export, where a command has one
+abbrev pub export_name : Option (Bor (List ℕ)) → Option (List ℕ)
+export_name from = option_map (λ name. name.now) from
 
 -- what books of the catalogue open with: no booking, or those of the export with the name
 abbrev pub BeginsWith : Files → CatalogueView → Option (List ℕ) → List KeptBooking → Type 0
@@ -37,6 +47,10 @@ pub record IsOpened (cat : CatalogueView) (kept : List KeptBooking) (books : Boo
   pub fit : FitWords books.layout
   pub may : MayOpen (legs_in cat) cat.rows kept
   pub succeeded : AreSucceeded books.layout.opening
+
+-- so by the bookings of the export that the text is
+abbrev pub IsOpenedFrom : CatalogueView → List ℕ → BooksView → DeskView → Type 0
+IsOpenedFrom cat text books desk = (kept : List KeptBooking) × IsExportFor cat text kept × IsOpened cat kept books desk
 
 -- why a text is no export for books of the catalogue
 abbrev pub IsRefusal : CatalogueView → List ℕ → ImportFault → Type 0

@@ -1,6 +1,6 @@
 // The files that a command reads.
 ghost use Rattle.std.specs.Prelude.{◌≡◌, ◌≤◌, IfErr, IfOk};
-ghost use Rattle.host_catalogue.specs.Files.{HasCause, IsFileFault, IsTextOf, most_of};
+ghost use Rattle.host_catalogue.specs.Files.{HasCause, IsFileFault, IsTextOf, most_of, OfCounts};
 
 use cold_store::ImportFault;
 use rail_catalogue::CatalogueFault;
@@ -57,7 +57,7 @@ pub(crate) fn fetch_text<F: Shelf>(
     ensures same { F.told shelf.new ≡ F.told shelf.old }
     ensures steady { IfOk result (λ _. F.faults shelf.new ≡ F.faults shelf.old) }
     ensures never_falls { F.misses shelf.old ≤ F.misses shelf.new }
-    ensures cause { IfErr result (λ e. HasCause e (F.faults shelf.old) (F.faults shelf.new) (F.misses shelf.old) (F.misses shelf.new)) }
+    ensures cause { IfErr result (λ e. OfCounts F.faults F.misses shelf.old shelf.new (HasCause e)) }
 {
     match shelf.fetch(alloc, name, file.most()) {
         Fetched::Got(text) => Ok(text),

@@ -1,6 +1,6 @@
 // A catalogue out of a shelf.
 ghost use Rattle.std.specs.Prelude.{◌≡◌, ◌≤◌, IfErr, IfOk};
-ghost use Rattle.host_catalogue.specs.Files.{HasCause};
+ghost use Rattle.host_catalogue.specs.Files.{HasCause, OfCounts};
 ghost use Rattle.host_catalogue.specs.Loading.{Loads, Reads};
 
 use crate::file::{File, LoadFault, fetch_text};
@@ -28,7 +28,7 @@ pub fn load_catalogue<F: Shelf>(
     ensures same { F.told shelf.new ≡ F.told shelf.old }
     ensures steady { IfOk result (λ _. F.faults shelf.new ≡ F.faults shelf.old) }
     ensures never_falls { F.misses shelf.old ≤ F.misses shelf.new }
-    ensures cause { IfErr result (λ e. HasCause e (F.faults shelf.old) (F.faults shelf.new) (F.misses shelf.old) (F.misses shelf.new)) }
+    ensures cause { IfErr result (λ e. OfCounts F.faults F.misses shelf.old shelf.new (HasCause e)) }
 {
     match fetch_text(alloc, shelf, File::Catalogue, name) {
         Ok(text) => read(alloc, text.as_slice()),

@@ -1,5 +1,5 @@
 // The note on a file that can't be had.
-ghost use Rattle.std.specs.Prelude.{◌≡◌, ◌++◌, [], List, ℕ};
+ghost use Rattle.std.specs.Prelude.{◌≡◌, ◌++◌};
 ghost use Rattle.rail_catalogue.specs.declared.fault.CatalogueFault.{CatalogueFault};
 ghost use Rattle.cold_store.specs.declared.fault.ImportFault.{ImportFault};
 ghost use Rattle.host_catalogue.specs.Notes.{export_note, fault_note, load_note};

@@ -1,5 +1,5 @@
 // The books of a catalogue.
-ghost use Rattle.std.specs.Prelude.{◌≡◌, ◌≤◌, List, [], Ok, option_map, IfErr, IfOk};
+ghost use Rattle.std.specs.Prelude.{◌≡◌, ◌≤◌, List, [], Ok, IfErr, IfOk};
 ghost use Rattle.claim_rule.specs.Openings.{KeptBooking};
 ghost use Rattle.claim_rule.specs.Seats.{IsNew, IsOf};
 ghost use Rattle.claim_rule.specs.Out.{IsTidy};
@@ -7,8 +7,8 @@ ghost use Rattle.booking_rows.specs.SealedRows.{FitWords};
 ghost use Rattle.history_model.specs.Booking.{most_rows};
 ghost use Rattle.rail_catalogue.specs.Contents.{legs_in};
 ghost use Rattle.cold_store.specs.Imports.{IsImportFault, OpensAs};
-ghost use Rattle.host_catalogue.specs.Files.{HasCause};
-ghost use Rattle.host_catalogue.specs.Opening.{BeginsWith, Fails, HasBooks, IsExportFor, IsNotImported, IsNotOpened, IsOpened};
+ghost use Rattle.host_catalogue.specs.Files.{HasCause, OfCounts};
+ghost use Rattle.host_catalogue.specs.Opening.{BeginsWith, Fails, HasBooks, IsNotImported, IsNotOpened, IsOpened, IsOpenedFrom, export_name, new_layout};
 
 use crate::file::{File, LoadFault, fetch_text};
 use crate::load::load_catalogue;
@@ -20,7 +20,7 @@ use std::alloc::{AllocError, Global};
 
 /// New books with the catalogue's places and rows, and their first desk, which has seen nothing.
 pub fn open_books(alloc: Global, catalogue: &Catalogue) -> Result<(Books, Desk), AllocError>
-    ensures layout { IfOk result (λ t. t.0.layout ≡ record { legs = legs_in catalogue.now; rows = catalogue.now.rows; opening = [] }) }
+    ensures layout { IfOk result (λ t. t.0.layout ≡ new_layout catalogue.now) }
     ensures own { IfOk result (λ t. IsOf t.0 t.1) }
     ensures desk { IfOk result (λ t. IsNew t.1 0 []) }
     ensures tidy { IfOk result (λ t. IsTidy t.1) }
@@ -37,7 +37,7 @@ fn import(alloc: Global, catalogue: &Catalogue, text: &[u8]) -> Result<(Books, D
     ensures desk { IfOk result (λ t. IsNew t.1 0 []) }
     ensures tidy { IfOk result (λ t. IsTidy t.1) }
     ensures rows { IfOk result (λ _. catalogue.now.rows ≤ most_rows) }
-    ensures fit { IfOk result (λ _. FitWords (record { legs = legs_in catalogue.now; rows = catalogue.now.rows; opening = [] })) }
+    ensures fit { IfOk result (λ _. FitWords (new_layout catalogue.now)) }
     ensures err { IfErr result (IsImportFault (legs_in catalogue.now) catalogue.now.rows text.now) }
 {
     let legs = catalogue.legs(alloc)?;
@@ -50,7 +50,7 @@ fn open_export(
     catalogue: &Catalogue,
     text: &[u8],
 ) -> Result<(Books, Desk), LoadFault>
-    ensures ok { IfOk result (λ t. (kept : List KeptBooking) × IsExportFor catalogue.now text.now kept × IsOpened catalogue.now kept t.0 t.1) }
+    ensures ok { IfOk result (λ t. IsOpenedFrom catalogue.now text.now t.0 t.1) }
     ensures err { IfErr result (IsNotImported catalogue.now text.now) }
 {
     match import(alloc, catalogue, text) {
@@ -68,12 +68,12 @@ fn open_from<F: Shelf>(
     from: Option<&str>,
 ) -> Result<(Books, Desk), LoadFault>
     ensures ok { IfOk result (λ t. (kept : List KeptBooking)
-        × BeginsWith (F.told shelf.old) catalogue.now (option_map (λ name. name.now) from.entry) kept
+        × BeginsWith (F.told shelf.old) catalogue.now (export_name from.entry) kept
         × IsOpened catalogue.now kept t.0 t.1) }
-    ensures err { IfErr result (IsNotOpened (F.told shelf.old) catalogue.now (option_map (λ name. name.now) from.entry)) }
+    ensures err { IfErr result (IsNotOpened (F.told shelf.old) catalogue.now (export_name from.entry)) }
     ensures same { F.told shelf.new ≡ F.told shelf.old }
     ensures steady { IfOk result (λ _. F.faults shelf.new ≡ F.faults shelf.old) }
-    ensures cause { IfErr result (λ e. HasCause e (F.faults shelf.old) (F.faults shelf.new) (F.misses shelf.old) (F.misses shelf.new)) }
+    ensures cause { IfErr result (λ e. OfCounts F.faults F.misses shelf.old shelf.new (HasCause e)) }
 {
     let Some(name) = from else {
         let Ok(opened) = open_books(alloc, catalogue) else {
@@ -96,12 +96,12 @@ pub fn load_books<F: Shelf>(
     from: Option<&str>,
 ) -> Result<(Catalogue, Books, Desk), LoadFault>
     ensures ok { IfOk result (λ t. (kept : List KeptBooking)
-        × HasBooks (F.told shelf.old) name.now (option_map (λ name. name.now) from.entry) t.0 kept
+        × HasBooks (F.told shelf.old) name.now (export_name from.entry) t.0 kept
         × IsOpened t.0 kept t.1 t.2) }
-    ensures err { IfErr result (Fails (F.told shelf.old) name.now (option_map (λ name. name.now) from.entry)) }
+    ensures err { IfErr result (Fails (F.told shelf.old) name.now (export_name from.entry)) }
     ensures same { F.told shelf.new ≡ F.told shelf.old }
     ensures steady { IfOk result (λ _. F.faults shelf.new ≡ F.faults shelf.old) }
-    ensures cause { IfErr result (λ e. HasCause e (F.faults shelf.old) (F.faults shelf.new) (F.misses shelf.old) (F.misses shelf.new)) }
+    ensures cause { IfErr result (λ e. OfCounts F.faults F.misses shelf.old shelf.new (HasCause e)) }
 {
     let catalogue = match load_catalogue(alloc, shelf, name) {
         Ok(catalogue) => catalogue,

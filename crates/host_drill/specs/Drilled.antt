@@ -16,7 +16,7 @@ use Rattle.rail_catalogue.specs.Contents.{CatalogueView}
 use Rattle.rail_catalogue.specs.Format.{catalogue_of}
 use Rattle.host_words.specs.declared.drill.DrillWords.{DrillWords}
 use Rattle.drill_totals.specs.Generator.{catalogue_text}
-use Rattle.drill_totals.specs.Totals.{most_sold, sold_of}
+use Rattle.drill_totals.specs.Totals.{most_sold, sold_of, times}
 use Rattle.drill_totals.specs.Doubles.{doubled_of}
 use Rattle.drill_totals.specs.Meeting.{OfWorker, IsOneOf, AreAnswered, IsFirst}
 use Rattle.host_drill.specs.declared.connection.Connection.{Connection}
@@ -32,6 +32,10 @@ pub record IsDone (books : BooksView) (cat : CatalogueView) (said : DrillWords) 
   pub number : c.desk.number ≡ worker + 1
   pub taken : c.desk.taken ≡ []
   pub connection : c.end ≡ Done → IsConnection cat said.seed said.size worker c.desk (sink_taken c.sink)
+
+-- how often the line stands in what the connection was answered
+abbrev pub answer_count : List ℕ → Connection → ℕ
+answer_count line c = times line (sink_taken c.sink)
 
 -- of each worker its connection
 abbrev pub connection_of : CatalogueView → DrillWords → OfWorker

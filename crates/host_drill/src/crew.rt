@@ -7,10 +7,10 @@ ghost use Rattle.rail_catalogue.specs.Contents.{legs_in};
 ghost use Rattle.session_loop.specs.declared.end.ConnEnd.TheVariants.{Done};
 ghost use Rattle.claim_rule.specs.Seats.{HasMet, IsNew, IsOf};
 ghost use Rattle.claim_rule.specs.Out.{IsIdle};
-ghost use Rattle.drill_totals.specs.Totals.{busy_line, no_memory_line, refused_line, times};
+ghost use Rattle.drill_totals.specs.Totals.{busy_line, no_memory_line, refused_line};
 ghost use Rattle.drill_totals.specs.Meeting.{AreAnswered, EachAt, EachPair, IsFirst};
 ghost use Rattle.host_drill.specs.Connections.{IsReady, Serves};
-ghost use Rattle.host_drill.specs.Drilled.{IsDone, connection_of};
+ghost use Rattle.host_drill.specs.Drilled.{IsDone, connection_of, answer_count};
 
 use crate::connection::Connection;
 use claim_rule::{Books, Desk};
@@ -162,9 +162,9 @@ fn meet_one(
     ensures idle { IsIdle desk.new }
     ensures met { HasMet desk.old connection.desk desk.new }
     ensures done { IfSome result (λ _. connection.end ≡ Done) }
-    ensures refused { IfSome result (λ a. a.refused ≡ answers.refused + times refused_line (sink_taken connection.sink)) }
-    ensures busy { IfSome result (λ a. a.busy ≡ answers.busy + times busy_line (sink_taken connection.sink)) }
-    ensures no_memory { IfSome result (λ _. times no_memory_line (sink_taken connection.sink) ≡ 0) }
+    ensures refused { IfSome result (λ a. a.refused ≡ answers.refused + answer_count refused_line connection) }
+    ensures busy { IfSome result (λ a. a.busy ≡ answers.busy + answer_count busy_line connection) }
+    ensures no_memory { IfSome result (λ _. answer_count no_memory_line connection ≡ 0) }
 {
     let Connection {
         desk: other,
@@ -201,7 +201,8 @@ pub(crate) fn meet_all(
     ensures own { IsOf books.now desk.new }
     ensures idle { IsIdle desk.new }
     ensures first { IfSome result (λ _. IsFirst desk.new said.workers 0) }
-    ensures answered { IfSome result (λ a. AreAnswered (connection_of cat.now said) desk.new.seen said.workers 0 a.refused a.busy) }
+    ensures answered { IfSome result (λ a.
+        AreAnswered (connection_of cat.now said) desk.new.seen said.workers 0 a.refused a.busy) }
 {
     let _cat = cat;
     let _said = said;

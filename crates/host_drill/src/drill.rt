@@ -1,13 +1,12 @@
 // The top call of `drill`.
 ghost use Rattle.std.specs.Prelude.{◌≡◌, ◌≤◌, ◌⊎◌, IfOk, IfErr, option_map, false, true};
 ghost use Rattle.rail_io.specs.Faults.{Rose};
-ghost use Rattle.claim_rule.specs.Seats.{IsOf};
 ghost use Rattle.host_words.specs.Options.{words_texts};
 ghost use Rattle.session_loop.specs.Writes.{Writes};
 ghost use Rattle.host_drill.specs.Drilled.{IsDrilled};
 ghost use Rattle.host_drill.specs.Ends.{IsForDrill, IsDrill, IsNoDrill, Leaves, end_of_drill, printed};
 ghost use Rattle.host_notes.specs.Ends.{note_of, status_of};
-ghost use Rattle.host_notes.specs.Noted.{IsNoted};
+ghost use Rattle.host_notes.specs.Noted.{TakesNote};
 
 use crate::crew::{meet_all, open_crew, serve_all};
 use claim_rule::Wall;
@@ -129,7 +128,8 @@ fn drill<R: Threads + Sync, K: Sink>(
     words: &[String],
     output: &mut K,
 ) -> (Cause, Option<Wall>)
-    ensures leaves { Leaves (words_texts words.now) (K.told output.old) (K.told output.new) (option_map (λ w. w) result.1) result.0 }
+    ensures leaves { Leaves (words_texts words.now) (K.told output.old) (K.told output.new)
+        (option_map (λ w. w) result.1) result.0 }
     ensures write_cause { result.0 ≡ Cause.Write → Rose (K.faults output.old) (K.faults output.new) }
     ensures write_steady { (result.0 ≡ Cause.Write → ⊥) → K.faults output.new ≡ K.faults output.old }
     ensures nothing_written { result.0 ≡ Cause.Words → output.new ≡ output.old }
@@ -165,7 +165,7 @@ pub fn run_drill<R: Threads + Sync, K: Sink, E: Sink>(
     // How it ended, by its status; and what it leaves: the line printed, and the books that it counts.
     ensures ends { (cause : Cause) × (result.status ≡ status_of (end_of_drill cause))
         × Leaves (words_texts words.now) (K.told output.old) (K.told output.new) (option_map (λ w. w) result.wall) cause
-        × IsNoted (E.told notes.old) (E.told notes.new) (E.faults notes.old) (E.faults notes.new) (note_of (end_of_drill cause)) }
+        × TakesNote E.told E.faults notes.old notes.new (note_of (end_of_drill cause)) }
 
     // Status 2 comes exactly where the words are refused. Nothing is then written.
     ensures refused { IsNoDrill (words_texts words.now)

@@ -70,7 +70,8 @@ impl<L: Listener + Drop, N: Named> SharedListener<L, N> {
 
     /// The next stream. None exactly where the listener has then ended; one that has ended isn't asked again.
     pub fn next(&mut self) -> Option<Waiting<L::Input, L::Output>>
-        ensures some { IfSome result (λ _. (self.new.end ≡ Open) × ((L.told self.old.listener).handed < (L.told self.new.listener).handed)) }
+        ensures some { IfSome result (λ _. (self.new.end ≡ Open)
+            × ((L.told self.old.listener).handed < (L.told self.new.listener).handed)) }
         ensures none { IfNone result (self.new.end ≢ Open) }
         ensures ended { self.old.end ≢ Open → self.new ≡ self.old }
     {

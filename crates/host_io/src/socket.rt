@@ -1,13 +1,15 @@
 // A connection of a port: a reader and a sink that share its stream.
-ghost use Rattle.std.specs.Prelude.{◌≡◌, ◌<◌, ◌≤◌, ◌+◌, IfSome, length};
+ghost use Rattle.std.specs.Prelude.{◌≡◌, ◌<◌, None, length};
+ghost use Rattle.rail_io.specs.Told.{Pushes};
 ghost use Rattle.host_io.specs.Tcp.{seconds_of};
 
-use rail_io::{Pushed, PushedBoth, Sink};
+use crate::outbox::Outbox;
+use rail_io::{Pushed, Sink, WriterSink};
 use std::alloc::Global;
-use std::io::{ErrorKind, IoSlice, Read};
+use std::io::{ErrorKind, Read};
 use std::net::{Shutdown, TcpStream};
-use std::sync::Arc;
 use std::sync::atomic::{AtomicBool, Ordering};
+use std::sync::{Arc, Mutex};
 use std::time::{Duration, Instant};
 use std::{io, time};
 
@@ -25,9 +27,6 @@ const DRAIN_SECONDS: u64 = 2;
 const DRAIN_PIECES: u32 = 1_000_000;
 
 const DRAIN_ROOM: usize = 16_384;
-
-/// How often an interrupted write is made once more before it counts as failed.
-const RETRIES: u32 = 1_000;
 
 /// How many seconds a read may wait: fewer where nothing has come since the last answer, or at all, than inside a request.
 fn read_seconds(idle: bool) -> u64
@@ -48,13 +47,49 @@ pub fn make_ready(stream: &TcpStream) -> io::Result<()> {
 #[derive(Drop)]
 struct Shared {
     stream: TcpStream,
-    /// Whether something was written since the last read.
+    /// What was answered and isn't sent yet. Each half has the lock for a moment only, and one thread has both halves.
+    outbox: Mutex<Outbox>,
+    /// Whether something was answered since the last call of `send_answers`.
     answered: AtomicBool,
 }
 
-/// The reading half of a connection. A read fails that waits for more than 5 seconds where nothing has come since the last answer, or for
-/// more than 30 inside a request. Where the other side hasn't ended the connection when it is let go, it is told that no more answers
-/// come, and what it still sends is read away for a moment, so that it gets to read the last answer.
+impl Shared {
+    /// Sends what was answered since the last call: whether there was any. Nothing is sent a second time where this fails.
+    fn send_answers(&self) -> io::Result<bool> {
+        if !self.answered.swap(false, Ordering::SeqCst) {
+            return Ok(false);
+        }
+        let mut sink = WriterSink::new(&self.stream);
+        let Some(mut outbox) = self.outbox.try_lock() else {
+            return Err(io::Error::from(ErrorKind::BrokenPipe));
+        };
+        if outbox.send(&mut sink) {
+            Ok(true)
+        } else {
+            Err(io::Error::from(ErrorKind::BrokenPipe))
+        }
+    }
+
+    /// Takes some of an answer, to be sent with others.
+    fn take(&self, piece: &[u8]) -> Pushed
+        requires { 0 < length piece.now }
+        ensures { Pushes None None piece.now result }
+    {
+        let mut sink = WriterSink::new(&self.stream);
+        let Some(mut outbox) = self.outbox.try_lock() else {
+            return Pushed::Failed;
+        };
+        let taken = outbox.write(&mut sink, piece);
+        self.answered
+            .store(taken != Pushed::Failed, Ordering::SeqCst);
+        taken
+    }
+}
+
+/// The reading half of a connection. What was answered is sent before it waits for more. A read fails that waits for more than 5 seconds
+/// where nothing has come since the last answer, or for more than 30 inside a request, and so does one before which the answers can't be
+/// sent. Where the other side hasn't ended the connection when it is let go, it is told that no more answers come, and what it still sends
+/// is read away for a moment, so that it gets to read the last answer.
 pub struct SocketReader<C: time::Clock + Drop> {
     clock: C,
     shared: Arc<Shared, Global>,
@@ -66,8 +101,8 @@ pub struct SocketReader<C: time::Clock + Drop> {
     open: bool,
 }
 
-/// The writing half of a connection, which tells no content. Head and body of an answer go out by one call of the system.
-#[derive(Drop)]
+/// The writing half of a connection, which tells no content. Answers are held back until the reading half is asked for more or is let go,
+/// or until they are many: so one call of the system sends the answers to all requests that one read gave.
 pub struct SocketSink {
     shared: Arc<Shared, Global>,
     faults: u64,
@@ -80,8 +115,15 @@ pub(crate) fn halves_of<C: time::Clock + Drop>(
     stream: TcpStream,
 ) -> io::Result<(SocketReader<C>, SocketSink)> {
     make_ready(&stream)?;
-    let answered = AtomicBool::new(false);
-    let Ok(shared) = Arc::new(alloc, Shared { stream, answered }) else {
+    let Ok(outbox) = Outbox::new(alloc) else {
+        return Err(io::Error::from(ErrorKind::OutOfMemory));
+    };
+    let shared = Shared {
+        stream,
+        outbox: Mutex::new(outbox),
+        answered: AtomicBool::new(false),
+    };
+    let Ok(shared) = Arc::new(alloc, shared) else {
         return Err(io::Error::from(ErrorKind::OutOfMemory));
     };
     let Ok(second) = Arc::try_clone(&shared) else {
@@ -102,9 +144,9 @@ pub(crate) fn halves_of<C: time::Clock + Drop>(
 }
 
 impl<C: time::Clock + Drop> SocketReader<C> {
-    /// Sets the time limit of the next read.
-    fn set_limit(&mut self) -> io::Result<()> {
-        if self.shared.answered.swap(false, Ordering::SeqCst) {
+    /// Sends what was answered, and sets the time limit of the next read.
+    fn prepare(&mut self) -> io::Result<()> {
+        if self.shared.send_answers()? {
             self.idle = true;
         }
         let limit = read_seconds(self.idle);
@@ -119,9 +161,10 @@ impl<C: time::Clock + Drop> SocketReader<C> {
 
 impl<C: time::Clock + Drop> Read for SocketReader<C> {
     fn read(&mut self, buf: &mut [u8]) -> io::Result<usize> {
-        self.set_limit()?;
-        let mut stream = &self.shared.stream;
-        let answer = stream.read(buf);
+        let answer = match self.prepare() {
+            Ok(()) => (&self.shared.stream).read(buf),
+            Err(error) => Err(error),
+        };
         match &answer {
             Ok(0) => self.open = false,
             Ok(_) => self.idle = false,
@@ -132,24 +175,6 @@ impl<C: time::Clock + Drop> Read for SocketReader<C> {
     }
 }
 
-/// Writes of both pieces as much as the system takes in one call: how many bytes, or none where the call failed or took nothing.
-fn send(stream: &TcpStream, first: &[u8], second: &[u8]) -> Option<usize>
-    requires some { 0 < length first.now }
-    ensures took { IfSome result (λ n. (0 < n) × (n ≤ length first.now + length second.now)) }
-{
-    let pieces = [IoSlice::new(first), IoSlice::new(second)];
-    let most = first.len() + second.len();
-    for _ in 0..RETRIES {
-        match stream.write_vectored(pieces.as_slice()) {
-            Ok(0) => return None,
-            Ok(count) => return Some(count.min(most)),
-            Err(error) if error.kind() == ErrorKind::Interrupted => {}
-            Err(_) => return None,
-        }
-    }
-    None
-}
-
 impl Sink for SocketSink {
     ghost use Rattle.std.specs.Prelude.{None};
 
@@ -158,25 +183,21 @@ impl Sink for SocketSink {
     ghost faults = { λ s. s.faults };
 
     fn write(&mut self, piece: &[u8]) -> Pushed {
-        self.shared.answered.store(true, Ordering::SeqCst);
-        match send(&self.shared.stream, piece, b"") {
-            Some(count) => Pushed::Took(count),
-            None => {
-                self.faults = self.faults.saturating_add(1);
-                Pushed::Failed
-            }
+        let taken = self.shared.take(piece);
+        if taken == Pushed::Failed {
+            self.faults = self.faults.saturating_add(1);
         }
+        taken
     }
+}
 
-    fn write_both(&mut self, first: &[u8], second: &[u8]) -> PushedBoth {
-        self.shared.answered.store(true, Ordering::SeqCst);
-        match send(&self.shared.stream, first, second) {
-            Some(count) => PushedBoth::Took(count),
-            None => {
-                self.faults = self.faults.saturating_add(1);
-                PushedBoth::Failed(0)
-            }
-        }
+impl Drop for SocketSink {
+    fn drop(self) {
+        let _sent = self.shared.send_answers();
+        let SocketSink {
+            shared: _,
+            faults: _,
+        } = self;
     }
 }
 
@@ -198,6 +219,7 @@ fn drain<C: time::Clock>(clock: &C, stream: &TcpStream) -> io::Result<()> {
 
 impl<C: time::Clock + Drop> Drop for SocketReader<C> {
     fn drop(self) {
+        let _sent = self.shared.send_answers();
         if self.open {
             let _drained = drain(&self.clock, &self.shared.stream);
         }

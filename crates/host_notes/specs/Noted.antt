@@ -10,3 +10,7 @@ pub record IsNoted (before after : Option (List ℕ)) (faults_before faults_afte
   pub told : after ≡ with_end before written
   pub is : text ≡ written ++ left
   pub whole : (left ≡ []) ⊎ Rose faults_before faults_after
+
+-- so of the notes themselves, before and after
+abbrev pub TakesNote : {E : Type 0} → (E → Option (List ℕ)) → (E → ℕ) → E → E → List ℕ → Type 0
+TakesNote told faults old new text = IsNoted (told old) (told new) (faults old) (faults new) text

@@ -1,7 +1,7 @@
 // How a command ends: its status and its note.
-ghost use Rattle.std.specs.Prelude.{◌≡◌, ◌++◌};
+ghost use Rattle.std.specs.Prelude.{◌≡◌, ◌≤◌, ◌++◌};
 ghost use Rattle.host_notes.specs.Ends.{end_of, note_of, status_of};
-ghost use Rattle.host_notes.specs.Noted.{IsNoted};
+ghost use Rattle.host_notes.specs.Noted.{TakesNote};
 
 use crate::noting::note_parts;
 use host_catalogue::{LoadFault, NoteText};
@@ -82,7 +82,8 @@ impl CommandEnd {
 /// Writes the note of a command's end, and answers its status, which a failing note doesn't change.
 pub fn end_command<E: Sink>(notes: &mut E, end: &CommandEnd) -> u8
     ensures status { result ≡ status_of end.now }
-    ensures noted { IsNoted (E.told notes.old) (E.told notes.new) (E.faults notes.old) (E.faults notes.new) (note_of end.now) }
+    ensures never_falls { E.faults notes.old ≤ E.faults notes.new }
+    ensures noted { TakesNote E.told E.faults notes.old notes.new (note_of end.now) }
 {
     note_parts(notes, end.note());
     end.status()

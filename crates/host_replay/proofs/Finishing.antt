@@ -30,7 +30,7 @@ use Rattle.rail_service.specs.Connections.{ServiceView, HasServed, IsServed}
 use Rattle.host_catalogue.specs.Opening.{IsOpened}
 use Rattle.host_words.specs.Replay.{ReplayView}
 use Rattle.host_replay.specs.Input.{IsFirstDesk, opening}
-use Rattle.host_replay.specs.Export.{IsExportOf, StandsIn, export_in, export_with, no_memory_line}
+use Rattle.host_replay.specs.Export.{HasNoText, IsExportOf, StandsIn, export_in, export_with, no_memory_line}
 
 alone_at_first : (cat : CatalogueView) (kept : List KeptBooking) (books : BooksView) (desk : DeskView) → IsOpened cat kept books desk → IsAlone desk
 alone_at_first cat kept books desk is = record { number = is.new.number; made = is.new.made }
@@ -126,3 +126,13 @@ module _ (cat : CatalogueView) (kept : List KeptBooking) (books : BooksView) (fi
     settled = alone_settles books after.desk of alone_after idle;
     is = text_is ∙ ap (λ (g : Layout). export_with g (state_seen after.desk)) is.layout;
   }
+
+-- a connection that ended otherwise, with no answer for want of memory, leaves no text
+pub none_made : (cat : CatalogueView) (first : DeskView) (said : ReplayView) (after : ServiceView) (taken : List ℕ) (left : Option (List ℕ)) (answers : List ℕ) (e : ConnEnd)
+    → (e ≡ conn.Done → ⊥) → (e ≡ conn.WriteFault → ⊥) → (StandsIn no_memory_line answers → ⊥) → HasServed cat (opening first said) after taken left answers e
+    → HasNoText cat first said taken left e
+none_made cat first said after taken left answers e done write spared (inl none) = subst (λ (x : ConnEnd). HasNoText cat first said taken left x) (sym none.0) tt
+none_made cat first said after taken left answers conn.Done done write spared (inr served) = absurd (done refl)
+none_made cat first said after taken left answers conn.WriteFault done write spared (inr served) = absurd (write refl)
+none_made cat first said after taken left answers conn.NoMemory done write spared (inr served) = tt
+none_made cat first said after taken left answers e done write spared (inr served) = record { answers = answers; after = after; served = served; spared = spared }

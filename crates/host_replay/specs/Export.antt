@@ -1,7 +1,8 @@
 -- What `export` does.
 use Rattle.std.specs.Prelude.{◌≡◌, ◌⊎◌, ℕ, List, ◌++◌, codes, map, length, Option}
 use Rattle.rail_io.specs.Told.{with_front, with_end}
-use Rattle.http_wire.specs.Requests.{RequestText, Rest, empty, closed}
+use Rattle.http_wire.specs.Requests.{RequestText, Rest, empty, unfinished, closed, refused}
+use Rattle.http_wire.specs.declared.request.WireFault.{WireFault}
 use Rattle.session_loop.specs.declared.end.ConnEnd.{ConnEnd}
 use Rattle.session_loop.specs.declared.end.ConnEnd.TheVariants as conn
 use Rattle.session_loop.specs.Session.{Answering, IsAnswered}
@@ -64,11 +65,12 @@ pub record IsExportOf (cat : CatalogueView) (desk : DeskView) (said : ReplayView
   pub settled : IsSettled (state_seen after.desk)
   pub is : text ≡ export_in cat (state_seen after.desk)
 
--- The connection ended so, and not with the answer to a last request.
+-- The connection ended so, and not with the answer to a last request. No answer was for want of memory.
 pub record IsCutOf (cat : CatalogueView) (desk : DeskView) (said : ReplayView) (taken : List ℕ) (left : Option (List ℕ)) (e : ConnEnd) : Type 0 where
   pub answers : List ℕ
   pub after : ServiceView
   pub served : IsServed cat (opening desk said) after taken left answers e
+  pub spared : StandsIn no_memory_line answers → ⊥
 
 -- where there is no text: how the connection ended, unless there was no memory
 abbrev pub HasNoText : CatalogueView → DeskView → ReplayView → List ℕ → Option (List ℕ) → ConnEnd → Type 0
@@ -121,10 +123,9 @@ pub record IsSureAnswer (cat : CatalogueView) (before : PlainView) (request : Re
 abbrev pub sure_answers_of : CatalogueView → Answering PlainView
 sure_answers_of cat = λ before request written after. IsSureAnswer cat before request written after
 
--- The text is that of the kept bookings of one state, which the defined replies to the stream leave. Its sealed present bookings are those of
--- a host of one thread that begins with the bookings that the books open with, after all requests of the stream. Where that host keeps a
--- row, it is the state's one row in the making; else the state has none.
-pub record IsExported (words : List (List ℕ)) (files : Files) (stream : List ℕ) (rest : Rest) (text : List ℕ) : Type 0 where
+-- The replies to the stream, which ends so, are the defined ones, and those of a host of one thread that begins with the bookings that the
+-- books open with. None of them is for want of memory.
+pub record IsSurelyReplayed (words : List (List ℕ)) (files : Files) (stream : List ℕ) (rest : Rest) (replies : List ℕ) : Type 0 where
   pub said : ReplayView
   pub cat : CatalogueView
   pub kept : List KeptBooking
@@ -132,13 +133,24 @@ pub record IsExported (words : List (List ℕ)) (files : Files) (stream : List �
   pub desk : DeskView
   pub after : ServiceView
   pub first : IsFirstDesk cat kept desk
-  pub replies : List ℕ
   pub answers : IsAnswered (answers_of cat) (refusals_of cat) (opening desk said) after stream rest replies
   pub plain : PlainView
   pub plainly : IsAnswered (sure_answers_of cat) (plain_refusals_of cat) (plain_opening kept said) plain stream rest replies
-  pub bookings : plain_in (state_seen after.desk) ≡ plain.plain
-  pub settled : IsSettled (state_seen after.desk)
-  pub is : text ≡ export_in cat (state_seen after.desk)
+
+-- the bytes to come end inside a request or in a refusal, and these are the replies to them
+abbrev pub EndsCut : List (List ℕ) → Files → List ℕ → List ℕ → Type 0
+EndsCut words files stream replies =
+    IsSurelyReplayed words files stream unfinished replies
+    ⊎ ((fault : WireFault) × IsSurelyReplayed words files stream (refused fault) replies)
+
+-- The text is that of the kept bookings of one state, which the replies to the stream leave. Its sealed present bookings are those of the host
+-- of one thread, after all requests of the stream. Where that host keeps a row, it is the state's one row in the making; else the state has none.
+pub record IsExported (words : List (List ℕ)) (files : Files) (stream : List ℕ) (rest : Rest) (text : List ℕ) : Type 0 where
+  pub replies : List ℕ
+  pub by : IsSurelyReplayed words files stream rest replies
+  pub bookings : plain_in (state_seen by.after.desk) ≡ by.plain.plain
+  pub settled : IsSettled (state_seen by.after.desk)
+  pub is : text ≡ export_in by.cat (state_seen by.after.desk)
 
 -- the text is that of the requests of the bytes to come, to their end or to a last request
 abbrev pub ExportsAll : List (List ℕ) → Files → List ℕ → List ℕ → Type 0

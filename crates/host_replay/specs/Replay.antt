@@ -60,11 +60,11 @@ Replays words files input left output sent e =
 
 -- The bytes are the defined replies to the stream, which ends so, and those of a host of one thread that begins with the bookings that the
 -- books open with.
-pub record IsReplayed (name : CommandName) (words : List (List ℕ)) (files : Files) (stream : List ℕ) (rest : Rest) (written : List ℕ) : Type 0 where
+pub record IsReplayed (words : List (List ℕ)) (files : Files) (stream : List ℕ) (rest : Rest) (written : List ℕ) : Type 0 where
   pub said : ReplayView
   pub cat : CatalogueView
   pub kept : List KeptBooking
-  pub of : IsInputOf name words files said cat kept
+  pub of : IsInputOf command.Replay words files said cat kept
   pub desk : DeskView
   pub after : ServiceView
   pub first : IsFirstDesk cat kept desk
@@ -88,22 +88,18 @@ pub record IsReplayCut (words : List (List ℕ)) (files : Files) (stream written
 -- the bytes written are the defined replies to those to come, to their end or to a last request
 abbrev pub RepliesAll : List (List ℕ) → Files → List ℕ → List ℕ → Type 0
 RepliesAll words files stream written =
-    IsReplayed command.Replay words files stream empty written ⊎ IsReplayed command.Replay words files stream closed written
+    IsReplayed words files stream empty written ⊎ IsReplayed words files stream closed written
 
 -- the bytes are the defined replies to those to come, which end inside a request or in a refusal
-abbrev pub EndsCut : CommandName → List (List ℕ) → Files → List ℕ → List ℕ → Type 0
-EndsCut name words files stream written =
-    IsReplayed name words files stream unfinished written
-    ⊎ ((fault : WireFault) × IsReplayed name words files stream (refused fault) written)
-
 abbrev pub RepliesCut : List (List ℕ) → Files → List ℕ → List ℕ → Type 0
-RepliesCut words files stream written = EndsCut command.Replay words files stream written
+RepliesCut words files stream written =
+    IsReplayed words files stream unfinished written ⊎ ((fault : WireFault) × IsReplayed words files stream (refused fault) written)
 
 -- they are those to the requests that are whole in the bytes taken
 abbrev pub RepliesTaken : List (List ℕ) → Files → List ℕ → Option (List ℕ) → List ℕ → Type 0
 RepliesTaken words files stream told written =
     (taken : List ℕ) × IsTaken stream told taken
-    × (IsReplayed command.Replay words files taken empty written ⊎ IsReplayed command.Replay words files taken unfinished written)
+    × (IsReplayed words files taken empty written ⊎ IsReplayed words files taken unfinished written)
 
 -- they are a beginning of those to the bytes taken
 abbrev pub RepliesPart : List (List ℕ) → Files → List ℕ → Option (List ℕ) → List ℕ → Type 0

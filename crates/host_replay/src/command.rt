@@ -1,6 +1,6 @@
 // `replay` over one connection.
 ghost use Rattle.std.specs.Prelude.{◌≡◌, ◌++◌, ◌⊎◌, ℕ, List, Option, Some};
-ghost use Rattle.rail_io.specs.Told.{with_front, with_end};
+ghost use Rattle.rail_io.specs.Told.{with_front, with_end, WritesWhere};
 ghost use Rattle.rail_io.specs.Faults.{Rose};
 ghost use Rattle.session_loop.specs.declared.end.ConnEnd.TheVariants.{ReadFault, WriteFault};
 ghost use Rattle.claim_rule.specs.Openings.{KeptBooking};
@@ -9,8 +9,9 @@ ghost use Rattle.host_words.specs.Replay.{ReplayView};
 ghost use Rattle.host_words.specs.Said.{view_of};
 ghost use Rattle.host_words.specs.declared.command.CommandName.TheVariants.{Replay};
 ghost use Rattle.host_catalogue.specs.Opening.{HasNoBooks, IsOpened};
+ghost use Rattle.host_catalogue.specs.Files.{OfCounts};
 ghost use Rattle.host_notes.specs.Ends.{note_of};
-ghost use Rattle.host_notes.specs.Noted.{IsNoted};
+ghost use Rattle.host_notes.specs.Noted.{TakesNote};
 ghost use Rattle.host_notes.specs.declared.ending.CommandEnd.TheVariants.{WordsRefused};
 ghost use Rattle.host_replay.specs.Input.{HasShelfCause, IsInputEnd, IsOfRefusedText, IsUntouched, IsWithoutBooks};
 ghost use Rattle.host_replay.specs.Input.{end_of_replay, status_of_replay};
@@ -73,7 +74,7 @@ fn replay<F: Shelf, S: Source, K: Sink>(
     ensures write_cause { result ≡ Served WriteFault → Rose (K.faults output.old) (K.faults output.new) }
     ensures read_steady { (result ≡ Served ReadFault → ⊥) → S.faults input.new ≡ S.faults input.old }
     ensures write_steady { (result ≡ Served WriteFault → ⊥) → K.faults output.new ≡ K.faults output.old }
-    ensures cause { HasShelfCause result (F.faults shelf.old) (F.faults shelf.new) (F.misses shelf.old) (F.misses shelf.new) }
+    ensures cause { OfCounts F.faults F.misses shelf.old shelf.new (HasShelfCause result) }
 {
     let opened = match load_books(alloc, shelf, said.catalogue, said.from) {
         Ok(opened) => opened,
@@ -111,30 +112,26 @@ pub fn run_replay<F: Shelf, S: Source, K: Sink, E: Sink>(
     ensures nothing_read { result ≡ 2 → input.new ≡ input.old }
     ensures nothing_written { result ≡ 2 → output.new ≡ output.old }
     ensures nothing_fetched { result ≡ 2 → shelf.new ≡ shelf.old }
-    ensures refused { result ≡ 2 → IsNoted (E.told notes.old) (E.told notes.new) (E.faults notes.old) (E.faults notes.new)
-        (note_of WordsRefused) }
+    ensures refused { result ≡ 2 → TakesNote E.told E.faults notes.old notes.new (note_of WordsRefused) }
 
     // Else it is that of the command's end, and the bytes written are the answers of the bytes taken.
     ensures run { (result ≡ 2) ⊎ ((end : ReplayEnd) × (result ≡ status_of_replay end)
         × Replays (words_texts words.now) (F.told shelf.old) (S.told input.old) (S.told input.new)
         (K.told output.old) (K.told output.new) end
-        × IsNoted (E.told notes.old) (E.told notes.new) (E.faults notes.old) (E.faults notes.new) (note_of (end_of_replay end))
-        × HasShelfCause end (F.faults shelf.old) (F.faults shelf.new) (F.misses shelf.old) (F.misses shelf.new)) }
+        × TakesNote E.told E.faults notes.old notes.new (note_of (end_of_replay end))
+        × OfCounts F.faults F.misses shelf.old shelf.new (HasShelfCause end)) }
 
     // Where the input and the output tell their bytes, those written are the defined answers of those to come.
-    ensures served { (stream before : List ℕ) → S.told input.old ≡ Some stream → K.told output.old ≡ Some before → result ≡ 0
-        → (written : List ℕ) × (K.told output.new ≡ Some (before ++ written))
-        × RepliesAll (words_texts words.now) (F.told shelf.old) stream written }
-    ensures cut { (stream before : List ℕ) → S.told input.old ≡ Some stream → K.told output.old ≡ Some before → result ≡ 6
-        → (written : List ℕ) × (K.told output.new ≡ Some (before ++ written))
-        × RepliesCut (words_texts words.now) (F.told shelf.old) stream written }
-    ensures read_fault { (stream before : List ℕ) → S.told input.old ≡ Some stream → K.told output.old ≡ Some before → result ≡ 3
-        → IsUntouched (S.told input.old) (S.told input.new) (K.told output.old) (K.told output.new)
+    ensures served { WritesWhere (result ≡ 0) (S.told input.old) (K.told output.old) (K.told output.new)
+        (RepliesAll (words_texts words.now) (F.told shelf.old)) }
+    ensures cut { WritesWhere (result ≡ 6) (S.told input.old) (K.told output.old) (K.told output.new)
+        (RepliesCut (words_texts words.now) (F.told shelf.old)) }
+    ensures read_fault { (stream before : List ℕ) → S.told input.old ≡ Some stream → K.told output.old ≡ Some before
+        → result ≡ 3 → IsUntouched (S.told input.old) (S.told input.new) (K.told output.old) (K.told output.new)
         ⊎ ((written : List ℕ) × (K.told output.new ≡ Some (before ++ written))
         × RepliesTaken (words_texts words.now) (F.told shelf.old) stream (S.told input.new) written) }
-    ensures write_fault { (stream before : List ℕ) → S.told input.old ≡ Some stream → K.told output.old ≡ Some before → result ≡ 4
-        → (written : List ℕ) × (K.told output.new ≡ Some (before ++ written))
-        × RepliesPart (words_texts words.now) (F.told shelf.old) stream (S.told input.new) written }
+    ensures write_fault { WritesWhere (result ≡ 4) (S.told input.old) (K.told output.old) (K.told output.new)
+        (λ stream written. RepliesPart (words_texts words.now) (F.told shelf.old) stream (S.told input.new) written) }
 
     // A device's failure is answered where its count of faults rose in this call, and at every other status that count is as it was.
     ensures read_cause { result ≡ 3 → Rose (S.faults input.old) (S.faults input.new)
@@ -148,7 +145,8 @@ pub fn run_replay<F: Shelf, S: Source, K: Sink, E: Sink>(
     // is refused. Where it has none, and tells so, no other status comes but for its failure and for want of memory.
     ensures without { result ≡ 1 → IsWithoutBooks Replay (words_texts words.now) (F.told shelf.old) }
     ensures no_books { (files : List ℕ → Option (List ℕ)) → F.told shelf.old ≡ Some files → (said : ReplayView)
-        → IsReplay (words_texts words.now) said → HasNoBooks files said.catalogue said.from → (result ≡ 1) ⊎ (result ≡ 3) ⊎ (result ≡ 5) }
+        → IsReplay (words_texts words.now) said → HasNoBooks files said.catalogue said.from
+        → (result ≡ 1) ⊎ (result ≡ 3) ⊎ (result ≡ 5) }
     ensures missed { result ≡ 1 → Rose (F.misses shelf.old) (F.misses shelf.new)
         ⊎ IsOfRefusedText Replay (words_texts words.now) (F.told shelf.old) }
     ensures files { F.told shelf.new ≡ F.told shelf.old }

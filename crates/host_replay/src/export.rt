@@ -1,8 +1,8 @@
 // `export` over one connection.
 ghost use Rattle.std.specs.Prelude.{◌≡◌, ◌++◌, ◌⊎◌, ℕ, List, Option, Some, IfErr, IfOk, true};
-ghost use Rattle.rail_io.specs.Told.{with_front};
+ghost use Rattle.rail_io.specs.Told.{with_front, WritesWhere};
 ghost use Rattle.rail_io.specs.Faults.{Rose};
-ghost use Rattle.session_loop.specs.declared.end.ConnEnd.TheVariants.{Done, ReadFault, WriteFault};
+ghost use Rattle.session_loop.specs.declared.end.ConnEnd.TheVariants.{Done, NoMemory, ReadFault, WriteFault};
 ghost use Rattle.claim_rule.specs.Openings.{KeptBooking};
 ghost use Rattle.claim_rule.specs.Out.{IsTidy};
 ghost use Rattle.claim_rule.specs.Rule.{state_seen};
@@ -15,12 +15,12 @@ ghost use Rattle.host_words.specs.Replay.{ReplayView};
 ghost use Rattle.host_words.specs.Said.{view_of};
 ghost use Rattle.host_words.specs.declared.command.CommandName.TheVariants.{Export};
 ghost use Rattle.host_catalogue.specs.Opening.{HasNoBooks, IsOpened};
+ghost use Rattle.host_catalogue.specs.Files.{OfCounts};
 ghost use Rattle.host_notes.specs.Ends.{note_of};
-ghost use Rattle.host_notes.specs.Noted.{IsNoted};
+ghost use Rattle.host_notes.specs.Noted.{TakesNote};
 ghost use Rattle.host_notes.specs.declared.ending.CommandEnd.TheVariants.{WordsRefused};
 ghost use Rattle.host_replay.specs.Input.{HasShelfCause, IsOfRefusedText, IsWithoutBooks, end_of_replay, status_of_replay};
-ghost use Rattle.host_replay.specs.Replay.{EndsCut};
-ghost use Rattle.host_replay.specs.Export.{Ends, Exports, ExportsAll, HasNoText, IsExport, IsExportOf, IsForExport, IsNoExport, StandsIn};
+ghost use Rattle.host_replay.specs.Export.{Ends, EndsCut, Exports, ExportsAll, HasNoText, IsExport, IsExportOf, IsForExport, IsNoExport, StandsIn};
 ghost use Rattle.host_replay.specs.Export.{export_with};
 ghost use Rattle.host_replay.specs.declared.end.ReplayEnd.{ReplayEnd};
 ghost use Rattle.host_replay.specs.declared.end.ReplayEnd.TheVariants.{Served};
@@ -69,7 +69,7 @@ fn text_of(alloc: Global, books: Books, desk: Desk) -> Result<Vec<u8>, AllocErro
 }
 
 /// The export that one connection at the first desk of the books leaves, with the clock of the words; or how the connection ended. Its answers
-/// are kept until its end, and where one of them is for want of memory, or there is no memory to keep them, there is no export.
+/// are kept until its end, and where one of them is for want of memory, or there is no memory to keep them, the end is `NoMemory`.
 fn export_input<S: Source>(
     alloc: Global,
     opened: (Catalogue, Books, Desk),
@@ -82,7 +82,8 @@ fn export_input<S: Source>(
     ensures err { IfErr result (λ e. (taken : List ℕ) × (S.told input.old ≡ with_front taken (S.told input.new))
         × HasNoText opened.0 opened.2 (view_of said.now) taken (S.told input.new) e) }
     ensures read_cause { IfErr result (λ e. e ≡ ReadFault → Rose (S.faults input.old) (S.faults input.new)) }
-    ensures read_steady { (IfErr result (λ e. e ≡ ReadFault → ⊥)) → S.faults input.new ≡ S.faults input.old }
+    ensures read_steady { IfErr result (λ e. (e ≡ ReadFault → ⊥) × (e ≡ NoMemory → ⊥))
+        → S.faults input.new ≡ S.faults input.old }
 {
     let (catalogue, books, mut desk) = opened;
     let mut clock = ScriptClock {
@@ -90,7 +91,7 @@ fn export_input<S: Source>(
         tick: said.tick,
     };
     let mut answers = VecSink::new(alloc, Vec::new(alloc));
-    match serve_connection(
+    let end = serve_connection(
         alloc,
         &catalogue,
         &books,
@@ -98,13 +99,14 @@ fn export_input<S: Source>(
         input,
         &mut answers,
         &mut clock,
-    ) {
+    );
+    if !lacks(answers.taken(), NO_MEMORY) {
+        return Err(ConnEnd::NoMemory);
+    }
+    match end {
         ConnEnd::Done => {}
         ConnEnd::WriteFault => return Err(ConnEnd::NoMemory),
         end => return Err(end),
-    }
-    if !lacks(answers.taken(), NO_MEMORY) {
-        return Err(ConnEnd::NoMemory);
     }
     match text_of(alloc, books, desk) {
         Ok(text) => Ok(text),
@@ -126,9 +128,10 @@ fn export<F: Shelf, S: Source, K: Sink>(
     ensures same { F.told shelf.new ≡ F.told shelf.old }
     ensures read_cause { result ≡ Served ReadFault → Rose (S.faults input.old) (S.faults input.new) }
     ensures write_cause { result ≡ Served WriteFault → Rose (K.faults output.old) (K.faults output.new) }
-    ensures read_steady { (result ≡ Served ReadFault → ⊥) → S.faults input.new ≡ S.faults input.old }
+    ensures read_steady { (result ≡ Served ReadFault → ⊥) → (result ≡ Served NoMemory → ⊥)
+        → S.faults input.new ≡ S.faults input.old }
     ensures write_steady { (result ≡ Served WriteFault → ⊥) → K.faults output.new ≡ K.faults output.old }
-    ensures cause { HasShelfCause result (F.faults shelf.old) (F.faults shelf.new) (F.misses shelf.old) (F.misses shelf.new) }
+    ensures cause { OfCounts F.faults F.misses shelf.old shelf.new (HasShelfCause result) }
 {
     let opened = match load_books(alloc, shelf, said.catalogue, said.from) {
         Ok(opened) => opened,
@@ -154,10 +157,10 @@ fn export<F: Shelf, S: Source, K: Sink>(
 /// | 0 | all requests of the input are answered, to its end or to the last of the connection, and the export is written |
 /// | 1 | the catalogue is missing, larger than 33,554,432 bytes, or refused; or the export that the words name is, at 268,435,456 bytes |
 /// | 2 | the words are refused; nothing is read, written or fetched |
-/// | 3 | the input or the shelf failed in this call |
+/// | 3 | the input or the shelf failed in this call, and no answer was for want of memory |
 /// | 4 | the output failed in this call |
 /// | 5 | there was no memory to begin with, for an answer, or for the export |
-/// | 6 | the input ended inside a request, or was refused |
+/// | 6 | the input ended inside a request, or was refused, and no answer was for want of memory |
 pub fn run_export<F: Shelf, S: Source, K: Sink, E: Sink>(
     alloc: Global,
     words: &[String],
@@ -173,33 +176,32 @@ pub fn run_export<F: Shelf, S: Source, K: Sink, E: Sink>(
     ensures refused_words { IsNoExport (words_texts words.now) → (result ≡ 2) ⊎ (result ≡ 5) }
     ensures nothing_read { result ≡ 2 → input.new ≡ input.old }
     ensures nothing_fetched { result ≡ 2 → shelf.new ≡ shelf.old }
-    ensures refused { result ≡ 2 → IsNoted (E.told notes.old) (E.told notes.new) (E.faults notes.old) (E.faults notes.new)
-        (note_of WordsRefused) }
+    ensures refused { result ≡ 2 → TakesNote E.told E.faults notes.old notes.new (note_of WordsRefused) }
 
     // Else it is that of the command's end.
     ensures run { (result ≡ 2) ⊎ ((end : ReplayEnd) × (result ≡ status_of_replay end)
         × Exports (words_texts words.now) (F.told shelf.old) (S.told input.old) (S.told input.new)
         (K.told output.old) (K.told output.new) end
-        × IsNoted (E.told notes.old) (E.told notes.new) (E.faults notes.old) (E.faults notes.new) (note_of (end_of_replay end))
-        × HasShelfCause end (F.faults shelf.old) (F.faults shelf.new) (F.misses shelf.old) (F.misses shelf.new)) }
+        × TakesNote E.told E.faults notes.old notes.new (note_of (end_of_replay end))
+        × OfCounts F.faults F.misses shelf.old shelf.new (HasShelfCause end)) }
 
     // Where the input and the output tell their bytes, those written are the export that the requests to come leave: all of it, or a
     // beginning of it where the output failed. At every other status nothing is written.
-    ensures exported { (stream before : List ℕ) → S.told input.old ≡ Some stream → K.told output.old ≡ Some before → result ≡ 0
-        → (text : List ℕ) × (K.told output.new ≡ Some (before ++ text))
-        × ExportsAll (words_texts words.now) (F.told shelf.old) stream text }
-    ensures write_fault { (stream before : List ℕ) → S.told input.old ≡ Some stream → K.told output.old ≡ Some before → result ≡ 4
-        → (front back : List ℕ) × (K.told output.new ≡ Some (before ++ front))
+    ensures exported { WritesWhere (result ≡ 0) (S.told input.old) (K.told output.old) (K.told output.new)
+        (ExportsAll (words_texts words.now) (F.told shelf.old)) }
+    ensures write_fault { (stream before : List ℕ) → S.told input.old ≡ Some stream → K.told output.old ≡ Some before
+        → result ≡ 4 → (front back : List ℕ) × (K.told output.new ≡ Some (before ++ front))
         × ExportsAll (words_texts words.now) (F.told shelf.old) stream (front ++ back) }
     ensures cut { (stream : List ℕ) → S.told input.old ≡ Some stream → result ≡ 6
-        → (answers : List ℕ) × EndsCut Export (words_texts words.now) (F.told shelf.old) stream answers }
+        → (answers : List ℕ) × EndsCut (words_texts words.now) (F.told shelf.old) stream answers }
     ensures nothing_written { (result ≡ 0 → ⊥) → (result ≡ 4 → ⊥) → output.new ≡ output.old }
 
-    // A device's failure is answered where its count of faults rose in this call, and at every other status that count is as it was.
+    // A device's failure is answered where its count of faults rose in this call, and at every other status that count is as it was; but at
+    // status 5 the input may have failed behind an answer for want of memory.
     ensures read_cause { result ≡ 3 → Rose (S.faults input.old) (S.faults input.new)
         ⊎ Rose (F.faults shelf.old) (F.faults shelf.new) }
     ensures write_cause { result ≡ 4 → Rose (K.faults output.old) (K.faults output.new) }
-    ensures read_steady { (result ≡ 3 → ⊥) → S.faults input.new ≡ S.faults input.old }
+    ensures read_steady { (result ≡ 3 → ⊥) → (result ≡ 5 → ⊥) → S.faults input.new ≡ S.faults input.old }
     ensures write_steady { (result ≡ 4 → ⊥) → K.faults output.new ≡ K.faults output.old }
     ensures shelf_steady { (result ≡ 3 → ⊥) → F.faults shelf.new ≡ F.faults shelf.old }
 
@@ -207,7 +209,8 @@ pub fn run_export<F: Shelf, S: Source, K: Sink, E: Sink>(
     // is refused. Where it has none, and tells so, no other status comes but for its failure and for want of memory.
     ensures without { result ≡ 1 → IsWithoutBooks Export (words_texts words.now) (F.told shelf.old) }
     ensures no_books { (files : List ℕ → Option (List ℕ)) → F.told shelf.old ≡ Some files → (said : ReplayView)
-        → IsExport (words_texts words.now) said → HasNoBooks files said.catalogue said.from → (result ≡ 1) ⊎ (result ≡ 3) ⊎ (result ≡ 5) }
+        → IsExport (words_texts words.now) said → HasNoBooks files said.catalogue said.from
+        → (result ≡ 1) ⊎ (result ≡ 3) ⊎ (result ≡ 5) }
     ensures missed { result ≡ 1 → Rose (F.misses shelf.old) (F.misses shelf.new)
         ⊎ IsOfRefusedText Export (words_texts words.now) (F.told shelf.old) }
     ensures files { F.told shelf.new ≡ F.told shelf.old }

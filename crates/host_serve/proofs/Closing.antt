@@ -1,57 +1,94 @@
 -- The wall that is handed back.
-use Rattle.std.proofs.Common.{◌≡◌, ◌∙◌, ◌+◌, ◌<◌, ◌≤◌, ℕ, zero, suc, List, [], length, slice_index_or, refl, sym, subst, ap, arith}
+use Rattle.std.proofs.Common.{◌≡◌, ◌∙◌, ◌+◌, ◌<◌, ◌≤◌, ℕ, zero, suc, List, [], length, slice_index_or, refl, sym, subst, arith, append-nil}
+use Rattle.std.proofs.Math.Logic.{⊎_elim}
+use Rattle.std.proofs.lemmas.Bool.{cases_lt}
+use Rattle.std.specs.Prelude.{All}
+use Rattle.leg_masks.specs.Interval.{most_legs, most_places}
 use mathlib.Core.List.{IsPrefix}
-use Rattle.history_model.specs.Booking.{Layout}
+use Rattle.history_model.specs.Booking.{Layout, most_rows}
 use Rattle.history_model.specs.History.{IsLegal, own, state_of}
 use Rattle.history_model.specs.declared.entry.Entry.{Entry}
 use Rattle.history_model.specs.Words.{AreWordsOf}
 use Rattle.claim_rule.specs.Rule.{BooksView, DeskView, IsWhole}
-use Rattle.claim_rule.specs.Seats.{HasMet}
+use Rattle.claim_rule.specs.Out.{IsTidy}
+use Rattle.claim_rule.specs.Seats.{HasMet, IsOf}
 use Rattle.claim_rule.specs.Walls.{WallView, Ends}
 use Rattle.worker_pool.specs.Turns.{KeepsDesk}
 use Rattle.worker_pool.specs.declared.member.Member.{Member}
 use Rattle.worker_pool.proofs.Chains.{keeps_on}
-use Rattle.rail_catalogue.specs.Contents.{CatalogueView, legs_in}
+use Rattle.cold_store.specs.Tidy.{AreSucceeded, IsTidyWall}
+use Rattle.rail_catalogue.specs.Contents.{CatalogueView}
 use Rattle.host_words.specs.declared.serve.Serving.{Serving}
 use Rattle.host_serve.specs.declared.member.Post.{Post}
-use Rattle.host_serve.specs.Crews.{OnlyMet, AreReady, IsCrew, HasRun}
-use Rattle.host_serve.specs.Turns.{HasCatalogue, FitsBooks, HasEnded, DoesTurn, HasChain, Readings, Stand, OneTurn, Chain, Connection, Sweep, clock_of}
+use Rattle.host_serve.specs.Crews.{OnlyMet, AreReady, IsCrew, HasMetAll, HasRun}
+use Rattle.host_serve.specs.Turns.{FitsBooks, HasEnded, DoesTurn, HasChain, Readings, Stand, OneTurn, Chain, Connection, Sweep, clock_of}
 use Rattle.host_serve.specs.Serve.{IsServedWall, HasWorked}
 use Rattle.host_serve.proofs.Chaining.{all_turns, chain_on, serving_chain, sweeping_chain}
 use Rattle.host_serve.proofs.Crewing.{begins, has_in}
+use Rattle.host_serve.proofs.Tidying.{IsRested, never_worked, rested, tidy_wall}
 
-layout_is : (cat : CatalogueView) (books : BooksView) → HasCatalogue books cat → books.layout.opening ≡ []
-    → books.layout ≡ record { legs = legs_in cat; rows = cat.rows; opening = [] }
-layout_is cat books has none =
-    ap (λ l. record { legs = l; rows = books.layout.rows; opening = books.layout.opening }) has.legs
-    ∙ (ap (λ (n : ℕ). record { legs = legs_in cat; rows = n; opening = books.layout.opening }) has.rows
-    ∙ ap (λ o. record { legs = legs_in cat; rows = cat.rows; opening = o }) none)
+-- a layout in the limits of books
+pub record IsFit (g : Layout) : Type 0 where
+  pub places : length g.legs ≤ most_places
+  pub legs : All (λ n. n ≤ most_legs) g.legs
+  pub rows : g.rows ≤ most_rows
 
-pub served_wall : (cat : CatalogueView) (said : Serving) (books : BooksView) (desk : DeskView) (wall : WallView) → HasCatalogue books cat → books.layout.opening ≡ []
-    → wall.layout ≡ books.layout → Ends books.layout desk wall.words wall.history → IsWhole desk.number desk.made desk.taken
-    → desk.made ≡ said.workers + 1 → OnlyMet desk.seen → ((n : ℕ) → 1 ≤ n → n ≤ said.workers → HasWorked (Connection cat) desk.seen n) → HasWorked Sweep desk.seen (said.workers + 1)
-    → IsServedWall cat said wall
-served_wall cat said books desk wall has none same ends whole made meets serving sweeping =
+-- Each desk has what it did from a time between two calls of the service, so the wall is free for an export.
+pub served_wall : (cat : CatalogueView) (said : Serving) (books : BooksView) (desk : DeskView) (wall : WallView) → IsOf books desk → IsTidy desk
+    → AreSucceeded books.layout.opening → wall.layout ≡ books.layout → IsFit wall.layout → Ends books.layout desk wall.words wall.history
+    → IsWhole desk.number desk.made desk.taken → desk.made ≡ said.workers + 1 → OnlyMet desk.seen
+    → ((n : ℕ) → 1 ≤ n → n ≤ said.workers → HasWorked (Connection cat) books desk.seen n) → HasWorked Sweep books desk.seen (said.workers + 1)
+    → ((n : ℕ) → 1 ≤ n → n ≤ said.workers + 1 → IsRested books.layout desk.seen n) → IsServedWall cat books.layout said wall
+served_wall cat said books desk wall of tidy succeeded same fit ends whole made meets serving sweeping rests =
     let seen : desk.seen ≡ wall.history = sym (ends.whole whole) in
     record {
-      layout = same ∙ layout_is cat books has none;
-      legal = subst (λ (l : Layout). IsLegal l wall.history) (sym same) ends.legal;
-      words = subst (λ (l : Layout). AreWordsOf l (state_of l wall.history) wall.words) (sym same) ends.are;
+      books = books;
+      layout = refl;
+      of = record { layout = same; desk = desk; of = of; made = made; whole = whole; seen = sym seen; finished = ends };
+      closed = record {
+        legal = subst (λ (l : Layout). IsLegal l wall.history) (sym same) ends.legal;
+        are = subst (λ (l : Layout). AreWordsOf l (state_of l wall.history) wall.words) (sym same) ends.are;
+        places = fit.places;
+        legs = fit.legs;
+      };
+      tidy = subst (λ (l : Layout). IsTidyWall (record { layout = l; words = wall.words; history = wall.history })) (sym same)
+          (tidy_wall books.layout wall.history ends.legal all wall.words succeeded (subst (λ (l : Layout). l.rows ≤ most_rows) same fit.rows));
       first = subst (λ (h : List Entry). OnlyMet h) seen meets;
-      serving = λ n low high. subst (λ (h : List Entry). HasWorked (Connection cat) h n) seen (serving n low high);
-      sweeping = subst (λ (h : List Entry). HasWorked Sweep h (said.workers + 1)) seen sweeping;
+      serving = λ n low high. subst (λ (h : List Entry). HasWorked (Connection cat) books h n) seen (serving n low high);
+      sweeping = subst (λ (h : List Entry). HasWorked Sweep books h (said.workers + 1)) seen sweeping;
       no_others = λ n beyond. ends.no_others whole.0 n (omega (arith, made, beyond));
     }
+  where
+    at : desk.seen ≡ wall.history
+    at = sym (ends.whole whole)
+
+    first : IsRested books.layout wall.history 0
+    first = subst (λ (h : List Entry). IsRested books.layout h 0) at
+        (rested books.layout desk.seen 0 desk of.layout whole.0 tidy ([], append-nil desk.seen) refl)
+
+    some : (n : ℕ) → 1 ≤ n → IsRested books.layout wall.history n
+    some n low = ⊎_elim
+        (λ (beyond : said.workers + 1 < n). never_worked books.layout wall.history n ends.legal (ends.no_others whole.0 n (omega (arith, made, beyond))))
+        (λ (within : n ≤ said.workers + 1). subst (λ (h : List Entry). IsRested books.layout h n) at (rests n low within))
+        (cases_lt (said.workers + 1) n)
+
+    all : (n : ℕ) → IsRested books.layout wall.history n
+    all zero = first
+    all (suc n) = some (suc n) (omega arith)
 
 -- a member has worked, from the desk that it stood at to the one that was taken in
-pub has_worked : (Does : OneTurn) (n : ℕ) (old new : Stand) (history : List Entry) → old.desk.number ≡ n → own old.desk.seen n ≡ [] → KeepsDesk old.desk new.desk
-    → Chain Does old new → own history n ≡ own new.desk.seen n → IsPrefix new.desk.seen history → HasWorked Does history n
-has_worked Does n old new history number none keeps turns entries front = record {
+pub has_worked : (Does : OneTurn) (books : BooksView) (n : ℕ) (old new : Stand) (history : List Entry) → IsOf books old.desk → IsOf books new.desk
+    → old.desk.number ≡ n → own old.desk.seen n ≡ [] → KeepsDesk old.desk new.desk
+    → Chain Does old new → own history n ≡ own new.desk.seen n → IsPrefix new.desk.seen history → HasWorked Does books history n
+has_worked Does books n old new history began_of ended_of number none keeps turns entries front = record {
   began = old;
+  began_of = began_of;
   number = number;
   none = none;
   began_front = begins old.desk.seen new.desk.seen history keeps.seen front;
   ended = new;
+  ended_of = ended_of;
+  ended_number = keeps.number ∙ number;
   ended_front = front;
   turns = turns;
   entries = entries;
@@ -63,8 +100,9 @@ module _ {S T C : Type 0} (told : C → Readings) (cat : CatalogueView) (said : 
   pub all_worked : (member : Member (Post S T C)) → IsCrew FitsBooks books old → AreReady cat said old → length old ≡ said.workers + 1 → 1 ≤ said.workers
       → HasRun FitsBooks (DoesTurn told) HasEnded books old first member → clock ≡ told (clock_of member.worker)
       → KeepsDesk member.desk other → Chain (Connection cat) (record { desk = member.desk; clock = clock }) (record { desk = other; clock = later })
-      → HasMet first other new → ((n : ℕ) → 1 ≤ n → n ≤ said.workers → HasWorked (Connection cat) new.seen n) × HasWorked Sweep new.seen (said.workers + 1)
-  all_worked member crew ready count some run read kept left met = (serving, sweeping)
+      → IsOf books other → HasMet first other new
+      → ((n : ℕ) → 1 ≤ n → n ≤ said.workers → HasWorked (Connection cat) books new.seen n) × HasWorked Sweep books new.seen (said.workers + 1)
+  all_worked member crew ready count some run read kept left of met = (serving, sweeping)
     where
       behind : (i : ℕ) → 1 ≤ i → i < length old → i < length run.crew
       behind i low lt = omega (arith, lt, run.count)
@@ -76,28 +114,28 @@ module _ {S T C : Type 0} (told : C → Readings) (cat : CatalogueView) (said : 
       chain : (i : ℕ) → i < length old → HasChain told (slice_index_or old i member).worker (slice_index_or old i member).desk (slice_index_or run.crew i member).worker (slice_index_or run.crew i member).desk
       chain i lt = all_turns told (slice_index_or old i member).worker (slice_index_or old i member).desk (slice_index_or run.crew i member).worker (slice_index_or run.crew i member).desk (run.turns i member lt)
 
-      sweeping : HasWorked Sweep new.seen (said.workers + 1)
+      sweeping : HasWorked Sweep books new.seen (said.workers + 1)
       sweeping =
           let i : ℕ = said.workers in
           let lt : i < length old = omega (arith, count) in
           let was = slice_index_or old i member in
           let is = slice_index_or run.crew i member in
-          has_worked Sweep (i + 1) (record { desk = was.desk; clock = told (clock_of was.worker) }) (record { desk = is.desk; clock = told (clock_of is.worker) }) new.seen
-          (crew i member lt).desk.number (ready i member lt).none (run.keeps i member lt)
+          has_worked Sweep books (i + 1) (record { desk = was.desk; clock = told (clock_of was.worker) }) (record { desk = is.desk; clock = told (clock_of is.worker) }) new.seen
+          (crew i member lt).desk.own (run.are i member (behind i some lt)).desk.own (crew i member lt).desk.number (ready i member lt).none (run.keeps i member lt)
           (sweeping_chain told cat said i was.worker was.desk is.worker is.desk refl (ready i member lt).post (chain i lt))
           (entries i some lt).0 (entries i some lt).1
 
-      later_one : (i : ℕ) → 1 ≤ i → i < said.workers → HasWorked (Connection cat) new.seen (i + 1)
+      later_one : (i : ℕ) → 1 ≤ i → i < said.workers → HasWorked (Connection cat) books new.seen (i + 1)
       later_one i low less =
           let lt : i < length old = omega (arith, count, less) in
           let was = slice_index_or old i member in
           let is = slice_index_or run.crew i member in
-          has_worked (Connection cat) (i + 1) (record { desk = was.desk; clock = told (clock_of was.worker) }) (record { desk = is.desk; clock = told (clock_of is.worker) }) new.seen
-          (crew i member lt).desk.number (ready i member lt).none (run.keeps i member lt)
+          has_worked (Connection cat) books (i + 1) (record { desk = was.desk; clock = told (clock_of was.worker) }) (record { desk = is.desk; clock = told (clock_of is.worker) }) new.seen
+          (crew i member lt).desk.own (run.are i member (behind i low lt)).desk.own (crew i member lt).desk.number (ready i member lt).none (run.keeps i member lt)
           (serving_chain told cat said i was.worker was.desk is.worker is.desk less (ready i member lt).post (chain i lt))
           (entries i low lt).0 (entries i low lt).1
 
-      first_one : HasWorked (Connection cat) new.seen (0 + 1)
+      first_one : HasWorked (Connection cat) books new.seen (0 + 1)
       first_one =
           let lt : 0 < length old = omega (arith, count) in
           let was = slice_index_or old 0 member in
@@ -108,15 +146,32 @@ module _ {S T C : Type 0} (told : C → Readings) (cat : CatalogueView) (said : 
           let before = serving_chain told cat said 0 was.worker was.desk member.worker member.desk some (ready 0 member lt).post did in
           let behind_it = subst (λ (r : Readings). Chain (Connection cat) (record { desk = member.desk; clock = r }) (record { desk = other; clock = later })) read left in
           let number : other.number ≡ 1 = kept.number ∙ run.is.desk.number in
-          has_worked (Connection cat) (0 + 1) (record { desk = was.desk; clock = told (clock_of was.worker) }) (record { desk = other; clock = later }) new.seen
-          (crew 0 member lt).desk.number (ready 0 member lt).none (keeps_on was.desk member.desk other keeps kept)
+          has_worked (Connection cat) books (0 + 1) (record { desk = was.desk; clock = told (clock_of was.worker) }) (record { desk = other; clock = later }) new.seen
+          (crew 0 member lt).desk.own of (crew 0 member lt).desk.number (ready 0 member lt).none (keeps_on was.desk member.desk other keeps kept)
           (chain_on (Connection cat) (record { desk = was.desk; clock = told (clock_of was.worker) }) (record { desk = member.desk; clock = told (clock_of member.worker) })
           (record { desk = other; clock = later }) before behind_it)
           (subst (λ (k : ℕ). own new.seen k ≡ own other.seen k) number met.theirs.0) met.other_front
 
-      serving : (n : ℕ) → 1 ≤ n → n ≤ said.workers → HasWorked (Connection cat) new.seen n
+      serving : (n : ℕ) → 1 ≤ n → n ≤ said.workers → HasWorked (Connection cat) books new.seen n
       serving zero low high = absurd (omega (arith, low))
       serving (suc zero) low high = first_one
       serving (suc (suc i)) low high =
           let at : suc i + 1 ≡ suc (suc i) = omega arith in
-          subst (λ (n : ℕ). HasWorked (Connection cat) new.seen n) at (later_one (suc i) (omega arith) (omega (arith, high)))
+          subst (λ (n : ℕ). HasWorked (Connection cat) books new.seen n) at (later_one (suc i) (omega arith) (omega (arith, high)))
+
+-- The members' desks are tidy, and the first desk has taken in what each did. The first member's is another one by then, and was taken in last.
+pub all_rested : {W : Type 0} (Fits : W → BooksView → Type 0) (books : BooksView) (crew : List (Member W)) (none : Member W) (first other new : DeskView)
+    → IsCrew Fits books crew → HasMetAll books crew 1 first → IsOf books other → IsTidy other → other.number ≡ 1 → HasMet first other new
+    → (n : ℕ) → 1 ≤ n → n ≤ length crew → IsRested books.layout new.seen n
+all_rested Fits books crew none first other new are all of tidy number met zero low high = absurd (omega (arith, low))
+all_rested Fits books crew none first other new are all of tidy number met (suc zero) low high =
+    rested books.layout new.seen 1 other of.layout number tidy met.other_front
+    (subst (λ (k : ℕ). own new.seen k ≡ own other.seen k) number met.theirs.0)
+all_rested Fits books crew none first other new are all of tidy number met (suc (suc i)) low high =
+    let at : suc i + 1 ≡ suc (suc i) = omega arith in
+    let lt : suc i < length crew = omega (arith, high) in
+    let desk = (slice_index_or crew (suc i) none).desk in
+    let is = (are (suc i) none lt).desk in
+    let has = has_in books crew first other new all met (suc i) none (omega arith) lt in
+    subst (λ (n : ℕ). IsRested books.layout new.seen n) at
+    (rested books.layout new.seen (suc i + 1) desk is.own.layout is.number is.tidy has.1 has.0)

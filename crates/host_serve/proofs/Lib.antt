@@ -4,3 +4,5 @@ pub mod Leaving
 pub mod Closing
 pub mod Ending
 pub mod BooksEnded
+pub mod Tidying
+pub mod Telling

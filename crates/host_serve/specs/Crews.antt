@@ -69,6 +69,7 @@ pub record HasMetAll {W : Type 0} (books : BooksView) (crew : List (Member W)) (
 pub record HasRun {W : Type 0} (Fits : W → BooksView → Type 0) (does : Doing W) (ended : W → Type 0) (books : BooksView) (old : List (Member W)) (desk : DeskView) (member : Member W) : Type 0 where
   pub crew : List (Member W)
   pub count : length crew ≡ length old
+  pub are : IsCrew Fits books crew
   pub turns : EachMember (λ m n. RunsToEnd does ended m.worker m.desk n.worker n.desk) old crew
   pub keeps : EachMember (λ m n. KeepsDesk m.desk n.desk) old crew
   pub met : HasMetAll books crew 1 desk

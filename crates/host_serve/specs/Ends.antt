@@ -10,9 +10,11 @@ use Rattle.host_serve.specs.declared.end.ServeOutcome.TheVariants as end
 abbrev pub end_of_serve : ServeOutcome → CommandEnd
 end_of_serve end.Refused = ended.WordsRefused
 end_of_serve end.NoMemory = ended.NoMemory
-end_of_serve (end.NoCatalogue fault) = ended.NotLoaded fault
+end_of_serve (end.NotLoaded fault) = ended.NotLoaded fault
 end_of_serve end.NotBound = ended.ReadFault
 end_of_serve end.AcceptFailed = ended.ReadFault
+end_of_serve end.NoText = ended.NoMemory
+end_of_serve end.Unwritten = ended.WriteFault
 end_of_serve end.Served = ended.Done
 
 -- its status

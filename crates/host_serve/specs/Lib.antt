@@ -2,3 +2,4 @@ pub mod Turns
 pub mod Crews
 pub mod Ends
 pub mod Serve
+pub mod Telling

@@ -1,18 +1,22 @@
 -- What `serve` promises.
-use Rattle.std.specs.Prelude.{◌≡◌, ◌<◌, ◌≤◌, ◌+◌, ℕ, List, [], Option, Some, None, IsSomeAnd, Ok, Err}
+use Rattle.std.specs.Prelude.{◌≡◌, ◌⊎◌, ◌<◌, ◌≤◌, ◌+◌, ℕ, true, false, List, [], Option, Some, None, IsSomeAnd}
 use Rattle.rail_io.specs.Faults.{Rose}
 use mathlib.Core.List.{IsPrefix}
-use Rattle.history_model.specs.History.{IsLegal, own, state_of}
-use Rattle.history_model.specs.Words.{AreWordsOf}
+use Rattle.history_model.specs.Booking.{Layout}
+use Rattle.history_model.specs.History.{own}
 use Rattle.history_model.specs.declared.entry.Entry.{Entry}
-use Rattle.claim_rule.specs.Walls.{WallView}
+use Rattle.claim_rule.specs.Openings.{KeptBooking, layout_with}
+use Rattle.claim_rule.specs.Rule.{BooksView, DeskView, IsWhole}
+use Rattle.claim_rule.specs.Seats.{IsOf}
+use Rattle.claim_rule.specs.Walls.{WallView, Ends as Finishes}
+use Rattle.cold_store.specs.Exports.{IsClosed}
+use Rattle.cold_store.specs.Tidy.{IsTidyWall}
 use Rattle.rail_catalogue.specs.Contents.{CatalogueView, legs_in}
 use Rattle.rail_service.specs.Listeners.{ListenerView}
 use Rattle.host_words.specs.Serve.{ServeView, serve_words}
 use Rattle.host_words.specs.declared.serve.Serving.{Serving}
-use Rattle.host_words.specs.declared.serve.ServeWords.{ServeWords}
 use Rattle.host_catalogue.specs.Files.{Files, HasCause}
-use Rattle.host_catalogue.specs.Loading.{IsRefusedText, LacksCatalogue, Loads}
+use Rattle.host_catalogue.specs.Opening.{Fails, HasBooks, IsRefusedFile, LacksBooks}
 use Rattle.host_words.specs.Commands.{IsFor}
 use Rattle.host_words.specs.declared.command.CommandName.TheVariants as command
 use Rattle.host_serve.specs.Crews.{OnlyMet}
@@ -33,38 +37,65 @@ pub record IsServe (words : List (List ℕ)) (said : ServeView) : Type 0 where
 abbrev pub IsNoServe : List (List ℕ) → Type 0
 IsNoServe words = (said : ServeView) → IsServe words said → ⊥
 
--- what the words say
-abbrev pub said_in : ServeWords → ServeView
-said_in words = record { catalogue = words.catalogue.now; numbers = words.numbers }
+-- the words are those of `serve`, and ask for the export of the books; or don't ask for it
+abbrev pub IsExporting : List (List ℕ) → Type 0
+IsExporting words = (said : ServeView) × IsServe words said × (said.export ≡ true)
 
--- The entries of desk n in the history are those of turns that were made one after the other, from a desk of that number without any.
-pub record HasWorked (Does : OneTurn) (history : List Entry) (n : ℕ) : Type 0 where
+abbrev pub IsPlain : List (List ℕ) → Type 0
+IsPlain words = (said : ServeView) × IsServe words said × (said.export ≡ false)
+
+-- The entries of desk n of the books in the history are those of turns that were made one after the other, at the books' desk of that number.
+-- It had none before them, and what it had seen before the first and after the last begins the history.
+pub record HasWorked (Does : OneTurn) (books : BooksView) (history : List Entry) (n : ℕ) : Type 0 where
   pub began : Stand
+  pub began_of : IsOf books began.desk
   pub number : began.desk.number ≡ n
   pub none : own began.desk.seen n ≡ []
   pub began_front : IsPrefix began.desk.seen history
   pub ended : Stand
+  pub ended_of : IsOf books ended.desk
+  pub ended_number : ended.desk.number ≡ n
   pub ended_front : IsPrefix ended.desk.seen history
   pub turns : Chain Does began ended
   pub entries : own history n ≡ own ended.desk.seen n
 
--- The wall's words are those of its history, which is legal, of the catalogue's places and rows. In it the first desk only met others. The
--- desks 1 to the number of workers served connections, and the one behind them swept: their entries there are those of all their turns. No
--- desk beyond these has any.
-pub record IsServedWall (cat : CatalogueView) (said : Serving) (wall : WallView) : Type 0 where
-  pub layout : wall.layout ≡ record { legs = legs_in cat; rows = cat.rows; opening = [] }
-  pub legal : IsLegal wall.layout wall.history
-  pub words : AreWordsOf wall.layout (state_of wall.layout wall.history) wall.words
+-- The books were finished by their first desk, which had parted so many others and had taken in each: this is the wall that was left, and
+-- in its history is what that desk had seen.
+pub record IsWallOf (books : BooksView) (others : ℕ) (wall : WallView) : Type 0 where
+  pub layout : wall.layout ≡ books.layout
+  pub desk : DeskView
+  pub of : IsOf books desk
+  pub made : desk.made ≡ others
+  pub whole : IsWhole desk.number desk.made desk.taken
+  pub seen : wall.history ≡ desk.seen
+  pub finished : Finishes books.layout desk wall.words wall.history
+
+-- The wall is that of the books at which the members served, and these have this layout. Its words are those of its history, which is legal,
+-- and it is free for an export. In the history the first desk only met others. The desks 1 to the number of workers served connections, and
+-- the one behind them swept: their entries there are those of all their turns at these books. No desk beyond these has any.
+pub record IsServedWall (cat : CatalogueView) (plan : Layout) (said : Serving) (wall : WallView) : Type 0 where
+  pub books : BooksView
+  pub layout : books.layout ≡ plan
+  pub of : IsWallOf books (said.workers + 1) wall
+  pub closed : IsClosed wall
+  pub tidy : IsTidyWall wall
   pub first : OnlyMet wall.history
-  pub serving : (n : ℕ) → 1 ≤ n → n ≤ said.workers → HasWorked (Connection cat) wall.history n
-  pub sweeping : HasWorked Sweep wall.history (said.workers + 1)
+  pub serving : (n : ℕ) → 1 ≤ n → n ≤ said.workers → HasWorked (Connection cat) books wall.history n
+  pub sweeping : HasWorked Sweep books wall.history (said.workers + 1)
   pub no_others : (n : ℕ) → said.workers + 1 < n → own wall.history n ≡ []
 
--- what was served, of the catalogue of the words' file
+-- what was served: the books of the words' catalogue, with its places and rows, which opened with no booking or with those of the words' export
 pub record HasWall (files : Files) (said : ServeView) (wall : Option WallView) : Type 0 where
   pub cat : CatalogueView
-  pub loads : Loads files said.catalogue (Ok cat)
-  pub closed : IsSomeAnd wall (IsServedWall cat said.numbers)
+  pub kept : List KeptBooking
+  pub books : HasBooks files said.catalogue said.from cat kept
+  pub closed : IsSomeAnd wall (IsServedWall cat (layout_with (legs_in cat) cat.rows kept) said.numbers)
+
+-- There are books that the words ask for: the catalogue is there, and the export, if one is named.
+pub record HasOpened (files : Files) (said : ServeView) : Type 0 where
+  pub cat : CatalogueView
+  pub kept : List KeptBooking
+  pub books : HasBooks files said.catalogue said.from cat kept
 
 -- The listener listens at the port, and has handed out as many streams as its limit, which is the words'. It hasn't failed.
 pub record IsSpent (said : Serving) (faults_before faults_after : ℕ) (view : ListenerView) : Type 0 where
@@ -91,56 +122,70 @@ pub record Left : Type 0 where
   pub after : ListenerView
   pub wall : Option WallView
 
--- What the words ask for ended so. Only a failed bind, and want of memory, hand back no wall where there is a catalogue.
+-- What the words ask for ended so. Where there are books, only a failed bind, and want of memory before any stream was handed out, hand
+-- back no wall.
 abbrev pub Ends : Files → ServeView → Left → ServeOutcome → Type 0
 Ends files said left end.Served = IsSpent said.numbers left.faults_before left.faults_after left.after × HasWall files said left.wall
 Ends files said left end.AcceptFailed =
     HasFailed said.numbers left.faults_before left.faults_after left.after × HasWall files said left.wall
+Ends files said left end.Unwritten = IsSpent said.numbers left.faults_before left.faults_after left.after × HasWall files said left.wall
+Ends files said left end.NoText =
+    (IsSpent said.numbers left.faults_before left.faults_after left.after
+    ⊎ HasFailed said.numbers left.faults_before left.faults_after left.after)
+    × HasWall files said left.wall
 Ends files said left end.NotBound =
-    IsUnbound said.numbers left.faults_before left.faults_after left.before left.after × (left.wall ≡ None)
-Ends files said left (end.NoCatalogue fault) =
-    Loads files said.catalogue (Err fault) × (left.after ≡ left.before) × (left.faults_after ≡ left.faults_before) × (left.wall ≡ None)
-Ends files said left end.NoMemory = left.wall ≡ None
+    HasOpened files said × IsUnbound said.numbers left.faults_before left.faults_after left.before left.after × (left.wall ≡ None)
+Ends files said left (end.NotLoaded fault) =
+    Fails files said.catalogue said.from fault × (left.after ≡ left.before) × (left.faults_after ≡ left.faults_before)
+    × (left.wall ≡ None)
+Ends files said left end.NoMemory = (left.wall ≡ None) × (left.after.handed ≡ 0)
 Ends files said left end.Refused = ⊥
 
--- the books were served and closed so, from a count of faults of the listener to one with what it then told
-abbrev pub BooksEnd : CatalogueView → Serving → ℕ → ℕ → ListenerView → Option WallView → ServeOutcome → Type 0
-BooksEnd cat said before after view wall end.Served = IsSpent said before after view × IsSomeAnd wall (IsServedWall cat said)
-BooksEnd cat said before after view wall end.AcceptFailed = HasFailed said before after view × IsSomeAnd wall (IsServedWall cat said)
-BooksEnd cat said before after view wall end.NotBound = ⊥
-BooksEnd cat said before after view wall end.NoMemory = wall ≡ None
-BooksEnd cat said before after view wall (end.NoCatalogue fault) = ⊥
-BooksEnd cat said before after view wall end.Refused = ⊥
+-- books with this layout were served and closed so, from a count of faults of the listener to one with what it then told
+abbrev pub BooksEnd : CatalogueView → Layout → Serving → ℕ → ℕ → ListenerView → Option WallView → ServeOutcome → Type 0
+BooksEnd cat plan said before after view wall end.Served = IsSpent said before after view × IsSomeAnd wall (IsServedWall cat plan said)
+BooksEnd cat plan said before after view wall end.AcceptFailed =
+    HasFailed said before after view × IsSomeAnd wall (IsServedWall cat plan said)
+BooksEnd cat plan said before after view wall end.Unwritten = ⊥
+BooksEnd cat plan said before after view wall end.NoText = ⊥
+BooksEnd cat plan said before after view wall end.NotBound = ⊥
+BooksEnd cat plan said before after view wall end.NoMemory = (wall ≡ None) × (view.handed ≡ 0)
+BooksEnd cat plan said before after view wall (end.NotLoaded fault) = ⊥
+BooksEnd cat plan said before after view wall end.Refused = ⊥
 
 -- The command ran so. Words that are refused leave all as it was.
 abbrev pub Runs : List (List ℕ) → Files → Left → ServeOutcome → Type 0
 Runs words files left end.Refused = IsNoServe words × (left.after ≡ left.before) × (left.wall ≡ None)
-Runs words files left end.NoMemory = left.wall ≡ None
+Runs words files left end.NoMemory = (left.wall ≡ None) × (left.after.handed ≡ 0)
 Runs words files left end.Served = (said : ServeView) × IsServe words said × Ends files said left end.Served
 Runs words files left end.AcceptFailed = (said : ServeView) × IsServe words said × Ends files said left end.AcceptFailed
+Runs words files left end.Unwritten = (said : ServeView) × IsServe words said × Ends files said left end.Unwritten
+Runs words files left end.NoText = (said : ServeView) × IsServe words said × Ends files said left end.NoText
 Runs words files left end.NotBound = (said : ServeView) × IsServe words said × Ends files said left end.NotBound
-Runs words files left (end.NoCatalogue fault) = (said : ServeView) × IsServe words said × Ends files said left (end.NoCatalogue fault)
+Runs words files left (end.NotLoaded fault) = (said : ServeView) × IsServe words said × Ends files said left (end.NotLoaded fault)
 
--- Where the shelf gave no catalogue, its counts show why; and at every other end its count of faults is as it was.
+-- Where the shelf gave no books, its counts show why; and at every other end its count of faults is as it was.
 abbrev pub HasShelfCause : ServeOutcome → ℕ → ℕ → ℕ → ℕ → Type 0
-HasShelfCause (end.NoCatalogue fault) failed fails missed misses = HasCause fault failed fails missed misses
+HasShelfCause (end.NotLoaded fault) failed fails missed misses = HasCause fault failed fails missed misses
 HasShelfCause end.Served failed fails missed misses = fails ≡ failed
 HasShelfCause end.AcceptFailed failed fails missed misses = fails ≡ failed
+HasShelfCause end.Unwritten failed fails missed misses = fails ≡ failed
+HasShelfCause end.NoText failed fails missed misses = fails ≡ failed
 HasShelfCause end.NotBound failed fails missed misses = fails ≡ failed
 HasShelfCause end.NoMemory failed fails missed misses = fails ≡ failed
 HasShelfCause end.Refused failed fails missed misses = fails ≡ failed
 
--- the words are those of `serve`, and the shelf, where it tells its files, has no catalogue of the name
-pub record IsWithoutCatalogue (words : List (List ℕ)) (files : Files) : Type 0 where
+-- the words are those of `serve`, and the shelf, where it tells its files, has no books for them
+pub record IsWithoutBooks (words : List (List ℕ)) (files : Files) : Type 0 where
   pub said : ServeView
   pub words_are : IsServe words said
-  pub none : LacksCatalogue files said.catalogue
+  pub none : LacksBooks files said.catalogue said.from
 
--- the words are those of `serve`, and a text of their file was refused
+-- the words are those of `serve`, and a text of one of their files was refused
 pub record IsOfRefusedText (words : List (List ℕ)) (files : Files) : Type 0 where
   pub said : ServeView
   pub words_are : IsServe words said
-  pub refused_text : IsRefusedText files said.catalogue
+  pub refused_text : IsRefusedFile files said.catalogue said.from
 
 -- the words are those of `serve`, and the listener is as it was but for its limit, which is theirs
 pub record IsOnlyLimited (words : List (List ℕ)) (before after : ListenerView) : Type 0 where

@@ -1,8 +1,12 @@
 // The books of a catalogue, served by the members.
-ghost use Rattle.std.specs.Prelude.{◌≡◌, ◌≢◌, ◌≤◌, ◌<◌, ◌+◌, [], true, false, length};
+ghost use Rattle.std.specs.Prelude.{◌≡◌, ◌≢◌, ◌≤◌, ◌<◌, ◌+◌, All, true, false, length};
 ghost use Rattle.rail_io.specs.Faults.{Rose};
+ghost use Rattle.leg_masks.specs.Interval.{most_legs, most_places};
+ghost use Rattle.history_model.specs.Booking.{most_rows};
 ghost use Rattle.claim_rule.specs.Seats.{IsOf};
-ghost use Rattle.claim_rule.specs.Out.{IsTidy};
+ghost use Rattle.claim_rule.specs.Out.{IsIdle, IsTidy};
+ghost use Rattle.claim_rule.specs.Walls.{Ends};
+ghost use Rattle.cold_store.specs.Tidy.{AreSucceeded};
 ghost use Rattle.worker_pool.specs.Turns.{KeepsDesk};
 ghost use Rattle.host_io.specs.declared.shared_listener.ListenerEnd.TheVariants as ended;
 ghost use Rattle.host_serve.specs.Crews.{IsCrew, IsFirst, HasRun};
@@ -90,17 +94,32 @@ fn finish_listener<N: Named, L: Listener + Drop, C: Clock>(
     }
 }
 
+/// Closes the books. Their limits are the wall's.
+fn close(books: Books, first: Desk) -> Wall
+    requires own { IsOf books first }
+    requires idle { IsIdle first }
+    ensures layout { result.layout ≡ books.layout }
+    ensures history { Ends books.layout first result.words result.history }
+    ensures places { length result.layout.legs ≤ most_places }
+    ensures legs { All (λ n. n ≤ most_legs) result.layout.legs }
+    ensures rows { result.layout.rows ≤ most_rows }
+{
+    let _limits = (books.places(), books.rows());
+    books.finish(first)
+}
+
 /// Serves the listener's streams by a crew, and closes the books.
 pub fn run_books<
+    'x,
     N: Named + Send,
     R: Threads + Wait + Sync,
     L: Listener + Drop + Send,
     T: Ticker + Drop + Send,
     C: Clock + Drop + Send,
 >(
-    rt: &R,
+    rt: &'x R,
     alloc: Global,
-    cat: &Catalogue,
+    cat: &'x Catalogue,
     said: Serving,
     books: Books,
     mut first: Desk,
@@ -112,7 +131,7 @@ where
     L::Input: Send,
     L::Output: Send,
     requires has { HasCatalogue books cat.now }
-    requires opening { books.layout.opening ≡ [] }
+    requires opening { AreSucceeded books.layout.opening }
     requires first { IsFirst books 0 first }
     requires clocks { said.workers + 1 ≤ length clocks.items }
     requires faults { N.faults ≡ L.faults listener }
@@ -121,9 +140,16 @@ where
     requires limit { N.limit ≡ said.connections }
     requires workers { 1 ≤ said.workers }
     ensures never_falls { L.faults listener ≤ L.faults result.listener }
-    ensures ends { BooksEnd cat.now said (L.faults listener) (L.faults result.listener) (L.told result.listener)
-        result.wall result.outcome }
+    ensures ends { BooksEnd cat.now books.layout said (L.faults listener) (L.faults result.listener)
+        (L.told result.listener) result.wall result.outcome }
 {
+    let Ok(crew) = Vec::with_capacity(alloc, said.workers as usize + 1) else {
+        return ServeRun {
+            outcome: ServeOutcome::NoMemory,
+            listener,
+            wall: None,
+        };
+    };
     let closed = AtomicBool::new(false);
     let shared: Mutex<SharedListener<L, N>> = Mutex::new(SharedListener::new(listener));
     let common = Common {
@@ -131,16 +157,9 @@ where
         cat,
         closed: &closed,
     };
-    let Ok(crew) = crew_of(
-        rt, &shared, common, &books, &mut first, said, ticker, clocks,
-    ) else {
-        let (listener, _) = shared.into_inner().into_listener();
-        return ServeRun {
-            outcome: ServeOutcome::NoMemory,
-            listener,
-            wall: None,
-        };
-    };
+    let crew = crew_of(
+        rt, &shared, common, &books, &mut first, said, ticker, clocks, crew,
+    );
     let Member { mut desk, worker } = run_crew(rt, &books, &mut first, crew);
     let mut clock = worker.into_clock();
     let (mut listener, end) = shared.into_inner().into_listener();
@@ -161,6 +180,6 @@ where
             ServeOutcome::AcceptFailed
         },
         listener,
-        wall: Some(books.finish(first)),
+        wall: Some(close(books, first)),
     }
 }

@@ -1,5 +1,5 @@
 // The members and their desks.
-ghost use Rattle.std.specs.Prelude.{◌≡◌, ◌≤◌, ◌+◌, [], length, IfOk};
+ghost use Rattle.std.specs.Prelude.{◌≡◌, ◌≤◌, ◌+◌, [], length, vec_capacity};
 ghost use Rattle.claim_rule.specs.Seats.{IsOf};
 ghost use Rattle.claim_rule.specs.Out.{IsTidy};
 ghost use Rattle.host_serve.specs.Crews.{AreReady, IsCrew, IsFirst};
@@ -14,7 +14,6 @@ use host_io::{Named, SharedListener, Ticker};
 use host_words::Serving;
 use rail_io::Clock;
 use rail_service::Listener;
-use std::alloc::AllocError;
 use std::sync::{Mutex, Wait};
 use worker_pool::Member;
 
@@ -22,7 +21,7 @@ use worker_pool::Member;
 pub type Crew<'s, R, L, N, T, C> = Vec<Member<Post<'s, LockedStreams<'s, R, L, N>, T, C>>>;
 
 /// As many serving members as the words say, and a sweeping one behind them, each at a desk that was parted from the first and with a
-/// clock of its own.
+/// clock of its own. They fill a crew that has room for them, so that this can't fail once there is a listener to share.
 pub fn crew_of<'s, R: Wait, L: Listener + Drop, N: Named, T: Ticker + Drop, C: Clock + Drop>(
     rt: &'s R,
     shared: &'s Mutex<SharedListener<L, N>>,
@@ -32,16 +31,18 @@ pub fn crew_of<'s, R: Wait, L: Listener + Drop, N: Named, T: Ticker + Drop, C: C
     said: Serving,
     ticker: T,
     mut clocks: Vec<C>,
-) -> Result<Crew<'s, R, L, N, T, C>, AllocError>
+    mut crew: Crew<'s, R, L, N, T, C>,
+) -> Crew<'s, R, L, N, T, C>
     requires has { HasCatalogue books.now common.cat.now }
     requires first { IsFirst books.now 0 first.old }
     requires clocks { said.workers + 1 ≤ length clocks.items }
-    ensures first { IfOk result (λ crew. IsFirst books.now (length crew.items) first.new) }
-    ensures crew { IfOk result (λ crew. IsCrew FitsBooks books.now crew.items) }
-    ensures ready { IfOk result (λ crew. AreReady common.entry.cat.now said crew.items) }
-    ensures count { IfOk result (λ crew. length crew.items ≡ said.workers + 1) }
+    requires nobody { crew.items ≡ [] }
+    requires room { said.workers + 1 ≤ vec_capacity crew }
+    ensures first { IsFirst books.now (length result.items) first.new }
+    ensures crew { IsCrew FitsBooks books.now result.items }
+    ensures ready { AreReady common.entry.cat.now said result.items }
+    ensures count { length result.items ≡ said.workers + 1 }
 {
-    let mut crew = Vec::new(common.alloc);
     for _number in 0..said.workers {
         let worker = Post::Serving(Server {
             streams: LockedStreams { rt, shared },
@@ -49,10 +50,10 @@ pub fn crew_of<'s, R: Wait, L: Listener + Drop, N: Named, T: Ticker + Drop, C: C
             clock: clocks.pop().unwrap(),
             ended: false,
         });
-        crew.push(Member {
+        crew.push_reserved(Member {
             desk: books.part(first),
             worker,
-        })?;
+        });
     }
     let worker = Post::Sweeping(Sweeper {
         ticker,
@@ -61,9 +62,9 @@ pub fn crew_of<'s, R: Wait, L: Listener + Drop, N: Named, T: Ticker + Drop, C: C
         clock: clocks.pop().unwrap(),
         ended: false,
     });
-    crew.push(Member {
+    crew.push_reserved(Member {
         desk: books.part(first),
         worker,
-    })?;
-    Ok(crew)
+    });
+    crew
 }

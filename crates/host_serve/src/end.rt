@@ -13,14 +13,18 @@ pub enum ServeOutcome {
     Refused,
     /// There was no memory to begin with.
     NoMemory,
-    /// There is no catalogue to serve.
-    NoCatalogue(LoadFault),
+    /// There are no books to serve.
+    NotLoaded(LoadFault),
     /// The bind failed, and nothing was served.
     NotBound,
     /// An accept failed, behind the connections that were served.
     AcceptFailed,
     /// As many connections as were asked for have ended.
     Served,
+    /// There was no memory for the export of the books that were served.
+    NoText,
+    /// As many connections as were asked for have ended, and the notes failed in the export.
+    Unwritten,
 }
 
 /// What is left when serving has ended.
@@ -40,9 +44,10 @@ pub fn command_end(outcome: ServeOutcome) -> CommandEnd
 {
     match outcome {
         ServeOutcome::Refused => CommandEnd::WordsRefused,
-        ServeOutcome::NoMemory => CommandEnd::NoMemory,
-        ServeOutcome::NoCatalogue(fault) => CommandEnd::NotLoaded(fault),
+        ServeOutcome::NoMemory | ServeOutcome::NoText => CommandEnd::NoMemory,
+        ServeOutcome::NotLoaded(fault) => CommandEnd::NotLoaded(fault),
         ServeOutcome::NotBound | ServeOutcome::AcceptFailed => CommandEnd::ReadFault,
+        ServeOutcome::Unwritten => CommandEnd::WriteFault,
         ServeOutcome::Served => CommandEnd::Done,
     }
 }

@@ -1,25 +1,31 @@
 // `serve` by its words.
-ghost use Rattle.std.specs.Prelude.{◌≡◌, ◌⊎◌, ◌≤◌, ℕ, [], List, Option, Some, None, Ok, IfOk, IfErr, Err, length};
+ghost use Rattle.std.specs.Prelude.{◌≡◌, ◌⊎◌, ◌≤◌, ℕ, List, Option, Some, None, IfOk, IfErr, IsSomeAnd, length, option_map};
 ghost use Rattle.rail_io.specs.Faults.{Rose};
+ghost use Rattle.rail_io.specs.Told.{with_end};
+ghost use Rattle.claim_rule.specs.Openings.{KeptBooking, layout_with};
+ghost use Rattle.cold_store.specs.Exports.{text_on};
+ghost use Rattle.cold_store.specs.Tidy.{AreSucceeded};
+ghost use Rattle.rail_catalogue.specs.Contents.{legs_in};
 ghost use Rattle.host_words.specs.Options.{words_texts};
+ghost use Rattle.host_words.specs.Said.{said_in};
 ghost use Rattle.host_words.specs.Serve.{IsInRange, ServeView};
 ghost use Rattle.host_words.specs.declared.fault.WordsFault.TheVariants as words_fault;
 ghost use Rattle.host_catalogue.specs.Files.{HasCause};
-ghost use Rattle.host_catalogue.specs.Loading.{HasNone, Loads};
-ghost use Rattle.host_notes.specs.Ends.{note_of};
-ghost use Rattle.host_notes.specs.Noted.{IsNoted};
+ghost use Rattle.host_catalogue.specs.Opening.{Fails, HasBooks, HasNoBooks};
 ghost use Rattle.host_serve.specs.Crews.{IsFirst};
-ghost use Rattle.host_serve.specs.Ends.{end_of_serve, status_of_serve};
-ghost use Rattle.host_serve.specs.Serve.{Ends, HasShelfCause, IsNoServe, IsOfRefusedText, IsOnlyLimited, IsServe, IsWithoutCatalogue};
-ghost use Rattle.host_serve.specs.Serve.{Runs, said_in};
+ghost use Rattle.host_serve.specs.Ends.{status_of_serve};
+ghost use Rattle.host_serve.specs.Serve.{Ends, HasShelfCause, IsExporting, IsNoServe, IsOfRefusedText, IsOnlyLimited, IsServe};
+ghost use Rattle.host_serve.specs.Serve.{IsWithoutBooks, Runs};
+ghost use Rattle.host_serve.specs.Telling.{IsBefore, IsTold, Tells};
 ghost use Rattle.host_serve.specs.Turns.{HasCatalogue};
 ghost use Rattle.host_serve.specs.declared.end.ServeOutcome.{ServeOutcome};
 ghost use Rattle.host_serve.specs.declared.end.ServeOutcome.TheVariants as outcome;
 
 use crate::books::{ServeRun, run_books};
 use crate::end::{ServeEnd, ServeOutcome, command_end};
+use crate::export::write_export;
 use claim_rule::{Books, Desk};
-use host_catalogue::{LoadFault, load_catalogue, open_books};
+use host_catalogue::{LoadFault, load_books};
 use host_io::Ticker;
 use host_notes::end_command;
 use host_words::{CommandName, ServeWords, WordsFault, is_for, read_serve};
@@ -31,29 +37,25 @@ use std::marker::Brand;
 use std::sync::Wait;
 use std::thread::Threads;
 
-/// The catalogue of the name, and its books with their first desk.
+/// The catalogue of the words, and its books with their first desk.
 fn open<F: Shelf>(
     alloc: Global,
     shelf: &mut F,
-    name: &str,
+    said: &ServeWords<'_>,
 ) -> Result<(Catalogue, Books, Desk), LoadFault>
-    ensures loads { IfOk result (λ t. Loads (F.told shelf.old) name.now (Ok t.0)) }
-    ensures fault { IfErr result (λ e. Loads (F.told shelf.old) name.now (Err e)) }
+    ensures books { IfOk result (λ t. (kept : List KeptBooking)
+        × HasBooks (F.told shelf.old) (said_in said.now).catalogue (said_in said.now).from t.0 kept
+        × (t.1.layout ≡ layout_with (legs_in t.0) t.0.rows kept)) }
+    ensures fault { IfErr result (Fails (F.told shelf.old) (said_in said.now).catalogue (said_in said.now).from) }
     ensures has { IfOk result (λ t. HasCatalogue t.1 t.0) }
-    ensures opening { IfOk result (λ t. t.1.layout.opening ≡ []) }
+    ensures opening { IfOk result (λ t. AreSucceeded t.1.layout.opening) }
     ensures first { IfOk result (λ t. IsFirst t.1 0 t.2) }
     ensures same { F.told shelf.new ≡ F.told shelf.old }
-    ensures cause { IfErr result (λ e. HasCause e (F.faults shelf.old) (F.faults shelf.new) (F.misses shelf.old) (F.misses shelf.new)) }
+    ensures cause { IfErr result (λ e. HasCause e (F.faults shelf.old) (F.faults shelf.new)
+        (F.misses shelf.old) (F.misses shelf.new)) }
     ensures steady { IfOk result (λ _. F.faults shelf.new ≡ F.faults shelf.old) }
 {
-    let cat = match load_catalogue(alloc, shelf, name) {
-        Ok(cat) => cat,
-        Err(fault) => return Err(fault),
-    };
-    let Ok((books, desk)) = open_books(alloc, &cat) else {
-        return Err(LoadFault::NoMemory);
-    };
-    Ok((cat, books, desk))
+    load_books(alloc, shelf, said.catalogue, said.from)
 }
 
 /// A run that has ended without books.
@@ -69,7 +71,7 @@ fn without_books<L>(outcome: ServeOutcome, listener: L) -> ServeRun<L>
     }
 }
 
-/// Serves what the words say: opens the books of their catalogue, listens at their port, and runs the members.
+/// Serves what the words say: opens their books, listens at their port, and runs the members.
 fn listen_and_run<
     R: Threads + Wait + Sync,
     F: Shelf,
@@ -101,12 +103,14 @@ where
           wall = result.wall;
         })
         result.outcome }
+    ensures before { IsBefore result.outcome }
     ensures same { F.told shelf.new ≡ F.told shelf.old }
-    ensures cause { HasShelfCause result.outcome (F.faults shelf.old) (F.faults shelf.new) (F.misses shelf.old) (F.misses shelf.new) }
+    ensures cause { HasShelfCause result.outcome (F.faults shelf.old) (F.faults shelf.new)
+        (F.misses shelf.old) (F.misses shelf.new) }
 {
-    let (cat, books, first) = match open(alloc, shelf, said.catalogue) {
+    let (cat, books, first) = match open(alloc, shelf, said) {
         Ok(opened) => opened,
-        Err(fault) => return without_books(ServeOutcome::NoCatalogue(fault), listener),
+        Err(fault) => return without_books(ServeOutcome::NotLoaded(fault), listener),
     };
     listener.set_limit(said.numbers.connections);
     if let Bound::Failed = listener.bind(said.numbers.port) {
@@ -137,13 +141,14 @@ fn said_of<'a>(alloc: Global, words: &'a [String]) -> Result<ServeWords<'a>, Wor
     read_serve(alloc, words)
 }
 
-/// Serves what the words say, if they are those of the command.
+/// Serves what the words say, if they are those of the command, and writes the export of the books to the notes, if they ask for it.
 fn run_by_words<
     R: Threads + Wait + Sync,
     F: Shelf,
     L: Listener + Drop + Send,
     T: Ticker + Drop + Send,
     C: Clock + Drop + Send,
+    E: Sink,
 >(
     rt: &R,
     alloc: Global,
@@ -152,6 +157,7 @@ fn run_by_words<
     listener: L,
     ticker: T,
     clocks: Vec<C>,
+    notes: &mut E,
 ) -> ServeRun<L>
 where
     L::Input: Send,
@@ -168,36 +174,64 @@ where
           wall = result.wall;
         })
         result.outcome }
+    ensures tells { Tells (words_texts words.now) result.wall
+        (record {
+          before = E.told notes.old;
+          failed = E.faults notes.old;
+          after = E.told notes.new;
+          fails = E.faults notes.new;
+        })
+        result.outcome }
     ensures shelf { result.outcome ≡ outcome.Refused → shelf.new ≡ shelf.old }
     ensures listener { result.outcome ≡ outcome.Refused → result.listener ≡ listener }
     ensures same { F.told shelf.new ≡ F.told shelf.old }
-    ensures cause { HasShelfCause result.outcome (F.faults shelf.old) (F.faults shelf.new) (F.misses shelf.old) (F.misses shelf.new) }
+    ensures cause { HasShelfCause result.outcome (F.faults shelf.old) (F.faults shelf.new)
+        (F.misses shelf.old) (F.misses shelf.new) }
 {
-    match said_of(alloc, words) {
-        Ok(said) => listen_and_run(rt, alloc, &said, shelf, listener, ticker, clocks),
-        Err(WordsFault::NoMemory) => without_books(ServeOutcome::NoMemory, listener),
-        Err(WordsFault::Refused) => without_books(ServeOutcome::Refused, listener),
+    let said = match said_of(alloc, words) {
+        Ok(said) => said,
+        Err(WordsFault::NoMemory) => return without_books(ServeOutcome::NoMemory, listener),
+        Err(WordsFault::Refused) => return without_books(ServeOutcome::Refused, listener),
+    };
+    let run = listen_and_run(rt, alloc, &said, shelf, listener, ticker, clocks);
+    if !said.export {
+        return run;
+    }
+    let ServeRun {
+        outcome,
+        listener,
+        wall,
+    } = run;
+    ServeRun {
+        outcome: write_export(alloc, &wall, notes, outcome),
+        listener,
+        wall,
     }
 }
 
 /// Serves a catalogue to connections: by as many members as the words say, which take streams in turn from the listener behind a lock,
 /// each at a desk and a clock of its own, and by one further member that sweeps at each tick. The words are those after the program's
 /// name: `serve`, the name of the catalogue's file, `--port`, and with `--workers`, `--connections` and `--sweep` how many members serve,
-/// how many connections are taken, and the seconds from one sweep to the next.
+/// how many connections are taken, and the seconds from one sweep to the next. With `--from` the books open with the bookings of the export
+/// of this name, and with `--export` the export of the books is written to the notes at the end, also behind a failed accept.
 ///
 /// | status | where |
 /// |---|---|
-/// | 0 | as many connections as were asked for have been handed out and have ended |
-/// | 1 | the catalogue is missing, larger than 33,554,432 bytes, or refused |
+/// | 0 | as many connections as were asked for have been handed out and have ended, and the export is written, if it was asked for |
+/// | 1 | the catalogue is missing, larger than 33,554,432 bytes, or refused; or the export that the words name is, at 268,435,456 bytes |
 /// | 2 | the words are refused, before anything is read |
 /// | 3 | the shelf failed in this call, or the listener did, and has handed out fewer connections than were asked for |
-/// | 5 | there was no memory to begin with |
+/// | 4 | all connections have ended, and the notes failed in the writing of the export |
+/// | 5 | there was no memory to begin with, or for the export |
 ///
-/// Each has the note of its end.
+/// Each has the note of its end, behind the export.
 ///
-/// The end of one connection changes no status, and neither does a failing note. It may wait, so all this is said where it returns.
+/// The end of one connection changes no status, and neither does a note that fails. It may wait, so all this is said where it returns.
 /// Wherever members ran, the books are finished and handed back. In the wall's history the first desk only met others, each serving member's
-/// entries are those of the connections that it served, and the last member's those of its sweeps; no other desk has any.
+/// entries are those of the connections that it served, and the last member's those of its sweeps; no other desk has any. Each desk is between
+/// two calls of the service, so that the wall has an export. All these desks are of one set of books, which the first finished: the wall is
+/// theirs, and so is the export. Which streams the connections came by, and how many of those handed out had a request, is said by no clause,
+/// since a listener tells no more of its streams than their count.
 pub fn run_serve<
     R: Threads + Wait + Sync,
     F: Shelf,
@@ -227,7 +261,8 @@ where
     ensures nothing_fetched { result.status ≡ 2 → shelf.new ≡ shelf.old }
     ensures nothing_heard { result.status ≡ 2 → result.listener ≡ listener }
 
-    // The status and the note are those of the end, and the command ran so.
+    // The status is that of the end, and the command ran so. The notes took the export, if it was asked for and there are books, and the
+    // note of the end.
     ensures run { (outcome : ServeOutcome) × (result.status ≡ status_of_serve outcome)
         × Runs (words_texts words.now) (F.told shelf.old)
         (record {
@@ -238,8 +273,21 @@ where
           wall = result.wall;
         })
         outcome
-        × IsNoted (E.told notes.old) (E.told notes.new) (E.faults notes.old) (E.faults notes.new) (note_of (end_of_serve outcome))
+        × IsTold (words_texts words.now) result.wall
+        (record {
+          before = E.told notes.old;
+          failed = E.faults notes.old;
+          after = E.told notes.new;
+          fails = E.faults notes.new;
+        })
+        outcome
         × HasShelfCause outcome (F.faults shelf.old) (F.faults shelf.new) (F.misses shelf.old) (F.misses shelf.new) }
+
+    // At status 0 the notes took just the export of the wall handed back, if it was asked for. At status 4 they failed in it.
+    ensures exported { result.status ≡ 0 → IsExporting (words_texts words.now)
+        → IsSomeAnd result.wall (λ w. E.told notes.new ≡ with_end (E.told notes.old) (text_on w)) }
+    ensures write_cause { result.status ≡ 4 → IsExporting (words_texts words.now)
+        × Rose (E.faults notes.old) (E.faults notes.new) }
 
     // A wall is missing only at a status other than 0. At status 3 it is missing only where the shelf failed, or the bind did, which
     // leaves the listener as it was but for its limit: a failed accept hands the wall back.
@@ -247,29 +295,32 @@ where
     ensures no_wall { result.status ≡ 3 → result.wall ≡ None → Rose (F.faults shelf.old) (F.faults shelf.new)
         ⊎ IsOnlyLimited (words_texts words.now) (L.told listener) (L.told result.listener) }
 
-    // Status 1 comes where the shelf has no catalogue of the name: no file, one too large, or a text that is refused. Where it has
-    // none, and tells so, no other status comes but for its failure and for want of memory.
-    ensures without { result.status ≡ 1 → IsWithoutCatalogue (words_texts words.now) (F.told shelf.old) }
-    ensures no_catalogue { (files : List ℕ → Option (List ℕ)) → F.told shelf.old ≡ Some files → (said : ServeView)
-        → IsServe (words_texts words.now) said → HasNone files said.catalogue
-        → (result.status ≡ 1) ⊎ (result.status ≡ 3) ⊎ (result.status ≡ 5) }
+    // Status 1 comes where the shelf has no books: of the catalogue's name or of the export's no file, one too large, or a text that
+    // is refused. Where it has none, and tells so, no other status comes but for its failure and for want of memory.
+    ensures without { result.status ≡ 1 → IsWithoutBooks (words_texts words.now) (F.told shelf.old) }
+    ensures no_books { (files : List ℕ → Option (List ℕ)) → F.told shelf.old ≡ Some files → (said : ServeView)
+        → IsServe (words_texts words.now) said → HasNoBooks files said.catalogue said.from
+        → (result.status ≡ 1)
+        ⊎ ((result.status ≡ 3) × Rose (F.faults shelf.old) (F.faults shelf.new))
+        ⊎ (result.status ≡ 5) }
     ensures missed { result.status ≡ 1 → Rose (F.misses shelf.old) (F.misses shelf.new)
         ⊎ IsOfRefusedText (words_texts words.now) (F.told shelf.old) }
 
     // A failure is answered where a count of faults rose in this call. The shelf's is as it was at every other status. The listener's
-    // never falls. Where all was served, and where nothing was heard, for a catalogue that is missing or refused, it is as it was.
+    // never falls. Where all was served, and where nothing was heard, for books that can't be had, it is as it was.
     ensures read_cause { result.status ≡ 3 → Rose (L.faults listener) (L.faults result.listener)
         ⊎ Rose (F.faults shelf.old) (F.faults shelf.new) }
     ensures shelf_steady { (result.status ≡ 3 → ⊥) → F.faults shelf.new ≡ F.faults shelf.old }
     ensures never_falls { L.faults listener ≤ L.faults result.listener }
-    ensures steady { (result.status ≡ 0) ⊎ (result.status ≡ 1) → L.faults result.listener ≡ L.faults listener }
+    ensures steady { (result.status ≡ 0) ⊎ (result.status ≡ 1) ⊎ (result.status ≡ 4)
+        → L.faults result.listener ≡ L.faults listener }
     ensures files { F.told shelf.new ≡ F.told shelf.old }
 {
     let ServeRun {
         outcome,
         listener,
         wall,
-    } = run_by_words(rt, alloc, words, shelf, listener, ticker, clocks);
+    } = run_by_words(rt, alloc, words, shelf, listener, ticker, clocks, notes);
     let status = end_command(notes, &command_end(outcome));
     ServeEnd {
         status,

@@ -6,8 +6,9 @@ ghost use Rattle.claim_rule.specs.Seats.{IsNew, IsOf};
 ghost use Rattle.host_words.specs.Options.{words_texts};
 ghost use Rattle.host_words.specs.Settle.{IsNoSettle, IsSettle};
 ghost use Rattle.host_catalogue.specs.Opening.{HasNoBooks};
+ghost use Rattle.host_catalogue.specs.Files.{OfCounts};
 ghost use Rattle.host_notes.specs.Ends.{note_of};
-ghost use Rattle.host_notes.specs.Noted.{IsNoted};
+ghost use Rattle.host_notes.specs.Noted.{TakesNote};
 ghost use Rattle.host_notes.specs.declared.ending.CommandEnd.TheVariants.{WordsRefused};
 ghost use Rattle.host_settle.specs.Settle.{Ends, HasNoneToSettle, HasShelfCause, IsOfRefusedFile, IsTableFor, IsTableOf, Settles};
 ghost use Rattle.host_settle.specs.Settle.{end_of_settle, status_of_settle};
@@ -42,12 +43,13 @@ fn settle<F: Shelf, K: Sink>(
     shelf: &mut F,
     output: &mut K,
 ) -> SettleEnd
-    ensures ends { Ends (F.told shelf.old) said.now.catalogue.now said.now.export.now (K.told output.old) (K.told output.new) result }
+    ensures ends { Ends (F.told shelf.old) said.now.catalogue.now said.now.export.now
+        (K.told output.old) (K.told output.new) result }
     ensures nothing_written { (result ≡ end.Written → ⊥) → (result ≡ end.WriteFault → ⊥) → output.new ≡ output.old }
     ensures same { F.told shelf.new ≡ F.told shelf.old }
     ensures write_cause { result ≡ end.WriteFault → Rose (K.faults output.old) (K.faults output.new) }
     ensures write_steady { (result ≡ end.WriteFault → ⊥) → K.faults output.new ≡ K.faults output.old }
-    ensures cause { HasShelfCause result (F.faults shelf.old) (F.faults shelf.new) (F.misses shelf.old) (F.misses shelf.new) }
+    ensures cause { OfCounts F.faults F.misses shelf.old shelf.new (HasShelfCause result) }
 {
     let (_catalogue, books, desk) = match load_books(
         alloc,
@@ -90,14 +92,13 @@ pub fn run_settle<F: Shelf, K: Sink, E: Sink>(
     ensures words { result ≡ 2 → IsNoSettle (words_texts words.now) }
     ensures refused_words { IsNoSettle (words_texts words.now) → result ≡ 2 }
     ensures nothing_fetched { result ≡ 2 → shelf.new ≡ shelf.old }
-    ensures refused { result ≡ 2 → IsNoted (E.told notes.old) (E.told notes.new) (E.faults notes.old) (E.faults notes.new)
-        (note_of WordsRefused) }
+    ensures refused { result ≡ 2 → TakesNote E.told E.faults notes.old notes.new (note_of WordsRefused) }
 
     // Else it is that of the command's end.
     ensures run { (result ≡ 2) ⊎ ((end : SettleEnd) × (result ≡ status_of_settle end)
         × Settles (words_texts words.now) (F.told shelf.old) (K.told output.old) (K.told output.new) end
-        × IsNoted (E.told notes.old) (E.told notes.new) (E.faults notes.old) (E.faults notes.new) (note_of (end_of_settle end))
-        × HasShelfCause end (F.faults shelf.old) (F.faults shelf.new) (F.misses shelf.old) (F.misses shelf.new)) }
+        × TakesNote E.told E.faults notes.old notes.new (note_of (end_of_settle end))
+        × OfCounts F.faults F.misses shelf.old shelf.new (HasShelfCause end)) }
     ensures few { result ≤ 5 }
 
     // Where the output tells its bytes, those written are the settlement table for the texts that the shelf gave: all of it, or a

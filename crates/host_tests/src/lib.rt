@@ -5,6 +5,8 @@
 //!   gate's calls round each; one member alone, and none.
 //! - `devices`: the call of each device that fails, counted, with the status, the bytes written before it, and the note; a failing note
 //!   changes nothing. Each happy path of `run_tiny` and `run_replay`.
+//! - `held`: bytes that an outbox holds back go out in order when they are sent, and not before unless it is full; what a sink failed to take
+//!   stays held.
 //! - `port`: a stream that is made ready sends without delay and has its time limits.
 #![tactic(auto)]
 
@@ -12,5 +14,7 @@
 mod crews;
 #[cfg(test)]
 mod devices;
+#[cfg(test)]
+mod held;
 #[cfg(test)]
 mod port;

@@ -1,14 +1,14 @@
 // `tiny` over one connection.
-ghost use Rattle.std.specs.Prelude.{◌≡◌, ◌≤◌, ◌<◌, ◌++◌, ◌⊎◌, ℕ, List, Some};
+ghost use Rattle.std.specs.Prelude.{◌≡◌, ◌≤◌, ◌<◌, ◌⊎◌, ℕ, List, Some};
 ghost use Rattle.leg_masks.specs.Interval.{most_legs};
-ghost use Rattle.rail_io.specs.Told.{with_front, with_end};
+ghost use Rattle.rail_io.specs.Told.{with_front, with_end, WritesWhere};
 ghost use Rattle.rail_io.specs.Faults.{Rose};
 ghost use Rattle.session_loop.specs.declared.end.ConnEnd.{ConnEnd};
 ghost use Rattle.session_loop.specs.declared.end.ConnEnd.TheVariants.{ReadFault, WriteFault};
 ghost use Rattle.host_words.specs.Options.{words_texts};
 ghost use Rattle.host_words.specs.Tiny.{IsNoTiny};
 ghost use Rattle.host_notes.specs.Ends.{end_of, note_of, status_of};
-ghost use Rattle.host_notes.specs.Noted.{IsNoted};
+ghost use Rattle.host_notes.specs.Noted.{TakesNote};
 ghost use Rattle.host_notes.specs.declared.ending.CommandEnd.TheVariants.{WordsRefused};
 ghost use Rattle.host_tiny.specs.Host.{IsTinyRun, IsHostEnd, IsServed, IsCutOrRefused, IsReadFault, IsWriteFault};
 
@@ -72,27 +72,23 @@ pub fn run_tiny<S: Source, K: Sink, E: Sink>(
     ensures refused_words { IsNoTiny (words_texts words.now) → result ≡ 2 }
     ensures nothing_read { result ≡ 2 → input.new ≡ input.old }
     ensures nothing_written { result ≡ 2 → output.new ≡ output.old }
-    ensures refused { result ≡ 2 → IsNoted (E.told notes.old) (E.told notes.new) (E.faults notes.old) (E.faults notes.new)
-        (note_of WordsRefused) }
+    ensures refused { result ≡ 2 → TakesNote E.told E.faults notes.old notes.new (note_of WordsRefused) }
 
     // Else it is that of the connection's end, and the bytes written are the answers of the bytes taken.
     ensures run { IsNoTiny (words_texts words.now) ⊎ ((end : ConnEnd) × (result ≡ status_of (end_of end))
-        × IsTinyRun (words_texts words.now) (S.told input.old) (S.told input.new) (K.told output.old) (K.told output.new) end
-        × IsNoted (E.told notes.old) (E.told notes.new) (E.faults notes.old) (E.faults notes.new) (note_of (end_of end))) }
+        × IsTinyRun (words_texts words.now) (S.told input.old) (S.told input.new)
+        (K.told output.old) (K.told output.new) end
+        × TakesNote E.told E.faults notes.old notes.new (note_of (end_of end))) }
 
     // Where the input and the output tell their bytes, those written are the host's answers of those to come.
-    ensures served { (stream before : List ℕ) → S.told input.old ≡ Some stream → K.told output.old ≡ Some before → result ≡ 0
-        → (written : List ℕ) × (K.told output.new ≡ Some (before ++ written))
-        × IsServed (words_texts words.now) stream written }
-    ensures cut { (stream before : List ℕ) → S.told input.old ≡ Some stream → K.told output.old ≡ Some before → result ≡ 6
-        → (written : List ℕ) × (K.told output.new ≡ Some (before ++ written))
-        × IsCutOrRefused (words_texts words.now) stream written }
-    ensures read_fault { (stream before : List ℕ) → S.told input.old ≡ Some stream → K.told output.old ≡ Some before → result ≡ 3
-        → (written : List ℕ) × (K.told output.new ≡ Some (before ++ written))
-        × IsReadFault (words_texts words.now) stream (S.told input.new) written }
-    ensures write_fault { (stream before : List ℕ) → S.told input.old ≡ Some stream → K.told output.old ≡ Some before → result ≡ 4
-        → (written : List ℕ) × (K.told output.new ≡ Some (before ++ written))
-        × IsWriteFault (words_texts words.now) stream (S.told input.new) written }
+    ensures served { WritesWhere (result ≡ 0) (S.told input.old) (K.told output.old) (K.told output.new)
+        (IsServed (words_texts words.now)) }
+    ensures cut { WritesWhere (result ≡ 6) (S.told input.old) (K.told output.old) (K.told output.new)
+        (IsCutOrRefused (words_texts words.now)) }
+    ensures read_fault { WritesWhere (result ≡ 3) (S.told input.old) (K.told output.old) (K.told output.new)
+        (λ stream written. IsReadFault (words_texts words.now) stream (S.told input.new) written) }
+    ensures write_fault { WritesWhere (result ≡ 4) (S.told input.old) (K.told output.old) (K.told output.new)
+        (λ stream written. IsWriteFault (words_texts words.now) stream (S.told input.new) written) }
 
     // A device's failure is answered where its count of faults rose in this call, and at every other status
     // that count is as it was.

@@ -1,5 +1,5 @@
 // One run in words: its places, its booking rows, and the one desk at them.
-ghost use Rattle.std.specs.Prelude.{◌≡◌, ◌<◌, ◌≤◌, ◌++◌, ℕ, [], All, IfOk, length, map, slice_index_or};
+ghost use Rattle.std.specs.Prelude.{◌≡◌, ◌<◌, ◌≤◌, ℕ, [], All, IfOk, length, map, slice_index_or};
 ghost use Rattle.std.specs.List.{range_with_len};
 ghost use Rattle.leg_masks.specs.Interval.{PlacedSpan as Item, most_legs};
 ghost use Rattle.claim_rule.specs.Seats.{IsOf, Shape};

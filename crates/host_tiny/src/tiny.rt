@@ -1,5 +1,5 @@
 // How a request is replied to, over the run's reservations.
-ghost use Rattle.std.specs.Prelude.{◌≡◌, ◌<◌, ◌≤◌, ◌↔◌, IsTrue};
+ghost use Rattle.std.specs.Prelude.{◌≡◌, ◌↔◌, IsTrue};
 ghost use Rattle.host_tiny.specs.Tiny.{IsReservation, IsReply};
 
 use crate::reply::Reply;

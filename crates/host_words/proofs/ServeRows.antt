@@ -1,9 +1,9 @@
 -- The values of the words of `serve`, from the rows that `clap` gives.
-use Rattle.std.proofs.Common.{◌≡◌, ◌∙◌, ℕ, List, Some, None, refl, ap, codes}
+use Rattle.std.proofs.Common.{◌≡◌, ◌∙◌, ℕ, Bool, List, Option, Some, None, refl, ap, codes}
 use Rattle.std.specs.Prelude.{option_and_then}
 use Rattle.clap.specs.Words.{Row, Text, first_of}
 use Rattle.host_words.specs.declared.serve.Serving.{Serving}
-use Rattle.host_words.specs.Options.{number_of, taken}
+use Rattle.host_words.specs.Options.{is_set, number_of, taken}
 use Rattle.host_words.specs.Serve.{numbers_of, serve_app, serve_of, serve_words}
 
 module _ (rows : List Row) where
@@ -33,6 +33,7 @@ module _ (words : List Text) (rows : List Row) (rows_are : taken serve_app words
   pub no_numbers : (name : Text) → first_of (codes "catalogue") rows ≡ Some name → numbers_of rows ≡ None → serve_words words ≡ None
   no_numbers name named none = ap (option_and_then serve_of) rows_are ∙ rw (named, none) refl
 
-  pub all_said : (name : Text) (numbers : Serving) → first_of (codes "catalogue") rows ≡ Some name → numbers_of rows ≡ Some numbers
-      → serve_words words ≡ Some (record { catalogue = name; numbers = numbers })
-  all_said name numbers named are = ap (option_and_then serve_of) rows_are ∙ rw (named, are) refl
+  pub all_said : (name : Text) (numbers : Serving) (from : Option Text) (export : Bool) → first_of (codes "catalogue") rows ≡ Some name → numbers_of rows ≡ Some numbers
+      → first_of (codes "from") rows ≡ from → is_set (first_of (codes "export") rows) ≡ export
+      → serve_words words ≡ Some (record { catalogue = name; from = from; numbers = numbers; export = export })
+  all_said name numbers from export named are other flag = ap (option_and_then serve_of) rows_are ∙ rw (named, are, other, flag) refl

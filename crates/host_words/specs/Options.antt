@@ -1,10 +1,12 @@
 -- What `clap` reads of the words of a command.
-use Rattle.std.specs.Prelude.{ℕ, pos, true, List, [], ◌∷◌, Option, Some, None, map, if◌then◌else◌, option_and_then, String, string_bytes}
+use Rattle.std.specs.Prelude.{ℕ, pos, Bool, true, false, List, [], ◌∷◌, Option, Some, None, map, if◌then◌else◌, option_and_then, String, string_bytes, codes}
+use Rattle.std.specs.Str.{bytes_eq}
 use Rattle.std.specs.Str.Parse.{digits_value, without_leading_plus}
 use Rattle.std.specs.declared.alloc.Global.{Global}
 use Rattle.clap.specs.Words.{App, Row, Rule, Text, new_rule, one_of, fault_of, matches_of}
 use Rattle.clap.specs.Walk.{is_empty}
 use Rattle.clap.specs.ValueTests.{is_unsigned_in}
+use Rattle.clap.specs.declared.builder.action.ArgAction.TheVariants.{SetTrue}
 use Rattle.clap.specs.declared.builder.value_parser.ValueParser.TheVariants.{Signed}
 
 abbrev pub words_texts : List (String Global) → List Text
@@ -13,6 +15,15 @@ words_texts words = map string_bytes words
 -- `--NAME VALUE`
 abbrev pub option_rule : Text → Rule
 option_rule name = record (new_rule name) { long = Some name }
+
+-- `--NAME`
+abbrev pub flag_rule : Text → Rule
+flag_rule name = record (option_rule name) { action = Some SetTrue }
+
+-- the flag with this value was given
+abbrev pub is_set : Option Text → Bool
+is_set (Some text) = bytes_eq text (codes "true")
+is_set None = false
 
 -- a whole number from `least` to `most`
 abbrev pub numbered : ℕ → ℕ → Rule → Rule

@@ -1,22 +1,28 @@
 -- The words of `serve`.
-use Rattle.std.specs.Prelude.{◌≤◌, List, Option, codes, option_and_then, option_map}
+use Rattle.std.specs.Prelude.{◌≤◌, Bool, List, Option, codes, option_and_then, option_map}
 use Rattle.clap.specs.Words.{App, Row, Text, new_app, new_rule, with_rule, first_of}
 use Rattle.host_words.specs.declared.serve.Serving.{Serving}
-use Rattle.host_words.specs.Options.{option_rule, numbered, required, with_default, number_of, taken}
+use Rattle.host_words.specs.Options.{flag_rule, is_set, option_rule, numbered, required, with_default, number_of, taken}
 
--- `serve CATALOGUE --port N --workers N --connections N --sweep N`
+-- `serve CATALOGUE --port N --workers N --connections N --sweep N --from EXPORT --export`
 abbrev pub serve_app : App
-serve_app = with_rule (with_rule (with_rule (with_rule (with_rule (new_app (codes "serve"))
+serve_app = with_rule (with_rule (with_rule (with_rule (with_rule (with_rule (with_rule (new_app (codes "serve"))
     (required (new_rule (codes "catalogue"))))
     (required (numbered 1 65535 (option_rule (codes "port")))))
     (with_default (codes "4") (numbered 1 16 (option_rule (codes "workers")))))
     (with_default (codes "4294967295") (numbered 1 4294967295 (option_rule (codes "connections")))))
-    (with_default (codes "30") (numbered 1 86400 (option_rule (codes "sweep"))))
+    (with_default (codes "30") (numbered 1 86400 (option_rule (codes "sweep")))))
+    (option_rule (codes "from")))
+    (flag_rule (codes "export"))
 
 -- what the words say
 pub record ServeView : Type 0 where
   pub catalogue : Text
+  -- the name of the export that the books open with
+  pub from : Option Text
   pub numbers : Serving
+  -- the export of the books is written at the end
+  pub export : Bool
 
 -- the numbers lie in their ranges
 pub record IsInRange (n : Serving) : Type 0 where
@@ -39,7 +45,12 @@ numbers_of rows =
 abbrev pub serve_of : List Row → Option ServeView
 serve_of rows =
     option_and_then (λ catalogue.
-    option_map (λ numbers. record { catalogue = catalogue; numbers = numbers })
+    option_map (λ numbers. record {
+      catalogue = catalogue;
+      from = first_of (codes "from") rows;
+      numbers = numbers;
+      export = is_set (first_of (codes "export") rows);
+    })
     (numbers_of rows))
     (first_of (codes "catalogue") rows)
 

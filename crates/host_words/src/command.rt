@@ -17,7 +17,7 @@ pub enum CommandName {
     Settle,
     /// `drill --seed N --workers N --size N --places N`
     Drill,
-    /// `serve CATALOGUE --port N --workers N --connections N --sweep N`
+    /// `serve CATALOGUE --port N --workers N --connections N --sweep N --from EXPORT --export`
     Serve,
 }
 

@@ -23,7 +23,8 @@ pub fn matches_of<'a>(
 ) -> Result<ArgMatches<'a>, WordsFault>
     requires { is_simple_and_free (app_of command) ≡ true }
     ensures ok { IfOk result (λ m. taken (app_of command.entry) (words_texts words.now) ≡ Some (rows_of (found_of m))) }
-    ensures refused { IfErr result (λ e. e ≡ WordsFault.Refused → taken (app_of command.entry) (words_texts words.now) ≡ None) }
+    ensures refused { IfErr result (λ e. e ≡ WordsFault.Refused
+        → taken (app_of command.entry) (words_texts words.now) ≡ None) }
 {
     match command.try_get_matches_from(words) {
         Ok(matches) => Ok(matches),

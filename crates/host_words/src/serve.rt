@@ -1,12 +1,13 @@
 // The words of `serve`.
 ghost use Rattle.std.specs.Prelude.{◌≡◌, ◌≤◌, Some, None, IfOk, IfErr, IfSome, codes, false};
-ghost use Rattle.clap.specs.Words.{app_of, found_of, new_rule, rows_of, rule_of};
-ghost use Rattle.host_words.specs.Options.{numbered, option_rule, required, with_default, words_texts};
-ghost use Rattle.host_words.specs.Serve.{ServeView, IsInRange, serve_app, serve_words, numbers_of};
+ghost use Rattle.clap.specs.Words.{app_of, found_of, first_of, new_rule, rows_of, rule_of};
+ghost use Rattle.host_words.specs.Options.{flag_rule, is_set, numbered, option_rule, required, with_default, words_texts};
+ghost use Rattle.host_words.specs.Said.{said_in};
+ghost use Rattle.host_words.specs.Serve.{IsInRange, serve_app, serve_words, numbers_of};
 
 use crate::fault::WordsFault;
-use crate::options::{matches_of, number_of};
-use clap::{Arg, ArgMatches, Command};
+use crate::options::{from_option, matches_of, number_of};
+use clap::{Arg, ArgAction, ArgMatches, Command};
 use std::alloc::{AllocError, Global};
 
 /// The numbers of the words of `serve`.
@@ -27,7 +28,11 @@ pub struct Serving {
 pub struct ServeWords<'a> {
     /// The name of the catalogue's file.
     pub catalogue: &'a str,
+    /// The name of the export that the books open with. None: they open with no booking.
+    pub from: Option<&'a str>,
     pub numbers: Serving,
+    /// Whether the export of the books is written at the end.
+    pub export: bool,
 }
 
 fn catalogue_word<'a>(alloc: Global) -> Arg<'a>
@@ -58,7 +63,8 @@ fn workers_option<'a>(alloc: Global) -> Arg<'a>
 }
 
 fn connections_option<'a>(alloc: Global) -> Arg<'a>
-    ensures rule { rule_of result ≡ with_default (codes "4294967295") (numbered 1 4294967295 (option_rule (codes "connections"))) }
+    ensures rule { rule_of result
+        ≡ with_default (codes "4294967295") (numbered 1 4294967295 (option_rule (codes "connections"))) }
     ensures local { result.global ≡ false }
 {
     Arg::new(alloc, "connections")
@@ -77,6 +83,15 @@ fn sweep_option<'a>(alloc: Global) -> Arg<'a>
         .default_value("30")
 }
 
+fn export_option<'a>(alloc: Global) -> Arg<'a>
+    ensures rule { rule_of result ≡ flag_rule (codes "export") }
+    ensures local { result.global ≡ false }
+{
+    Arg::new(alloc, "export")
+        .long("export")
+        .action(ArgAction::SetTrue)
+}
+
 fn serve_command<'a>(alloc: Global) -> Result<Command<'a>, AllocError>
     ensures { IfOk result (λ command. app_of command ≡ serve_app) }
 {
@@ -85,7 +100,9 @@ fn serve_command<'a>(alloc: Global) -> Result<Command<'a>, AllocError>
         .arg(port_option(alloc))?
         .arg(workers_option(alloc))?
         .arg(connections_option(alloc))?
-        .arg(sweep_option(alloc))
+        .arg(sweep_option(alloc))?
+        .arg(from_option(alloc))?
+        .arg(export_option(alloc))
 }
 
 fn numbers_in(matches: &ArgMatches<'_>) -> Option<Serving>
@@ -104,9 +121,19 @@ fn numbers_in(matches: &ArgMatches<'_>) -> Option<Serving>
     })
 }
 
+// Whether the words have the flag.
+fn is_exporting(matches: &ArgMatches<'_>) -> bool
+    ensures { result ≡ is_set (first_of (codes "export") (rows_of (found_of matches.now))) }
+{
+    match matches.get_str("export") {
+        Some(text) => text == "true",
+        None => false,
+    }
+}
+
 /// What the words say, of which the first is `serve` itself.
 pub fn read_serve<'a>(alloc: Global, words: &'a [String]) -> Result<ServeWords<'a>, WordsFault>
-    ensures ok { IfOk result (λ said. serve_words (words_texts words.now) ≡ Some (record { catalogue = said.catalogue.now; numbers = said.numbers })) }
+    ensures ok { IfOk result (λ said. serve_words (words_texts words.now) ≡ Some (said_in said)) }
     ensures ranges { IfOk result (λ said. IsInRange said.numbers) }
     ensures refused { IfErr result (λ e. e ≡ WordsFault.Refused → serve_words (words_texts words.now) ≡ None) }
 {
@@ -117,5 +144,10 @@ pub fn read_serve<'a>(alloc: Global, words: &'a [String]) -> Result<ServeWords<'
     let Some(numbers) = numbers_in(&matches) else {
         return Err(WordsFault::Refused);
     };
-    Ok(ServeWords { catalogue, numbers })
+    Ok(ServeWords {
+        catalogue,
+        from: matches.get_str("from"),
+        numbers,
+        export: is_exporting(&matches),
+    })
 }

@@ -5,7 +5,8 @@ use Rattle.std.specs.Char.{to_ascii_lowercase, is_ascii_digit}
 use Rattle.std.specs.Str.{bytes_eq}
 use Rattle.std.specs.Str.Parse.{digits_value}
 use Rattle.httparse.specs.Grammar.{AllPass, RequestHead, IsRequestHead, print_request, trim_ows}
-use Rattle.httparse.specs.Spans.{name_and_value}
+use Rattle.httparse.specs.Spans.{name_and_value, header_bytes}
+use Rattle.httparse.specs.declared.spans.HeaderSpan.{HeaderSpan}
 
 -- the same name, without regard to ASCII case
 abbrev pub same_name : List ℕ → List ℕ → Bool
@@ -21,6 +22,13 @@ pub record IsNumeral (digits : List ℕ) (number : ℕ) : Type 0 where
   pub few : length digits ≤ 10
   pub each : AllPass is_ascii_digit digits
   pub is : number ≡ digits_value 10 digits
+
+-- lines that are spans of the head
+abbrev pub lines_at : List ℕ → List HeaderSpan → List (List ℕ × List ℕ)
+lines_at head lines = map (header_bytes head) lines
+
+abbrev pub IsFirstOf : List (List ℕ) → List ℕ → Type 0
+IsFirstOf values first = (more : List (List ℕ)) × (values ≡ first ∷ more)
 
 -- the body's length by the values of the lines that give it: equal numbers, and 0 where there are none
 abbrev pub IsLength : List (List ℕ) → ℕ → Type 0

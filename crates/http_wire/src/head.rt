@@ -1,11 +1,9 @@
 // Where a head ends, and the readers of its lines.
-ghost use Rattle.std.specs.Prelude.{◌≡◌, ◌<◌, ◌≤◌, ◌+◌, ◌^◌, ℕ, true, false, All, length, map, option_map, IfSome, IfNone, ◌==◌, if◌then◌else◌};
+ghost use Rattle.std.specs.Prelude.{◌≡◌, ◌<◌, ◌≤◌, ◌+◌, ℕ, All, length, IfSome, IfNone, ◌==◌, if◌then◌else◌};
 ghost use Rattle.std.specs.List.{position_or_len};
-ghost use Rattle.httparse.specs.Grammar.{RequestHead};
-ghost use Rattle.httparse.specs.Spans.{IsWithin, IsHeaderWithin, header_bytes, span_bytes};
-ghost use Rattle.http_wire.specs.Heads.{IsHead};
+ghost use Rattle.httparse.specs.Spans.{IsWithin, IsHeaderWithin};
 ghost use Rattle.http_wire.specs.Named.{with_value, IsNamed, IsNamedWithin};
-ghost use Rattle.http_wire.specs.HeadLines.{same_name, values_named, IsNumeral};
+ghost use Rattle.http_wire.specs.HeadLines.{same_name, values_named, IsNumeral, lines_at};
 
 use httparse::Status;
 use httparse::spans::{EMPTY_HEADER_SPAN, HeaderSpan, Span, parse_request};
@@ -50,7 +48,7 @@ pub fn same_name(a: &[u8], b: &[u8]) -> bool
 /// The values of the header lines with the name.
 pub fn values_named(head: &[u8], lines: &[HeaderSpan], name: &[u8]) -> Named
     requires { All (IsHeaderWithin (length head.now)) lines.now }
-    ensures named { IsNamed head.now result (values_named name.now (map (header_bytes head.now) lines.now)) }
+    ensures named { IsNamed head.now result (values_named name.now (lines_at head.now lines.now)) }
     ensures within { IsNamedWithin (length head.now) result }
 {
     let mut found = Named::None;

@@ -12,7 +12,8 @@ const READ_ROOM: usize = 16_384;
 /// Where the bytes from `at` to `filled` are said to stand: where there are none, at the front.
 pub fn next_start(at: usize, filled: usize) -> usize
     requires { at ≤ filled }
-    ensures held { (memory : List ℕ) → slice_range memory result (result + (filled - at)) ≡ slice_range memory at filled }
+    ensures held { (memory : List ℕ)
+        → slice_range memory result (result + (filled - at)) ≡ slice_range memory at filled }
     ensures not_later { result ≤ at }
 {
     if at == filled { 0 } else { at }

@@ -1,10 +1,10 @@
 // What the head of a request says.
-ghost use Rattle.std.specs.Prelude.{◌≡◌, ◌<◌, ◌≤◌, ◌↔◌, ◌&&◌, ◌||◌, ◌==◌, ◌∷◌, ℕ, List, All, length, map, IfOk, IfErr, IfSome, IsTrue, option_map, codes, reverse, true};
+ghost use Rattle.std.specs.Prelude.{◌≡◌, ◌<◌, ◌≤◌, ◌↔◌, ◌&&◌, ◌||◌, ◌==◌, All, length, IfOk, IfErr, IfSome, IsTrue, option_map, codes, reverse, true};
 ghost use Rattle.std.specs.List.{AllByRecursion, position_or_len};
 ghost use Rattle.httparse.specs.Grammar.{trim_ows, skip_ows};
-ghost use Rattle.httparse.specs.Spans.{IsWithin, IsHeaderWithin, header_bytes, span_bytes};
+ghost use Rattle.httparse.specs.Spans.{IsWithin, IsHeaderWithin, span_bytes};
 ghost use Rattle.http_wire.specs.Heads.{IsHead, HasLines};
-ghost use Rattle.http_wire.specs.HeadLines.{same_name, values_named, IsNumeral, IsLength, lengths_in, closes_in, says_close, first_key};
+ghost use Rattle.http_wire.specs.HeadLines.{same_name, values_named, IsNumeral, IsLength, lengths_in, closes_in, says_close, first_key, lines_at, IsFirstOf};
 ghost use Rattle.http_wire.specs.HeadRead.{IsServedRead, IsServedWithin, IsHeadFault};
 ghost use Rattle.http_wire.specs.ServedLines.{AreServedLines, IsLengthFault, IsLinesFault, Agrees, line_closes};
 
@@ -83,7 +83,7 @@ fn line_closes(head: &[u8], line: HeaderSpan) -> bool
 
 fn closes(head: &[u8], lines: &[HeaderSpan]) -> bool
     requires { All (IsHeaderWithin (length head.now)) lines.now }
-    ensures { result ≡ closes_in (map (header_bytes head.now) lines.now) }
+    ensures { result ≡ closes_in (lines_at head.now lines.now) }
 {
     for line in lines {
         if line_closes(head, *line) {
@@ -114,7 +114,7 @@ fn agrees(head: &[u8], line: HeaderSpan, number: u64) -> bool
 
 fn all_agree(head: &[u8], lines: &[HeaderSpan], number: u64) -> bool
     requires { All (IsHeaderWithin (length head.now)) lines.now }
-    ensures { IsTrue result ↔ AllByRecursion (λ d. IsNumeral d number) (lengths_in (map (header_bytes head.now) lines.now)) }
+    ensures { IsTrue result ↔ AllByRecursion (λ d. IsNumeral d number) (lengths_in (lines_at head.now lines.now)) }
 {
     for line in lines {
         if !agrees(head, *line, number) {
@@ -128,10 +128,10 @@ fn all_agree(head: &[u8], lines: &[HeaderSpan], number: u64) -> bool
 fn length_of(head: &[u8], lines: &[HeaderSpan], first: Span) -> Result<u32, WireFault>
     requires lines { All (IsHeaderWithin (length head.now)) lines.now }
     requires within { IsWithin (length head.now) first }
-    requires first { (more : List (List ℕ)) × (lengths_in (map (header_bytes head.now) lines.now) ≡ span_bytes head.now first ∷ more) }
-    ensures ok { IfOk result (IsLength (lengths_in (map (header_bytes head.now) lines.now))) }
+    requires first { IsFirstOf (lengths_in (lines_at head.now lines.now)) (span_bytes head.now first) }
+    ensures ok { IfOk result (IsLength (lengths_in (lines_at head.now lines.now))) }
     ensures fits { IfOk result (λ n. n ≤ 262144) }
-    ensures err { IfErr result (IsLengthFault (map (header_bytes head.now) lines.now)) }
+    ensures err { IfErr result (IsLengthFault (lines_at head.now lines.now)) }
 {
     let Some(number) = long_number(first.of(head)) else {
         return Err(WireFault::BadLength);
@@ -148,9 +148,9 @@ fn length_of(head: &[u8], lines: &[HeaderSpan], first: Span) -> Result<u32, Wire
 /// The body's length.
 fn body_length(head: &[u8], lines: &[HeaderSpan]) -> Result<u32, WireFault>
     requires { All (IsHeaderWithin (length head.now)) lines.now }
-    ensures ok { IfOk result (IsLength (lengths_in (map (header_bytes head.now) lines.now))) }
+    ensures ok { IfOk result (IsLength (lengths_in (lines_at head.now lines.now))) }
     ensures fits { IfOk result (λ n. n ≤ 262144) }
-    ensures err { IfErr result (IsLengthFault (map (header_bytes head.now) lines.now)) }
+    ensures err { IfErr result (IsLengthFault (lines_at head.now lines.now)) }
 {
     match values_named(head, lines, b"content-length") {
         Named::None => Ok(0),
@@ -167,7 +167,7 @@ fn is_last(version: u8, close: bool, number: u32) -> bool
 
 fn first_key(head: &[u8], lines: &[HeaderSpan]) -> Option<Span>
     requires { All (IsHeaderWithin (length head.now)) lines.now }
-    ensures key { option_map (span_bytes head.now) result ≡ first_key (map (header_bytes head.now) lines.now) }
+    ensures key { option_map (span_bytes head.now) result ≡ first_key (lines_at head.now lines.now) }
     ensures within { IfSome result (IsWithin (length head.now)) }
 {
     match values_named(head, lines, b"retailer-key") {
@@ -179,8 +179,8 @@ fn first_key(head: &[u8], lines: &[HeaderSpan]) -> Option<Span>
 /// What the lines say.
 fn read_lines(head: &[u8], lines: &[HeaderSpan]) -> Result<ServedLines, WireFault>
     requires { All (IsHeaderWithin (length head.now)) lines.now }
-    ensures ok { IfOk result (AreServedLines head.now (map (header_bytes head.now) lines.now)) }
-    ensures err { IfErr result (IsLinesFault (map (header_bytes head.now) lines.now)) }
+    ensures ok { IfOk result (AreServedLines head.now (lines_at head.now lines.now)) }
+    ensures err { IfErr result (IsLinesFault (lines_at head.now lines.now)) }
 {
     let Named::None = values_named(head, lines, b"transfer-encoding") else {
         return Err(WireFault::Coding);

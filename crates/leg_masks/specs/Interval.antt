@@ -109,3 +109,7 @@ items_at span place = map (λ piece. record { place = place; span = piece }) (pi
 abbrev pub IsItemOf : ℕ → Interval → ℕ → Type 0
 IsItemOf place span word =
     (place < most_places) × (span.from < span.to) × (span.to ≤ most_legs) × IsPiece span × (item_word place span ≡ word)
+
+-- the word is no other item's
+abbrev pub IsWordOfNoOther : ℕ → Interval → ℕ → Type 0
+IsWordOfNoOther place span word = (p : ℕ) (s : Interval) → IsItemOf p s word → (p ≡ place) × (s ≡ span)

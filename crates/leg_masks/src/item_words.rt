@@ -1,5 +1,5 @@
 ghost use Rattle.std.specs.Prelude.{◌≡◌, ℕ, IfSome, IfNone};
-ghost use Rattle.leg_masks.specs.Interval.{Interval, item_word, IsItemOf};
+ghost use Rattle.leg_masks.specs.Interval.{Interval, item_word, IsItemOf, IsWordOfNoOther};
 
 use crate::{Item, MOST_LEGS, MOST_PLACES, Span, WORD_LEGS};
 
@@ -14,7 +14,7 @@ pub fn write_item(item: Item) -> u64
 /// The item of a word: `None` exactly where the word is no item's, as where its legs don't lie in one half. The item is the only one of that word.
 pub fn read_item(word: u64) -> Option<Item>
     ensures some { IfSome result (λ item. IsItemOf item.place item.span word) }
-    ensures only { IfSome result (λ item. (place : ℕ) (span : Interval) → IsItemOf place span word → (place ≡ item.place) × (span ≡ item.span)) }
+    ensures only { IfSome result (λ item. IsWordOfNoOther item.place item.span word) }
     ensures none { IfNone result ((place : ℕ) (span : Interval) → ¬ IsItemOf place span word) }
 {
     let place = word / 65536;

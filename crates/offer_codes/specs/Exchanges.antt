@@ -34,7 +34,10 @@ is_exchange x =
 abbrev pub sign_mark : Bool → List ℕ
 sign_mark less = if less then codes "m" else codes "p"
 
+abbrev pub difference_mark : Bool → ℤ → List ℕ × ℕ
+difference_mark fulfilled difference = (phase_mark fulfilled ++ sign_mark (is_less difference), magnitude difference)
+
 -- `X` row, its generation, `-` made `-` phase `-` sign difference `-` offer
 abbrev pub exchange_text : ExchangeView → List ℕ
 exchange_text x = marked (row_marks (codes "X") x.row ++ (codes "-", x.made)
-    ∷ (phase_mark x.fulfilled ++ sign_mark (is_less x.difference), magnitude x.difference) ∷ offer_marks (codes "-O") x.offer)
+    ∷ difference_mark x.fulfilled x.difference ∷ offer_marks (codes "-O") x.offer)

@@ -1,5 +1,5 @@
 -- A text of numbers, each behind a mark.
-use Rattle.std.specs.Prelude.{ℕ, ◌+◌, ◌-◌, ◌*◌, ◌&&◌, min, nat_le, Bool, List, [], ◌∷◌, ◌++◌, if◌then◌else◌, Option, Some, None, decimal}
+use Rattle.std.specs.Prelude.{ℕ, ◌+◌, ◌-◌, ◌*◌, ◌&&◌, min, nat_le, Bool, List, [], ◌∷◌, ◌++◌, if◌then◌else◌, Option, Some, None, decimal, ◌≡◌, true}
 
 -- each number in decimal digits, behind its mark
 abbrev pub marked : List (List ℕ × ℕ) → List ℕ
@@ -15,3 +15,11 @@ numbers_in None [] = []
 numbers_in (Some n) [] = n ∷ []
 numbers_in None (b ∷ rest) = if is_digit b then numbers_in (Some (b - 48)) rest else numbers_in None rest
 numbers_in (Some n) (b ∷ rest) = if is_digit b then numbers_in (Some (min (n * 10 + (b - 48)) 18_446_744_073_709_551_615)) rest else n ∷ numbers_in None rest
+
+-- the text spells the value, which is in range
+abbrev pub IsSpelling : {A : Type 0} → (A → Bool) → (A → List ℕ) → List ℕ → A → Type 0
+IsSpelling is_in_range spelling text x = (is_in_range x ≡ true) × (text ≡ spelling x)
+
+-- whichever value in range the text spells was read
+abbrev pub ReadsAny : {A : Type 0} → (A → Bool) → (A → List ℕ) → List ℕ → Option A → Type 0
+ReadsAny {A} is_in_range spelling text read = (x : A) → is_in_range x ≡ true → text ≡ spelling x → read ≡ Some x

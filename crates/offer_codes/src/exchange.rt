@@ -1,9 +1,9 @@
 ghost use Rattle.std.specs.Prelude.{◌≡◌, ◌≤◌, ◌+◌, ◌++◌, [], ◌∷◌, Some, true, IfSome, option_map};
 ghost use Rattle.arrayvec.specs.ArrayVec.{array_vec_len};
-ghost use Rattle.offer_codes.specs.Marked.{marked};
+ghost use Rattle.offer_codes.specs.Marked.{marked, IsSpelling, ReadsAny};
 ghost use Rattle.offer_codes.specs.Rows.{is_row};
 ghost use Rattle.offer_codes.specs.Refunds.{phase_mark};
-ghost use Rattle.offer_codes.specs.Exchanges.{ExchangeView, exchange_view, exchange_text, is_exchange, magnitude, is_less, sign_mark};
+ghost use Rattle.offer_codes.specs.Exchanges.{exchange_view, exchange_text, is_exchange, sign_mark, difference_mark};
 ghost use Rattle.offer_codes.specs.Found.{exchange_from, exchange_behind, signed as signed_of};
 
 use crate::code::ExchangeCode;
@@ -31,7 +31,7 @@ pub fn write_exchange(code: &ExchangeCode) -> ArrayVec<u8, 128>
 
 fn push_difference(text: &mut ArrayVec<u8, 128>, fulfilled: bool, difference: i64)
     requires room { array_vec_len text.old ≤ 28 }
-    ensures spelling { text.new.items ≡ text.old.items ++ marked ((phase_mark fulfilled ++ sign_mark (is_less difference), magnitude difference) ∷ []) }
+    ensures spelling { text.new.items ≡ text.old.items ++ marked (difference_mark fulfilled difference ∷ []) }
     ensures len { array_vec_len text.new ≤ array_vec_len text.old + 24 }
 {
     push_number(
@@ -54,8 +54,8 @@ fn sign_of(fulfilled: bool, less: bool) -> &'static [u8]
 
 /// The exchange offer that has this id; `None` exactly where none has.
 pub fn read_exchange(text: &[u8]) -> Option<ExchangeCode>
-    ensures some { IfSome result (λ c. (is_exchange (exchange_view c) ≡ true) × (text.now ≡ exchange_text (exchange_view c))) }
-    ensures spelled { (x : ExchangeView) → is_exchange x ≡ true → text.now ≡ exchange_text x → option_map exchange_view result ≡ Some x }
+    ensures some { IfSome result (λ c. IsSpelling is_exchange exchange_text text.now (exchange_view c)) }
+    ensures spelled { ReadsAny is_exchange exchange_text text.now (option_map exchange_view result) }
 {
     let numbers = numbers(text)?;
     let code = exchange_of(

@@ -15,6 +15,3 @@ pub use code::{ExchangeCode, Offer, OfferCode, RefundCode, Segment};
 pub use exchange::{read_exchange, write_exchange};
 pub use offer::{read_offer, write_offer};
 pub use refund::{read_refund, write_refund};
-
-#[cfg(test)]
-mod tests;

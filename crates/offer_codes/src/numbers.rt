@@ -1,6 +1,6 @@
 //! Numbers between marks.
 
-ghost use Rattle.std.specs.Prelude.{◌≡◌, ◌+◌, ◌≤◌, ◌<◌, ◌++◌, length, Some, None, IfSome, IfNone, decimal, min, ◌*◌, ◌-◌, true};
+ghost use Rattle.std.specs.Prelude.{◌≡◌, ◌+◌, ◌≤◌, ◌<◌, ◌++◌, length, Some, None, IfSome, IfNone, min, ◌*◌, ◌-◌, true};
 ghost use Rattle.arrayvec.specs.ArrayVec.{array_vec_len};
 ghost use Rattle.offer_codes.specs.Marked.{marked, numbers_in};
 ghost use Rattle.offer_codes.specs.Rows.{is_row, row_marks};

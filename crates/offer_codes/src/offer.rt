@@ -1,8 +1,8 @@
-ghost use Rattle.std.specs.Prelude.{◌≡◌, ◌≤◌, ◌<◌, ◌+◌, ◌^◌, ◌++◌, List, codes, length, option_map, Some, true, IfSome, IfNone, IsTrue};
+ghost use Rattle.std.specs.Prelude.{◌≡◌, ◌≤◌, ◌<◌, ◌+◌, ◌^◌, ◌++◌, codes, length, option_map, Some, true, IfSome, IsTrue};
 ghost use Rattle.std.specs.List.{list_all};
 ghost use Rattle.arrayvec.specs.ArrayVec.{array_vec_len};
-ghost use Rattle.offer_codes.specs.Marked.{marked};
-ghost use Rattle.offer_codes.specs.Offers.{OfferView, offer_view, offer_text, offer_marks, is_offer, is_party as is_party_of, is_segment, segment_marks, segments_marks, class_number};
+ghost use Rattle.offer_codes.specs.Marked.{marked, IsSpelling, ReadsAny};
+ghost use Rattle.offer_codes.specs.Offers.{offer_view, offer_text, offer_marks, is_offer, is_party as is_party_of, is_segment, segment_marks, segments_marks, class_number};
 ghost use Rattle.offer_codes.specs.declared.code.Segment.{Segment};
 ghost use Rattle.offer_codes.specs.Found.{offer_from, segments_from, segment_value, class_from};
 
@@ -76,8 +76,8 @@ fn number_of(class: Class) -> u8
 
 /// The offer that has this id; `None` exactly where none has.
 pub fn read_offer(text: &[u8]) -> Option<OfferCode>
-    ensures some { IfSome result (λ c. (is_offer (offer_view c) ≡ true) × (text.now ≡ offer_text (offer_view c))) }
-    ensures spelled { (o : OfferView) → is_offer o ≡ true → text.now ≡ offer_text o → option_map offer_view result ≡ Some o }
+    ensures some { IfSome result (λ c. IsSpelling is_offer offer_text text.now (offer_view c)) }
+    ensures spelled { ReadsAny is_offer offer_text text.now (option_map offer_view result) }
 {
     let numbers = numbers(text)?;
     let code = offer_of(numbers.as_slice())?;

@@ -3,6 +3,7 @@ ghost use Rattle.offer_codes.specs.declared.code.RefundCode.{RefundCode};
 ghost use Rattle.offer_codes.specs.Rows.{is_row};
 ghost use Rattle.offer_codes.specs.Refunds.{is_refund, refund_text, phase_mark};
 ghost use Rattle.offer_codes.specs.Found.{refund_from, refund_at as refund_value_at, has};
+ghost use Rattle.offer_codes.specs.Marked.{IsSpelling, ReadsAny};
 
 use crate::code::RefundCode;
 use crate::numbers::{numbers, push_number, push_row, row_of};
@@ -37,8 +38,8 @@ pub(crate) fn mark_of(fulfilled: bool) -> &'static [u8]
 
 /// The refund offer that has this id; `None` exactly where none has.
 pub fn read_refund(text: &[u8]) -> Option<RefundCode>
-    ensures some { IfSome result (λ r. (is_refund r ≡ true) × (text.now ≡ refund_text r)) }
-    ensures spelled { (r : RefundCode) → is_refund r ≡ true → text.now ≡ refund_text r → result ≡ Some r }
+    ensures some { IfSome result (IsSpelling is_refund refund_text text.now) }
+    ensures spelled { ReadsAny is_refund refund_text text.now result }
 {
     let numbers = numbers(text)?;
     let code = refund_of(numbers.as_slice(), has_letter(text, b'F'))?;

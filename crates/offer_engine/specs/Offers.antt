@@ -14,6 +14,7 @@ use Rattle.trip_builder.specs.declared.trip.TripWish.{TripWish}
 use Rattle.history_model.specs.declared.entry.Step.{Step}
 use Rattle.availability.specs.Looks.{CountsFree}
 use Rattle.offer_engine.specs.declared.wish.OfferWish.{OfferWish}
+use Rattle.trip_builder.specs.Trips.{trips_of}
 
 -- the wish from this moment on
 abbrev pub raised : TripWish → ℕ → TripWish
@@ -40,15 +41,19 @@ code_for w now segments = record { made = now; adults = w.adults; children = w.c
 abbrev pub wanted_places : CatalogueView → OfferWish → Segment → List PlaceNo
 wanted_places cat w s = candidates_of s.run.0 w.class w.wanted cat.places
 
--- how many of each segment's wanted places are free on it, by a look at each piece of each in order
+-- how many of the segment's wanted places are free on it, by a look at each piece of each in order
+abbrev pub CountsSegment : CatalogueView → OfferWish → Segment → ℕ → List Step → Type 0
+CountsSegment cat w s n es = CountsFree (wanted_places cat w s) s.span n es
+
+-- the same of each of the segments
 abbrev pub CountsSegments : CatalogueView → OfferWish → List Segment → List ℕ → List Step → Type 0
 CountsSegments cat w [] [] es = es ≡ []
 CountsSegments cat w (s ∷ rest) (n ∷ free) es =
-    (first : List Step) × (more : List Step) × CountsFree (wanted_places cat w s) s.span n first × CountsSegments cat w rest free more × (es ≡ first ++ more)
+    (first : List Step) × (more : List Step) × CountsSegment cat w s n first × CountsSegments cat w rest free more × (es ≡ first ++ more)
 CountsSegments cat w [] (n ∷ free) es = ⊥
 CountsSegments cat w (s ∷ rest) [] es = ⊥
 
--- the same of the first of the segments
+-- and of the first of them
 abbrev pub BeginsCounts : CatalogueView → OfferWish → List Segment → List Step → Type 0
 BeginsCounts cat w segments es = (front : List Segment) × (rest : List Segment) × (free : List ℕ) × (segments ≡ front ++ rest) × CountsSegments cat w front free es
 
@@ -68,3 +73,11 @@ OffersFor cat w now (t ∷ trips) [] es = ⊥
 -- the looks of the first segments of the trips, one trip after the other
 abbrev pub BeginsOffers : CatalogueView → OfferWish → List (List Segment) → List Step → Type 0
 BeginsOffers cat w trips es = BeginsCounts cat w (flat_map (λ t. t) trips) es
+
+-- an offer for each trip of the wish from this moment on
+abbrev pub MakesOffers : CatalogueView → OfferWish → ℕ → List Offer → List Step → Type 0
+MakesOffers cat w now offers es = OffersFor cat w now (trips_of cat.runs (raised w.trip now)) offers es
+
+-- the looks of the first segments of these trips
+abbrev pub BeginsMaking : CatalogueView → OfferWish → ℕ → List Step → Type 0
+BeginsMaking cat w now es = BeginsOffers cat w (trips_of cat.runs (raised w.trip now)) es

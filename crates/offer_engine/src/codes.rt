@@ -1,4 +1,4 @@
-ghost use Rattle.std.specs.Prelude.{◌≡◌, List};
+ghost use Rattle.std.specs.Prelude.{◌≡◌};
 ghost use Rattle.std.specs.List.{list_all};
 ghost use Rattle.offer_codes.specs.Offers.{offer_view};
 ghost use Rattle.offer_engine.specs.Codes.{is_offered as is_offered_of, is_of_runs as is_of_runs_of};

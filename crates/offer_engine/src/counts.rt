@@ -1,13 +1,12 @@
-ghost use Rattle.std.specs.Prelude.{◌≡◌, ◌≤◌, ◌<◌, ◌+◌, ◌*◌, length, true, All};
+ghost use Rattle.std.specs.Prelude.{◌≡◌, ◌≤◌, ◌<◌, ◌+◌, ◌*◌, length, All};
 ghost use Rattle.std.specs.List.{filter};
-ghost use Rattle.arrayvec.specs.ArrayVec.{array_vec_len};
 ghost use Rattle.claim_rule.specs.Seats.{IsOf};
 ghost use Rattle.claim_rule.specs.Calls.{ShapeBy};
 ghost use Rattle.claim_rule.specs.Out.{KeepsHolds, KeepsEndings, IsTidy};
 ghost use Rattle.place_map.specs.ByClass.{has_traits};
 ghost use Rattle.rail_catalogue.specs.Contents.{legs_in};
 ghost use Rattle.availability.specs.Looks.{CountsFree};
-ghost use Rattle.offer_engine.specs.Offers.{wanted_places, CountsSegments};
+ghost use Rattle.offer_engine.specs.Offers.{CountsSegment, CountsSegments};
 
 use crate::wish::OfferWish;
 use arrayvec::ArrayVec;
@@ -54,7 +53,7 @@ fn count_segment(
     requires own { IsOf books.now desk.old }
     requires legs { books.now.layout.legs ≡ legs_in cat.now }
     ensures own { IsOf books.now desk.new }
-    ensures entries { ShapeBy (CountsFree (wanted_places cat.now wish.now segment.now) segment.now.span result) desk.old desk.new }
+    ensures entries { ShapeBy (CountsSegment cat.now wish.now segment.now result) desk.old desk.new }
     ensures holds { KeepsHolds desk.old desk.new }
     ensures endings { KeepsEndings desk.old desk.new }
     ensures tidy { IsTidy desk.old → IsTidy desk.new }
@@ -82,7 +81,8 @@ fn count_with_traits(
     requires legs { length places.now ≤ length books.now.layout.legs }
     requires few { length numbers.now < 4_294_967_296 }
     ensures own { IsOf books.now desk.new }
-    ensures entries { ShapeBy (CountsFree (filter (has_traits wanted places.now) numbers.now) span result) desk.old desk.new }
+    ensures entries { let wanted_of = filter (has_traits wanted places.now) numbers.now in
+        ShapeBy (CountsFree wanted_of span result) desk.old desk.new }
     ensures holds { KeepsHolds desk.old desk.new }
     ensures endings { KeepsEndings desk.old desk.new }
     ensures tidy { IsTidy desk.old → IsTidy desk.new }

@@ -8,8 +8,6 @@ mod codes;
 mod counts;
 mod making;
 mod prices;
-#[cfg(test)]
-mod tests;
 mod wish;
 
 pub use codes::is_offered;

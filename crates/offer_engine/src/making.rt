@@ -1,11 +1,10 @@
-ghost use Rattle.std.specs.Prelude.{◌≡◌, ◌≤◌, max, true, IfOk, OnErr, length};
+ghost use Rattle.std.specs.Prelude.{◌≡◌, max, true, IfOk, OnErr};
 ghost use Rattle.offer_codes.specs.Offers.{is_party};
 ghost use Rattle.claim_rule.specs.Seats.{IsOf};
 ghost use Rattle.claim_rule.specs.Calls.{ShapeBy};
 ghost use Rattle.claim_rule.specs.Out.{KeepsHolds, KeepsEndings, IsTidy};
 ghost use Rattle.rail_catalogue.specs.Contents.{legs_in};
-ghost use Rattle.trip_builder.specs.Trips.{trips_of};
-ghost use Rattle.offer_engine.specs.Offers.{raised as raised_of, OffersFor, BeginsOffers, IsOfferFor};
+ghost use Rattle.offer_engine.specs.Offers.{raised as raised_of, MakesOffers, BeginsMaking, IsOfferFor};
 
 use crate::counts::count_segments;
 use crate::prices::price_of_offer;
@@ -36,8 +35,8 @@ pub fn offers(
     requires legs { books.now.layout.legs ≡ legs_in cat.now }
     requires party { is_party wish.now.adults wish.now.children ≡ true }
     ensures own { IsOf books.now desk.new }
-    ensures entries { IfOk result (λ v. ShapeBy (OffersFor cat.now wish.now now (trips_of cat.now.runs (raised_of wish.now.trip now)) v.items) desk.old desk.new) }
-    ensures begun { OnErr result (ShapeBy (BeginsOffers cat.now wish.now (trips_of cat.now.runs (raised_of wish.now.trip now))) desk.old desk.new) }
+    ensures entries { IfOk result (λ v. ShapeBy (MakesOffers cat.now wish.now now v.items) desk.old desk.new) }
+    ensures begun { OnErr result (ShapeBy (BeginsMaking cat.now wish.now now) desk.old desk.new) }
     ensures holds { KeepsHolds desk.old desk.new }
     ensures endings { KeepsEndings desk.old desk.new }
     ensures tidy { IsTidy desk.old → IsTidy desk.new }

@@ -1,5 +1,5 @@
 -- What each route asks, and the command that it is.
-use Rattle.std.specs.Prelude.{◌≡◌, ◌≢◌, ℕ, nat_lt, nat_le, ◌^◌, ◌&&◌, Bool, true, false, if◌then◌else◌, List, Option, Some, None, option_map, Result, Ok, codes}
+use Rattle.std.specs.Prelude.{◌≡◌, ◌≢◌, ℕ, nat_lt, nat_le, ◌^◌, ◌&&◌, Bool, true, false, if◌then◌else◌, List, Option, Some, None, option_map, Result, Ok, Err}
 use Rattle.serde_json.specs.Data.{Data, null}
 use Rattle.rail_ids.specs.declared.RowNo.{RowNo}
 use Rattle.rail_ids.specs.Spelling.{booking_id_text, last_generation}
@@ -20,7 +20,8 @@ use Rattle.osdm_json.specs.Asked.{Asked, offers, book, reserve, show, release, c
 use Rattle.osdm_json.specs.Members.{in_object}
 use Rattle.osdm_json.specs.OfferBodies.{offers_of}
 use Rattle.osdm_json.specs.OrderBodies.{reserve_of, places_of}
-use Rattle.osdm_json.specs.IdBodies.{with_status, book_of, quote_exchange_of, accept_exchange_of}
+use Rattle.osdm_json.specs.IdBodies.{fulfil_of, accept_refund_of, book_of, quote_exchange_of, accept_exchange_of}
+use Rattle.osdm_json.specs.declared.fault.BodyFault.TheVariants.{NoMemory}
 
 -- what a route asks with this object as its body, or the first fault; a route that has no body lets it be
 abbrev pub asked_in : CatalogueView → Route → Data → Result Asked BodyFault
@@ -30,9 +31,9 @@ asked_in cat route.Reserve d = reserve_of cat d
 asked_in cat (route.Show id) d = Ok (show id.now)
 asked_in cat (route.Release id) d = Ok (release id.now)
 asked_in cat (route.Confirm id) d = Ok (confirm id.now)
-asked_in cat (route.Fulfil id) d = with_status (codes "FULFILLED") (fulfil id.now) d
+asked_in cat (route.Fulfil id) d = fulfil_of id.now d
 asked_in cat (route.QuoteRefund id) d = Ok (quote_refund id.now)
-asked_in cat (route.AcceptRefund id offer) d = with_status (codes "CONFIRMED") (accept_refund id.now offer.now) d
+asked_in cat (route.AcceptRefund id offer) d = accept_refund_of id.now offer.now d
 asked_in cat route.QuoteExchange d = quote_exchange_of d
 asked_in cat (route.AcceptExchange id) d = accept_exchange_of id.now d
 asked_in cat (route.Places run start end) d = places_of cat run.now start.now end.now
@@ -56,6 +57,14 @@ has_body route.Sweep = false
 -- what a route asks with these bytes as its body
 abbrev pub asked_by : CatalogueView → Route → List ℕ → Result Asked BodyFault
 asked_by cat route body = if has_body route then in_object (json_of body) (asked_in cat route) else asked_in cat route null
+
+-- the body is this object
+abbrev pub IsObject : List ℕ → Data → Type 0
+IsObject body d = (next : Data → Result Asked BodyFault) → in_object (json_of body) next ≡ next d
+
+-- the body is no object, for this fault, unless memory ran out
+abbrev pub IsNoObject : List ℕ → BodyFault → Type 0
+IsNoObject body e = ¬ (e ≡ NoMemory) → (next : Data → Result Asked BodyFault) → in_object (json_of body) next ≡ Err e
 
 -- the text is the one spelling of the value, or of none
 abbrev pub Spells : {A : Type 0} → (A → Bool) → (A → List ℕ) → List ℕ → Option A → Type 0

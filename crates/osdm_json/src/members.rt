@@ -1,8 +1,8 @@
 //! Members of a body, each by its kind.
-ghost use Rattle.std.specs.Prelude.{◌≡◌, ◌≤◌, ◌+◌, Some, None, IfOk, IfErr, IfSome, map, option_map, option_and_then};
+ghost use Rattle.std.specs.Prelude.{◌≡◌, ◌≤◌, ◌+◌, Some, None, IfOk, IfErr, IfSome, map, option_map};
 ghost use Rattle.serde_json.specs.View.{view};
 ghost use Rattle.rail_time.specs.Moments.{last_second};
-ghost use Rattle.rail_catalogue.specs.Json.{data_of, json_of, whole_in as whole_of, whole_or as whole_or_of, list_of as list_of_member, text_of};
+ghost use Rattle.rail_catalogue.specs.Json.{json_of, whole_in as whole_of, whole_or as whole_or_of, list_of as list_of_member, text_of};
 ghost use Rattle.rail_catalogue.specs.Coaches.{class_named as class_named_of, trait_named};
 ghost use Rattle.osdm_json.specs.Members.{class_in as class_of, flag_in as flag_of, traits_in as traits_of, traits_from, moment_in as moment_of_member, latest_in as latest_of};
 

@@ -1,9 +1,9 @@
 //! The body of a search for offers.
-ghost use Rattle.std.specs.Prelude.{◌≡◌, ◌≢◌, ◌≤◌, true, Ok, Err, IfOk, IfErr, option_map};
+ghost use Rattle.std.specs.Prelude.{◌≡◌, ◌≢◌, ◌≤◌, true, Ok, Err, IfOk, IfErr};
 ghost use Rattle.serde_json.specs.View.{view};
 ghost use Rattle.rail_time.specs.Moments.{last_second};
 ghost use Rattle.offer_codes.specs.Offers.{is_party as is_party_of};
-ghost use Rattle.osdm_json.specs.OfferBodies.{Ends as EndsView, party_of, ends_of, window_of, trip_of, offers_of};
+ghost use Rattle.osdm_json.specs.OfferBodies.{party_of, ends_of, window_of, trip_of, offers_of};
 ghost use Rattle.osdm_json.specs.EndViews.{ends_view};
 ghost use Rattle.osdm_json.specs.Commands.{Asks};
 ghost use Rattle.osdm_json.specs.Readable.{IsReadable, IsTripWish};

@@ -1,11 +1,10 @@
 //! The bodies that name a booking, an offer or a status.
-ghost use Rattle.std.specs.Prelude.{◌≡◌, Ok, Err, IfOk, IfErr, codes, if◌then◌else◌};
+ghost use Rattle.std.specs.Prelude.{◌≡◌, Ok, Err, IfOk, IfErr};
 ghost use Rattle.rail_catalogue.specs.Contents.{CatalogueView};
 ghost use Rattle.serde_json.specs.View.{view};
 ghost use Rattle.osdm_texts.specs.declared.field.FieldName.TheVariants.{Status};
 ghost use Rattle.osdm_json.specs.declared.fault.BodyFault.TheVariants.{Field};
-ghost use Rattle.osdm_json.specs.Asked.{Asked, fulfil, accept_refund};
-ghost use Rattle.osdm_json.specs.IdBodies.{with_status, book_of, quote_exchange_of, accept_exchange_of};
+ghost use Rattle.osdm_json.specs.IdBodies.{IsStatusTest, fulfil_of, accept_refund_of, book_of, quote_exchange_of, accept_exchange_of};
 ghost use Rattle.osdm_json.specs.Commands.{Asks};
 ghost use Rattle.osdm_json.specs.Readable.{IsReadable};
 
@@ -40,9 +39,9 @@ pub(crate) fn read_book(body: &Value) -> Result<Command, BodyFault>
 
 /// That the ticket of the booking with this id was collected.
 pub(crate) fn read_fulfil(id: &[u8], body: &Value) -> Result<Command, BodyFault>
-    ensures ok { IfOk result (λ c. Asks (with_status (codes "FULFILLED") (fulfil id.now) (view body.now)) c) }
+    ensures ok { IfOk result (λ c. Asks (fulfil_of id.now (view body.now)) c) }
     ensures readable { IfOk result (λ c. (cat : CatalogueView) → IsReadable cat c) }
-    ensures err { IfErr result (λ e. with_status (codes "FULFILLED") (fulfil id.now) (view body.now) ≡ Err e) }
+    ensures err { IfErr result (λ e. fulfil_of id.now (view body.now) ≡ Err e) }
 {
     if !has_status(body, "FULFILLED") {
         return Err(BodyFault::Field {
@@ -58,9 +57,9 @@ pub(crate) fn read_accept_refund(
     offer: &[u8],
     body: &Value,
 ) -> Result<Command, BodyFault>
-    ensures ok { IfOk result (λ c. Asks (with_status (codes "CONFIRMED") (accept_refund id.now offer.now) (view body.now)) c) }
+    ensures ok { IfOk result (λ c. Asks (accept_refund_of id.now offer.now (view body.now)) c) }
     ensures readable { IfOk result (λ c. (cat : CatalogueView) → IsReadable cat c) }
-    ensures err { IfErr result (λ e. with_status (codes "CONFIRMED") (accept_refund id.now offer.now) (view body.now) ≡ Err e) }
+    ensures err { IfErr result (λ e. accept_refund_of id.now offer.now (view body.now) ≡ Err e) }
 {
     if !has_status(body, "CONFIRMED") {
         return Err(BodyFault::Field {
@@ -74,7 +73,7 @@ pub(crate) fn read_accept_refund(
 }
 
 fn has_status(body: &Value, status: &str) -> bool
-    ensures { (asked : Asked) → with_status status.now asked (view body.now) ≡ (if result then Ok asked else Err (Field Status)) }
+    ensures { IsStatusTest status.now (view body.now) result }
 {
     match text_in(body.get("status")) {
         Some(text) => text == status,

@@ -1,11 +1,7 @@
 ghost use Rattle.std.specs.Prelude.{◌≡◌, true, Result, Err, IfOk, IfErr};
-ghost use Rattle.serde_json.specs.Data.{Data};
 ghost use Rattle.serde_json.specs.View.{view};
-ghost use Rattle.rail_catalogue.specs.Json.{json_of};
 ghost use Rattle.osdm_json.specs.declared.fault.BodyFault.{BodyFault};
-ghost use Rattle.osdm_json.specs.Asked.{Asked};
-ghost use Rattle.osdm_json.specs.Members.{in_object};
-ghost use Rattle.osdm_json.specs.Commands.{asked_in, asked_by, has_body as has_body_of, Asks};
+ghost use Rattle.osdm_json.specs.Commands.{asked_in, asked_by, has_body as has_body_of, IsObject, IsNoObject, Asks};
 ghost use Rattle.osdm_json.specs.Readable.{IsReadable};
 
 use crate::command::Command;
@@ -65,8 +61,8 @@ fn has_body(route: &Route<'_>) -> bool
 
 // The object that the body is.
 fn read_object(alloc: Global, body: &[u8]) -> Result<Value, BodyFault>
-    ensures ok { IfOk result (λ v. (next : Data → Result Asked BodyFault) → in_object (json_of body.now) next ≡ next (view v)) }
-    ensures err { IfErr result (λ e. ¬ (e ≡ BodyFault.NoMemory) → (next : Data → Result Asked BodyFault) → in_object (json_of body.now) next ≡ Err e) }
+    ensures ok { IfOk result (λ v. IsObject body.now (view v)) }
+    ensures err { IfErr result (IsNoObject body.now) }
 {
     let value = read_value(alloc, body)?;
     if value.is_object() {

@@ -1,5 +1,5 @@
 //! Ids and codes as they stand in paths and bodies.
-ghost use Rattle.std.specs.Prelude.{◌≡◌, ◌<◌, ◌≢◌, ℕ, ◌^◌, ◌++◌, Some, true, IfSome, IfNone, length, decimal, replicate, option_map};
+ghost use Rattle.std.specs.Prelude.{◌≡◌, ◌<◌, ℕ, ◌^◌, ◌++◌, Some, true, IfSome, length, decimal, replicate};
 ghost use Rattle.offer_codes.specs.Offers.{is_offer, offer_view};
 ghost use Rattle.offer_codes.specs.Refunds.{is_refund};
 ghost use Rattle.offer_codes.specs.Exchanges.{is_exchange, exchange_view};

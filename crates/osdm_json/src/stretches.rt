@@ -1,5 +1,5 @@
 //! Segments of one run: the body of a reservation, and the path to a run's places.
-ghost use Rattle.std.specs.Prelude.{◌≡◌, ◌<◌, ◌≤◌, length, Ok, Err, IfOk, IfErr, IfSome, option_map};
+ghost use Rattle.std.specs.Prelude.{◌≡◌, ◌<◌, length, Ok, Err, IfOk, IfErr, IfSome, option_map};
 ghost use Rattle.serde_json.specs.View.{view};
 ghost use Rattle.rail_catalogue.specs.Json.{whole_in as whole_of};
 ghost use Rattle.osdm_json.specs.OrderBodies.{if_run, segment_of, reserve_of, places_of};

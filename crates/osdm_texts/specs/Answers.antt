@@ -1,5 +1,5 @@
 -- What a retailer is answered, and how it is told: a problem, or a status and a JSON text.
-use Rattle.std.specs.Prelude.{ℕ, ℤ, Bool, true, false, List, length, Result, Ok, Err}
+use Rattle.std.specs.Prelude.{ℕ, ℤ, Bool, true, false, List, length, Result, Ok, Err, ◌≡◌}
 use Rattle.serde_json.specs.Data.{Data}
 use Rattle.serde_json.specs.Written.{compact_text}
 use Rattle.offer_codes.specs.declared.code.Offer.{Offer}
@@ -83,3 +83,7 @@ text_bytes (Large text) = text.items
 abbrev pub told_of : Result Written Problem → Told
 told_of (Ok w) = told (status_told w.success) w.length (text_bytes w.text)
 told_of (Err p) = refused p
+
+-- the text that was written tells the reply
+abbrev pub Tells : CatalogueView → Reply → Written → Type 0
+Tells cat reply written = told_of (Ok written) ≡ reply_told cat reply

@@ -1,5 +1,5 @@
 -- The JSON of bookings.
-use Rattle.std.specs.Prelude.{ℕ, zero, suc, ◌/◌, ◌%◌, pos, Bool, true, false, map, codes, Option, Some, None}
+use Rattle.std.specs.Prelude.{ℕ, zero, suc, ◌/◌, ◌%◌, pos, Bool, true, false, map, codes, Option, Some, None, option_map}
 use Rattle.serde_json.specs.Data.{Data, boolean, string, array, object, Members, no_members, member}
 use Rattle.serde_json.specs.View.{items_of}
 use Rattle.history_model.specs.declared.phase.Phase.{Phase}
@@ -15,6 +15,8 @@ use Rattle.osdm_texts.specs.Times.{time_text}
 use Rattle.osdm_texts.specs.Ids.{booking_id, HasId}
 use Rattle.osdm_texts.specs.Amounts.{amount_tree}
 use Rattle.osdm_texts.specs.Reservations.{reservations, reservation_tree}
+use Rattle.booking_rows.specs.Ends.{shown_end}
+use Rattle.booking_rows.specs.declared.views.EndView.{EndView}
 
 -- a booking is settled once it has ended
 abbrev pub is_settled : Phase → Bool
@@ -25,6 +27,9 @@ is_settled Confirmed = false
 is_settled Fulfilled = false
 is_settled (Ending kind) = false
 is_settled (Ended kind) = true
+
+abbrev pub seen_end : Option EndView → Option End
+seen_end ended = option_map shown_end ended
 
 -- how a settled booking ended stands before the other members
 abbrev pub end_members : CatalogueView → Option End → Members → Members

@@ -12,6 +12,7 @@ pub mod Reservations
 pub mod Bookings
 pub mod Quotes
 pub mod Places
+pub mod PlaceTexts
 pub mod Replies
 pub mod Appends
 pub mod EndTokens

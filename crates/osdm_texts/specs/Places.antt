@@ -30,3 +30,7 @@ abbrev pub place_trees : List Place → List Bool → List Data
 place_trees [] free = []
 place_trees (p ∷ rest) [] = []
 place_trees (p ∷ rest) (free ∷ more) = place_tree p free ∷ place_trees rest more
+
+-- the list of places
+abbrev pub place_list_tree : List Place → List Bool → Data
+place_list_tree places free = object (member (codes "places") (array (items_of (place_trees places free))) no_members)

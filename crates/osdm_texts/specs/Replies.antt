@@ -18,7 +18,7 @@ use Rattle.osdm_texts.specs.Sweeps.{swept_tree}
 use Rattle.osdm_texts.specs.Offers.{offer_tree, IsWritable}
 use Rattle.osdm_texts.specs.Bookings.{booking_tree, HasIds}
 use Rattle.osdm_texts.specs.Quotes.{refund_tree, exchange_tree}
-use Rattle.osdm_texts.specs.Places.{place_trees}
+use Rattle.osdm_texts.specs.Places.{place_list_tree}
 
 abbrev pub offers_tree : CatalogueView → List Offer → Data
 offers_tree cat offers = object (member (codes "offers") (array (items_of (map (offer_tree cat) offers))) no_members)
@@ -30,7 +30,7 @@ exchanged_tree cat row view difference replaced =
     (member (codes "replaced") (string (booking_id replaced)) no_members)))
 
 abbrev pub places_tree : CatalogueView → ℕ → List Bool → Data
-places_tree cat run free = object (member (codes "places") (array (items_of (place_trees (run_places cat run) free))) no_members)
+places_tree cat run free = place_list_tree (run_places cat run) free
 
 abbrev pub tree_of : CatalogueView → Reply → Data
 tree_of cat (OfferList offers) = offers_tree cat offers.now

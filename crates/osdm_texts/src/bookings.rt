@@ -1,11 +1,10 @@
 //! Bookings.
-ghost use Rattle.std.specs.Prelude.{◌≡◌, option_map, IfSome, OnOk};
+ghost use Rattle.std.specs.Prelude.{◌≡◌, IfSome, OnOk};
 ghost use Rattle.std.specs.Option.{option_map_or};
 ghost use Rattle.serde_json.specs.Data.{no_members};
-ghost use Rattle.booking_rows.specs.Ends.{shown_end};
 ghost use Rattle.booking_rows.specs.Views.{MaySucceed};
 ghost use Rattle.osdm_texts.specs.Ids.{HasId};
-ghost use Rattle.osdm_texts.specs.Bookings.{is_settled as is_settled_of, end_members, succeeding, successor_members, HasIds, booking_tree};
+ghost use Rattle.osdm_texts.specs.Bookings.{is_settled as is_settled_of, succeeding, successor_members, HasIds, booking_tree, seen_end};
 ghost use Rattle.osdm_texts.specs.EndTokens.{end_tokens};
 ghost use Rattle.osdm_texts.specs.Appends.{Appends, tokens_of, members_of};
 
@@ -50,7 +49,7 @@ fn is_settled(phase: Phase) -> bool
 
 // How a settled booking ended.
 fn put_end(out: &mut Writer, cat: &Catalogue, ended: Option<EndView>) -> Result<(), AllocError>
-    ensures { OnOk result (Appends out.old out.new (end_tokens cat.now (option_map shown_end ended))) }
+    ensures { OnOk result (Appends out.old out.new (end_tokens cat.now (seen_end ended))) }
 {
     match ended {
         Some(end) => {
@@ -63,8 +62,8 @@ fn put_end(out: &mut Writer, cat: &Catalogue, ended: Option<EndView>) -> Result<
 
 // The successor of a booking that ended by exchange, and the end of the object.
 fn put_successor(out: &mut Writer, phase: Phase, ended: Option<EndView>) -> Result<(), AllocError>
-    requires successor { MaySucceed (option_map shown_end ended) }
-    ensures { OnOk result (Appends out.old out.new (members_of (successor_members phase (option_map shown_end ended)))) }
+    requires successor { MaySucceed (seen_end ended) }
+    ensures { OnOk result (Appends out.old out.new (members_of (successor_members phase (seen_end ended)))) }
 {
     if let Some(row) = successor(phase, ended) {
         put_booking_id(out, "successor", row)?;
@@ -73,8 +72,8 @@ fn put_successor(out: &mut Writer, phase: Phase, ended: Option<EndView>) -> Resu
 }
 
 fn successor(phase: Phase, ended: Option<EndView>) -> Option<RowNo>
-    requires successor { MaySucceed (option_map shown_end ended) }
-    ensures members { successor_members phase (option_map shown_end ended) ≡ option_map_or succeeding result no_members }
+    requires successor { MaySucceed (seen_end ended) }
+    ensures members { successor_members phase (seen_end ended) ≡ option_map_or succeeding result no_members }
     ensures id { IfSome result HasId }
 {
     match phase {

@@ -1,6 +1,5 @@
 //! Moments and ids as texts.
-ghost use Rattle.std.specs.Prelude.{◌≡◌, ◌≤◌, IsAscii, true};
-ghost use Rattle.rail_time.specs.Moments.{last_second};
+ghost use Rattle.std.specs.Prelude.{◌≡◌, IsAscii, true};
 ghost use Rattle.offer_codes.specs.Offers.{is_offer, offer_view};
 ghost use Rattle.offer_codes.specs.Refunds.{is_refund};
 ghost use Rattle.offer_codes.specs.Exchanges.{is_exchange, exchange_view};

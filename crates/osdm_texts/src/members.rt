@@ -1,10 +1,11 @@
 //! Members and values, put behind what a writer holds.
-ghost use Rattle.std.specs.Prelude.{◌≡◌, [], ◌∷◌, pos, codes, decimal, OnOk};
+ghost use Rattle.std.specs.Prelude.{[], ◌∷◌, pos, codes, decimal, OnOk};
 ghost use Rattle.json.specs.Token.{begin_object, end_object, key, string, number, boolean};
 ghost use Rattle.osdm_texts.specs.Times.{time_text as time_text_of};
 ghost use Rattle.osdm_texts.specs.Ids.{HasId, booking_id as booking_id_of};
 ghost use Rattle.osdm_texts.specs.Amounts.{amount_tree};
 ghost use Rattle.osdm_texts.specs.Appends.{Appends, tokens_of};
+ghost use Rattle.osdm_texts.specs.EndTokens.{amount_rest};
 
 use crate::ids::{booking_id, text_of, time_text};
 use json::Writer;
@@ -85,7 +86,7 @@ fn begin_amount(out: &mut Writer, name: &str) -> Result<(), AllocError>
 }
 
 fn end_amount(out: &mut Writer, currency: &str) -> Result<(), AllocError>
-    ensures { OnOk result (Appends out.old out.new (key (codes "currency") ∷ string currency.now ∷ key (codes "scale") ∷ number (decimal 2) ∷ end_object ∷ [])) }
+    ensures { OnOk result (Appends out.old out.new (amount_rest currency.now)) }
 {
     put_text(out, "currency", currency)?;
     put_count(out, "scale", 2)?;

@@ -1,5 +1,5 @@
 //! Offers.
-ghost use Rattle.std.specs.Prelude.{◌≡◌, ◌∷◌, [], All, map, length, codes, OnOk};
+ghost use Rattle.std.specs.Prelude.{◌≡◌, All, map, length, OnOk};
 ghost use Rattle.json.specs.Token.{key, begin_array, end_array};
 ghost use Rattle.osdm_texts.specs.Offers.{segment_tree, segment_trees, offer_tree, IsWritable};
 ghost use Rattle.osdm_texts.specs.Appends.{Appends, tokens_of, listed};

@@ -1,17 +1,16 @@
-ghost use Rattle.std.specs.Prelude.{◌≡◌, [], All, length, IfOk, OnOk};
+ghost use Rattle.std.specs.Prelude.{◌≡◌, [], All, IfOk, OnOk};
 ghost use Rattle.serde_json.specs.Data.{Data};
 ghost use Rattle.serde_json.specs.Written.{compact_text};
-ghost use Rattle.osdm_texts.specs.Spots.{run_places as run_places_of};
 ghost use Rattle.osdm_texts.specs.Offers.{IsWritable};
 ghost use Rattle.osdm_texts.specs.Ids.{HasId};
 ghost use Rattle.osdm_texts.specs.Bookings.{HasIds};
-ghost use Rattle.osdm_texts.specs.Replies.{offers_tree, exchanged_tree, places_tree, tree_of, CanBeWritten};
+ghost use Rattle.osdm_texts.specs.Replies.{offers_tree, exchanged_tree, tree_of, CanBeWritten};
 ghost use Rattle.osdm_texts.specs.Appends.{Appends, tokens_of};
 
 use crate::bookings::put_booking;
 use crate::members::{put_amount, put_booking_id};
 use crate::offers::put_offers;
-use crate::places::put_places;
+use crate::places::places_text;
 use crate::problem::Problem;
 use crate::quotes::{put_exchange, put_refund};
 use crate::small::{small_text, swept_text};
@@ -101,11 +100,7 @@ pub fn reply_text(alloc: Global, cat: &Catalogue, reply: &Reply<'_>) -> Result<V
             put_exchanged(&mut out, cat, *row, view, *difference, *replaced)?;
             Ok(finish(out))
         }
-        Reply::PlaceList { run, free } => {
-            let mut out = start(alloc)?;
-            put_place_list(&mut out, cat, *run, free)?;
-            Ok(finish(out))
-        }
+        Reply::PlaceList { run, free } => places_text(alloc, run_places(cat, *run), free),
         Reply::Swept(swept) => Vec::from_slice(alloc, swept_text(*swept).as_slice()),
         Reply::Problem(problem) => Vec::from_slice(alloc, small_text(problem).as_slice()),
     }
@@ -148,29 +143,13 @@ fn put_exchanged(
     replaced: RowNo,
 ) -> Result<(), AllocError>
     requires ids { HasIds row view.now × HasId replaced }
-    ensures { OnOk result (Appends out.old out.new (tokens_of (exchanged_tree cat.now row view.now difference replaced))) }
+    ensures { OnOk result (Appends out.old out.new
+        (tokens_of (exchanged_tree cat.now row view.now difference replaced))) }
 {
     out.begin_object()?;
     out.key("booking")?;
     put_booking(out, cat, row, view)?;
     put_amount(out, "difference", cat.currency_text(), difference)?;
     put_booking_id(out, "replaced", replaced)?;
-    out.end_object()
-}
-
-fn put_place_list(
-    out: &mut Writer,
-    cat: &Catalogue,
-    run: RunNo,
-    free: &[bool],
-) -> Result<(), AllocError>
-    requires one_each { length free.now ≡ length (run_places_of cat.now run.0) }
-    ensures { OnOk result (Appends out.old out.new (tokens_of (places_tree cat.now run.0 free.now))) }
-{
-    out.begin_object()?;
-    out.key("places")?;
-    out.begin_array()?;
-    put_places(out, run_places(cat, run), free)?;
-    out.end_array()?;
     out.end_object()
 }

@@ -22,7 +22,8 @@ use rail_ids::PlaceNo;
 pub enum PartyAdded {
     /// As many as were asked for are won, side by side; this is the first of them.
     Together { first: PlaceNo },
-    /// As many as were asked for are won, but not side by side.
+    /// As many as were asked for are won, as `add_places` wins them. Each stretch of the candidates had a place with a leg
+    /// that was taken or contended when it was looked at or tried.
     Apart,
     /// Fewer places were won by this call, and every other candidate showed it a taken leg of the span.
     NoPlace { won: u8 },
@@ -60,8 +61,8 @@ fn behind(candidates: &[PlaceNo], from: usize) -> &[PlaceNo]
     &candidates[from..]
 }
 
-/// Adds to the hold `count` of the candidates for the span, side by side where it can: in one coach, each with the number
-/// one above the one before.
+/// Adds to the hold `count` of the candidates for the span, side by side if a stretch is found free and won: in one
+/// coach, each with the number one above the one before.
 ///
 /// It looks at the candidates in order, once at each piece of the span, until `count` of them in a row stand side by side
 /// and showed free. Those are taken one by one, each as `add_places` takes it. Where one isn't won, what was won is given
@@ -91,7 +92,8 @@ pub fn add_party(
         × ShapeBy (SeatsParty (asked places.now hold.old span count candidates.now) result won) desk.old desk.new
         × (hold.new ≡ with_items hold.old won) }
     // Where the party doesn't sit together, each stretch had a place with a leg that was taken or contended.
-    ensures causes { ShapeBy (SpoilsAll (asked places.now hold.old span count candidates.now) result) desk.old desk.new }
+    ensures causes { ShapeBy
+        (SpoilsAll (asked places.now hold.old span count candidates.now) result) desk.old desk.new }
     ensures hold { IsHolding desk.new hold.new }
     ensures noted { HasNotedItems desk.old hold.old → HasNotedItems desk.new hold.new }
     ensures endings { KeepsEndings desk.old desk.new }

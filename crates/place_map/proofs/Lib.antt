@@ -2,3 +2,4 @@ pub mod Adding
 pub mod Numbers
 pub mod OwnPlaces
 pub mod Classes
+pub mod Apart

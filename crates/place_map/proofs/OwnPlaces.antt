@@ -5,7 +5,7 @@ use Rattle.std.specs.List.{filter}
 use Rattle.std.specs.List.Sorted.{IsPartitionPoint}
 use Rattle.std.proofs.lemmas.Bool.Decides.{nat_tests}
 use Rattle.place_map.specs.declared.coach.Place.{Place}
-use Rattle.place_map.specs.Places.{run_number, places_of}
+use Rattle.place_map.specs.Places.{run_number, places_of, IsSplit}
 
 step : {X : Type 0} (passes : X → Bool) (p : X) (b : Bool) (rest : List X) → passes p ≡ b → filter passes (p ∷ rest) ≡ (if b then p ∷ filter passes rest else filter passes rest)
 step passes p b rest is = ap (λ (c : Bool). if c then p ∷ filter passes rest else filter passes rest) is
@@ -42,8 +42,8 @@ later a run h = grind (arith, nat_tests)
 
 -- between the earlier runs and the later ones
 pub places_of-own : (run first end : ℕ) (places rest : List Place) → rest ≡ drop first places
-    → IsPartitionPoint (λ p. nat_lt (run_number p) run ≡ true) (λ p. nat_lt (run_number p) run ≡ false) places first
-    → IsPartitionPoint (λ p. nat_le (run_number p) run ≡ true) (λ p. nat_le (run_number p) run ≡ false) rest end
+    → IsSplit (λ p. nat_lt (run_number p) run) places first
+    → IsSplit (λ p. nat_le (run_number p) run) rest end
     → take end rest ≡ places_of run places
 places_of-own run first end places rest is before after =
     let long : length rest ≡ length places - first = ap length is ∙ length-drop first places in

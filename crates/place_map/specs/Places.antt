@@ -1,7 +1,7 @@
 -- What a coach adds to the places of all runs, or why it is refused.
-use Rattle.std.specs.Prelude.{ℕ, zero, suc, ◌+◌, ◌-◌, ◌≤◌, ◌==◌, ◌&&◌, ◌||◌, nat_lt, Bool, List, [], ◌∷◌, ◌++◌, All, length, count_by, filter, flat_map, if◌then◌else◌, Option, Some, None, Result, Ok, Err}
-use Rattle.std.specs.List.{list_any}
-use Rattle.std.specs.List.Sorted.{IsNonDecreasingBy}
+use Rattle.std.specs.Prelude.{ℕ, zero, suc, ◌+◌, ◌-◌, ◌≤◌, ◌==◌, ◌&&◌, ◌||◌, nat_lt, Bool, List, [], ◌∷◌, ◌++◌, All, length, count_by, filter, flat_map, if◌then◌else◌, Option, Some, None, Result, Ok, Err, ◌≡◌, ◌≢◌, true, false}
+use Rattle.std.specs.List.{list_any, AllByRecursion}
+use Rattle.std.specs.List.Sorted.{IsNonDecreasingBy, IsPartitionPoint}
 use Rattle.place_map.specs.declared.coach.Class.{Class}
 use Rattle.place_map.specs.declared.coach.Place.{Place}
 use Rattle.place_map.specs.Seats.{Seats}
@@ -43,6 +43,15 @@ abbrev pub first_repeat : List Place → List Place → Option Place
 first_repeat before [] = None
 first_repeat before (p ∷ rest) = if has_place before p then Some p else first_repeat (before ++ p ∷ []) rest
 
+-- none of the places is of the coach
+abbrev pub AreOfOthers : ℕ → List Place → Type 0
+AreOfOthers coach places = AllByRecursion (λ p. p.coach ≢ coach) places
+
+-- the places are of the coach, and their numbers rise from this one on
+abbrev pub AreRisingFrom : ℕ → ℕ → List Place → Type 0
+AreRisingFrom coach least [] = Unit {0}
+AreRisingFrom coach least (p ∷ rest) = (p.coach ≡ coach) × (least ≤ p.number) × AreRisingFrom coach (p.number + 1) rest
+
 abbrev pub count_in_run : ℕ → List Place → ℕ
 count_in_run run places = count_by (λ p. run_number p == run) places
 
@@ -66,3 +75,7 @@ EndsWithRun run places = All (λ p. run_number p ≤ run) places
 -- the runs do not fall
 abbrev pub AreByRun : List Place → Type 0
 AreByRun places = IsNonDecreasingBy run_number places
+
+-- the first n places pass, and the others don't
+abbrev pub IsSplit : (Place → Bool) → List Place → ℕ → Type 0
+IsSplit passes places n = IsPartitionPoint (λ p. passes p ≡ true) (λ p. passes p ≡ false) places n

@@ -1,4 +1,4 @@
-ghost use Rattle.std.specs.Prelude.{◌≡◌, ◌≤◌, ◌<◌, ◌+◌, ◌++◌, [], length, take, filter, OnOk, OnErr};
+ghost use Rattle.std.specs.Prelude.{◌≡◌, ◌≤◌, ◌<◌, ◌+◌, ◌++◌, [], filter, OnOk, OnErr};
 ghost use Rattle.place_map.specs.ByClass.{of_class, with_numbers, numbers_up, is_between};
 ghost use Rattle.place_map.specs.Candidates.{AreRising};
 

@@ -1,7 +1,6 @@
-ghost use Rattle.std.specs.Prelude.{filter, ◌≡◌, ◌≤◌, ◌<◌, ◌==◌, ◌+◌, ◌++◌, ◌||◌, [], List, IfOk, OnOk, OnErr, IfErr, Ok, length, min, sum_by, slice_get, option_copied, All, true, false, nat_lt, nat_le};
+ghost use Rattle.std.specs.Prelude.{filter, ◌≡◌, ◌≤◌, ◌<◌, ◌==◌, ◌+◌, ◌++◌, ◌||◌, [], List, IfOk, OnOk, OnErr, IfErr, Ok, None, length, min, sum_by, slice_get, All, true, false, nat_lt, nat_le};
 ghost use Rattle.std.specs.List.{AllByRecursion};
-ghost use Rattle.std.specs.List.Sorted.{IsPartitionPoint};
-ghost use Rattle.place_map.specs.Places.{places_of as places_of_run, coach_places, group_places, group_size, has_place, first_repeat as first_repeat_of, with_places, run_number, EndsWithRun, AreByRun};
+ghost use Rattle.place_map.specs.Places.{places_of as places_of_run, coach_places, group_places, group_size, has_place, AreOfOthers, AreRisingFrom, first_repeat as first_repeat_of, with_places, run_number, EndsWithRun, AreByRun, IsSplit};
 ghost use Rattle.place_map.specs.Candidates.{candidates_of, class_places_of, IsOfRun, AreRising};
 ghost use Rattle.place_map.specs.ByClass.{AreByClass, has_traits};
 
@@ -213,7 +212,7 @@ fn with_traits(
 fn first_of_run(places: &[Place], run: RunNo) -> usize
     requires by_run { AreByRun places.now }
     ensures within { result ≤ length places.now }
-    ensures splits { IsPartitionPoint (λ p. nat_lt (run_number p) run.0 ≡ true) (λ p. nat_lt (run_number p) run.0 ≡ false) places.now result }
+    ensures splits { IsSplit (λ p. nat_lt (run_number p) run.0) places.now result }
 {
     places.partition_point(|p| p.run.0 < run.0)
 }
@@ -222,7 +221,7 @@ fn first_of_run(places: &[Place], run: RunNo) -> usize
 fn end_of_run(places: &[Place], run: RunNo) -> usize
     requires by_run { AreByRun places.now }
     ensures within { result ≤ length places.now }
-    ensures splits { IsPartitionPoint (λ p. nat_le (run_number p) run.0 ≡ true) (λ p. nat_le (run_number p) run.0 ≡ false) places.now result }
+    ensures splits { IsSplit (λ p. nat_le (run_number p) run.0) places.now result }
 {
     places.partition_point(|p| p.run.0 <= run.0)
 }
@@ -275,12 +274,55 @@ fn push_group(
 fn first_repeat(places: &[Place], fresh: &[Place]) -> Option<Place>
     ensures { result ≡ first_repeat_of places.now fresh.now }
 {
+    if are_apart(places, fresh) {
+        return None;
+    }
     for (i, place) in fresh.iter().enumerate() {
         if holds(places, place) || holds(&fresh[..i], place) {
             return Some(*place);
         }
     }
     None
+}
+
+// Whether the fresh places are of one coach that none of the others has, in rising number: then none of them stood before.
+fn are_apart(places: &[Place], fresh: &[Place]) -> bool
+    ensures { result ≡ true → first_repeat_of places.now fresh.now ≡ None }
+{
+    if fresh.is_empty() {
+        return true;
+    }
+    let coach = fresh[0].coach;
+    if !is_new(places, coach) {
+        return false;
+    }
+    rises(fresh, coach)
+}
+
+// Whether none of the places is of the coach.
+fn is_new(places: &[Place], coach: u16) -> bool
+    ensures { result ≡ true → AreOfOthers coach places.now }
+{
+    for place in places {
+        if place.coach == coach {
+            return false;
+        }
+    }
+    true
+}
+
+// Whether the places are of the coach, each with a greater number than the one before.
+fn rises(places: &[Place], coach: u16) -> bool
+    ensures { result ≡ true → AreRisingFrom coach 0 places.now }
+{
+    let mut least = 0u32;
+    for place in places {
+        if place.coach != coach || u32::from(place.number) < least {
+            return false;
+        }
+        least = u32::from(place.number) + 1;
+    }
+    true
 }
 
 fn holds(places: &[Place], place: &Place) -> bool

@@ -18,7 +18,7 @@ use Rattle.claim_rule.specs.Calls.{ShapeBy}
 use Rattle.claim_rule.proofs.Moves.{is_sound}
 use Rattle.availability.specs.Looks.{LooksAt, CountsFree}
 use Rattle.offer_engine.specs.declared.wish.OfferWish.{OfferWish}
-use Rattle.offer_engine.specs.Offers.{raised, offer_price, code_for, wanted_places, CountsSegments, OffersFor, BeginsOffers}
+use Rattle.offer_engine.specs.Offers.{raised, offer_price, code_for, wanted_places, CountsSegments, OffersFor, MakesOffers, BeginsOffers}
 use Rattle.lone_desk.specs.Lone.{entries_of, after_steps}
 use Rattle.lone_desk.specs.Decided.{IsFreeAt, HasClearWords}
 use Rattle.lone_desk.proofs.Clear.{open_is_clear}
@@ -157,7 +157,7 @@ knows : (cat : CatalogueView) (desk : DeskView) → IsLone cat desk → Knows (i
 knows cat desk lone span place = list_is_free cat desk span place lone
 
 pub offers_seen : (cat : CatalogueView) (w : OfferWish) (now : ℕ) (offers : List Offer) (old new : DeskView) → IsLone cat old
-    → ShapeBy (OffersFor cat w now (trips_of cat.runs (raised w.trip now)) offers) old new → (offers ≡ offered cat (plain_of old) w now) × (state_seen new ≡ state_seen old)
+    → ShapeBy (MakesOffers cat w now offers) old new → (offers ≡ offered cat (plain_of old) w now) × (state_seen new ≡ state_seen old)
 offers_seen cat w now offers old new lone (es, did, shape) =
     let f = shape_follows old new es lone.alone shape in
     let trips = trips_of cat.runs (raised w.trip now) in (

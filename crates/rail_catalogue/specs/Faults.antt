@@ -1,5 +1,5 @@
 -- Faults as contracts see them, with their paths as texts, and how a reading goes on or ends.
-use Rattle.std.specs.Prelude.{ℕ, List, ◌++◌, Option, Some, None, Result, Ok, Err, codes, decimal, string_bytes}
+use Rattle.std.specs.Prelude.{ℕ, List, ◌++◌, Option, Some, None, Result, Ok, Err, codes, decimal, string_bytes, ◌≡◌, IfErr, IfSome}
 use Rattle.place_map.specs.declared.coach.PlaceFault.{PlaceFault}
 use Rattle.tariff.specs.declared.terms.TermsFault.{TermsFault}
 use Rattle.train_runs.specs.declared.run.RunFault.{RunFault}
@@ -25,6 +25,10 @@ fault_of (variants.Tariff e) = Some (tariff e)
 fault_of (variants.UnknownStation code) = Some (unknown_station (string_bytes code))
 fault_of variants.DoubleKey = Some double_key
 fault_of variants.NoMemory = None
+
+-- an error is the fault of what was to be read, unless memory ran out
+abbrev pub Refuses : {A B : Type 0} → Result A Fault → Result B CatalogueFault → Type 0
+Refuses read result = IfErr result (λ e. IfSome (fault_of e) (λ f. read ≡ Err f))
 
 -- a member that is needed: without it the reading ends with the fault at its path
 abbrev pub need : {A B : Type 0} → List ℕ → Option A → (A → Result B Fault) → Result B Fault

@@ -4,10 +4,17 @@ use Rattle.std.specs.Str.{is_utf8}
 use Rattle.serde_json.specs.Data.{Data, Items, no_items, item}
 use Rattle.serde_json.specs.Read.{read}
 use Rattle.serde_json.specs.Find.{as_number, as_u64, as_array, as_str}
+use Rattle.std.specs.Borrow.{Bor}
+use Rattle.serde_json.specs.declared.value.Value.{Value}
+use Rattle.serde_json.specs.View.{view}
 
 -- the value that the bytes are, if they are UTF-8 and JSON
 abbrev pub json_of : List ℕ → Option Data
 json_of text = if is_utf8 text then read text else None
+
+-- what a member stands for, if it is there
+abbrev pub member_data : Option (Bor Value) → Option Data
+member_data member = option_map (λ v. view v.now) member
 
 abbrev pub if_in_range : ℕ → ℕ → ℕ → Option ℕ
 if_in_range least most n = if nat_le least n && nat_le n most then Some n else None

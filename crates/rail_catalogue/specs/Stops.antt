@@ -1,5 +1,5 @@
 -- The stops and the fares of a run.
-use Rattle.std.specs.Prelude.{ℕ, ◌+◌, ◌==◌, ◌&&◌, Bool, not, List, [], ◌∷◌, ◌++◌, length, codes, if◌then◌else◌, Option, Some, None, option_and_then, Result, Ok, Err}
+use Rattle.std.specs.Prelude.{ℕ, ◌+◌, ◌==◌, ◌&&◌, Bool, not, List, [], ◌∷◌, ◌++◌, length, codes, if◌then◌else◌, Option, Some, None, option_and_then, Result, Ok, Err, map}
 use Rattle.serde_json.specs.Data.{Data}
 use Rattle.serde_json.specs.Find.{get, as_object, as_str}
 use Rattle.rail_ids.specs.declared.StationNo.{StationNo}
@@ -13,6 +13,8 @@ use Rattle.train_runs.specs.Stops.{RunView}
 use Rattle.train_runs.specs.Runs.{RunsView, run_fault}
 use Rattle.rail_catalogue.specs.Json.{whole_in, list_of, text_of}
 use Rattle.rail_catalogue.specs.Faults.{Fault, field, run, unknown_station, need, after, item_path, run_item_path}
+use Rattle.serde_json.specs.View.{view}
+use Rattle.serde_json.specs.declared.value.Value.{Value}
 
 -- a member for a moment: it is missing, it is no moment, or it is this one
 pub data Time : Type 0 where
@@ -71,6 +73,10 @@ stop_at stations i j n d = let at : List ℕ → List ℕ = run_item_path i (cod
 abbrev pub stops_from : List StationView → ℕ → ℕ → List Stop → List Data → Result (List Stop) Fault
 stops_from stations i n found [] = Ok found
 stops_from stations i n found (d ∷ ds) = after (stop_at stations i (length found) n d) (λ s. stops_from stations i n (found ++ s ∷ []) ds)
+
+-- the stops of all items, of the i-th run
+abbrev pub stops_in : List StationView → ℕ → List Value → Result (List Stop) Fault
+stops_in stations i items = stops_from stations i (length items) [] (map view items)
 
 abbrev pub unless_refused : RunsView → Option RunFault → Result RunsView Fault
 unless_refused runs None = Ok runs

@@ -70,9 +70,18 @@ impl Model for Catalogue {
 
     ghost Value = { CatalogueView };
 
-    ghost view = { λ c. record { currency = string_bytes c.currency; rows = c.rows; retailers = c.retailers; runs = c.runs; fares = c.fares.items; places = c.places; terms = c.terms } };
+    ghost view = { λ c. record {
+      currency = string_bytes c.currency;
+      rows = c.rows;
+      retailers = c.retailers;
+      runs = c.runs;
+      fares = c.fares.items;
+      places = c.places;
+      terms = c.terms;
+    } };
 
-    ghost invariant = { λ c. (length (string_bytes c.currency) ≡ 3) × (1 ≤ c.rows) × (c.rows ≤ 262_144) × (1 ≤ length c.runs.runs) × IsWhole c.runs c.fares.items c.places };
+    ghost invariant = { λ c. (length (string_bytes c.currency) ≡ 3) × (1 ≤ c.rows) × (c.rows ≤ 262_144)
+        × (1 ≤ length c.runs.runs) × IsWhole c.runs c.fares.items c.places };
 }
 
 impl Catalogue {
@@ -89,7 +98,15 @@ impl Catalogue {
         requires most { rows ≤ 262_144 }
         requires run { 1 ≤ length network.runs.runs }
         requires whole { IsWhole network.runs network.fares.items network.places }
-        ensures { result ≡ record { currency = string_bytes currency; rows = rows; retailers = retailers; runs = network.runs; fares = network.fares.items; places = network.places; terms = terms } }
+        ensures { result ≡ record {
+          currency = string_bytes currency;
+          rows = rows;
+          retailers = retailers;
+          runs = network.runs;
+          fares = network.fares.items;
+          places = network.places;
+          terms = terms;
+        } }
     {
         let Network {
             runs,

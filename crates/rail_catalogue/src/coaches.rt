@@ -1,8 +1,8 @@
-ghost use Rattle.std.specs.Prelude.{◌≡◌, ◌≤◌, ◌+◌, [], length, Ok, Err, IfOk, IfErr, IfSome, OnOk, map, option_map, option_and_then};
+ghost use Rattle.std.specs.Prelude.{◌≡◌, ◌≤◌, ◌+◌, [], length, Ok, Err, IfOk, OnOk, map, option_and_then};
 ghost use Rattle.serde_json.specs.View.{view};
 ghost use Rattle.place_map.specs.Places.{EndsWithRun, with_places, coach_places};
-ghost use Rattle.rail_catalogue.specs.Faults.{fault_of};
-ghost use Rattle.rail_catalogue.specs.Json.{text_of};
+ghost use Rattle.rail_catalogue.specs.Faults.{Refuses};
+ghost use Rattle.rail_catalogue.specs.Json.{text_of, member_data};
 ghost use Rattle.rail_catalogue.specs.CoachViews.{coach_view};
 ghost use Rattle.rail_catalogue.specs.Coaches.{class_named, trait_named, traits_from, traits_of, group_at, groups_from, coach_at, coaches_from, placed};
 
@@ -13,7 +13,7 @@ use rail_ids::RunNo;
 use serde_json::Value;
 use std::alloc::Global;
 
-// Adds the coaches of a run to the places.
+/// Adds the coaches of a run to the places.
 pub fn read_coaches(
     alloc: Global,
     items: &[Value],
@@ -24,7 +24,7 @@ pub fn read_coaches(
     ensures ok { OnOk result (coaches_from run 0 places.old (map view items.now) ≡ Ok places.new) }
     ensures grown { OnOk result (length places.old + length items.now ≤ length places.new) }
     ensures no_later_run { OnOk result (EndsWithRun run places.new) }
-    ensures err { IfErr result (λ e. IfSome (fault_of e) (λ f. coaches_from run 0 places.old (map view items.now) ≡ Err f)) }
+    ensures err { Refuses (coaches_from run 0 places.old (map view items.now)) result }
 {
     for (n, item) in items.iter().enumerate() {
         let coach = read_coach(alloc, item, run as usize, n)?;
@@ -39,8 +39,8 @@ fn add_coach(places: &mut PlaceMap, run: u32, coach: &Coach) -> Result<(), Catal
         (coach_places run coach.now.number coach.now.class coach.now.groups.items)) ≡ Ok places.new) }
     ensures grown { OnOk result (length places.old + length coach.now.groups.items ≤ length places.new) }
     ensures no_later_run { OnOk result (EndsWithRun run places.new) }
-    ensures err { IfErr result (λ e. IfSome (fault_of e) (λ f. placed (with_places run places.old
-        (coach_places run coach.now.number coach.now.class coach.now.groups.items)) ≡ Err f)) }
+    ensures err { Refuses (placed (with_places run places.old
+        (coach_places run coach.now.number coach.now.class coach.now.groups.items))) result }
 {
     match places.add_coach(RunNo(run), coach) {
         Ok(()) => Ok(()),
@@ -52,7 +52,7 @@ fn add_coach(places: &mut PlaceMap, run: u32, coach: &Coach) -> Result<(), Catal
 fn read_coach(alloc: Global, item: &Value, run: usize, n: usize) -> Result<Coach, CatalogueFault>
     ensures ok { IfOk result (λ c. coach_at run n (view item.now) ≡ Ok (coach_view c)) }
     ensures some { IfOk result (λ c. 1 ≤ length c.groups.items) }
-    ensures err { IfErr result (λ e. IfSome (fault_of e) (λ f. coach_at run n (view item.now) ≡ Err f)) }
+    ensures err { Refuses (coach_at run n (view item.now)) result }
 {
     if !item.is_object() {
         return Err(run_item_fault(alloc, run, "coaches", n, ""));
@@ -74,7 +74,7 @@ fn read_coach(alloc: Global, item: &Value, run: usize, n: usize) -> Result<Coach
 }
 
 fn read_class(value: Option<&Value>) -> Option<Class>
-    ensures { result ≡ option_and_then class_named (text_of (option_map (λ v. view v.now) value.entry)) }
+    ensures { result ≡ option_and_then class_named (text_of (member_data value.entry)) }
 {
     match value.and_then(Value::as_str)? {
         "FIRST" => Some(Class::First),
@@ -91,7 +91,7 @@ fn read_groups(
 ) -> Result<Vec<Group>, CatalogueFault>
     ensures ok { IfOk result (λ v. groups_from run coach [] (map view items.now) ≡ Ok v.items) }
     ensures count { IfOk result (λ v. length v.items ≡ length items.now) }
-    ensures err { IfErr result (λ e. IfSome (fault_of e) (λ f. groups_from run coach [] (map view items.now) ≡ Err f)) }
+    ensures err { Refuses (groups_from run coach [] (map view items.now)) result }
 {
     let mut groups = Vec::new(alloc);
     for item in items {
@@ -107,7 +107,7 @@ fn read_groups(
 
 fn read_group(alloc: Global, item: &Value, at: GroupSpot) -> Result<Group, CatalogueFault>
     ensures ok { IfOk result (λ g. group_at at.run at.coach at.group (view item.now) ≡ Ok g) }
-    ensures err { IfErr result (λ e. IfSome (fault_of e) (λ f. group_at at.run at.coach at.group (view item.now) ≡ Err f)) }
+    ensures err { Refuses (group_at at.run at.coach at.group (view item.now)) result }
 {
     if !item.is_object() {
         return Err(group_fault(alloc, at, ""));
@@ -123,8 +123,8 @@ fn read_group(alloc: Global, item: &Value, at: GroupSpot) -> Result<Group, Catal
 }
 
 fn read_traits(alloc: Global, value: Option<&Value>, at: GroupSpot) -> Result<u8, CatalogueFault>
-    ensures ok { IfOk result (λ t. traits_of at.run at.coach at.group (option_map (λ v. view v.now) value.entry) ≡ Ok t) }
-    ensures err { IfErr result (λ e. IfSome (fault_of e) (λ f. traits_of at.run at.coach at.group (option_map (λ v. view v.now) value.entry) ≡ Err f)) }
+    ensures ok { IfOk result (λ t. traits_of at.run at.coach at.group (member_data value.entry) ≡ Ok t) }
+    ensures err { Refuses (traits_of at.run at.coach at.group (member_data value.entry)) result }
 {
     if value.is_none() {
         return Ok(0);
@@ -137,7 +137,7 @@ fn read_traits(alloc: Global, value: Option<&Value>, at: GroupSpot) -> Result<u8
 
 fn read_trait_items(alloc: Global, items: &[Value], at: GroupSpot) -> Result<u8, CatalogueFault>
     ensures ok { IfOk result (λ t. traits_from at.run at.coach at.group 0 0 (map view items.now) ≡ Ok t) }
-    ensures err { IfErr result (λ e. IfSome (fault_of e) (λ f. traits_from at.run at.coach at.group 0 0 (map view items.now) ≡ Err f)) }
+    ensures err { Refuses (traits_from at.run at.coach at.group 0 0 (map view items.now)) result }
 {
     let mut found = 0u8;
     for (n, item) in items.iter().enumerate() {

@@ -45,7 +45,7 @@ impl<T: Drop> From<AllocFailed<T>> for CatalogueFault {
     }
 }
 
-// The fault at a member of the whole.
+/// The fault at a member of the whole.
 pub fn field_fault(alloc: Global, path: &str) -> CatalogueFault
     ensures { IfSome (fault_of result) (λ f. f ≡ field path.now) }
 {
@@ -55,7 +55,7 @@ pub fn field_fault(alloc: Global, path: &str) -> CatalogueFault
     }
 }
 
-// The fault at an item of a list, or at what follows it.
+/// The fault at an item of a list, or at what follows it.
 pub fn item_fault(alloc: Global, list: &str, n: usize, rest: &str) -> CatalogueFault
     ensures { IfSome (fault_of result) (λ f. f ≡ field (item_path list.now n rest.now)) }
 {
@@ -65,7 +65,7 @@ pub fn item_fault(alloc: Global, list: &str, n: usize, rest: &str) -> CatalogueF
     }
 }
 
-// The fault at an item of a list of a run, or at what follows it.
+/// The fault at an item of a list of a run, or at what follows it.
 pub fn run_item_fault(alloc: Global, run: usize, list: &str, n: usize, rest: &str) -> CatalogueFault
     ensures { IfSome (fault_of result) (λ f. f ≡ field (run_item_path run list.now n rest.now)) }
 {
@@ -83,7 +83,7 @@ pub struct GroupSpot {
     pub group: usize,
 }
 
-// The fault at a group of places, or at what follows it.
+/// The fault at a group of places, or at what follows it.
 pub fn group_fault(alloc: Global, at: GroupSpot, rest: &str) -> CatalogueFault
     ensures { IfSome (fault_of result) (λ f. f ≡ field (group_path at.run at.coach at.group rest.now)) }
 {
@@ -94,7 +94,7 @@ pub fn group_fault(alloc: Global, at: GroupSpot, rest: &str) -> CatalogueFault
     }
 }
 
-// The fault at a trait of a group of places.
+/// The fault at a trait of a group of places.
 pub fn trait_fault(alloc: Global, at: GroupSpot, n: usize) -> CatalogueFault
     ensures { IfSome (fault_of result) (λ f. f ≡ field (trait_path at.run at.coach at.group n)) }
 {

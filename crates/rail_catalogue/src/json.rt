@@ -2,13 +2,13 @@ ghost use Rattle.std.specs.Prelude.{◌≡◌, ◌≤◌, IfOk, IfErr, IfSome, S
 ghost use Rattle.serde_json.specs.View.{view};
 ghost use Rattle.serde_json.specs.Find.{as_array};
 ghost use Rattle.rail_catalogue.specs.Faults.{fault_of, not_json};
-ghost use Rattle.rail_catalogue.specs.Json.{data_of, json_of, whole_in as whole_of, whole_or as whole_or_of, list_of as list_of_member, list_in as list_in_of};
+ghost use Rattle.rail_catalogue.specs.Json.{data_of, json_of, whole_in as whole_of, whole_or as whole_or_of, list_of as list_of_member, list_in as list_in_of, member_data};
 
 use crate::fault::CatalogueFault;
 use serde_json::Value;
 use std::alloc::Global;
 
-// The JSON that the bytes are.
+/// The JSON that the bytes are.
 pub fn read_value(alloc: Global, text: &[u8]) -> Result<Value, CatalogueFault>
     ensures ok { IfOk result (λ v. json_of text.now ≡ Some (view v)) }
     ensures kind { IfErr result (λ e. IfSome (fault_of e) (λ f. f ≡ not_json)) }
@@ -21,9 +21,9 @@ pub fn read_value(alloc: Global, text: &[u8]) -> Result<Value, CatalogueFault>
     }
 }
 
-// A whole number in this range.
+/// A whole number in this range.
 pub fn whole_in(value: Option<&Value>, least: u32, most: u32) -> Option<u32>
-    ensures value { result ≡ whole_of least most (option_map (λ v. view v.now) value.entry) }
+    ensures value { result ≡ whole_of least most (member_data value.entry) }
     ensures least { IfSome result (λ n. least ≤ n) }
     ensures most { IfSome result (λ n. n ≤ most) }
 {
@@ -35,11 +35,11 @@ pub fn whole_in(value: Option<&Value>, least: u32, most: u32) -> Option<u32>
     }
 }
 
-// The same, where the member may be missing.
+/// The same, where the member may be missing.
 pub fn whole_or(value: Option<&Value>, default: u32, least: u32, most: u32) -> Option<u32>
     requires low { least ≤ default }
     requires high { default ≤ most }
-    ensures value { result ≡ whole_or_of default least most (option_map (λ v. view v.now) value.entry) }
+    ensures value { result ≡ whole_or_of default least most (member_data value.entry) }
     ensures least { IfSome result (λ n. least ≤ n) }
     ensures most { IfSome result (λ n. n ≤ most) }
 {
@@ -59,9 +59,9 @@ fn items_of(value: &Value) -> Option<&[Value]>
     }
 }
 
-// A list of any length.
+/// A list of any length.
 pub fn list_of(value: Option<&Value>) -> Option<&[Value]>
-    ensures { option_map (λ v. map view v.now) result ≡ list_of_member (option_map (λ v. view v.now) value.entry) }
+    ensures { option_map (λ v. map view v.now) result ≡ list_of_member (member_data value.entry) }
 {
     match value {
         Some(value) => items_of(value),
@@ -69,9 +69,9 @@ pub fn list_of(value: Option<&Value>) -> Option<&[Value]>
     }
 }
 
-// A list of so many items.
+/// A list of so many items.
 pub fn list_in(value: Option<&Value>, least: usize, most: usize) -> Option<&[Value]>
-    ensures value { option_map (λ v. map view v.now) result ≡ list_in_of least most (option_map (λ v. view v.now) value.entry) }
+    ensures value { option_map (λ v. map view v.now) result ≡ list_in_of least most (member_data value.entry) }
     ensures least { IfSome result (λ v. least ≤ length v.now) }
 {
     let items = list_of(value)?;

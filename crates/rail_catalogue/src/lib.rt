@@ -16,10 +16,9 @@ mod runs;
 mod stations;
 mod steps;
 mod stops;
-#[cfg(test)]
-mod tests;
 
 pub use catalogue::Catalogue;
 pub use crossing::crosses;
 pub use fault::CatalogueFault;
+pub use json::{list_of, whole_in, whole_or};
 pub use reader::read_catalogue;

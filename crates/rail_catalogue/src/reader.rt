@@ -1,7 +1,8 @@
-ghost use Rattle.std.specs.Prelude.{◌≡◌, ◌≤◌, Ok, Err, IfOk, IfErr, IfSome, length, string_bytes};
+ghost use Rattle.std.specs.Prelude.{◌≡◌, ◌≤◌, Ok, Err, IfOk, length, string_bytes};
 ghost use Rattle.std.specs.List.{list_all};
 ghost use Rattle.serde_json.specs.View.{view};
-ghost use Rattle.rail_catalogue.specs.Faults.{fault_of};
+ghost use Rattle.rail_catalogue.specs.Faults.{Refuses};
+ghost use Rattle.rail_catalogue.specs.Networks.{heading_view};
 ghost use Rattle.rail_catalogue.specs.Format.{catalogue_of, contents_of, heading_of, is_currency as is_currency_of, is_capital};
 
 use crate::catalogue::Catalogue;
@@ -17,7 +18,7 @@ use std::alloc::Global;
 /// The catalogue of a text, or its first fault in the order of the format.
 pub fn read_catalogue(alloc: Global, text: &[u8]) -> Result<Catalogue, CatalogueFault>
     ensures ok { IfOk result (λ c. catalogue_of text.now ≡ Ok c) }
-    ensures err { IfErr result (λ e. IfSome (fault_of e) (λ f. catalogue_of text.now ≡ Err f)) }
+    ensures err { Refuses (catalogue_of text.now) result }
 {
     let whole = read_value(alloc, text)?;
     read_contents(alloc, &whole)
@@ -25,7 +26,7 @@ pub fn read_catalogue(alloc: Global, text: &[u8]) -> Result<Catalogue, Catalogue
 
 fn read_contents(alloc: Global, whole: &Value) -> Result<Catalogue, CatalogueFault>
     ensures ok { IfOk result (λ c. contents_of (view whole.now) ≡ Ok c) }
-    ensures err { IfErr result (λ e. IfSome (fault_of e) (λ f. contents_of (view whole.now) ≡ Err f)) }
+    ensures err { Refuses (contents_of (view whole.now)) result }
 {
     let heading = read_heading(alloc, whole)?;
     let retailers = read_retailers(alloc, whole.get("retailers"))?;
@@ -44,11 +45,11 @@ struct Heading {
 }
 
 fn read_heading(alloc: Global, whole: &Value) -> Result<Heading, CatalogueFault>
-    ensures ok { IfOk result (λ h. heading_of (view whole.now) ≡ Ok (record { currency = string_bytes h.currency; rows = h.rows; confirm_seconds = h.confirm_seconds })) }
+    ensures ok { IfOk result (λ h. heading_of (view whole.now) ≡ Ok (heading_view h)) }
     ensures letters { IfOk result (λ h. length (string_bytes h.currency) ≡ 3) }
     ensures rows { IfOk result (λ h. (1 ≤ h.rows) × (h.rows ≤ 262_144)) }
     ensures seconds { IfOk result (λ h. (1 ≤ h.confirm_seconds) × (h.confirm_seconds ≤ 86_400)) }
-    ensures err { IfErr result (λ e. IfSome (fault_of e) (λ f. heading_of (view whole.now) ≡ Err f)) }
+    ensures err { Refuses (heading_of (view whole.now)) result }
 {
     if !whole.is_object() {
         return Err(field_fault(alloc, ""));

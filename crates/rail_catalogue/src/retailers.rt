@@ -1,8 +1,9 @@
-ghost use Rattle.std.specs.Prelude.{◌≡◌, ◌++◌, [], ◌∷◌, false, None, Some, Ok, Err, IfOk, IfErr, IfSome, is_some, map, option_map, length};
+ghost use Rattle.std.specs.Prelude.{◌≡◌, ◌++◌, [], ◌∷◌, None, Some, Ok, Err, IfOk, is_some, length};
 ghost use Rattle.std.specs.List.{list_all};
 ghost use Rattle.serde_json.specs.View.{view};
-ghost use Rattle.rail_catalogue.specs.Faults.{fault_of};
-ghost use Rattle.rail_catalogue.specs.Retailers.{has_number as has_number_of, retailer_with, with_retailer, retailers_of, retailers_from, is_key as is_key_of, is_key_byte as is_key_byte_of};
+ghost use Rattle.rail_catalogue.specs.Json.{member_data};
+ghost use Rattle.rail_catalogue.specs.Faults.{Refuses};
+ghost use Rattle.rail_catalogue.specs.Retailers.{has_number as has_number_of, retailer_with, with_retailer, retailers_of, is_key as is_key_of, is_key_byte as is_key_byte_of};
 
 use crate::fault::{CatalogueFault, field_fault, item_fault};
 use crate::json::{list_in, whole_in};
@@ -47,7 +48,8 @@ impl Model for Retailers {
 
     ghost view = { λ r. r.list.items };
 
-    ghost invariant = { λ r. ((key : List ℕ) → get_by (λ k. slice_cmp nat_cmp key k.items) r.by_key ≡ retailer_with key r.list.items)
+    ghost invariant = { λ r.
+        ((key : List ℕ) → get_by (λ k. slice_cmp nat_cmp key k.items) r.by_key ≡ retailer_with key r.list.items)
         × ((number : ℕ) → contains nat_cmp r.numbers number ≡ has_number number r.list.items) };
 }
 
@@ -63,7 +65,7 @@ impl Retailers {
         }
     }
 
-    // The number of the retailer with the key.
+    /// The number of the retailer with the key.
     pub fn number_of(&self, key: &[u8]) -> Option<RetailerNo>
         ensures { result ≡ retailer_with key.now self.now }
     {
@@ -103,7 +105,7 @@ impl Retailers {
     fn with_item(self, alloc: Global, item: &Value, n: usize) -> Result<Retailers, CatalogueFault>
         requires { n ≡ length self }
         ensures ok { IfOk result (λ r. with_retailer self (view item.now) ≡ Ok r) }
-        ensures err { IfErr result (λ e. IfSome (fault_of e) (λ f. with_retailer self (view item.now) ≡ Err f)) }
+        ensures err { Refuses (with_retailer self (view item.now)) result }
     {
         if !item.is_object() {
             return Err(item_fault(alloc, "retailers", n, ""));
@@ -125,10 +127,10 @@ impl Retailers {
     }
 }
 
-// The retailers of the member.
+/// The retailers of the member.
 pub fn read_retailers(alloc: Global, value: Option<&Value>) -> Result<Retailers, CatalogueFault>
-    ensures ok { IfOk result (λ r. retailers_of (option_map (λ v. view v.now) value.entry) ≡ Ok r) }
-    ensures err { IfErr result (λ e. IfSome (fault_of e) (λ f. retailers_of (option_map (λ v. view v.now) value.entry) ≡ Err f)) }
+    ensures ok { IfOk result (λ r. retailers_of (member_data value.entry) ≡ Ok r) }
+    ensures err { Refuses (retailers_of (member_data value.entry)) result }
 {
     let Some(items) = list_in(value, 1, 65_536) else {
         return Err(field_fault(alloc, "retailers"));

@@ -1,7 +1,8 @@
-ghost use Rattle.std.specs.Prelude.{◌≡◌, ◌<◌, ◌≤◌, ◌+◌, ◌++◌, [], ◌∷◌, All, Ok, Err, IfOk, IfErr, IfSome, OnOk, length, map, option_map};
+ghost use Rattle.std.specs.Prelude.{◌≡◌, ◌<◌, ◌≤◌, ◌+◌, [], All, Ok, Err, IfOk, IfSome, OnOk, length};
 ghost use Rattle.serde_json.specs.View.{view};
-ghost use Rattle.place_map.specs.Places.{EndsWithRun, run_number};
-ghost use Rattle.rail_catalogue.specs.Faults.{fault_of};
+ghost use Rattle.place_map.specs.Places.{EndsWithRun};
+ghost use Rattle.rail_catalogue.specs.Json.{member_data};
+ghost use Rattle.rail_catalogue.specs.Faults.{Refuses};
 ghost use Rattle.rail_catalogue.specs.Stops.{timetable_of, fares_of, amount_at, with_run};
 ghost use Rattle.rail_catalogue.specs.Contents.{IsWhole};
 ghost use Rattle.rail_catalogue.specs.Format.{places_of, with_item, network_of};
@@ -27,17 +28,17 @@ pub struct Network {
     pub places: PlaceMap,
 }
 
-// The runs of the member, over these stations.
+/// The runs of the member, over these stations.
 pub fn read_network(
     alloc: Global,
     value: Option<&Value>,
     runs: Runs,
 ) -> Result<Network, CatalogueFault>
     requires { runs.runs ≡ [] }
-    ensures ok { IfOk result (λ n. network_of runs.stations (option_map (λ v. view v.now) value.entry) ≡ Ok (network_view n)) }
+    ensures ok { IfOk result (λ n. network_of runs.stations (member_data value.entry) ≡ Ok (network_view n)) }
     ensures whole { IfOk result (λ n. IsWhole n.runs n.fares.items n.places) }
     ensures some { IfOk result (λ n. 1 ≤ length n.runs.runs) }
-    ensures err { IfErr result (λ e. IfSome (fault_of e) (λ f. network_of runs.stations (option_map (λ v. view v.now) value.entry) ≡ Err f)) }
+    ensures err { Refuses (network_of runs.stations (member_data value.entry)) result }
 {
     let Some(items) = list_in(value, 1, 9_223_372_036_854_775_807) else {
         return Err(field_fault(alloc, "runs"));
@@ -65,7 +66,7 @@ fn read_run(
     ensures ok { OnOk result (with_item (network_view network.old) n (view item.now) ≡ Ok (network_view network.new)) }
     ensures number { OnOk result (length network.new.runs.runs ≡ n + 1) }
     ensures whole { OnOk result (IsWhole network.new.runs network.new.fares.items network.new.places) }
-    ensures err { IfErr result (λ e. IfSome (fault_of e) (λ f. with_item (network_view network.old) n (view item.now) ≡ Err f)) }
+    ensures err { Refuses (with_item (network_view network.old) n (view item.now)) result }
 {
     let run = read_timetable(alloc, item, n, &mut network.runs)?;
     let fares = read_fares(alloc, item, n)?;
@@ -85,7 +86,7 @@ fn read_timetable(
     ensures ok { OnOk result (timetable_of runs.old n (view item.now) ≡ Ok runs.new) }
     ensures number { IfOk result (λ r. r.0 ≡ n) }
     ensures count { OnOk result (length runs.new.runs ≡ n + 1) }
-    ensures err { IfErr result (λ e. IfSome (fault_of e) (λ f. timetable_of runs.old n (view item.now) ≡ Err f)) }
+    ensures err { Refuses (timetable_of runs.old n (view item.now)) result }
 {
     if !item.is_object() {
         return Err(item_fault(alloc, "runs", n, ""));
@@ -105,7 +106,7 @@ fn add_run(runs: &mut Runs, run: Run) -> Result<RunNo, CatalogueFault>
     ensures ok { OnOk result (with_run runs.old run ≡ Ok runs.new) }
     ensures number { IfOk result (λ r. r.0 ≡ length runs.old.runs) }
     ensures count { OnOk result (length runs.new.runs ≡ length runs.old.runs + 1) }
-    ensures err { IfErr result (λ e. IfSome (fault_of e) (λ f. with_run runs.old run ≡ Err f)) }
+    ensures err { Refuses (with_run runs.old run) result }
 {
     match runs.add(run) {
         Ok(number) => Ok(number),
@@ -116,7 +117,7 @@ fn add_run(runs: &mut Runs, run: Run) -> Result<RunNo, CatalogueFault>
 
 fn read_fares(alloc: Global, item: &Value, n: usize) -> Result<Fares, CatalogueFault>
     ensures ok { IfOk result (λ f. fares_of n (view item.now) ≡ Ok f) }
-    ensures err { IfErr result (λ e. IfSome (fault_of e) (λ f. fares_of n (view item.now) ≡ Err f)) }
+    ensures err { Refuses (fares_of n (view item.now)) result }
 {
     let Some(first_base) = amount_in(item, "first", "base") else {
         return Err(item_fault(alloc, "runs", n, ".fares.first.base"));
@@ -155,7 +156,7 @@ fn read_places(
     ensures ok { OnOk result (places_of run.0 places.old (view item.now) ≡ Ok places.new) }
     ensures grown { OnOk result (length places.old < length places.new) }
     ensures no_later_run { OnOk result (EndsWithRun run.0 places.new) }
-    ensures err { IfErr result (λ e. IfSome (fault_of e) (λ f. places_of run.0 places.old (view item.now) ≡ Err f)) }
+    ensures err { Refuses (places_of run.0 places.old (view item.now)) result }
 {
     let Some(items) = list_in(item.get("coaches"), 1, 9_223_372_036_854_775_807) else {
         return Err(item_fault(alloc, "runs", run.0 as usize, ".coaches"));

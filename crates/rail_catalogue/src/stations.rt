@@ -1,8 +1,9 @@
-ghost use Rattle.std.specs.Prelude.{◌≡◌, ◌+◌, [], Ok, Err, IfOk, IfErr, IfSome, OnOk, length, map, option_map};
+ghost use Rattle.std.specs.Prelude.{◌≡◌, ◌+◌, [], Ok, Err, IfOk, OnOk, length};
 ghost use Rattle.std.specs.List.{list_all};
 ghost use Rattle.serde_json.specs.View.{view};
 ghost use Rattle.train_runs.specs.Stations.{is_code as is_code_of, is_code_byte as is_code_byte_of, with_station};
-ghost use Rattle.rail_catalogue.specs.Faults.{fault_of};
+ghost use Rattle.rail_catalogue.specs.Json.{member_data};
+ghost use Rattle.rail_catalogue.specs.Faults.{Refuses};
 ghost use Rattle.rail_catalogue.specs.Stations.{with_item, stations_of, station_taken};
 
 use crate::fault::{CatalogueFault, field_fault, item_fault};
@@ -11,11 +12,11 @@ use serde_json::Value;
 use std::alloc::Global;
 use train_runs::{Runs, StationFault};
 
-// The stations of the member, and no run yet.
+/// The stations of the member, and no run yet.
 pub fn read_stations(alloc: Global, value: Option<&Value>) -> Result<Runs, CatalogueFault>
-    ensures ok { IfOk result (λ r. stations_of (option_map (λ v. view v.now) value.entry) ≡ Ok r.stations) }
+    ensures ok { IfOk result (λ r. stations_of (member_data value.entry) ≡ Ok r.stations) }
     ensures no_run { IfOk result (λ r. r.runs ≡ []) }
-    ensures err { IfErr result (λ e. IfSome (fault_of e) (λ f. stations_of (option_map (λ v. view v.now) value.entry) ≡ Err f)) }
+    ensures err { Refuses (stations_of (member_data value.entry)) result }
 {
     let Some(items) = list_in(value, 2, 65_536) else {
         return Err(field_fault(alloc, "stations"));
@@ -38,7 +39,7 @@ fn read_station(
     ensures ok { OnOk result (with_item runs.old.stations (view item.now) ≡ Ok runs.new.stations) }
     ensures count { OnOk result (length runs.new.stations ≡ n + 1) }
     ensures runs { runs.new.runs ≡ runs.old.runs }
-    ensures err { IfErr result (λ e. IfSome (fault_of e) (λ f. with_item runs.old.stations (view item.now) ≡ Err f)) }
+    ensures err { Refuses (with_item runs.old.stations (view item.now)) result }
 {
     if !item.is_object() {
         return Err(item_fault(alloc, "stations", n, ""));
@@ -66,7 +67,7 @@ fn add_station(
     ensures ok { OnOk result (station_taken n (with_station runs.old.stations code.now change) ≡ Ok runs.new.stations) }
     ensures count { OnOk result (length runs.new.stations ≡ length runs.old.stations + 1) }
     ensures runs { runs.new.runs ≡ runs.old.runs }
-    ensures err { IfErr result (λ e. IfSome (fault_of e) (λ f. station_taken n (with_station runs.old.stations code.now change) ≡ Err f)) }
+    ensures err { Refuses (station_taken n (with_station runs.old.stations code.now change)) result }
 {
     match runs.add_station(code, change) {
         Ok(_) => Ok(()),

@@ -1,6 +1,6 @@
-ghost use Rattle.std.specs.Prelude.{◌≡◌, ◌≤◌, [], Ok, Err, IfOk, IfErr, IfSome, length, map};
+ghost use Rattle.std.specs.Prelude.{◌≡◌, ◌≤◌, [], Ok, Err, IfOk, length, map};
 ghost use Rattle.serde_json.specs.View.{view};
-ghost use Rattle.rail_catalogue.specs.Faults.{fault_of};
+ghost use Rattle.rail_catalogue.specs.Faults.{Refuses};
 ghost use Rattle.rail_catalogue.specs.Steps.{step_at, steps_from, terms_of};
 
 use crate::fault::{CatalogueFault, field_fault, item_fault};
@@ -9,7 +9,7 @@ use serde_json::Value;
 use std::alloc::Global;
 use tariff::{RefundStep, Terms};
 
-// The terms of the whole.
+/// The terms of the whole.
 pub fn read_terms(
     alloc: Global,
     whole: &Value,
@@ -18,7 +18,7 @@ pub fn read_terms(
     requires some_time { 1 ≤ confirm_seconds }
     requires a_day { confirm_seconds ≤ 86_400 }
     ensures ok { IfOk result (λ t. terms_of confirm_seconds (view whole.now) ≡ Ok t) }
-    ensures err { IfErr result (λ e. IfSome (fault_of e) (λ f. terms_of confirm_seconds (view whole.now) ≡ Err f)) }
+    ensures err { Refuses (terms_of confirm_seconds (view whole.now)) result }
 {
     let Some(items) = list_in(whole.get("refundSteps"), 0, 64) else {
         return Err(field_fault(alloc, "refundSteps"));
@@ -39,7 +39,7 @@ pub fn read_terms(
 fn read_steps(alloc: Global, items: &[Value]) -> Result<Vec<RefundStep>, CatalogueFault>
     ensures ok { IfOk result (λ v. steps_from [] (map view items.now) ≡ Ok v.items) }
     ensures few { IfOk result (λ v. length v.items ≡ length items.now) }
-    ensures err { IfErr result (λ e. IfSome (fault_of e) (λ f. steps_from [] (map view items.now) ≡ Err f)) }
+    ensures err { Refuses (steps_from [] (map view items.now)) result }
 {
     let mut steps = Vec::new(alloc);
     for item in items {
@@ -50,7 +50,7 @@ fn read_steps(alloc: Global, items: &[Value]) -> Result<Vec<RefundStep>, Catalog
 
 fn read_step(alloc: Global, item: &Value, n: usize) -> Result<RefundStep, CatalogueFault>
     ensures ok { IfOk result (λ s. step_at n (view item.now) ≡ Ok s) }
-    ensures err { IfErr result (λ e. IfSome (fault_of e) (λ f. step_at n (view item.now) ≡ Err f)) }
+    ensures err { Refuses (step_at n (view item.now)) result }
 {
     if !item.is_object() {
         return Err(item_fault(alloc, "refundSteps", n, ""));

@@ -1,8 +1,9 @@
-ghost use Rattle.std.specs.Prelude.{◌≡◌, ◌<◌, ◌+◌, ◌==◌, ◌&&◌, not, [], ℕ, All, Ok, Err, IfOk, IfErr, IfSome, length, map, option_map, codes};
+ghost use Rattle.std.specs.Prelude.{◌≡◌, ◌<◌, ◌+◌, ◌==◌, ◌&&◌, All, Ok, Err, IfOk, IfErr, IfSome, length, codes};
 ghost use Rattle.serde_json.specs.View.{view};
-ghost use Rattle.rail_catalogue.specs.Faults.{fault_of, field, run_item_path};
-ghost use Rattle.rail_catalogue.specs.Stops.{times_of as times_of_members, time_of, times_at, stop_at, stops_from};
-ghost use Rattle.rail_catalogue.specs.TimeViews.{time_view, side_name};
+ghost use Rattle.rail_catalogue.specs.Json.{member_data};
+ghost use Rattle.rail_catalogue.specs.Faults.{fault_of, field, run_item_path, Refuses};
+ghost use Rattle.rail_catalogue.specs.Stops.{times_of as times_in, time_of, times_at, stop_at, stops_in};
+ghost use Rattle.rail_catalogue.specs.TimeViews.{time_view, side_name, times_view};
 
 use crate::fault::{CatalogueFault, run_item_fault};
 use rail_time::{Moment, MomentFault, read_moment};
@@ -30,16 +31,16 @@ enum Side {
     Depart,
 }
 
-// The stops of a run, at stations that are known.
+/// The stops of a run, at stations that are known.
 pub fn read_stops(
     alloc: Global,
     items: &[Value],
     run: usize,
     runs: &Runs,
 ) -> Result<Vec<Stop>, CatalogueFault>
-    ensures ok { IfOk result (λ v. stops_from runs.now.stations run (length items.now) [] (map view items.now) ≡ Ok v.items) }
+    ensures ok { IfOk result (λ v. stops_in runs.now.stations run items.now ≡ Ok v.items) }
     ensures known { IfOk result (λ v. All (λ s. s.station.0 < length runs.now.stations) v.items) }
-    ensures err { IfErr result (λ e. IfSome (fault_of e) (λ f. stops_from runs.now.stations run (length items.now) [] (map view items.now) ≡ Err f)) }
+    ensures err { Refuses (stops_in runs.now.stations run items.now) result }
 {
     let mut found = Vec::new(alloc);
     for item in items {
@@ -59,7 +60,7 @@ fn read_stop(
     requires { j < n }
     ensures ok { IfOk result (λ s. stop_at runs.now.stations run j n (view item.now) ≡ Ok s) }
     ensures known { IfOk result (λ s. s.station.0 < length runs.now.stations) }
-    ensures err { IfErr result (λ e. IfSome (fault_of e) (λ f. stop_at runs.now.stations run j n (view item.now) ≡ Err f)) }
+    ensures err { Refuses (stop_at runs.now.stations run j n (view item.now)) result }
 {
     if !item.is_object() {
         return Err(run_item_fault(alloc, run, "stops", j, ""));
@@ -88,8 +89,8 @@ fn read_times(
     n: usize,
 ) -> Result<Times, CatalogueFault>
     requires { j < n }
-    ensures ok { IfOk result (λ t. times_at run j n (view item.now) ≡ Ok (record { arrive = t.arrive; depart = t.depart })) }
-    ensures err { IfErr result (λ e. IfSome (fault_of e) (λ f. times_at run j n (view item.now) ≡ Err f)) }
+    ensures ok { IfOk result (λ t. times_at run j n (view item.now) ≡ Ok (times_view t)) }
+    ensures err { Refuses (times_at run j n (view item.now)) result }
 {
     let arrives = time_member(alloc, item.get("arrive"))?;
     let departs = time_member(alloc, item.get("depart"))?;
@@ -111,8 +112,8 @@ fn side_fault(alloc: Global, run: usize, j: usize, side: Side) -> CatalogueFault
 
 // The times of a stop, or the member at fault.
 fn times_of(arrives: Time, departs: Time, first: bool, last: bool) -> Result<Times, Side>
-    ensures ok { IfOk result (λ t. times_of_members first last (time_view arrives) (time_view departs) ≡ Ok (record { arrive = t.arrive; depart = t.depart })) }
-    ensures err { IfErr result (λ e. times_of_members first last (time_view arrives) (time_view departs) ≡ Err (side_name e)) }
+    ensures ok { IfOk result (λ t. times_in first last (time_view arrives) (time_view departs) ≡ Ok (times_view t)) }
+    ensures err { IfErr result (λ e. times_in first last (time_view arrives) (time_view departs) ≡ Err (side_name e)) }
 {
     match arrives {
         Time::Bad => Err(Side::Arrive),
@@ -146,7 +147,7 @@ fn times_of(arrives: Time, departs: Time, first: bool, last: bool) -> Result<Tim
 }
 
 fn time_member(alloc: Global, value: Option<&Value>) -> Result<Time, AllocError>
-    ensures { IfOk result (λ t. time_view t ≡ time_of (option_map (λ v. view v.now) value.entry)) }
+    ensures { IfOk result (λ t. time_view t ≡ time_of (member_data value.entry)) }
 {
     let Some(value) = value else {
         return Ok(Time::Missing);

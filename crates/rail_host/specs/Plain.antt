@@ -8,8 +8,8 @@ use Rattle.host_words.specs.Tiny.{IsNoTiny}
 use Rattle.host_words.specs.declared.command.CommandName.TheVariants.{Replay, Export, Settle}
 use Rattle.host_tiny.specs.Host.{IsServed, IsCutOrRefused, IsReadFault, IsWriteFault}
 use Rattle.host_replay.specs.Input.{IsOfRefusedText, IsWithoutBooks}
-use Rattle.host_replay.specs.Replay.{EndsCut, IsForReplay, IsNoReplay, IsReplay, RepliesAll, RepliesCut, RepliesPart, RepliesTaken}
-use Rattle.host_replay.specs.Export.{ExportsAll, IsExport, IsForExport, IsNoExport}
+use Rattle.host_replay.specs.Replay.{IsForReplay, IsNoReplay, IsReplay, RepliesAll, RepliesCut, RepliesPart, RepliesTaken}
+use Rattle.host_replay.specs.Export.{EndsCut, ExportsAll, IsExport, IsForExport, IsNoExport}
 use Rattle.host_settle.specs.Settle.{HasNoneToSettle, IsOfRefusedFile, IsTableFor}
 
 -- the command is `settle`
@@ -49,7 +49,7 @@ AnswersAll words files stream written =
 
 -- there is no export, since the bytes to come end inside a request or in a refusal
 abbrev pub ExportsNone : List (List ℕ) → Files → List ℕ → List ℕ → Type 0
-ExportsNone words files stream written = (written ≡ []) × ((answers : List ℕ) × EndsCut Export words files stream answers)
+ExportsNone words files stream written = (written ≡ []) × ((answers : List ℕ) × EndsCut words files stream answers)
 
 -- they answer those to come, which end inside a request or in a refusal
 abbrev pub AnswersCut : List (List ℕ) → Files → List ℕ → List ℕ → Type 0

@@ -12,7 +12,7 @@ ghost use Rattle.host_notes.specs.declared.ending.CommandEnd.TheVariants.{WordsR
 ghost use Rattle.host_tiny.specs.Host.{IsTinyRun};
 ghost use Rattle.host_replay.specs.Input.{HasShelfCause, IsUntouched, end_of_replay, status_of_replay};
 ghost use Rattle.host_replay.specs.Replay.{Replays};
-ghost use Rattle.host_replay.specs.Export.{Exports};
+ghost use Rattle.host_replay.specs.Export.{Exports, IsForExport};
 ghost use Rattle.host_replay.specs.declared.end.ReplayEnd.{ReplayEnd};
 ghost use Rattle.host_settle.specs.Settle.{IsTableFor, Settles, end_of_settle, status_of_settle};
 ghost use Rattle.host_settle.specs.Settle.{HasShelfCause as HasSettleCause};
@@ -48,54 +48,67 @@ pub fn run_plain<F: Shelf, S: Source, K: Sink, E: Sink>(
     ensures nothing_read { result ≡ 2 → input.new ≡ input.old }
     ensures nothing_written { result ≡ 2 → output.new ≡ output.old }
     ensures nothing_fetched { result ≡ 2 → shelf.new ≡ shelf.old }
-    ensures refused { result ≡ 2 → IsNoted (E.told notes.old) (E.told notes.new) (E.faults notes.old) (E.faults notes.new)
+    ensures refused { result ≡ 2
+        → IsNoted (E.told notes.old) (E.told notes.new) (E.faults notes.old) (E.faults notes.new)
         (note_of WordsRefused) }
 
     // Else it is that of the command's end, and the bytes written are the answers of the bytes taken, or the export that they leave.
     ensures run { (result ≡ 2)
         ⊎ ((end : ConnEnd) × (result ≡ status_of (end_of end))
-        × IsTinyRun (words_texts words.now) (S.told input.old) (S.told input.new) (K.told output.old) (K.told output.new) end
-        × IsNoted (E.told notes.old) (E.told notes.new) (E.faults notes.old) (E.faults notes.new) (note_of (end_of end)))
+        × IsTinyRun (words_texts words.now) (S.told input.old) (S.told input.new)
+        (K.told output.old) (K.told output.new) end
+        × IsNoted (E.told notes.old) (E.told notes.new) (E.faults notes.old) (E.faults notes.new)
+        (note_of (end_of end)))
         ⊎ ((end : ReplayEnd) × (result ≡ status_of_replay end)
         × (Replays (words_texts words.now) (F.told shelf.old) (S.told input.old) (S.told input.new)
         (K.told output.old) (K.told output.new) end
         ⊎ Exports (words_texts words.now) (F.told shelf.old) (S.told input.old) (S.told input.new)
         (K.told output.old) (K.told output.new) end)
-        × IsNoted (E.told notes.old) (E.told notes.new) (E.faults notes.old) (E.faults notes.new) (note_of (end_of_replay end))
+        × IsNoted (E.told notes.old) (E.told notes.new) (E.faults notes.old) (E.faults notes.new)
+        (note_of (end_of_replay end))
         × HasShelfCause end (F.faults shelf.old) (F.faults shelf.new) (F.misses shelf.old) (F.misses shelf.new))
         ⊎ ((end : SettleEnd) × (result ≡ status_of_settle end)
         × Settles (words_texts words.now) (F.told shelf.old) (K.told output.old) (K.told output.new) end
-        × IsNoted (E.told notes.old) (E.told notes.new) (E.faults notes.old) (E.faults notes.new) (note_of (end_of_settle end))
+        × IsNoted (E.told notes.old) (E.told notes.new) (E.faults notes.old) (E.faults notes.new)
+        (note_of (end_of_settle end))
         × HasSettleCause end (F.faults shelf.old) (F.faults shelf.new) (F.misses shelf.old) (F.misses shelf.new)) }
 
     // Where the input and the output tell their bytes, those written are the defined answers of those to come, or the export, or the
     // settlement table.
-    ensures served { (stream before : List ℕ) → S.told input.old ≡ Some stream → K.told output.old ≡ Some before → result ≡ 0
+    ensures served { (stream before : List ℕ) → S.told input.old ≡ Some stream → K.told output.old ≡ Some before
+        → result ≡ 0
         → (written : List ℕ) × (K.told output.new ≡ Some (before ++ written))
         × AnswersAll (words_texts words.now) (F.told shelf.old) stream written }
-    ensures cut { (stream before : List ℕ) → S.told input.old ≡ Some stream → K.told output.old ≡ Some before → result ≡ 6
+    ensures cut { (stream before : List ℕ) → S.told input.old ≡ Some stream → K.told output.old ≡ Some before
+        → result ≡ 6
         → (written : List ℕ) × (K.told output.new ≡ Some (before ++ written))
         × AnswersCut (words_texts words.now) (F.told shelf.old) stream written }
-    ensures read_fault { (stream before : List ℕ) → S.told input.old ≡ Some stream → K.told output.old ≡ Some before → result ≡ 3
+    ensures read_fault { (stream before : List ℕ) → S.told input.old ≡ Some stream → K.told output.old ≡ Some before
+        → result ≡ 3
         → (AsksForFiles (words_texts words.now)
         × IsUntouched (S.told input.old) (S.told input.new) (K.told output.old) (K.told output.new))
         ⊎ ((written : List ℕ) × (K.told output.new ≡ Some (before ++ written))
         × AnswersTaken (words_texts words.now) (F.told shelf.old) stream (S.told input.new) written) }
-    ensures write_fault { (stream before : List ℕ) → S.told input.old ≡ Some stream → K.told output.old ≡ Some before → result ≡ 4
+    ensures write_fault { (stream before : List ℕ) → S.told input.old ≡ Some stream → K.told output.old ≡ Some before
+        → result ≡ 4
         → (written : List ℕ) × (K.told output.new ≡ Some (before ++ written))
         × AnswersPart (words_texts words.now) (F.told shelf.old) stream (S.told input.new) written }
 
     // On `settle` the bytes written are just the settlement table for the texts that the shelf gave, and no input is read.
-    ensures settled { (before : List ℕ) → K.told output.old ≡ Some before → IsForSettle (words_texts words.now) → result ≡ 0
-        → (text : List ℕ) × (K.told output.new ≡ Some (before ++ text)) × IsTableFor (words_texts words.now) (F.told shelf.old) text }
+    ensures settled { (before : List ℕ) → K.told output.old ≡ Some before → IsForSettle (words_texts words.now)
+        → result ≡ 0
+        → (text : List ℕ) × (K.told output.new ≡ Some (before ++ text))
+        × IsTableFor (words_texts words.now) (F.told shelf.old) text }
     ensures unread { IsForSettle (words_texts words.now) → input.new ≡ input.old }
 
     // A device's failure is answered where its count of faults rose in this call, and at every other status that count is as it
-    // was. A missing or too large file is answered where the shelf's misses rose.
+    // was; but at status 5 of `export` the input may have failed behind an answer for want of memory. A missing or too large file is
+    // answered where the shelf's misses rose.
     ensures read_cause { result ≡ 3 → Rose (S.faults input.old) (S.faults input.new)
         ⊎ (AsksForFiles (words_texts words.now) × Rose (F.faults shelf.old) (F.faults shelf.new)) }
     ensures write_cause { result ≡ 4 → Rose (K.faults output.old) (K.faults output.new) }
-    ensures read_steady { (result ≡ 3 → ⊥) → S.faults input.new ≡ S.faults input.old }
+    ensures read_steady { (result ≡ 3 → ⊥) → (IsForExport (words_texts words.now) → result ≡ 5 → ⊥)
+        → S.faults input.new ≡ S.faults input.old }
     ensures write_steady { (result ≡ 4 → ⊥) → K.faults output.new ≡ K.faults output.old }
     ensures shelf_steady { (result ≡ 3 → ⊥) → F.faults shelf.new ≡ F.faults shelf.old }
     ensures missed { result ≡ 1 → Rose (F.misses shelf.old) (F.misses shelf.new)

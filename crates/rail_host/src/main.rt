@@ -5,6 +5,8 @@
 //! error, files, a port, the clock, and threads.
 #![tactic(auto)]
 
+ghost use Rattle.std.specs.Prelude.{◌≡◌, drop};
+
 mod host;
 mod program;
 mod serve;
@@ -17,19 +19,29 @@ use std::io::ErrorKind;
 use std::process::ExitCode;
 use std::rt::Env;
 
+/// The words behind the first, which is the program's name.
+fn behind_name(mut words: Vec<String>) -> Vec<String>
+    ensures { result.items ≡ drop 1 words.items }
+{
+    if !words.is_empty() {
+        let _name = words.remove(0);
+    }
+    words
+}
+
 /// The words after the program's name, and none where one of them isn't UTF-8, which is refused alike.
 fn given_words(rt: &(impl Env + AllocGlobal)) -> Result<Vec<String>, AllocError> {
     let mut words = Vec::new(rt.alloc());
     match env::args(rt) {
         Ok(args) => {
-            for word in args.skip(1) {
+            for word in args {
                 words.push(word)?;
             }
         }
         Err(error) if error.kind() == ErrorKind::OutOfMemory => return Err(AllocError),
         Err(_) => {}
     }
-    Ok(words)
+    Ok(behind_name(words))
 }
 
 fn main(rt: HostRuntime) -> ExitCode {

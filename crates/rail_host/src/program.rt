@@ -1,10 +1,7 @@
 // The command of the first word.
 ghost use Rattle.std.specs.Prelude.{◌≡◌, ◌⊎◌};
 ghost use Rattle.host_words.specs.Options.{words_texts};
-ghost use Rattle.host_notes.specs.Ends.{note_of, status_of};
-ghost use Rattle.host_notes.specs.Noted.{IsNoted};
-ghost use Rattle.host_notes.specs.declared.ending.CommandEnd.{CommandEnd};
-ghost use Rattle.rail_host.specs.Commands.{IsNoCommand};
+ghost use Rattle.rail_host.specs.Commands.{EndsSo, IsNoCommand};
 
 use crate::host::run_plain;
 use crate::serve::serve_port;
@@ -42,9 +39,21 @@ pub fn run_command<
     ensures nothing_written { result ≡ 2 → output.new ≡ output.old }
     ensures nothing_fetched { result ≡ 2 → shelf.new ≡ shelf.old }
 
-    // The status and the note are those of one end.
-    ensures ended { (end : CommandEnd) × (result ≡ status_of end)
-        × IsNoted (E.told notes.old) (E.told notes.new) (E.faults notes.old) (E.faults notes.new) (note_of end) }
+    // The status and the note are those of one end. Of `serve`, and of no other command, the notes took the export before the note, if it
+    // was asked for.
+    ensures ended { EndsSo (words_texts words.now) (F.told shelf.old) result
+        (record {
+          failed = F.faults shelf.old;
+          fails = F.faults shelf.new;
+          missed = F.misses shelf.old;
+          misses = F.misses shelf.new;
+        })
+        (record {
+          before = E.told notes.old;
+          failed = E.faults notes.old;
+          after = E.told notes.new;
+          fails = E.faults notes.new;
+        }) }
 {
     if is_for(words, CommandName::Serve) {
         serve_port(rt, alloc, words, shelf, notes)

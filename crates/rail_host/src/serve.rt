@@ -2,11 +2,8 @@
 ghost use Rattle.std.specs.Prelude.{◌≡◌, ◌⊎◌, IfOk, length};
 ghost use Rattle.rail_io.specs.Faults.{Rose};
 ghost use Rattle.host_words.specs.Options.{words_texts};
-ghost use Rattle.host_notes.specs.Ends.{note_of};
-ghost use Rattle.host_notes.specs.Noted.{IsNoted};
-ghost use Rattle.host_serve.specs.Ends.{end_of_serve, status_of_serve};
-ghost use Rattle.host_serve.specs.Serve.{HasShelfCause, IsNoServe, IsOfRefusedText, IsWithoutCatalogue};
-ghost use Rattle.host_serve.specs.declared.end.ServeOutcome.{ServeOutcome};
+ghost use Rattle.host_serve.specs.Serve.{IsExporting, IsNoServe, IsOfRefusedText, IsWithoutBooks};
+ghost use Rattle.rail_host.specs.Commands.{ServesPort};
 
 use host_io::{SleepTicker, TcpPort};
 use host_notes::{CommandEnd, end_command};
@@ -35,7 +32,11 @@ fn system_clocks<C: time::Clock + Copy + Drop>(
     Ok(clocks)
 }
 
-/// Serves connections to a port of this machine, by the system's clock, and answers the status of `serve`, with its note.
+/// Serves connections to a port of this machine, by the system's clock, and answers the status of `serve`, with its export and its note.
+///
+/// The listener is made here, and nobody keeps it or the wall. So the contract says that there are such, by which all holds that `run_serve`
+/// promises: the listener was new at the start, and the export that the notes took is that wall's. What the listener is at the end is known
+/// by that alone, and its streams tell no content: that a connection's bytes came from a client, and reached one, is said by no clause.
 pub fn serve_port<
     R: Threads + Wait + Sync + Net<Listener = TcpListener, Stream = TcpStream> + time::Clock,
     F: Shelf,
@@ -46,11 +47,24 @@ pub fn serve_port<
     ensures refused_words { IsNoServe (words_texts words.now) → (result ≡ 2) ⊎ (result ≡ 5) }
     ensures nothing_fetched { result ≡ 2 → shelf.new ≡ shelf.old }
 
-    // The status and the note are those of the end.
-    ensures ended { (outcome : ServeOutcome) × (result ≡ status_of_serve outcome)
-        × IsNoted (E.told notes.old) (E.told notes.new) (E.faults notes.old) (E.faults notes.new) (note_of (end_of_serve outcome))
-        × HasShelfCause outcome (F.faults shelf.old) (F.faults shelf.new) (F.misses shelf.old) (F.misses shelf.new) }
-    ensures without { result ≡ 1 → IsWithoutCatalogue (words_texts words.now) (F.told shelf.old) }
+    // The status is that of the end, and the command ran so, at a port of its own. The notes took the export of the wall that serving left,
+    // if it was asked for and there is one, and the note of the end.
+    ensures ended { ServesPort (words_texts words.now) (F.told shelf.old) result
+        (record {
+          failed = F.faults shelf.old;
+          fails = F.faults shelf.new;
+          missed = F.misses shelf.old;
+          misses = F.misses shelf.new;
+        })
+        (record {
+          before = E.told notes.old;
+          failed = E.faults notes.old;
+          after = E.told notes.new;
+          fails = E.faults notes.new;
+        }) }
+    ensures write_cause { result ≡ 4 → IsExporting (words_texts words.now)
+        × Rose (E.faults notes.old) (E.faults notes.new) }
+    ensures without { result ≡ 1 → IsWithoutBooks (words_texts words.now) (F.told shelf.old) }
     ensures missed { result ≡ 1 → Rose (F.misses shelf.old) (F.misses shelf.new)
         ⊎ IsOfRefusedText (words_texts words.now) (F.told shelf.old) }
 {

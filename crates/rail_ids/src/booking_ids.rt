@@ -1,6 +1,7 @@
-ghost use Rattle.std.specs.Prelude.{◌≡◌, ◌≢◌, ◌^◌, ◌<◌, ◌≤◌, ◌+◌, ℕ, decimal, length, ◌++◌, replicate, ◌==◌, position, Some, IfSome, IfNone};
+ghost use Rattle.std.specs.Prelude.{◌≡◌, ◌^◌, ◌<◌, ◌≤◌, ℕ, decimal, ◌++◌, replicate, ◌==◌, position, Some, IfSome, IfNone};
 ghost use Rattle.arrayvec.specs.ArrayVec.{array_vec_len};
 ghost use Rattle.rail_ids.specs.Spelling.{booking_id_text, generation_text, last_generation};
+ghost use Rattle.rail_ids.specs.Spelling.{IsIdOf, IsIdOfNoOther, IsNoId, HasNumbers, HasParts};
 
 use crate::{LAST_GENERATION, RowNo};
 use arrayvec::ArrayVec;
@@ -59,9 +60,9 @@ fn push_generation(id: &mut BookingId, generation: u32)
 /// The booking whose id this text is, by its row and generation: `None` exactly where it is no booking's. No other
 /// booking has this id.
 pub fn read_booking_id(text: &[u8]) -> Option<RowNo>
-    ensures some { IfSome result (λ r. (r.generation ≤ last_generation) × (text.now ≡ booking_id_text r.row r.generation)) }
-    ensures only { IfSome result (λ r. (row generation : ℕ) → row < 2 ^ 32 → generation ≤ last_generation → text.now ≡ booking_id_text row generation → (row ≡ r.row) × (generation ≡ r.generation)) }
-    ensures none { IfNone result ((row generation : ℕ) → row < 2 ^ 32 → generation ≤ last_generation → text.now ≢ booking_id_text row generation) }
+    ensures some { IfSome result (IsIdOf text.now) }
+    ensures only { IfSome result (IsIdOfNoOther text.now) }
+    ensures none { IfNone result (IsNoId text.now) }
 {
     let row = numbers_of(text)?;
     if row.generation <= LAST_GENERATION && write_booking_id(row).as_slice() == text {
@@ -73,7 +74,7 @@ pub fn read_booking_id(text: &[u8]) -> Option<RowNo>
 
 // The numbers behind the letter, where the text is an id. Another text may give some too.
 fn numbers_of(text: &[u8]) -> Option<RowNo>
-    ensures { (row generation : ℕ) → row < 2 ^ 32 → generation ≤ last_generation → text.now ≡ booking_id_text row generation → result ≡ Some (record { row = row; generation = generation }) }
+    ensures { HasNumbers text.now result }
 {
     let (_, numbers) = text.split_first()?;
     let (row, generation) = parts_of(numbers);
@@ -85,7 +86,7 @@ fn numbers_of(text: &[u8]) -> Option<RowNo>
 
 // The digits of the row and of the generation, which is 0 where no `-` stands between them.
 fn parts_of(numbers: &[u8]) -> (&[u8], &[u8])
-    ensures { (k row generation : ℕ) → row < 2 ^ 32 → numbers.now ≡ replicate k 48 ++ (decimal row ++ generation_text generation) → (result.0.now ≡ replicate k 48 ++ decimal row) × (result.1.now ≡ decimal generation) }
+    ensures { HasParts numbers.now result.0.now result.1.now }
 {
     match dash_of(numbers) {
         Some(at) => (&numbers[..at], &numbers[at + 1..]),

@@ -3,3 +3,4 @@ pub mod Faults
 pub mod Files
 pub mod Told
 pub mod Memory
+pub mod Answers

@@ -1,5 +1,5 @@
 -- What a source has left and what a sink has taken, where the object tells it.
-use Rattle.std.specs.Prelude.{◌≡◌, ◌≤◌, ◌<◌, ℕ, List, [], ◌++◌, length, take, Option, option_map, IfSome, ⊤}
+use Rattle.std.specs.Prelude.{◌≡◌, ◌≤◌, ◌<◌, ℕ, List, [], ◌++◌, length, take, Option, option_map, IfSome, ⊤, Some}
 use Rattle.rail_io.specs.declared.source.Pulled.{Pulled}
 use Rattle.rail_io.specs.declared.source.Pulled.TheVariants.{Got, End, Failed}
 use Rattle.rail_io.specs.declared.sink.Pushed.{Pushed}
@@ -35,3 +35,9 @@ PushesBoth before after pieces (FailedBoth n) = (n < length pieces) × (after �
 abbrev pub HasFailed : PushedBoth → Type 0
 HasFailed (TookBoth n) = ⊥
 HasFailed (FailedBoth n) = ⊤
+
+-- Where both tell their bytes, and this holds, some bytes are written: this of those to come.
+abbrev pub WritesWhere : Type 0 → Option (List ℕ) → Option (List ℕ) → Option (List ℕ) → (List ℕ → List ℕ → Type 0) → Type 0
+WritesWhere Holds input output sent Of =
+    (stream before : List ℕ) → input ≡ Some stream → output ≡ Some before → Holds
+    → (written : List ℕ) × (sent ≡ Some (before ++ written)) × Of stream written

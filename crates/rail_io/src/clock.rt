@@ -1,5 +1,6 @@
 // Where moments come from.
-ghost use Rattle.std.specs.Prelude.{◌≡◌, ◌+◌, ℕ, Option, IfSome, IsSomeAnd};
+ghost use Rattle.std.specs.Prelude.{◌≡◌, ℕ, Option, IfSome};
+ghost use Rattle.rail_io.specs.Clocks.{MovesUp};
 
 use rail_time::Moment;
 
@@ -11,5 +12,5 @@ pub trait Clock {
     /// The first of the readings to come. Each later one moves up by one.
     fn now(&mut self) -> Moment
         ensures first { IfSome (told self.old) (λ readings. result ≡ readings 0) }
-        ensures rest { IfSome (told self.old) (λ readings. IsSomeAnd (told self.new) (λ later. (i : ℕ) → later i ≡ readings (i + 1))) };
+        ensures rest { MovesUp (told self.old) (told self.new) };
 }

@@ -1,9 +1,10 @@
 // The files of the system as a shelf. It tells no content.
 ghost use Rattle.std.specs.Prelude.{None};
 
+use crate::answers::fetched_of;
 use crate::{Fetched, Shelf};
 use std::alloc::Global;
-use std::io::{ErrorKind, Read};
+use std::io::Read;
 use std::{fs, io};
 
 /// The system's files, by their paths.
@@ -47,21 +48,12 @@ impl<F: fs::Files + Drop> Shelf for FileShelf<F> {
     ghost misses = { λ s. s.misses };
 
     fn fetch(&mut self, alloc: Global, name: &str, room: u32) -> Fetched {
-        match read_file(&self.files, alloc, name, room) {
-            Ok(content) if content.len() <= room as usize => Fetched::Got(content),
-            Ok(_) => {
-                self.misses = self.misses.saturating_add(1);
-                Fetched::TooLarge
-            }
-            Err(error) if error.kind() == ErrorKind::NotFound => {
-                self.misses = self.misses.saturating_add(1);
-                Fetched::Missing
-            }
-            Err(error) if error.kind() == ErrorKind::OutOfMemory => Fetched::NoMemory,
-            Err(_) => {
-                self.faults = self.faults.saturating_add(1);
-                Fetched::Failed
-            }
+        let fetched = fetched_of(read_file(&self.files, alloc, name, room), room);
+        match &fetched {
+            Fetched::Got(_) | Fetched::NoMemory => {}
+            Fetched::Missing | Fetched::TooLarge => self.misses = self.misses.saturating_add(1),
+            Fetched::Failed => self.faults = self.faults.saturating_add(1),
         }
+        fetched
     }
 }

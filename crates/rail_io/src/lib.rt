@@ -10,6 +10,7 @@
 //! before the system's files and `SystemClock` before its clock; they tell nothing.
 #![tactic(auto)]
 
+mod answers;
 mod clock;
 mod file_shelf;
 mod memory_clock;

@@ -1,6 +1,7 @@
 // A reader and a writer of std as source and sink. They tell no content.
 ghost use Rattle.std.specs.Prelude.{None, IfOk, ◌≤◌, length};
 
+use crate::answers::{pulled_of, pushed_of};
 use crate::{Pulled, Pushed, Sink, Source};
 use std::io;
 use std::io::{ErrorKind, Read, Write};
@@ -45,14 +46,11 @@ impl<R: Read> Source for ReaderSource<R> {
     ghost faults = { λ s. s.faults };
 
     fn read(&mut self, room: &mut [u8]) -> Pulled {
-        match read_some(&mut self.reader, room) {
-            Ok(0) => Pulled::End,
-            Ok(count) => Pulled::Got(count),
-            Err(_) => {
-                self.faults = self.faults.saturating_add(1);
-                Pulled::Failed
-            }
+        let pulled = pulled_of(read_some(&mut self.reader, room));
+        if let Pulled::Failed = pulled {
+            self.faults = self.faults.saturating_add(1);
         }
+        pulled
     }
 }
 
@@ -93,12 +91,10 @@ impl<W: Write> Sink for WriterSink<W> {
     ghost faults = { λ s. s.faults };
 
     fn write(&mut self, piece: &[u8]) -> Pushed {
-        match write_some(&mut self.writer, piece) {
-            Ok(0) => {}
-            Ok(count) => return Pushed::Took(count),
-            Err(_) => {}
+        let pushed = pushed_of(write_some(&mut self.writer, piece));
+        if let Pushed::Failed = pushed {
+            self.faults = self.faults.saturating_add(1);
         }
-        self.faults = self.faults.saturating_add(1);
-        Pushed::Failed
+        pushed
     }
 }

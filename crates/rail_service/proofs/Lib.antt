@@ -7,3 +7,5 @@ pub mod Alone
 pub mod Carried
 pub mod Going
 pub mod Sparing
+pub mod Walking
+pub mod Pathways

@@ -1,6 +1,7 @@
 -- The paths that are served, and what a path names.
-use Rattle.std.specs.Prelude.{ℕ, zero, suc, ◌+◌, ◌==◌, not, List, [], ◌∷◌, length, drop, take_while, fold, Option, None, option_map, Result, Ok, Err, if◌then◌else◌, codes}
-use Rattle.std.specs.Str.{is_utf8}
+use Rattle.std.specs.Prelude.{◌≢◌, ◌<◌, ℕ, zero, suc, ◌+◌, ◌==◌, not, List, [], ◌∷◌, length, drop, take_while, fold, Option, None, option_map, Result, Ok, Err, if◌then◌else◌, codes}
+use Rattle.std.specs.List.{AllByRecursion}
+use Rattle.std.specs.Str.{IsUtf8, is_utf8}
 use Rattle.matchit.specs.Rows.{RowsOf}
 use Rattle.matchit.specs.Order.{placed}
 use Rattle.matchit.specs.Seek.{first}
@@ -45,6 +46,16 @@ all_rows = fold with_path [] paths
 -- what the router's search finds at a path; one that is no UTF-8 has none
 abbrev pub resource_at : List ℕ → Option Resource
 resource_at path = if is_utf8 path then option_map (λ (r : RouteOf Resource). r.value) (first all_rows path) else None
+
+-- a byte that may stand in a parameter: any but a slash
+abbrev pub IsPartByte : ℕ → Type 0
+IsPartByte b = (b < 256) × (b ≢ 47)
+
+-- what may stand for a parameter of a path: a text of one byte or more, without a slash
+pub record IsParameter (text : List ℕ) : Type 0 where
+  pub some : 0 < length text
+  pub is_text : IsUtf8 text
+  pub bytes : AllByRecursion IsPartByte text
 
 -- up to the first slash, and behind it
 abbrev pub before_slash : List ℕ → List ℕ

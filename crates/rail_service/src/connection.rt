@@ -38,7 +38,8 @@ fn serve<S: Source, K: Sink, C: Clock>(
     ensures served { (taken written : List ℕ)
         × (S.told source.old ≡ with_front taken (S.told source.new))
         × (K.told sink.new ≡ with_end (K.told sink.old) written)
-        × IsServed service.old.cat.now (view_of C.told service.old) (view_of C.told service.new) taken (S.told source.new) written result }
+        × IsServed service.old.cat.now (view_of C.told service.old) (view_of C.told service.new)
+        taken (S.told source.new) written result }
     ensures read_cause { result ≡ ReadFault → Rose (S.faults source.old) (S.faults source.new) }
     ensures write_cause { result ≡ WriteFault → Rose (K.faults sink.old) (K.faults sink.new) }
     ensures read_steady { (result ≡ ReadFault → ⊥) → S.faults source.new ≡ S.faults source.old }
@@ -54,6 +55,10 @@ fn serve<S: Source, K: Sink, C: Clock>(
 ///
 /// All memory of the wire and of the routes is taken first; where there is none, the end is `NoMemory`, and nothing is read, written or
 /// done. Later want of memory is answered 500, and changes no booking's fate.
+///
+/// Where source and sink don't tell their bytes, as those of a socket don't, `served` names none that came or went:
+/// what is left of it there is safety (the desk's entries are those of some requests, answered in order, and no place is
+/// sold twice), beside the cause of each end.
 pub fn serve_connection<S: Source, K: Sink, C: Clock>(
     alloc: Global,
     cat: &Catalogue,
@@ -76,14 +81,16 @@ pub fn serve_connection<S: Source, K: Sink, C: Clock>(
         × (S.told source.old ≡ with_front taken (S.told source.new))
         × (K.told sink.new ≡ with_end (K.told sink.old) written)
         × HasServed cat.now (record { desk = desk.old; first = None; clock = C.told clock.old })
-        (record { desk = desk.new; first = first; clock = C.told clock.new }) taken (S.told source.new) written result }
+        (record { desk = desk.new; first = first; clock = C.told clock.new })
+        taken (S.told source.new) written result }
 
     // At a desk that is alone, whatever it has done, they are those of a host of one thread, which begins with the desk's bookings.
     ensures one_thread { IsAlone desk.old → (taken written : List ℕ) × (first : Option RetailerNo)
         × (S.told source.old ≡ with_front taken (S.told source.new))
         × (K.told sink.new ≡ with_end (K.told sink.old) written)
         × IsOneThread cat.now (record { plain = plain_of desk.old; first = None; clock = C.told clock.old })
-        (record { plain = plain_of desk.new; first = first; clock = C.told clock.new }) taken (S.told source.new) written result }
+        (record { plain = plain_of desk.new; first = first; clock = C.told clock.new })
+        taken (S.told source.new) written result }
 
     // A device's failure is the end where its count of faults rose in this call, and at every other end that count is as it was.
     ensures read_cause { result ≡ ReadFault → Rose (S.faults source.old) (S.faults source.new) }

@@ -23,4 +23,5 @@ pub use connection::serve_connection;
 pub use listener::{Accepted, Bound, Listener};
 pub use memory_listener::ListListener;
 pub use performing::perform;
+pub use resource::paths_name_resources;
 pub use waiting::{Finished, Waiting, serve_waiting};

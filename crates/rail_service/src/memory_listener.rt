@@ -100,7 +100,8 @@ impl Listener for ListListener {
         ensures steady { (HasFailed result → ⊥) → list_faults self.new ≡ list_faults self.old }
         ensures calls { IsOneCallMore (list_calls self.old) (list_calls self.new) }
         ensures listed { (list_view self.old).handed < (list_view self.old).limit
-            → (HasFailed result ↔ (Contains (list_fails self.old) (list_calls self.new) ⊎ (list_streams self.old ≡ []))) }
+            → (HasFailed result
+            ↔ (Contains (list_fails self.old) (list_calls self.new) ⊎ (list_streams self.old ≡ []))) }
         ensures fails { list_fails self.new ≡ list_fails self.old }
         ensures hands { HandsOut (list_streams self.old) (list_streams self.new) result }
     {

@@ -112,7 +112,8 @@ fn carry_out(
     ensures own { IsOf shop.now.books.now desk.new }
     ensures idle { IsIdle desk.new }
     ensures tidy { IsTidy desk.old → IsTidy desk.new }
-    ensures answer { CarriesOut shop.now.cat.now asker.retailer.0 asker.moment command.now desk.old desk.new (told_of result) }
+    ensures answer { CarriesOut shop.now.cat.now asker.retailer.0 asker.moment command.now
+        desk.old desk.new (told_of result) }
 {
     match command {
         Command::Offers {

@@ -1,6 +1,7 @@
 //! The paths that are served.
-ghost use Rattle.std.specs.Prelude.{◌≡◌, IfOk, OnOk};
-ghost use Rattle.rail_service.specs.Paths.{with_path, all_rows, resource_at as resource_named};
+ghost use Rattle.std.specs.Prelude.{◌≡◌, ◌++◌, ℕ, List, Some, IfOk, OnOk, codes};
+ghost use Rattle.rail_service.specs.declared.resource.Resource.TheVariants as names;
+ghost use Rattle.rail_service.specs.Paths.{with_path, all_rows, resource_at as resource_named, IsParameter};
 
 use matchit::Router;
 use std::alloc::{AllocError, Global};
@@ -73,3 +74,24 @@ pub fn resource_at(router: &Router<Resource>, path: &[u8]) -> Option<Resource>
         Err(_) => None,
     }
 }
+
+/// What the paths of the table name, whatever texts without a slash stand for their parameters.
+pub fn paths_name_resources()
+    ensures offers { resource_named (codes "/offers") ≡ Some names.Offers }
+    ensures bookings { resource_named (codes "/bookings") ≡ Some names.Bookings }
+    ensures reservations { resource_named (codes "/reservations") ≡ Some names.Reservations }
+    ensures booking { (id : List ℕ) → IsParameter id → resource_named (codes "/bookings/" ++ id) ≡ Some names.Booking }
+    ensures fulfillments { (id : List ℕ) → IsParameter id
+        → resource_named (codes "/bookings/" ++ (id ++ codes "/fulfillments")) ≡ Some names.Fulfillments }
+    ensures refund_offers { (id : List ℕ) → IsParameter id
+        → resource_named (codes "/bookings/" ++ (id ++ codes "/refund-offers")) ≡ Some names.RefundOffers }
+    ensures refund_offer { (id offer : List ℕ) → IsParameter id → IsParameter offer
+        → resource_named (codes "/bookings/" ++ (id ++ (codes "/refund-offers/" ++ offer))) ≡ Some names.RefundOffer }
+    ensures exchange_offers { resource_named (codes "/exchange-offers") ≡ Some names.ExchangeOffers }
+    ensures exchange_operations { (id : List ℕ) → IsParameter id
+        → resource_named (codes "/bookings/" ++ (id ++ codes "/exchange-operations")) ≡ Some names.ExchangeOperations }
+    ensures places { (run from to : List ℕ) → IsParameter run → IsParameter from → IsParameter to
+        → resource_named (codes "/runs/" ++ (run ++ (codes "/places/" ++ (from ++ (codes "/" ++ to)))))
+        ≡ Some names.Places }
+    ensures sweeps { resource_named (codes "/sweeps") ≡ Some names.Sweeps }
+{}

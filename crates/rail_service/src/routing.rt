@@ -53,7 +53,8 @@ fn route_to<'p>(resource: Resource, method: &[u8], path: &'p [u8]) -> Option<Rou
 }
 
 fn booking_route<'p>(method: &[u8], id: &'p [u8]) -> Option<Route<'p>>
-    ensures some { IfSome result (λ r. ((method.now ≡ codes "GET") × (r ≡ route.Show id.entry)) ⊎ ((method.now ≡ codes "DELETE") × (r ≡ route.Release id.entry))) }
+    ensures some { IfSome result (λ r. ((method.now ≡ codes "GET") × (r ≡ route.Show id.entry))
+        ⊎ ((method.now ≡ codes "DELETE") × (r ≡ route.Release id.entry))) }
     ensures none { IfNone result ((method.now ≢ codes "GET") × (method.now ≢ codes "DELETE")) }
 {
     if method == b"GET".as_slice() {
@@ -63,7 +64,8 @@ fn booking_route<'p>(method: &[u8], id: &'p [u8]) -> Option<Route<'p>>
 }
 
 fn fulfillments_route<'p>(method: &[u8], id: &'p [u8]) -> Option<Route<'p>>
-    ensures some { IfSome result (λ r. ((method.now ≡ codes "POST") × (r ≡ route.Confirm id.entry)) ⊎ ((method.now ≡ codes "PATCH") × (r ≡ route.Fulfil id.entry))) }
+    ensures some { IfSome result (λ r. ((method.now ≡ codes "POST") × (r ≡ route.Confirm id.entry))
+        ⊎ ((method.now ≡ codes "PATCH") × (r ≡ route.Fulfil id.entry))) }
     ensures none { IfNone result ((method.now ≢ codes "POST") × (method.now ≢ codes "PATCH")) }
 {
     if method == b"POST".as_slice() {

@@ -32,7 +32,8 @@ pub(crate) fn accept_refund(
     ensures own { IsOf shop.now.books.now desk.new }
     ensures idle { IsIdle desk.new }
     ensures tidy { IsTidy desk.old → IsTidy desk.new }
-    ensures answer { CarriesOut shop.now.cat.now asker.retailer.0 asker.moment (command.AcceptRefund row quote.now) desk.old desk.new (told_of result) }
+    ensures answer { CarriesOut shop.now.cat.now asker.retailer.0 asker.moment (command.AcceptRefund row quote.now)
+        desk.old desk.new (told_of result) }
 {
     let Some(code) = quote else {
         unreachable!();
@@ -56,7 +57,8 @@ pub(crate) fn quote_exchange(
     ensures own { IsOf shop.now.books.now desk.new }
     ensures idle { IsIdle desk.new }
     ensures tidy { IsTidy desk.old → IsTidy desk.new }
-    ensures answer { CarriesOut shop.now.cat.now asker.retailer.0 asker.moment (command.QuoteExchange row offer.now) desk.old desk.new (told_of result) }
+    ensures answer { CarriesOut shop.now.cat.now asker.retailer.0 asker.moment (command.QuoteExchange row offer.now)
+        desk.old desk.new (told_of result) }
 {
     let Some(code) = offer else {
         unreachable!();
@@ -84,7 +86,8 @@ pub(crate) fn accept_exchange(
     ensures own { IsOf shop.now.books.now desk.new }
     ensures idle { IsIdle desk.new }
     ensures tidy { IsTidy desk.old → IsTidy desk.new }
-    ensures answer { CarriesOut shop.now.cat.now asker.retailer.0 asker.moment (command.AcceptExchange row quote.now) desk.old desk.new (told_of result) }
+    ensures answer { CarriesOut shop.now.cat.now asker.retailer.0 asker.moment (command.AcceptExchange row quote.now)
+        desk.old desk.new (told_of result) }
 {
     let Some(code) = quote else {
         unreachable!();

@@ -79,14 +79,16 @@ pub fn serve_waiting<I: Source, O: Sink, C: Clock>(
         × (I.told waiting.input ≡ with_front taken (I.told result.input))
         × (O.told result.output ≡ with_end (O.told waiting.output) written)
         × HasServed cat.now (record { desk = desk.old; first = None; clock = C.told clock.old })
-        (record { desk = desk.new; first = first; clock = C.told clock.new }) taken (I.told result.input) written result.end }
+        (record { desk = desk.new; first = first; clock = C.told clock.new })
+        taken (I.told result.input) written result.end }
 
     // At a desk that is alone, whatever it has done, they are those of a host of one thread, which begins with the desk's bookings.
     ensures one_thread { IsAlone desk.old → (taken written : List ℕ) × (first : Option RetailerNo)
         × (I.told waiting.input ≡ with_front taken (I.told result.input))
         × (O.told result.output ≡ with_end (O.told waiting.output) written)
         × IsOneThread cat.now (record { plain = plain_of desk.old; first = None; clock = C.told clock.old })
-        (record { plain = plain_of desk.new; first = first; clock = C.told clock.new }) taken (I.told result.input) written result.end }
+        (record { plain = plain_of desk.new; first = first; clock = C.told clock.new })
+        taken (I.told result.input) written result.end }
 
     // A device's failure is the end where its count of faults rose in this call, and at every other end that count is as it was.
     ensures read_cause { result.end ≡ ReadFault → Rose (I.faults waiting.input) (I.faults result.input) }

@@ -9,7 +9,9 @@ use Rattle.history_model.specs.declared.phase.EndKind.TheVariants.{Refund}
 use Rattle.history_model.specs.Booking.{most_items}
 use Rattle.booking_rows.specs.declared.turns.Aim.TheVariants as aim
 use Rattle.booking_rows.specs.Aims.{end_of, LosesTurn}
+use Rattle.booking_rows.specs.Ends.{IsEndedAs}
 use Rattle.booking_rows.specs.Views.{RowSeen}
+use Rattle.claim_rule.specs.Rule.{DeskView}
 use Rattle.row_decisions.specs.Ends.{ends_as}
 use Rattle.rail_catalogue.specs.Contents.{CatalogueView}
 use Rattle.offer_codes.specs.declared.code.RefundCode.{RefundCode}
@@ -63,3 +65,12 @@ AcceptsRefund cat rows retailer code now (refunded.QuoteStale made at) es =
 AcceptsRefund cat rows retailer code now refunded.QuoteWrong es =
     (is_stale code.made now ≡ false) × (code.row.row < rows)
     × ((v : RowSeen) × SeesOwn code.row retailer v es × (code.amount ≢ refund_at cat v code.made code.fulfilled))
+
+-- what holds of the amount where the call refunded the booking
+abbrev pub IfRefunded : Refunded → (ℕ → Type 0) → Type 0
+IfRefunded (refunded.Done amount) P = P amount
+IfRefunded _ P = Unit {0}
+
+-- the booking has ended by a refund of this amount at this moment, and all its items are given back
+abbrev pub IsRefunded : DeskView → RowNo → ℕ → ℕ → Type 0
+IsRefunded desk row now amount = IsEndedAs desk row Refund (end_of (aim.Refund now amount))

@@ -7,6 +7,8 @@ use Rattle.history_model.specs.declared.phase.EndKind.TheVariants.{Release}
 use Rattle.history_model.specs.Booking.{most_items}
 use Rattle.booking_rows.specs.declared.turns.Aim.TheVariants as aim
 use Rattle.booking_rows.specs.Aims.{end_of}
+use Rattle.booking_rows.specs.Ends.{IsEndedAs}
+use Rattle.claim_rule.specs.Rule.{DeskView}
 use Rattle.rail_ids.specs.declared.RowNo.{RowNo}
 use Rattle.row_decisions.specs.Looks.{saw_owner, IsKept, FindsOwned, SawOwned, IsWrong, LosesRow}
 use Rattle.row_decisions.specs.Ends.{ends_as}
@@ -21,3 +23,12 @@ Releases rows row retailer now released.Done es =
 Releases rows row retailer now released.Unknown es =
     FindsOwned rows row retailer None es ⊎ ((row.row < rows) × LosesRow row Prebooked (SawOwned row retailer) es)
 Releases rows row retailer now (released.WrongState shown) es = (row.row < rows) × IsWrong row Prebooked shown (SawOwned row retailer) es
+
+-- what holds where the call released the booking
+abbrev pub IfReleased : Released → Type 0 → Type 0
+IfReleased released.Done P = P
+IfReleased _ P = Unit {0}
+
+-- the booking has ended by a release at this moment, and all its items are given back
+abbrev pub IsReleased : DeskView → RowNo → ℕ → Type 0
+IsReleased desk row now = IsEndedAs desk row Release (end_of (aim.Release now))

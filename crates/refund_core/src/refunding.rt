@@ -4,7 +4,7 @@ ghost use Rattle.history_model.specs.Booking.{most_items};
 ghost use Rattle.claim_rule.specs.Seats.{IsOf, AddsAtMost};
 ghost use Rattle.claim_rule.specs.Calls.{ShapeBy};
 ghost use Rattle.claim_rule.specs.Out.{EndsNone, KeepsHolds};
-ghost use Rattle.refund_core.specs.Refunding.{AcceptsRefund};
+ghost use Rattle.refund_core.specs.Refunding.{AcceptsRefund, IfRefunded, IsRefunded};
 
 use crate::quotes::{find_booking, is_named, is_stale, phase_named, refund_at};
 use booking_rows::Aim;
@@ -45,7 +45,9 @@ pub fn accept_refund(
     requires own { IsOf books.now desk.old }
     requires none { EndsNone desk.old }
     ensures own { IsOf books.now desk.new }
-    ensures entries { ShapeBy (AcceptsRefund cat.now books.now.layout.rows retailer.0 code.now now result) desk.old desk.new }
+    ensures entries { ShapeBy
+        (AcceptsRefund cat.now books.now.layout.rows retailer.0 code.now now result) desk.old desk.new }
+    ensures refunded { IfRefunded result (IsRefunded desk.new code.now.row now) }
     ensures none { EndsNone desk.new }
     ensures holds { KeepsHolds desk.old desk.new }
     ensures bound { AddsAtMost (3 * most_items + 15) desk.old desk.new }

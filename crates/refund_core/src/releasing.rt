@@ -4,7 +4,7 @@ ghost use Rattle.history_model.specs.Booking.{most_items};
 ghost use Rattle.claim_rule.specs.Seats.{IsOf, AddsAtMost};
 ghost use Rattle.claim_rule.specs.Calls.{ShapeBy};
 ghost use Rattle.claim_rule.specs.Out.{EndsNone, KeepsHolds};
-ghost use Rattle.refund_core.specs.Releasing.{Releases};
+ghost use Rattle.refund_core.specs.Releasing.{Releases, IfReleased, IsReleased};
 
 use booking_rows::Aim;
 use claim_rule::{Books, Desk};
@@ -37,6 +37,7 @@ pub fn release(
     requires none { EndsNone desk.old }
     ensures own { IsOf books.now desk.new }
     ensures entries { ShapeBy (Releases books.now.layout.rows row retailer.0 now result) desk.old desk.new }
+    ensures released { IfReleased result (IsReleased desk.new row now) }
     ensures none { EndsNone desk.new }
     ensures holds { KeepsHolds desk.old desk.new }
     ensures bound { AddsAtMost (2 * most_items + 9) desk.old desk.new }

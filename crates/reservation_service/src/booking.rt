@@ -30,7 +30,8 @@ use rail_ids::RowNo;
 use shop::{Asker, Shop};
 
 /// Books the places of an offer for a retailer (OSDM's prebooking): one for each passenger at each segment, or none. Where they are to
-/// sit together, a segment's places lie side by side if a stretch is free.
+/// sit together, they sit apart at a segment only where each stretch of its candidates had a place with a leg that was taken or contended when
+/// it was looked at or tried.
 ///
 /// The booking can be confirmed from the asker's moment on for the time that the catalogue gives. The books have the catalogue's places,
 /// each segment's run holds its span, and there are one to eight passengers and one to three segments.
@@ -77,7 +78,8 @@ pub struct Reservation {
     pub count: u8,
     /// The traits that each place has, as a mask.
     pub traits: u8,
-    /// Whether the places are to lie side by side, where a stretch is free.
+    /// Whether the places are to lie side by side. They lie apart only where each stretch of places had one with a leg that was taken or
+    /// contended when it was looked at or tried.
     pub together: bool,
 }
 

@@ -22,6 +22,7 @@ use Rattle.rail_ids.specs.declared.RowNo.{RowNo}
 use Rattle.booking_rows.specs.declared.turns.Aim.{Aim}
 use Rattle.booking_rows.specs.declared.turns.Turned.TheVariants as turned
 use Rattle.booking_rows.specs.Aims.{aimed, end_of, turn_of, turn_step, fresh_ending, Turns}
+use Rattle.booking_rows.specs.Ends.{IsEndedAs}
 use Rattle.row_decisions.specs.Ends.{ends_as}
 
 -- all items are given back, and the end is closed
@@ -34,14 +35,23 @@ gave_and_closed a b c e now fresh is gave closed =
     all_of : (n : ℕ) → n - 0 ≡ n
     all_of n = omega arith
 
+same_kind : (a b : EndKind) (p : Phase) → p ≡ Ending a → p ≡ Ending b → a ≡ b
+same_kind a b p e f = let g : Ending a ≡ Ending b = sym e ∙ f in cc
+
+-- the booking of an ending is the one of which all items were given back
+pub ended_whole : (desk : DeskView) (e now : EndingView) → now ≡ record e { given = length e.items } → IsEndedAs desk now.row now.kind now.end → IsEndedAs desk e.row e.kind e.end
+ended_whole desk e now is on = subst (λ (x : EndingView). IsEndedAs desk x.row x.kind x.end) is on
+
+-- the booking that was turned has ended in the way that the turn aimed at
+pub ended_so : (desk : DeskView) (row : RowNo) (aim : Aim) (e : EndingView) (kind : EndKind) → aimed aim ≡ Ending e.kind → e ≡ fresh_ending row e.kind (end_of aim) e → aimed aim ≡ Ending kind → IsEndedAs desk e.row e.kind e.end → IsEndedAs desk row kind (end_of aim)
+ended_so desk row aim e kind to is wanted on =
+    subst (λ (x : RowNo × EndKind × End). IsEndedAs desk x.0 x.1 x.2) (λ i. ((is i).row, same_kind e.kind kind (aimed aim) to wanted i, (is i).end)) on
+
 -- an ending has at most as many items as a booking may have
 pub few_items : (desk : DeskView) (e : EndingView) → IsLegal desk.layout desk.seen → IsEnding desk e → e.read ≡ true → e.given ≡ 0 → length e.items ≤ most_items
 few_items desk e legal is read fresh =
     let many : length is.of.booking.items ≡ length e.items = ap length (is.of.items read ∙ ap (λ (n : ℕ). given_front n (map held e.items)) fresh) ∙ length-map e.items held in
     subst (λ (n : ℕ). n ≤ most_items) many (sound_now desk e legal is.of).count
-
-same_kind : (a b : EndKind) (p : Phase) → p ≡ Ending a → p ≡ Ending b → a ≡ b
-same_kind a b p e f = let g : Ending a ≡ Ending b = sym e ∙ f in cc
 
 -- the turn to an end, its items read, and the rest
 pub ended : (a b c : DeskView) (row : RowNo) (from : Phase) (aim : Aim) (e : EndingView) (kind : EndKind) → aimed aim ≡ Ending e.kind → e ≡ fresh_ending row e.kind (end_of aim) e → length e.items ≤ most_items → aimed aim ≡ Ending kind → ShapeBy (Turns row from aim (turned.Ending e)) a b → Shape b c (ending_steps e.row.row e.kind e.end e.items) → (es : List Step) × ((items : List Item) × (length items ≤ most_items) × (es ≡ ends_as row.row from kind (end_of aim) items)) × Shape a c es

@@ -4,9 +4,8 @@ use Rattle.offer_codes.specs.declared.code.Segment.{Segment}
 use Rattle.offer_codes.specs.declared.code.Offer.{Offer}
 use Rattle.rail_ids.specs.declared.PlaceNo.{PlaceNo}
 use Rattle.rail_catalogue.specs.Contents.{CatalogueView}
-use Rattle.trip_builder.specs.Trips.{trips_of}
 use Rattle.offer_engine.specs.declared.wish.OfferWish.{OfferWish}
-use Rattle.offer_engine.specs.Offers.{raised, OffersFor, BeginsOffers}
+use Rattle.offer_engine.specs.Offers.{MakesOffers, BeginsMaking}
 use Rattle.availability.specs.Looks.{LooksAt}
 use Rattle.claim_rule.specs.Rule.{DeskView}
 use Rattle.claim_rule.specs.Calls.{ShapeBy}
@@ -19,15 +18,15 @@ abbrev pub Searched : CatalogueView → OfferWish → ℕ → DeskView → DeskV
 Searched cat w now old new written = (reply : Reply) × SearchesOffers cat w now old new reply × (written ≡ reply_told cat reply)
 
 pub searched : (cat : CatalogueView) (w : OfferWish) (now : ℕ) (offers : List Offer) (old new : DeskView) (written : Told)
-    → ShapeBy (OffersFor cat w now (trips_of cat.runs (raised w.trip now)) offers) old new → written ≡ reply_told cat (offer_list offers) → Searched cat w now old new written
+    → ShapeBy (MakesOffers cat w now offers) old new → written ≡ reply_told cat (offer_list offers) → Searched cat w now old new written
 searched cat w now offers old new written did is = (offer_list offers, inl (offers, did, inl refl), is)
 
 pub searched_untold : (cat : CatalogueView) (w : OfferWish) (now : ℕ) (offers : List Offer) (old new : DeskView)
-    → ShapeBy (OffersFor cat w now (trips_of cat.runs (raised w.trip now)) offers) old new → Searched cat w now old new (refused NoMemory)
+    → ShapeBy (MakesOffers cat w now offers) old new → Searched cat w now old new (refused NoMemory)
 searched_untold cat w now offers old new did = (problem NoMemory, inl (offers, did, inr refl), of_problem cat NoMemory)
 
 pub search_begun : (cat : CatalogueView) (w : OfferWish) (now : ℕ) (old new : DeskView)
-    → ShapeBy (BeginsOffers cat w (trips_of cat.runs (raised w.trip now))) old new → Searched cat w now old new (refused NoMemory)
+    → ShapeBy (BeginsMaking cat w now) old new → Searched cat w now old new (refused NoMemory)
 search_begun cat w now old new did = (problem NoMemory, inr (did, refl), of_problem cat NoMemory)
 
 abbrev pub Listed : CatalogueView → Segment → DeskView → DeskView → Told → Type 0

@@ -5,9 +5,8 @@ use Rattle.place_map.specs.Candidates.{numbers_of}
 use Rattle.offer_codes.specs.declared.code.Segment.{Segment}
 use Rattle.offer_codes.specs.declared.code.Offer.{Offer}
 use Rattle.rail_catalogue.specs.Contents.{CatalogueView}
-use Rattle.trip_builder.specs.Trips.{trips_of}
 use Rattle.offer_engine.specs.declared.wish.OfferWish.{OfferWish}
-use Rattle.offer_engine.specs.Offers.{raised, OffersFor, BeginsOffers}
+use Rattle.offer_engine.specs.Offers.{MakesOffers, BeginsMaking}
 use Rattle.availability.specs.Looks.{LooksAt}
 use Rattle.expiry_sweeper.specs.declared.sweeps.Swept.{Swept}
 use Rattle.expiry_sweeper.specs.AllRows.{Sweeps}
@@ -23,8 +22,8 @@ ToldOr told reply = (reply ≡ told) ⊎ (reply ≡ problem NoMemory)
 -- the offers of the wish from now on, or, without memory for them, the looks of the first
 abbrev pub SearchesOffers : CatalogueView → OfferWish → ℕ → DeskView → DeskView → Reply → Type 0
 SearchesOffers cat wish now old new reply =
-    ((offers : List Offer) × ShapeBy (OffersFor cat wish now (trips_of cat.runs (raised wish.trip now)) offers) old new × ToldOr (offer_list offers) reply)
-    ⊎ (ShapeBy (BeginsOffers cat wish (trips_of cat.runs (raised wish.trip now))) old new × (reply ≡ problem NoMemory))
+    ((offers : List Offer) × ShapeBy (MakesOffers cat wish now offers) old new × ToldOr (offer_list offers) reply)
+    ⊎ (ShapeBy (BeginsMaking cat wish now) old new × (reply ≡ problem NoMemory))
 
 -- the numbers of a run's places, in order
 abbrev pub numbers_on : CatalogueView → ℕ → List PlaceNo

@@ -5,7 +5,7 @@ ghost use Rattle.claim_rule.specs.Out.{IsTidy, IsIdle};
 ghost use Rattle.rail_catalogue.specs.Contents.{legs_in};
 ghost use Rattle.offer_codes.specs.Offers.{is_party};
 ghost use Rattle.osdm_texts.specs.Offers.{IsWritable};
-ghost use Rattle.osdm_texts.specs.Answers.{Reply as Replied, offer_list, reply_told, told_of};
+ghost use Rattle.osdm_texts.specs.Answers.{Reply as Replied, offer_list, reply_told, told_of, Tells};
 ghost use Rattle.search_service.specs.Searching.{SearchesOffers};
 
 use crate::ranges::know_ranges;
@@ -50,7 +50,7 @@ pub fn search_offers(
 // The text that lists the offers, or `None` where there is no memory for it.
 fn offer_answer(shop: &Shop<'_>, offers: &[Offer]) -> Option<Written>
     requires writable { All IsWritable offers.now }
-    ensures told { IfSome result (λ written. told_of (Ok written) ≡ reply_told shop.now.cat.now (offer_list offers.now)) }
+    ensures told { IfSome result (Tells shop.now.cat.now (offer_list offers.now)) }
 {
     write_reply(
         shop.alloc,

@@ -4,7 +4,7 @@ ghost use Rattle.claim_rule.specs.Seats.{IsOf};
 ghost use Rattle.claim_rule.specs.Out.{IsTidy, IsIdle};
 ghost use Rattle.rail_catalogue.specs.Contents.{legs_in};
 ghost use Rattle.osdm_texts.specs.Spots.{run_places};
-ghost use Rattle.osdm_texts.specs.Answers.{Reply as Replied, place_list, reply_told, told_of};
+ghost use Rattle.osdm_texts.specs.Answers.{Reply as Replied, place_list, reply_told, told_of, Tells};
 ghost use Rattle.search_service.specs.Searching.{ListsPlaces};
 
 use crate::place_numbers::numbers_of_run;
@@ -50,7 +50,7 @@ pub fn list_places(shop: &Shop<'_>, desk: &mut Desk, segment: Segment) -> Result
 // The text that lists the places of the run, or `None` where there is no memory for it.
 fn place_answer(shop: &Shop<'_>, run: RunNo, free: &[bool]) -> Option<Written>
     requires one_each { length free.now ≡ length (run_places shop.now.cat.now run.0) }
-    ensures told { IfSome result (λ written. told_of (Ok written) ≡ reply_told shop.now.cat.now (place_list run.0 free.now)) }
+    ensures told { IfSome result (Tells shop.now.cat.now (place_list run.0 free.now)) }
 {
     write_reply(
         shop.alloc,

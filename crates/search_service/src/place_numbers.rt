@@ -15,14 +15,9 @@ pub(crate) fn numbers_of_run(
 ) -> Result<Vec<PlaceNo>, AllocError>
     ensures numbers { IfOk result (λ v. v.items ≡ numbers_of (λ p. p.run.0 == run.0) 0 places.now) }
 {
-    let first = places.candidates(alloc, run, Class::First, 0)?;
-    let second = places.candidates(alloc, run, Class::Second, 0)?;
-    in_turn(
-        alloc,
-        places.of_run(run),
-        first.as_slice(),
-        second.as_slice(),
-    )
+    let first = places.class_places(run, Class::First);
+    let second = places.class_places(run, Class::Second);
+    in_turn(alloc, places.of_run(run), first, second)
 }
 
 // For each of the places the next number of its class.

@@ -2,7 +2,8 @@
 //!
 //! - two connections, each with one reservation, and two members: status 0, and two prebooked rows at different places on the wall;
 //! - how serving ends: with all connections, at a bind or an accept that fails (also where the catalogue is missing, which is told first),
-//!   without a catalogue, and at words that are refused, each with its note;
+//!   without a catalogue or an export, and at words that are refused, each with its note, and behind the export, where it is asked for:
+//!   also of books that open with one, and behind a failed accept, but not behind a failed bind;
 //! - two connections at once: a read of the first stream waits until the second was answered, so that a host of one thread, or one that
 //!   serves under the listener's lock, leaves the second row free;
 //! - two members whose sinks are kept: both connections are done, and their bookings differ;

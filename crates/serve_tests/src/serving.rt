@@ -44,12 +44,30 @@ const SIX: u64 = 1_780_293_600;
 const RESERVES: &str =
     "POST /reservations HTTP/1.1\r\nRetailer-Key: north\r\nContent-Length: 65\r\n\r\n{\"class\":\"SECOND\",\"from\":\"BASEL\",\"run\":0,\"to\":\"BERN\",\"wanted\":[]}";
 
+/// What the books hold after two such requests to one member.
+const EXPORT: &str =
+    "rail-export 1 8 4\nrow 0 0 P 1 1780294500 1100 1 0.0.2\nrow 1 0 P 1 1780294500 1100 1 1.0.2\nend 2\n";
+
+/// The same, where a stream is wanting.
+const EXPORT_AND_FAULT: &str =
+    "rail-export 1 8 4\nrow 0 0 P 1 1780294500 1100 1 0.0.2\nrow 1 0 P 1 1780294500 1100 1 1.0.2\nend 2\nrail_host: read fault\n";
+
+/// After two more, by books that open with that export.
+const LATER: &str =
+    "rail-export 1 8 4\nrow 0 0 P 1 1780294500 1100 1 0.0.2\nrow 1 0 P 1 1780294500 1100 1 1.0.2\nrow 2 0 P 1 1780294500 1100 1 2.0.2\nrow 3 0 P 1 1780294500 1100 1 3.0.2\nend 4\n";
+
 /// How many turns a read waits at most.
 const LIMIT: u32 = 10_000_000;
 
 fn shelf_of(alloc: Global) -> Result<MapShelf, AllocError> {
     let mut shelf = MapShelf::new(alloc, Vec::new(alloc));
-    for (name, text) in [("k1.json", CATALOGUE), ("list.json", "[]")] {
+    for (name, text) in [
+        ("k1.json", CATALOGUE),
+        ("sample.json", sample_shop::CATALOGUE),
+        ("list.json", "[]"),
+        ("two", EXPORT),
+        ("empty", ""),
+    ] {
         let name = String::from_str(alloc, name)?;
         shelf.put(name, text.as_bytes().to_vec(alloc)?)?;
     }
@@ -130,7 +148,7 @@ fn two_connections(rt: HostRuntime) -> Result<(), Fail> {
     Ok(())
 }
 
-/// How serving ends: its words, its calls of bind and accept that fail, its status and its note.
+/// How serving ends: its words, its calls of bind and accept that fail, its status, and what its notes took: the export and the note.
 #[test]
 fn serving_ends(rt: HostRuntime) -> Result<(), Fail> {
     let alloc = rt.alloc();
@@ -186,6 +204,42 @@ fn serving_ends(rt: HostRuntime) -> Result<(), Fail> {
             "rail_host: words refused\n",
         ),
         ("serve", 9, 2, "rail_host: words refused\n"),
+        (
+            "serve k1.json --port 80 --connections 2 --workers 1 --export",
+            9,
+            0,
+            EXPORT,
+        ),
+        (
+            "serve k1.json --port 80 --connections 2 --workers 1 --from two --export",
+            9,
+            0,
+            LATER,
+        ),
+        (
+            "serve k1.json --port 80 --connections 3 --workers 1 --export",
+            9,
+            3,
+            EXPORT_AND_FAULT,
+        ),
+        (
+            "serve k1.json --port 80 --connections 2 --export",
+            1,
+            3,
+            "rail_host: read fault\n",
+        ),
+        (
+            "serve k1.json --port 80 --connections 2 --from none",
+            9,
+            1,
+            "rail_host: export missing\n",
+        ),
+        (
+            "serve k1.json --port 80 --connections 2 --from empty --export",
+            9,
+            1,
+            "rail_host: export fault 1\n",
+        ),
     ] {
         let listener = ListListener::new(alloc, two_streams(alloc)?, vec![in alloc; fails]?);
         let mut notes = VecSink::new(alloc, Vec::new(alloc));
@@ -326,7 +380,7 @@ impl<'a> Listener for GateListener<'a> {
     }
 }
 
-/// The first stream's first read waits until the second stream was answered, so that both are served at once.
+/// The first stream's first read waits until the second stream was answered, so that both are served at once, on the sample catalogue.
 #[test]
 fn two_connections_at_once(rt: HostRuntime) -> Result<(), Fail> {
     let alloc = rt.alloc();
@@ -340,7 +394,7 @@ fn two_connections_at_once(rt: HostRuntime) -> Result<(), Fail> {
         answered: &answered,
     };
     let mut notes = VecSink::new(alloc, Vec::new(alloc));
-    let line = "serve k1.json --port 80 --workers 2 --connections 2";
+    let line = "serve sample.json --port 80 --workers 2 --connections 2";
     let end = serve_line(&rt, alloc, line, listener, &mut notes)?;
     assert_eq!(rt; end.status, 0);
     assert!(rt; has_two_bookings(&end.wall));

@@ -20,6 +20,7 @@ use Rattle.history_model.specs.Words.{row_number, row_word}
 use Rattle.history_model.proofs.Keeping.{found}
 use Rattle.history_model.proofs.ListLemmas.{All-found}
 use Rattle.history_model.proofs.PhaseWords.{row_word_same}
+use Rattle.history_model.proofs.RowWords.{word_there as word_in_row, some_phase as says_phase}
 use Rattle.history_model.proofs.Ranges.{ranges_all}
 use Rattle.history_model.proofs.Writing.{sound_of}
 use Rattle.claim_rule.proofs.Moves.{is_sound}
@@ -38,27 +39,13 @@ sound_on w row b settled at = sound_of w.layout (state_on w) row b (well_formed 
 -- the word that the wall has there
 pub word_there : (w : WallView) (row word n : ℕ) → IsSettled w → row < w.layout.rows → word < row_words
     → slice_get w.words (row_number w.layout row word) ≡ Some n → n ≡ row_word (state_on w) row word
-word_there w row word n settled within some is =
-    sym (get_or_from_slice_get w.words (row_number w.layout row word) n 0 is) ∙ settled.words.each (Row row word) (within, some)
+word_there w row word n settled within some is = word_in_row w.layout (state_on w) w.words row word n settled.words within some is
 
 -- word 0 of a row is that of a phase
 pub some_phase : (w : WallView) (row : ℕ) → IsSettled w → ¬ IsNoRowWord (row_word (state_on w) row 0)
-some_phase w row settled none = go (present (state_on w) row) refl
-  where
-    go : (o : Option Booking) → present (state_on w) row ≡ o → ⊥
-    go None e = none Free 0 (omega arith) (sym (ap (λ (p : Option Booking). option_map_or (λ (b : Booking). row_word_of b.phase b.generation) p 0) e))
-    go (Some b) e =
-        let fits = (sound_on w row b settled e).generation in
-        none b.phase b.generation (omega (arith, fits)) (sym (ap (λ (p : Option Booking). option_map_or (λ (b : Booking). row_word_of b.phase b.generation) p 0) e))
+some_phase w row settled = says_phase w.layout (state_on w) row (well_formed w settled)
 
--- the phase and the generation that it says
-pub said_phase_of : (s : State) (row : ℕ) (phase : Phase) (generation : ℕ) → row_word_of phase generation ≡ row_word s row 0 → phase ≡ phase_of_row s row
-said_phase_of s row phase generation is = go (present s row) is
-  where
-    go : (o : Option Booking) → row_word_of phase generation ≡ option_map_or (λ (b : Booking). row_word_of b.phase b.generation) o 0 → phase ≡ option_map_or (λ (b : Booking). b.phase) o Free
-    go None e = (row_word_same phase Free generation 0 e).0
-    go (Some b) e = (row_word_same phase b.phase generation b.generation e).0
-
+-- the generation that it says
 pub said_generation : (s : State) (row : ℕ) (phase : Phase) (generation : ℕ) → row_word_of phase generation ≡ row_word s row 0
     → generation ≡ generation_at s row
 said_generation s row phase generation is = go (present s row) is

@@ -1,5 +1,4 @@
 ghost use Rattle.std.specs.Prelude.{◌≡◌, ◌≤◌, ◌≤ℤ◌, ◌+◌, pos, negsuc, ◌-ℤ◌, None, Some, IfOk, IfErr, length};
-ghost use Rattle.std.specs.List.{list_any};
 ghost use Rattle.tariff.specs.Refunds.{are_falling, has_large_fee as has_large_fee_of, terms_fault, fee_at, refund_of};
 
 use std::marker::Model;
@@ -29,7 +28,12 @@ impl Model for Terms {
 
     ghost Value = { RefundTerms };
 
-    ghost view = { λ t. record { steps = t.steps.items; ticket_fee = t.ticket_fee; exchange_fee = t.exchange_fee; confirm_seconds = t.confirm_seconds } };
+    ghost view = { λ t. record {
+      steps = t.steps.items;
+      ticket_fee = t.ticket_fee;
+      exchange_fee = t.exchange_fee;
+      confirm_seconds = t.confirm_seconds;
+    } };
 
     ghost invariant = { λ t. AreTerms t.steps.items t.ticket_fee t.exchange_fee t.confirm_seconds };
 }

@@ -14,7 +14,7 @@ ghost use Rattle.exchange_core.specs.Ready.{IsReadyFor};
 ghost use Rattle.exchange_core.specs.Exchanges.{Readies};
 ghost use Rattle.exchange_core.specs.declared.readying.Readied.{Readied as ReadiedBy};
 ghost use Rattle.exchange_core.specs.declared.readying.Readied.TheVariants as readied;
-ghost use Rattle.osdm_texts.specs.Answers.{Reply as Replied, exchange_offer, exchanged, reply_told, told_of};
+ghost use Rattle.osdm_texts.specs.Answers.{Reply as Replied, exchange_offer, exchanged, reply_told, told_of, Tells};
 ghost use Rattle.osdm_texts.specs.Ids.{HasId};
 ghost use Rattle.osdm_texts.specs.Bookings.{HasIds};
 ghost use Rattle.booking_service.specs.Deciding.{Answered};
@@ -38,7 +38,7 @@ use shop::{Asker, Shop};
 // The text that offers an exchange, or `None` where there is no memory for it.
 fn exchange_offer_answer(shop: &Shop<'_>, code: ExchangeCode) -> Option<Written>
     requires range { is_exchange (exchange_view code) ≡ true }
-    ensures told { IfSome result (λ written. told_of (Ok written) ≡ reply_told shop.now.cat.now (exchange_offer code)) }
+    ensures told { IfSome result (Tells shop.now.cat.now (exchange_offer code)) }
 {
     write_reply(
         shop.alloc,
@@ -238,8 +238,7 @@ fn exchanged_answer(
     replaced: RowNo,
 ) -> Option<Written>
     requires ids { HasIds row view × HasId replaced }
-    ensures told { IfSome result (λ written. told_of (Ok written)
-        ≡ reply_told shop.now.cat.now (exchanged row view difference replaced)) }
+    ensures told { IfSome result (Tells shop.now.cat.now (exchanged row view difference replaced)) }
 {
     let reply = Reply::Exchange {
         row,

@@ -7,7 +7,7 @@ ghost use Rattle.history_model.specs.Booking.{greatest_amount};
 ghost use Rattle.booking_rows.specs.declared.turns.Aim.TheVariants as aim;
 ghost use Rattle.booking_rows.specs.Aims.{end_of};
 ghost use Rattle.offer_codes.specs.Refunds.{is_refund};
-ghost use Rattle.osdm_texts.specs.Answers.{refund_offer, reply_told, told_of};
+ghost use Rattle.osdm_texts.specs.Answers.{refund_offer, told_of, Tells};
 ghost use Rattle.booking_service.specs.Deciding.{Answered, OnBooking, at_end};
 ghost use Rattle.trade_service.specs.Refunds.{QuotesIt, RefundsIt, refusal_of};
 
@@ -25,7 +25,7 @@ use shop::{Asker, Shop};
 // The text that offers a refund, or `None` where there is no memory for it.
 fn refund_offer_answer(shop: &Shop<'_>, code: RefundCode) -> Option<Written>
     requires range { is_refund code ≡ true }
-    ensures told { IfSome result (λ written. told_of (Ok written) ≡ reply_told shop.now.cat.now (refund_offer code)) }
+    ensures told { IfSome result (Tells shop.now.cat.now (refund_offer code)) }
 {
     write_reply(
         shop.alloc,

@@ -1,5 +1,5 @@
-ghost use Rattle.std.specs.Prelude.{◌≡◌, ◌<◌, ◌≤◌, ◌+◌, ◌*◌, ◌^◌, [], length, insert, remove, All, OnErr, IfOk, IfErr};
-ghost use Rattle.std.specs.List.{AllPairs, AllWithin};
+ghost use Rattle.std.specs.Prelude.{◌≡◌, ◌<◌, ◌≤◌, ◌+◌, ◌*◌, ◌^◌, [], length, insert, remove, All, OnErr, IfOk};
+ghost use Rattle.std.specs.List.{AllPairs};
 ghost use Rattle.std.specs.List.Sorted.{IsPartitionPoint};
 ghost use Rattle.std.specs.Int.Digits.{digits_of};
 ghost use Rattle.train_runs.specs.Departures.{IsBefore};

@@ -1,5 +1,5 @@
-ghost use Rattle.std.specs.Prelude.{◌≡◌, ◌<◌, ◌≤◌, length, option_map, IfSome};
-ghost use Rattle.train_runs.specs.Stops.{RunView, most_stops, first_unrisen as first_unrisen_of, first_repeated as first_repeated_of, is_unrisen as is_unrisen_of, is_repeated as is_repeated_of, stands_at as stands_at_of, stop_of as stop_number_of};
+ghost use Rattle.std.specs.Prelude.{◌≡◌, ◌<◌, ◌≤◌, length};
+ghost use Rattle.train_runs.specs.Stops.{RunView, most_stops, first_unrisen as first_unrisen_of, first_repeated as first_repeated_of, is_unrisen as is_unrisen_of, is_repeated as is_repeated_of, stop_of as stop_number_of};
 
 use rail_ids::StationNo;
 use rail_time::Moment;

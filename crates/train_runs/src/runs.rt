@@ -1,10 +1,9 @@
-ghost use Rattle.std.specs.Prelude.{◌^◌, ◌≡◌, ◌<◌, ◌≤◌, ◌+◌, ◌-◌, ◌*◌, ◌++◌, [], ◌∷◌, List, ℕ, length, All, IfOk, IfErr, OnErr, OnOk, Ok, Err, Some, None, true, IfSome, option_map, slice_get, string_bytes};
+ghost use Rattle.std.specs.Prelude.{◌^◌, ◌≡◌, ◌<◌, ◌≤◌, ◌+◌, ◌-◌, ◌*◌, ◌++◌, [], ◌∷◌, List, ℕ, length, All, IfOk, IfErr, OnErr, OnOk, Ok, Err, Some, None, true, IfSome, option_map, slice_get};
 ghost use Rattle.std.specs.BTreeMap.{get_by_text};
-ghost use Rattle.train_runs.specs.declared.station.StationFault.TheVariants as station_fault;
 ghost use Rattle.train_runs.specs.declared.run.RunFault.TheVariants as run_fault;
-ghost use Rattle.train_runs.specs.Stations.{with_station, station_with, is_code as is_code_of, most_stations};
+ghost use Rattle.train_runs.specs.Stations.{station_with, is_code as is_code_of, most_stations};
 ghost use Rattle.train_runs.specs.Stops.{IsRun, most_stops};
-ghost use Rattle.train_runs.specs.Runs.{AreSound, most_runs, run_fault as run_fault_of, span_of};
+ghost use Rattle.train_runs.specs.Runs.{AreSound, most_runs, run_fault as run_fault_of, span_of, and_station, IsStationAdded, RefusesStation, code_of};
 ghost use Rattle.train_runs.specs.Departures.{AreDepartures, departure_count};
 ghost use Rattle.train_runs.specs.Boards.{HasBoards, ArePosted};
 ghost use Rattle.std.specs.Int.Digits.{digits_of};
@@ -66,9 +65,9 @@ impl Runs {
     /// Adds a station with its code, and the seconds that a change of trains takes there at least. After a refusal all is
     /// as before.
     pub fn add_station(&mut self, code: &[u8], change: u32) -> Result<StationNo, StationFault>
-        ensures ok { IfOk result (λ n. (n.0 ≡ length self.old.stations) × (with_station self.old.stations code.now change ≡ Ok self.new.stations)) }
+        ensures ok { IfOk result (IsStationAdded self.old code.now change self.new) }
         ensures runs { self.new.runs ≡ self.old.runs }
-        ensures err { IfErr result (λ e. ¬ (e ≡ station_fault.NoMemory) → with_station self.old.stations code.now change ≡ Err e) }
+        ensures err { IfErr result (RefusesStation self.old code.now change) }
         ensures kept { OnErr result (self.new ≡ self.old) }
     {
         if !is_code(code) {
@@ -95,7 +94,7 @@ impl Runs {
         requires code { is_code_of code.now ≡ true }
         requires fresh { station_with code.now self.old.stations ≡ None }
         requires room { length self.old.stations < most_stations }
-        ensures ok { OnOk result (self.new ≡ record self.old { stations = self.old.stations ++ (record { code = code.now; change = change }) ∷ [] }) }
+        ensures ok { OnOk result (self.new ≡ and_station self.old code.now change) }
         ensures kept { OnErr result (self.new ≡ self.old) }
     {
         let alloc = *self.stations.allocator();
@@ -224,7 +223,7 @@ impl Runs {
 
     /// The code of the station with the number.
     pub fn code(&self, station: StationNo) -> Option<&[u8]>
-        ensures value { option_map (λ c. c.now) result ≡ option_map (λ s. s.code) (slice_get self.now.stations station.0) }
+        ensures value { option_map (λ c. c.now) result ≡ code_of self.now station }
     {
         match self.stations.get(station.0 as usize) {
             Some(found) => Some(found.code().as_bytes()),
@@ -234,7 +233,7 @@ impl Runs {
 
     /// The code of the station with the number, as text.
     pub fn code_text(&self, station: StationNo) -> Option<&str>
-        ensures value { option_map (λ c. c.now) result ≡ option_map (λ s. s.code) (slice_get self.now.stations station.0) }
+        ensures value { option_map (λ c. c.now) result ≡ code_of self.now station }
     {
         match self.stations.get(station.0 as usize) {
             Some(found) => Some(found.code()),

@@ -9,7 +9,7 @@ use Rattle.trip_builder.specs.Segments.{all_segments, first_stop, last_stop}
 use Rattle.trip_builder.specs.Order.{last_arrival, stands_before, sorted_in}
 use Rattle.trip_builder.specs.Trips.{arrives, is_trip, sets_out, all_lists, most_trips, trips_of}
 use Rattle.trip_builder.specs.Best.{IsAmong, AllStandBefore, AreInOrder, IsDecided, IsTrip, AreBest}
-use Rattle.trip_builder.specs.Search.{IsWay, Rise, keep, AllArriveBy, Grows, AreDecided, AreDecidedWith}
+use Rattle.trip_builder.specs.Search.{IsWay, Rise, keep, AllArriveBy, AllArriveBefore, Grows, AreDecided, AreDecidedWith}
 use Rattle.trip_builder.proofs.StrictOrder.{three_ways, trips_strict}
 use Rattle.trip_builder.proofs.FirstSixteen.{first_sixteen, among-all, all_put, all_map, all_among, put_in_order, has_put}
 use Rattle.trip_builder.proofs.Members.{among_at, among_filter, filter_among, apart_filter}
@@ -189,6 +189,12 @@ ends_elsewhere r w best way s apart =
     one_last r w best way s (λ trip. (let there = (both_true (sets_out r w (way ++ s ∷ [])) (arrives r w (way ++ s ∷ [])) trip.trip).1 in
     let here : ((last_stop r s).station.0 == w.destination.0) ≡ true = ap (λ (x : Segment). (last_stop r x).station.0 == w.destination.0) (sym (last_is way s)) ∙ there in
     absurd (apart (eqb-true (last_stop r s).station.0 w.destination.0 here))))
+
+pub ends_late : (r : RunsView) (w : TripWish) (best : List (List Segment)) (way : List Segment) (s : Segment) → AllArriveBefore r best (last_stop r s).arrive
+    → AreDecidedWith r w best way 0 s
+ends_late r w best way s late =
+    one_last r w best way s (λ trip. (let at : last_arrival r (way ++ s ∷ []) ≡ (last_stop r s).arrive = ap (λ (x : Segment). (last_stop r x).arrive) (last_is way s) in
+    behind_decided r best late.0 (way ++ s ∷ []) late.2 (omega (arith, late.1, at))))
 
 -- ---- all trips
 

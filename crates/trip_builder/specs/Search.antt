@@ -8,7 +8,7 @@ use Rattle.train_runs.specs.declared.departure.Departure.{Departure}
 use Rattle.train_runs.specs.Stops.{stop_at}
 use Rattle.train_runs.specs.Runs.{RunsView}
 use Rattle.trip_builder.specs.declared.trip.TripWish.{TripWish}
-use Rattle.trip_builder.specs.Segments.{stops_of, first_stop, last_stop, last_of}
+use Rattle.trip_builder.specs.Segments.{stops_of, first_stop, last_stop, last_of, segment}
 use Rattle.trip_builder.specs.Order.{sorted_in, last_arrival}
 use Rattle.trip_builder.specs.Trips.{leaves, change_at, uses_run, sets_out, arrives, most_trips, longest_wait}
 use Rattle.trip_builder.specs.Best.{IsKnown, IsTrip, IsDecided, AreBest}
@@ -27,6 +27,17 @@ abbrev pub leaves_after : RunsView → TripWish → List Segment → Stop → Bo
 leaves_after r w [] stop = leaves w.origin w.earliest w.latest stop
 leaves_after r w (s ∷ rest) stop =
     let off = last_stop r (last_of (s ∷ rest)) in leaves off.station (off.arrive + change_at r off.station) (off.arrive + longest_wait) stop
+
+-- the first and the last moment of a train that is reached from the last of the segments
+abbrev pub first_after : RunsView → List Segment → ℕ
+first_after r segments = let off = last_stop r (last_of segments) in off.arrive + change_at r off.station
+
+abbrev pub last_after : RunsView → List Segment → ℕ
+last_after r segments = (last_stop r (last_of segments)).arrive + longest_wait
+
+-- what goes on from the way leaves the station from the one moment to the other
+abbrev pub IsWindowOf : RunsView → TripWish → List Segment → StationNo → ℕ → ℕ → Type 0
+IsWindowOf r w way station from to = (stop : Stop) → leaves station from to stop ≡ leaves_after r w way stop
 
 -- one of the segments has the run
 abbrev pub has_run : List Segment → ℕ → Bool
@@ -73,6 +84,10 @@ keep r w best trip = if arrives r w trip then take most_trips (sorted_in r best 
 abbrev pub AllArriveBy : RunsView → List (List Segment) → ℕ → Type 0
 AllArriveBy r best moment = (length best ≡ most_trips) × AllByRecursion (λ t. last_arrival r t ≤ moment) best
 
+-- likewise what arrives at this moment: they all arrive earlier
+abbrev pub AllArriveBefore : RunsView → List (List Segment) → ℕ → Type 0
+AllArriveBefore r best moment = (earlier : ℕ) × (earlier < moment) × AllArriveBy r best earlier
+
 -- the best trips after some more were tried
 pub record Grows (r : RunsView) (w : TripWish) (old new : List (List Segment)) : Type 0 where
   pub best : AreBest r w new
@@ -81,6 +96,10 @@ pub record Grows (r : RunsView) (w : TripWish) (old new : List (List Segment)) :
 -- all trips that go on from the way with this segment and so many more are decided
 abbrev pub AreDecidedWith : RunsView → TripWish → List (List Segment) → List Segment → ℕ → Segment → Type 0
 AreDecidedWith r w best way more s = (rest : List Segment) → length rest ≡ more → IsTrip r w (way ++ s ∷ rest) → IsDecided r best (way ++ s ∷ rest)
+
+-- likewise with any segment of the run from this stop
+abbrev pub AreDecidedFrom : RunsView → TripWish → List (List Segment) → List Segment → ℕ → Departure → Type 0
+AreDecidedFrom r w best way more d = (to : ℕ) → AreDecidedWith r w best way more (segment d.run.0 d.stop to)
 
 -- likewise with any segment
 abbrev pub AreDecided : RunsView → TripWish → List (List Segment) → List Segment → ℕ → Type 0

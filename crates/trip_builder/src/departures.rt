@@ -1,9 +1,8 @@
 ghost use Rattle.std.specs.Prelude.{◌≡◌, ◌<◌, ◌≤◌, ◌+◌, ◌^◌, length};
-ghost use Rattle.train_runs.specs.declared.run.Stop.{Stop as StopView};
 ghost use Rattle.train_runs.specs.Stops.{most_stops, stop_at, no_stop as nowhere};
 ghost use Rattle.trip_builder.specs.Segments.{stops_of as stops_of_run, first_stop, last_stop, last_of, first_of};
-ghost use Rattle.trip_builder.specs.Trips.{leaves, change_at, longest_wait};
-ghost use Rattle.trip_builder.specs.Search.{AreLeaving, Rise, leaves_after};
+ghost use Rattle.trip_builder.specs.Trips.{leaves};
+ghost use Rattle.trip_builder.specs.Search.{AreLeaving, Rise, IsWindowOf, first_after, last_after};
 
 use crate::trip::TripWish;
 use offer_codes::Segment;
@@ -27,7 +26,7 @@ pub(crate) struct Window {
 
 /// The window of the segments that go on from the way.
 pub(crate) fn window_of(runs: &Runs, wish: &TripWish, way: &[Segment]) -> Window
-    ensures window { (stop : StopView) → leaves result.station result.from result.to stop ≡ leaves_after runs.now wish.now way.now stop }
+    ensures window { IsWindowOf runs.now wish.now way.now result.station result.from result.to }
     ensures end { result.to < 2 ^ 63 }
 {
     if way.is_empty() {
@@ -44,8 +43,8 @@ pub(crate) fn window_of(runs: &Runs, wish: &TripWish, way: &[Segment]) -> Window
 pub(crate) fn window_after(runs: &Runs, segments: &[Segment]) -> Window
     requires some { 1 ≤ length segments.now }
     ensures station { result.station ≡ (last_stop runs.now (last_of segments.now)).station }
-    ensures from { let off = last_stop runs.now (last_of segments.now) in result.from ≡ off.arrive + change_at runs.now off.station }
-    ensures to { let off = last_stop runs.now (last_of segments.now) in result.to ≡ off.arrive + longest_wait }
+    ensures from { result.from ≡ first_after runs.now segments.now }
+    ensures to { result.to ≡ last_after runs.now segments.now }
     ensures end { result.to < 2 ^ 63 }
 {
     let off = last_stop_of(runs, segments);

@@ -1,6 +1,6 @@
 ghost use Rattle.std.specs.Prelude.{◌≡◌, ◌≤◌, true, false, length};
 ghost use Rattle.std.specs.List.{insert};
-ghost use Rattle.trip_builder.specs.Order.{last_arrival, first_departure, is_same as is_same_of, is_lower as is_lower_of, are_lower as are_lower_of, stands_before as stands_before_of, sorted_in};
+ghost use Rattle.trip_builder.specs.Order.{is_same as is_same_of, is_lower as is_lower_of, are_lower as are_lower_of, stands_before as stands_before_of, sorted_in};
 
 use crate::departures::{first_stop_of, last_stop_of};
 use crate::trip::Trip;

@@ -1,9 +1,9 @@
 ghost use Rattle.train_runs.specs.Stops.{most_stops};
-ghost use Rattle.std.specs.Prelude.{◌≡◌, ◌≤◌, ◌<◌, ◌+◌, ◌++◌, ◌∷◌, [], ℕ, true, false, length, IfOk, OnOk};
+ghost use Rattle.std.specs.Prelude.{◌≡◌, ◌≢◌, ◌≤◌, ◌<◌, ◌⊎◌, ◌+◌, ◌++◌, ◌∷◌, [], true, false, length, IfOk, OnOk};
 ghost use Rattle.trip_builder.specs.Segments.{segment};
 ghost use Rattle.trip_builder.specs.Trips.{trips_of};
 ghost use Rattle.trip_builder.specs.Best.{AreBest, AreInOrder, IsAmong, IsTrip, IsDecided};
-ghost use Rattle.trip_builder.specs.Search.{IsWay, MayTake, Rise, Grows, AreDecided, AreDecidedWith, AllArriveBy, keep as keep_of};
+ghost use Rattle.trip_builder.specs.Search.{IsWay, MayTake, Rise, Grows, AreDecided, AreDecidedFrom, AllArriveBy, AllArriveBefore, keep as keep_of};
 
 use crate::chain::has_run;
 use crate::departures::{last_stop_of, leaving, stops_of, window_of};
@@ -13,7 +13,7 @@ use arrayvec::ArrayVec;
 use leg_masks::Span;
 use offer_codes::Segment;
 use std::alloc::{AllocError, Global};
-use train_runs::{Departure, Runs};
+use train_runs::{Departure, Runs, Stop};
 
 /// How many trips are answered at most.
 const MOST_TRIPS: usize = 16;
@@ -81,7 +81,7 @@ fn ride(
     requires rise { Rise runs.now }
     requires taken { MayTake runs.now wish.now way.now departure.now }
     ensures grows { OnOk result (Grows runs.now wish.now best.old.items best.new.items) }
-    ensures decided { OnOk result ((to : ℕ) → AreDecidedWith runs.now wish.now best.new.items way.now changes (segment departure.now.run.0 departure.now.stop to)) }
+    ensures decided { OnOk result (AreDecidedFrom runs.now wish.now best.new.items way.now changes departure.now) }
 {
     if changes == 0 {
         return get_off(runs, wish, way, departure, best);
@@ -110,15 +110,35 @@ fn get_off(
     requires best { AreBest runs.now wish.now best.old.items }
     requires taken { MayTake runs.now wish.now way.now departure.now }
     ensures grows { OnOk result (Grows runs.now wish.now best.old.items best.new.items) }
-    ensures decided { OnOk result ((to : ℕ) → AreDecidedWith runs.now wish.now best.new.items way.now 0 (segment departure.now.run.0 departure.now.stop to)) }
+    ensures decided { OnOk result (AreDecidedFrom runs.now wish.now best.new.items way.now 0 departure.now) }
 {
     let stops = stops_of(runs, departure.run);
     for to in departure.stop + 1..stops.len() as u8 {
-        if stops[usize::from(to)].station.0 == wish.destination.0 {
+        if is_worth_it(runs, wish, best.as_slice(), &stops[usize::from(to)]) {
             keep(runs, wish, longer(way, departure, to).as_slice(), best)?;
         }
     }
     Ok(())
+}
+
+// Whether the stop is at the destination, and is reached early enough to come among the best.
+fn is_worth_it(runs: &Runs, wish: &TripWish, best: &[Trip], stop: &Stop) -> bool
+    requires order { AreInOrder runs.now best.now }
+    ensures { result ≡ false → (stop.now.station.0 ≢ wish.now.destination.0)
+        ⊎ AllArriveBefore runs.now best.now stop.now.arrive }
+{
+    if stop.station.0 != wish.destination.0 {
+        return false;
+    }
+    !is_late(runs, best, stop.arrive.seconds())
+}
+
+// Whether what arrives at these seconds doesn't come among the best.
+fn is_late(runs: &Runs, best: &[Trip], seconds: u64) -> bool
+    requires order { AreInOrder runs.now best.now }
+    ensures { result ≡ true → AllArriveBefore runs.now best.now seconds }
+{
+    0 < seconds && is_behind(runs, best, seconds - 1)
 }
 
 // Puts the way into its place among the best, where it ends at the destination and isn't there yet.

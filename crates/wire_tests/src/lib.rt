@@ -7,7 +7,7 @@
 //!   at their limits and one past them, in pieces of every size; that a read asks for no more than what tells (a clause says so of
 //!   the bytes held, none of how they come); the bytes of heads.
 //! - `sessions`: that the definition of a session is what was meant: its answers at each end, with a read or a write that fails, in pieces, and
-//!   what is left unread behind a last request.
+//!   what is left unread behind a last request; that a sink is given head and body by one call.
 #![tactic(auto)]
 
 #[cfg(test)]

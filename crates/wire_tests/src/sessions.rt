@@ -1,7 +1,7 @@
 // Sessions of a responder that answers each request with its path.
 use arrayvec::ArrayVec;
 use http_wire::{Answer, Body, Intake, Request, WireFault, append, write_head};
-use rail_io::{BytesSource, VecSink};
+use rail_io::{BytesSource, Pushed, PushedBoth, Sink, VecSink};
 use session_loop::{ConnEnd, Responder, run_session};
 use slow_streams::SlowSource;
 use std::test::Fail;
@@ -36,6 +36,42 @@ impl Responder for Echo {
         Answer {
             head,
             body: Body::Small(ArrayVec::new()),
+        }
+    }
+}
+
+/// Takes two pieces by one call, and counts the calls with one piece.
+#[derive(Drop)]
+struct JoiningSink {
+    bytes: Vec<u8>,
+    alone: u32,
+    faults: u64,
+}
+
+impl Sink for JoiningSink {
+    ghost use Rattle.std.specs.Prelude.{None};
+
+    ghost told = { λ _. None };
+
+    ghost faults = { λ s. s.faults };
+
+    fn write(&mut self, piece: &[u8]) -> Pushed {
+        self.alone = self.alone.saturating_add(1);
+        if self.bytes.extend_from_slice(piece).is_ok() {
+            return Pushed::Took(piece.len());
+        }
+        self.faults = self.faults.saturating_add(1);
+        Pushed::Failed
+    }
+
+    fn write_both(&mut self, first: &[u8], second: &[u8]) -> PushedBoth {
+        if self.bytes.extend_from_slice(first).is_err() {
+            self.faults = self.faults.saturating_add(1);
+            return PushedBoth::Failed(0);
+        }
+        match self.bytes.extend_from_slice(second) {
+            Ok(()) => PushedBoth::Took(first.len() + second.len()),
+            Err(_) => PushedBoth::Took(first.len()),
         }
     }
 }
@@ -154,5 +190,23 @@ fn sessions_in_pieces(rt: HostRuntime) -> Result<(), Fail> {
             }
         }
     }
+    Ok(())
+}
+
+#[test]
+fn head_and_body_are_given_together(rt: HostRuntime) -> Result<(), Fail> {
+    let alloc = rt.alloc();
+    let mut intake = Intake::start(alloc)?;
+    let mut source = SlowSource::new(TWO.as_bytes(), 1_000, 0);
+    let mut sink = JoiningSink {
+        bytes: Vec::new(alloc),
+        alone: 0,
+        faults: 0,
+    };
+    let mut echo = Echo { answered: 0 };
+    let end = run_session(&mut intake, &mut source, &mut sink, &mut echo);
+    assert_eq!(rt; end, ConnEnd::Done);
+    assert_eq!(rt; sink.bytes.as_slice(), LAST.as_bytes());
+    assert_eq!(rt; sink.alone, 0);
     Ok(())
 }

@@ -1,5 +1,5 @@
 // A crew at work.
-ghost use Rattle.std.specs.Prelude.{◌≡◌, ◌<◌, ℕ, length, slice_index_or, All};
+ghost use Rattle.std.specs.Prelude.{◌<◌, All};
 ghost use Rattle.claim_rule.specs.Seats.{IsOf};
 ghost use Rattle.claim_rule.specs.Out.{IsTidy};
 ghost use Rattle.worker_pool.specs.Turns.{KeepsDesk, RunsToEnd, EachMember};
@@ -73,7 +73,8 @@ pub fn run_workers<R: Threads + Wait + Sync, W: Worker + Send, G: Gate + Sync>(
             ensures own { IsOf books.entry.now member.new.desk }
             ensures tidy { IsTidy member.new.desk }
             ensures keeps { KeepsDesk member.old.desk member.new.desk }
-            ensures turns { RunsToEnd W.does W.ended member.old.worker member.old.desk member.new.worker member.new.desk }
+            ensures turns { RunsToEnd W.does W.ended member.old.worker member.old.desk
+                member.new.worker member.new.desk }
         {
             let number = u32::try_from(number).unwrap_or(u32::MAX);
             run_member(rt, books, member, gate, number);

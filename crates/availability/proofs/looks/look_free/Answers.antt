@@ -1,7 +1,7 @@
 use Rattle.std.proofs.Common.{◌≡◌, List, [], ◌∷◌, get_or, ap, ◌∙◌, sym}
 use Rattle.leg_masks.specs.Interval.{Interval, pieces}
 use Rattle.claim_rule.proofs.Out.{holds_then, endings_then}
-use Rattle.availability.proofs.Pieces.{first_is, none_left, second_of}
+use Rattle.leg_masks.proofs.InPieces.{first_is, none_left, second_of}
 use Rattle.availability.proofs.Looking.{one_looked, two_looked}
 use Rattle.availability.proofs.looks.look_free.Goals as goal
 

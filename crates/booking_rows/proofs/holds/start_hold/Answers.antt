@@ -1,4 +1,5 @@
-use Rattle.std.proofs.Common.{◌≡◌, ◌≤◌, ◌-◌, ◌*◌, Some, None, sym, ap, ◌∙◌, subst, option_map}
+use Rattle.std.proofs.Common.{◌≡◌, ◌≤◌, ◌-◌, ◌*◌, ℕ, Option, Some, None, sym, ap, ◌∙◌, subst, option_map, arith}
+use Rattle.rail_ids.specs.declared.RowNo.{RowNo}
 use Rattle.history_model.specs.Booking.{Layout}
 use Rattle.claim_rule.specs.Rule.{DeskView}
 use Rattle.claim_rule.specs.Seats.{AddsAtMost}
@@ -7,7 +8,7 @@ use Rattle.claim_rule.specs.Calls.{ShapeBy}
 use Rattle.claim_rule.specs.Out.{HoldsNone, KeepsEndings}
 use Rattle.claim_rule.proofs.Out.{endings_same, endings_then}
 use Rattle.booking_rows.specs.Starts.{StartsHold}
-use Rattle.booking_rows.proofs.StartLemmas.{kept_entries, found_entries, again_entries, found_bound, again_bound, within_rows, within_both, endings_beside}
+use Rattle.booking_rows.proofs.StartLemmas.{kept_entries, found_entries, again_entries, learns_full, found_bound, again_bound, within_rows, within_both, endings_beside}
 use Rattle.booking_rows.proofs.holds.start_hold.Goals as goal
 
 -- the desk as it was, where it keeps no row
@@ -30,6 +31,10 @@ returns-in-Some-clause-own c = c.kept.ensures.own c.args.books.now c.requires.ow
 
 pub returns-in-Some-clause-endings : goal.returns-in-Some-clause-endings
 returns-in-Some-clause-endings c = let old = c.args.desk.now in subst (KeepsEndings old) (sym c.kept.ensures.kept) (endings_beside old old None old.past (endings_same old))
+
+pub returns-in-Some-clause-learns : goal.returns-in-Some-clause-learns
+returns-in-Some-clause-learns c = λ none _.
+    let no : ◌≡◌ {A = Option RowNo} None (Some c.in-Some.hold.row) = sym none ∙ c.in-Some.ensures.some.0 in cc
 
 -- on a free row
 
@@ -66,7 +71,21 @@ returns-in-Some-start_free-clause-bound c =
     (subst (λ (d : DeskView). AddsAtMost (s.new.desk.past - d.past) d s.new.desk) same (found_bound c.kept.new.self s.new.desk (Some c.in-Some-start_free.hold) c.in-Some-start_free.ensures.found))
     (subst (λ (l : Layout). s.new.desk.past ≤ l.rows) s.ensures.own.layout s.ensures.own.within)
 
+pub returns-in-Some-start_free-clause-learns : goal.returns-in-Some-start_free-clause-learns
+returns-in-Some-start_free-clause-learns c = λ _ later. absurd (first c.in-Some-start_free.hold.row.generation c.in-Some-start_free.ensures.found.2 later)
+  where
+    first : (n : ℕ) → n ≡ 0 → 1 ≤ n → ⊥
+    first n e l = omega (arith, e, l)
+
 -- on a row whose booking has ended, or none
+
+pub returns-clause-learns : goal.returns-clause-learns
+returns-clause-learns c =
+    let s = c.start_free in
+    let t = c.start_again in
+    let same = same_desk c.args.desk.now c.kept.new.self c.kept.ensures.kept c.in_default.ensures.none in
+    let back : c.args.books.now.layout ≡ c.kept.new.self.layout = sym c.requires.own.layout ∙ sym (ap (λ (d : DeskView). d.layout) same) in
+    learns_full c.kept.new.self s.new.desk t.new.desk t.result (s.ensures.own.layout ∙ back) (t.ensures.own.layout ∙ back) c.in_default-start_free.ensures.found t.ensures.found c.args.desk.now
 
 pub returns-clause-endings : goal.returns-clause-endings
 returns-clause-endings c =

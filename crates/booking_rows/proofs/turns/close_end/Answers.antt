@@ -6,6 +6,7 @@ use Rattle.history_model.specs.History.{state_of}
 use Rattle.claim_rule.specs.Rule.{DeskView}
 use Rattle.claim_rule.specs.Seats.{Stepped}
 use Rattle.claim_rule.specs.Endings.{EndingView, end_word}
+use Rattle.booking_rows.proofs.Ended.{has_ended}
 use Rattle.booking_rows.proofs.CloseLemmas.{may_close, closing, closed_all, closing_holds}
 use Rattle.booking_rows.proofs.turns.close_end.Goals as goal
 
@@ -54,6 +55,9 @@ returns-clause-none c =
     (as_first c.step_end.new.desk c.step_end-2.new.desk e c.step_end.new.ending 6 c.end_word-amount.result s1 c.end_word-amount.ensures c.step_end-2.ensures.noted)
     (as_first c.step_end-2.new.desk d e c.step_end-2.new.ending 7 c.end_word-moment.result s2 c.end_word-moment.ensures c.step_end-3.ensures.noted)
     (subst (λ (v : EndingView). Stepped (Close v.row.row) d c.step_close.new.desk) s3 c.step_close.ensures.closed)
+
+pub returns-clause-ended : goal.returns-clause-ended
+returns-clause-ended c = has_ended c.args.desk.now c.step_close.new.desk _ c.args.ending c.requires.ending (returns-clause-entries c) (returns-clause-none c)
 
 pub returns-clause-holds : goal.returns-clause-holds
 returns-clause-holds c =

@@ -1,9 +1,11 @@
-use Rattle.std.proofs.Common.{◌∷◌, [], refl, sym, ◌∙◌}
+use Rattle.std.proofs.Common.{◌∷◌, [], refl, sym, ap, ◌∙◌}
 use Rattle.claim_rule.specs.declared.ending.StepTurned.TheVariants as answer
 use Rattle.claim_rule.proofs.Out.{holds_then}
 use Rattle.claim_rule.proofs.Shapes.{step_shape}
 use Rattle.booking_rows.specs.Aims.{aimed, end_of, turn_of}
-use Rattle.claim_rule.specs.Endings.{items_read}
+use Rattle.history_model.specs.declared.phase.Phase.TheVariants as phase
+use Rattle.claim_rule.specs.Endings.{EndingView, items_read}
+use Rattle.booking_rows.proofs.Ended.{ending_present}
 use Rattle.booking_rows.proofs.TurnLemmas.{turn_in_range, turned_as, turn_holds, turn_endings, lost_entries, lost_holds, lost_endings, turned_ending, ending_shape, items_bound, amount_fits}
 use Rattle.booking_rows.proofs.turns.turn.Goals as goal
 
@@ -30,6 +32,12 @@ returns-in-Won-clause-entries c =
     let new = c.step_turn.new.desk in
     let t = turned_as a.row a.from c.phase.result c.moment-moment.result _ c.successor-successor.result a.to a.desk.now new answer.Won c.phase.ensures.phase c.moment-moment.ensures.moment (amount_fits a.books.now a.desk.now a.row a.from a.to c.amount-amount.result c.requires.own c.requires.turn c.amount-amount.ensures.amount) c.successor-successor.ensures.successor c.in-Won.ensures.turned in
     (turn_of a.row.row a.from a.to ∷ [], refl, step_shape (turn_of a.row.row a.from a.to) a.desk.now new t.0.0)
+
+pub returns-in-Won-clause-turned : goal.returns-in-Won-clause-turned
+returns-in-Won-clause-turned c =
+    let a = c.args in
+    let t = turned_as a.row a.from c.phase.result c.moment-moment.result _ c.successor-successor.result a.to a.desk.now c.step_turn.new.desk answer.Won c.phase.ensures.phase c.moment-moment.ensures.moment (amount_fits a.books.now a.desk.now a.row a.from a.to c.amount-amount.result c.requires.own c.requires.turn c.amount-amount.ensures.amount) c.successor-successor.ensures.successor c.in-Won.ensures.turned in
+    t.0.1
 
 pub returns-in-Won-clause-leaves : goal.returns-in-Won-clause-leaves
 returns-in-Won-clause-leaves c =
@@ -67,6 +75,14 @@ returns-in-Ending-clause-entries c =
     let e = c.in-Ending.ending in
     let t = turned_as a.row a.from c.phase.result c.moment-moment.result _ c.successor-successor.result a.to a.desk.now mid (answer.Ending e) c.phase.ensures.phase c.moment-moment.ensures.moment (amount_fits a.books.now a.desk.now a.row a.from a.to c.amount-amount.result c.requires.own c.requires.turn c.amount-amount.ensures.amount) c.successor-successor.ensures.successor c.in-Ending.ensures.turned in
     (turn_of a.row.row a.from a.to ∷ items_read a.row.row w.result.items, refl, ending_shape a.row a.from a.to e w.result a.desk.now mid w.new.desk t w.ensures.entries)
+
+pub returns-in-Ending-clause-turned : goal.returns-in-Ending-clause-turned
+returns-in-Ending-clause-turned c =
+    let a = c.args in
+    let w = c.with_items in
+    let e = c.in-Ending.ending in
+    let t = turned_as a.row a.from c.phase.result c.moment-moment.result _ c.successor-successor.result a.to a.desk.now c.step_turn.new.desk (answer.Ending e) c.phase.ensures.phase c.moment-moment.ensures.moment (amount_fits a.books.now a.desk.now a.row a.from a.to c.amount-amount.result c.requires.own c.requires.turn c.amount-amount.ensures.amount) c.successor-successor.ensures.successor c.in-Ending.ensures.turned in
+    ending_present w.new.desk a.row (aimed a.to) w.result (ap (λ (y : EndingView). y.row) w.ensures.read ∙ ap (λ (y : EndingView). y.row) t.3) (t.2 ∙ sym (ap (λ (y : EndingView). phase.Ending y.kind) w.ensures.read)) w.ensures.ending.of
 
 pub returns-in-Ending-clause-holds : goal.returns-in-Ending-clause-holds
 returns-in-Ending-clause-holds c =

@@ -61,6 +61,7 @@ returns-in_default-shown c =
     record {
       own = f.ensures.own;
       entries = wrong;
+      confirmed = tt;
       holds = f.ensures.holds;
       endings = f.ensures.endings;
       bound = by_length (Confirms c.args.books.now.layout.rows c.args.row c.args.retailer.0 c.args.now answer) 6 c.args.desk.now f.new.desk (confirms_length c.args.books.now.layout.rows c.args.row c.args.retailer.0 c.args.now answer) wrong;
@@ -73,6 +74,7 @@ returns-in_default c =
     record {
       own = f.ensures.own;
       entries = none;
+      confirmed = tt;
       holds = f.ensures.holds;
       endings = f.ensures.endings;
       bound = by_length (Confirms c.args.books.now.layout.rows c.args.row c.args.retailer.0 c.args.now confirmed.Unknown) 6 c.args.desk.now f.new.desk (confirms_length c.args.books.now.layout.rows c.args.row c.args.retailer.0 c.args.now confirmed.Unknown) none;
@@ -90,6 +92,7 @@ returns-then-seconds c =
     record {
       own = f.ensures.own;
       entries = late;
+      confirmed = tt;
       holds = f.ensures.holds;
       endings = f.ensures.endings;
       bound = by_length (Confirms c.args.books.now.layout.rows c.args.row c.args.retailer.0 c.args.now answer) 6 c.args.desk.now f.new.desk (confirms_length c.args.books.now.layout.rows c.args.row c.args.retailer.0 c.args.now answer) late;

@@ -48,6 +48,7 @@ returns-in_default c =
     record {
       own = f.ensures.own;
       entries = none;
+      fulfilled = tt;
       holds = f.ensures.holds;
       endings = f.ensures.endings;
       bound = by_length (Fulfils c.args.books.now.layout.rows c.args.row c.args.retailer.0 fulfilled.Unknown) 6 c.args.desk.now f.new.desk (fulfils_length c.args.books.now.layout.rows c.args.row c.args.retailer.0 fulfilled.Unknown) none;
@@ -61,6 +62,7 @@ returns-in_default-shown c =
     record {
       own = f.ensures.own;
       entries = wrong;
+      fulfilled = tt;
       holds = f.ensures.holds;
       endings = f.ensures.endings;
       bound = by_length (Fulfils c.args.books.now.layout.rows c.args.row c.args.retailer.0 answer) 6 c.args.desk.now f.new.desk (fulfils_length c.args.books.now.layout.rows c.args.row c.args.retailer.0 answer) wrong;

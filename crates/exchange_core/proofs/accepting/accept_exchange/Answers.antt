@@ -1,7 +1,9 @@
 use Rattle.std.proofs.Common.{rules, ◌≡◌, ◌<◌, ◌≤◌, ℤ, refl, sym, ap, ◌∙◌, subst, to_z, of_z, w64}
 use Rattle.history_model.specs.declared.booking.End.{End}
 use Rattle.history_model.specs.declared.phase.Phase.TheVariants.{Ending as IsEndingPhase}
+use Rattle.history_model.specs.declared.phase.EndKind.{EndKind}
 use Rattle.history_model.specs.declared.phase.EndKind.TheVariants.{Exchange as IsExchange}
+use Rattle.booking_rows.specs.Ends.{IsEndedAs}
 use Rattle.history_model.specs.Booking.{successor_rows, successor_word}
 use Rattle.rail_ids.specs.declared.RowNo.{RowNo}
 use Rattle.rail_ids.specs.Spelling.{last_generation}
@@ -14,7 +16,7 @@ use Rattle.row_decisions.proofs.Finishing.{few_items}
 use Rattle.exchange_core.specs.Ready.{ReadyView, IsReadyFor}
 use Rattle.exchange_core.specs.Accepting.{AcceptsExchange, IsExchanged, exchange_end, exchange_steps}
 use Rattle.exchange_core.specs.declared.accepting.Exchanged.TheVariants as exchanged
-use Rattle.exchange_core.proofs.Ending.{may_seal, exchanged as ends_exchanged}
+use Rattle.exchange_core.proofs.Ending.{may_seal}
 use Rattle.exchange_core.proofs.Exchanging.{may_turn, kind_is, end_is, carried, settled_done, settled_lost, exchange_bound}
 use Rattle.exchange_core.proofs.accepting.accept_exchange.Goals as goal
 
@@ -79,8 +81,7 @@ returns-in-Ending-clause-ended c =
     let row : e.row ≡ r.code.row = ap (λ (y : EndingView). y.row) l.1 in
     let end : e.end ≡ exchange_end r c.args.hold.row = ap (λ (y : EndingView). y.end) l.1 ∙ end_is r (to_z w64 (of_z w64 i.code.difference)) c.row.result c.args.hold.row amount c.row.ensures in
     subst (λ (y : ReadyView). IsExchanged c.finish_end.new.desk y.code.row (exchange_end y c.args.hold.row)) c.ready.view_is
-    (subst (λ (y : RowNo × End). IsExchanged c.finish_end.new.desk y.0 y.1) (λ j. (row j, end j))
-    (ends_exchanged c.turn.new.desk c.seal-new.new.desk c.finish_end.new.desk _ _ c.in-Ending.ending (kind_is c.in-Ending.ending.kind l.0) l.2 c.seal-new.ensures.entries c.finish_end.ensures.entries c.finish_end.ensures.none))
+    (subst (λ (y : RowNo × EndKind × End). IsEndedAs c.finish_end.new.desk y.0 y.1 y.2) (λ j. (row j, kind_is c.in-Ending.ending.kind l.0 j, end j)) c.finish_end.ensures.ended)
 
 pub returns-in-Ending-clause-holds_none : goal.returns-in-Ending-clause-holds_none
 returns-in-Ending-clause-holds_none c = c.finish_end.ensures.holds.none c.seal-new.ensures.none

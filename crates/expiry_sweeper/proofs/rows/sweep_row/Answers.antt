@@ -130,7 +130,7 @@ returns-in-None c =
     record {
       own = c.end_row.ensures.own;
       entries = expires c.args.now c.args.row s c.args.desk.now e.new.desk c.end_row.new.desk (λ q. c.in_default-last.not-Free (sym z.1 ∙ q))
-          (late c.args.now l.result c.seconds.result c.seconds.ensures.value c.if-seconds-limit.false) seen (c.in-None.ensures.entries Expire refl);
+          (late c.args.now l.result c.seconds.result c.seconds.ensures.value c.if-seconds-limit.false) seen (c.in-None.ensures.entries Expire refl) (c.in-None.ensures.ended Expire refl);
       none = c.end_row.ensures.none;
       holds = holds_then c.args.desk.now e.new.desk c.end_row.new.desk (three_holds c.args.desk.now w.new.desk l.new.desk e.new.desk (read_holds c.args.row 0 w.result c.args.desk.now w.new.desk w.ensures.look) l.ensures.holds e.ensures.holds) c.end_row.ensures.holds;
     }

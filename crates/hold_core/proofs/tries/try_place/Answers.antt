@@ -1,7 +1,8 @@
 use Rattle.std.proofs.Common.{List, get_or, ap, ◌∙◌, sym}
 use Rattle.leg_masks.specs.Interval.{Interval}
 use Rattle.claim_rule.proofs.Out.{endings_then}
-use Rattle.hold_core.proofs.Blocks.{first_is, none_left, one_part, second_of, two_parts}
+use Rattle.leg_masks.proofs.InPieces.{first_is, none_left, second_of}
+use Rattle.hold_core.proofs.Blocks.{one_part, two_parts}
 use Rattle.hold_core.proofs.tries.try_place.Goals as goal
 
 pub returns-then-len-eq1-clause-tried : goal.returns-then-len-eq1-clause-tried

@@ -3,8 +3,8 @@ use Rattle.rail_io.specs.Faults.{Rose}
 use Rattle.host_notes.proofs.Written.{noted, writes_two}
 use Rattle.host_notes.proofs.noting.note_parts.Goals as goal
 
-pub returns : goal.returns
-returns g c =
+pub returns-clause-noted : goal.returns-clause-noted
+returns-clause-noted g c =
     let front = c.args.text.front.now in
     let rest = c.args.text.path.now ++ c.args.text.end.now in
     let end = c.write_both-whole.result in

@@ -32,6 +32,7 @@ returns g c =
       run = record {
         crew = crew;
         count = count;
+        are = is;
         turns = since (λ m n. RunsToEnd g.W.Worker.does g.W.Worker.ended m.worker m.desk n.worker n.desk) was old crew same ran.turns;
         keeps = since (λ m n. KeepsDesk m.desk n.desk) was old crew same ran.keeps;
         met = subst (λ (l : List (Member g.row.W.Denot)). HasMetAll books l 1 c.meet_others.new.first) written c.meet_others.ensures.first;

@@ -10,10 +10,10 @@ loop-number-preserved g c =
     let books = c.args.books.now in
     let inv = c.loop-number.invariant in
     let crew = c.loop-number.crew.items in
-    let items = c.in_ok-push.ensures.items in
+    let items = c.push_reserved.ensures.items in
     let part = c.part.ensures in
     let n = length crew in
-    let many : length c.push.new.self.items ≡ n + 1 = ap length items ∙ length-append crew _ in
+    let many : length c.push_reserved.new.self.items ≡ n + 1 = ap length items ∙ length-append crew _ in
     let whole : c.loop-number.clocks.items ≡ c.pop.new.self.items ++ c.unwrap.result ∷ [] = search rules in
     let popped : length c.loop-number.clocks.items ≡ length c.pop.new.self.items + 1 = ap length whole ∙ length-append c.pop.new.self.items _ in
     record {
@@ -31,6 +31,8 @@ loop-number-preserved g c =
           }));
       count = omega (arith, many, inv.count);
       clocks = omega (arith, inv.clocks, popped, c.loop-number-test.true);
+      len = omega (arith, c.push_reserved.ensures.len, inv.len);
+      room = omega (arith, c.push_reserved.ensures.capacity, inv.room);
     }
 
 pub returns-clause-first : goal.returns-clause-first
@@ -39,7 +41,7 @@ returns-clause-first g c =
     let inv = c.loop-number.invariant in
     let crew = c.loop-number.crew.items in
     let part = c.part-2.ensures in
-    let many : length c.push-2.new.self.items ≡ length crew + 1 = ap length c.in_ok-push-2.ensures.items ∙ length-append crew _ in
+    let many : length c.push_reserved-2.new.self.items ≡ length crew + 1 = ap length c.push_reserved-2.ensures.items ∙ length-append crew _ in
     subst (λ (k : ℕ). IsFirst books k c.part-2.new.desk) (sym many)
     (parted_first books (length crew) c.loop-number.first c.part-2.new.desk inv.first part.own.0 part.met part.made (part.still.1 inv.first.tidy))
 
@@ -49,7 +51,7 @@ returns-clause-crew g c =
     let inv = c.loop-number.invariant in
     let crew = c.loop-number.crew.items in
     let part = c.part-2.ensures in
-    subst (λ l. IsCrew FitsBooks books l) (sym c.in_ok-push-2.ensures.items)
+    subst (λ l. IsCrew FitsBooks books l) (sym c.push_reserved-2.ensures.items)
     (joined FitsBooks books crew _ inv.crew (record {
       fits = tt {0};
       desk = parted_desk books (length crew) c.loop-number.first c.part-2.new.desk c.part-2.result inv.first part.made part.new.0 part.own.1 part.tidy;
@@ -61,7 +63,7 @@ returns-clause-ready g c =
     let crew = c.loop-number.crew.items in
     let part = c.part-2.ensures in
     let at : length crew ≡ c.args.said.workers = search (rules, arith) in
-    subst (λ l. AreReady c.args.common.cat.now c.args.said l) (sym c.in_ok-push-2.ensures.items)
+    subst (λ l. AreReady c.args.common.cat.now c.args.said l) (sym c.push_reserved-2.ensures.items)
     (joined_each (λ i m. IsReady c.args.common.cat.now c.args.said i m) crew _ inv.ready (record {
       post = (at, refl);
       none = parted_empty (length crew) c.part-2.new.desk c.part-2.result (part.made ∙ ap (λ (k : ℕ). k + 1) inv.first.made) part.new.0 part.new.1;

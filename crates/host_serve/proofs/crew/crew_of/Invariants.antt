@@ -1,4 +1,4 @@
-use Rattle.std.proofs.Common.{◌≡◌, ◌≤◌, ◌+◌, length}
+use Rattle.std.proofs.Common.{◌≡◌, ◌≤◌, ◌+◌, length, vec_len, vec_capacity}
 use Rattle.host_serve.specs.Crews.{AreReady, IsCrew, IsFirst}
 use Rattle.host_serve.specs.Turns.{FitsBooks}
 use Rattle.host_serve.proofs.crew.crew_of.Given as goal
@@ -10,4 +10,6 @@ invariant-loop-number g l = record {
   ready : AreReady l.common.cat.now l.said l.crew.items;
   count : length l.crew.items ≡ l._number;
   clocks : l.said.workers + 1 ≤ l._number + length l.clocks.items;
+  len : vec_len l.crew ≡ l._number;
+  room : l.said.workers + 1 ≤ vec_capacity l.crew;
 }

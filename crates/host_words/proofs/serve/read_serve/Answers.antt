@@ -28,6 +28,8 @@ returns-clause-ok c =
     let found = found_of c.in_ok-matches.matches in
     let words = words_texts c.args.words.now in
     let are = rows_given _ serve_app words (Some (rows_of found)) c.in_ok-serve_command.ensures c.in_ok-matches.ensures.ok in
-    all_said words (rows_of found) are c.in-Some.catalogue.now c.in-Some-numbers_in.numbers
+    all_said words (rows_of found) are c.in-Some.catalogue.now c.in-Some-numbers_in.numbers (option_map (λ s. s.now) c.get_str-2.result) c.is_exporting.result
     (text_given found (codes "catalogue") (Some c.in-Some.catalogue.now) (ap (option_map (λ s. s.now)) (sym c.in-Some.is) ∙ c.get_str.ensures))
     (sym c.numbers_in.ensures.numbers ∙ c.in-Some-numbers_in.is)
+    (text_given found (codes "from") (option_map (λ s. s.now) c.get_str-2.result) c.get_str-2.ensures)
+    (sym c.is_exporting.ensures)

@@ -1,10 +1,13 @@
-use Rattle.osdm_texts.specs.Places.{trait_trees}
-use Rattle.osdm_texts.proofs.Chains.{one, step, ended, last}
+use Rattle.std.proofs.Common.{◌∙◌, ◌++◌, List, ℕ, sym, ap}
+use Rattle.std.proofs.lemmas.Result.{on_ok_weaker}
+use Rattle.osdm_texts.proofs.PlaceLines.{place_line, put_five}
 use Rattle.osdm_texts.proofs.places.put_place.Goals as goal
 
 pub returns : goal.returns
 returns c =
-    last c.end_object.result
-    (step (step (step (step (step (step (step (one c.in_ok-begin_object.ensures) c.in_ok-put_text.ensures) c.in_ok-put_count.ensures) c.in_ok-put_flag.ensures) c.in_ok-put_count-2.ensures) (one c.in_ok-key.ensures)) (one c.in_ok-begin_array.ensures))
-    (ended (trait_trees c.args.place.now.traits) c.in_ok-put_traits.ensures (one c.in_ok-end_array.ensures)))
-    c.end_object.ensures (cc)
+    let old = c.args.text.now.items in
+    on_ok_weaker c.put_traits.result
+    (λ put. put_five old _ _ _ _ _ _ _ _ _ _ (c.in_ok-put.ensures ∙ ap (λ (l : List ℕ). old ++ l) c.class_text.ensures) c.in_ok-put_number.ensures
+    (c.in_ok-put-2.ensures ∙ ap (λ (l : List ℕ). c.put_number.new.text.items ++ l) c.free_text.ensures) c.in_ok-put_number-2.ensures put
+    ∙ ap (λ (l : List ℕ). old ++ l) (sym (place_line c.args.is_later c.args.place.now c.args.free)))
+    c.put_traits.ensures

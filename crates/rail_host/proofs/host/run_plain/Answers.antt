@@ -116,6 +116,9 @@ returns-then-is_for-2-clause-read_cause g c three = elim (c.run_export.ensures.r
   | inr rose ↦ inr (inr (inl (c.if-is_for-2.ensures.yes refl)), rose)
 ]
 
+pub returns-then-is_for-2-clause-read_steady : goal.returns-then-is_for-2-clause-read_steady
+returns-then-is_for-2-clause-read_steady g c three five = c.run_export.ensures.read_steady three (five (c.if-is_for-2.ensures.yes refl))
+
 pub returns-then-is_for-2-clause-missed : goal.returns-then-is_for-2-clause-missed
 returns-then-is_for-2-clause-missed g c one = elim (c.run_export.ensures.missed one) [ inl rose ↦ inl rose | inr text ↦ inr (inr (inl text)) ]
 

@@ -3,6 +3,7 @@ use Rattle.host_words.specs.Options.{words_texts}
 use Rattle.host_words.specs.declared.command.CommandName.TheVariants.{Replay, Export, Drill, Serve}
 use Rattle.host_notes.specs.Ends.{end_of}
 use Rattle.host_notes.specs.declared.ending.CommandEnd.TheVariants.{WordsRefused}
+use Rattle.host_drill.specs.Ends.{end_of_drill}
 use Rattle.host_replay.specs.Input.{end_of_replay}
 use Rattle.host_settle.specs.Settle.{end_of_settle}
 use Rattle.rail_host.proofs.Naming.{one_name, no_tiny, no_settle, serve_tiny, serve_replay, serve_export, serve_settle, serve_drill, drill_tiny, drill_replay, drill_export, drill_settle}
@@ -44,14 +45,28 @@ returns-else-is_for-2-clause-words g c two = record {
   serve = λ said is. c.if-is_for.ensures.no refl is.command;
 }
 
+pub returns-then-is_for-clause-ended : goal.returns-then-is_for-clause-ended
+returns-then-is_for-clause-ended g c = inr (c.if-is_for.ensures.yes refl, c.serve_port.ensures.ended)
+
+pub returns-then-is_for-2-clause-ended : goal.returns-then-is_for-2-clause-ended
+returns-then-is_for-2-clause-ended g c =
+    let ends = c.run_drill.ensures.ends in inl (record {
+      other = c.if-is_for.ensures.no refl;
+      end = end_of_drill ends.0;
+      is = ends.1;
+      note = ends.3;
+    })
+
 pub returns-else-is_for-2-clause-ended : goal.returns-else-is_for-2-clause-ended
-returns-else-is_for-2-clause-ended g c = elim c.run_plain.ensures.run [
-  | inl two ↦ (WordsRefused, two, c.run_plain.ensures.refused two)
-  | inr more ↦ elim more [
-    | inl tiny ↦ (end_of tiny.0, tiny.1, tiny.3)
-    | inr files ↦ elim files [
-      | inl replay ↦ (end_of_replay replay.0, replay.1, replay.3)
-      | inr settle ↦ (end_of_settle settle.0, settle.1, settle.3)
+returns-else-is_for-2-clause-ended g c =
+    let other = c.if-is_for.ensures.no refl in
+    elim c.run_plain.ensures.run [
+      | inl two ↦ inl (record { other = other; end = WordsRefused; is = two; note = c.run_plain.ensures.refused two })
+      | inr more ↦ elim more [
+        | inl tiny ↦ inl (record { other = other; end = end_of tiny.0; is = tiny.1; note = tiny.3 })
+        | inr files ↦ elim files [
+          | inl replay ↦ inl (record { other = other; end = end_of_replay replay.0; is = replay.1; note = replay.3 })
+          | inr settle ↦ inl (record { other = other; end = end_of_settle settle.0; is = settle.1; note = settle.3 })
+        ]
+      ]
     ]
-  ]
-]

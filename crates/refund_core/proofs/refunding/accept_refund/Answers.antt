@@ -45,6 +45,9 @@ returns-in_default-end_row-clause-entries c =
     (sym c.is_stale.ensures.stale ∙ c.if-is_stale.false) (sym c.if-refund_at-code.false ∙ c.refund_at.ensures.value) (ap (λ (v : RowSeen). v.phase) (sym c.view.view_is) ∙ c.is_named.ensures.named.0 c.if-not-is_named.false) c.phase_named-from.ensures.phase
     c.in-Some.ensures.entries (c.in_default-end_row.ensures.entries Refund refl)
 
+pub returns-in_default-end_row-clause-refunded : goal.returns-in_default-end_row-clause-refunded
+returns-in_default-end_row-clause-refunded c = c.in_default-end_row.ensures.ended Refund refl
+
 pub returns-in_default-end_row-clause-holds : goal.returns-in_default-end_row-clause-holds
 returns-in_default-end_row-clause-holds c = holds_then c.args.desk.now c.find_booking.new.desk c.end_row.new.desk c.find_booking.ensures.holds c.end_row.ensures.holds
 

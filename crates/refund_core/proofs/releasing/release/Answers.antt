@@ -35,6 +35,9 @@ pub returns-in_default-end_row-clause-entries : goal.returns-in_default-end_row-
 returns-in_default-end_row-clause-entries c =
     releases c.args.books.now.layout.rows c.args.row c.args.retailer.0 c.args.now c.in-Some.shown c.args.desk.now c.find_owned.new.desk c.end_row.new.desk c.in-Prebooked.is c.in-Some.ensures.entries (c.in_default-end_row.ensures.entries Release refl)
 
+pub returns-in_default-end_row-clause-released : goal.returns-in_default-end_row-clause-released
+returns-in_default-end_row-clause-released c = c.in_default-end_row.ensures.ended Release refl
+
 pub returns-in_default-end_row-clause-holds : goal.returns-in_default-end_row-clause-holds
 returns-in_default-end_row-clause-holds c = holds_then c.args.desk.now c.find_owned.new.desk c.end_row.new.desk c.find_owned.ensures.holds c.end_row.ensures.holds
 

@@ -1,7 +1,7 @@
 use Rattle.std.proofs.Common.{ap}
 use Rattle.claim_rule.specs.Endings.{EndingView}
 use Rattle.claim_rule.proofs.Out.{holds_then}
-use Rattle.row_decisions.proofs.Finishing.{few_items, ended}
+use Rattle.row_decisions.proofs.Finishing.{few_items, ended, ended_so}
 use Rattle.row_decisions.proofs.ends.end_row.Goals as goal
 
 pub unreachable-requires : goal.unreachable-requires
@@ -29,6 +29,11 @@ returns-in-Ending-clause-entries c kind w =
     let t = c.turn.new.desk in
     let few = few_items t c.in-Ending.ending c.in-Ending.ensures.own.legal l.2 (ap (λ (e : EndingView). e.read) l.1) (ap (λ (e : EndingView). e.given) l.1) in
     ended c.args.desk.now t c.finish_end.new.desk c.args.row c.args.from c.args.to c.in-Ending.ending kind l.0 l.1 few w c.in-Ending.ensures.entries c.finish_end.ensures.entries
+
+pub returns-in-Ending-clause-ended : goal.returns-in-Ending-clause-ended
+returns-in-Ending-clause-ended c kind w =
+    let l = c.in-Ending.ensures.leaves in
+    ended_so c.finish_end.new.desk c.args.row c.args.to c.in-Ending.ending kind l.0 l.1 w c.finish_end.ensures.ended
 
 pub returns-in-Ending-clause-holds : goal.returns-in-Ending-clause-holds
 returns-in-Ending-clause-holds c = holds_then c.args.desk.now c.turn.new.desk c.finish_end.new.desk c.in-Ending.ensures.holds c.finish_end.ensures.holds

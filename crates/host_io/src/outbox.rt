@@ -1,0 +1,96 @@
+// Bytes for a sink that are held back, to be sent together.
+ghost use Rattle.std.specs.Prelude.{◌≡◌, ◌≤◌, ◌<◌, ◌++◌, [], IfOk, length, true, false};
+ghost use Rattle.rail_io.specs.Faults.{Rose};
+ghost use Rattle.rail_io.specs.Told.{Pushes, with_end};
+ghost use Rattle.rail_io.specs.declared.sink.Pushed.TheVariants.{Failed, Took};
+ghost use Rattle.host_io.specs.Outbox.{Fits};
+
+use rail_io::{Pushed, Sink};
+use std::alloc::{AllocError, Global};
+use std::marker::Model;
+
+/// The most bytes that are held back.
+const HELD_ROOM: usize = 65_536;
+
+/// Bytes that were taken for a sink which hasn't got them yet, at most 65,536. The sink gets them in their order, and each once.
+#[derive(Drop)]
+pub struct Outbox {
+    bytes: Vec<u8>,
+    /// How many of these the sink has got.
+    sent: usize,
+}
+
+impl Model for Outbox {
+    ghost use Rattle.std.specs.Prelude.{◌≤◌, drop, vec_len, vec_capacity};
+    ghost use Rattle.host_io.specs.Outbox.{OutboxView};
+
+    ghost Value = { OutboxView };
+
+    ghost view = { λ o. record { held = drop o.sent o.bytes.items; used = vec_len o.bytes } };
+
+    ghost invariant = { λ o. (o.sent ≤ vec_len o.bytes) × (65536 ≤ vec_capacity o.bytes) };
+}
+
+impl Outbox {
+    /// An outbox that holds nothing back. It takes all its memory here.
+    pub fn new(alloc: Global) -> Result<Outbox, AllocError>
+        ensures { IfOk result (λ outbox. outbox.held ≡ []) }
+    {
+        Ok(Outbox {
+            bytes: Vec::with_capacity(alloc, HELD_ROOM)?,
+            sent: 0,
+        })
+    }
+
+    /// Sends what is held back. Where the sink fails, what it hasn't got stays held.
+    pub fn send<K: Sink>(&mut self, sink: &mut K) -> bool
+        ensures told { with_end (K.told sink.new) (self.new.held) ≡ with_end (K.told sink.old) (self.old.held) }
+        ensures all { result ≡ true → self.new.held ≡ [] }
+        ensures never_falls { K.faults sink.old ≤ K.faults sink.new }
+        ensures cause { result ≡ false → Rose (K.faults sink.old) (K.faults sink.new) }
+        ensures steady { result ≡ true → K.faults sink.new ≡ K.faults sink.old }
+    {
+        while self.sent < self.bytes.len() {
+            match sink.write(&self.bytes[self.sent..]) {
+                Pushed::Took(count) => self.sent += count,
+                Pushed::Failed => return false,
+            }
+        }
+        self.bytes.clear();
+        self.sent = 0;
+        true
+    }
+
+    /// Holds the piece back, where there is room for it.
+    fn hold(&mut self, piece: &[u8]) -> bool
+        ensures held { result ≡ true → self.new.held ≡ self.old.held ++ piece.now }
+        ensures full { result ≡ false → self.new ≡ self.old }
+        ensures fits { Fits self.old piece.now → result ≡ true }
+    {
+        piece.len() <= HELD_ROOM
+            && self.bytes.len() <= HELD_ROOM - piece.len()
+            && self.bytes.extend_from_slice(piece).is_ok()
+    }
+
+    /// Takes some of the piece behind what is held back: all of it, and with no call of the sink, where it fits.
+    pub fn write<K: Sink>(&mut self, sink: &mut K, piece: &[u8]) -> Pushed
+        requires { 0 < length piece.now }
+        ensures pushes { Pushes
+            (with_end (K.told sink.old) (self.old.held)) (with_end (K.told sink.new) (self.new.held)) piece.now result }
+        ensures gathers { Fits self.old piece.now → (sink.new ≡ sink.old) × (result ≡ Took (length piece.now)) }
+        ensures never_falls { K.faults sink.old ≤ K.faults sink.new }
+        ensures cause { result ≡ Failed → Rose (K.faults sink.old) (K.faults sink.new) }
+        ensures steady { (result ≡ Failed → ⊥) → K.faults sink.new ≡ K.faults sink.old }
+    {
+        if self.hold(piece) {
+            return Pushed::Took(piece.len());
+        }
+        if !self.send(sink) {
+            return Pushed::Failed;
+        }
+        if self.hold(piece) {
+            return Pushed::Took(piece.len());
+        }
+        sink.write(piece)
+    }
+}

@@ -1,0 +1,45 @@
+// The export of the books that were served.
+ghost use Rattle.std.specs.Prelude.{◌≡◌, IfSome};
+ghost use Rattle.cold_store.specs.Exports.{IsClosed};
+ghost use Rattle.cold_store.specs.Tidy.{IsTidyWall};
+ghost use Rattle.host_serve.specs.Telling.{WritesExport};
+
+use crate::end::ServeOutcome;
+use claim_rule::Wall;
+use cold_store::export_tidy;
+use rail_io::Sink;
+use session_loop::write_all;
+use std::alloc::Global;
+
+/// Writes the export of the wall, where there is one, to the notes: how serving ends then, which had ended so.
+pub fn write_export<E: Sink>(
+    alloc: Global,
+    wall: &Option<Wall>,
+    notes: &mut E,
+    outcome: ServeOutcome,
+) -> ServeOutcome
+    requires closed { IfSome wall.now IsClosed }
+    requires tidy { IfSome wall.now IsTidyWall }
+    ensures { WritesExport wall.now
+        (record {
+          before = E.told notes.old;
+          failed = E.faults notes.old;
+          after = E.told notes.new;
+          fails = E.faults notes.new;
+        })
+        outcome result }
+{
+    let Some(wall) = wall else {
+        return outcome;
+    };
+    let Ok(text) = export_tidy(alloc, wall) else {
+        return ServeOutcome::NoText;
+    };
+    if write_all(notes, text.as_slice()) {
+        return outcome;
+    }
+    match outcome {
+        ServeOutcome::Served => ServeOutcome::Unwritten,
+        other => other,
+    }
+}

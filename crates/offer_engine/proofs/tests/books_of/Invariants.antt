@@ -1,5 +1,0 @@
-use Rattle.std.proofs.Common.{◌<◌, ◌≤◌, ℕ, slice_index_or}
-use Rattle.offer_engine.proofs.tests.books_of.Given as goal
-
-abbrev pub invariant-loop-n : goal.invariant-loop-n
-invariant-loop-n g l = (k d : ℕ) → k < l.n-index → (0 < slice_index_or l.n-items k d) × (slice_index_or l.n-items k d ≤ 63)

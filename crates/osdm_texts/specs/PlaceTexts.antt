@@ -1,0 +1,31 @@
+-- The pieces of a place's text.
+use Rattle.std.specs.Prelude.{ℕ, ◌==◌, ◌||◌, Bool, false, List, [], ◌++◌, bit_and, if◌then◌else◌, codes}
+use Rattle.serde_json.specs.Written.{comma_if}
+use Rattle.place_map.specs.declared.coach.Class.{Class}
+use Rattle.osdm_texts.specs.Places.{class_name}
+
+-- what stands before the number of the coach
+abbrev pub class_line : Bool → Class → List ℕ
+class_line later class = comma_if later ++ (codes "{\"class\":\"" ++ (class_name class ++ codes "\",\"coach\":"))
+
+-- what stands between the number of the coach and that of the place
+abbrev pub free_line : Bool → List ℕ
+free_line free = if free then codes ",\"free\":true,\"place\":" else codes ",\"free\":false,\"place\":"
+
+-- a quoted name that is given, behind a comma where another stands before
+abbrev pub named_line : Bool → Bool → List ℕ → List ℕ
+named_line later given name = if given then comma_if later ++ name else []
+
+abbrev pub has_trait : ℕ → ℕ → Bool
+has_trait traits bit = bit_and traits bit == bit
+
+-- the traits, and the end of the place
+abbrev pub traits_text : ℕ → List ℕ
+traits_text traits =
+    let a = has_trait traits 1 in
+    let b = has_trait traits 2 in
+    let c = has_trait traits 4 in
+    let d = has_trait traits 8 in
+    codes ",\"traits\":[" ++ (named_line false a (codes "\"WINDOW\"") ++ (named_line a b (codes "\"AISLE\"")
+    ++ (named_line (a || b) c (codes "\"TABLE\"") ++ (named_line ((a || b) || c) d (codes "\"QUIET\"")
+    ++ (named_line (((a || b) || c) || d) (has_trait traits 16) (codes "\"POWER\"") ++ codes "]}")))))
