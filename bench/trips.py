@@ -5,6 +5,10 @@
 
 Each catalogue has runs of ten stops over stations that all runs share, drawn at random with a fixed seed. A search asks from a random
 second of the day to the end of the next. The program times each search by `trips` alone; read the figures against one another.
+
+Then one search each of catalogues that give it the most to try: runs of one leg from the first station to the second, from there to
+the third, and from there to the fourth, all within the longest wait, with a wish for the last station, which none of them serves; with
+two trains to it, one too early and one the next day; and with one train that all the ways lead to.
 """
 import datetime
 import pathlib
@@ -40,6 +44,50 @@ fn next(seed: u64) -> u64 {
     seed.wrapping_mul(6_364_136_223_846_793_005).wrapping_add(1_442_695_040_888_963_407)
 }
 
+// From the first station to the last, at any time of the day.
+fn search_one(rt: &HostRuntime, alloc: Global, cat: &Catalogue, day: Moment) -> io::Result<()> {
+    let stations = cat.runs().station_count();
+    if stations == 0 {
+        return Ok(());
+    }
+    let wish = TripWish {
+        origin: StationNo(0),
+        destination: StationNo(stations - 1),
+        earliest: day,
+        latest: day.later(86_400),
+    };
+    let start = Instant::now(rt)?;
+    let count = found(alloc, cat, &wish);
+    let took = start.elapsed(rt)?;
+    println!(rt; "{} {} 0 {}", took.as_nanos(), count, stations - 1)
+}
+
+fn search_many(rt: &HostRuntime, alloc: Global, cat: &Catalogue, day: Moment) -> io::Result<()> {
+    let stations = cat.runs().station_count();
+    if stations == 0 {
+        return Ok(());
+    }
+    let mut seed = 7u64;
+    for _ in 0..1000 {
+        seed = next(seed);
+        let origin = ((seed >> 33) % u64::from(stations)) as u32;
+        seed = next(seed);
+        let destination = ((seed >> 33) % u64::from(stations)) as u32;
+        seed = next(seed);
+        let wish = TripWish {
+            origin: StationNo(origin),
+            destination: StationNo(destination),
+            earliest: day.later(((seed >> 33) % 86_400) as u32),
+            latest: day.later(172_800),
+        };
+        let start = Instant::now(rt)?;
+        let count = found(alloc, cat, &wish);
+        let took = start.elapsed(rt)?;
+        println!(rt; "{} {} {} {}", took.as_nanos(), count, origin, destination)?;
+    }
+    Ok(())
+}
+
 fn main(rt: HostRuntime) -> io::Result<()> {
     let alloc = rt.alloc();
     let bytes = fs::read(&rt, "catalogue.json")?;
@@ -48,29 +96,10 @@ fn main(rt: HostRuntime) -> io::Result<()> {
     };
     match read_catalogue(alloc, bytes.as_slice()) {
         Ok(cat) => {
-            let stations = cat.runs().station_count();
-            if stations == 0 {
-                return Ok(());
+            if fs::read(&rt, "one").is_ok() {
+                return search_one(&rt, alloc, &cat, day);
             }
-            let mut seed = 7u64;
-            for _ in 0..1000 {
-                seed = next(seed);
-                let origin = ((seed >> 33) % u64::from(stations)) as u32;
-                seed = next(seed);
-                let destination = ((seed >> 33) % u64::from(stations)) as u32;
-                seed = next(seed);
-                let wish = TripWish {
-                    origin: StationNo(origin),
-                    destination: StationNo(destination),
-                    earliest: day.later(((seed >> 33) % 86_400) as u32),
-                    latest: day.later(172_800),
-                };
-                let start = Instant::now(&rt)?;
-                let count = found(alloc, &cat, &wish);
-                let took = start.elapsed(&rt)?;
-                println!(rt; "{} {} {} {}", took.as_nanos(), count, origin, destination)?;
-            }
-            Ok(())
+            search_many(&rt, alloc, &cat, day)
         }
         Err(_) => println!(rt; "fault"),
     }
@@ -102,6 +131,42 @@ def catalogue(count, stations):
     )
 
 
+def leg(train, origin, depart, destination, arrive):
+    stops = '{"station":"S%d","arrive":"%s","depart":"%s"},{"station":"S%d","arrive":"%s","depart":"%s"}' % (
+        origin,
+        moment(depart),
+        moment(depart),
+        destination,
+        moment(arrive),
+        moment(arrive),
+    )
+    return (
+        '{"train":%d,"stops":[%s],"fares":{"first":{"base":1,"perLeg":1},"second":{"base":1,"perLeg":1}},'
+        '"coaches":[{"coach":1,"class":"SECOND","places":[{"first":1,"last":1}]}]}' % (train, stops)
+    )
+
+
+def lines(count, last):
+    runs = [leg(1, line, 4000 * line + run, line + 1, 4000 * line + 2000 + run) for line in range(3) for run in range(count)]
+    runs += [leg(2, 2, depart, 4, depart + 2000) for depart in last]
+    codes = ",".join('{"code":"S%d"}' % n for n in range(5))
+    return (
+        '{"currency":"EUR","retailers":[{"number":1,"key":"north"}],"stations":[%s],'
+        '"refundSteps":[{"before":0,"fee":0}],"runs":[%s]}' % (codes, ",".join(runs))
+    )
+
+
+WORST = [("out of reach", []), ("last train gone", [5000, 86_400]), ("one last train", [12_000])]
+
+
+def search_worst(folder, program):
+    (folder / "one").write_text("")
+    for name, last in WORST:
+        (folder / "catalogue.json").write_text(lines(1_364, last))
+        said = subprocess.run([str(program)], cwd=folder, capture_output=True, text=True, check=True).stdout.split()
+        print("%s: %.1f us, %s trips" % (name, int(said[0]) / 1000, said[1]))
+
+
 def main():
     with tempfile.TemporaryDirectory() as name:
         folder = pathlib.Path(name)
@@ -117,6 +182,7 @@ def main():
                 "%4d runs, %4d stations: %7.1f us a search, median %7.1f, dearest %8.1f (from S%d to S%d), %4.1f trips"
                 % (runs, stations, sum(took) / len(took), took[len(took) // 2], took[-1], dearest[2], dearest[3], found)
             )
+        search_worst(folder, program)
 
 
 main()

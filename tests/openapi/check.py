@@ -267,6 +267,17 @@ def key_cases(document):
         yield method + " " + path, as_bytes(method, target, text, ""), as_bytes("POST", "/sweeps", "", "north") + as_bytes(method, target, text, "south")
 
 
+def example_cases(document):
+    """Each example of a body, as it stands."""
+    for path, method, operation in document.operations():
+        target = path
+        for parameter in document.whole["paths"][path].get("parameters", []):
+            target = target.replace("{%s}" % parameter["name"], parameter["example"])
+        body = operation.get("requestBody")
+        for name, example in (body["content"]["application/json"]["examples"] if body else {}).items():
+            yield "%s %s, example %s" % (method, path, name), as_bytes(method, target, json.dumps(example["value"]), "north")
+
+
 def hold_own_cases(document, program):
     text = (ROOT / "examples" / "k1.json").read_text()
     with tempfile.TemporaryDirectory() as name:
@@ -279,6 +290,8 @@ def hold_own_cases(document, program):
             hold(document, label, given, replayed(program, folder, ["replay", "rows.json", "--start", START, "--tick", str(tick)], given))
         for label, given in BROKEN:
             hold(document, label, given.encode(), replayed(program, folder, words, given.encode()))
+        for label, given in example_cases(document):
+            hold(document, label, given, replayed(program, folder, words, given))
         for label, without, other in key_cases(document):
             for given in [without, other]:
                 hold(document, "keys, " + label, given, replayed(program, folder, words, given))

@@ -64,7 +64,7 @@ OPERATION = [
     r'"id":"B000000".*"status":"CONFIRMED"',
     r"end 1\n",
     r'"id":"B000000".*"status":"CONFIRMED"',
-    r"the same bookings\nretailer,bookings,live,sold,refunded,exchanged\n1,1,1,2200,0,0\nforgotten,0,0,0,0,0",
+    r"the same bookings\nretailer,bookings,live,sold,refunded,exchanged\n1,1,1,1400,0,0\nforgotten,0,0,0,0,0",
 ]
 
 

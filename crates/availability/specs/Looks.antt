@@ -1,5 +1,5 @@
 -- Looks at places in order, and what they showed of a span.
-use Rattle.std.specs.Prelude.{◌≡◌, ℕ, ◌↔◌, ◌&&◌, Bool, true, IsTrue, List, [], ◌∷◌, ◌++◌, count_by}
+use Rattle.std.specs.Prelude.{◌≡◌, ℕ, ◌↔◌, ◌&&◌, Bool, true, IsTrue, List, [], ◌∷◌, ◌++◌, Option, Some, None, count_by}
 use Rattle.leg_masks.specs.Interval.{Interval, IsClear, pieces}
 use Rattle.rail_ids.specs.declared.PlaceNo.{PlaceNo}
 use Rattle.history_model.specs.declared.entry.Step.{Step}
@@ -34,3 +34,8 @@ HasLooked place span free old new = ShapeBy (LooksPieces place.0 (pieces span) f
 -- the look at one piece of a place that a desk made
 abbrev pub HasLookedAt : PlaceNo → Interval → Bool → DeskView → DeskView → Type 0
 HasLookedAt place piece free old new = (word : ℕ) × (IsTrue free ↔ IsClear word piece) × Shape old new (look_at place.0 piece word ∷ [])
+
+-- one piece, or two
+abbrev pub listed : Interval → Option Interval → List Interval
+listed first None = first ∷ []
+listed first (Some second) = first ∷ second ∷ []

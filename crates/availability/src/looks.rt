@@ -1,9 +1,9 @@
-ghost use Rattle.std.specs.Prelude.{◌≡◌, ◌<◌, ◌&&◌, All, length, IfOk, OnOk, OnErr};
-ghost use Rattle.leg_masks.specs.Interval.{IsPiece};
+ghost use Rattle.std.specs.Prelude.{◌≡◌, ◌<◌, ◌&&◌, All, length, IfOk, IfSome, OnOk, OnErr};
+ghost use Rattle.leg_masks.specs.Interval.{IsPiece, pieces as pieces_of};
 ghost use Rattle.claim_rule.specs.Seats.{IsOf};
 ghost use Rattle.claim_rule.specs.Calls.{ShapeBy};
 ghost use Rattle.claim_rule.specs.Out.{KeepsHolds, KeepsEndings, IsTidy};
-ghost use Rattle.availability.specs.Looks.{LooksAt, CountsFree, HasLooked, HasLookedAt};
+ghost use Rattle.availability.specs.Looks.{LooksAt, CountsFree, HasLooked, HasLookedAt, listed};
 
 use claim_rule::{Books, Desk};
 use leg_masks::{Span, free_on, half_of, pieces};
@@ -25,9 +25,10 @@ pub fn free_places(books: &Books, desk: &mut Desk, places: &[PlaceNo], span: Spa
     ensures endings { KeepsEndings desk.old desk.new }
     ensures tidy { IsTidy desk.old → IsTidy desk.new }
 {
+    let (first, second) = parts_of(span);
     let mut free = 0;
     for place in places {
-        if look_free(books, desk, *place, span) {
+        if look_free(books, desk, *place, span, first, &second) {
             free += 1;
         }
     }
@@ -55,8 +56,9 @@ pub fn place_states(
     ensures tidy { IsTidy desk.old → IsTidy desk.new }
 {
     let mut states = Vec::with_capacity(alloc, places.len())?;
+    let (first, second) = parts_of(span);
     for place in places {
-        let is_free = look_free(books, desk, *place, span);
+        let is_free = look_free(books, desk, *place, span, first, &second);
         let Ok(()) = states.push(is_free) else {
             unreachable!()
         };
@@ -64,24 +66,47 @@ pub fn place_states(
     Ok(states)
 }
 
-// The looks at a place, one for each piece of the span, and whether it was free on all of them.
-fn look_free(books: &Books, desk: &mut Desk, place: PlaceNo, span: Span) -> bool
-    requires own { IsOf books.now desk.old }
-    requires place { place.0 < length books.now.layout.legs }
-    ensures own { IsOf books.now desk.new }
-    ensures entries { HasLooked place span result desk.old desk.new }
-    ensures holds { KeepsHolds desk.old desk.new }
-    ensures endings { KeepsEndings desk.old desk.new }
+// The pieces of a span: the first, and the other where there are two.
+fn parts_of(span: Span) -> (Span, Option<Span>)
+    ensures parts { pieces_of span ≡ listed result.0 result.1 }
+    ensures first { IsPiece result.0 }
+    ensures second { IfSome result.1 IsPiece }
 {
     let parts = pieces(span);
     let first = parts[0];
-    let is_free = look_piece(books, desk, place, first);
     if parts.len() == 1 {
-        return is_free;
+        return (first, None);
     }
-    let second = parts[1];
-    let is_too = look_piece(books, desk, place, second);
-    both(is_free, is_too)
+    (first, Some(parts[1]))
+}
+
+// The looks at a place, one for each piece of the span, and whether it was free on all of them.
+fn look_free(
+    books: &Books,
+    desk: &mut Desk,
+    place: PlaceNo,
+    _span: Span,
+    first: Span,
+    second: &Option<Span>,
+) -> bool
+    requires own { IsOf books.now desk.old }
+    requires place { place.0 < length books.now.layout.legs }
+    requires parts { pieces_of _span ≡ listed first second.now }
+    requires first { IsPiece first }
+    requires second { IfSome second.now IsPiece }
+    ensures own { IsOf books.now desk.new }
+    ensures entries { HasLooked place _span result desk.old desk.new }
+    ensures holds { KeepsHolds desk.old desk.new }
+    ensures endings { KeepsEndings desk.old desk.new }
+{
+    let is_free = look_piece(books, desk, place, first);
+    match second {
+        None => is_free,
+        Some(second) => {
+            let is_too = look_piece(books, desk, place, *second);
+            both(is_free, is_too)
+        }
+    }
 }
 
 // Whether both are so.

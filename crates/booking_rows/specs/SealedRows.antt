@@ -1,7 +1,7 @@
 -- Bookings that are sealed in what a desk has seen, and numbers that stand in their words.
 use Rattle.std.specs.Prelude.{◌≡◌, ℕ, ◌+◌, ◌≤◌, true, List, [], ◌∷◌, length, All}
 use Rattle.std.specs.List.{AllByRecursion}
-use Rattle.leg_masks.specs.Interval.{Interval, IsItemOf, most_legs, most_places}
+use Rattle.leg_masks.specs.Interval.{Interval, IsItemOf, most_places}
 use Rattle.history_model.specs.declared.phase.Phase.{Phase}
 use Rattle.history_model.specs.declared.phase.Phase.TheVariants.{Ended}
 use Rattle.history_model.specs.declared.phase.EndKind.{EndKind}
@@ -9,13 +9,13 @@ use Rattle.history_model.specs.declared.phase.EndKind.TheVariants.{Release, Expi
 use Rattle.history_model.specs.Phase.{is_sealed}
 use Rattle.history_model.specs.Booking.{Booking, Layout, next_generation, last_moment, greatest_amount, greatest_retailer}
 use Rattle.rail_ids.specs.declared.RowNo.{RowNo}
-use Rattle.claim_rule.specs.Rule.{DeskView, OnBooking, state_seen}
+use Rattle.claim_rule.specs.Rule.{DeskView, OnBooking, most_place_legs, state_seen}
 use Rattle.booking_rows.specs.Views.{RowWords, last_successor}
 
 -- each item of these places has a word: there are not too many places, and none has too many legs
 pub record FitWords (g : Layout) : Type 0 where
   pub places : length g.legs ≤ most_places
-  pub legs : All (λ n. n ≤ most_legs) g.legs
+  pub legs : All (λ n. n ≤ most_place_legs) g.legs
 
 -- the booking is sealed in what the desk has seen. It need not be its row's present one
 abbrev pub IsSealedRow : DeskView → RowNo → Type 0

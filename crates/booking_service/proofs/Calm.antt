@@ -127,7 +127,7 @@ calm_gives : (row k n : ℕ) (more : List Step) → NoStep exchanges more → No
 calm_gives row k zero more calm = calm
 calm_gives row k (suc n) more calm = (refl, calm_gives row (suc k) n more calm)
 
-calm_end : (row : ℕ) (kind : EndKind) (end : End) (items : List Item) → NoStep exchanges (items_read row items ++ ending_steps row kind end items)
+pub calm_end : (row : ℕ) (kind : EndKind) (end : End) (items : List Item) → NoStep exchanges (items_read row items ++ ending_steps row kind end items)
 calm_end row kind end items = (refl, calm_items row _ items (ending_steps row kind end items) (calm_gives row 0 (length items) (closing row kind end) (refl, (refl, (refl, (refl, tt))))))
 
 pub calm_releases : (rows : ℕ) (row : RowNo) (retailer now : ℕ) (a : Released) → AreCalm (Releases rows row retailer now a)

@@ -1,4 +1,5 @@
-//! What each command of a retailer does on a desk, and what it is answered.
+//! A booking that is there: shown, confirmed, collected, released. It is a room of its own, so that its proofs stand beside those of coming
+//! to places.
 //!
 //! Every answer is the defined reply of the command, by the desk's own entries in this very call, whatever other desks do meanwhile. A
 //! command that changes a booking has its whole answer ready before the exchange that decides, so that want of memory changes no

@@ -7,6 +7,7 @@ use Rattle.atomic_table.specs.Table.{State as Table}
 use Rattle.atomic_table.specs.Seated.{TableId}
 use Rattle.claim_rule.specs.declared.rule.Old.{Old}
 use Rattle.claim_rule.specs.declared.rule.View.{View}
+use Rattle.leg_masks.specs.Interval.{most_legs}
 use Rattle.rail_ids.specs.declared.RowNo.{RowNo}
 use Rattle.history_model.specs.Allowed.{IsAllowedStep}
 use Rattle.history_model.specs.Apply.{apply_step}
@@ -16,6 +17,14 @@ use Rattle.history_model.specs.Words.{AreWordsOf, Writes, value}
 use Rattle.history_model.specs.declared.entry.Entry.{Entry}
 use Rattle.history_model.specs.declared.entry.Step.{Step}
 use Rattle.history_model.specs.declared.word.Word.{Word}
+
+-- how many legs a place of books has at most: each may lie in a span
+abbrev pub most_place_legs : ℕ
+most_place_legs = most_legs
+
+-- how many legs a place of new books may have
+abbrev pub IsPlaceLegs : ℕ → Type 0
+IsPlaceLegs n = (0 < n) × (n ≤ most_place_legs)
 
 -- what contracts see of the books, and of a desk
 pub record BooksView : Type 0 where

@@ -1,10 +1,10 @@
 //! The books: the shared table, and one step of each kind of atomic operation on it.
 ghost use Rattle.std.specs.Prelude.{◌≡◌, ◌<◌, length, ◌==◌, ◌≤◌, bit_and, All, List, [], IfOk};
 ghost use prog.Atomic.{either};
-ghost use Rattle.leg_masks.specs.Interval.{IsPiece, most_legs, most_places};
+ghost use Rattle.leg_masks.specs.Interval.{IsPiece, most_places};
 ghost use Rattle.history_model.specs.Booking.{most_rows};
 ghost use Rattle.history_model.specs.Words.{IsWord, index};
-ghost use Rattle.claim_rule.specs.Rule.{Found, Steps};
+ghost use Rattle.claim_rule.specs.Rule.{Found, IsPlaceLegs, Steps, most_place_legs};
 ghost use Rattle.claim_rule.specs.Seats.{IsNew, IsSeatOf, HasMade, IsOf};
 ghost use Rattle.claim_rule.specs.Out.{IsTidy};
 ghost use Rattle.claim_rule.specs.Openings.{AllOpenings, IsLayoutOf, KeptBooking, OpensWith};
@@ -36,8 +36,8 @@ impl Model for Books {
     ghost use Rattle.std.specs.Prelude.{◌≡◌, ◌<◌, ◌≤◌, ◌^◌, length, All};
     ghost use Rattle.history_model.specs.Booking.{most_rows};
     ghost use Rattle.history_model.specs.Words.{word_count};
-    ghost use Rattle.claim_rule.specs.Rule.{BooksView};
-    ghost use Rattle.leg_masks.specs.Interval.{most_legs, most_places};
+    ghost use Rattle.claim_rule.specs.Rule.{BooksView, most_place_legs};
+    ghost use Rattle.leg_masks.specs.Interval.{most_places};
 
     ghost Value = { BooksView };
 
@@ -46,7 +46,7 @@ impl Model for Books {
     ghost invariant = { λ b. (b.places ≡ length b.table.shared.key.legs) × (b.rows ≡ b.table.shared.key.rows)
         × (b.table.shared.table_id.words ≡ word_count b.table.shared.key) × (0 < length b.table.shared.key.legs)
         × (b.table.shared.table_id.slots ≡ 0) × (length b.table.shared.key.legs ≤ most_places)
-        × All (λ n. n ≤ most_legs) b.table.shared.key.legs × (b.rows ≤ most_rows) };
+        × All (λ n. n ≤ most_place_legs) b.table.shared.key.legs × (b.rows ≤ most_rows) };
 }
 
 /// New books with a place for each number of legs, and their first desk. All words are 0, and the history is empty.
@@ -54,7 +54,7 @@ impl Model for Books {
 /// Want of memory is the one error.
 pub fn start_books(alloc: Global, legs: &[u8], rows: u32) -> Result<(Books, Desk), AllocError>
     requires places { (0 < length legs.now) × (length legs.now ≤ most_places) }
-    requires legs { All (λ n. (0 < n) × (n ≤ most_legs)) legs.now }
+    requires legs { All IsPlaceLegs legs.now }
     requires rows { (0 < rows) × (rows ≤ most_rows) }
     ensures layout { IfOk result (λ t. t.0.layout ≡ record { legs = legs.now; rows = rows; opening = [] }) }
     ensures own { IfOk result (λ t. IsOf t.0 t.1) }
@@ -77,7 +77,7 @@ pub fn adopt_books(
     words: &[u64],
 ) -> Result<(Books, Desk), AllocError>
     requires places { (0 < length legs.now) × (length legs.now ≤ most_places) }
-    requires legs { All (λ n. (0 < n) × (n ≤ most_legs)) legs.now }
+    requires legs { All IsPlaceLegs legs.now }
     requires rows { (0 < rows) × (rows ≤ most_rows) }
     requires opening { (kept : List KeptBooking) × OpensWith legs.now rows words.now kept }
     ensures layout { IfOk result (λ t. AllOpenings legs.now rows words.now t.0.layout) }
@@ -120,7 +120,7 @@ impl Books {
     pub fn places(&self) -> u32
         ensures count { result ≡ length self.now.layout.legs }
         ensures most { length self.now.layout.legs ≤ most_places }
-        ensures legs { All (λ n. n ≤ most_legs) self.now.layout.legs }
+        ensures legs { All (λ n. n ≤ most_place_legs) self.now.layout.legs }
     {
         let _ = &self.table;
         self.places

@@ -73,7 +73,7 @@ impl Hold {
 }
 
 impl Books {
-    // A step that takes legs of a place, which lie in one half, or looks where the word of that half is another.
+    /// A step that takes legs of a place, which lie in one half, or looks where the word of that half is another.
     pub fn step_take(
         &self,
         desk: &mut Desk,

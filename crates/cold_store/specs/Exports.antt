@@ -1,6 +1,6 @@
 -- What an export answers.
 use Rattle.std.specs.Prelude.{◌≡◌, ◌≢◌, ◌⊎◌, ℕ, ◌<◌, ◌≤◌, ◌&&◌, nat_lt, All, Bool, true, List, map, filter, length, slice_get, slice_index, slice_set, bit_or, Some, None, ◌++◌, ◌∷◌, [], flat_map, option_to_list}
-use Rattle.leg_masks.specs.Interval.{half_of, halves, mask, most_legs, most_places}
+use Rattle.leg_masks.specs.Interval.{half_of, halves, mask, most_places}
 use Rattle.leg_masks.specs.Interval.{PlacedSpan as Item}
 use Rattle.history_model.specs.declared.phase.Phase.{Phase}
 use Rattle.history_model.specs.declared.phase.Phase.TheVariants.{Making, Ending, Ended}
@@ -12,6 +12,7 @@ use Rattle.history_model.specs.History.{IsLegal, state_of}
 use Rattle.history_model.specs.Phase.{is_live, is_sealed}
 use Rattle.history_model.specs.Words.{AreWordsOf, place_number, place_word, place_words, row_word}
 use Rattle.claim_rule.specs.Openings.{KeptBooking, kept_bookings, kept_of_row, placed, stub}
+use Rattle.claim_rule.specs.Rule.{most_place_legs}
 use Rattle.claim_rule.specs.Walls.{WallView}
 use Rattle.cold_store.specs.declared.fault.ExportFault.{ExportFault}
 use Rattle.cold_store.specs.declared.fault.ExportFault.TheVariants.{RowOpen, PlaceHeld, NoMemory}
@@ -26,7 +27,7 @@ pub record IsClosed (w : WallView) : Type 0 where
   pub legal : IsLegal w.layout w.history
   pub are : AreWordsOf w.layout (state_on w) w.words
   pub places : length w.layout.legs ≤ most_places
-  pub legs : All (λ n. n ≤ most_legs) w.layout.legs
+  pub legs : All (λ n. n ≤ most_place_legs) w.layout.legs
 
 -- the row is free, or its booking of just this generation is in the making
 abbrev pub IsUnmade : State → ℕ → ℕ → Type 0

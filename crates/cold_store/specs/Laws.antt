@@ -1,8 +1,9 @@
 -- What is so of every export.
 use Rattle.std.specs.Prelude.{◌≡◌, ◌⊎◌, ℕ, ◌<◌, ◌≤◌, List, [], All, length, map}
-use Rattle.leg_masks.specs.Interval.{most_legs, most_places}
+use Rattle.leg_masks.specs.Interval.{most_places}
 use Rattle.history_model.specs.Booking.{Layout, most_rows}
 use Rattle.claim_rule.specs.Openings.{kept_bookings, opening_of}
+use Rattle.claim_rule.specs.Rule.{IsPlaceLegs}
 use Rattle.claim_rule.specs.Walls.{WallView}
 use Rattle.cold_store.specs.declared.fault.ImportFault.{ImportFault}
 use Rattle.cold_store.specs.declared.fault.ImportFault.TheVariants.{NoMemory}
@@ -14,7 +15,7 @@ use Rattle.cold_store.specs.Right.{kept_of}
 -- as many places, legs and rows as books may have
 pub record HasSizes (g : Layout) : Type 0 where
   pub places : (0 < length g.legs) × (length g.legs ≤ most_places)
-  pub legs : All (λ n. (0 < n) × (n ≤ most_legs)) g.legs
+  pub legs : All IsPlaceLegs g.legs
   pub rows : (0 < g.rows) × (g.rows ≤ most_rows)
 
 -- the books began without a booking, or with those of an export

@@ -1,6 +1,7 @@
 //! The line of a booking, read.
 ghost use Rattle.std.specs.Prelude.{◌≡◌, ◌<◌, ◌≤◌, All, IfNone, IfSome, length, option_map};
-ghost use Rattle.leg_masks.specs.Interval.{most_legs, most_places};
+ghost use Rattle.leg_masks.specs.Interval.{most_places};
+ghost use Rattle.claim_rule.specs.Rule.{IsPlaceLegs};
 ghost use Rattle.cold_store.specs.Lines.{AreItemNumbers, HasLetter, item_field, phase_field};
 ghost use Rattle.cold_store.specs.Right.{IsWithin, kept_item};
 ghost use Rattle.cold_store.specs.Reads.{IsHeadSaid, Reads, ReadsItems, ReadsLine, head_fields, items_with};
@@ -57,7 +58,7 @@ impl Model for Line {
 // The item, if it is a piece within the legs of its place.
 fn within(legs: &[u8], said: SaidItem) -> Option<Item>
     requires places { length legs.now ≤ most_places }
-    requires legs { All (λ n. (0 < n) × (n ≤ most_legs)) legs.now }
+    requires legs { All IsPlaceLegs legs.now }
     ensures some { IfSome result (λ item. IsWithin legs.now said × (item ≡ kept_item said)) }
     ensures none { IfNone result (¬ IsWithin legs.now said) }
 {
@@ -120,7 +121,7 @@ impl<'a> Reader<'a> {
     // So many items.
     fn items(&mut self, legs: &[u8], count: u64) -> Option<Items>
         requires places { length legs.now ≤ most_places }
-        requires legs { All (λ n. (0 < n) × (n ≤ most_legs)) legs.now }
+        requires legs { All IsPlaceLegs legs.now }
         ensures { ReadsItems legs.now count self.old.rest.now self.new.rest.now
             (option_map (λ is. option_map (λ v. v.items) is) result) }
     {
@@ -135,7 +136,7 @@ impl<'a> Reader<'a> {
     /// The line of a booking, with its line feed.
     pub(crate) fn line(&mut self, legs: &[u8]) -> Option<Line>
         requires places { length legs.now ≤ most_places }
-        requires legs { All (λ n. (0 < n) × (n ≤ most_legs)) legs.now }
+        requires legs { All IsPlaceLegs legs.now }
         ensures { ReadsLine legs.now self.old.rest.now self.new.rest.now result }
     {
         let head = self.head()?;

@@ -1,6 +1,7 @@
 //! Books that open with the bookings of an export.
 ghost use Rattle.std.specs.Prelude.{◌≡◌, ◌+◌, ◌<◌, ◌≤◌, [], All, IfErr, IfNone, IfOk, IfSome, length, min};
-ghost use Rattle.leg_masks.specs.Interval.{most_legs, most_places};
+ghost use Rattle.leg_masks.specs.Interval.{most_places};
+ghost use Rattle.claim_rule.specs.Rule.{IsPlaceLegs};
 ghost use Rattle.history_model.specs.Booking.{most_rows};
 ghost use Rattle.claim_rule.specs.Out.{IsTidy};
 ghost use Rattle.claim_rule.specs.Seats.{IsNew, IsOf};
@@ -25,7 +26,7 @@ pub fn import_books(
     text: &[u8],
 ) -> Result<(Books, Desk), ImportFault>
     requires places { (0 < length legs.now) × (length legs.now ≤ most_places) }
-    requires legs { All (λ n. (0 < n) × (n ≤ most_legs)) legs.now }
+    requires legs { All IsPlaceLegs legs.now }
     requires rows { (0 < rows) × (rows ≤ most_rows) }
     ensures layout { IfOk result (λ t. OpensAs legs.now rows text.now t.0.layout) }
     ensures own { IfOk result (λ t. IsOf t.0 t.1) }
@@ -67,7 +68,7 @@ fn fault_of(draft: &Draft) -> Option<ImportFault>
 // Adds all lines of the text to the draft, and gives the numbers of places and rows that its first line says.
 fn read_text(draft: &mut Draft, legs: &[u8], text: &[u8]) -> Result<(u64, u64), ImportFault>
     requires places { length legs.now ≤ most_places }
-    requires legs { All (λ n. (0 < n) × (n ≤ most_legs)) legs.now }
+    requires legs { All IsPlaceLegs legs.now }
     requires draft { IsDraftOf legs.now draft.old.rows [] draft.old }
     ensures ok { IfOk result (λ sizes. IsReadText legs.now text.now sizes.0 sizes.1 draft.new) }
     ensures rows { IfOk result (λ _. draft.new.rows ≡ draft.old.rows) }
@@ -124,7 +125,7 @@ fn first_line(reader: &mut Reader<'_>) -> Option<(u64, u64)>
 // The next line, if it is one of a booking in a greater row than all before.
 fn next_line(reader: &mut Reader<'_>, draft: &Draft, legs: &[u8]) -> Option<Line>
     requires places { length legs.now ≤ most_places }
-    requires legs { All (λ n. (0 < n) × (n ≤ most_legs)) legs.now }
+    requires legs { All IsPlaceLegs legs.now }
     ensures some { IfSome result (λ line. IsNextRow draft.now.lines line.head.row) }
     ensures read { ReadsNext legs.now draft.now.lines reader.old.rest.now reader.new.rest.now result }
 {

@@ -1,4 +1,5 @@
-//! Tests of a desk's public calls: rows, holds and looks, on one desk and on two.
+//! Tests of a desk's public calls: rows, holds and looks, on one desk and on two. A room of its own, so that the crates that it tests are
+//! proved once, without tests.
 #![tactic(auto)]
 
 #[cfg(test)]

@@ -1,4 +1,5 @@
-//! What a drill asks for, and what it comes to.
+//! What a drill asks for, and what it comes to. It is a room of its own since its law speaks of histories alone, and is proved beside the
+//! services.
 //!
 //! A drill is a large valid input made from a number: so many connections, each with so many requests for one place on one leg of a run
 //! with eight. `Generator` in `specs/` defines the requests and the catalogue, and `Totals` what is counted: the bookings sold, the

@@ -1,5 +1,5 @@
 -- A try of a candidate, from those of its pieces.
-use Rattle.std.proofs.Common.{◌≡◌, suc, ◌≢◌, ◌⊎◌, inl, inr, ⊎_elim, false, ℕ, ◌+◌, ◌-◌, ◌<◌, ◌≤◌, List, [], ◌∷◌, ◌++◌, length, get_or, map, take, refl, sym, ap, ◌∙◌, subst, arith, append_assoc, append-nil, length-append}
+use Rattle.std.proofs.Common.{◌≡◌, ◌≢◌, ◌⊎◌, inl, inr, ⊎_elim, false, ℕ, ◌+◌, ◌-◌, ◌<◌, ◌≤◌, List, [], ◌∷◌, ◌++◌, length, map, take, refl, sym, ap, ◌∙◌, subst, arith, append_assoc, append-nil, length-append}
 use Rattle.std.specs.List.{AllByRecursion}
 use Rattle.leg_masks.specs.Interval.{Interval, IsPiece, pieces, is_piece, PlacedSpan as Item}
 use Rattle.leg_masks.proofs.HalfLegs.{pieces-whole, pieces-border, pieces_some, ends-border, cases_piece}

@@ -45,6 +45,25 @@ pub(crate) fn try_place(
     ensures noted { HasNotedItems desk.old hold.old → HasNotedItems desk.new hold.new }
     ensures endings { KeepsEndings desk.old desk.new }
 {
+    if span.is_piece() {
+        return try_piece(books, desk, hold, place, span);
+    }
+    try_parts(books, desk, hold, place, span)
+}
+
+// The same, piece by piece.
+fn try_parts(books: &Books, desk: &mut Desk, hold: &mut Hold, place: PlaceNo, span: Span) -> Outcome
+    requires own { IsOf books.now desk.old }
+    requires hold { IsHolding desk.old hold.old }
+    requires room { length hold.old.items + length (spec_pieces span) ≤ most_items }
+    requires place { place.0 < length books.now.layout.legs }
+    requires legs { span.to ≤ slice_index books.now.layout.legs place.0 }
+    ensures own { IsOf books.now desk.new }
+    ensures tried { TriesPlace desk.old hold.old place.0 span desk.new hold.new result }
+    ensures hold { IsHolding desk.new hold.new }
+    ensures noted { HasNotedItems desk.old hold.old → HasNotedItems desk.new hold.new }
+    ensures endings { KeepsEndings desk.old desk.new }
+{
     let parts = pieces(span);
     let first = parts[0];
     match try_piece(books, desk, hold, place, first) {

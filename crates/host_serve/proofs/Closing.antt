@@ -21,8 +21,8 @@ use Rattle.rail_catalogue.specs.Contents.{CatalogueView}
 use Rattle.host_words.specs.declared.serve.Serving.{Serving}
 use Rattle.host_serve.specs.declared.member.Post.{Post}
 use Rattle.host_serve.specs.Crews.{OnlyMet, AreReady, IsCrew, HasMetAll, HasRun}
-use Rattle.host_serve.specs.Turns.{FitsBooks, HasEnded, DoesTurn, HasChain, Readings, Stand, OneTurn, Chain, Connection, Sweep, clock_of}
-use Rattle.host_serve.specs.Serve.{IsServedWall, HasWorked}
+use Rattle.host_serve.specs.Turns.{FitsBooks, HasEnded, DoesTurn, HasChain, Readings, Stand, OneTurn, Asks, Chain, Connection, Sweep, clock_for, clock_of, stand_of}
+use Rattle.host_serve.specs.Serve.{AllWorked, HasWorked, IsServedWall}
 use Rattle.host_serve.proofs.Chaining.{all_turns, chain_on, serving_chain, sweeping_chain}
 use Rattle.host_serve.proofs.Crewing.{begins, has_in}
 use Rattle.host_serve.proofs.Tidying.{IsRested, never_worked, rested, tidy_wall}
@@ -34,12 +34,12 @@ pub record IsFit (g : Layout) : Type 0 where
   pub rows : g.rows ≤ most_rows
 
 -- Each desk has what it did from a time between two calls of the service, so the wall is free for an export.
-pub served_wall : (cat : CatalogueView) (said : Serving) (books : BooksView) (desk : DeskView) (wall : WallView) → IsOf books desk → IsTidy desk
-    → AreSucceeded books.layout.opening → wall.layout ≡ books.layout → IsFit wall.layout → Ends books.layout desk wall.words wall.history
-    → IsWhole desk.number desk.made desk.taken → desk.made ≡ said.workers + 1 → OnlyMet desk.seen
-    → ((n : ℕ) → 1 ≤ n → n ≤ said.workers → HasWorked (Connection cat) books desk.seen n) → HasWorked Sweep books desk.seen (said.workers + 1)
-    → ((n : ℕ) → 1 ≤ n → n ≤ said.workers + 1 → IsRested books.layout desk.seen n) → IsServedWall cat books.layout said wall
-served_wall cat said books desk wall of tidy succeeded same fit ends whole made meets serving sweeping rests =
+pub served_wall : (cat : CatalogueView) (said : Serving) (clocks : List Readings) (asks : ℕ → ℕ → Type 0) (books : BooksView) (desk : DeskView) (wall : WallView)
+    → IsOf books desk → IsTidy desk → AreSucceeded books.layout.opening → wall.layout ≡ books.layout → IsFit wall.layout
+    → Ends books.layout desk wall.words wall.history → IsWhole desk.number desk.made desk.taken → desk.made ≡ said.workers + 1 → OnlyMet desk.seen
+    → AllWorked cat books said clocks asks desk.seen
+    → ((n : ℕ) → 1 ≤ n → n ≤ said.workers + 1 → IsRested books.layout desk.seen n) → IsServedWall cat books.layout said clocks asks wall
+served_wall cat said clocks asks books desk wall of tidy succeeded same fit ends whole made meets worked rests =
     let seen : desk.seen ≡ wall.history = sym (ends.whole whole) in
     record {
       books = books;
@@ -54,8 +54,7 @@ served_wall cat said books desk wall of tidy succeeded same fit ends whole made 
       tidy = subst (λ (l : Layout). IsTidyWall (record { layout = l; words = wall.words; history = wall.history })) (sym same)
           (tidy_wall books.layout wall.history ends.legal all wall.words succeeded (subst (λ (l : Layout). l.rows ≤ most_rows) same fit.rows));
       first = subst (λ (h : List Entry). OnlyMet h) seen meets;
-      serving = λ n low high. subst (λ (h : List Entry). HasWorked (Connection cat) books h n) seen (serving n low high);
-      sweeping = subst (λ (h : List Entry). HasWorked Sweep books h (said.workers + 1)) seen sweeping;
+      worked = subst (λ (h : List Entry). AllWorked cat books said clocks asks h) seen worked;
       no_others = λ n beyond. ends.no_others whole.0 n (omega (arith, made, beyond));
     }
   where
@@ -77,11 +76,12 @@ served_wall cat said books desk wall of tidy succeeded same fit ends whole made 
     all (suc n) = some (suc n) (omega arith)
 
 -- a member has worked, from the desk that it stood at to the one that was taken in
-pub has_worked : (Does : OneTurn) (books : BooksView) (n : ℕ) (old new : Stand) (history : List Entry) → IsOf books old.desk → IsOf books new.desk
-    → old.desk.number ≡ n → own old.desk.seen n ≡ [] → KeepsDesk old.desk new.desk
-    → Chain Does old new → own history n ≡ own new.desk.seen n → IsPrefix new.desk.seen history → HasWorked Does books history n
-has_worked Does books n old new history began_of ended_of number none keeps turns entries front = record {
+pub has_worked : (Does : OneTurn) (books : BooksView) (n : ℕ) (clock : Readings) (count : ℕ) (old new : Stand) (history : List Entry) → IsOf books old.desk
+    → IsOf books new.desk → old.desk.number ≡ n → old.clock ≡ clock → own old.desk.seen n ≡ [] → KeepsDesk old.desk new.desk
+    → Chain Does count old new → own history n ≡ own new.desk.seen n → IsPrefix new.desk.seen history → HasWorked Does books history n clock count
+has_worked Does books n clock count old new history began_of ended_of number started none keeps turns entries front = record {
   began = old;
+  began_clock = started;
   began_of = began_of;
   number = number;
   none = none;
@@ -94,15 +94,22 @@ has_worked Does books n old new history began_of ended_of number none keeps turn
   entries = entries;
 }
 
-module _ {S T C : Type 0} (told : C → Readings) (cat : CatalogueView) (said : Serving) (books : BooksView) (old : List (Member (Post S T C))) (first other new : DeskView)
-    (clock later : Readings) where
+module _ {S T C : Type 0} (told : C → Readings) (ticked : T → ℕ → T → Type 0) (cat : CatalogueView) (said : Serving) (ticker : T) (clocks : List Readings)
+    (books : BooksView) (old : List (Member (Post S T C))) (first other new : DeskView) (clock later : Readings) where
   -- All that the members of a crew did stands in what the first desk has seen. The first member's desk served on, and was taken in last.
-  pub all_worked : (member : Member (Post S T C)) → IsCrew FitsBooks books old → AreReady cat said old → length old ≡ said.workers + 1 → 1 ≤ said.workers
-      → HasRun FitsBooks (DoesTurn told) HasEnded books old first member → clock ≡ told (clock_of member.worker)
-      → KeepsDesk member.desk other → Chain (Connection cat) (record { desk = member.desk; clock = clock }) (record { desk = other; clock = later })
-      → IsOf books other → HasMet first other new
-      → ((n : ℕ) → 1 ≤ n → n ≤ said.workers → HasWorked (Connection cat) books new.seen n) × HasWorked Sweep books new.seen (said.workers + 1)
-  all_worked member crew ready count some run read kept left of met = (serving, sweeping)
+  pub all_worked : (member : Member (Post S T C)) (more : ℕ) → IsCrew FitsBooks books old → AreReady told cat said ticker clocks old
+      → length old ≡ said.workers + 1 → 1 ≤ said.workers → HasRun FitsBooks (DoesTurn told ticked) HasEnded books old first member
+      → clock ≡ told (clock_of member.worker) → KeepsDesk member.desk other
+      → Chain (Connection cat) more (record { desk = member.desk; clock = clock }) (record { desk = other; clock = later })
+      → IsOf books other → HasMet first other new → AllWorked cat books said clocks (Asks ticked ticker) new.seen
+  all_worked member more crew ready count some run read kept left of met = record {
+    serving = serving;
+    sweeps = swept.0;
+    sweeping = sweeping;
+    ticks = swept.1;
+    enough = swept.2;
+    asked = swept.3;
+  }
     where
       behind : (i : ℕ) → 1 ≤ i → i < length old → i < length run.crew
       behind i low lt = omega (arith, lt, run.count)
@@ -111,53 +118,67 @@ module _ {S T C : Type 0} (told : C → Readings) (cat : CatalogueView) (said : 
           → (own new.seen (i + 1) ≡ own (slice_index_or run.crew i member).desk.seen (i + 1)) × IsPrefix (slice_index_or run.crew i member).desk.seen new.seen
       entries i low lt = has_in books run.crew first other new run.met met i member low (behind i low lt)
 
-      chain : (i : ℕ) → i < length old → HasChain told (slice_index_or old i member).worker (slice_index_or old i member).desk (slice_index_or run.crew i member).worker (slice_index_or run.crew i member).desk
-      chain i lt = all_turns told (slice_index_or old i member).worker (slice_index_or old i member).desk (slice_index_or run.crew i member).worker (slice_index_or run.crew i member).desk (run.turns i member lt)
+      chain : (i : ℕ) → i < length old → HasChain told ticked (slice_index_or old i member).worker (slice_index_or old i member).desk
+          (slice_index_or run.crew i member).worker (slice_index_or run.crew i member).desk
+      chain i lt = all_turns told ticked (slice_index_or old i member).worker (slice_index_or old i member).desk (slice_index_or run.crew i member).worker
+          (slice_index_or run.crew i member).desk (run.turns i member lt)
 
-      sweeping : HasWorked Sweep books new.seen (said.workers + 1)
+      last : said.workers < length old
+      last = omega (arith, count)
+
+      swept : (sweeps ticks : ℕ) × (sweeps ≤ ticks) × Asks ticked ticker said.sweep ticks
+          × Chain Sweep sweeps (stand_of told (slice_index_or old said.workers member).worker (slice_index_or old said.workers member).desk)
+          (stand_of told (slice_index_or run.crew said.workers member).worker (slice_index_or run.crew said.workers member).desk)
+      swept =
+          let i : ℕ = said.workers in
+          let w = slice_index_or old i member in
+          let v = slice_index_or run.crew i member in
+          sweeping_chain told ticked cat said ticker i w.worker w.desk v.worker v.desk refl (ready i member last).post (chain i last)
+
+      sweeping : HasWorked Sweep books new.seen (said.workers + 1) (clock_for clocks said.workers) swept.0
       sweeping =
           let i : ℕ = said.workers in
-          let lt : i < length old = omega (arith, count) in
-          let was = slice_index_or old i member in
-          let is = slice_index_or run.crew i member in
-          has_worked Sweep books (i + 1) (record { desk = was.desk; clock = told (clock_of was.worker) }) (record { desk = is.desk; clock = told (clock_of is.worker) }) new.seen
-          (crew i member lt).desk.own (run.are i member (behind i some lt)).desk.own (crew i member lt).desk.number (ready i member lt).none (run.keeps i member lt)
-          (sweeping_chain told cat said i was.worker was.desk is.worker is.desk refl (ready i member lt).post (chain i lt))
-          (entries i some lt).0 (entries i some lt).1
+          let w = slice_index_or old i member in
+          let v = slice_index_or run.crew i member in
+          has_worked Sweep books (i + 1) (clock_for clocks i) swept.0 (stand_of told w.worker w.desk) (stand_of told v.worker v.desk) new.seen
+          (crew i member last).desk.own (run.are i member (behind i some last)).desk.own (crew i member last).desk.number (ready i member last).clock
+          (ready i member last).none (run.keeps i member last) swept.4 (entries i some last).0 (entries i some last).1
 
-      later_one : (i : ℕ) → 1 ≤ i → i < said.workers → HasWorked (Connection cat) books new.seen (i + 1)
+      later_one : (i : ℕ) → 1 ≤ i → i < said.workers → (n : ℕ) × HasWorked (Connection cat) books new.seen (i + 1) (clock_for clocks i) n
       later_one i low less =
           let lt : i < length old = omega (arith, count, less) in
-          let was = slice_index_or old i member in
-          let is = slice_index_or run.crew i member in
-          has_worked (Connection cat) books (i + 1) (record { desk = was.desk; clock = told (clock_of was.worker) }) (record { desk = is.desk; clock = told (clock_of is.worker) }) new.seen
-          (crew i member lt).desk.own (run.are i member (behind i low lt)).desk.own (crew i member lt).desk.number (ready i member lt).none (run.keeps i member lt)
-          (serving_chain told cat said i was.worker was.desk is.worker is.desk less (ready i member lt).post (chain i lt))
-          (entries i low lt).0 (entries i low lt).1
+          let w = slice_index_or old i member in
+          let v = slice_index_or run.crew i member in
+          let did = serving_chain told ticked cat said ticker i w.worker w.desk v.worker v.desk less (ready i member lt).post (chain i lt) in (
+            did.0,
+            has_worked (Connection cat) books (i + 1) (clock_for clocks i) did.0 (stand_of told w.worker w.desk) (stand_of told v.worker v.desk) new.seen
+                (crew i member lt).desk.own (run.are i member (behind i low lt)).desk.own (crew i member lt).desk.number (ready i member lt).clock
+                (ready i member lt).none (run.keeps i member lt) did.1 (entries i low lt).0 (entries i low lt).1,
+          )
 
-      first_one : HasWorked (Connection cat) books new.seen (0 + 1)
+      first_one : (n : ℕ) × HasWorked (Connection cat) books new.seen (0 + 1) (clock_for clocks 0) n
       first_one =
           let lt : 0 < length old = omega (arith, count) in
-          let was = slice_index_or old 0 member in
+          let w = slice_index_or old 0 member in
           let left_is : slice_index_or run.crew 0 member ≡ member = sym (run.left member) in
-          let keeps : KeepsDesk was.desk member.desk = subst (λ (m : Member (Post S T C)). KeepsDesk was.desk m.desk) left_is (run.keeps 0 member lt) in
-          let did : HasChain told was.worker was.desk member.worker member.desk =
-          subst (λ (m : Member (Post S T C)). HasChain told was.worker was.desk m.worker m.desk) left_is (chain 0 lt) in
-          let before = serving_chain told cat said 0 was.worker was.desk member.worker member.desk some (ready 0 member lt).post did in
-          let behind_it = subst (λ (r : Readings). Chain (Connection cat) (record { desk = member.desk; clock = r }) (record { desk = other; clock = later })) read left in
-          let number : other.number ≡ 1 = kept.number ∙ run.is.desk.number in
-          has_worked (Connection cat) books (0 + 1) (record { desk = was.desk; clock = told (clock_of was.worker) }) (record { desk = other; clock = later }) new.seen
-          (crew 0 member lt).desk.own of (crew 0 member lt).desk.number (ready 0 member lt).none (keeps_on was.desk member.desk other keeps kept)
-          (chain_on (Connection cat) (record { desk = was.desk; clock = told (clock_of was.worker) }) (record { desk = member.desk; clock = told (clock_of member.worker) })
-          (record { desk = other; clock = later }) before behind_it)
-          (subst (λ (k : ℕ). own new.seen k ≡ own other.seen k) number met.theirs.0) met.other_front
+          let keeps : KeepsDesk w.desk member.desk = subst (λ (m : Member (Post S T C)). KeepsDesk w.desk m.desk) left_is (run.keeps 0 member lt) in
+          let did : HasChain told ticked w.worker w.desk member.worker member.desk =
+          subst (λ (m : Member (Post S T C)). HasChain told ticked w.worker w.desk m.worker m.desk) left_is (chain 0 lt) in
+          let before = serving_chain told ticked cat said ticker 0 w.worker w.desk member.worker member.desk some (ready 0 member lt).post did in
+          let behind_it = subst (λ (r : Readings). Chain (Connection cat) more (record { desk = member.desk; clock = r }) (record { desk = other; clock = later })) read left in
+          let number : other.number ≡ 1 = kept.number ∙ run.is.desk.number in (
+            before.0 + more,
+            has_worked (Connection cat) books (0 + 1) (clock_for clocks 0) (before.0 + more) (stand_of told w.worker w.desk) (record { desk = other; clock = later }) new.seen
+                (crew 0 member lt).desk.own of (crew 0 member lt).desk.number (ready 0 member lt).clock (ready 0 member lt).none
+                (keeps_on w.desk member.desk other keeps kept)
+                (chain_on (Connection cat) before.0 more (stand_of told w.worker w.desk) (stand_of told member.worker member.desk)
+                (record { desk = other; clock = later }) before.1 behind_it)
+                (subst (λ (k : ℕ). own new.seen k ≡ own other.seen k) number met.theirs.0) met.other_front,
+          )
 
-      serving : (n : ℕ) → 1 ≤ n → n ≤ said.workers → HasWorked (Connection cat) books new.seen n
-      serving zero low high = absurd (omega (arith, low))
-      serving (suc zero) low high = first_one
-      serving (suc (suc i)) low high =
-          let at : suc i + 1 ≡ suc (suc i) = omega arith in
-          subst (λ (n : ℕ). HasWorked (Connection cat) books new.seen n) at (later_one (suc i) (omega arith) (omega (arith, high)))
+      serving : (i : ℕ) → i < said.workers → (n : ℕ) × HasWorked (Connection cat) books new.seen (i + 1) (clock_for clocks i) n
+      serving zero less = first_one
+      serving (suc i) less = later_one (suc i) (omega arith) less
 
 -- The members' desks are tidy, and the first desk has taken in what each did. The first member's is another one by then, and was taken in last.
 pub all_rested : {W : Type 0} (Fits : W → BooksView → Type 0) (books : BooksView) (crew : List (Member W)) (none : Member W) (first other new : DeskView)

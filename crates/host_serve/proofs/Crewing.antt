@@ -1,8 +1,8 @@
 -- Crews that gain and lose a member.
-use Rattle.std.proofs.Common.{◌≡◌, ◌∙◌, ◌<◌, ◌≤◌, ◌+◌, ◌-◌, ℕ, List, [], ◌∷◌, ◌++◌, length, take, drop, slice_index_or, refl, sym, ap, subst, inl, inr, arith, append-nil, append_assoc}
+use Rattle.std.proofs.Common.{◌≡◌, ◌∙◌, ◌<◌, ◌≤◌, ◌+◌, ◌-◌, ℕ, List, [], ◌∷◌, ◌++◌, None, length, map, take, drop, slice_index_or, refl, sym, ap, subst, inl, inr, arith, append-nil, append_assoc}
 use Rattle.std.proofs.Math.Logic.{⊎_elim}
 use Rattle.std.proofs.lemmas.Bool.{cases_lt}
-use Rattle.std.proofs.lemmas.List.{drop_all, get_or_append_left, length-append, take_all}
+use Rattle.std.proofs.lemmas.List.{drop_all, get_or_append_left, length-append, length-map, map-append, take_all}
 use Rattle.std.proofs.Math.Seq.{get_or-append_seam}
 use Rattle.std.specs.List.{All, AllByRecursion}
 use Rattle.std.proofs.lemmas.List.Elements.{All-from_get_or}
@@ -19,10 +19,29 @@ use Rattle.claim_rule.proofs.Views.{each_in}
 use Rattle.worker_pool.specs.Turns.{KeepsDesk, EachMember}
 use Rattle.worker_pool.specs.declared.member.Member.{Member}
 use Rattle.host_serve.specs.Crews.{OnlyMet, IsFirst, IsDesk, IsMember, IsCrew, HasMetAll}
+use Rattle.host_serve.specs.Turns.{Readings, clock_for}
 
 -- what begins a beginning begins the whole
 pub begins : (a b c : List Entry) → IsPrefix a b → IsPrefix b c → IsPrefix a c
 begins a b c p q = (p.0 ++ q.0, sym (append_assoc a p.0 q.0) ∙ (ap (λ l. l ++ q.0) p.1 ∙ q.1))
+
+-- what is left of a beginning without its last begins the whole
+pub shorter : {A : Type 0} (all rest : List A) (last : A) → IsPrefix (rest ++ last ∷ []) all → IsPrefix rest all
+shorter all rest last front = (last ∷ front.0, sym (append_assoc rest (last ∷ []) front.0) ∙ front.1)
+
+-- the clock of the member at place i is the one behind those that are left for later ones
+pub popped_clock : {C : Type 0} (told : C → Readings) (all rest : List C) (c : C) (i : ℕ) → IsPrefix (rest ++ c ∷ []) all
+    → length rest + (i + 1) ≡ length all → told c ≡ clock_for (map told all) i
+popped_clock {C} told all rest c i front count =
+    let whole : all ≡ rest ++ c ∷ front.0 = sym front.1 ∙ append_assoc rest (c ∷ []) front.0 in
+    let mapped : map told all ≡ map told rest ++ told c ∷ map told front.0 = ap (λ (l : List C). map told l) whole ∙ map-append told rest (c ∷ front.0) in
+    let many : length (map told all) ≡ length all = length-map all told in
+    let few : length (map told rest) ≡ length rest = length-map rest told in
+    let at : length (map told rest) ≡ length (map told all) - (i + 1) = omega (arith, many, few, count) in
+    let there : slice_index_or (map told all) (length (map told rest)) None ≡ told c =
+    ap (λ (l : List Readings). slice_index_or l (length (map told rest)) None) mapped
+    ∙ get_or-append_seam (map told rest) (told c) (map told front.0) None in
+    sym (subst (λ (k : ℕ). slice_index_or (map told all) k None ≡ told c) at there)
 
 -- one meeting more
 pub one_more : (n : ℕ) (old new : List Entry) → n ≡ 0 → own new n ≡ own old n ++ entry n Met ∷ [] → OnlyMet old → OnlyMet new

@@ -55,29 +55,19 @@ module _ (words : List (List ℕ)) (files : Files) (left : Left) where
   when_refused end.NoText r none = absurd (none r.0 r.1)
   when_refused end.Unwritten r none = absurd (none r.0 r.1)
 
-  pub refused_runs : (o : ServeOutcome) → o ≡ end.Refused → IsNoServe words → left.after ≡ left.before → left.wall ≡ None → Runs words files left o
-  refused_runs o is unsaid same none = subst (λ (p : ServeOutcome). Runs words files left p) (sym is) (unsaid, same, none)
+  pub refused_runs : (o : ServeOutcome) → o ≡ end.Refused → IsNoServe words → left.after ≡ left.before → left.faults_after ≡ left.faults_before
+      → left.wall ≡ None → Runs words files left o
+  refused_runs o is unsaid same steady none = subst (λ (p : ServeOutcome). Runs words files left p) (sym is) (unsaid, same, steady, none)
 
-  pub stays : (o : ServeOutcome) → Runs words files left o → (status_of_serve o ≡ 0) ⊎ (status_of_serve o ≡ 1) ⊎ (status_of_serve o ≡ 4)
-      → left.faults_after ≡ left.faults_before
-  stays end.Refused r (inl e) = absurd (omega (arith, e))
-  stays end.Refused r (inr (inl e)) = absurd (omega (arith, e))
-  stays end.Refused r (inr (inr e)) = absurd (omega (arith, e))
-  stays end.NoMemory r (inl e) = absurd (omega (arith, e))
-  stays end.NoMemory r (inr (inl e)) = absurd (omega (arith, e))
-  stays end.NoMemory r (inr (inr e)) = absurd (omega (arith, e))
-  stays (end.NotLoaded fault) r e = r.2.2
-  stays end.NotBound r (inl e) = absurd (omega (arith, e))
-  stays end.NotBound r (inr (inl e)) = absurd (omega (arith, e))
-  stays end.NotBound r (inr (inr e)) = absurd (omega (arith, e))
-  stays end.AcceptFailed r (inl e) = absurd (omega (arith, e))
-  stays end.AcceptFailed r (inr (inl e)) = absurd (omega (arith, e))
-  stays end.AcceptFailed r (inr (inr e)) = absurd (omega (arith, e))
-  stays end.NoText r (inl e) = absurd (omega (arith, e))
-  stays end.NoText r (inr (inl e)) = absurd (omega (arith, e))
-  stays end.NoText r (inr (inr e)) = absurd (omega (arith, e))
-  stays end.Served r e = r.2.0.steady
-  stays end.Unwritten r e = r.2.0.steady
+  pub stays : (o : ServeOutcome) → Runs words files left o → (status_of_serve o ≡ 3 → ⊥) → left.faults_after ≡ left.faults_before
+  stays end.Refused r other = r.2
+  stays end.NoMemory r other = r.2
+  stays (end.NotLoaded fault) r other = r.2.2
+  stays end.NotBound r other = absurd (other refl)
+  stays end.AcceptFailed r other = absurd (other refl)
+  stays end.NoText r other = r.2.0.steady
+  stays end.Served r other = r.2.0.steady
+  stays end.Unwritten r other = r.2.0.steady
 
   pub wall_missing : (o : ServeOutcome) (failed fails missed misses : ℕ) → Runs words files left o → HasShelfCause o failed fails missed misses
       → status_of_serve o ≡ 3 → left.wall ≡ None → Rose failed fails ⊎ IsOnlyLimited words left.before left.after

@@ -65,24 +65,30 @@ tells_plain words wall n end.NoText plain silent before = absurd before
 tells_plain words wall n end.Unwritten plain silent before = absurd before
 
 -- the wall of an end is free for an export
-of_wall : (P : WallView → Type 0) (files : Files) (said : ServeView) (wall : Option WallView) → HasWall files said wall
-    → ((cat : CatalogueView) (plan : Layout) (w : WallView) → IsServedWall cat plan said.numbers w → P w) → IfSome wall P
-of_wall P files said None has so = tt
-of_wall P files said (Some w) has so = so has.cat (layout_with (legs_in has.cat) has.cat.rows has.kept) w has.closed
+of_wall : (P : WallView → Type 0) (files : Files) (said : ServeView) (left : Left) → HasWall files said left
+    → ((cat : CatalogueView) (plan : Layout) (w : WallView) → IsServedWall cat plan said.numbers left.clocks left.asks w → P w) → IfSome left.wall P
+of_wall P files said left has so = go left.wall has.closed
+  where
+    plan : Layout
+    plan = layout_with (legs_in has.cat) has.cat.rows has.kept
+
+    go : (wall : Option WallView) → IsSomeAnd wall (IsServedWall has.cat plan said.numbers left.clocks left.asks) → IfSome wall P
+    go None is = tt
+    go (Some w) is = so has.cat plan w is
 
 none_so : (P : WallView → Type 0) (wall : Option WallView) → wall ≡ None → IfSome wall P
 none_so P wall none = subst (λ (o : Option WallView). IfSome o P) (sym none) tt
 
 wall_so : (P : WallView → Type 0) (files : Files) (said : ServeView) (left : Left) (o : ServeOutcome) → Ends files said left o
-    → ((cat : CatalogueView) (plan : Layout) (w : WallView) → IsServedWall cat plan said.numbers w → P w) → IfSome left.wall P
+    → ((cat : CatalogueView) (plan : Layout) (w : WallView) → IsServedWall cat plan said.numbers left.clocks left.asks w → P w) → IfSome left.wall P
 wall_so P files said left end.Refused ends so = absurd ends
 wall_so P files said left end.NoMemory ends so = none_so P left.wall ends.0
 wall_so P files said left (end.NotLoaded fault) ends so = none_so P left.wall ends.3
 wall_so P files said left end.NotBound ends so = none_so P left.wall ends.2
-wall_so P files said left end.AcceptFailed ends so = of_wall P files said left.wall ends.1 so
-wall_so P files said left end.Served ends so = of_wall P files said left.wall ends.1 so
-wall_so P files said left end.NoText ends so = of_wall P files said left.wall ends.1 so
-wall_so P files said left end.Unwritten ends so = of_wall P files said left.wall ends.1 so
+wall_so P files said left end.AcceptFailed ends so = of_wall P files said left ends.1 so
+wall_so P files said left end.Served ends so = of_wall P files said left ends.1 so
+wall_so P files said left end.NoText ends so = of_wall P files said left ends.1 so
+wall_so P files said left end.Unwritten ends so = of_wall P files said left ends.1 so
 
 pub wall_closed : (files : Files) (said : ServeView) (left : Left) (o : ServeOutcome) → Ends files said left o → IfSome left.wall IsClosed
 wall_closed files said left o ends = wall_so IsClosed files said left o ends (λ cat plan w is. is.closed)
@@ -118,17 +124,17 @@ module _ (words : List (List ℕ)) (files : Files) (said : ServeView) (n : Notin
   served left w (end.NotLoaded fault) new some ends before cause wrote = absurd (let no : None ≡ Some w = sym ends.3 ∙ some in cc)
   served left w end.NotBound new some ends before cause wrote = absurd (let no : None ≡ Some w = sym ends.2 ∙ some in cc)
   served left w end.Served new some ends before cause (inl (silent, same)) =
-      subst (λ (o : ServeOutcome). Over left (Some w) o) (sym same) ((inl ends.0, ends.1), (asked, silent), cause)
+      subst (λ (o : ServeOutcome). Over left (Some w) o) (sym same) (ends, (asked, silent), cause)
   served left w end.Served new some ends before cause (inr (inl (whole, same))) =
       subst (λ (o : ServeOutcome). Over left (Some w) o) (sym same) (ends, inr (asked, whole), cause)
   served left w end.Served new some ends before cause (inr (inr (part, same))) =
       subst (λ (o : ServeOutcome). Over left (Some w) o) (sym same) (ends, (asked, part), cause)
   served left w end.AcceptFailed new some ends before cause (inl (silent, same)) =
-      subst (λ (o : ServeOutcome). Over left (Some w) o) (sym same) ((inr ends.0, ends.1), (asked, silent), cause)
+      subst (λ (o : ServeOutcome). Over left (Some w) o) (sym same) (ends, inr (asked, inr (inr silent)), cause)
   served left w end.AcceptFailed new some ends before cause (inr (inl (whole, same))) =
       subst (λ (o : ServeOutcome). Over left (Some w) o) (sym same) (ends, inr (asked, inl whole), cause)
   served left w end.AcceptFailed new some ends before cause (inr (inr (part, same))) =
-      subst (λ (o : ServeOutcome). Over left (Some w) o) (sym same) (ends, inr (asked, inr part), cause)
+      subst (λ (o : ServeOutcome). Over left (Some w) o) (sym same) (ends, inr (asked, inr (inl part)), cause)
   served left w end.NoText new some ends before cause wrote = absurd before
   served left w end.Unwritten new some ends before cause wrote = absurd before
 

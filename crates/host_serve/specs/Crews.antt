@@ -12,7 +12,7 @@ use Rattle.worker_pool.specs.Turns.{Doing, KeepsDesk, RunsToEnd, EachMember}
 use Rattle.worker_pool.specs.declared.member.Member.{Member}
 use Rattle.rail_catalogue.specs.Contents.{CatalogueView}
 use Rattle.host_words.specs.declared.serve.Serving.{Serving}
-use Rattle.host_serve.specs.Turns.{IsPosted}
+use Rattle.host_serve.specs.Turns.{IsPosted, Readings, clock_for, clock_of}
 use Rattle.host_serve.specs.declared.member.Post.{Post}
 
 -- in the history the first desk has nothing but meetings
@@ -44,13 +44,16 @@ pub record IsMember {W : Type 0} (Fits : W → BooksView → Type 0) (books : Bo
 abbrev pub IsCrew : {W : Type 0} → (W → BooksView → Type 0) → BooksView → List (Member W) → Type 0
 IsCrew {W} Fits books crew = (i : ℕ) (none : Member W) → i < length crew → IsMember Fits books (i + 1) (slice_index_or crew i none)
 
--- a member that stands ready at its post, at a desk without entries of its own
-pub record IsReady {S T C : Type 0} (cat : CatalogueView) (said : Serving) (i : ℕ) (m : Member (Post S T C)) : Type 0 where
-  pub post : IsPosted cat said i m.worker
+-- a member that stands ready at its post, with its own of the clocks, at a desk without entries of its own
+pub record IsReady {S T C : Type 0} (told : C → Readings) (cat : CatalogueView) (said : Serving) (ticker : T) (clocks : List Readings) (i : ℕ)
+    (m : Member (Post S T C)) : Type 0 where
+  pub post : IsPosted cat said ticker i m.worker
+  pub clock : told (clock_of m.worker) ≡ clock_for clocks i
   pub none : own m.desk.seen (i + 1) ≡ []
 
-abbrev pub AreReady : {S T C : Type 0} → CatalogueView → Serving → List (Member (Post S T C)) → Type 0
-AreReady {S} {T} {C} cat said crew = (i : ℕ) (none : Member (Post S T C)) → i < length crew → IsReady cat said i (slice_index_or crew i none)
+abbrev pub AreReady : {S T C : Type 0} → (C → Readings) → CatalogueView → Serving → T → List Readings → List (Member (Post S T C)) → Type 0
+AreReady {S} {T} {C} told cat said ticker clocks crew =
+    (i : ℕ) (none : Member (Post S T C)) → i < length crew → IsReady told cat said ticker clocks i (slice_index_or crew i none)
 
 -- the desk has taken in this one: it has seen all that this one had seen, and of this one's entries no more
 abbrev pub HasIn : DeskView → ℕ → DeskView → Type 0

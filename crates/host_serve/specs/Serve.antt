@@ -20,7 +20,7 @@ use Rattle.host_catalogue.specs.Opening.{Fails, HasBooks, IsRefusedFile, LacksBo
 use Rattle.host_words.specs.Commands.{IsFor}
 use Rattle.host_words.specs.declared.command.CommandName.TheVariants as command
 use Rattle.host_serve.specs.Crews.{OnlyMet}
-use Rattle.host_serve.specs.Turns.{Stand, OneTurn, Chain, Connection, Sweep}
+use Rattle.host_serve.specs.Turns.{Readings, Stand, OneTurn, Chain, Connection, Sweep, clock_for}
 use Rattle.host_serve.specs.declared.end.ServeOutcome.{ServeOutcome}
 use Rattle.host_serve.specs.declared.end.ServeOutcome.TheVariants as end
 
@@ -44,10 +44,11 @@ IsExporting words = (said : ServeView) × IsServe words said × (said.export ≡
 abbrev pub IsPlain : List (List ℕ) → Type 0
 IsPlain words = (said : ServeView) × IsServe words said × (said.export ≡ false)
 
--- The entries of desk n of the books in the history are those of turns that were made one after the other, at the books' desk of that number.
--- It had none before them, and what it had seen before the first and after the last begins the history.
-pub record HasWorked (Does : OneTurn) (books : BooksView) (history : List Entry) (n : ℕ) : Type 0 where
+-- The entries of desk n of the books in the history are those of so many turns that were made one after the other, at the books' desk of
+-- that number and from this clock on. It had none before them, and what it had seen before the first and after the last begins the history.
+pub record HasWorked (Does : OneTurn) (books : BooksView) (history : List Entry) (n : ℕ) (clock : Readings) (count : ℕ) : Type 0 where
   pub began : Stand
+  pub began_clock : began.clock ≡ clock
   pub began_of : IsOf books began.desk
   pub number : began.desk.number ≡ n
   pub none : own began.desk.seen n ≡ []
@@ -56,8 +57,19 @@ pub record HasWorked (Does : OneTurn) (books : BooksView) (history : List Entry)
   pub ended_of : IsOf books ended.desk
   pub ended_number : ended.desk.number ≡ n
   pub ended_front : IsPrefix ended.desk.seen history
-  pub turns : Chain Does began ended
+  pub turns : Chain Does count began ended
   pub entries : own history n ≡ own ended.desk.seen n
+
+-- In the history the desks 1 to the number of workers served connections, and the one behind them swept, each by its own of the clocks. For
+-- each sweep the ticker was asked once at least for a tick, and each time after the words' seconds.
+pub record AllWorked (cat : CatalogueView) (books : BooksView) (said : Serving) (clocks : List Readings) (asks : ℕ → ℕ → Type 0)
+    (history : List Entry) : Type 0 where
+  pub serving : (i : ℕ) → i < said.workers → (served : ℕ) × HasWorked (Connection cat) books history (i + 1) (clock_for clocks i) served
+  pub sweeps : ℕ
+  pub sweeping : HasWorked Sweep books history (said.workers + 1) (clock_for clocks said.workers) sweeps
+  pub ticks : ℕ
+  pub enough : sweeps ≤ ticks
+  pub asked : asks said.sweep ticks
 
 -- The books were finished by their first desk, which had parted so many others and had taken in each: this is the wall that was left, and
 -- in its history is what that desk had seen.
@@ -71,25 +83,35 @@ pub record IsWallOf (books : BooksView) (others : ℕ) (wall : WallView) : Type 
   pub finished : Finishes books.layout desk wall.words wall.history
 
 -- The wall is that of the books at which the members served, and these have this layout. Its words are those of its history, which is legal,
--- and it is free for an export. In the history the first desk only met others. The desks 1 to the number of workers served connections, and
--- the one behind them swept: their entries there are those of all their turns at these books. No desk beyond these has any.
-pub record IsServedWall (cat : CatalogueView) (plan : Layout) (said : Serving) (wall : WallView) : Type 0 where
+-- and it is free for an export. In the history the first desk only met others, and the members' entries are those of all their turns at these
+-- books. No desk beyond these has any.
+pub record IsServedWall (cat : CatalogueView) (plan : Layout) (said : Serving) (clocks : List Readings) (asks : ℕ → ℕ → Type 0) (wall : WallView) : Type 0 where
   pub books : BooksView
   pub layout : books.layout ≡ plan
   pub of : IsWallOf books (said.workers + 1) wall
   pub closed : IsClosed wall
   pub tidy : IsTidyWall wall
   pub first : OnlyMet wall.history
-  pub serving : (n : ℕ) → 1 ≤ n → n ≤ said.workers → HasWorked (Connection cat) books wall.history n
-  pub sweeping : HasWorked Sweep books wall.history (said.workers + 1)
+  pub worked : AllWorked cat books said clocks asks wall.history
   pub no_others : (n : ℕ) → said.workers + 1 < n → own wall.history n ≡ []
 
+-- what the listener told and how often it had failed, before and after; what the clocks told, and whether the ticker was asked for a tick
+-- after so many seconds so often; and the wall
+pub record Left : Type 1 where
+  pub faults_before : ℕ
+  pub before : ListenerView
+  pub clocks : List Readings
+  pub asks : ℕ → ℕ → Type 0
+  pub faults_after : ℕ
+  pub after : ListenerView
+  pub wall : Option WallView
+
 -- what was served: the books of the words' catalogue, with its places and rows, which opened with no booking or with those of the words' export
-pub record HasWall (files : Files) (said : ServeView) (wall : Option WallView) : Type 0 where
+pub record HasWall (files : Files) (said : ServeView) (left : Left) : Type 0 where
   pub cat : CatalogueView
   pub kept : List KeptBooking
   pub books : HasBooks files said.catalogue said.from cat kept
-  pub closed : IsSomeAnd wall (IsServedWall cat (layout_with (legs_in cat) cat.rows kept) said.numbers)
+  pub closed : IsSomeAnd left.wall (IsServedWall cat (layout_with (legs_in cat) cat.rows kept) said.numbers left.clocks left.asks)
 
 -- There are books that the words ask for: the catalogue is there, and the export, if one is named.
 pub record HasOpened (files : Files) (said : ServeView) : Type 0 where
@@ -114,49 +136,41 @@ pub record IsUnbound (said : Serving) (faults_before faults_after : ℕ) (before
   pub rose : Rose faults_before faults_after
   pub only : after ≡ record before { limit = said.connections }
 
--- what the listener told and how often it had failed, before and after, and the wall
-pub record Left : Type 0 where
-  pub faults_before : ℕ
-  pub before : ListenerView
-  pub faults_after : ℕ
-  pub after : ListenerView
-  pub wall : Option WallView
-
 -- What the words ask for ended so. Where there are books, only a failed bind, and want of memory before any stream was handed out, hand
 -- back no wall.
 abbrev pub Ends : Files → ServeView → Left → ServeOutcome → Type 0
-Ends files said left end.Served = IsSpent said.numbers left.faults_before left.faults_after left.after × HasWall files said left.wall
+Ends files said left end.Served = IsSpent said.numbers left.faults_before left.faults_after left.after × HasWall files said left
 Ends files said left end.AcceptFailed =
-    HasFailed said.numbers left.faults_before left.faults_after left.after × HasWall files said left.wall
-Ends files said left end.Unwritten = IsSpent said.numbers left.faults_before left.faults_after left.after × HasWall files said left.wall
-Ends files said left end.NoText =
-    (IsSpent said.numbers left.faults_before left.faults_after left.after
-    ⊎ HasFailed said.numbers left.faults_before left.faults_after left.after)
-    × HasWall files said left.wall
+    HasFailed said.numbers left.faults_before left.faults_after left.after × HasWall files said left
+Ends files said left end.Unwritten = IsSpent said.numbers left.faults_before left.faults_after left.after × HasWall files said left
+Ends files said left end.NoText = IsSpent said.numbers left.faults_before left.faults_after left.after × HasWall files said left
 Ends files said left end.NotBound =
     HasOpened files said × IsUnbound said.numbers left.faults_before left.faults_after left.before left.after × (left.wall ≡ None)
 Ends files said left (end.NotLoaded fault) =
     Fails files said.catalogue said.from fault × (left.after ≡ left.before) × (left.faults_after ≡ left.faults_before)
     × (left.wall ≡ None)
-Ends files said left end.NoMemory = (left.wall ≡ None) × (left.after.handed ≡ 0)
+Ends files said left end.NoMemory = (left.wall ≡ None) × (left.after.handed ≡ 0) × (left.faults_after ≡ left.faults_before)
 Ends files said left end.Refused = ⊥
 
--- books with this layout were served and closed so, from a count of faults of the listener to one with what it then told
-abbrev pub BooksEnd : CatalogueView → Layout → Serving → ℕ → ℕ → ListenerView → Option WallView → ServeOutcome → Type 0
-BooksEnd cat plan said before after view wall end.Served = IsSpent said before after view × IsSomeAnd wall (IsServedWall cat plan said)
-BooksEnd cat plan said before after view wall end.AcceptFailed =
-    HasFailed said before after view × IsSomeAnd wall (IsServedWall cat plan said)
-BooksEnd cat plan said before after view wall end.Unwritten = ⊥
-BooksEnd cat plan said before after view wall end.NoText = ⊥
-BooksEnd cat plan said before after view wall end.NotBound = ⊥
-BooksEnd cat plan said before after view wall end.NoMemory = (wall ≡ None) × (view.handed ≡ 0)
-BooksEnd cat plan said before after view wall (end.NotLoaded fault) = ⊥
-BooksEnd cat plan said before after view wall end.Refused = ⊥
+-- books with this layout were served and closed so, by these clocks and this ticker, from a count of faults of the listener to one with what
+-- it then told
+abbrev pub BooksEnd : CatalogueView → Layout → Serving → List Readings → (ℕ → ℕ → Type 0) → ℕ → ℕ → ListenerView → Option WallView → ServeOutcome → Type 0
+BooksEnd cat plan said clocks asks before after view wall end.Served =
+    IsSpent said before after view × IsSomeAnd wall (IsServedWall cat plan said clocks asks)
+BooksEnd cat plan said clocks asks before after view wall end.AcceptFailed =
+    HasFailed said before after view × IsSomeAnd wall (IsServedWall cat plan said clocks asks)
+BooksEnd cat plan said clocks asks before after view wall end.Unwritten = ⊥
+BooksEnd cat plan said clocks asks before after view wall end.NoText = ⊥
+BooksEnd cat plan said clocks asks before after view wall end.NotBound = ⊥
+BooksEnd cat plan said clocks asks before after view wall end.NoMemory = (wall ≡ None) × (view.handed ≡ 0) × (after ≡ before)
+BooksEnd cat plan said clocks asks before after view wall (end.NotLoaded fault) = ⊥
+BooksEnd cat plan said clocks asks before after view wall end.Refused = ⊥
 
 -- The command ran so. Words that are refused leave all as it was.
 abbrev pub Runs : List (List ℕ) → Files → Left → ServeOutcome → Type 0
-Runs words files left end.Refused = IsNoServe words × (left.after ≡ left.before) × (left.wall ≡ None)
-Runs words files left end.NoMemory = (left.wall ≡ None) × (left.after.handed ≡ 0)
+Runs words files left end.Refused =
+    IsNoServe words × (left.after ≡ left.before) × (left.faults_after ≡ left.faults_before) × (left.wall ≡ None)
+Runs words files left end.NoMemory = (left.wall ≡ None) × (left.after.handed ≡ 0) × (left.faults_after ≡ left.faults_before)
 Runs words files left end.Served = (said : ServeView) × IsServe words said × Ends files said left end.Served
 Runs words files left end.AcceptFailed = (said : ServeView) × IsServe words said × Ends files said left end.AcceptFailed
 Runs words files left end.Unwritten = (said : ServeView) × IsServe words said × Ends files said left end.Unwritten

@@ -48,22 +48,27 @@ abbrev pub cut_short : ServeOutcome → ServeOutcome
 cut_short end.Served = end.Unwritten
 cut_short outcome = outcome
 
+-- how it ends where there was no memory for the export
+abbrev pub without_text : ServeOutcome → ServeOutcome
+without_text end.Served = end.NoText
+without_text outcome = outcome
+
 -- the export of the wall, where there is one, was written, and what that makes of the end
 abbrev pub WritesExport : Option WallView → Noting → ServeOutcome → ServeOutcome → Type 0
 WritesExport None n old new = IsSilent n × (new ≡ old)
 WritesExport (Some w) n old new =
-    (IsSilent n × (new ≡ end.NoText))
+    (IsSilent n × (new ≡ without_text old))
     ⊎ (IsWhole (text_on w) n × (new ≡ old))
     ⊎ (IsPart (text_on w) n × (new ≡ cut_short old))
 
--- What was written of the export by the end: all of it, where as many connections as were asked for have ended; as much of it as the
--- notes took, where an accept failed; nothing at other ends, and where the words don't ask for it.
+-- What was written of the export by the end: all of it, where as many connections as were asked for have ended; where an accept failed, as
+-- much of it as the notes took, or nothing, for want of memory; nothing at other ends, and where the words don't ask for it.
 abbrev pub Tells : List (List ℕ) → Option WallView → Noting → ServeOutcome → Type 0
 Tells words wall n end.Served =
     (IsPlain words × IsSilent n) ⊎ (IsExporting words × IsSomeAnd wall (λ w. IsWhole (text_on w) n))
 Tells words wall n end.AcceptFailed =
     (IsPlain words × IsSilent n)
-    ⊎ (IsExporting words × IsSomeAnd wall (λ w. IsWhole (text_on w) n ⊎ IsPart (text_on w) n))
+    ⊎ (IsExporting words × IsSomeAnd wall (λ w. IsWhole (text_on w) n ⊎ IsPart (text_on w) n ⊎ IsSilent n))
 Tells words wall n end.Unwritten = IsExporting words × IsSomeAnd wall (λ w. IsPart (text_on w) n)
 Tells words wall n end.NoText = IsExporting words × IsSilent n
 Tells words wall n end.NotBound = IsSilent n

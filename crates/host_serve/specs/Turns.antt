@@ -1,5 +1,5 @@
 -- What the turns of members do.
-use Rattle.std.specs.Prelude.{◌≡◌, ◌<◌, ℕ, Bool, true, false, List, [], ◌∷◌, Option, None}
+use Rattle.std.specs.Prelude.{◌≡◌, ◌<◌, ◌≤◌, ◌+◌, ◌-◌, ℕ, zero, suc, Bool, true, false, List, [], ◌∷◌, Option, None, length, slice_index_or}
 use Rattle.rail_ids.specs.declared.RetailerNo.{RetailerNo}
 use Rattle.rail_io.specs.Told.{with_front, with_end}
 use Rattle.session_loop.specs.declared.end.ConnEnd.{ConnEnd}
@@ -16,6 +16,19 @@ use Rattle.host_serve.specs.declared.member.Post.TheVariants.{Serving, Sweeping}
 -- the readings of a clock to come, where it tells them
 abbrev pub Readings : Type 0
 Readings = Option (ℕ → ℕ)
+
+-- of what the clocks told, the clock of the member at this place, from 0: the first member has the last one
+abbrev pub clock_for : List Readings → ℕ → Readings
+clock_for clocks i = slice_index_or clocks (length clocks - (i + 1)) None
+
+-- from the first ticker to the last it was asked for a tick so often, each time after so many seconds
+abbrev pub Ticks : {T : Type 0} → (T → ℕ → T → Type 0) → ℕ → ℕ → T → T → Type 0
+Ticks ticked seconds zero first last = last ≡ first
+Ticks {T} ticked seconds (suc n) first last = (mid : T) × Ticks ticked seconds n first mid × ticked mid seconds last
+
+-- so often it was asked, whatever ticker it then was
+abbrev pub Asks : {T : Type 0} → (T → ℕ → T → Type 0) → T → ℕ → ℕ → Type 0
+Asks {T} ticked first seconds n = (last : T) × Ticks ticked seconds n first last
 
 -- the books have the catalogue's places and rows
 pub record HasCatalogue (books : BooksView) (cat : CatalogueView) : Type 0 where
@@ -72,9 +85,10 @@ abbrev pub Leads : OneTurn → Stand → List Stand → Stand → Type 0
 Leads Does old [] new = new ≡ old
 Leads Does old (next ∷ later) new = Does old next × Leads Does next later new
 
--- turns one after the other, from stand to stand
-pub record Chain (Does : OneTurn) (old new : Stand) : Type 0 where
+-- so many turns one after the other, from stand to stand
+pub record Chain (Does : OneTurn) (n : ℕ) (old new : Stand) : Type 0 where
   pub stands : List Stand
+  pub count : length stands ≡ n
   pub leads : Leads Does old stands new
 
 -- a serving member's turn: one connection, or nothing, where it has then ended
@@ -101,24 +115,32 @@ module _ {S T C : Type 0} where
   clock_of (Serving w) = w.clock
   clock_of (Sweeping w) = w.clock
 
-  -- a member stays at its post, a serving one with its catalogue
-  abbrev pub DoesTurn : (C → Readings) → Post S T C → DeskView → Post S T C → DeskView → Type 0
-  DoesTurn told (Serving w) old (Serving v) new =
+  -- a member's desk, beside its clock
+  abbrev pub stand_of : (C → Readings) → Post S T C → DeskView → Stand
+  stand_of told w d = record { desk = d; clock = told (clock_of w) }
+
+  -- A member stays at its post, a serving one with its catalogue. A sweeping one asks its ticker once for a tick, after its seconds.
+  abbrev pub DoesTurn : (C → Readings) → (T → ℕ → T → Type 0) → Post S T C → DeskView → Post S T C → DeskView → Type 0
+  DoesTurn told ticked (Serving w) old (Serving v) new =
       (v.common.cat.now ≡ w.common.cat.now) × ServesTurn w.common.cat.now (told w.clock) old (told v.clock) new v.ended
-  DoesTurn told (Sweeping w) old (Sweeping v) new = SweepsTurn (told w.clock) old (told v.clock) new v.ended
-  DoesTurn told (Serving w) old (Sweeping v) new = ⊥
-  DoesTurn told (Sweeping w) old (Serving v) new = ⊥
+  DoesTurn told ticked (Sweeping w) old (Sweeping v) new =
+      (v.seconds ≡ w.seconds) × ticked w.ticker w.seconds v.ticker × SweepsTurn (told w.clock) old (told v.clock) new v.ended
+  DoesTurn told ticked (Serving w) old (Sweeping v) new = ⊥
+  DoesTurn told ticked (Sweeping w) old (Serving v) new = ⊥
 
-  -- all turns of a member up to its end are a chain: of connections of its catalogue, or of sweeps
-  abbrev pub HasChain : (C → Readings) → Post S T C → DeskView → Post S T C → DeskView → Type 0
-  HasChain told (Serving w) old (Serving v) new =
+  -- All turns of a member up to its end are a chain: of connections of its catalogue, or of sweeps, with a tick for each at least.
+  abbrev pub HasChain : (C → Readings) → (T → ℕ → T → Type 0) → Post S T C → DeskView → Post S T C → DeskView → Type 0
+  HasChain told ticked (Serving w) old (Serving v) new =
       (v.common.cat.now ≡ w.common.cat.now)
-      × Chain (Connection w.common.cat.now) (record { desk = old; clock = told w.clock }) (record { desk = new; clock = told v.clock })
-  HasChain told (Sweeping w) old (Sweeping v) new = Chain Sweep (record { desk = old; clock = told w.clock }) (record { desk = new; clock = told v.clock })
-  HasChain told (Serving w) old (Sweeping v) new = ⊥
-  HasChain told (Sweeping w) old (Serving v) new = ⊥
+      × (served : ℕ) × Chain (Connection w.common.cat.now) served (stand_of told (Serving w) old) (stand_of told (Serving v) new)
+  HasChain told ticked (Sweeping w) old (Sweeping v) new =
+      (v.seconds ≡ w.seconds) × (sweeps ticks : ℕ) × (sweeps ≤ ticks) × Ticks ticked w.seconds ticks w.ticker v.ticker
+      × Chain Sweep sweeps (stand_of told (Sweeping w) old) (stand_of told (Sweeping v) new)
+  HasChain told ticked (Serving w) old (Sweeping v) new = ⊥
+  HasChain told ticked (Sweeping w) old (Serving v) new = ⊥
 
-  -- the post of member i, from 0: as many as the words say serve the catalogue, and a last one asks for a sweep each so many seconds
-  abbrev pub IsPosted : CatalogueView → Numbers → ℕ → Post S T C → Type 0
-  IsPosted cat said i (Serving w) = (i < said.workers) × (w.common.cat.now ≡ cat)
-  IsPosted cat said i (Sweeping w) = (i ≡ said.workers) × (w.seconds ≡ said.sweep)
+  -- The post of member i, from 0: as many as the words say serve the catalogue, and a last one asks this ticker for a tick each so many
+  -- seconds.
+  abbrev pub IsPosted : CatalogueView → Numbers → T → ℕ → Post S T C → Type 0
+  IsPosted cat said ticker i (Serving w) = (i < said.workers) × (w.common.cat.now ≡ cat)
+  IsPosted cat said ticker i (Sweeping w) = (i ≡ said.workers) × (w.seconds ≡ said.sweep) × (w.ticker ≡ ticker)

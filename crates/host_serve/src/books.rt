@@ -1,8 +1,9 @@
 // The books of a catalogue, served by the members.
-ghost use Rattle.std.specs.Prelude.{◌≡◌, ◌≢◌, ◌≤◌, ◌<◌, ◌+◌, All, true, false, length};
+ghost use Rattle.std.specs.Prelude.{◌≡◌, ◌≢◌, ◌≤◌, ◌<◌, ◌+◌, ℕ, All, true, false, length, map};
 ghost use Rattle.rail_io.specs.Faults.{Rose};
-ghost use Rattle.leg_masks.specs.Interval.{most_legs, most_places};
+ghost use Rattle.leg_masks.specs.Interval.{most_places};
 ghost use Rattle.history_model.specs.Booking.{most_rows};
+ghost use Rattle.claim_rule.specs.Rule.{most_place_legs};
 ghost use Rattle.claim_rule.specs.Seats.{IsOf};
 ghost use Rattle.claim_rule.specs.Out.{IsIdle, IsTidy};
 ghost use Rattle.claim_rule.specs.Walls.{Ends};
@@ -11,7 +12,7 @@ ghost use Rattle.worker_pool.specs.Turns.{KeepsDesk};
 ghost use Rattle.host_io.specs.declared.shared_listener.ListenerEnd.TheVariants as ended;
 ghost use Rattle.host_serve.specs.Crews.{IsCrew, IsFirst, HasRun};
 ghost use Rattle.host_serve.specs.Serve.{BooksEnd};
-ghost use Rattle.host_serve.specs.Turns.{HasCatalogue, Chain, Connection};
+ghost use Rattle.host_serve.specs.Turns.{HasCatalogue, Asks, Chain, Connection};
 
 use crate::crew::crew_of;
 use crate::draining::drain_listener;
@@ -78,7 +79,8 @@ fn finish_listener<N: Named, L: Listener + Drop, C: Clock>(
     ensures own { IsOf books.now desk.new }
     ensures tidy { IsTidy desk.new }
     ensures keeps { KeepsDesk desk.old desk.new }
-    ensures turns { Chain (Connection common.entry.cat.now) (record { desk = desk.old; clock = C.told clock.old })
+    ensures turns { (n : ℕ) × ((L.told listener.new).handed ≡ (L.told listener.old).handed + n)
+        × Chain (Connection common.entry.cat.now) n (record { desk = desk.old; clock = C.told clock.old })
         (record { desk = desk.new; clock = C.told clock.new }) }
     ensures never_falls { L.faults listener.old ≤ L.faults listener.new }
     ensures steady { result ≡ true → L.faults listener.new ≡ N.faults }
@@ -101,7 +103,7 @@ fn close(books: Books, first: Desk) -> Wall
     ensures layout { result.layout ≡ books.layout }
     ensures history { Ends books.layout first result.words result.history }
     ensures places { length result.layout.legs ≤ most_places }
-    ensures legs { All (λ n. n ≤ most_legs) result.layout.legs }
+    ensures legs { All (λ n. n ≤ most_place_legs) result.layout.legs }
     ensures rows { result.layout.rows ≤ most_rows }
 {
     let _limits = (books.places(), books.rows());
@@ -140,8 +142,8 @@ where
     requires limit { N.limit ≡ said.connections }
     requires workers { 1 ≤ said.workers }
     ensures never_falls { L.faults listener ≤ L.faults result.listener }
-    ensures ends { BooksEnd cat.now books.layout said (L.faults listener) (L.faults result.listener)
-        (L.told result.listener) result.wall result.outcome }
+    ensures ends { BooksEnd cat.now books.layout said (map C.told clocks.items) (Asks T.ticked ticker)
+        (L.faults listener) (L.faults result.listener) (L.told result.listener) result.wall result.outcome }
 {
     let Ok(crew) = Vec::with_capacity(alloc, said.workers as usize + 1) else {
         return ServeRun {

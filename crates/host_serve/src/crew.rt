@@ -1,5 +1,5 @@
 // The members and their desks.
-ghost use Rattle.std.specs.Prelude.{◌≡◌, ◌≤◌, ◌+◌, [], length, vec_capacity};
+ghost use Rattle.std.specs.Prelude.{◌≡◌, ◌≤◌, ◌+◌, [], length, map, vec_capacity};
 ghost use Rattle.claim_rule.specs.Seats.{IsOf};
 ghost use Rattle.claim_rule.specs.Out.{IsTidy};
 ghost use Rattle.host_serve.specs.Crews.{AreReady, IsCrew, IsFirst};
@@ -21,7 +21,8 @@ use worker_pool::Member;
 pub type Crew<'s, R, L, N, T, C> = Vec<Member<Post<'s, LockedStreams<'s, R, L, N>, T, C>>>;
 
 /// As many serving members as the words say, and a sweeping one behind them, each at a desk that was parted from the first and with a
-/// clock of its own. They fill a crew that has room for them, so that this can't fail once there is a listener to share.
+/// clock of its own: the last one is the first member's. They fill a crew that has room for them, so that this can't fail once there is
+/// a listener to share.
 pub fn crew_of<'s, R: Wait, L: Listener + Drop, N: Named, T: Ticker + Drop, C: Clock + Drop>(
     rt: &'s R,
     shared: &'s Mutex<SharedListener<L, N>>,
@@ -40,7 +41,7 @@ pub fn crew_of<'s, R: Wait, L: Listener + Drop, N: Named, T: Ticker + Drop, C: C
     requires room { said.workers + 1 ≤ vec_capacity crew }
     ensures first { IsFirst books.now (length result.items) first.new }
     ensures crew { IsCrew FitsBooks books.now result.items }
-    ensures ready { AreReady common.entry.cat.now said result.items }
+    ensures ready { AreReady C.told common.entry.cat.now said ticker (map C.told clocks.items) result.items }
     ensures count { length result.items ≡ said.workers + 1 }
 {
     for _number in 0..said.workers {

@@ -1,5 +1,5 @@
 // A listener's streams, served by one.
-ghost use Rattle.std.specs.Prelude.{◌≡◌, ◌≤◌, ◌<◌, true, false};
+ghost use Rattle.std.specs.Prelude.{◌≡◌, ◌≤◌, ◌<◌, ◌+◌, ℕ, true, false};
 ghost use Rattle.rail_io.specs.Faults.{Rose};
 ghost use Rattle.claim_rule.specs.Seats.{IsOf};
 ghost use Rattle.claim_rule.specs.Out.{IsTidy};
@@ -30,7 +30,8 @@ pub fn drain_listener<L: Listener + Drop, C: Clock>(
     ensures own { IsOf books.now desk.new }
     ensures tidy { IsTidy desk.new }
     ensures keeps { KeepsDesk desk.old desk.new }
-    ensures turns { Chain (Connection common.entry.cat.now) (record { desk = desk.old; clock = C.told clock.old })
+    ensures turns { (n : ℕ) × ((L.told listener.new).handed ≡ (L.told listener.old).handed + n)
+        × Chain (Connection common.entry.cat.now) n (record { desk = desk.old; clock = C.told clock.old })
         (record { desk = desk.new; clock = C.told clock.new }) }
     ensures port { (L.told listener.new).port ≡ (L.told listener.old).port }
     ensures limit { (L.told listener.new).limit ≡ limit }

@@ -21,7 +21,7 @@ pub enum ServeOutcome {
     AcceptFailed,
     /// As many connections as were asked for have ended.
     Served,
-    /// There was no memory for the export of the books that were served.
+    /// As many connections as were asked for have ended, and there was no memory for the export of the books.
     NoText,
     /// As many connections as were asked for have ended, and the notes failed in the export.
     Unwritten,

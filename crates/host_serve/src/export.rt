@@ -11,7 +11,8 @@ use rail_io::Sink;
 use session_loop::write_all;
 use std::alloc::Global;
 
-/// Writes the export of the wall, where there is one, to the notes: how serving ends then, which had ended so.
+/// Writes the export of the wall, where there is one, to the notes: how serving ends then, which had ended so. A failed accept stays one,
+/// whatever becomes of the text.
 pub fn write_export<E: Sink>(
     alloc: Global,
     wall: &Option<Wall>,
@@ -33,7 +34,10 @@ pub fn write_export<E: Sink>(
         return outcome;
     };
     let Ok(text) = export_tidy(alloc, wall) else {
-        return ServeOutcome::NoText;
+        return match outcome {
+            ServeOutcome::Served => ServeOutcome::NoText,
+            other => other,
+        };
     };
     if write_all(notes, text.as_slice()) {
         return outcome;

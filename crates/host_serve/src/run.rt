@@ -1,5 +1,5 @@
 // `serve` by its words.
-ghost use Rattle.std.specs.Prelude.{◌≡◌, ◌⊎◌, ◌≤◌, ℕ, List, Option, Some, None, IfOk, IfErr, IsSomeAnd, length, option_map};
+ghost use Rattle.std.specs.Prelude.{◌≡◌, ◌⊎◌, ◌≤◌, ℕ, List, Option, Some, None, IfOk, IfErr, IsSomeAnd, length, map, option_map};
 ghost use Rattle.rail_io.specs.Faults.{Rose};
 ghost use Rattle.rail_io.specs.Told.{with_end};
 ghost use Rattle.claim_rule.specs.Openings.{KeptBooking, layout_with};
@@ -17,7 +17,7 @@ ghost use Rattle.host_serve.specs.Ends.{status_of_serve};
 ghost use Rattle.host_serve.specs.Serve.{Ends, HasShelfCause, IsExporting, IsNoServe, IsOfRefusedText, IsOnlyLimited, IsServe};
 ghost use Rattle.host_serve.specs.Serve.{IsWithoutBooks, Runs};
 ghost use Rattle.host_serve.specs.Telling.{IsBefore, IsTold, Tells};
-ghost use Rattle.host_serve.specs.Turns.{HasCatalogue};
+ghost use Rattle.host_serve.specs.Turns.{Asks, HasCatalogue};
 ghost use Rattle.host_serve.specs.declared.end.ServeOutcome.{ServeOutcome};
 ghost use Rattle.host_serve.specs.declared.end.ServeOutcome.TheVariants as outcome;
 
@@ -98,6 +98,8 @@ where
         (record {
           faults_before = L.faults listener;
           before = L.told listener;
+          clocks = map C.told clocks.items;
+          asks = Asks T.ticked ticker;
           faults_after = L.faults result.listener;
           after = L.told result.listener;
           wall = result.wall;
@@ -169,6 +171,8 @@ where
         (record {
           faults_before = L.faults listener;
           before = L.told listener;
+          clocks = map C.told clocks.items;
+          asks = Asks T.ticked ticker;
           faults_after = L.faults result.listener;
           after = L.told result.listener;
           wall = result.wall;
@@ -222,9 +226,10 @@ where
 /// | 2 | the words are refused, before anything is read |
 /// | 3 | the shelf failed in this call, or the listener did, and has handed out fewer connections than were asked for |
 /// | 4 | all connections have ended, and the notes failed in the writing of the export |
-/// | 5 | there was no memory to begin with, or for the export |
+/// | 5 | there was no memory to begin with, or, where all connections have ended, for the export |
 ///
-/// Each has the note of its end, behind the export.
+/// Each has the note of its end, behind the export. Behind a failed accept the status is 3, whatever becomes of the export: the notes take
+/// all of it, a front of it where they fail, or nothing of it where there is no memory for it.
 ///
 /// The end of one connection changes no status, and neither does a note that fails. It may wait, so all this is said where it returns.
 /// Wherever members ran, the books are finished and handed back. In the wall's history the first desk only met others, each serving member's
@@ -268,6 +273,8 @@ where
         (record {
           faults_before = L.faults listener;
           before = L.told listener;
+          clocks = map C.told clocks.items;
+          asks = Asks T.ticked ticker;
           faults_after = L.faults result.listener;
           after = L.told result.listener;
           wall = result.wall;
@@ -306,14 +313,13 @@ where
     ensures missed { result.status ≡ 1 → Rose (F.misses shelf.old) (F.misses shelf.new)
         ⊎ IsOfRefusedText (words_texts words.now) (F.told shelf.old) }
 
-    // A failure is answered where a count of faults rose in this call. The shelf's is as it was at every other status. The listener's
-    // never falls. Where all was served, and where nothing was heard, for books that can't be had, it is as it was.
+    // A failure is answered where a count of faults rose in this call, and both counts are as they were at every other status: behind a
+    // failed accept none other comes. The listener's never falls.
     ensures read_cause { result.status ≡ 3 → Rose (L.faults listener) (L.faults result.listener)
         ⊎ Rose (F.faults shelf.old) (F.faults shelf.new) }
     ensures shelf_steady { (result.status ≡ 3 → ⊥) → F.faults shelf.new ≡ F.faults shelf.old }
     ensures never_falls { L.faults listener ≤ L.faults result.listener }
-    ensures steady { (result.status ≡ 0) ⊎ (result.status ≡ 1) ⊎ (result.status ≡ 4)
-        → L.faults result.listener ≡ L.faults listener }
+    ensures steady { (result.status ≡ 3 → ⊥) → L.faults result.listener ≡ L.faults listener }
     ensures files { F.told shelf.new ≡ F.told shelf.old }
 {
     let ServeRun {

@@ -27,7 +27,7 @@ pub struct Sweeper<'s, T, C> {
 }
 
 impl<T: Ticker, C: Clock> Sweeper<'_, T, C> {
-    /// Waits for the next tick and sweeps once; or ends.
+    /// Waits for the next tick, for which the ticker is asked once, and sweeps once; or ends.
     pub fn take_turn(&mut self, books: &Books, desk: &mut Desk) -> TurnEnd
         requires own { IsOf books.now desk.old }
         requires tidy { IsTidy desk.old }
@@ -35,6 +35,7 @@ impl<T: Ticker, C: Clock> Sweeper<'_, T, C> {
         ensures tidy { IsTidy desk.new }
         ensures keeps { KeepsDesk desk.old desk.new }
         ensures turn { SweepsTurn (C.told self.old.clock) desk.old (C.told self.new.clock) desk.new self.new.ended }
+        ensures ticked { T.ticked self.old.ticker self.old.seconds self.new.ticker }
         ensures interval { self.new.seconds ≡ self.old.seconds }
         ensures end { (result ≡ End) ↔ (self.new.ended ≡ true) }
     {

@@ -1,14 +1,14 @@
 -- One run in words: the reservations that its desk has seen, and what holds of them.
 use Rattle.std.specs.Prelude.{◌≡◌, ◌⊎◌, ℕ, ◌+◌, ◌<◌, ◌≤◌, List, [], ◌∷◌, ◌++◌, length, map, replicate}
 use Rattle.std.specs.List.{AllByRecursion, flat_map, range_with_len}
-use Rattle.leg_masks.specs.Interval.{Interval, items_at, most_legs}
+use Rattle.leg_masks.specs.Interval.{Interval, items_at}
 use Rattle.rail_ids.specs.declared.PlaceNo.{PlaceNo}
 use Rattle.history_model.specs.declared.booking.BookedItem.{BookedItem}
 use Rattle.history_model.specs.declared.entry.Step.{Step}
 use Rattle.history_model.specs.declared.entry.Step.TheVariants.{Note, Seal}
 use Rattle.history_model.specs.declared.phase.Phase.TheVariants.{Making, Prebooked}
 use Rattle.history_model.specs.Booking.{Booking, State}
-use Rattle.claim_rule.specs.Rule.{BooksView, DeskView, state_seen}
+use Rattle.claim_rule.specs.Rule.{BooksView, DeskView, most_place_legs, state_seen}
 use Rattle.claim_rule.specs.Holds.{held as item_of}
 use Rattle.claim_rule.specs.Seats.{IsOf}
 use Rattle.claim_rule.specs.Out.{HoldsNone}
@@ -65,7 +65,7 @@ pub record IsSettled (s : State) : Type 0 where
 -- the books have a place of so many legs for each of these numbers, which are all from 0 on, and 1,024 rows; the desk is alone at them
 pub record IsRun (legs : ℕ) (places : List PlaceNo) (books : BooksView) (desk : DeskView) : Type 0 where
   pub some : 0 < legs
-  pub few : legs ≤ most_legs
+  pub few : legs ≤ most_place_legs
   pub most : length places ≤ 1200
   pub numbers : map place_number places ≡ range_with_len 0 (length places)
   pub layout : books.layout ≡ record { legs = replicate (length places) legs; rows = 1024; opening = [] }

@@ -1,8 +1,8 @@
 // `tiny` over one connection.
 ghost use Rattle.std.specs.Prelude.{◌≡◌, ◌≤◌, ◌<◌, ◌⊎◌, ℕ, List, Some};
-ghost use Rattle.leg_masks.specs.Interval.{most_legs};
 ghost use Rattle.rail_io.specs.Told.{with_front, with_end, WritesWhere};
 ghost use Rattle.rail_io.specs.Faults.{Rose};
+ghost use Rattle.claim_rule.specs.Rule.{most_place_legs};
 ghost use Rattle.session_loop.specs.declared.end.ConnEnd.{ConnEnd};
 ghost use Rattle.session_loop.specs.declared.end.ConnEnd.TheVariants.{ReadFault, WriteFault};
 ghost use Rattle.host_words.specs.Options.{words_texts};
@@ -28,7 +28,7 @@ fn serve<S: Source, K: Sink>(
     output: &mut K,
 ) -> ConnEnd
     requires some { 0 < said.legs }
-    requires few { said.legs ≤ most_legs }
+    requires few { said.legs ≤ most_place_legs }
     requires places { 0 < said.places }
     requires most { said.places ≤ 1200 }
     ensures serves { (taken written : List ℕ)

@@ -1,6 +1,6 @@
 // `tiny` as a responder.
 ghost use Rattle.std.specs.Prelude.{◌≡◌, ◌<◌, ◌≤◌, [], IfOk};
-ghost use Rattle.leg_masks.specs.Interval.{most_legs};
+ghost use Rattle.claim_rule.specs.Rule.{most_place_legs};
 
 use crate::refusal::refusal_of;
 use crate::reply::answer_of;
@@ -21,7 +21,7 @@ impl Tiny {
     /// Takes the memory for all reservations. Nothing is reserved yet.
     pub fn start(alloc: Global, legs: u8, places: u16) -> Result<Self, AllocError>
         requires some { 0 < legs }
-        requires few { legs ≤ most_legs }
+        requires few { legs ≤ most_place_legs }
         requires places { 0 < places }
         requires most { places ≤ 1200 }
         ensures { IfOk result (λ tiny. tiny.run ≡ record { legs = legs; places = places; held = [] }) }

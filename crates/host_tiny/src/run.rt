@@ -1,7 +1,8 @@
 // One run in words: its places, its booking rows, and the one desk at them.
 ghost use Rattle.std.specs.Prelude.{◌≡◌, ◌<◌, ◌≤◌, ℕ, [], All, IfOk, length, map, slice_index_or};
 ghost use Rattle.std.specs.List.{range_with_len};
-ghost use Rattle.leg_masks.specs.Interval.{PlacedSpan as Item, most_legs};
+ghost use Rattle.leg_masks.specs.Interval.{PlacedSpan as Item};
+ghost use Rattle.claim_rule.specs.Rule.{most_place_legs};
 ghost use Rattle.claim_rule.specs.Seats.{IsOf, Shape};
 ghost use Rattle.claim_rule.specs.Out.{IsHolding, HasNotedItems, HoldsNone};
 ghost use Rattle.hold_core.specs.Tries.{place_number};
@@ -128,7 +129,7 @@ impl Run {
     /// Takes the memory of the words. Nothing is reserved yet.
     pub fn start(alloc: Global, legs: u8, places: u16) -> Result<Self, AllocError>
         requires some { 0 < legs }
-        requires few { legs ≤ most_legs }
+        requires few { legs ≤ most_place_legs }
         requires places { 0 < places }
         requires most { places ≤ 1200 }
         ensures run { IfOk result (λ run. run ≡ record { legs = legs; places = places; held = [] }) }
@@ -148,7 +149,7 @@ impl Run {
     pub fn legs(&self) -> u8
         ensures value { result ≡ self.now.legs }
         ensures some { 0 < result }
-        ensures few { result ≤ most_legs }
+        ensures few { result ≤ most_place_legs }
     {
         let _ = &self.desk;
         self.legs

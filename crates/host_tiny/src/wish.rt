@@ -1,6 +1,6 @@
 // What a body asks for.
 ghost use Rattle.std.specs.Prelude.{◌≡◌, ◌<◌, ◌≤◌, Ok, Err, IfOk, IfErr};
-ghost use Rattle.leg_masks.specs.Interval.{most_legs};
+ghost use Rattle.claim_rule.specs.Rule.{most_place_legs};
 ghost use Rattle.host_tiny.specs.Json.{json_of};
 ghost use Rattle.host_tiny.specs.Wish.{wish_of};
 
@@ -26,7 +26,7 @@ pub enum WishFault {
 /// The span that a body asks for, of a run with so many legs.
 pub fn read_wish(alloc: Global, body: &[u8], legs: u8) -> Result<Span, WishFault>
     requires some { 0 < legs }
-    requires few { legs ≤ most_legs }
+    requires few { legs ≤ most_place_legs }
     ensures ok { IfOk result (λ span. wish_of legs (json_of body.now) ≡ Ok span) }
     ensures err { IfErr result (λ fault. ¬ (fault ≡ WishFault.NoMemory) → wish_of legs (json_of body.now) ≡ Err fault) }
 {

@@ -1,5 +1,5 @@
 -- Where the legs of a piece lie.
-use Rattle.std.proofs.Common.{◌≡◌, ◌⊎◌, inl, inr, ℕ, List, [], ◌∷◌, length, ◌+◌, ◌<◌, ◌≤◌, Bool, true, false, ◌||◌, leb, refl, ap, ◌∙◌, ⊎_elim, arith, le-leb}
+use Rattle.std.proofs.Common.{◌≡◌, ◌⊎◌, inl, inr, ℕ, [], ◌∷◌, length, ◌+◌, ◌<◌, ◌≤◌, Bool, true, false, ◌||◌, leb, refl, ap, ◌∙◌, ⊎_elim, arith, le-leb}
 use Rattle.std.proofs.lemmas.Bool.{cases_Bool, leb-false, leb-true}
 use Rattle.std.specs.List.{AllByRecursion}
 use Rattle.leg_masks.specs.Interval.{Interval, Holds, IsPiece, is_piece, half_at, half_of, bit_of, leg_of, pieces, word_legs}

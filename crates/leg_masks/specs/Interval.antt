@@ -23,7 +23,7 @@ Meet a b = (leg : ℕ) × Holds a leg × Holds b leg
 abbrev pub item_word : ℕ → Interval → ℕ
 item_word place span = place * 65536 + span.from * 256 + span.to
 
--- how many legs a run and a place have at most, and where a span ends at the latest
+-- how many legs a run and a place have at most, and where a span ends at the latest, that of an item too
 abbrev pub most_legs : ℕ
 most_legs = 126
 

@@ -1,6 +1,6 @@
 ghost use Rattle.std.specs.Prelude.{◌≡◌, ℕ, ◌↔◌, IsTrue, IfSome, IfNone, cond};
 ghost use Rattle.std.specs.Int.{bit_at};
-ghost use Rattle.leg_masks.specs.Interval.{mask, has_leg, half_of, leg_of, IsPiece, IsSpan, IsClear, IsFirstTaken};
+ghost use Rattle.leg_masks.specs.Interval.{mask, has_leg, half_at, half_of, leg_of, shows, IsPiece, IsSpan, IsClear, IsFirstTaken};
 
 use crate::{Span, WORD_LEGS, half_of};
 
@@ -10,6 +10,7 @@ pub fn mask_of(span: Span) -> u64
     ensures value { result ≡ mask span }
     ensures span { IsSpan span }
     ensures bits { (bit : ℕ) → bit_at result bit ≡ cond (has_leg span (leg_of (half_of span) bit)) 1 0 }
+    ensures legs { (leg : ℕ) → half_at leg ≡ half_of span → shows result leg ≡ cond (has_leg span leg) 1 0 }
 {
     let first = WORD_LEGS * half_of(span);
     let from = span.from - first;

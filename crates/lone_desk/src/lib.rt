@@ -1,4 +1,5 @@
-//! What a desk sees between whose steps no other desk's stand.
+//! What a desk sees between whose steps no other desk's stand. It is a room of its own since `tiny`, which
+//! rests on no service, needs it as the plain host does.
 //!
 //! A desk that parted no other has all entries there are, so each call adds just the call's own. On such a desk a try
 //! of a candidate needs one look at each piece, which decides it, and nothing is contended; a hold starts on the least

@@ -1,35 +1,39 @@
 //! Members of a body, each by its kind.
 ghost use Rattle.std.specs.Prelude.{◌≡◌, ◌≤◌, ◌+◌, Some, None, IfOk, IfErr, IfSome, map, option_map};
-ghost use Rattle.serde_json.specs.View.{view};
+ghost use Rattle.json_text.specs.View.{view};
 ghost use Rattle.rail_time.specs.Moments.{last_second};
 ghost use Rattle.rail_catalogue.specs.Json.{json_of, whole_in as whole_of, whole_or as whole_or_of, list_of as list_of_member, text_of};
 ghost use Rattle.rail_catalogue.specs.Coaches.{class_named as class_named_of, trait_named};
 ghost use Rattle.osdm_json.specs.Members.{class_in as class_of, flag_in as flag_of, traits_in as traits_of, traits_from, moment_in as moment_of_member, latest_in as latest_of};
 
 use crate::fault::BodyFault;
+use json_text::{ReadFault, Scratch, Value};
 use place_map::Class;
 use rail_time::{Moment, read_moment};
-use serde_json::Value;
 use std::alloc::Global;
 
 /// The seconds of a day.
 const DAY: u32 = 86_400;
 
 /// The JSON value that the bytes are.
-pub(crate) fn read_value(alloc: Global, body: &[u8]) -> Result<Value, BodyFault>
+pub(crate) fn read_value<'a>(
+    alloc: Global,
+    body: &'a [u8],
+    scratch: &'a mut Scratch,
+) -> Result<Value<'a>, BodyFault>
     ensures ok { IfOk result (λ v. json_of body.now ≡ Some (view v)) }
     ensures kinds { IfErr result (λ e. ¬ (e ≡ BodyFault.NoMemory) → e ≡ BodyFault.NotJson) }
     ensures err { IfErr result (λ e. ¬ (e ≡ BodyFault.NoMemory) → json_of body.now ≡ None) }
 {
-    match Value::from_slice(alloc, body) {
+    match json_text::read_value(alloc, body, scratch) {
         Ok(value) => Ok(value),
-        Err(e) if e.is_memory() => Err(BodyFault::NoMemory),
-        Err(_) => Err(BodyFault::NotJson),
+        Err(ReadFault::NoMemory) => Err(BodyFault::NoMemory),
+        Err(ReadFault::NotJson) => Err(BodyFault::NotJson),
     }
 }
 
 /// A whole number in this range.
-pub(crate) fn whole_in(value: Option<&Value>, least: u32, most: u32) -> Option<u32>
+pub(crate) fn whole_in(value: Option<&Value<'_>>, least: u32, most: u32) -> Option<u32>
     ensures value { result ≡ whole_of least most (option_map (λ v. view v.now) value.entry) }
     ensures least { IfSome result (λ n. least ≤ n) }
     ensures most { IfSome result (λ n. n ≤ most) }
@@ -43,7 +47,12 @@ pub(crate) fn whole_in(value: Option<&Value>, least: u32, most: u32) -> Option<u
 }
 
 /// The same, where the member may be missing.
-pub(crate) fn whole_or(value: Option<&Value>, default: u32, least: u32, most: u32) -> Option<u32>
+pub(crate) fn whole_or(
+    value: Option<&Value<'_>>,
+    default: u32,
+    least: u32,
+    most: u32,
+) -> Option<u32>
     requires low { least ≤ default }
     requires high { default ≤ most }
     ensures value { result ≡ whole_or_of default least most (option_map (λ v. view v.now) value.entry) }
@@ -57,7 +66,7 @@ pub(crate) fn whole_or(value: Option<&Value>, default: u32, least: u32, most: u3
 }
 
 /// True or false, and false where the member is missing.
-pub(crate) fn flag_in(value: Option<&Value>) -> Option<bool>
+pub(crate) fn flag_in(value: Option<&Value<'_>>) -> Option<bool>
     ensures { result ≡ flag_of (option_map (λ v. view v.now) value.entry) }
 {
     match value {
@@ -67,7 +76,7 @@ pub(crate) fn flag_in(value: Option<&Value>) -> Option<bool>
 }
 
 /// A text.
-pub(crate) fn text_in(value: Option<&Value>) -> Option<&str>
+pub(crate) fn text_in<'a>(value: Option<&Value<'a>>) -> Option<&'a str>
     ensures { option_map (λ t. t.now) result ≡ text_of (option_map (λ v. view v.now) value.entry) }
 {
     match value {
@@ -77,7 +86,7 @@ pub(crate) fn text_in(value: Option<&Value>) -> Option<&str>
 }
 
 /// The class, which is second where the member is missing.
-pub(crate) fn class_in(value: Option<&Value>) -> Option<Class>
+pub(crate) fn class_in(value: Option<&Value<'_>>) -> Option<Class>
     ensures { result ≡ class_of (option_map (λ v. view v.now) value.entry) }
 {
     match value {
@@ -97,7 +106,7 @@ fn class_named(name: &str) -> Option<Class>
 }
 
 /// The sum of the bits of the traits, which are none where the member is missing.
-pub(crate) fn traits_in(value: Option<&Value>) -> Option<u8>
+pub(crate) fn traits_in(value: Option<&Value<'_>>) -> Option<u8>
     ensures value { result ≡ traits_of (option_map (λ v. view v.now) value.entry) }
     ensures most { IfSome result (λ traits. traits ≤ 31) }
 {
@@ -107,16 +116,13 @@ pub(crate) fn traits_in(value: Option<&Value>) -> Option<u8>
     }
 }
 
-fn items_of(value: &Value) -> Option<&[Value]>
+fn items_of<'v, 'a>(value: &'v Value<'a>) -> Option<&'v [Value<'a>]>
     ensures { option_map (λ v. map view v.now) result ≡ list_of_member (Some (view value.now)) }
 {
-    match value.as_array() {
-        Some(items) => Some(items.as_slice()),
-        None => None,
-    }
+    value.as_array()
 }
 
-fn sum_of_traits(items: &[Value]) -> Option<u8>
+fn sum_of_traits(items: &[Value<'_>]) -> Option<u8>
     ensures value { result ≡ traits_from 0 (map view items.now) }
     ensures most { IfSome result (λ traits. traits ≤ 31) }
 {
@@ -142,7 +148,7 @@ fn trait_bit(name: &str) -> Option<u8>
 }
 
 /// A moment (RFC 3339).
-pub(crate) fn moment_in(alloc: Global, value: Option<&Value>) -> Option<Moment>
+pub(crate) fn moment_in(alloc: Global, value: Option<&Value<'_>>) -> Option<Moment>
     ensures { result ≡ moment_of_member (option_map (λ v. view v.now) value.entry) }
 {
     let text = text_in(value)?;
@@ -150,7 +156,11 @@ pub(crate) fn moment_in(alloc: Global, value: Option<&Value>) -> Option<Moment>
 }
 
 /// The end of a window, from its beginning to two days later; a day later where the member is missing.
-pub(crate) fn latest_in(alloc: Global, earliest: Moment, value: Option<&Value>) -> Option<Moment>
+pub(crate) fn latest_in(
+    alloc: Global,
+    earliest: Moment,
+    value: Option<&Value<'_>>,
+) -> Option<Moment>
     ensures value { result ≡ latest_of earliest (option_map (λ v. view v.now) value.entry) }
     ensures window { IfSome result (λ latest. earliest ≤ latest) }
     ensures in_years { IfSome result (λ latest. latest ≤ last_second) }

@@ -1,6 +1,6 @@
 //! The body of a search for offers.
 ghost use Rattle.std.specs.Prelude.{◌≡◌, ◌≢◌, ◌≤◌, true, Ok, Err, IfOk, IfErr};
-ghost use Rattle.serde_json.specs.View.{view};
+ghost use Rattle.json_text.specs.View.{view};
 ghost use Rattle.rail_time.specs.Moments.{last_second};
 ghost use Rattle.offer_codes.specs.Offers.{is_party as is_party_of};
 ghost use Rattle.osdm_json.specs.OfferBodies.{party_of, ends_of, window_of, trip_of, offers_of};
@@ -11,10 +11,10 @@ ghost use Rattle.osdm_json.specs.Readable.{IsReadable, IsTripWish};
 use crate::command::Command;
 use crate::fault::BodyFault;
 use crate::members::{class_in, latest_in, moment_in, text_in, traits_in, whole_in, whole_or};
+use json_text::Value;
 use osdm_texts::FieldName;
 use rail_catalogue::Catalogue;
 use rail_time::Moment;
-use serde_json::Value;
 use std::alloc::Global;
 use trip_builder::TripWish;
 
@@ -43,7 +43,7 @@ struct Window {
 pub(crate) fn read_offers(
     alloc: Global,
     cat: &Catalogue,
-    body: &Value,
+    body: &Value<'_>,
 ) -> Result<Command, BodyFault>
     ensures ok { IfOk result (λ c. Asks (offers_of cat.now (view body.now)) c) }
     ensures readable { IfOk result (λ c. IsReadable cat.now c) }
@@ -72,7 +72,7 @@ pub(crate) fn read_offers(
     })
 }
 
-fn read_party(body: &Value) -> Result<Party, BodyFault>
+fn read_party(body: &Value<'_>) -> Result<Party, BodyFault>
     ensures value { result ≡ party_of (view body.now) }
     ensures party { IfOk result (λ p. is_party_of p.adults p.children ≡ true) }
 {
@@ -104,7 +104,7 @@ fn is_party(adults: u32, children: u32) -> bool
     1 <= adults + children && adults + children <= 8
 }
 
-fn read_ends(body: &Value) -> Result<Ends<'_>, BodyFault>
+fn read_ends<'a>(body: &Value<'a>) -> Result<Ends<'a>, BodyFault>
     ensures ok { IfOk result (λ e. ends_of (view body.now) ≡ Ok (ends_view e)) }
     ensures differ { IfOk result (λ e. (ends_view e).destination ≢ (ends_view e).origin) }
     ensures err { IfErr result (λ e. ends_of (view body.now) ≡ Err e) }
@@ -125,7 +125,7 @@ fn read_ends(body: &Value) -> Result<Ends<'_>, BodyFault>
     }
 }
 
-fn read_window(alloc: Global, body: &Value) -> Result<Window, BodyFault>
+fn read_window(alloc: Global, body: &Value<'_>) -> Result<Window, BodyFault>
     ensures value { result ≡ window_of (view body.now) }
     ensures window { IfOk result (λ w. w.earliest ≤ w.latest) }
     ensures in_years { IfOk result (λ w. w.latest ≤ last_second) }

@@ -1,7 +1,7 @@
 //! The bodies that name a booking, an offer or a status.
 ghost use Rattle.std.specs.Prelude.{◌≡◌, Ok, Err, IfOk, IfErr};
 ghost use Rattle.rail_catalogue.specs.Contents.{CatalogueView};
-ghost use Rattle.serde_json.specs.View.{view};
+ghost use Rattle.json_text.specs.View.{view};
 ghost use Rattle.osdm_texts.specs.declared.field.FieldName.TheVariants.{Status};
 ghost use Rattle.osdm_json.specs.declared.fault.BodyFault.TheVariants.{Field};
 ghost use Rattle.osdm_json.specs.IdBodies.{IsStatusTest, fulfil_of, accept_refund_of, book_of, quote_exchange_of, accept_exchange_of};
@@ -12,11 +12,11 @@ use crate::command::Command;
 use crate::fault::BodyFault;
 use crate::members::{flag_in, text_in};
 use crate::spellings::{exchange_of, offer_of, refund_of, row_of};
+use json_text::Value;
 use osdm_texts::FieldName;
-use serde_json::Value;
 
 /// The offer that the body books, and whether its passengers are to sit together.
-pub(crate) fn read_book(body: &Value) -> Result<Command, BodyFault>
+pub(crate) fn read_book(body: &Value<'_>) -> Result<Command, BodyFault>
     ensures ok { IfOk result (λ c. Asks (book_of (view body.now)) c) }
     ensures readable { IfOk result (λ c. (cat : CatalogueView) → IsReadable cat c) }
     ensures err { IfErr result (λ e. book_of (view body.now) ≡ Err e) }
@@ -38,7 +38,7 @@ pub(crate) fn read_book(body: &Value) -> Result<Command, BodyFault>
 }
 
 /// That the ticket of the booking with this id was collected.
-pub(crate) fn read_fulfil(id: &[u8], body: &Value) -> Result<Command, BodyFault>
+pub(crate) fn read_fulfil(id: &[u8], body: &Value<'_>) -> Result<Command, BodyFault>
     ensures ok { IfOk result (λ c. Asks (fulfil_of id.now (view body.now)) c) }
     ensures readable { IfOk result (λ c. (cat : CatalogueView) → IsReadable cat c) }
     ensures err { IfErr result (λ e. fulfil_of id.now (view body.now) ≡ Err e) }
@@ -55,7 +55,7 @@ pub(crate) fn read_fulfil(id: &[u8], body: &Value) -> Result<Command, BodyFault>
 pub(crate) fn read_accept_refund(
     id: &[u8],
     offer: &[u8],
-    body: &Value,
+    body: &Value<'_>,
 ) -> Result<Command, BodyFault>
     ensures ok { IfOk result (λ c. Asks (accept_refund_of id.now offer.now (view body.now)) c) }
     ensures readable { IfOk result (λ c. (cat : CatalogueView) → IsReadable cat c) }
@@ -72,7 +72,7 @@ pub(crate) fn read_accept_refund(
     })
 }
 
-fn has_status(body: &Value, status: &str) -> bool
+fn has_status(body: &Value<'_>, status: &str) -> bool
     ensures { IsStatusTest status.now (view body.now) result }
 {
     match text_in(body.get("status")) {
@@ -82,7 +82,7 @@ fn has_status(body: &Value, status: &str) -> bool
 }
 
 /// The booking and the offer that the body would exchange.
-pub(crate) fn read_quote_exchange(body: &Value) -> Result<Command, BodyFault>
+pub(crate) fn read_quote_exchange(body: &Value<'_>) -> Result<Command, BodyFault>
     ensures ok { IfOk result (λ c. Asks (quote_exchange_of (view body.now)) c) }
     ensures readable { IfOk result (λ c. (cat : CatalogueView) → IsReadable cat c) }
     ensures err { IfErr result (λ e. quote_exchange_of (view body.now) ≡ Err e) }
@@ -104,7 +104,7 @@ pub(crate) fn read_quote_exchange(body: &Value) -> Result<Command, BodyFault>
 }
 
 /// The exchange that the body accepts, of the booking with this id.
-pub(crate) fn read_accept_exchange(id: &[u8], body: &Value) -> Result<Command, BodyFault>
+pub(crate) fn read_accept_exchange(id: &[u8], body: &Value<'_>) -> Result<Command, BodyFault>
     ensures ok { IfOk result (λ c. Asks (accept_exchange_of id.now (view body.now)) c) }
     ensures readable { IfOk result (λ c. (cat : CatalogueView) → IsReadable cat c) }
     ensures err { IfErr result (λ e. accept_exchange_of id.now (view body.now) ≡ Err e) }

@@ -1,5 +1,5 @@
 ghost use Rattle.std.specs.Prelude.{◌≡◌, true, Result, Err, IfOk, IfErr};
-ghost use Rattle.serde_json.specs.View.{view};
+ghost use Rattle.json_text.specs.View.{view};
 ghost use Rattle.osdm_json.specs.declared.fault.BodyFault.{BodyFault};
 ghost use Rattle.osdm_json.specs.Commands.{asked_in, asked_by, has_body as has_body_of, IsObject, IsNoObject, Asks};
 ghost use Rattle.osdm_json.specs.Readable.{IsReadable};
@@ -14,9 +14,9 @@ use crate::orders::{
 use crate::route::Route;
 use crate::spellings::row_of;
 use crate::stretches::{read_places, read_reserve};
+use json_text::{Scratch, Value};
 use osdm_texts::FieldName;
 use rail_catalogue::Catalogue;
-use serde_json::Value;
 use std::alloc::Global;
 
 /// The command that a route asks with this body, or the first fault: fields in the order of the route's table, then stations. A route that
@@ -35,7 +35,8 @@ pub fn read_command(
     if !has_body(&route) {
         return read_in(alloc, cat, &route, &Value::Null);
     }
-    let value = read_object(alloc, body)?;
+    let mut scratch = Scratch::new(alloc);
+    let value = read_object(alloc, body, &mut scratch)?;
     read_in(alloc, cat, &route, &value)
 }
 
@@ -60,11 +61,15 @@ fn has_body(route: &Route<'_>) -> bool
 }
 
 // The object that the body is.
-fn read_object(alloc: Global, body: &[u8]) -> Result<Value, BodyFault>
+fn read_object<'a>(
+    alloc: Global,
+    body: &'a [u8],
+    scratch: &'a mut Scratch,
+) -> Result<Value<'a>, BodyFault>
     ensures ok { IfOk result (λ v. IsObject body.now (view v)) }
     ensures err { IfErr result (IsNoObject body.now) }
 {
-    let value = read_value(alloc, body)?;
+    let value = read_value(alloc, body, scratch)?;
     if value.is_object() {
         Ok(value)
     } else {
@@ -79,7 +84,7 @@ fn read_in(
     alloc: Global,
     cat: &Catalogue,
     route: &Route<'_>,
-    body: &Value,
+    body: &Value<'_>,
 ) -> Result<Command, BodyFault>
     ensures ok { IfOk result (λ c. Asks (asked_in cat.now route.now (view body.now)) c) }
     ensures readable { IfOk result (λ c. IsReadable cat.now c) }

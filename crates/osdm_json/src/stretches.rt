@@ -1,6 +1,6 @@
 //! Segments of one run: the body of a reservation, and the path to a run's places.
 ghost use Rattle.std.specs.Prelude.{◌≡◌, ◌<◌, length, Ok, Err, IfOk, IfErr, IfSome, option_map};
-ghost use Rattle.serde_json.specs.View.{view};
+ghost use Rattle.json_text.specs.View.{view};
 ghost use Rattle.rail_catalogue.specs.Json.{whole_in as whole_of};
 ghost use Rattle.osdm_json.specs.OrderBodies.{if_run, segment_of, reserve_of, places_of};
 ghost use Rattle.osdm_json.specs.Commands.{Asks};
@@ -10,14 +10,14 @@ use crate::command::Command;
 use crate::fault::BodyFault;
 use crate::members::{class_in, flag_in, text_in, traits_in, whole_in, whole_or};
 use crate::spellings::run_of;
+use json_text::Value;
 use offer_codes::Segment;
 use osdm_texts::FieldName;
 use rail_catalogue::Catalogue;
 use rail_ids::RunNo;
-use serde_json::Value;
 
 /// What the body reserves.
-pub(crate) fn read_reserve(cat: &Catalogue, body: &Value) -> Result<Command, BodyFault>
+pub(crate) fn read_reserve(cat: &Catalogue, body: &Value<'_>) -> Result<Command, BodyFault>
     ensures ok { IfOk result (λ c. Asks (reserve_of cat.now (view body.now)) c) }
     ensures readable { IfOk result (λ c. IsReadable cat.now c) }
     ensures err { IfErr result (λ e. reserve_of cat.now (view body.now) ≡ Err e) }
@@ -68,7 +68,7 @@ pub(crate) fn read_reserve(cat: &Catalogue, body: &Value) -> Result<Command, Bod
 }
 
 // A known run's number.
-fn run_in(cat: &Catalogue, value: Option<&Value>) -> Option<RunNo>
+fn run_in(cat: &Catalogue, value: Option<&Value<'_>>) -> Option<RunNo>
     ensures value { result ≡ if_run cat.now (whole_of 0 4_294_967_295 (option_map (λ v. view v.now) value.entry)) }
     ensures known { IfSome result (λ run. run.0 < length cat.now.runs.runs) }
 {

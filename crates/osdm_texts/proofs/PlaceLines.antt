@@ -10,7 +10,7 @@ use Rattle.place_map.specs.declared.coach.Class.{Class}
 use Rattle.place_map.specs.declared.coach.Class.TheVariants.{First, Second}
 use Rattle.place_map.specs.declared.coach.Place.{Place}
 use Rattle.osdm_texts.specs.Places.{trait_trees, place_tree, place_trees, place_list_tree}
-use Rattle.osdm_texts.specs.PlaceTexts.{class_line, free_line, named_line, has_trait, traits_text}
+use Rattle.osdm_texts.specs.PlaceTexts.{class_line, first_line, free_line, last_line, named_line, has_trait, traits_text}
 
 named : (later given : Bool) (name : List ℕ) (ds : List Data)
     → items_text later (items_of ((if given then string name ∷ [] else []) ++ ds)) ≡ named_line later given (quoted name) ++ items_text (later || given) (items_of ds)
@@ -57,12 +57,9 @@ pub put_five : (t0 t1 t2 t3 t4 t5 p1 p2 p3 p4 p5 : List ℕ) → t1 ≡ t0 ++ p1
     → t5 ≡ t0 ++ (p1 ++ (p2 ++ (p3 ++ (p4 ++ p5))))
 put_five t0 t1 t2 t3 t4 t5 p1 p2 p3 p4 p5 e1 e2 e3 e4 e5 = rw (e5, e4, e3, e2, e1) (simp append_assoc)
 
-pub put_traits : (traits : ℕ) (t0 t1 t2 t3 t4 t5 t6 t7 : List ℕ) (l1 l2 l3 l4 : Bool)
-    → l1 ≡ has_trait traits 1 → l2 ≡ (l1 || has_trait traits 2) → l3 ≡ (l2 || has_trait traits 4) → l4 ≡ (l3 || has_trait traits 8)
-    → t1 ≡ t0 ++ codes ",\"traits\":[" → t2 ≡ t1 ++ named_line false (has_trait traits 1) (codes "\"WINDOW\"") → t3 ≡ t2 ++ named_line l1 (has_trait traits 2) (codes "\"AISLE\"")
-    → t4 ≡ t3 ++ named_line l2 (has_trait traits 4) (codes "\"TABLE\"") → t5 ≡ t4 ++ named_line l3 (has_trait traits 8) (codes "\"QUIET\"")
-    → t6 ≡ t5 ++ named_line l4 (has_trait traits 16) (codes "\"POWER\"") → t7 ≡ t6 ++ codes "]}" → t7 ≡ t0 ++ traits_text traits
-put_traits traits t0 t1 t2 t3 t4 t5 t6 t7 l1 l2 l3 l4 f1 f2 f3 f4 e1 e2 e3 e4 e5 e6 e7 = rw (e7, e6, e5, e4, e3, e2, e1, f4, f3, f2, f1) (simp append_assoc)
+pub put_traits : (traits : ℕ) (t0 t1 t2 : List ℕ) (later : Bool) → later ≡ ((has_trait traits 1 || has_trait traits 2) || has_trait traits 4)
+    → t1 ≡ t0 ++ first_line (has_trait traits 1) (has_trait traits 2) (has_trait traits 4) → t2 ≡ t1 ++ last_line later (has_trait traits 8) (has_trait traits 16) → t2 ≡ t0 ++ traits_text traits
+put_traits traits t0 t1 t2 later f e1 e2 = rw (e2, e1, f) (simp append_assoc)
 
 pub first_listed : (places : List Place) (free : List Bool) (i : ℕ) (p : Place) (f : Bool) → i < length places → i < length free
     → place_trees (drop i places) (drop i free) ≡ place_tree (get_or places i p) (get_or free i f) ∷ place_trees (drop (i + 1) places) (drop (i + 1) free)

@@ -1,4 +1,5 @@
-//! What retailers are answered, as JSON texts: replies and problems.
+//! What retailers are answered, as JSON texts: replies and problems. It is a room of its own since services write answers and read no
+//! request.
 //!
 //! Each reply and each problem has one JSON value, which the definitions give member by member; its text has no space, and its
 //! members stand in byte order of their names. `reply_text` writes it in one growing buffer. Problems and the counts of a sweep are

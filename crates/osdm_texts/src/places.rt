@@ -2,7 +2,7 @@
 ghost use Rattle.std.specs.Prelude.{◌≡◌, ◌++◌, ◌||◌, length, IfOk, OnOk};
 ghost use Rattle.serde_json.specs.Written.{compact_text, comma_if};
 ghost use Rattle.osdm_texts.specs.Places.{place_tree, place_list_tree};
-ghost use Rattle.osdm_texts.specs.PlaceTexts.{class_line, free_line, named_line, traits_text};
+ghost use Rattle.osdm_texts.specs.PlaceTexts.{class_line, first_line, free_line, last_line, traits_text};
 
 use itoa::{Buffer, Integer};
 use place_map::{Class, Place};
@@ -87,31 +87,42 @@ fn put_number<I: Integer>(text: &mut Vec<u8>, number: I) -> Result<(), AllocErro
 fn put_traits(text: &mut Vec<u8>, traits: u8) -> Result<(), AllocError>
     ensures { OnOk result (text.new.items ≡ text.old.items ++ traits_text traits) }
 {
-    put(text, b",\"traits\":[")?;
-    let later = put_trait(text, false, traits & 1 == 1, b"\"WINDOW\"")?;
-    let later = put_trait(text, later, traits & 2 == 2, b"\"AISLE\"")?;
-    let later = put_trait(text, later, traits & 4 == 4, b"\"TABLE\"")?;
-    let later = put_trait(text, later, traits & 8 == 8, b"\"QUIET\"")?;
-    put_trait(text, later, traits & 16 == 16, b"\"POWER\"")?;
-    put(text, b"]}")
+    let first = first_traits(traits & 1 == 1, traits & 2 == 2, traits & 4 == 4);
+    put(text, first.0)?;
+    put(
+        text,
+        last_traits(first.1, traits & 8 == 8, traits & 16 == 16),
+    )
 }
 
-// The name, where it is given, behind a comma where another stands before. Answers whether one stands now.
-fn put_trait(
-    text: &mut Vec<u8>,
-    is_later: bool,
-    given: bool,
-    name: &[u8],
-) -> Result<bool, AllocError>
-    ensures text { OnOk result (text.new.items ≡ text.old.items ++ named_line is_later given name.now) }
-    ensures later { IfOk result (λ later. later ≡ (is_later || given)) }
+// The names of the first three that are given, and whether one is.
+fn first_traits(window: bool, aisle: bool, table: bool) -> (&'static [u8], bool)
+    ensures text { result.0.now ≡ first_line window aisle table }
+    ensures later { result.1 ≡ ((window || aisle) || table) }
 {
-    if !given {
-        return Ok(is_later);
+    match (window, aisle, table) {
+        (false, false, false) => (b",\"traits\":[", false),
+        (false, false, true) => (b",\"traits\":[\"TABLE\"", true),
+        (false, true, false) => (b",\"traits\":[\"AISLE\"", true),
+        (false, true, true) => (b",\"traits\":[\"AISLE\",\"TABLE\"", true),
+        (true, false, false) => (b",\"traits\":[\"WINDOW\"", true),
+        (true, false, true) => (b",\"traits\":[\"WINDOW\",\"TABLE\"", true),
+        (true, true, false) => (b",\"traits\":[\"WINDOW\",\"AISLE\"", true),
+        (true, true, true) => (b",\"traits\":[\"WINDOW\",\"AISLE\",\"TABLE\"", true),
     }
-    if is_later {
-        text.push(b',')?;
+}
+
+// The names of the last two that are given, behind a comma where one stands before, and the end of the place.
+fn last_traits(is_later: bool, quiet: bool, power: bool) -> &'static [u8]
+    ensures { result.now ≡ last_line is_later quiet power }
+{
+    match (is_later, quiet, power) {
+        (_, false, false) => b"]}",
+        (false, false, true) => b"\"POWER\"]}",
+        (false, true, false) => b"\"QUIET\"]}",
+        (false, true, true) => b"\"QUIET\",\"POWER\"]}",
+        (true, false, true) => b",\"POWER\"]}",
+        (true, true, false) => b",\"QUIET\"]}",
+        (true, true, true) => b",\"QUIET\",\"POWER\"]}",
     }
-    text.extend_from_slice(name)?;
-    Ok(true)
 }

@@ -3,3 +3,4 @@ pub mod Numbers
 pub mod OwnPlaces
 pub mod Classes
 pub mod Apart
+pub mod Halves

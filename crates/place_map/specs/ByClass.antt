@@ -1,5 +1,6 @@
 -- The numbers of the places of each class, as they are kept.
-use Rattle.std.specs.Prelude.{◌≡◌, ℕ, zero, suc, ◌+◌, ◌&&◌, Bool, List, [], ◌∷◌, ◌++◌, nat_le, nat_lt, bit_and, ◌==◌, slice_index_or}
+use Rattle.std.specs.Prelude.{◌≡◌, ℕ, zero, suc, ◌+◌, ◌&&◌, Bool, true, false, List, [], ◌∷◌, ◌++◌, nat_le, nat_lt, bit_and, ◌==◌, slice_index_or}
+use Rattle.std.specs.List.Sorted.{IsPartitionPoint}
 use Rattle.place_map.specs.declared.coach.Class.{Class}
 use Rattle.place_map.specs.declared.coach.Class.TheVariants.{First, Second}
 use Rattle.place_map.specs.declared.coach.Place.{Place}
@@ -26,6 +27,10 @@ numbers_up from (suc n) = record { 0 = from } ∷ numbers_up (from + 1) n
 
 abbrev pub is_between : ℕ → ℕ → PlaceNo → Bool
 is_between first end n = nat_le first n.0 && nat_lt n.0 end
+
+-- the first n numbers are before the limit, and the others are not
+abbrev pub SplitsNumbers : ℕ → List PlaceNo → ℕ → Type 0
+SplitsNumbers limit numbers n = IsPartitionPoint (λ it. nat_lt it.0 limit ≡ true) (λ it. nat_lt it.0 limit ≡ false) numbers n
 
 -- the numbers of each class are those of the places of it
 abbrev pub AreByClass : List Place → ByClass → Type 0

@@ -1,5 +1,6 @@
-ghost use Rattle.std.specs.Prelude.{◌≡◌, ◌≤◌, ◌<◌, ◌+◌, ◌++◌, [], filter, OnOk, OnErr};
-ghost use Rattle.place_map.specs.ByClass.{of_class, with_numbers, numbers_up, is_between};
+ghost use Rattle.std.specs.Prelude.{◌≡◌, ◌≤◌, ◌<◌, ◌+◌, ◌++◌, [], filter, length, nat_lt, true, OnOk, OnErr};
+ghost use Rattle.std.specs.List.Sorted.{IsPartitionedBy};
+ghost use Rattle.place_map.specs.ByClass.{of_class, with_numbers, numbers_up, is_between, SplitsNumbers};
 ghost use Rattle.place_map.specs.Candidates.{AreRising};
 
 use crate::coach::Class;
@@ -71,11 +72,46 @@ fn push_numbers(numbers: &mut Vec<PlaceNo>, from: usize, count: usize) -> Result
     Ok(())
 }
 
-/// The numbers from the first to before the end. They are found by two binary searches.
-pub(crate) fn numbers_between(numbers: &[PlaceNo], first: usize, end: usize) -> &[PlaceNo]
+/// The numbers from the first to before the end. They stand from the one guess to the other, where these are right; else
+/// they are found by two binary searches.
+pub(crate) fn numbers_between(
+    numbers: &[PlaceNo],
+    first: usize,
+    end: usize,
+    from: usize,
+    to: usize,
+) -> &[PlaceNo]
     requires { AreRising 0 numbers.now }
     ensures { result.now ≡ filter (is_between first end) numbers.now }
 {
-    let rest = &numbers[numbers.partition_point(|n| (n.0 as usize) < first)..];
-    &rest[..rest.partition_point(|n| (n.0 as usize) < end)]
+    let start = numbers_before(numbers, first, from);
+    let rest = &numbers[start..];
+    &rest[..numbers_before(rest, end, to.saturating_sub(start))]
+}
+
+// How many numbers stand before the limit. It is the guess, where that is right.
+fn numbers_before(numbers: &[PlaceNo], limit: usize, guess: usize) -> usize
+    requires in_order { IsPartitionedBy (λ n. nat_lt n.0 limit) numbers.now }
+    ensures within { result ≤ length numbers.now }
+    ensures splits { SplitsNumbers limit numbers.now result }
+{
+    if splits_here(numbers, limit, guess) {
+        return guess;
+    }
+    numbers.partition_point(|n| (n.0 as usize) < limit)
+}
+
+// Whether the numbers before this one are before the limit, and the others are not, by a look at its two neighbours.
+fn splits_here(numbers: &[PlaceNo], limit: usize, at: usize) -> bool
+    requires in_order { IsPartitionedBy (λ n. nat_lt n.0 limit) numbers.now }
+    ensures within { result ≡ true → at ≤ length numbers.now }
+    ensures splits { result ≡ true → SplitsNumbers limit numbers.now at }
+{
+    if at > numbers.len() {
+        return false;
+    }
+    if at > 0 && numbers[at - 1].0 as usize >= limit {
+        return false;
+    }
+    at == numbers.len() || numbers[at].0 as usize >= limit
 }

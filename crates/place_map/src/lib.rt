@@ -9,6 +9,7 @@ mod class_numbers;
 mod coach;
 mod crossing;
 mod map;
+mod marks;
 
 pub use coach::{Class, Coach, Group, Place, PlaceFault};
 pub use crossing::crosses;

@@ -6,6 +6,7 @@ ghost use Rattle.place_map.specs.ByClass.{AreByClass, has_traits};
 
 use crate::class_numbers::{ClassNumbers, numbers_between};
 use crate::coach::{Class, Coach, Group, Place, PlaceFault};
+use crate::marks::{Mark, Marks, Sizes};
 use rail_ids::{PlaceNo, RunNo};
 use std::alloc::{AllocError, Global};
 use std::marker::Model;
@@ -19,6 +20,7 @@ const MOST_PLACES: usize = 4_194_304;
 pub struct PlaceMap {
     places: Vec<Place>,
     by_class: ClassNumbers,
+    marks: Marks,
 }
 
 impl Model for PlaceMap {
@@ -43,6 +45,7 @@ impl PlaceMap {
         PlaceMap {
             places: Vec::new(alloc),
             by_class: ClassNumbers::new(alloc),
+            marks: Marks::new(alloc),
         }
     }
 
@@ -61,6 +64,7 @@ impl PlaceMap {
         let alloc = *self.places.allocator();
         let fresh = fresh_places(alloc, self.places.as_slice(), run, coach)?;
         let first = self.places.len();
+        let start = sizes_of(self.places.as_slice(), &self.by_class);
         let Ok(_room) = self.places.reserve(fresh.len()) else {
             return Err(PlaceFault::NoMemory);
         };
@@ -68,7 +72,11 @@ impl PlaceMap {
             return Err(PlaceFault::NoMemory);
         };
         match self.places.extend_from_slice(fresh.as_slice()) {
-            Ok(()) => Ok(()),
+            Ok(()) => {
+                let end = sizes_of(self.places.as_slice(), &self.by_class);
+                self.marks.note(run, start, end);
+                Ok(())
+            }
             Err(_) => Err(PlaceFault::NoMemory),
         }
     }
@@ -88,11 +96,12 @@ impl PlaceMap {
         self.places.as_slice()
     }
 
-    /// The places of the run, in the order of their numbers. They are found by two binary searches.
+    /// The places of the run, in the order of their numbers. They stand where the run's mark says, which two looks
+    /// at each end show; else they are found by two binary searches.
     pub fn of_run(&self, run: RunNo) -> &[Place]
         ensures { result.now ≡ places_of_run run.0 self.now }
     {
-        own_places(self.places.as_slice(), run)
+        own_places(self.places.as_slice(), run, self.marks.of(run))
     }
 
     /// How many places there are.
@@ -120,8 +129,8 @@ impl PlaceMap {
         with_traits(alloc, self.places.as_slice(), numbers, wanted)
     }
 
-    /// The places of the run and the class, in rising number. They are found by four binary searches, and no memory is
-    /// taken.
+    /// The places of the run and the class, in rising number. No memory is taken. They stand where the run's mark says,
+    /// which two looks at each end show; else they are found by four binary searches.
     pub fn class_places(&self, run: RunNo, class: Class) -> &[PlaceNo]
         ensures places { result.now ≡ class_places_of run.0 class self.now }
         ensures untraited { result.now ≡ candidates_of run.0 class 0 self.now }
@@ -129,9 +138,20 @@ impl PlaceMap {
         ensures rising { AreRising 0 result.now }
     {
         let places = self.places.as_slice();
-        let first = first_of_run(places, run);
-        let end = first + end_of_run(&places[first..], run);
-        numbers_between(self.by_class.of(class), first, end)
+        let mark = self.marks.of(run);
+        let first = first_of_run(places, run, mark.start.places);
+        let size = mark.end.places.saturating_sub(first);
+        let end = first + end_of_run(&places[first..], run, size);
+        let (from, to) = mark.of_class(class);
+        numbers_between(self.by_class.of(class), first, end, from, to)
+    }
+}
+
+fn sizes_of(places: &[Place], by_class: &ClassNumbers) -> Sizes {
+    Sizes {
+        places: places.len(),
+        first: by_class.of(Class::First).len(),
+        second: by_class.of(Class::Second).len(),
     }
 }
 
@@ -154,7 +174,7 @@ fn fresh_places(
     ensures fault { IfErr result (λ e. ¬ (e ≡ PlaceFault.NoMemory) → with_places run.0 places.now
         (coach_places run.0 coach.now.number coach.now.class coach.now.groups.items) ≡ Err e) }
 {
-    let others = &places[first_of_run(places, run)..];
+    let others = &places[first_of_run(places, run, places.len())..];
     let more = size_of_groups(coach.groups.as_slice());
     if are_too_many(others.len(), places.len(), more) {
         return Err(PlaceFault::TooManyPlaces);
@@ -181,12 +201,14 @@ fn are_too_many(in_run: usize, in_all: usize, more: usize) -> bool
 }
 
 // The places of the run among these.
-fn own_places(places: &[Place], run: RunNo) -> &[Place]
+fn own_places(places: &[Place], run: RunNo, mark: Mark) -> &[Place]
     requires by_run { AreByRun places.now }
     ensures { result.now ≡ places_of_run run.0 places.now }
 {
-    let rest = &places[first_of_run(places, run)..];
-    &rest[..end_of_run(rest, run)]
+    let first = first_of_run(places, run, mark.start.places);
+    let size = mark.end.places.saturating_sub(first);
+    let rest = &places[first..];
+    &rest[..end_of_run(rest, run, size)]
 }
 
 // The numbers among these whose places have all wanted traits.
@@ -208,22 +230,58 @@ fn with_traits(
     Ok(found)
 }
 
-// The places before this one are of earlier runs, and the others are not.
-fn first_of_run(places: &[Place], run: RunNo) -> usize
+// The places before this one are of earlier runs, and the others are not. It is the guess, where that is right.
+fn first_of_run(places: &[Place], run: RunNo, guess: usize) -> usize
     requires by_run { AreByRun places.now }
     ensures within { result ≤ length places.now }
     ensures splits { IsSplit (λ p. nat_lt (run_number p) run.0) places.now result }
 {
+    if is_first_of_run(places, run, guess) {
+        return guess;
+    }
     places.partition_point(|p| p.run.0 < run.0)
 }
 
-// The places from this one on are of later runs, and the others are not.
-fn end_of_run(places: &[Place], run: RunNo) -> usize
+// Whether the places before this one are of earlier runs, and the others are not, by a look at its two neighbours.
+fn is_first_of_run(places: &[Place], run: RunNo, at: usize) -> bool
+    requires by_run { AreByRun places.now }
+    ensures within { result ≡ true → at ≤ length places.now }
+    ensures splits { result ≡ true → IsSplit (λ p. nat_lt (run_number p) run.0) places.now at }
+{
+    if at > places.len() {
+        return false;
+    }
+    if at > 0 && places[at - 1].run.0 >= run.0 {
+        return false;
+    }
+    at == places.len() || places[at].run.0 >= run.0
+}
+
+// The places from this one on are of later runs, and the others are not. It is the guess, where that is right.
+fn end_of_run(places: &[Place], run: RunNo, guess: usize) -> usize
     requires by_run { AreByRun places.now }
     ensures within { result ≤ length places.now }
     ensures splits { IsSplit (λ p. nat_le (run_number p) run.0) places.now result }
 {
+    if is_end_of_run(places, run, guess) {
+        return guess;
+    }
     places.partition_point(|p| p.run.0 <= run.0)
+}
+
+// Whether the places from this one on are of later runs, and the others are not, by a look at its two neighbours.
+fn is_end_of_run(places: &[Place], run: RunNo, at: usize) -> bool
+    requires by_run { AreByRun places.now }
+    ensures within { result ≡ true → at ≤ length places.now }
+    ensures splits { result ≡ true → IsSplit (λ p. nat_le (run_number p) run.0) places.now at }
+{
+    if at > places.len() {
+        return false;
+    }
+    if at > 0 && places[at - 1].run.0 > run.0 {
+        return false;
+    }
+    at == places.len() || places[at].run.0 > run.0
 }
 
 // How many places the groups have, or just more than there may be.

@@ -10,8 +10,8 @@ use Rattle.party_places.specs.declared.party.PartyAdded.TheVariants as party
 use Rattle.party_places.specs.Parties.{Party}
 use Rattle.plain_host.specs.Plain.{is_free_stretch, neighbours, Plain, Choice, choice_for, keeping}
 
--- so many of the candidates are wanted: the first free ones are won, each with an item for each piece of the span, or too few are free;
--- nothing is contended
+-- so many of the candidates are wanted: the first free ones are won, each with an item for each piece of the span, or
+-- too few are free; nothing is contended
 abbrev pub FindsFree : (ℕ → Bool) → Interval → ℕ → List ℕ → Added → List Item → Type 0
 FindsFree free span count candidates added.All won =
     (won ≡ flat_map (items_at span) (take count (filter free candidates))) × (count ≤ length (filter free candidates))
@@ -33,7 +33,9 @@ SeatsFree g free (party.NoPlace n) won =
     (stretch_of g free ≡ None) × FindsFree free g.span g.count g.candidates (added.NoPlace n) won
 SeatsFree g free (party.Contended place) won = ⊥
 
--- the row started is the plain host's choice, and is kept beside what that leaves; or there is none to choose, and nothing changes
+-- the row started is the plain host's choice, and is kept beside what that leaves; or there is none to choose, and
+-- nothing changes
 abbrev pub ChoosesRow : ℕ → Plain → Option RowNo → Plain → Type 0
-ChoosesRow rows before (Some row) after = (c : Choice) × (choice_for rows before ≡ Some c) × (c.row ≡ row) × (after ≡ keeping c)
+ChoosesRow rows before (Some row) after =
+    (c : Choice) × (choice_for rows before ≡ Some c) × (c.row ≡ row) × (after ≡ keeping c)
 ChoosesRow rows before None after = (choice_for rows before ≡ None) × (after ≡ before)

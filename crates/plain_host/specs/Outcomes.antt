@@ -12,6 +12,7 @@ use Rattle.booking_rows.specs.declared.turns.Aim.TheVariants as aim
 use Rattle.offer_codes.specs.declared.code.Segment.{Segment}
 use Rattle.offer_codes.specs.declared.code.OfferCode.{OfferCode}
 use Rattle.offer_codes.specs.declared.code.RefundCode.{RefundCode}
+use Rattle.offer_codes.specs.declared.code.ExchangeCode.{ExchangeCode}
 use Rattle.offer_codes.specs.declared.code.Offer.{Offer}
 use Rattle.offer_codes.specs.Offers.{OfferView, offer_view}
 use Rattle.offer_codes.specs.Exchanges.{ExchangeView, exchange_view}
@@ -80,17 +81,20 @@ wrong plain v = refusing (WrongState v.phase) plain
 -- before the limit, and at it
 abbrev pub confirmed_by : RowNo → ℕ → Plain → RowSeen → Outcome
 confirmed_by row now plain v =
-    if nat_lt v.limit now then refusing (TooLate v.limit now) plain else changed_to plain row (in_phase phase.Confirmed v)
+    if nat_lt v.limit now then refusing (TooLate v.limit now) plain
+    else changed_to plain row (in_phase phase.Confirmed v)
 
 abbrev pub confirmed : RowNo → ℕ → Plain → RowSeen → Outcome
 confirmed row now plain v = if is_in phase.Prebooked v then confirmed_by row now plain v else wrong plain v
 
 abbrev pub fulfilled : RowNo → Plain → RowSeen → Outcome
-fulfilled row plain v = if is_in phase.Confirmed v then changed_to plain row (in_phase phase.Fulfilled v) else wrong plain v
+fulfilled row plain v =
+    if is_in phase.Confirmed v then changed_to plain row (in_phase phase.Fulfilled v) else wrong plain v
 
 abbrev pub released : RowNo → ℕ → Plain → RowSeen → Outcome
 released row now plain v =
-    if is_in phase.Prebooked v then changed_to plain row (at_end kind.Release (end_of (aim.Release now)) v) else wrong plain v
+    if is_in phase.Prebooked v then changed_to plain row (at_end kind.Release (end_of (aim.Release now)) v)
+    else wrong plain v
 
 -- refunds
 
@@ -100,11 +104,13 @@ is_quotable v = is_in phase.Confirmed v || is_in phase.Fulfilled v
 abbrev pub is_fulfilled : RowSeen → Bool
 is_fulfilled v = is_in phase.Fulfilled v
 
+abbrev pub quoted_refund : CatalogueView → RowNo → ℕ → RowSeen → RefundCode
+quoted_refund cat row now v =
+    record { row = row; made = now; fulfilled = is_fulfilled v; amount = refund_at cat v now (is_fulfilled v) }
+
 abbrev pub refund_quoted : CatalogueView → RowNo → ℕ → Plain → RowSeen → Outcome
 refund_quoted cat row now plain v =
-    if is_quotable v
-    then outcome (refund_offer (record { row = row; made = now; fulfilled = is_fulfilled v; amount = refund_at cat v now (is_fulfilled v) })) plain
-    else wrong plain v
+    if is_quotable v then outcome (refund_offer (quoted_refund cat row now v)) plain else wrong plain v
 
 -- in the phase that the quote names
 abbrev pub refunded_by : RefundCode → ℕ → Plain → RowSeen → Outcome
@@ -115,15 +121,24 @@ refunded_by code now plain v =
 
 abbrev pub refunded : CatalogueView → RefundCode → ℕ → Plain → RowSeen → Outcome
 refunded cat code now plain v =
-    if code.amount == refund_at cat v code.made code.fulfilled then refunded_by code now plain v else refusing QuoteWrong plain
+    if code.amount == refund_at cat v code.made code.fulfilled then refunded_by code now plain v
+    else refusing QuoteWrong plain
 
 -- exchanges
 
+abbrev pub quoted_exchange : CatalogueView → RowNo → OfferCode → ℕ → RowSeen → ExchangeCode
+quoted_exchange cat row offer now v =
+    record {
+      row = row;
+      made = now;
+      fulfilled = is_fulfilled v;
+      difference = difference_at cat v now (is_fulfilled v) (offer_view offer);
+      offer = offer;
+    }
+
 abbrev pub exchange_quoted : CatalogueView → RowNo → OfferCode → ℕ → Plain → RowSeen → Outcome
 exchange_quoted cat row offer now plain v =
-    if is_quotable v
-    then outcome (exchange_offer (record { row = row; made = now; fulfilled = is_fulfilled v; difference = difference_at cat v now (is_fulfilled v) (offer_view offer); offer = offer })) plain
-    else wrong plain v
+    if is_quotable v then outcome (exchange_offer (quoted_exchange cat row offer now v)) plain else wrong plain v
 
 -- the old booking ends, and a new one stands in this row
 abbrev pub exchanged_for : CatalogueView → ExchangeView → ℕ → ℕ → RowSeen → Plain → RowNo → List Item → Outcome
@@ -146,7 +161,9 @@ is_same a b = false
 
 abbrev pub exchanged_with : CatalogueView → ExchangeView → ℕ → ℕ → Plain → RowSeen → Outcome
 exchanged_with cat x retailer now plain v =
-    if is_same x.difference (difference_at cat v x.made x.fulfilled x.offer) then exchanged_by cat x retailer now plain v else refusing QuoteWrong plain
+    if is_same x.difference (difference_at cat v x.made x.fulfilled x.offer)
+    then exchanged_by cat x retailer now plain v
+    else refusing QuoteWrong plain
 
 -- sweeping
 
@@ -157,11 +174,17 @@ abbrev pub is_waiting : ℕ → Standing → Bool
 is_waiting now b = is_in phase.Prebooked b.view && nat_le now b.view.limit
 
 abbrev pub swept_one : ℕ → Standing → Standing
-swept_one now b = if is_late now b then record { row = b.row; view = at_end kind.Expire (end_of (aim.Expire now)) b.view } else b
+swept_one now b =
+    if is_late now b then record { row = b.row; view = at_end kind.Expire (end_of (aim.Expire now)) b.view } else b
 
 abbrev pub swept_all : ℕ → Plain → Outcome
 swept_all now plain =
-    outcome (swept (record { expired = count_by (is_late now) plain.bookings; lost = 0; waiting = count_by (is_waiting now) plain.bookings }))
+    outcome
+    (swept (record {
+      expired = count_by (is_late now) plain.bookings;
+      lost = 0;
+      waiting = count_by (is_waiting now) plain.bookings;
+    }))
     (record { bookings = map (swept_one now) plain.bookings; kept = plain.kept })
 
 -- searching
@@ -169,7 +192,14 @@ swept_all now plain =
 -- the code that contracts see so
 abbrev pub code_of : OfferView → OfferCode
 code_of o =
-    record { made = o.made; adults = o.adults; children = o.children; class = o.class; wanted = o.wanted; segments = record { items = o.segments } }
+    record {
+      made = o.made;
+      adults = o.adults;
+      children = o.children;
+      class = o.class;
+      wanted = o.wanted;
+      segments = record { items = o.segments };
+    }
 
 -- how many of the segment's wanted places are free on it
 abbrev pub free_in : CatalogueView → Plain → OfferWish → Segment → ℕ
@@ -184,7 +214,9 @@ abbrev pub offered : CatalogueView → Plain → OfferWish → ℕ → List Offe
 offered cat plain w now = map (offer_on cat plain w now) (trips_of cat.runs (raised w.trip now))
 
 abbrev pub listed : CatalogueView → Plain → Segment → Outcome
-listed cat plain s = outcome (place_list s.run.0 (map (λ (p : PlaceNo). is_free plain.bookings s.span p.0) (numbers_on cat s.run.0))) plain
+listed cat plain s =
+    outcome (place_list s.run.0 (map (λ (p : PlaceNo). is_free plain.bookings s.span p.0) (numbers_on cat s.run.0)))
+    plain
 
 -- the outcome of a command that its codes and ids don't refuse
 abbrev pub performed : CatalogueView → ℕ → ℕ → Command → Plain → Outcome
@@ -204,12 +236,15 @@ performed cat retailer now (command.Confirm (Some row)) plain = on_own plain row
 performed cat retailer now (command.Fulfil None) plain = refusing UnknownBooking plain
 performed cat retailer now (command.Fulfil (Some row)) plain = on_own plain row retailer (fulfilled row plain)
 performed cat retailer now (command.QuoteRefund None) plain = refusing UnknownBooking plain
-performed cat retailer now (command.QuoteRefund (Some row)) plain = on_own plain row retailer (refund_quoted cat row now plain)
+performed cat retailer now (command.QuoteRefund (Some row)) plain =
+    on_own plain row retailer (refund_quoted cat row now plain)
 performed cat retailer now (command.AcceptRefund row None) plain = refusing UnknownOffer plain
-performed cat retailer now (command.AcceptRefund row (Some code)) plain = on_own plain code.row retailer (refunded cat code now plain)
+performed cat retailer now (command.AcceptRefund row (Some code)) plain =
+    on_own plain code.row retailer (refunded cat code now plain)
 performed cat retailer now (command.QuoteExchange None offer) plain = refusing UnknownBooking plain
 performed cat retailer now (command.QuoteExchange (Some row) None) plain = refusing UnknownOffer plain
-performed cat retailer now (command.QuoteExchange (Some row) (Some offer)) plain = on_own plain row retailer (exchange_quoted cat row offer now plain)
+performed cat retailer now (command.QuoteExchange (Some row) (Some offer)) plain =
+    on_own plain row retailer (exchange_quoted cat row offer now plain)
 performed cat retailer now (command.AcceptExchange row None) plain = refusing UnknownOffer plain
 performed cat retailer now (command.AcceptExchange row (Some code)) plain =
     on_own plain code.row retailer (exchanged_with cat (exchange_view code) retailer now plain)

@@ -21,7 +21,8 @@ pub record Standing : Type 0 where
   pub row : RowNo
   pub view : RowSeen
 
--- the bookings, at most one in each row, in the order in which they were made; and a row that is kept for the next, with its generation
+-- the bookings, at most one in each row, in the order in which they were made; and a row that is kept for the next,
+-- with its generation
 pub record Plain : Type 0 where
   pub bookings : List Standing
   pub kept : Option RowNo
@@ -127,7 +128,8 @@ without row bookings = filter (λ (b : Standing). not (b.row.row == row)) bookin
 
 -- the booking that gives way is away at once
 abbrev pub following : List Standing → Standing → Choice
-following bookings b = record { row = record { row = b.row.row; generation = b.row.generation + 1 }; left = without b.row.row bookings }
+following bookings b =
+    record { row = record { row = b.row.row; generation = b.row.generation + 1 }; left = without b.row.row bookings }
 
 abbrev pub choice_among : List Standing → Option ℕ → Option Choice
 choice_among bookings None = None
@@ -141,8 +143,8 @@ abbrev pub choice_kept : ℕ → List Standing → Option RowNo → Option Choic
 choice_kept rows bookings (Some row) = Some (record { row = row; left = bookings })
 choice_kept rows bookings None = choice_of rows bookings (least_unused rows bookings)
 
--- the row of a new booking: the one kept; else the first that no booking has; else the first whose booking gives way. None where there
--- is none of these
+-- the row of a new booking: the one kept; else the first that no booking has; else the first whose booking gives way.
+-- None where there is none of these
 abbrev pub choice_for : ℕ → Plain → Option Choice
 choice_for rows plain = choice_kept rows plain.bookings plain.kept
 

@@ -15,7 +15,8 @@ use Rattle.plain_host.specs.Outcomes.{outcome_of}
 use Rattle.plain_host.specs.PlainOf.{plain_of}
 use Rattle.plain_host.specs.Settled.{IsSettled}
 
--- A desk between two commands that is alone at the books of a catalogue: it has seen a legal history, and its bookings are settled.
+-- A desk between two commands that is alone at the books of a catalogue: it has seen a legal history, and its bookings
+-- are settled.
 pub record IsLone (cat : CatalogueView) (desk : DeskView) : Type 0 where
   pub alone : IsAlone desk
   pub legal : IsLegal desk.layout desk.seen
@@ -26,7 +27,8 @@ pub record IsLone (cat : CatalogueView) (desk : DeskView) : Type 0 where
 
 -- all is as before; or the row that the booking came to was chosen, and is kept
 abbrev pub MayKeepRow : ℕ → Plain → Plain → Type 0
-MayKeepRow rows before after = (after ≡ before) ⊎ ((c : Choice) × (choice_for rows before ≡ Some c) × (after ≡ keeping c))
+MayKeepRow rows before after =
+    (after ≡ before) ⊎ ((c : Choice) × (choice_for rows before ≡ Some c) × (after ≡ keeping c))
 
 -- what a command without memory leaves: all as before, or as it is once a booking's row was chosen
 abbrev pub MayKeep : ℕ → Command → Plain → Plain → Type 0
@@ -41,7 +43,8 @@ IsPlainly cat retailer now c old new reply =
     (let o = outcome_of cat retailer now c (plain_of old) in (reply ≡ o.reply) × (plain_of new ≡ o.plain))
     ⊎ ((reply ≡ problem NoMemory) × MayKeep cat.rows c (plain_of old) (plain_of new))
 
--- whatever a lone desk's reply to the command is, it is that of a host of one thread, and the desk is then as before between two commands
+-- whatever a lone desk's reply to the command is, it is that of a host of one thread, and the desk is then as before
+-- between two commands
 abbrev pub AnswersPlainly : CatalogueView → ℕ → ℕ → Command → Type 0
 AnswersPlainly cat retailer now c =
     (old new : DeskView) (reply : Reply) → IsLone cat old → Answers cat retailer now c old new reply

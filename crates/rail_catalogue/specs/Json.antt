@@ -5,8 +5,8 @@ use Rattle.serde_json.specs.Data.{Data, Items, no_items, item}
 use Rattle.serde_json.specs.Read.{read}
 use Rattle.serde_json.specs.Find.{as_number, as_u64, as_array, as_str}
 use Rattle.std.specs.Borrow.{Bor}
-use Rattle.serde_json.specs.declared.value.Value.{Value}
-use Rattle.serde_json.specs.View.{view}
+use Rattle.json_text.specs.declared.value.Value.{Value}
+use Rattle.json_text.specs.View.{view}
 
 -- the value that the bytes are, if they are UTF-8 and JSON
 abbrev pub json_of : List ℕ → Option Data

@@ -13,8 +13,8 @@ use Rattle.train_runs.specs.Stops.{RunView}
 use Rattle.train_runs.specs.Runs.{RunsView, run_fault}
 use Rattle.rail_catalogue.specs.Json.{whole_in, list_of, text_of}
 use Rattle.rail_catalogue.specs.Faults.{Fault, field, run, unknown_station, need, after, item_path, run_item_path}
-use Rattle.serde_json.specs.View.{view}
-use Rattle.serde_json.specs.declared.value.Value.{Value}
+use Rattle.json_text.specs.View.{view}
+use Rattle.json_text.specs.declared.value.Value.{Value}
 
 -- a member for a moment: it is missing, it is no moment, or it is this one
 pub data Time : Type 0 where

@@ -1,5 +1,5 @@
 ghost use Rattle.std.specs.Prelude.{◌≡◌, ◌≤◌, ◌+◌, [], length, Ok, Err, IfOk, OnOk, map, option_and_then};
-ghost use Rattle.serde_json.specs.View.{view};
+ghost use Rattle.json_text.specs.View.{view};
 ghost use Rattle.place_map.specs.Places.{EndsWithRun, with_places, coach_places};
 ghost use Rattle.rail_catalogue.specs.Faults.{Refuses};
 ghost use Rattle.rail_catalogue.specs.Json.{text_of, member_data};
@@ -8,15 +8,15 @@ ghost use Rattle.rail_catalogue.specs.Coaches.{class_named, trait_named, traits_
 
 use crate::fault::{CatalogueFault, GroupSpot, group_fault, run_item_fault, trait_fault};
 use crate::json::{list_in, list_of, whole_in};
+use json_text::Value;
 use place_map::{Class, Coach, Group, PlaceFault, PlaceMap};
 use rail_ids::RunNo;
-use serde_json::Value;
 use std::alloc::Global;
 
 /// Adds the coaches of a run to the places.
 pub fn read_coaches(
     alloc: Global,
-    items: &[Value],
+    items: &[Value<'_>],
     run: u32,
     places: &mut PlaceMap,
 ) -> Result<(), CatalogueFault>
@@ -49,7 +49,12 @@ fn add_coach(places: &mut PlaceMap, run: u32, coach: &Coach) -> Result<(), Catal
     }
 }
 
-fn read_coach(alloc: Global, item: &Value, run: usize, n: usize) -> Result<Coach, CatalogueFault>
+fn read_coach(
+    alloc: Global,
+    item: &Value<'_>,
+    run: usize,
+    n: usize,
+) -> Result<Coach, CatalogueFault>
     ensures ok { IfOk result (λ c. coach_at run n (view item.now) ≡ Ok (coach_view c)) }
     ensures some { IfOk result (λ c. 1 ≤ length c.groups.items) }
     ensures err { Refuses (coach_at run n (view item.now)) result }
@@ -73,7 +78,7 @@ fn read_coach(alloc: Global, item: &Value, run: usize, n: usize) -> Result<Coach
     })
 }
 
-fn read_class(value: Option<&Value>) -> Option<Class>
+fn read_class(value: Option<&Value<'_>>) -> Option<Class>
     ensures { result ≡ option_and_then class_named (text_of (member_data value.entry)) }
 {
     match value.and_then(Value::as_str)? {
@@ -85,7 +90,7 @@ fn read_class(value: Option<&Value>) -> Option<Class>
 
 fn read_groups(
     alloc: Global,
-    items: &[Value],
+    items: &[Value<'_>],
     run: usize,
     coach: usize,
 ) -> Result<Vec<Group>, CatalogueFault>
@@ -105,7 +110,7 @@ fn read_groups(
     Ok(groups)
 }
 
-fn read_group(alloc: Global, item: &Value, at: GroupSpot) -> Result<Group, CatalogueFault>
+fn read_group(alloc: Global, item: &Value<'_>, at: GroupSpot) -> Result<Group, CatalogueFault>
     ensures ok { IfOk result (λ g. group_at at.run at.coach at.group (view item.now) ≡ Ok g) }
     ensures err { Refuses (group_at at.run at.coach at.group (view item.now)) result }
 {
@@ -122,7 +127,11 @@ fn read_group(alloc: Global, item: &Value, at: GroupSpot) -> Result<Group, Catal
     Ok(Group::new(first as u16, last as u16, traits))
 }
 
-fn read_traits(alloc: Global, value: Option<&Value>, at: GroupSpot) -> Result<u8, CatalogueFault>
+fn read_traits(
+    alloc: Global,
+    value: Option<&Value<'_>>,
+    at: GroupSpot,
+) -> Result<u8, CatalogueFault>
     ensures ok { IfOk result (λ t. traits_of at.run at.coach at.group (member_data value.entry) ≡ Ok t) }
     ensures err { Refuses (traits_of at.run at.coach at.group (member_data value.entry)) result }
 {
@@ -135,7 +144,7 @@ fn read_traits(alloc: Global, value: Option<&Value>, at: GroupSpot) -> Result<u8
     read_trait_items(alloc, items, at)
 }
 
-fn read_trait_items(alloc: Global, items: &[Value], at: GroupSpot) -> Result<u8, CatalogueFault>
+fn read_trait_items(alloc: Global, items: &[Value<'_>], at: GroupSpot) -> Result<u8, CatalogueFault>
     ensures ok { IfOk result (λ t. traits_from at.run at.coach at.group 0 0 (map view items.now) ≡ Ok t) }
     ensures err { Refuses (traits_from at.run at.coach at.group 0 0 (map view items.now)) result }
 {

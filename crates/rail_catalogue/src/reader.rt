@@ -1,6 +1,6 @@
 ghost use Rattle.std.specs.Prelude.{◌≡◌, ◌≤◌, Ok, Err, IfOk, length, string_bytes};
 ghost use Rattle.std.specs.List.{list_all};
-ghost use Rattle.serde_json.specs.View.{view};
+ghost use Rattle.json_text.specs.View.{view};
 ghost use Rattle.rail_catalogue.specs.Faults.{Refuses};
 ghost use Rattle.rail_catalogue.specs.Networks.{heading_view};
 ghost use Rattle.rail_catalogue.specs.Format.{catalogue_of, contents_of, heading_of, is_currency as is_currency_of, is_capital};
@@ -12,7 +12,7 @@ use crate::retailers::read_retailers;
 use crate::runs::read_network;
 use crate::stations::read_stations;
 use crate::steps::read_terms;
-use serde_json::Value;
+use json_text::{Scratch, Value};
 use std::alloc::Global;
 
 /// The catalogue of a text, or its first fault in the order of the format.
@@ -20,11 +20,12 @@ pub fn read_catalogue(alloc: Global, text: &[u8]) -> Result<Catalogue, Catalogue
     ensures ok { IfOk result (λ c. catalogue_of text.now ≡ Ok c) }
     ensures err { Refuses (catalogue_of text.now) result }
 {
-    let whole = read_value(alloc, text)?;
+    let mut scratch = Scratch::new(alloc);
+    let whole = read_value(alloc, text, &mut scratch)?;
     read_contents(alloc, &whole)
 }
 
-fn read_contents(alloc: Global, whole: &Value) -> Result<Catalogue, CatalogueFault>
+fn read_contents(alloc: Global, whole: &Value<'_>) -> Result<Catalogue, CatalogueFault>
     ensures ok { IfOk result (λ c. contents_of (view whole.now) ≡ Ok c) }
     ensures err { Refuses (contents_of (view whole.now)) result }
 {
@@ -44,7 +45,7 @@ struct Heading {
     confirm_seconds: u32,
 }
 
-fn read_heading(alloc: Global, whole: &Value) -> Result<Heading, CatalogueFault>
+fn read_heading(alloc: Global, whole: &Value<'_>) -> Result<Heading, CatalogueFault>
     ensures ok { IfOk result (λ h. heading_of (view whole.now) ≡ Ok (heading_view h)) }
     ensures letters { IfOk result (λ h. length (string_bytes h.currency) ≡ 3) }
     ensures rows { IfOk result (λ h. (1 ≤ h.rows) × (h.rows ≤ 262_144)) }

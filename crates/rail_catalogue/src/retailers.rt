@@ -1,14 +1,14 @@
 ghost use Rattle.std.specs.Prelude.{◌≡◌, ◌++◌, [], ◌∷◌, None, Some, Ok, Err, IfOk, is_some, length};
 ghost use Rattle.std.specs.List.{list_all};
-ghost use Rattle.serde_json.specs.View.{view};
+ghost use Rattle.json_text.specs.View.{view};
 ghost use Rattle.rail_catalogue.specs.Json.{member_data};
 ghost use Rattle.rail_catalogue.specs.Faults.{Refuses};
 ghost use Rattle.rail_catalogue.specs.Retailers.{has_number as has_number_of, retailer_with, with_retailer, retailers_of, is_key as is_key_of, is_key_byte as is_key_byte_of};
 
 use crate::fault::{CatalogueFault, field_fault, item_fault};
 use crate::json::{list_in, whole_in};
+use json_text::Value;
 use rail_ids::RetailerNo;
-use serde_json::Value;
 use std::alloc::{AllocError, Global};
 use std::collections::{BTreeMap, BTreeSet};
 use std::marker::Model;
@@ -102,7 +102,12 @@ impl Retailers {
     }
 
     // The retailers with the next item of the list, which has this index.
-    fn with_item(self, alloc: Global, item: &Value, n: usize) -> Result<Retailers, CatalogueFault>
+    fn with_item(
+        self,
+        alloc: Global,
+        item: &Value<'_>,
+        n: usize,
+    ) -> Result<Retailers, CatalogueFault>
         requires { n ≡ length self }
         ensures ok { IfOk result (λ r. with_retailer self (view item.now) ≡ Ok r) }
         ensures err { Refuses (with_retailer self (view item.now)) result }
@@ -128,7 +133,7 @@ impl Retailers {
 }
 
 /// The retailers of the member.
-pub fn read_retailers(alloc: Global, value: Option<&Value>) -> Result<Retailers, CatalogueFault>
+pub fn read_retailers(alloc: Global, value: Option<&Value<'_>>) -> Result<Retailers, CatalogueFault>
     ensures ok { IfOk result (λ r. retailers_of (member_data value.entry) ≡ Ok r) }
     ensures err { Refuses (retailers_of (member_data value.entry)) result }
 {

@@ -1,5 +1,5 @@
 ghost use Rattle.std.specs.Prelude.{◌≡◌, ◌<◌, ◌≤◌, ◌+◌, [], All, Ok, Err, IfOk, IfSome, OnOk, length};
-ghost use Rattle.serde_json.specs.View.{view};
+ghost use Rattle.json_text.specs.View.{view};
 ghost use Rattle.place_map.specs.Places.{EndsWithRun};
 ghost use Rattle.rail_catalogue.specs.Json.{member_data};
 ghost use Rattle.rail_catalogue.specs.Faults.{Refuses};
@@ -13,9 +13,9 @@ use crate::coaches::read_coaches;
 use crate::fault::{CatalogueFault, field_fault, item_fault};
 use crate::json::{list_in, list_of, whole_in};
 use crate::stops::read_stops;
+use json_text::Value;
 use place_map::PlaceMap;
 use rail_ids::RunNo;
-use serde_json::Value;
 use std::alloc::Global;
 use tariff::Fare;
 use train_runs::{Run, RunFault, Runs};
@@ -31,7 +31,7 @@ pub struct Network {
 /// The runs of the member, over these stations.
 pub fn read_network(
     alloc: Global,
-    value: Option<&Value>,
+    value: Option<&Value<'_>>,
     runs: Runs,
 ) -> Result<Network, CatalogueFault>
     requires { runs.runs ≡ [] }
@@ -57,7 +57,7 @@ pub fn read_network(
 // Adds the next item of the list, which has this index.
 fn read_run(
     alloc: Global,
-    item: &Value,
+    item: &Value<'_>,
     n: usize,
     network: &mut Network,
 ) -> Result<(), CatalogueFault>
@@ -78,7 +78,7 @@ fn read_run(
 // Adds the train and the stops of an item.
 fn read_timetable(
     alloc: Global,
-    item: &Value,
+    item: &Value<'_>,
     n: usize,
     runs: &mut Runs,
 ) -> Result<RunNo, CatalogueFault>
@@ -115,7 +115,7 @@ fn add_run(runs: &mut Runs, run: Run) -> Result<RunNo, CatalogueFault>
     }
 }
 
-fn read_fares(alloc: Global, item: &Value, n: usize) -> Result<Fares, CatalogueFault>
+fn read_fares(alloc: Global, item: &Value<'_>, n: usize) -> Result<Fares, CatalogueFault>
     ensures ok { IfOk result (λ f. fares_of n (view item.now) ≡ Ok f) }
     ensures err { Refuses (fares_of n (view item.now)) result }
 {
@@ -137,7 +137,7 @@ fn read_fares(alloc: Global, item: &Value, n: usize) -> Result<Fares, CatalogueF
     ))
 }
 
-fn amount_in(item: &Value, class: &str, name: &str) -> Option<u32>
+fn amount_in(item: &Value<'_>, class: &str, name: &str) -> Option<u32>
     ensures value { result ≡ amount_at class.now name.now (view item.now) }
     ensures most { IfSome result (λ n. n ≤ 10_000_000) }
 {
@@ -148,7 +148,7 @@ fn amount_in(item: &Value, class: &str, name: &str) -> Option<u32>
 // Adds the coaches of an item to the places.
 fn read_places(
     alloc: Global,
-    item: &Value,
+    item: &Value<'_>,
     run: RunNo,
     places: &mut PlaceMap,
 ) -> Result<(), CatalogueFault>

@@ -1,6 +1,6 @@
 ghost use Rattle.std.specs.Prelude.{◌≡◌, ◌+◌, [], Ok, Err, IfOk, OnOk, length};
 ghost use Rattle.std.specs.List.{list_all};
-ghost use Rattle.serde_json.specs.View.{view};
+ghost use Rattle.json_text.specs.View.{view};
 ghost use Rattle.train_runs.specs.Stations.{is_code as is_code_of, is_code_byte as is_code_byte_of, with_station};
 ghost use Rattle.rail_catalogue.specs.Json.{member_data};
 ghost use Rattle.rail_catalogue.specs.Faults.{Refuses};
@@ -8,12 +8,12 @@ ghost use Rattle.rail_catalogue.specs.Stations.{with_item, stations_of, station_
 
 use crate::fault::{CatalogueFault, field_fault, item_fault};
 use crate::json::{list_in, whole_or};
-use serde_json::Value;
+use json_text::Value;
 use std::alloc::Global;
 use train_runs::{Runs, StationFault};
 
 /// The stations of the member, and no run yet.
-pub fn read_stations(alloc: Global, value: Option<&Value>) -> Result<Runs, CatalogueFault>
+pub fn read_stations(alloc: Global, value: Option<&Value<'_>>) -> Result<Runs, CatalogueFault>
     ensures ok { IfOk result (λ r. stations_of (member_data value.entry) ≡ Ok r.stations) }
     ensures no_run { IfOk result (λ r. r.runs ≡ []) }
     ensures err { Refuses (stations_of (member_data value.entry)) result }
@@ -31,7 +31,7 @@ pub fn read_stations(alloc: Global, value: Option<&Value>) -> Result<Runs, Catal
 // Adds the next item of the list, which has this index.
 fn read_station(
     alloc: Global,
-    item: &Value,
+    item: &Value<'_>,
     n: usize,
     runs: &mut Runs,
 ) -> Result<(), CatalogueFault>

@@ -1,18 +1,18 @@
 ghost use Rattle.std.specs.Prelude.{◌≡◌, ◌≤◌, [], Ok, Err, IfOk, length, map};
-ghost use Rattle.serde_json.specs.View.{view};
+ghost use Rattle.json_text.specs.View.{view};
 ghost use Rattle.rail_catalogue.specs.Faults.{Refuses};
 ghost use Rattle.rail_catalogue.specs.Steps.{step_at, steps_from, terms_of};
 
 use crate::fault::{CatalogueFault, field_fault, item_fault};
 use crate::json::{list_in, whole_in, whole_or};
-use serde_json::Value;
+use json_text::Value;
 use std::alloc::Global;
 use tariff::{RefundStep, Terms};
 
 /// The terms of the whole.
 pub fn read_terms(
     alloc: Global,
-    whole: &Value,
+    whole: &Value<'_>,
     confirm_seconds: u32,
 ) -> Result<Terms, CatalogueFault>
     requires some_time { 1 ≤ confirm_seconds }
@@ -36,7 +36,7 @@ pub fn read_terms(
     }
 }
 
-fn read_steps(alloc: Global, items: &[Value]) -> Result<Vec<RefundStep>, CatalogueFault>
+fn read_steps(alloc: Global, items: &[Value<'_>]) -> Result<Vec<RefundStep>, CatalogueFault>
     ensures ok { IfOk result (λ v. steps_from [] (map view items.now) ≡ Ok v.items) }
     ensures few { IfOk result (λ v. length v.items ≡ length items.now) }
     ensures err { Refuses (steps_from [] (map view items.now)) result }
@@ -48,7 +48,7 @@ fn read_steps(alloc: Global, items: &[Value]) -> Result<Vec<RefundStep>, Catalog
     Ok(steps)
 }
 
-fn read_step(alloc: Global, item: &Value, n: usize) -> Result<RefundStep, CatalogueFault>
+fn read_step(alloc: Global, item: &Value<'_>, n: usize) -> Result<RefundStep, CatalogueFault>
     ensures ok { IfOk result (λ s. step_at n (view item.now) ≡ Ok s) }
     ensures err { Refuses (step_at n (view item.now)) result }
 {

@@ -1,13 +1,13 @@
 ghost use Rattle.std.specs.Prelude.{◌≡◌, ◌<◌, ◌+◌, ◌==◌, ◌&&◌, All, Ok, Err, IfOk, IfErr, IfSome, length, codes};
-ghost use Rattle.serde_json.specs.View.{view};
+ghost use Rattle.json_text.specs.View.{view};
 ghost use Rattle.rail_catalogue.specs.Json.{member_data};
 ghost use Rattle.rail_catalogue.specs.Faults.{fault_of, field, run_item_path, Refuses};
 ghost use Rattle.rail_catalogue.specs.Stops.{times_of as times_in, time_of, times_at, stop_at, stops_in};
 ghost use Rattle.rail_catalogue.specs.TimeViews.{time_view, side_name, times_view};
 
 use crate::fault::{CatalogueFault, run_item_fault};
+use json_text::Value;
 use rail_time::{Moment, MomentFault, read_moment};
-use serde_json::Value;
 use std::alloc::{AllocError, Global};
 use train_runs::{Runs, Stop};
 
@@ -34,7 +34,7 @@ enum Side {
 /// The stops of a run, at stations that are known.
 pub fn read_stops(
     alloc: Global,
-    items: &[Value],
+    items: &[Value<'_>],
     run: usize,
     runs: &Runs,
 ) -> Result<Vec<Stop>, CatalogueFault>
@@ -51,7 +51,7 @@ pub fn read_stops(
 
 fn read_stop(
     alloc: Global,
-    item: &Value,
+    item: &Value<'_>,
     run: usize,
     j: usize,
     n: usize,
@@ -83,7 +83,7 @@ fn read_stop(
 
 fn read_times(
     alloc: Global,
-    item: &Value,
+    item: &Value<'_>,
     run: usize,
     j: usize,
     n: usize,
@@ -146,7 +146,7 @@ fn times_of(arrives: Time, departs: Time, first: bool, last: bool) -> Result<Tim
     }
 }
 
-fn time_member(alloc: Global, value: Option<&Value>) -> Result<Time, AllocError>
+fn time_member(alloc: Global, value: Option<&Value<'_>>) -> Result<Time, AllocError>
     ensures { IfOk result (λ t. time_view t ≡ time_of (member_data value.entry)) }
 {
     let Some(value) = value else {

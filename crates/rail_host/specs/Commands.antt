@@ -39,20 +39,16 @@ pub record Shelved : Type 0 where
   pub missed : ℕ
   pub misses : ℕ
 
--- Serving at a port of its own ended so: from a listener at port 0 with limit 0, which had handed out nothing and hadn't failed, with what
--- is left of it and the wall. It is the export of this wall that the notes took, if it was asked for, before the note of the end. What the
--- listener is at last is known by `Runs` alone: nobody keeps it, and its streams tell no content.
-pub record ServesPort (words : List (List ℕ)) (files : Files) (status : ℕ) (shelf : Shelved) (n : Noting) : Type 0 where
+-- Serving ended so, from what the listener told to what it tells. It is the export of the wall that is left that the notes took, if it was
+-- asked for, before the note of the end.
+pub record ServesPort (words : List (List ℕ)) (files : Files) (left : Left) (status : ℕ) (shelf : Shelved) (n : Noting) : Type 0 where
   pub outcome : ServeOutcome
   pub is : status ≡ status_of_serve outcome
-  pub left : Left
-  pub new_port : left.before ≡ record { port = 0; limit = 0; handed = 0 }
-  pub unfailed : left.faults_before ≡ 0
   pub ran : Runs words files left outcome
   pub told : IsTold words left.wall n outcome
   pub exported : status ≡ 0 → IsExporting words → IsSomeAnd left.wall (λ w. n.after ≡ with_end n.before (text_on w))
   pub cause : HasShelfCause outcome shelf.failed shelf.fails shelf.missed shelf.misses
 
 -- so ends the program: as a command other than `serve`, or as `serve` at its port
-abbrev pub EndsSo : List (List ℕ) → Files → ℕ → Shelved → Noting → Type 0
-EndsSo words files status shelf n = EndsPlainly words status n ⊎ (IsForServe words × ServesPort words files status shelf n)
+abbrev pub EndsSo : List (List ℕ) → Files → Left → ℕ → Shelved → Noting → Type 0
+EndsSo words files left status shelf n = EndsPlainly words status n ⊎ (IsForServe words × ServesPort words files left status shelf n)

@@ -11,6 +11,7 @@ mod host;
 mod program;
 mod serve;
 
+use host_io::{SleepTicker, TcpPort};
 use host_notes::{CommandEnd, end_command};
 use rail_io::{FileShelf, ReaderSource, WriterSink};
 use std::alloc::AllocError;
@@ -51,15 +52,20 @@ fn main(rt: HostRuntime) -> ExitCode {
     let mut output = WriterSink::new(rt.stdout());
     let mut notes = WriterSink::new(rt.stderr());
     let status = match given_words(&rt) {
-        Ok(words) => program::run_command(
-            &rt,
-            alloc,
-            &words,
-            &mut shelf,
-            &mut input,
-            &mut output,
-            &mut notes,
-        ),
+        Ok(words) => {
+            let end = program::run_command(
+                &rt,
+                alloc,
+                &words,
+                &mut shelf,
+                &mut input,
+                &mut output,
+                &mut notes,
+                TcpPort::new(&rt, alloc),
+                SleepTicker::new(&rt),
+            );
+            end.status
+        }
         Err(_) => end_command(&mut notes, &CommandEnd::NoMemory),
     };
     ExitCode::from(status)

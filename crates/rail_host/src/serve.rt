@@ -1,16 +1,17 @@
-// `serve` at a port of this machine.
-ghost use Rattle.std.specs.Prelude.{◌≡◌, ◌⊎◌, IfOk, length};
+// `serve` over a listener and a ticker, by the system's clock.
+ghost use Rattle.std.specs.Prelude.{◌≡◌, ◌⊎◌, ◌≤◌, None, IfOk, length, replicate};
 ghost use Rattle.rail_io.specs.Faults.{Rose};
 ghost use Rattle.host_words.specs.Options.{words_texts};
 ghost use Rattle.host_serve.specs.Serve.{IsExporting, IsNoServe, IsOfRefusedText, IsWithoutBooks};
+ghost use Rattle.host_serve.specs.Turns.{Asks};
 ghost use Rattle.rail_host.specs.Commands.{ServesPort};
 
-use host_io::{SleepTicker, TcpPort};
+use host_io::Ticker;
 use host_notes::{CommandEnd, end_command};
-use host_serve::run_serve;
+use host_serve::{ServeEnd, run_serve};
 use rail_io::{Shelf, Sink, SystemClock};
+use rail_service::Listener;
 use std::alloc::{AllocError, Global};
-use std::net::{Net, TcpListener, TcpStream};
 use std::sync::Wait;
 use std::thread::Threads;
 use std::time;
@@ -32,24 +33,49 @@ fn system_clocks<C: time::Clock + Copy + Drop>(
     Ok(clocks)
 }
 
-/// Serves connections to a port of this machine, by the system's clock, and answers the status of `serve`, with its export and its note.
+/// Serves the connections that a listener hands out, by the system's clock, and hands back the status of `serve`, the listener and the wall,
+/// with the export and the note in the notes.
 ///
-/// The listener is made here, and nobody keeps it or the wall. So the contract says that there are such, by which all holds that `run_serve`
-/// promises: the listener was new at the start, and the export that the notes took is that wall's. What the listener is at the end is known
-/// by that alone, and its streams tell no content: that a connection's bytes came from a client, and reached one, is said by no clause.
+/// The program's listener stands before a port of this machine, and its streams tell no content: that a connection's bytes came from a client,
+/// and reached one, is said by no clause.
 pub fn serve_port<
-    R: Threads + Wait + Sync + Net<Listener = TcpListener, Stream = TcpStream> + time::Clock,
+    R: Threads + Wait + Sync + time::Clock,
     F: Shelf,
+    L: Listener + Drop + Send,
+    T: Ticker + Drop + Send,
     E: Sink,
->(rt: &R, alloc: Global, words: &[String], shelf: &mut F, notes: &mut E) -> u8
-    // Status 2 comes exactly where the words are refused, but for want of memory. Nothing is then fetched.
-    ensures words { result ≡ 2 → IsNoServe (words_texts words.now) }
-    ensures refused_words { IsNoServe (words_texts words.now) → (result ≡ 2) ⊎ (result ≡ 5) }
-    ensures nothing_fetched { result ≡ 2 → shelf.new ≡ shelf.old }
+>(
+    rt: &R,
+    alloc: Global,
+    words: &[String],
+    shelf: &mut F,
+    listener: L,
+    ticker: T,
+    notes: &mut E,
+) -> ServeEnd<L>
+where
+    L::Input: Send,
+    L::Output: Send,
+    requires fresh { (L.told listener).handed ≡ 0 }
 
-    // The status is that of the end, and the command ran so, at a port of its own. The notes took the export of the wall that serving left,
-    // if it was asked for and there is one, and the note of the end.
-    ensures ended { ServesPort (words_texts words.now) (F.told shelf.old) result
+    // Status 2 comes exactly where the words are refused, but for want of memory. Nothing is then fetched.
+    ensures words { result.status ≡ 2 → IsNoServe (words_texts words.now) }
+    ensures refused_words { IsNoServe (words_texts words.now) → (result.status ≡ 2) ⊎ (result.status ≡ 5) }
+    ensures nothing_fetched { result.status ≡ 2 → shelf.new ≡ shelf.old }
+
+    // The status is that of the end, and the command ran so, over this listener, by this ticker and clocks that tell nothing. The notes took
+    // the export of the wall that is handed back, if it was asked for and there is one, and the note of the end.
+    ensures ended { ServesPort (words_texts words.now) (F.told shelf.old)
+        (record {
+          faults_before = L.faults listener;
+          before = L.told listener;
+          clocks = replicate 17 None;
+          asks = Asks T.ticked ticker;
+          faults_after = L.faults result.listener;
+          after = L.told result.listener;
+          wall = result.wall;
+        })
+        result.status
         (record {
           failed = F.faults shelf.old;
           fails = F.faults shelf.new;
@@ -62,24 +88,20 @@ pub fn serve_port<
           after = E.told notes.new;
           fails = E.faults notes.new;
         }) }
-    ensures write_cause { result ≡ 4 → IsExporting (words_texts words.now)
+    ensures write_cause { result.status ≡ 4 → IsExporting (words_texts words.now)
         × Rose (E.faults notes.old) (E.faults notes.new) }
-    ensures without { result ≡ 1 → IsWithoutBooks (words_texts words.now) (F.told shelf.old) }
-    ensures missed { result ≡ 1 → Rose (F.misses shelf.old) (F.misses shelf.new)
+    ensures without { result.status ≡ 1 → IsWithoutBooks (words_texts words.now) (F.told shelf.old) }
+    ensures missed { result.status ≡ 1 → Rose (F.misses shelf.old) (F.misses shelf.new)
         ⊎ IsOfRefusedText (words_texts words.now) (F.told shelf.old) }
+    ensures never_falls { L.faults listener ≤ L.faults result.listener }
+    ensures steady { (result.status ≡ 3 → ⊥) → L.faults result.listener ≡ L.faults listener }
 {
     let Ok(clocks) = system_clocks(rt, alloc) else {
-        return end_command(notes, &CommandEnd::NoMemory);
+        return ServeEnd {
+            status: end_command(notes, &CommandEnd::NoMemory),
+            listener,
+            wall: None,
+        };
     };
-    let end = run_serve(
-        rt,
-        alloc,
-        words,
-        shelf,
-        TcpPort::new(rt, alloc),
-        SleepTicker::new(rt),
-        clocks,
-        notes,
-    );
-    end.status
+    run_serve(rt, alloc, words, shelf, listener, ticker, clocks, notes)
 }

@@ -1,11 +1,12 @@
 -- What a connection is promised.
-use Rattle.std.specs.Prelude.{◌≡◌, ◌⊎◌, ℕ, ◌+◌, true, List, [], Option, IfSome, IsSomeAnd}
+use Rattle.std.specs.Prelude.{◌≡◌, ◌⊎◌, ℕ, ◌+◌, true, List, [], Option, None, IfSome, IsSomeAnd}
 use mathlib.Core.List.{IsPrefix}
 use Rattle.rail_ids.specs.declared.RetailerNo.{RetailerNo}
 use Rattle.history_model.specs.declared.entry.Entry.{Entry}
 use Rattle.history_model.specs.declared.entry.Step.{Step}
 use Rattle.history_model.specs.History.{state_of}
 use Rattle.history_model.specs.Laws.{NoDouble}
+use Rattle.rail_io.specs.Told.{with_front, with_end}
 use Rattle.http_wire.specs.Requests.{RequestText}
 use Rattle.session_loop.specs.declared.end.ConnEnd.{ConnEnd}
 use Rattle.session_loop.specs.declared.end.ConnEnd.TheVariants.{NoMemory}
@@ -78,3 +79,20 @@ pub record IsUntouched (before after : ServiceView) (taken written : List ℕ) :
 abbrev pub HasServed : CatalogueView → ServiceView → ServiceView → List ℕ → Option (List ℕ) → List ℕ → ConnEnd → Type 0
 HasServed cat before after taken told written end =
     ((end ≡ NoMemory) × IsUntouched before after taken written) ⊎ IsServed cat before after taken told written end
+
+-- what a whole connection is served with: a desk, and what its clock, its source and its sink tell, where they do
+pub record ConnectionView : Type 0 where
+  pub desk : DeskView
+  pub clock : Option (ℕ → ℕ)
+  pub source : Option (List ℕ)
+  pub sink : Option (List ℕ)
+
+abbrev pub connection_at : DeskView → Option (ℕ → ℕ) → Option (List ℕ) → Option (List ℕ) → ConnectionView
+connection_at desk clock source sink = record { desk = desk; clock = clock; source = source; sink = sink }
+
+-- The bytes written up to this end are the defined replies to the requests of the bytes taken, whatever other desks do.
+abbrev pub ServesWhole : CatalogueView → ConnectionView → ConnectionView → ConnEnd → Type 0
+ServesWhole cat before after end = (taken written : List ℕ) × (first : Option RetailerNo)
+    × (before.source ≡ with_front taken after.source) × (after.sink ≡ with_end before.sink written)
+    × HasServed cat (record { desk = before.desk; first = None; clock = before.clock })
+    (record { desk = after.desk; first = first; clock = after.clock }) taken after.source written end

@@ -1,6 +1,7 @@
 -- What a connection of a host of one thread is answered.
-use Rattle.std.specs.Prelude.{◌≡◌, ◌⊎◌, ℕ, true, List, [], Option, Result, Ok, Err}
+use Rattle.std.specs.Prelude.{◌≡◌, ◌⊎◌, ℕ, true, List, [], Option, None, Result, Ok, Err}
 use Rattle.rail_ids.specs.declared.RetailerNo.{RetailerNo}
+use Rattle.rail_io.specs.Told.{with_front, with_end}
 use Rattle.http_wire.specs.Requests.{RequestText}
 use Rattle.session_loop.specs.declared.end.ConnEnd.{ConnEnd}
 use Rattle.session_loop.specs.declared.end.ConnEnd.TheVariants.{NoMemory}
@@ -17,7 +18,7 @@ use Rattle.plain_host.specs.PlainOf.{plain_of}
 use Rattle.plain_host.specs.Plainly.{MayKeep}
 use Rattle.rail_service.specs.Refusals.{problem_of_wire}
 use Rattle.rail_service.specs.Serving.{retailer_of, first_after, AsksFor}
-use Rattle.rail_service.specs.Connections.{ServiceView, IsReading}
+use Rattle.rail_service.specs.Connections.{ServiceView, ConnectionView, IsReading}
 
 -- what a connection's host stands at: its list of bookings, the retailer of its first known key, and the clock's readings to come
 pub record PlainView : Type 0 where
@@ -62,3 +63,10 @@ abbrev pub IsOneThread : CatalogueView → PlainView → PlainView → List ℕ 
 IsOneThread cat before after taken told written end =
     ((end ≡ NoMemory) × (taken ≡ []) × (written ≡ []))
     ⊎ IsEnd (plain_answers_of cat) (plain_refusals_of cat) before after taken told written end
+
+-- The bytes written up to this end are those of a host of one thread, which begins with the desk's bookings.
+abbrev pub ServesAlone : CatalogueView → ConnectionView → ConnectionView → ConnEnd → Type 0
+ServesAlone cat before after end = (taken written : List ℕ) × (first : Option RetailerNo)
+    × (before.source ≡ with_front taken after.source) × (after.sink ≡ with_end before.sink written)
+    × IsOneThread cat (record { plain = plain_of before.desk; first = None; clock = before.clock })
+    (record { plain = plain_of after.desk; first = first; clock = after.clock }) taken after.source written end

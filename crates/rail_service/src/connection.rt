@@ -1,6 +1,5 @@
 //! One connection, from its first byte to its end.
-ghost use Rattle.std.specs.Prelude.{◌≡◌, ℕ, List, [], Option, None};
-ghost use Rattle.rail_ids.specs.declared.RetailerNo.{RetailerNo};
+ghost use Rattle.std.specs.Prelude.{◌≡◌, ℕ, List, []};
 ghost use Rattle.rail_io.specs.Faults.{Rose};
 ghost use Rattle.rail_io.specs.Told.{with_front, with_end};
 ghost use Rattle.session_loop.specs.declared.end.ConnEnd.TheVariants.{ReadFault, WriteFault};
@@ -8,9 +7,8 @@ ghost use Rattle.rail_catalogue.specs.Contents.{legs_in};
 ghost use Rattle.claim_rule.specs.Seats.{IsOf};
 ghost use Rattle.claim_rule.specs.Out.{IsIdle, IsTidy};
 ghost use Rattle.lone_desk.specs.Lone.{IsAlone};
-ghost use Rattle.plain_host.specs.PlainOf.{plain_of};
-ghost use Rattle.rail_service.specs.Connections.{IsServed, HasServed};
-ghost use Rattle.rail_service.specs.OneThread.{IsOneThread};
+ghost use Rattle.rail_service.specs.Connections.{IsServed, ServesWhole, connection_at};
+ghost use Rattle.rail_service.specs.OneThread.{ServesAlone};
 ghost use Rattle.rail_service.specs.Readiness.{IsReady};
 ghost use Rattle.rail_service.specs.Responding.{view_of};
 
@@ -77,20 +75,14 @@ pub fn serve_connection<S: Source, K: Sink, C: Clock>(
     ensures tidy { IsTidy desk.old → IsTidy desk.new }
 
     // The bytes written are the defined replies to the requests of the bytes taken, whatever other desks do.
-    ensures served { (taken written : List ℕ) × (first : Option RetailerNo)
-        × (S.told source.old ≡ with_front taken (S.told source.new))
-        × (K.told sink.new ≡ with_end (K.told sink.old) written)
-        × HasServed cat.now (record { desk = desk.old; first = None; clock = C.told clock.old })
-        (record { desk = desk.new; first = first; clock = C.told clock.new })
-        taken (S.told source.new) written result }
+    ensures served { ServesWhole cat.now
+        (connection_at desk.old (C.told clock.old) (S.told source.old) (K.told sink.old))
+        (connection_at desk.new (C.told clock.new) (S.told source.new) (K.told sink.new)) result }
 
     // At a desk that is alone, whatever it has done, they are those of a host of one thread, which begins with the desk's bookings.
-    ensures one_thread { IsAlone desk.old → (taken written : List ℕ) × (first : Option RetailerNo)
-        × (S.told source.old ≡ with_front taken (S.told source.new))
-        × (K.told sink.new ≡ with_end (K.told sink.old) written)
-        × IsOneThread cat.now (record { plain = plain_of desk.old; first = None; clock = C.told clock.old })
-        (record { plain = plain_of desk.new; first = first; clock = C.told clock.new })
-        taken (S.told source.new) written result }
+    ensures one_thread { IsAlone desk.old → ServesAlone cat.now
+        (connection_at desk.old (C.told clock.old) (S.told source.old) (K.told sink.old))
+        (connection_at desk.new (C.told clock.new) (S.told source.new) (K.told sink.new)) result }
 
     // A device's failure is the end where its count of faults rose in this call, and at every other end that count is as it was.
     ensures read_cause { result ≡ ReadFault → Rose (S.faults source.old) (S.faults source.new) }

@@ -1,16 +1,13 @@
 //! A stream that was handed out, served whole.
-ghost use Rattle.std.specs.Prelude.{◌≡◌, ℕ, List, Option, None};
-ghost use Rattle.rail_ids.specs.declared.RetailerNo.{RetailerNo};
+ghost use Rattle.std.specs.Prelude.{◌≡◌};
 ghost use Rattle.rail_io.specs.Faults.{Rose};
-ghost use Rattle.rail_io.specs.Told.{with_front, with_end};
 ghost use Rattle.session_loop.specs.declared.end.ConnEnd.TheVariants.{ReadFault, WriteFault};
 ghost use Rattle.rail_catalogue.specs.Contents.{legs_in};
 ghost use Rattle.claim_rule.specs.Seats.{IsOf};
 ghost use Rattle.claim_rule.specs.Out.{IsIdle, IsTidy};
 ghost use Rattle.lone_desk.specs.Lone.{IsAlone};
-ghost use Rattle.plain_host.specs.PlainOf.{plain_of};
-ghost use Rattle.rail_service.specs.Connections.{HasServed};
-ghost use Rattle.rail_service.specs.OneThread.{IsOneThread};
+ghost use Rattle.rail_service.specs.Connections.{ServesWhole, connection_at};
+ghost use Rattle.rail_service.specs.OneThread.{ServesAlone};
 
 use crate::connection::serve_connection;
 use claim_rule::{Books, Desk};
@@ -75,20 +72,14 @@ pub fn serve_waiting<I: Source, O: Sink, C: Clock>(
     ensures tidy { IsTidy desk.old → IsTidy desk.new }
 
     // The bytes written are the defined replies to the requests of the bytes taken, whatever other desks do.
-    ensures served { (taken written : List ℕ) × (first : Option RetailerNo)
-        × (I.told waiting.input ≡ with_front taken (I.told result.input))
-        × (O.told result.output ≡ with_end (O.told waiting.output) written)
-        × HasServed cat.now (record { desk = desk.old; first = None; clock = C.told clock.old })
-        (record { desk = desk.new; first = first; clock = C.told clock.new })
-        taken (I.told result.input) written result.end }
+    ensures served { ServesWhole cat.now
+        (connection_at desk.old (C.told clock.old) (I.told waiting.input) (O.told waiting.output))
+        (connection_at desk.new (C.told clock.new) (I.told result.input) (O.told result.output)) result.end }
 
     // At a desk that is alone, whatever it has done, they are those of a host of one thread, which begins with the desk's bookings.
-    ensures one_thread { IsAlone desk.old → (taken written : List ℕ) × (first : Option RetailerNo)
-        × (I.told waiting.input ≡ with_front taken (I.told result.input))
-        × (O.told result.output ≡ with_end (O.told waiting.output) written)
-        × IsOneThread cat.now (record { plain = plain_of desk.old; first = None; clock = C.told clock.old })
-        (record { plain = plain_of desk.new; first = first; clock = C.told clock.new })
-        taken (I.told result.input) written result.end }
+    ensures one_thread { IsAlone desk.old → ServesAlone cat.now
+        (connection_at desk.old (C.told clock.old) (I.told waiting.input) (O.told waiting.output))
+        (connection_at desk.new (C.told clock.new) (I.told result.input) (O.told result.output)) result.end }
 
     // A device's failure is the end where its count of faults rose in this call, and at every other end that count is as it was.
     ensures read_cause { result.end ≡ ReadFault → Rose (I.faults waiting.input) (I.faults result.input) }

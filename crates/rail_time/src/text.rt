@@ -103,25 +103,3 @@ fn date_of(number: u64) -> Date
 {
     Date::from_unix_epoch_day(number as i64).unwrap()
 }
-
-#[cfg(test)]
-mod tests {
-    use super::*;
-    use std::test::Fail;
-
-    #[test]
-    fn writes_moments(rt: HostRuntime) -> Result<(), Fail> {
-        for (seconds, text) in [
-            (0, "1970-01-01T00:00:00Z"),
-            (951_782_400, "2000-02-29T00:00:00Z"),
-            (1_735_689_599, "2024-12-31T23:59:59Z"),
-            (1_780_293_600, "2026-06-01T06:00:00Z"),
-            (4_102_444_799, "2099-12-31T23:59:59Z"),
-        ] {
-            let moment = Moment::of(seconds).ok_or("a moment")?;
-            assert_eq!(rt; write_moment(moment).as_slice(), text.as_bytes());
-            assert_eq!(rt; moment_string(rt.alloc(), moment)?.as_str(), text);
-        }
-        Ok(())
-    }
-}

@@ -142,12 +142,32 @@ fn place_segment(
     let places = shop.cat.places();
     if offer.wanted == 0 {
         let all = places.class_places(segment.run, offer.class);
-        return place_among(shop, desk, hold, offer, segment, together, all);
+        let part = OfferPart {
+            offer,
+            segment,
+            together,
+        };
+        return place_among(shop, desk, hold, &part, all);
     }
     match places.candidates(shop.alloc, segment.run, offer.class, offer.wanted) {
-        Ok(some) => place_among(shop, desk, hold, offer, segment, together, some.as_slice()),
+        Ok(some) => {
+            let part = OfferPart {
+                offer,
+                segment,
+                together,
+            };
+            place_among(shop, desk, hold, &part, some.as_slice())
+        }
         Err(_) => Placing::NoMemory,
     }
+}
+
+// A segment of an offer, and whether its passengers are to sit together there.
+#[derive(Clone, Copy)]
+struct OfferPart<'a> {
+    offer: &'a OfferCode,
+    segment: Segment,
+    together: bool,
 }
 
 // Adds places for one segment to the hold, out of its candidates: side by side or one by one, as is wished.
@@ -155,30 +175,33 @@ fn place_among(
     shop: &Shop<'_>,
     desk: &mut Desk,
     hold: &mut Hold,
-    offer: &OfferCode,
-    segment: Segment,
-    together: bool,
+    part: &OfferPart<'_>,
     candidates: &[PlaceNo],
 ) -> Placing
     requires own { IsOf shop.now.books.now desk.old }
     requires legs { shop.now.books.now.layout.legs ≡ legs_in shop.now.cat.now }
     requires hold { IsHolding desk.old hold.old }
     requires noted { HasNotedItems desk.old hold.old }
-    requires party { is_party offer.now.adults offer.now.children ≡ true }
-    requires run { is_of_runs shop.now.cat.now.runs segment ≡ true }
-    requires room { length hold.old.items + items_wanted (offer_view offer.now) segment ≤ most_items }
-    requires candidates { candidates.now
-        ≡ candidates_of segment.run.0 offer.now.class offer.now.wanted shop.now.cat.now.places }
-    requires of_run { AllByRecursion (IsOfRun segment.run.0 shop.now.cat.now.places) candidates.now }
+    requires party { is_party part.now.offer.now.adults part.now.offer.now.children ≡ true }
+    requires run { is_of_runs shop.now.cat.now.runs part.now.segment ≡ true }
+    requires room { length hold.old.items + items_wanted (offer_view part.now.offer.now) part.now.segment ≤ most_items }
+    requires candidates { candidates.now ≡ candidates_of part.now.segment.run.0
+        part.now.offer.now.class part.now.offer.now.wanted shop.now.cat.now.places }
+    requires of_run { AllByRecursion (IsOfRun part.now.segment.run.0 shop.now.cat.now.places) candidates.now }
     requires rising { AreRising 0 candidates.now }
     ensures own { IsOf shop.now.books.now desk.new }
     ensures row { hold.new.row ≡ hold.old.row }
-    ensures placed { PlacesAll shop.now.cat.now (offer_view offer.now) together hold.old.row hold.old.items
-        (segment ∷ []) result hold.new.items desk.old desk.new }
+    ensures placed { PlacesAll shop.now.cat.now (offer_view part.now.offer.now) part.now.together
+        hold.old.row hold.old.items (part.now.segment ∷ []) result hold.new.items desk.old desk.new }
     ensures hold { IsHolding desk.new hold.new }
     ensures noted { HasNotedItems desk.new hold.new }
     ensures endings { KeepsEndings desk.old desk.new }
 {
+    let OfferPart {
+        offer,
+        segment,
+        together,
+    } = *part;
     let count = offer.adults + offer.children;
     let span = segment.span;
     if together {

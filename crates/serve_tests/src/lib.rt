@@ -1,4 +1,4 @@
-//! Tests of `serve` in memory, by the public calls of its room.
+//! Tests of `serve` in memory, by the public calls of its room. A room of its own, so that `host_serve` is proved once, without tests.
 //!
 //! - two connections, each with one reservation, and two members: status 0, and two prebooked rows at different places on the wall;
 //! - how serving ends: with all connections, at a bind or an accept that fails (also where the catalogue is missing, which is told first),

@@ -20,9 +20,13 @@ AnswersBy cat retailer now c None old new reply = Performs cat retailer now c ol
 abbrev pub Answers : CatalogueView → ℕ → ℕ → Command → DeskView → DeskView → Reply → Type 0
 Answers cat retailer now c old new reply = AnswersBy cat retailer now c (command_fault cat now c) old new reply
 
--- a booking that was made has all its places; after any other answer to such a command the desk's row in the making has no item
+-- a booking that was made has all its places; after any other answer to such a command the desk's row in the making has
+-- no item
 abbrev pub BooksAllOrNone : CatalogueView → ℕ → Command → DeskView → DeskView → Reply → Type 0
-BooksAllOrNone cat now (command.Book (Some code) together) old new reply = HasAllOrNone cat (offer_view code) old new reply
-BooksAllOrNone cat now (command.Reserve segment class count wanted together) old new reply = HasAllOrNone cat (reserved segment class count wanted now) old new reply
-BooksAllOrNone cat now (command.AcceptExchange row (Some code)) old new reply = HasAllOrNone cat (offer_view code.offer) old new reply
+BooksAllOrNone cat now (command.Book (Some code) together) old new reply =
+    HasAllOrNone cat (offer_view code) old new reply
+BooksAllOrNone cat now (command.Reserve segment class count wanted together) old new reply =
+    HasAllOrNone cat (reserved segment class count wanted now) old new reply
+BooksAllOrNone cat now (command.AcceptExchange row (Some code)) old new reply =
+    HasAllOrNone cat (offer_view code.offer) old new reply
 BooksAllOrNone cat now c old new reply = Unit {0}

@@ -51,7 +51,8 @@ refund_fault now row (Some c) = code_fault (is_of_row row c.row) c.made now
 
 -- the quote's offer is one of the catalogue, and was good when the quote was made
 abbrev pub is_quoted : CatalogueView → ExchangeCode → Bool
-is_quoted cat c = is_offered cat (offer_view c.offer) && (nat_le c.offer.made c.made && nat_le c.made (c.offer.made + validity))
+is_quoted cat c =
+    is_offered cat (offer_view c.offer) && (nat_le c.offer.made c.made && nat_le c.made (c.offer.made + validity))
 
 -- a quote of an exchange, under the id of the quote's row
 abbrev pub exchange_fault : CatalogueView → ℕ → Option RowNo → Option ExchangeCode → Option Problem

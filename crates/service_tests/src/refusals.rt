@@ -60,6 +60,7 @@ fn other_retailer() -> Wanted {
     refused("403 Forbidden", OTHER_RETAILER)
 }
 
+/// What is answered where no path is the request's.
 pub fn no_route() -> Wanted {
     refused("404 Not Found", NO_ROUTE)
 }
@@ -68,6 +69,7 @@ fn no_method() -> Wanted {
     refused("405 Method Not Allowed", NO_METHOD)
 }
 
+/// What is answered to a body that is no JSON.
 pub fn not_json() -> Wanted {
     refused("400 Bad Request", NOT_JSON)
 }
@@ -123,6 +125,7 @@ const RESERVE: &str = r#"{"class":"SECOND","from":"BASEL","run":0,"to":"BERN"}"#
 const RESERVED: &str =
     r#"{"confirmableUntil":"2026-06-01T06:17:00Z","id":"B000000","price":{"amount":1100,"currency":"EUR","scale":2},"reservations":[{"coach":2,"from":"BASEL","place":11,"run":0,"to":"BERN","train":501}],"settled":false,"status":"PREBOOKED"}"#;
 
+/// What is answered where the retailer has no such booking.
 pub fn unknown_booking() -> Wanted {
     refused("404 Not Found", UNKNOWN)
 }

@@ -5,6 +5,10 @@ use Rattle.std.specs.Prelude.{ℕ, ◌+◌, ◌*◌, ◌/◌}
 abbrev pub most_priced_legs : ℕ
 most_priced_legs = 126
 
+-- how many passengers are priced at once at most
+abbrev pub most_priced_passengers : ℕ
+most_priced_passengers = 8
+
 -- the greatest price of a segment: eight adults on the longest run at the greatest fare
 abbrev pub greatest_price : ℕ
 greatest_price = 10_160_000_000

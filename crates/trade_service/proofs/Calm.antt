@@ -1,9 +1,7 @@
 -- Calls on refunds leave a tidy desk tidy.
-use Rattle.std.proofs.Common.{inl, inr, ℕ, suc, zero, List, [], ◌∷◌, ◌++◌, length, Some, None, refl, sym, subst}
-use Rattle.leg_masks.specs.Interval.{PlacedSpan as Item}
+use Rattle.std.proofs.Common.{inl, inr, ℕ, List, Some, None, refl, sym, subst}
 use Rattle.history_model.specs.declared.entry.Step.{Step}
 use Rattle.history_model.specs.declared.phase.EndKind.TheVariants.{Refund}
-use Rattle.history_model.specs.declared.booking.End.{End}
 use Rattle.history_model.specs.Work.{NoStep}
 use Rattle.rail_ids.specs.declared.RowNo.{RowNo}
 use Rattle.history_model.specs.declared.phase.Phase.{Phase}
@@ -11,8 +9,6 @@ use Rattle.history_model.specs.declared.phase.Phase.TheVariants.{Free}
 use Rattle.claim_rule.specs.Rule.{BooksView, DeskView}
 use Rattle.claim_rule.specs.Seats.{IsOf}
 use Rattle.claim_rule.specs.Calls.{ShapeBy}
-use Rattle.claim_rule.specs.Endings.{item_looks, items_read}
-use Rattle.claim_rule.specs.EndSteps.{gives_from, closing, ending_steps}
 use Rattle.claim_rule.specs.Out.{exchanges, IsTidy, KeepsHolds, KeepsEndings, EndsNone}
 use Rattle.booking_rows.specs.Views.{RowSeen}
 use Rattle.booking_rows.specs.Aims.{end_of}
@@ -26,7 +22,7 @@ use Rattle.refund_core.specs.declared.quoting.Quoted.{Quoted}
 use Rattle.refund_core.specs.declared.quoting.Quoted.TheVariants as quoted
 use Rattle.refund_core.specs.declared.refunding.Refunded.{Refunded}
 use Rattle.refund_core.specs.declared.refunding.Refunded.TheVariants as refunded
-use Rattle.booking_service.proofs.Calm.{AreCalm, calm_looks, calm_append, calm_find, tidy_by, tidy_after}
+use Rattle.booking_service.proofs.Calm.{AreCalm, calm_looks, calm_append, calm_end, calm_find, tidy_by, tidy_after}
 
 pub calm_own : (row : RowNo) (retailer : ℕ) (v : RowSeen) → AreCalm (SeesOwn row retailer v)
 calm_own row retailer v es saw = calm_looks es (row_looked row (Some v) es saw.1)
@@ -39,24 +35,13 @@ calm_quotes cat rows row retailer now (quoted.Done code) es (here, (v, saw, phas
 calm_quotes cat rows row retailer now quoted.Unknown es none = calm_none rows row retailer es none
 calm_quotes cat rows row retailer now (quoted.WrongState shown) es (here, one, two, (v, saw, is)) = calm_own row retailer v es saw
 
-calm_items : (row w : ℕ) (items : List Item) (more : List Step) → NoStep exchanges more → NoStep exchanges (item_looks row w items ++ more)
-calm_items row w [] more calm = calm
-calm_items row w (i ∷ is) more calm = (refl, calm_items row (suc w) is more calm)
-
-calm_gives : (row k n : ℕ) (more : List Step) → NoStep exchanges more → NoStep exchanges (gives_from row k n ++ more)
-calm_gives row k zero more calm = calm
-calm_gives row k (suc n) more calm = (refl, calm_gives row (suc k) n more calm)
-
-calm_end : (row : ℕ) (end : End) (items : List Item) → NoStep exchanges (items_read row items ++ ending_steps row Refund end items)
-calm_end row end items = (refl, calm_items row _ items (ending_steps row Refund end items) (calm_gives row 0 (length items) (closing row Refund end) (refl, (refl, (refl, (refl, tt))))))
-
 calm_lost : (code : RefundCode) (v : RowSeen) (front : List Step) (shown : Phase) (es : List Step) → NoStep exchanges front → LosesQuoted code v front shown es → NoStep exchanges es
 calm_lost code v front shown es calm (phase, back, (n, ne, shows, lost), is) =
     subst (NoStep exchanges) (sym is) (calm_append front back calm (subst (NoStep exchanges) (sym lost) (refl, tt)))
 
 calm_accepts : (cat : CatalogueView) (rows retailer : ℕ) (code : RefundCode) (now : ℕ) (a : Refunded) → AreCalm (AcceptsRefund cat rows retailer code now a)
 calm_accepts cat rows retailer code now (refunded.Done amount) es (same, (v, front, items, right, phase, few, is)) =
-    subst (NoStep exchanges) (sym is) (calm_append front _ (calm_own code.row retailer v front right.sees) (refl, calm_end code.row.row (end_of (aim.Refund now code.amount)) items))
+    subst (NoStep exchanges) (sym is) (calm_append front _ (calm_own code.row retailer v front right.sees) (refl, calm_end code.row.row Refund (end_of (aim.Refund now code.amount)) items))
 calm_accepts cat rows retailer code now refunded.Unknown es (inl (fresh, none)) = calm_none rows code.row retailer es none
 calm_accepts cat rows retailer code now refunded.Unknown es (inr (v, front, right, lost)) = calm_lost code v front Free es (calm_own code.row retailer v front right.sees) lost
 calm_accepts cat rows retailer code now (refunded.WrongState shown) es (v, front, right, inl (phase, ne, is)) = subst (NoStep exchanges) (sym is) (calm_own code.row retailer v front right.sees)

@@ -15,9 +15,13 @@ pub record StationView : Type 0 where
 abbrev pub is_code_byte : ℕ → Bool
 is_code_byte b = (nat_le 65 b && nat_le b 90) || (nat_le 48 b && nat_le b 57)
 
+-- how many letters a code has at most
+abbrev pub most_code_letters : ℕ
+most_code_letters = 8
+
 -- one to eight of them
 abbrev pub is_code : List ℕ → Bool
-is_code code = nat_le 1 (length code) && (nat_le (length code) 8 && list_all is_code_byte code)
+is_code code = nat_le 1 (length code) && (nat_le (length code) most_code_letters && list_all is_code_byte code)
 
 -- the number of the first station with the code, where the first station has the number n
 abbrev pub number_from : ℕ → List ℕ → List StationView → Option StationNo

@@ -7,6 +7,9 @@ use std::marker::Model;
 /// How many stations there may be.
 pub const MOST_STATIONS: usize = 65_536;
 
+/// How many letters a code has at most.
+const MOST_CODE_LETTERS: usize = 8;
+
 /// Why a station was refused.
 #[derive(Debug, Clone, Copy, PartialEq, Eq)]
 pub enum StationFault {
@@ -60,7 +63,7 @@ impl Station {
 pub(crate) fn is_code(code: &[u8]) -> bool
     ensures { result ≡ is_code_of code.now }
 {
-    !code.is_empty() && code.len() <= 8 && are_code_bytes(code)
+    !code.is_empty() && code.len() <= MOST_CODE_LETTERS && are_code_bytes(code)
 }
 
 fn are_code_bytes(code: &[u8]) -> bool

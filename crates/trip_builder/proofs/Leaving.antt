@@ -17,13 +17,13 @@ use Rattle.trip_builder.specs.Search.{Leaves, AreLeaving}
 use Rattle.trip_builder.proofs.StrictOrder.{three_ways}
 use Rattle.trip_builder.proofs.Ways.{both_true}
 
-is_station : (a b : StationNo) → a.0 ≡ b.0 → a ≡ b
+pub is_station : (a b : StationNo) → a.0 ≡ b.0 → a ≡ b
 is_station a b e = ap (λ (n : ℕ). let s : StationNo = record { 0 = n } in s) e
 
 stops_are : (r : RunsView) (run : ℕ) (it : RunView) → slice_get r.runs run ≡ Some it → stops_of r run ≡ it.stops
 stops_are r run it found = ap (λ (o : Option RunView). option_map_or (λ (x : RunView). x.stops) o []) found
 
-leaves_there : (station : StationNo) (from to : ℕ) (stop : Stop) → stop.station ≡ station → from ≤ stop.depart → stop.depart ≤ to → leaves station from to stop ≡ true
+pub leaves_there : (station : StationNo) (from to : ℕ) (stop : Stop) → stop.station ≡ station → from ≤ stop.depart → stop.depart ≤ to → leaves station from to stop ≡ true
 leaves_there station from to stop here low high =
     let one : (stop.station.0 == station.0) ≡ true = eq-eqb stop.station.0 station.0 (ap (λ (s : StationNo). s.0) here) in
     let two : nat_le from stop.depart ≡ true = grind (arith, nat_tests) in

@@ -8,3 +8,5 @@ pub mod Ways
 pub mod Deciding
 pub mod Boarding
 pub mod Leaving
+pub mod Posting
+pub mod Bounding

@@ -48,7 +48,7 @@ pub known_append : (r : RunsView) (xs ys : List Segment) → AllByRecursion (IsK
 known_append r [] ys a b = b
 known_append r (x ∷ xs) ys a b = (a.0, known_append r xs ys a.1 b)
 
-known_after : (r : RunsView) (xs ys : List Segment) → AllByRecursion (IsKnown r) (xs ++ ys) → AllByRecursion (IsKnown r) ys
+pub known_after : (r : RunsView) (xs ys : List Segment) → AllByRecursion (IsKnown r) (xs ++ ys) → AllByRecursion (IsKnown r) ys
 known_after r [] ys all = all
 known_after r (x ∷ xs) ys all = known_after r xs ys all.1
 

@@ -3,3 +3,4 @@ pub mod Order
 pub mod Trips
 pub mod Search
 pub mod Best
+pub mod Bounds

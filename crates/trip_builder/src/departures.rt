@@ -1,7 +1,7 @@
 ghost use Rattle.std.specs.Prelude.{◌≡◌, ◌<◌, ◌≤◌, ◌+◌, ◌^◌, length};
 ghost use Rattle.train_runs.specs.Stops.{most_stops, stop_at, no_stop as nowhere};
 ghost use Rattle.trip_builder.specs.Segments.{stops_of as stops_of_run, first_stop, last_stop, last_of, first_of};
-ghost use Rattle.trip_builder.specs.Trips.{leaves};
+ghost use Rattle.trip_builder.specs.Trips.{leaves, change_at, longest_wait};
 ghost use Rattle.trip_builder.specs.Search.{AreLeaving, Rise, IsWindowOf, first_after, last_after};
 
 use crate::trip::TripWish;
@@ -47,7 +47,16 @@ pub(crate) fn window_after(runs: &Runs, segments: &[Segment]) -> Window
     ensures to { result.to ≡ last_after runs.now segments.now }
     ensures end { result.to < 2 ^ 63 }
 {
-    let off = last_stop_of(runs, segments);
+    window_at(runs, &last_stop_of(runs, segments))
+}
+
+/// The window of the segments that are reached from a train at the stop.
+pub(crate) fn window_at(runs: &Runs, off: &Stop) -> Window
+    ensures station { result.station ≡ off.now.station }
+    ensures from { result.from ≡ off.now.arrive + change_at runs.now off.now.station }
+    ensures to { result.to ≡ off.now.arrive + longest_wait }
+    ensures end { result.to < 2 ^ 63 }
+{
     let arrive = off.arrive.seconds();
     let change = runs.change(off.station).unwrap_or(0);
     Window {

@@ -6,6 +6,8 @@
 //! their runs and stops.
 #![tactic(auto)]
 
+mod board;
+mod bounds;
 mod chain;
 mod departures;
 mod order;

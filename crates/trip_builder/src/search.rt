@@ -3,8 +3,11 @@ ghost use Rattle.std.specs.Prelude.{◌≡◌, ◌≢◌, ◌≤◌, ◌<◌, �
 ghost use Rattle.trip_builder.specs.Segments.{segment};
 ghost use Rattle.trip_builder.specs.Trips.{trips_of};
 ghost use Rattle.trip_builder.specs.Best.{AreBest, AreInOrder, IsAmong, IsTrip, IsDecided};
-ghost use Rattle.trip_builder.specs.Search.{IsWay, MayTake, Rise, Grows, AreDecided, AreDecidedFrom, AllArriveBy, AllArriveBefore, keep as keep_of};
+ghost use Rattle.trip_builder.specs.Search.{IsWay, MayTake, Rise, Grows, AreDecided, AreDecidedFrom, AllArriveBy, AllArriveBefore, has_run as has_run_of, keep as keep_of};
+ghost use Rattle.trip_builder.specs.Bounds.{AreBounds, never};
 
+use crate::board::NEVER;
+use crate::bounds::Bounds;
 use crate::chain::has_run;
 use crate::departures::{last_stop_of, leaving, stops_of, window_of};
 use crate::order::{is_same_trip, place_among};
@@ -21,6 +24,9 @@ const MOST_TRIPS: usize = 16;
 /// How many segments a trip has at most.
 const MOST_SEGMENTS: usize = 3;
 
+/// How many tries a search has before the bounds are made, which takes memory and a pass over all runs.
+const SHORT_SEARCH: u32 = 50_000;
+
 /// The first sixteen trips of the wish: by their last arrival, then the later first departure, then fewer segments, then the
 /// list of run, first stop and last stop.
 ///
@@ -32,11 +38,23 @@ const MOST_SEGMENTS: usize = 3;
 pub fn trips(alloc: Global, runs: &Runs, wish: &TripWish) -> Result<Vec<Trip>, AllocError>
     ensures { IfOk result (λ v. v.items ≡ trips_of runs.now wish.now) }
 {
-    let mut best = Vec::new(alloc);
+    let mut found = Found {
+        best: Vec::new(alloc),
+        bounds: Bounds::unknown(alloc),
+        left: SHORT_SEARCH,
+    };
     for changes in 0..MOST_SEGMENTS {
-        go_on(runs, wish, &[], changes, &mut best)?;
+        go_on(runs, wish, &[], changes, &mut found)?;
     }
-    Ok(best)
+    Ok(found.best)
+}
+
+// What a search has so far: the best trips, the bounds from behind once they are made, and how many tries come before that.
+#[derive(Drop)]
+struct Found {
+    best: Vec<Trip>,
+    bounds: Bounds,
+    left: u32,
 }
 
 // Tries all trips that go on from the way with one train and so many changes to others.
@@ -46,20 +64,27 @@ fn go_on(
     wish: &TripWish,
     way: &[Segment],
     changes: usize,
-    best: &mut Vec<Trip>,
+    found: &mut Found,
 ) -> Result<(), AllocError>
     requires few { length way.now + changes ≤ 2 }
     requires way { IsWay runs.now wish.now way.now }
-    requires best { AreBest runs.now wish.now best.old.items }
-    ensures grows { OnOk result (Grows runs.now wish.now best.old.items best.new.items) }
-    ensures decided { OnOk result (AreDecided runs.now wish.now best.new.items way.now changes) }
+    requires best { AreBest runs.now wish.now found.old.best.items }
+    requires bounds { AreBounds runs.now wish.now found.old.bounds }
+    ensures grows { OnOk result (Grows runs.now wish.now found.old.best.items found.new.best.items) }
+    ensures bounds { OnOk result (AreBounds runs.now wish.now found.new.bounds) }
+    ensures decided { OnOk result (AreDecided runs.now wish.now found.new.best.items way.now changes) }
 {
-    for departure in leaving(runs, window_of(runs, wish, way)) {
-        if is_behind(runs, best.as_slice(), departure.moment.seconds()) {
+    bound_long_search(runs, wish, found)?;
+    let window = window_of(runs, wish, way);
+    if is_hopeless(runs, found, found.bounds.of_leaving(changes, &window)) {
+        return Ok(());
+    }
+    for departure in leaving(runs, window) {
+        if is_behind(runs, found.best.as_slice(), departure.moment.seconds()) {
             return Ok(());
         }
-        if !has_run(way, departure.run) {
-            ride(runs, wish, way, departure, changes, best)?;
+        if may_lead(runs, wish, way, departure, changes, found) {
+            ride(runs, wish, way, departure, changes, found)?;
         }
     }
     Ok(())
@@ -73,28 +98,77 @@ fn ride(
     way: &[Segment],
     departure: &Departure,
     changes: usize,
-    best: &mut Vec<Trip>,
+    found: &mut Found,
 ) -> Result<(), AllocError>
     requires few { length way.now + changes ≤ 2 }
     requires way { IsWay runs.now wish.now way.now }
-    requires best { AreBest runs.now wish.now best.old.items }
+    requires best { AreBest runs.now wish.now found.old.best.items }
+    requires bounds { AreBounds runs.now wish.now found.old.bounds }
     requires rise { Rise runs.now }
     requires taken { MayTake runs.now wish.now way.now departure.now }
-    ensures grows { OnOk result (Grows runs.now wish.now best.old.items best.new.items) }
-    ensures decided { OnOk result (AreDecidedFrom runs.now wish.now best.new.items way.now changes departure.now) }
+    ensures grows { OnOk result (Grows runs.now wish.now found.old.best.items found.new.best.items) }
+    ensures bounds { OnOk result (AreBounds runs.now wish.now found.new.bounds) }
+    ensures decided { OnOk result (AreDecidedFrom runs.now wish.now found.new.best.items way.now changes departure.now) }
 {
+    found.left = found.left.saturating_sub(1);
     if changes == 0 {
-        return get_off(runs, wish, way, departure, best);
+        return get_off(runs, wish, way, departure, &mut found.best);
     }
     let stops = stops_of(runs, departure.run);
     for to in departure.stop + 1..stops.len() as u8 {
         let arrive = stops[usize::from(to)].arrive.seconds();
-        if !is_behind(runs, best.as_slice(), arrive) {
+        if !is_behind(runs, found.best.as_slice(), arrive) {
             let way = longer(way, departure, to);
-            go_on(runs, wish, way.as_slice(), changes - 1, best)?;
+            go_on(runs, wish, way.as_slice(), changes - 1, found)?;
         }
     }
     Ok(())
+}
+
+// Counts a try, and makes the bounds where the search has got long.
+fn bound_long_search(runs: &Runs, wish: &TripWish, found: &mut Found) -> Result<(), AllocError>
+    requires best { AreBest runs.now wish.now found.old.best.items }
+    requires bounds { AreBounds runs.now wish.now found.old.bounds }
+    ensures grows { OnOk result (Grows runs.now wish.now found.old.best.items found.new.best.items) }
+    ensures bounds { OnOk result (AreBounds runs.now wish.now found.new.bounds) }
+{
+    if found.left > 0 {
+        found.left -= 1;
+        return Ok(());
+    }
+    if found.bounds.are_unknown() {
+        let alloc = *found.best.allocator();
+        found.bounds = Bounds::of(alloc, runs, wish)?;
+    }
+    Ok(())
+}
+
+// Whether the train may be taken, and could lead to a trip that comes among the best.
+fn may_lead(
+    runs: &Runs,
+    wish: &TripWish,
+    way: &[Segment],
+    departure: &Departure,
+    changes: usize,
+    found: &Found,
+) -> bool
+    requires order { AreInOrder runs.now found.now.best.items }
+    requires bounds { AreBounds runs.now wish.now found.now.bounds }
+    ensures fresh { result ≡ true → has_run_of way.now departure.now.run.0 ≡ false }
+    ensures decided { result ≡ false → AreDecidedFrom runs.now wish.now found.now.best.items way.now changes departure.now }
+{
+    if has_run(way, departure.run) {
+        return false;
+    }
+    !is_hopeless(runs, found, found.bounds.of_ride(changes, departure))
+}
+
+// Whether what arrives no earlier than the bound doesn't come among the best.
+fn is_hopeless(runs: &Runs, found: &Found, bound: u64) -> bool
+    requires order { AreInOrder runs.now found.now.best.items }
+    ensures { result ≡ true → (bound ≡ never) ⊎ AllArriveBefore runs.now found.now.best.items bound }
+{
+    bound == NEVER || is_late(runs, found.best.as_slice(), bound)
 }
 
 // Tries those that end with this train.

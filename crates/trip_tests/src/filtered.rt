@@ -80,3 +80,62 @@ fn trips_of_runs_that_arrive_together(rt: HostRuntime) -> Result<(), Fail> {
     assert_eq!(rt; compare(&rt, alloc, &runs)?, 56);
     Ok(())
 }
+
+// Forty runs each from station 0 to 1, from 1 to 2 and from 2 to 3, half a minute apart: 64,000 ways to station 3.
+fn three_lines(rt: &impl Abort, alloc: Global) -> Result<Runs, Fail> {
+    let mut runs = stations(rt, alloc, EVERY_STATION.as_slice())?;
+    for line in 0..3u32 {
+        for run in 0..40u32 {
+            let depart = 4000 * line + 30 * run;
+            leg(
+                rt,
+                alloc,
+                &mut runs,
+                (line, depart),
+                (line + 1, depart + 1800),
+            )?;
+        }
+    }
+    Ok(runs)
+}
+
+// A run from one station to another, left and reached at these seconds after six.
+fn leg(
+    rt: &impl Abort,
+    alloc: Global,
+    runs: &mut Runs,
+    from: (u32, u32),
+    to: (u32, u32),
+) -> Result<(), Fail> {
+    let times = [(from.0, from.1, from.1), (to.0, to.1, to.1)];
+    add(rt, alloc, runs, times.as_slice())
+}
+
+// The trips between the two stations are those of the plain filter. Answers how many there are.
+fn compare_one(
+    rt: &impl Abort,
+    alloc: Global,
+    runs: &Runs,
+    pair: (u32, u32),
+) -> Result<usize, Fail> {
+    let all = stretches(alloc, runs)?;
+    compare_pair(rt, alloc, runs, all.as_slice(), pair)?;
+    let found = trips(alloc, runs, &wish(rt, pair.0, pair.1, 0, 86_400))?;
+    Ok(found.len())
+}
+
+// So many ways are tried that the search bounds itself from behind.
+#[test]
+fn trips_where_most_ways_lead_nowhere(rt: HostRuntime) -> Result<(), Fail> {
+    let alloc = rt.alloc();
+    let mut runs = three_lines(&rt, alloc)?;
+    assert_eq!(rt; compare_one(&rt, alloc, &runs, (0, 4))?, 0);
+    leg(&rt, alloc, &mut runs, (2, 5000), (4, 9000))?;
+    leg(&rt, alloc, &mut runs, (2, 90_000), (4, 95_000))?;
+    assert_eq!(rt; compare_one(&rt, alloc, &runs, (0, 4))?, 0);
+    leg(&rt, alloc, &mut runs, (2, 6100), (4, 12_000))?;
+    assert_eq!(rt; compare_one(&rt, alloc, &runs, (0, 4))?, 16);
+    leg(&rt, alloc, &mut runs, (2, 8000), (4, 11_000))?;
+    assert_eq!(rt; compare_one(&rt, alloc, &runs, (0, 4))?, 16);
+    Ok(())
+}

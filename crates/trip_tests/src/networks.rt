@@ -10,7 +10,7 @@ const AT_SIX: u64 = 1_780_293_600;
 
 const CODES: [&str; 10] = ["A", "B", "C", "D", "E", "F", "G", "H", "I", "J"];
 
-// stations with these change times
+/// Stations with these change times.
 pub fn stations(rt: &impl Abort, alloc: Global, changes: &[u32]) -> Result<Runs, Fail> {
     let mut runs = Runs::new(alloc);
     for (code, change) in CODES.iter().zip(changes) {
@@ -19,11 +19,12 @@ pub fn stations(rt: &impl Abort, alloc: Global, changes: &[u32]) -> Result<Runs,
     Ok(runs)
 }
 
+/// The moment so many seconds after six.
 pub fn moment(rt: &impl Abort, seconds: u32) -> Moment {
     Moment::of(AT_SIX + u64::from(seconds)).expect(rt, "a moment")
 }
 
-// a run that stops at these stations, each reached and left at these seconds after six
+/// A run that stops at these stations, each reached and left at these seconds after six.
 pub fn add(
     rt: &impl Abort,
     alloc: Global,
@@ -46,6 +47,7 @@ pub fn add(
     Ok(())
 }
 
+/// A wish for a journey whose first train leaves between these seconds after six.
 pub fn wish(
     rt: &impl Abort,
     origin: u32,

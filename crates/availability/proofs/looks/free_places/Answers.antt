@@ -1,10 +1,21 @@
 use Rattle.std.proofs.Common.{◌≡◌, ◌∙◌, ◌+◌, Bool, ℕ, take, sym, ap, subst, arith, cond, add-zero}
 use Rattle.claim_rule.specs.Calls.{ShapeBy}
-use Rattle.claim_rule.proofs.Out.{holds_then, endings_then}
+use Rattle.claim_rule.proofs.Out.{holds_same, endings_same, holds_then, endings_then}
 use Rattle.availability.specs.Looks.{CountsFree}
-use Rattle.availability.proofs.Looking.{counted_next, counted_tidy}
+use Rattle.availability.proofs.Looking.{counted_none, counted_next, counted_tidy}
 use Rattle.availability.proofs.looks.free_places.Goals as goal
 use Rattle.availability.proofs.looks.free_places.Goals.{then-look_free, else-look_free}
+
+pub loop-place-init : goal.loop-place-init
+loop-place-init c =
+    let desk = c.args.desk.now in
+    record {
+      own = c.requires.own;
+      holds = holds_same desk;
+      endings = endings_same desk;
+      few = omega arith;
+      looked = counted_none desk c.args.span c.requires.own.legal;
+    }
 
 pub loop-place-preserved : goal.loop-place-preserved
 loop-place-preserved c =

@@ -4,64 +4,95 @@ use Rattle.booking_rows.specs.Views.{RowSeen}
 use Rattle.confirm_core.specs.declared.fulfilling.Fulfilment.TheVariants as fulfilled
 use Rattle.claim_rule.proofs.Out.{still_idle}
 use Rattle.osdm_texts.specs.declared.problem.Problem.TheVariants.{UnknownBooking, WrongState}
-use Rattle.osdm_texts.specs.Answers.{booking, problem, reply_told}
-use Rattle.booking_service.specs.Deciding.{FulfilsIt, in_phase}
+use Rattle.osdm_texts.specs.Answers.{booking, reply_told}
+use Rattle.booking_service.specs.Deciding.{FulfilsIt}
 use Rattle.booking_service.proofs.Calm.{found_tidy, fulfilled_tidy}
 use Rattle.osdm_texts.proofs.Telling.{of_problem}
 use Rattle.booking_service.proofs.Replying.{unknown, no_memory, done}
 use Rattle.booking_service.proofs.Ids.{phased_ids}
 use Rattle.booking_service.proofs.deciding.fulfil_booking.Goals as goal
 
+pub booking_answer-requires : goal.booking_answer-requires
+booking_answer-requires c =
+    record { ids = phased_ids c.args.row phase.Fulfilled c.in-Some.view _ c.in_phase.ensures.view c.in-Some.ensures.generation }
+
+-- no such booking
+
 pub returns-in_default-clause-tidy : goal.returns-in_default-clause-tidy
-returns-in_default-clause-tidy c = λ tidy. found_tidy c.args.shop.now.books.now.layout.rows c.args.row c.args.retailer.0 None c.args.shop.now.books.now c.args.desk.now c.find_booking.new.desk c.find_booking.ensures.own c.in_default.ensures.entries c.in_default.ensures.holds c.in_default.ensures.endings tidy
+returns-in_default-clause-tidy c =
+    let d = c.in_default.ensures in found_tidy _ _ _ None _ _ _ c.find_booking.ensures.own d.entries d.holds d.endings
+
+pub returns-in_default-clause-idle : goal.returns-in_default-clause-idle
+returns-in_default-clause-idle c =
+    let d = c.in_default.ensures in still_idle _ _ d.holds d.endings c.requires.idle
 
 pub returns-in_default-clause-answer : goal.returns-in_default-clause-answer
-returns-in_default-clause-answer c = unknown c.args.shop.now.cat.now c.args.shop.now.books.now.layout.rows c.args.row c.args.retailer.0 (FulfilsIt c.args.shop.now.books.now.layout.rows c.args.row c.args.retailer.0) c.args.desk.now c.find_booking.new.desk c.in_default.ensures.entries
+returns-in_default-clause-answer c = unknown _ _ _ _ (FulfilsIt _ _ _) _ _ c.in_default.ensures.entries
+
+-- no memory for its answer
 
 pub returns-in_default-booking_answer-clause-tidy : goal.returns-in_default-booking_answer-clause-tidy
-returns-in_default-booking_answer-clause-tidy c = λ tidy. found_tidy c.args.shop.now.books.now.layout.rows c.args.row c.args.retailer.0 (Some c.in-Some.view) c.args.shop.now.books.now c.args.desk.now c.find_booking.new.desk c.find_booking.ensures.own c.in-Some.ensures.entries c.in-Some.ensures.holds c.in-Some.ensures.endings tidy
+returns-in_default-booking_answer-clause-tidy c =
+    let f = c.in-Some.ensures in found_tidy _ _ _ (Some _) _ _ _ c.find_booking.ensures.own f.entries f.holds f.endings
+
+pub returns-in_default-booking_answer-clause-idle : goal.returns-in_default-booking_answer-clause-idle
+returns-in_default-booking_answer-clause-idle c =
+    let f = c.in-Some.ensures in still_idle _ _ f.holds f.endings c.requires.idle
 
 pub returns-in_default-booking_answer-clause-answer : goal.returns-in_default-booking_answer-clause-answer
-returns-in_default-booking_answer-clause-answer c = no_memory c.args.shop.now.cat.now c.args.shop.now.books.now.layout.rows c.args.row c.args.retailer.0 (FulfilsIt c.args.shop.now.books.now.layout.rows c.args.row c.args.retailer.0) c.in-Some.view c.args.desk.now c.find_booking.new.desk c.in-Some.ensures.entries
+returns-in_default-booking_answer-clause-answer c = no_memory _ _ _ _ (FulfilsIt _ _ _) _ _ _ c.in-Some.ensures.entries
+
+-- collected
 
 pub returns-in-Done-clause-tidy : goal.returns-in-Done-clause-tidy
-returns-in-Done-clause-tidy c = λ tidy. fulfilled_tidy c.args.shop.now.books.now.layout.rows c.args.row c.args.retailer.0 fulfilled.Done c.args.shop.now.books.now c.find_booking.new.desk c.fulfil.new.desk c.fulfil.ensures.own c.in-Done.ensures.entries c.in-Done.ensures.holds c.in-Done.ensures.endings (found_tidy c.args.shop.now.books.now.layout.rows c.args.row c.args.retailer.0 (Some c.in-Some.view) c.args.shop.now.books.now c.args.desk.now c.find_booking.new.desk c.find_booking.ensures.own c.in-Some.ensures.entries c.in-Some.ensures.holds c.in-Some.ensures.endings tidy)
+returns-in-Done-clause-tidy c tidy =
+    let f = c.in-Some.ensures in let d = c.in-Done.ensures in
+    fulfilled_tidy _ _ _ fulfilled.Done _ _ _ c.fulfil.ensures.own d.entries d.holds d.endings
+    (found_tidy _ _ _ (Some _) _ _ _ c.find_booking.ensures.own f.entries f.holds f.endings tidy)
+
+pub returns-in-Done-clause-idle : goal.returns-in-Done-clause-idle
+returns-in-Done-clause-idle c =
+    let f = c.in-Some.ensures in let d = c.in-Done.ensures in
+    still_idle _ _ d.holds d.endings (still_idle _ _ f.holds f.endings c.requires.idle)
 
 pub returns-in-Done-clause-answer : goal.returns-in-Done-clause-answer
 returns-in-Done-clause-answer c =
-    done c.args.shop.now.cat.now c.args.shop.now.books.now.layout.rows c.args.row c.args.retailer.0 (FulfilsIt c.args.shop.now.books.now.layout.rows c.args.row c.args.retailer.0) c.in-Some.view (booking c.args.row (in_phase phase.Fulfilled c.in-Some.view)) c.args.desk.now c.find_booking.new.desk c.fulfil.new.desk _ c.in-Some.ensures.entries (fulfilled.Done, c.in-Done.ensures.entries, refl)
-    (c.in-Some-booking_answer.ensures.told ∙ ap (λ (v : RowSeen). reply_told c.args.shop.now.cat.now (booking c.args.row v)) c.in_phase.ensures.view)
+    done _ _ _ _ (FulfilsIt _ _ _) _ _ _ _ _ _ c.in-Some.ensures.entries (fulfilled.Done, c.in-Done.ensures.entries, refl)
+    (c.in-Some-booking_answer.ensures.told
+    ∙ ap (λ (v : RowSeen). reply_told c.args.shop.now.cat.now (booking c.args.row v)) c.in_phase.ensures.view)
+
+-- unknown by then
 
 pub returns-in-Unknown-clause-tidy : goal.returns-in-Unknown-clause-tidy
-returns-in-Unknown-clause-tidy c = λ tidy. fulfilled_tidy c.args.shop.now.books.now.layout.rows c.args.row c.args.retailer.0 fulfilled.Unknown c.args.shop.now.books.now c.find_booking.new.desk c.fulfil.new.desk c.fulfil.ensures.own c.in-Unknown.ensures.entries c.in-Unknown.ensures.holds c.in-Unknown.ensures.endings (found_tidy c.args.shop.now.books.now.layout.rows c.args.row c.args.retailer.0 (Some c.in-Some.view) c.args.shop.now.books.now c.args.desk.now c.find_booking.new.desk c.find_booking.ensures.own c.in-Some.ensures.entries c.in-Some.ensures.holds c.in-Some.ensures.endings tidy)
+returns-in-Unknown-clause-tidy c tidy =
+    let f = c.in-Some.ensures in let d = c.in-Unknown.ensures in
+    fulfilled_tidy _ _ _ fulfilled.Unknown _ _ _ c.fulfil.ensures.own d.entries d.holds d.endings
+    (found_tidy _ _ _ (Some _) _ _ _ c.find_booking.ensures.own f.entries f.holds f.endings tidy)
+
+pub returns-in-Unknown-clause-idle : goal.returns-in-Unknown-clause-idle
+returns-in-Unknown-clause-idle c =
+    let f = c.in-Some.ensures in let d = c.in-Unknown.ensures in
+    still_idle _ _ d.holds d.endings (still_idle _ _ f.holds f.endings c.requires.idle)
 
 pub returns-in-Unknown-clause-answer : goal.returns-in-Unknown-clause-answer
 returns-in-Unknown-clause-answer c =
-    done c.args.shop.now.cat.now c.args.shop.now.books.now.layout.rows c.args.row c.args.retailer.0 (FulfilsIt c.args.shop.now.books.now.layout.rows c.args.row c.args.retailer.0) c.in-Some.view (problem UnknownBooking) c.args.desk.now c.find_booking.new.desk c.fulfil.new.desk _ c.in-Some.ensures.entries (fulfilled.Unknown, c.in-Unknown.ensures.entries, refl)
-    (of_problem c.args.shop.now.cat.now UnknownBooking)
+    done _ _ _ _ (FulfilsIt _ _ _) _ _ _ _ _ _ c.in-Some.ensures.entries
+    (fulfilled.Unknown, c.in-Unknown.ensures.entries, refl) (of_problem _ UnknownBooking)
+
+-- in another state
 
 pub returns-in-WrongState-clause-tidy : goal.returns-in-WrongState-clause-tidy
-returns-in-WrongState-clause-tidy c = λ tidy. fulfilled_tidy c.args.shop.now.books.now.layout.rows c.args.row c.args.retailer.0 (fulfilled.WrongState c.in-WrongState.shown) c.args.shop.now.books.now c.find_booking.new.desk c.fulfil.new.desk c.fulfil.ensures.own c.in-WrongState.ensures.entries c.in-WrongState.ensures.holds c.in-WrongState.ensures.endings (found_tidy c.args.shop.now.books.now.layout.rows c.args.row c.args.retailer.0 (Some c.in-Some.view) c.args.shop.now.books.now c.args.desk.now c.find_booking.new.desk c.find_booking.ensures.own c.in-Some.ensures.entries c.in-Some.ensures.holds c.in-Some.ensures.endings tidy)
+returns-in-WrongState-clause-tidy c tidy =
+    let f = c.in-Some.ensures in let d = c.in-WrongState.ensures in
+    fulfilled_tidy _ _ _ (fulfilled.WrongState _) _ _ _ c.fulfil.ensures.own d.entries d.holds d.endings
+    (found_tidy _ _ _ (Some _) _ _ _ c.find_booking.ensures.own f.entries f.holds f.endings tidy)
+
+pub returns-in-WrongState-clause-idle : goal.returns-in-WrongState-clause-idle
+returns-in-WrongState-clause-idle c =
+    let f = c.in-Some.ensures in let d = c.in-WrongState.ensures in
+    still_idle _ _ d.holds d.endings (still_idle _ _ f.holds f.endings c.requires.idle)
 
 pub returns-in-WrongState-clause-answer : goal.returns-in-WrongState-clause-answer
 returns-in-WrongState-clause-answer c =
-    done c.args.shop.now.cat.now c.args.shop.now.books.now.layout.rows c.args.row c.args.retailer.0 (FulfilsIt c.args.shop.now.books.now.layout.rows c.args.row c.args.retailer.0) c.in-Some.view (problem (WrongState c.in-WrongState.shown)) c.args.desk.now c.find_booking.new.desk c.fulfil.new.desk _ c.in-Some.ensures.entries ((fulfilled.WrongState c.in-WrongState.shown), c.in-WrongState.ensures.entries, refl)
-    (of_problem c.args.shop.now.cat.now (WrongState c.in-WrongState.shown))
-
-pub booking_answer-requires : goal.booking_answer-requires
-booking_answer-requires c = record { ids = phased_ids c.args.row phase.Fulfilled c.in-Some.view c.in_phase.result c.in_phase.ensures.view c.in-Some.ensures.generation }
-
-pub returns-in_default-clause-idle : goal.returns-in_default-clause-idle
-returns-in_default-clause-idle c = still_idle c.args.desk.now c.find_booking.new.desk c.in_default.ensures.holds c.in_default.ensures.endings c.requires.idle
-
-pub returns-in_default-booking_answer-clause-idle : goal.returns-in_default-booking_answer-clause-idle
-returns-in_default-booking_answer-clause-idle c = still_idle c.args.desk.now c.find_booking.new.desk c.in-Some.ensures.holds c.in-Some.ensures.endings c.requires.idle
-
-pub returns-in-Done-clause-idle : goal.returns-in-Done-clause-idle
-returns-in-Done-clause-idle c = still_idle c.find_booking.new.desk c.fulfil.new.desk c.in-Done.ensures.holds c.in-Done.ensures.endings (still_idle c.args.desk.now c.find_booking.new.desk c.in-Some.ensures.holds c.in-Some.ensures.endings c.requires.idle)
-
-pub returns-in-Unknown-clause-idle : goal.returns-in-Unknown-clause-idle
-returns-in-Unknown-clause-idle c = still_idle c.find_booking.new.desk c.fulfil.new.desk c.in-Unknown.ensures.holds c.in-Unknown.ensures.endings (still_idle c.args.desk.now c.find_booking.new.desk c.in-Some.ensures.holds c.in-Some.ensures.endings c.requires.idle)
-
-pub returns-in-WrongState-clause-idle : goal.returns-in-WrongState-clause-idle
-returns-in-WrongState-clause-idle c = still_idle c.find_booking.new.desk c.fulfil.new.desk c.in-WrongState.ensures.holds c.in-WrongState.ensures.endings (still_idle c.args.desk.now c.find_booking.new.desk c.in-Some.ensures.holds c.in-Some.ensures.endings c.requires.idle)
+    done _ _ _ _ (FulfilsIt _ _ _) _ _ _ _ _ _ c.in-Some.ensures.entries
+    (fulfilled.WrongState _, c.in-WrongState.ensures.entries, refl) (of_problem _ (WrongState _))

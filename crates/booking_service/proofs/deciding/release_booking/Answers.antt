@@ -6,67 +6,99 @@ use Rattle.booking_rows.specs.declared.turns.Aim.TheVariants as aim
 use Rattle.refund_core.specs.declared.releasing.Released.TheVariants as released
 use Rattle.claim_rule.proofs.Out.{still_idle}
 use Rattle.osdm_texts.specs.declared.problem.Problem.TheVariants.{UnknownBooking, WrongState}
-use Rattle.osdm_texts.specs.Answers.{booking, problem, reply_told}
-use Rattle.booking_service.specs.Deciding.{ReleasesIt, at_end}
+use Rattle.osdm_texts.specs.Answers.{booking, reply_told}
+use Rattle.booking_service.specs.Deciding.{ReleasesIt}
 use Rattle.booking_service.proofs.Calm.{found_tidy, released_tidy}
 use Rattle.osdm_texts.proofs.Telling.{of_problem}
 use Rattle.booking_service.proofs.Replying.{unknown, no_memory, done}
 use Rattle.booking_service.proofs.Ids.{ended_ids}
 use Rattle.booking_service.proofs.deciding.release_booking.Goals as goal
 
-pub returns-in_default-clause-tidy : goal.returns-in_default-clause-tidy
-returns-in_default-clause-tidy c = λ tidy. found_tidy c.args.shop.now.books.now.layout.rows c.args.row c.args.asker.retailer.0 None c.args.shop.now.books.now c.args.desk.now c.find_booking.new.desk c.find_booking.ensures.own c.in_default.ensures.entries c.in_default.ensures.holds c.in_default.ensures.endings tidy
-
-pub returns-in_default-clause-answer : goal.returns-in_default-clause-answer
-returns-in_default-clause-answer c = unknown c.args.shop.now.cat.now c.args.shop.now.books.now.layout.rows c.args.row c.args.asker.retailer.0 (ReleasesIt c.args.shop.now.books.now.layout.rows c.args.row c.args.asker.retailer.0 c.args.asker.moment) c.args.desk.now c.find_booking.new.desk c.in_default.ensures.entries
-
-pub returns-in_default-booking_answer-clause-tidy : goal.returns-in_default-booking_answer-clause-tidy
-returns-in_default-booking_answer-clause-tidy c = λ tidy. found_tidy c.args.shop.now.books.now.layout.rows c.args.row c.args.asker.retailer.0 (Some c.in-Some.view) c.args.shop.now.books.now c.args.desk.now c.find_booking.new.desk c.find_booking.ensures.own c.in-Some.ensures.entries c.in-Some.ensures.holds c.in-Some.ensures.endings tidy
-
-pub returns-in_default-booking_answer-clause-answer : goal.returns-in_default-booking_answer-clause-answer
-returns-in_default-booking_answer-clause-answer c = no_memory c.args.shop.now.cat.now c.args.shop.now.books.now.layout.rows c.args.row c.args.asker.retailer.0 (ReleasesIt c.args.shop.now.books.now.layout.rows c.args.row c.args.asker.retailer.0 c.args.asker.moment) c.in-Some.view c.args.desk.now c.find_booking.new.desk c.in-Some.ensures.entries
-
-pub returns-in-Done-clause-tidy : goal.returns-in-Done-clause-tidy
-returns-in-Done-clause-tidy c = λ tidy. released_tidy c.args.shop.now.books.now.layout.rows c.args.row c.args.asker.retailer.0 c.args.asker.moment released.Done c.args.shop.now.books.now c.find_booking.new.desk c.release.new.desk c.release.ensures.own c.in-Done.ensures.entries c.in-Done.ensures.holds c.in-Done.ensures.none (found_tidy c.args.shop.now.books.now.layout.rows c.args.row c.args.asker.retailer.0 (Some c.in-Some.view) c.args.shop.now.books.now c.args.desk.now c.find_booking.new.desk c.find_booking.ensures.own c.in-Some.ensures.entries c.in-Some.ensures.holds c.in-Some.ensures.endings tidy)
-
-pub returns-in-Done-clause-answer : goal.returns-in-Done-clause-answer
-returns-in-Done-clause-answer c =
-    done c.args.shop.now.cat.now c.args.shop.now.books.now.layout.rows c.args.row c.args.asker.retailer.0 (ReleasesIt c.args.shop.now.books.now.layout.rows c.args.row c.args.asker.retailer.0 c.args.asker.moment) c.in-Some.view (booking c.args.row (at_end kind.Release (end_of (aim.Release c.args.asker.moment)) c.in-Some.view)) c.args.desk.now c.find_booking.new.desk c.release.new.desk _ c.in-Some.ensures.entries (released.Done, c.in-Done.ensures.entries, refl)
-    (c.in-Some-booking_answer.ensures.told ∙ ap (λ (v : RowSeen). reply_told c.args.shop.now.cat.now (booking c.args.row v)) c.released.ensures.view)
-
-pub returns-in-Unknown-clause-tidy : goal.returns-in-Unknown-clause-tidy
-returns-in-Unknown-clause-tidy c = λ tidy. released_tidy c.args.shop.now.books.now.layout.rows c.args.row c.args.asker.retailer.0 c.args.asker.moment released.Unknown c.args.shop.now.books.now c.find_booking.new.desk c.release.new.desk c.release.ensures.own c.in-Unknown.ensures.entries c.in-Unknown.ensures.holds c.in-Unknown.ensures.none (found_tidy c.args.shop.now.books.now.layout.rows c.args.row c.args.asker.retailer.0 (Some c.in-Some.view) c.args.shop.now.books.now c.args.desk.now c.find_booking.new.desk c.find_booking.ensures.own c.in-Some.ensures.entries c.in-Some.ensures.holds c.in-Some.ensures.endings tidy)
-
-pub returns-in-Unknown-clause-answer : goal.returns-in-Unknown-clause-answer
-returns-in-Unknown-clause-answer c =
-    done c.args.shop.now.cat.now c.args.shop.now.books.now.layout.rows c.args.row c.args.asker.retailer.0 (ReleasesIt c.args.shop.now.books.now.layout.rows c.args.row c.args.asker.retailer.0 c.args.asker.moment) c.in-Some.view (problem UnknownBooking) c.args.desk.now c.find_booking.new.desk c.release.new.desk _ c.in-Some.ensures.entries (released.Unknown, c.in-Unknown.ensures.entries, refl)
-    (of_problem c.args.shop.now.cat.now UnknownBooking)
-
-pub returns-in-WrongState-clause-tidy : goal.returns-in-WrongState-clause-tidy
-returns-in-WrongState-clause-tidy c = λ tidy. released_tidy c.args.shop.now.books.now.layout.rows c.args.row c.args.asker.retailer.0 c.args.asker.moment (released.WrongState c.in-WrongState.shown) c.args.shop.now.books.now c.find_booking.new.desk c.release.new.desk c.release.ensures.own c.in-WrongState.ensures.entries c.in-WrongState.ensures.holds c.in-WrongState.ensures.none (found_tidy c.args.shop.now.books.now.layout.rows c.args.row c.args.asker.retailer.0 (Some c.in-Some.view) c.args.shop.now.books.now c.args.desk.now c.find_booking.new.desk c.find_booking.ensures.own c.in-Some.ensures.entries c.in-Some.ensures.holds c.in-Some.ensures.endings tidy)
-
-pub returns-in-WrongState-clause-answer : goal.returns-in-WrongState-clause-answer
-returns-in-WrongState-clause-answer c =
-    done c.args.shop.now.cat.now c.args.shop.now.books.now.layout.rows c.args.row c.args.asker.retailer.0 (ReleasesIt c.args.shop.now.books.now.layout.rows c.args.row c.args.asker.retailer.0 c.args.asker.moment) c.in-Some.view (problem (WrongState c.in-WrongState.shown)) c.args.desk.now c.find_booking.new.desk c.release.new.desk _ c.in-Some.ensures.entries ((released.WrongState c.in-WrongState.shown), c.in-WrongState.ensures.entries, refl)
-    (of_problem c.args.shop.now.cat.now (WrongState c.in-WrongState.shown))
-
 pub booking_answer-requires : goal.booking_answer-requires
-booking_answer-requires c = record { ids = ended_ids c.args.row kind.Release (end_of (aim.Release c.args.asker.moment)) c.in-Some.view c.released.result refl c.released.ensures.view c.in-Some.ensures.generation }
-
-pub returns-in_default-clause-idle : goal.returns-in_default-clause-idle
-returns-in_default-clause-idle c = still_idle c.args.desk.now c.find_booking.new.desk c.in_default.ensures.holds c.in_default.ensures.endings c.requires.idle
-
-pub returns-in_default-booking_answer-clause-idle : goal.returns-in_default-booking_answer-clause-idle
-returns-in_default-booking_answer-clause-idle c = still_idle c.args.desk.now c.find_booking.new.desk c.in-Some.ensures.holds c.in-Some.ensures.endings c.requires.idle
+booking_answer-requires c =
+    let end = end_of (aim.Release c.args.asker.moment) in
+    record { ids = ended_ids c.args.row kind.Release end c.in-Some.view _ refl c.released.ensures.view c.in-Some.ensures.generation }
 
 pub release-requires-clause-none : goal.release-requires-clause-none
 release-requires-clause-none c = c.in-Some.ensures.endings.none c.requires.idle.1
 
+-- no such booking
+
+pub returns-in_default-clause-tidy : goal.returns-in_default-clause-tidy
+returns-in_default-clause-tidy c =
+    let d = c.in_default.ensures in found_tidy _ _ _ None _ _ _ c.find_booking.ensures.own d.entries d.holds d.endings
+
+pub returns-in_default-clause-idle : goal.returns-in_default-clause-idle
+returns-in_default-clause-idle c =
+    let d = c.in_default.ensures in still_idle _ _ d.holds d.endings c.requires.idle
+
+pub returns-in_default-clause-answer : goal.returns-in_default-clause-answer
+returns-in_default-clause-answer c = unknown _ _ _ _ (ReleasesIt _ _ _ _) _ _ c.in_default.ensures.entries
+
+-- no memory for its answer
+
+pub returns-in_default-booking_answer-clause-tidy : goal.returns-in_default-booking_answer-clause-tidy
+returns-in_default-booking_answer-clause-tidy c =
+    let f = c.in-Some.ensures in found_tidy _ _ _ (Some _) _ _ _ c.find_booking.ensures.own f.entries f.holds f.endings
+
+pub returns-in_default-booking_answer-clause-idle : goal.returns-in_default-booking_answer-clause-idle
+returns-in_default-booking_answer-clause-idle c =
+    let f = c.in-Some.ensures in still_idle _ _ f.holds f.endings c.requires.idle
+
+pub returns-in_default-booking_answer-clause-answer : goal.returns-in_default-booking_answer-clause-answer
+returns-in_default-booking_answer-clause-answer c = no_memory _ _ _ _ (ReleasesIt _ _ _ _) _ _ _ c.in-Some.ensures.entries
+
+-- released
+
+pub returns-in-Done-clause-tidy : goal.returns-in-Done-clause-tidy
+returns-in-Done-clause-tidy c tidy =
+    let f = c.in-Some.ensures in let d = c.in-Done.ensures in
+    released_tidy _ _ _ c.args.asker.moment released.Done _ _ _ c.release.ensures.own d.entries d.holds d.none
+    (found_tidy _ _ _ (Some _) _ _ _ c.find_booking.ensures.own f.entries f.holds f.endings tidy)
+
 pub returns-in-Done-clause-idle : goal.returns-in-Done-clause-idle
-returns-in-Done-clause-idle c = (c.in-Done.ensures.holds.none (c.in-Some.ensures.holds.none c.requires.idle.0), c.in-Done.ensures.none)
+returns-in-Done-clause-idle c =
+    let f = c.in-Some.ensures in let d = c.in-Done.ensures in
+    (d.holds.none (f.holds.none c.requires.idle.0), d.none)
+
+pub returns-in-Done-clause-answer : goal.returns-in-Done-clause-answer
+returns-in-Done-clause-answer c =
+    done _ _ _ _ (ReleasesIt _ _ _ _) _ _ _ _ _ _ c.in-Some.ensures.entries (released.Done, c.in-Done.ensures.entries, refl)
+    (c.in-Some-booking_answer.ensures.told
+    ∙ ap (λ (v : RowSeen). reply_told c.args.shop.now.cat.now (booking c.args.row v)) c.released.ensures.view)
+
+-- unknown by then
+
+pub returns-in-Unknown-clause-tidy : goal.returns-in-Unknown-clause-tidy
+returns-in-Unknown-clause-tidy c tidy =
+    let f = c.in-Some.ensures in let d = c.in-Unknown.ensures in
+    released_tidy _ _ _ c.args.asker.moment released.Unknown _ _ _ c.release.ensures.own d.entries d.holds d.none
+    (found_tidy _ _ _ (Some _) _ _ _ c.find_booking.ensures.own f.entries f.holds f.endings tidy)
 
 pub returns-in-Unknown-clause-idle : goal.returns-in-Unknown-clause-idle
-returns-in-Unknown-clause-idle c = (c.in-Unknown.ensures.holds.none (c.in-Some.ensures.holds.none c.requires.idle.0), c.in-Unknown.ensures.none)
+returns-in-Unknown-clause-idle c =
+    let f = c.in-Some.ensures in let d = c.in-Unknown.ensures in
+    (d.holds.none (f.holds.none c.requires.idle.0), d.none)
+
+pub returns-in-Unknown-clause-answer : goal.returns-in-Unknown-clause-answer
+returns-in-Unknown-clause-answer c =
+    done _ _ _ _ (ReleasesIt _ _ _ _) _ _ _ _ _ _ c.in-Some.ensures.entries
+    (released.Unknown, c.in-Unknown.ensures.entries, refl) (of_problem _ UnknownBooking)
+
+-- in another state
+
+pub returns-in-WrongState-clause-tidy : goal.returns-in-WrongState-clause-tidy
+returns-in-WrongState-clause-tidy c tidy =
+    let f = c.in-Some.ensures in let d = c.in-WrongState.ensures in
+    released_tidy _ _ _ c.args.asker.moment (released.WrongState _) _ _ _ c.release.ensures.own d.entries d.holds d.none
+    (found_tidy _ _ _ (Some _) _ _ _ c.find_booking.ensures.own f.entries f.holds f.endings tidy)
 
 pub returns-in-WrongState-clause-idle : goal.returns-in-WrongState-clause-idle
-returns-in-WrongState-clause-idle c = (c.in-WrongState.ensures.holds.none (c.in-Some.ensures.holds.none c.requires.idle.0), c.in-WrongState.ensures.none)
+returns-in-WrongState-clause-idle c =
+    let f = c.in-Some.ensures in let d = c.in-WrongState.ensures in
+    (d.holds.none (f.holds.none c.requires.idle.0), d.none)
+
+pub returns-in-WrongState-clause-answer : goal.returns-in-WrongState-clause-answer
+returns-in-WrongState-clause-answer c =
+    done _ _ _ _ (ReleasesIt _ _ _ _) _ _ _ _ _ _ c.in-Some.ensures.entries
+    (released.WrongState _, c.in-WrongState.ensures.entries, refl) (of_problem _ (WrongState _))

@@ -1,9 +1,9 @@
-use Rattle.std.proofs.Common.{◌≡◌, ◌∙◌, ◌+◌, ◌<◌, ℕ, length, Some, sym, subst, ap, arith}
+use Rattle.std.proofs.Common.{◌≡◌, ◌∙◌, ◌+◌, ◌<◌, ℕ, length, map, Some, sym, subst, ap, arith}
 use Rattle.rail_io.specs.Faults.{Rose}
 use Rattle.host_serve.specs.declared.end.ServeOutcome.{ServeOutcome}
 use Rattle.host_serve.specs.Serve.{BooksEnd}
 use Rattle.host_serve.proofs.Crewing.{complete, one_more}
-use Rattle.host_serve.specs.Turns.{FitsBooks}
+use Rattle.host_serve.specs.Turns.{Asks, FitsBooks}
 use Rattle.host_serve.proofs.Closing.{served_wall, all_rested, all_worked}
 use Rattle.host_serve.proofs.books.run_books.Goals as goal
 use Rattle.host_serve.proofs.books.run_books.Goals.{then-all, else-all}
@@ -16,24 +16,27 @@ returns g c =
     let whole = complete c.args.books run.crew c.run_crew-desk.result c.run_crew-desk.new.first c.finish_listener-all.new.desk c.meet.new.desk run.met c.meet.ensures.met
     (left.keeps.number ∙ run.is.desk.number) in
     let members = c.crew_of-crew.ensures in
-    let worked = all_worked g.C.Clock.told c.args.cat.now said c.args.books c.crew_of-crew.result.items c.run_crew-desk.new.first c.finish_listener-all.new.desk c.meet.new.desk
-    (g.C.Clock.told c.into_clock-clock.result) (g.C.Clock.told c.finish_listener-all.new.clock)
-    c.run_crew-desk.result members.crew members.ready members.count c.requires.workers run (ap g.C.Clock.told c.into_clock-clock.ensures) left.keeps left.turns left.own c.meet.ensures.met in
+    let clocks = map g.C.Clock.told c.args.clocks.items in
+    let asks = Asks g.T.Ticker.ticked c.args.ticker in
+    let worked = all_worked g.C.Clock.told g.T.Ticker.ticked c.args.cat.now said c.args.ticker clocks c.args.books c.crew_of-crew.result.items
+    c.run_crew-desk.new.first c.finish_listener-all.new.desk c.meet.new.desk (g.C.Clock.told c.into_clock-clock.result) (g.C.Clock.told c.finish_listener-all.new.clock)
+    c.run_crew-desk.result left.turns.0 members.crew members.ready members.count c.requires.workers run (ap g.C.Clock.told c.into_clock-clock.ensures)
+    left.keeps left.turns.2 left.own c.meet.ensures.met in
     let books = c.args.books in
     let rests = all_rested FitsBooks books run.crew c.run_crew-desk.result c.run_crew-desk.new.first c.finish_listener-all.new.desk c.meet.new.desk
     run.are run.met left.own left.tidy (left.keeps.number ∙ run.is.desk.number) c.meet.ensures.met in
     let count : length run.crew ≡ said.workers + 1 = run.count ∙ members.count in
     let closed = c.close.ensures in
-    let wall = served_wall c.args.cat.now said books c.meet.new.desk c.close.result c.meet.ensures.own (c.meet.ensures.tidy run.met.tidy) c.requires.opening
+    let wall = served_wall c.args.cat.now said clocks asks books c.meet.new.desk c.close.result c.meet.ensures.own (c.meet.ensures.tidy run.met.tidy) c.requires.opening
     closed.layout (record { places = closed.places; legs = closed.legs; rows = closed.rows }) closed.history
     whole.0 (whole.1 ∙ count) (one_more c.run_crew-desk.new.first.number c.run_crew-desk.new.first.seen c.meet.new.desk.seen run.met.number c.meet.ensures.met.mine run.met.meets)
-    worked.0 worked.1 (λ n low high. rests n low (omega (arith, high, count))) in
+    worked (λ n low high. rests n low (omega (arith, high, count))) in
     let view = g.L.Listener.told c.finish_listener-all.new.listener in
     let faults = g.L.Listener.faults c.finish_listener-all.new.listener in
     record {
       never_falls = omega (arith, c.requires.faults, c.into_listener-listener.ensures.never_falls, left.never_falls);
       ends = elim c.if-all.branch [
-        | then-all w ↦ subst (λ (o : ServeOutcome). BooksEnd c.args.cat.now c.args.books.layout said (g.L.Listener.faults c.args.listener) faults view (Some c.close.result) o) (sym w.result-is) (
+        | then-all w ↦ subst (λ (o : ServeOutcome). BooksEnd c.args.cat.now c.args.books.layout said clocks asks (g.L.Listener.faults c.args.listener) faults view (Some c.close.result) o) (sym w.result-is) (
           record {
             handed = left.spent w.if-all.true
                 ∙ (ap (λ (n : ℕ). record { port = n; limit = g.N.Named.limit; handed = g.N.Named.limit }) c.requires.port
@@ -42,7 +45,7 @@ returns g c =
           },
           wall,
         )
-        | else-all w ↦ subst (λ (o : ServeOutcome). BooksEnd c.args.cat.now c.args.books.layout said (g.L.Listener.faults c.args.listener) faults view (Some c.close.result) o) (sym w.result-is) (
+        | else-all w ↦ subst (λ (o : ServeOutcome). BooksEnd c.args.cat.now c.args.books.layout said clocks asks (g.L.Listener.faults c.args.listener) faults view (Some c.close.result) o) (sym w.result-is) (
           record {
             rose = subst (λ (n : ℕ). Rose n faults) c.requires.faults (left.failed w.if-all.false).0;
             port = left.port ∙ c.requires.port;

@@ -1,9 +1,28 @@
-use Rattle.std.proofs.Common.{◌≡◌, ◌∙◌, ◌+◌, ◌++◌, ◌∷◌, [], ℕ, length, refl, sym, subst, ap, arith, rules}
+use Rattle.std.proofs.Common.{◌≡◌, ◌∙◌, ◌+◌, ◌++◌, ◌∷◌, [], ℕ, length, map, refl, sym, subst, ap, arith, rules, append-nil}
+use mathlib.Core.List.{IsPrefix}
 use Rattle.std.proofs.lemmas.List.{length-append}
 use Rattle.host_serve.specs.Crews.{AreReady, IsCrew, IsFirst, IsReady}
 use Rattle.host_serve.specs.Turns.{FitsBooks}
-use Rattle.host_serve.proofs.Crewing.{joined, joined_each, parted_first, parted_desk, parted_empty}
+use Rattle.host_serve.proofs.Crewing.{joined, joined_each, parted_first, parted_desk, parted_empty, popped_clock, shorter}
 use Rattle.host_serve.proofs.crew.crew_of.Goals as goal
+
+pub loop-number-init : goal.loop-number-init
+loop-number-init g c =
+    let books = c.args.books.now in
+    let nobody = c.requires.nobody in
+    let told = g.C.Clock.told in
+    let clocks = c.args.clocks.items in
+    record {
+      first = subst (λ l. IsFirst books (length l) c.args.first.now) (sym nobody) c.requires.first;
+      crew = subst (λ l. IsCrew FitsBooks books l) (sym nobody) (λ i none lt. absurd (omega (arith, lt)));
+      ready = subst (λ l. AreReady told c.args.common.cat.now c.args.said c.args.ticker (map told clocks) l) (sym nobody) (λ i none lt. absurd (omega (arith, lt)));
+      count = ap length nobody;
+      clocks = omega (arith, c.requires.clocks);
+      front = ([], append-nil clocks);
+      left = omega arith;
+      len = search (rules, arith);
+      room = omega (arith, c.requires.room);
+    }
 
 pub loop-number-preserved : goal.loop-number-preserved
 loop-number-preserved g c =
@@ -16,6 +35,9 @@ loop-number-preserved g c =
     let many : length c.push_reserved.new.self.items ≡ n + 1 = ap length items ∙ length-append crew _ in
     let whole : c.loop-number.clocks.items ≡ c.pop.new.self.items ++ c.unwrap.result ∷ [] = search rules in
     let popped : length c.loop-number.clocks.items ≡ length c.pop.new.self.items + 1 = ap length whole ∙ length-append c.pop.new.self.items _ in
+    let told = g.C.Clock.told in
+    let clocks = c.args.clocks.items in
+    let front = subst (λ l. IsPrefix l clocks) whole inv.front in
     record {
       first = subst (λ (k : ℕ). IsFirst books k c.part.new.desk) (sym many)
           (parted_first books n c.loop-number.first c.part.new.desk inv.first part.own.0 part.met part.made (part.still.1 inv.first.tidy));
@@ -24,13 +46,16 @@ loop-number-preserved g c =
             fits = c.requires.has;
             desk = parted_desk books n c.loop-number.first c.part.new.desk c.part.result inv.first part.made part.new.0 part.own.1 part.tidy;
           }));
-      ready = subst (λ l. AreReady c.args.common.cat.now c.args.said l) (sym items)
-          (joined_each (λ i m. IsReady c.args.common.cat.now c.args.said i m) crew _ inv.ready (record {
+      ready = subst (λ l. AreReady told c.args.common.cat.now c.args.said c.args.ticker (map told clocks) l) (sym items)
+          (joined_each (λ i m. IsReady told c.args.common.cat.now c.args.said c.args.ticker (map told clocks) i m) crew _ inv.ready (record {
             post = (omega (arith, inv.count, c.loop-number-test.true), refl);
+            clock = popped_clock told clocks c.pop.new.self.items c.unwrap.result n front (omega (arith, inv.left, inv.count, popped));
             none = parted_empty n c.part.new.desk c.part.result (part.made ∙ ap (λ (k : ℕ). k + 1) inv.first.made) part.new.0 part.new.1;
           }));
       count = omega (arith, many, inv.count);
       clocks = omega (arith, inv.clocks, popped, c.loop-number-test.true);
+      front = shorter clocks c.pop.new.self.items c.unwrap.result front;
+      left = omega (arith, inv.left, popped);
       len = omega (arith, c.push_reserved.ensures.len, inv.len);
       room = omega (arith, c.push_reserved.ensures.capacity, inv.room);
     }
@@ -62,9 +87,15 @@ returns-clause-ready g c =
     let inv = c.loop-number.invariant in
     let crew = c.loop-number.crew.items in
     let part = c.part-2.ensures in
+    let told = g.C.Clock.told in
+    let clocks = c.args.clocks.items in
     let at : length crew ≡ c.args.said.workers = search (rules, arith) in
-    subst (λ l. AreReady c.args.common.cat.now c.args.said l) (sym c.push_reserved-2.ensures.items)
-    (joined_each (λ i m. IsReady c.args.common.cat.now c.args.said i m) crew _ inv.ready (record {
-      post = (at, refl);
+    let whole : c.loop-number.clocks.items ≡ c.pop-2.new.self.items ++ c.unwrap-2.result ∷ [] = search rules in
+    let popped : length c.loop-number.clocks.items ≡ length c.pop-2.new.self.items + 1 = ap length whole ∙ length-append c.pop-2.new.self.items _ in
+    let front = subst (λ l. IsPrefix l clocks) whole inv.front in
+    subst (λ l. AreReady told c.args.common.cat.now c.args.said c.args.ticker (map told clocks) l) (sym c.push_reserved-2.ensures.items)
+    (joined_each (λ i m. IsReady told c.args.common.cat.now c.args.said c.args.ticker (map told clocks) i m) crew _ inv.ready (record {
+      post = (at, refl, refl);
+      clock = popped_clock told clocks c.pop-2.new.self.items c.unwrap-2.result (length crew) front (omega (arith, inv.left, inv.count, popped));
       none = parted_empty (length crew) c.part-2.new.desk c.part-2.result (part.made ∙ ap (λ (k : ℕ). k + 1) inv.first.made) part.new.0 part.new.1;
     }))

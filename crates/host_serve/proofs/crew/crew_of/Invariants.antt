@@ -1,4 +1,5 @@
-use Rattle.std.proofs.Common.{◌≡◌, ◌≤◌, ◌+◌, length, vec_len, vec_capacity}
+use Rattle.std.proofs.Common.{◌≡◌, ◌≤◌, ◌+◌, length, map, vec_len, vec_capacity}
+use mathlib.Core.List.{IsPrefix}
 use Rattle.host_serve.specs.Crews.{AreReady, IsCrew, IsFirst}
 use Rattle.host_serve.specs.Turns.{FitsBooks}
 use Rattle.host_serve.proofs.crew.crew_of.Given as goal
@@ -7,9 +8,11 @@ abbrev pub invariant-loop-number : goal.invariant-loop-number
 invariant-loop-number g l = record {
   first : IsFirst l.books (length l.crew.items) l.first;
   crew : IsCrew FitsBooks l.books l.crew.items;
-  ready : AreReady l.common.cat.now l.said l.crew.items;
+  ready : AreReady g.C.Clock.told l.common.cat.now l.said l.ticker (map g.C.Clock.told l.fn.clocks.items) l.crew.items;
   count : length l.crew.items ≡ l._number;
   clocks : l.said.workers + 1 ≤ l._number + length l.clocks.items;
+  front : IsPrefix l.clocks.items l.fn.clocks.items;
+  left : length l.clocks.items + l._number ≡ length l.fn.clocks.items;
   len : vec_len l.crew ≡ l._number;
   room : l.said.workers + 1 ≤ vec_capacity l.crew;
 }

@@ -1,4 +1,4 @@
-use Rattle.std.proofs.Common.{rules, arith}
+use Rattle.std.proofs.Common.{◌≡◌, ◌+◌, rules, arith}
 use Rattle.worker_pool.proofs.Chains.{keeps_on}
 use Rattle.host_serve.specs.Turns.{Stand, Connection}
 use Rattle.host_serve.proofs.Chaining.{chain_on, one}
@@ -12,12 +12,19 @@ loop-served-preserved g c =
     let did = c.serve_stream.ensures in
     let old : Stand = record { desk = c.args.desk.now; clock = told c.args.clock.now } in
     let at : Stand = record { desk = c.loop-served.desk; clock = told c.loop-served.clock } in
+    let more : (g.L.Listener.told c.accept.new.self).handed ≡ (g.L.Listener.told c.args.listener.now).handed + (inv.turns.0 + 1) =
+    (let so = inv.turns.1 in let one_more : (g.L.Listener.told c.accept.new.self).handed ≡ (g.L.Listener.told c.loop-served.listener).handed + 1 = search (rules, arith) in
+    omega (arith, so, one_more)) in
     let new : Stand = record { desk = c.serve_stream.new.desk; clock = told c.serve_stream.new.clock } in
     record {
       own = did.own;
       tidy = did.tidy;
       keeps = keeps_on c.args.desk.now c.loop-served.desk c.serve_stream.new.desk inv.keeps did.keeps;
-      turns = chain_on (Connection cat) old at new inv.turns (one (Connection cat) at new (_, _, did.one));
+      turns = (
+        inv.turns.0 + 1,
+        more,
+        chain_on (Connection cat) inv.turns.0 1 old at new inv.turns.2 (one (Connection cat) at new (_, _, did.one)),
+      );
       port = search (rules, arith);
       limit = search (rules, arith);
       within = search (rules, arith);

@@ -1,4 +1,4 @@
-use Rattle.std.proofs.Common.{◌≡◌, ◌≤◌}
+use Rattle.std.proofs.Common.{◌≡◌, ◌≤◌, ◌+◌, ℕ}
 use Rattle.claim_rule.specs.Seats.{IsOf}
 use Rattle.claim_rule.specs.Out.{IsTidy}
 use Rattle.worker_pool.specs.Turns.{KeepsDesk}
@@ -10,7 +10,8 @@ invariant-loop-served g l = record {
   own : IsOf l.books l.desk;
   tidy : IsTidy l.desk;
   keeps : KeepsDesk l.fn.desk l.desk;
-  turns : Chain (Connection l.common.cat.now) (record { desk = l.fn.desk; clock = g.C.Clock.told l.fn.clock }) (record { desk = l.desk; clock = g.C.Clock.told l.clock });
+  turns : (n : ℕ) × ((g.L.Listener.told l.listener).handed ≡ (g.L.Listener.told l.fn.listener).handed + n)
+      × Chain (Connection l.common.cat.now) n (record { desk = l.fn.desk; clock = g.C.Clock.told l.fn.clock }) (record { desk = l.desk; clock = g.C.Clock.told l.clock });
   port : (g.L.Listener.told l.listener).port ≡ (g.L.Listener.told l.fn.listener).port;
   limit : (g.L.Listener.told l.listener).limit ≡ l.limit;
   within : (g.L.Listener.told l.listener).handed ≤ l.limit;

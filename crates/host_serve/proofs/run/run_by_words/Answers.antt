@@ -1,8 +1,9 @@
-use Rattle.std.proofs.Common.{◌≡◌, ap, true}
+use Rattle.std.proofs.Common.{◌≡◌, ap, map, true}
 use Rattle.host_words.specs.Options.{words_texts}
 use Rattle.host_words.specs.Said.{said_in}
 use Rattle.host_serve.specs.Serve.{Left}
 use Rattle.host_serve.specs.Telling.{Noting}
+use Rattle.host_serve.specs.Turns.{Asks}
 use Rattle.host_serve.proofs.Ending.{refused_runs}
 use Rattle.host_serve.proofs.Telling.{exported, runs_so, wall_closed, wall_tidy}
 use Rattle.host_serve.proofs.run.run_by_words.Goals as goal
@@ -11,7 +12,7 @@ pub returns-in-Err-Refused-clause-runs : goal.returns-in-Err-Refused-clause-runs
 returns-in-Err-Refused-clause-runs g c =
     let e = c.without_books-in-Err-Refused.ensures in
     refused_runs (words_texts c.args.words.now) (g.F.Shelf.told c.args.shelf.now) _ c.without_books-in-Err-Refused.result.outcome e.outcome
-    (c.in-Err-Refused.ensures.refused c.in-Err-Refused.field-0-is) (ap g.L.Listener.told e.listener) e.wall
+    (c.in-Err-Refused.ensures.refused c.in-Err-Refused.field-0-is) (ap g.L.Listener.told e.listener) (ap g.L.Listener.faults e.listener) e.wall
 
 -- the export of the books that the words ask for
 pub write_export-requires-clause-closed : goal.write_export-requires-clause-closed
@@ -33,6 +34,8 @@ returns-clause-runs g c =
     let left : Left = record {
       faults_before = g.L.Listener.faults c.args.listener;
       before = g.L.Listener.told c.args.listener;
+      clocks = map g.C.Clock.told c.args.clocks.items;
+      asks = Asks g.T.Ticker.ticked c.args.ticker;
       faults_after = g.L.Listener.faults run.result.listener;
       after = g.L.Listener.told run.result.listener;
       wall = run.result.wall;
@@ -59,6 +62,8 @@ returns-clause-tells g c =
     let left : Left = record {
       faults_before = g.L.Listener.faults c.args.listener;
       before = g.L.Listener.told c.args.listener;
+      clocks = map g.C.Clock.told c.args.clocks.items;
+      asks = Asks g.T.Ticker.ticked c.args.ticker;
       faults_after = g.L.Listener.faults run.result.listener;
       after = g.L.Listener.told run.result.listener;
       wall = run.result.wall;
@@ -84,6 +89,8 @@ returns-clause-cause g c =
     let left : Left = record {
       faults_before = g.L.Listener.faults c.args.listener;
       before = g.L.Listener.told c.args.listener;
+      clocks = map g.C.Clock.told c.args.clocks.items;
+      asks = Asks g.T.Ticker.ticked c.args.ticker;
       faults_after = g.L.Listener.faults run.result.listener;
       after = g.L.Listener.told run.result.listener;
       wall = run.result.wall;

@@ -91,6 +91,6 @@ returns-clause-write_cause g c four =
     (part.0, rose_before n.failed n.fails (g.E.Sink.faults c.end_command-status.new.notes) part.2 c.end_command-status.ensures.never_falls part.1)
 
 pub returns-clause-steady : goal.returns-clause-steady
-returns-clause-steady g c is =
+returns-clause-steady g c other =
     stays (words_texts c.args.words.now) (g.F.Shelf.told c.args.shelf.now) _ c.run_by_words-outcome.result.outcome c.run_by_words-outcome.ensures.runs
-    (subst (λ (n : ℕ). (n ≡ 0) ⊎ (n ≡ 1) ⊎ (n ≡ 4)) (c.end_command-status.ensures.status ∙ ap status_of c.command_end.ensures) is)
+    (λ three. other ((c.end_command-status.ensures.status ∙ ap status_of c.command_end.ensures) ∙ three))

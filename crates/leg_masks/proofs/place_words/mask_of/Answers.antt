@@ -1,7 +1,8 @@
 use Rattle.std.proofs.Common.{ℕ, ◌≤◌, ◌<◌, ◌^◌, ◌-◌, ◌+◌, ◌*◌, ◌%◌, arith, le_trans, pow_mono, subst, sym, ap, ap₂, ◌∙◌, ◌≡◌}
 use Rattle.std.specs.Int.{bit_at}
-use Rattle.leg_masks.specs.Interval.{Interval, IsSpan, in_word, half_of, leg_of}
-use Rattle.leg_masks.proofs.Masks.{shift, bit_at-mask, ends_by}
+use Rattle.leg_masks.specs.Interval.{Interval, IsSpan, in_word, has_leg, half_of, bit_of, leg_of}
+use Rattle.leg_masks.proofs.HalfLegs.{leg_back}
+use Rattle.leg_masks.proofs.Masks.{bit, shift, bit_at-mask, ends_by}
 use Rattle.leg_masks.proofs.place_words.mask_of.Goals as goal
 
 -- what is shifted by is where the piece begins and ends in the word
@@ -44,3 +45,8 @@ returns-clause-span c = span c
 
 pub returns-clause-bits : goal.returns-clause-bits
 returns-clause-bits c = λ bit. ap (λ (n : ℕ). bit_at n bit) (returns-clause-value c) ∙ bit_at-mask c.args.span (span c).0 bit
+
+pub returns-clause-legs : goal.returns-clause-legs
+returns-clause-legs c = λ leg here.
+    returns-clause-bits c (bit_of leg)
+    ∙ ap (λ (l : ℕ). bit (has_leg c.args.span l)) (ap (λ (h : ℕ). leg_of h (bit_of leg)) (sym here) ∙ leg_back leg)

@@ -4,8 +4,8 @@ use Rattle.std.proofs.Math.Seq.{drop-cons}
 use Rattle.std.proofs.lemmas.Nat.{or_lt}
 use Rattle.serde_json.specs.Data.{Data}
 use Rattle.serde_json.specs.Find.{as_str}
-use Rattle.serde_json.specs.View.{view}
-use Rattle.serde_json.specs.declared.value.Value.{Value}
+use Rattle.json_text.specs.View.{view}
+use Rattle.json_text.specs.declared.value.Value.{Value}
 use Rattle.rail_catalogue.specs.Coaches.{trait_named}
 use Rattle.osdm_json.specs.Members.{traits_from}
 use Rattle.osdm_json.proofs.members.sum_of_traits.Goals as goal

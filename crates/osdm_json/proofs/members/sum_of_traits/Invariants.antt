@@ -1,5 +1,5 @@
 use Rattle.std.proofs.Common.{◌≡◌, ◌≤◌, map, drop}
-use Rattle.serde_json.specs.View.{view}
+use Rattle.json_text.specs.View.{view}
 use Rattle.osdm_json.specs.Members.{traits_from}
 use Rattle.osdm_json.proofs.members.sum_of_traits.Given as goal
 

@@ -1,6 +1,6 @@
 use Rattle.std.proofs.Common.{◌≡◌, Ok, rules, arith}
 use Rattle.std.proofs.lemmas.Grind.{common_steps}
-use Rattle.serde_json.specs.View.{view}
+use Rattle.json_text.specs.View.{view}
 use Rattle.osdm_json.specs.Asked.{accept_exchange}
 use Rattle.osdm_json.specs.IdBodies.{accept_exchange_of}
 use Rattle.osdm_json.proofs.orders.read_accept_exchange.Goals as goal

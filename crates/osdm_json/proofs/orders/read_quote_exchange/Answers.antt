@@ -1,6 +1,6 @@
 use Rattle.std.proofs.Common.{◌≡◌, Ok, rules, arith}
 use Rattle.std.proofs.lemmas.Grind.{common_steps}
-use Rattle.serde_json.specs.View.{view}
+use Rattle.json_text.specs.View.{view}
 use Rattle.osdm_json.specs.Asked.{quote_exchange}
 use Rattle.osdm_json.specs.IdBodies.{quote_exchange_of}
 use Rattle.osdm_json.proofs.orders.read_quote_exchange.Goals as goal

@@ -1,5 +1,5 @@
 use Rattle.std.proofs.Common.{◌≡◌, ◌∙◌, true, sym}
-use Rattle.serde_json.specs.View.{view}
+use Rattle.json_text.specs.View.{view}
 use Rattle.osdm_json.specs.Commands.{asked_in, asked_by, has_body}
 use Rattle.osdm_json.proofs.reader.read_command.Goals as goal
 

@@ -1,11 +1,12 @@
+use Rattle.std.proofs.Common.{◌∙◌, ◌++◌, List, ℕ, ap}
 use Rattle.std.proofs.lemmas.Result.{on_ok_weaker}
 use Rattle.osdm_texts.proofs.PlaceLines.{put_traits}
 use Rattle.osdm_texts.proofs.places.put_traits.Goals as goal
 
 pub returns : goal.returns
 returns c =
+    let old = c.args.text.now.items in
     on_ok_weaker c.put-2.result
-    (λ put. put_traits c.args.traits c.args.text.now.items _ _ _ _ _ _ _ _ _ _ _
-    c.in_ok-later.ensures.later c.in_ok-later-2.ensures.later c.in_ok-later-3.ensures.later c.in_ok-later-4.ensures.later
-    c.in_ok-put.ensures c.in_ok-later.ensures.text c.in_ok-later-2.ensures.text c.in_ok-later-3.ensures.text c.in_ok-later-4.ensures.text c.in_ok-put_trait.ensures.text put)
+    (λ put. put_traits c.args.traits old _ _ _ c.first_traits-first.ensures.later (c.in_ok-put.ensures ∙ ap (λ (l : List ℕ). old ++ l) c.first_traits-first.ensures.text)
+    (put ∙ ap (λ (l : List ℕ). c.put.new.text.items ++ l) c.last_traits.ensures))
     c.put-2.ensures

@@ -1,5 +1,5 @@
 use Rattle.std.proofs.Common.{◌≡◌, ◌≤◌, ◌+◌, length, map, drop}
-use Rattle.serde_json.specs.View.{view}
+use Rattle.json_text.specs.View.{view}
 use Rattle.place_map.specs.Places.{EndsWithRun}
 use Rattle.rail_catalogue.specs.Coaches.{coaches_from}
 use Rattle.rail_catalogue.proofs.coaches.read_coaches.Given as goal

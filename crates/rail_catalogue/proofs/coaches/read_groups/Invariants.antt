@@ -1,5 +1,5 @@
 use Rattle.std.proofs.Common.{◌≡◌, [], length, map, drop}
-use Rattle.serde_json.specs.View.{view}
+use Rattle.json_text.specs.View.{view}
 use Rattle.rail_catalogue.specs.Coaches.{groups_from}
 use Rattle.rail_catalogue.proofs.coaches.read_groups.Given as goal
 

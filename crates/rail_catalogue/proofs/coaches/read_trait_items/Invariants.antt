@@ -1,5 +1,5 @@
 use Rattle.std.proofs.Common.{◌≡◌, map, drop}
-use Rattle.serde_json.specs.View.{view}
+use Rattle.json_text.specs.View.{view}
 use Rattle.rail_catalogue.specs.Coaches.{traits_from}
 use Rattle.rail_catalogue.proofs.coaches.read_trait_items.Given as goal
 

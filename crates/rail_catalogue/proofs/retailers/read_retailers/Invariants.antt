@@ -1,5 +1,5 @@
 use Rattle.std.proofs.Common.{◌≡◌, [], map, drop, length}
-use Rattle.serde_json.specs.View.{view}
+use Rattle.json_text.specs.View.{view}
 use Rattle.rail_catalogue.specs.Retailers.{retailers_from}
 use Rattle.rail_catalogue.proofs.retailers.read_retailers.Given as goal
 

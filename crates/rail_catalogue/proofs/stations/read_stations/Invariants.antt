@@ -1,5 +1,5 @@
 use Rattle.std.proofs.Common.{◌≡◌, [], map, drop, length}
-use Rattle.serde_json.specs.View.{view}
+use Rattle.json_text.specs.View.{view}
 use Rattle.rail_catalogue.specs.Stations.{stations_from}
 use Rattle.rail_catalogue.proofs.stations.read_stations.Given as goal
 

@@ -1,5 +1,5 @@
 use Rattle.std.proofs.Common.{◌≡◌, [], map, drop, length}
-use Rattle.serde_json.specs.View.{view}
+use Rattle.json_text.specs.View.{view}
 use Rattle.rail_catalogue.specs.Steps.{steps_from}
 use Rattle.rail_catalogue.proofs.steps.read_steps.Given as goal
 

@@ -1,5 +1,5 @@
 use Rattle.std.proofs.Common.{◌≡◌, ◌<◌, [], All, map, drop, length}
-use Rattle.serde_json.specs.View.{view}
+use Rattle.json_text.specs.View.{view}
 use Rattle.rail_catalogue.specs.Stops.{stops_from}
 use Rattle.rail_catalogue.proofs.stops.read_stops.Given as goal
 

@@ -35,8 +35,8 @@ returns-then-is_for-2-clause-words g c two =
       serve = λ said is. c.if-is_for.ensures.no refl is.command;
     }
 
-pub returns-else-is_for-2-clause-words : goal.returns-else-is_for-2-clause-words
-returns-else-is_for-2-clause-words g c two = record {
+pub returns-clause-words : goal.returns-clause-words
+returns-clause-words g c two = record {
   tiny = (c.run_plain.ensures.words two).0;
   replay = (c.run_plain.ensures.words two).1;
   export = (c.run_plain.ensures.words two).2;
@@ -57,8 +57,8 @@ returns-then-is_for-2-clause-ended g c =
       note = ends.3;
     })
 
-pub returns-else-is_for-2-clause-ended : goal.returns-else-is_for-2-clause-ended
-returns-else-is_for-2-clause-ended g c =
+pub returns-clause-ended : goal.returns-clause-ended
+returns-clause-ended g c =
     let other = c.if-is_for.ensures.no refl in
     elim c.run_plain.ensures.run [
       | inl two ↦ inl (record { other = other; end = WordsRefused; is = two; note = c.run_plain.ensures.refused two })

@@ -1,5 +1,9 @@
-use Rattle.std.proofs.Common.{None, refl, arith}
+use Rattle.std.proofs.Common.{List, None, refl, subst, arith}
+use Rattle.host_words.specs.Options.{words_texts}
+use Rattle.host_serve.specs.Serve.{Runs}
+use Rattle.host_serve.specs.Turns.{Asks, Readings}
 use Rattle.host_serve.specs.declared.end.ServeOutcome.TheVariants.{NoMemory}
+use Rattle.rail_host.proofs.Untold.{untold}
 use Rattle.rail_host.proofs.serve.serve_port.Goals as goal
 
 -- there was no memory for the clocks
@@ -7,16 +11,7 @@ pub returns-in_default-clause-ended : goal.returns-in_default-clause-ended
 returns-in_default-clause-ended g c = record {
   outcome = NoMemory;
   is = c.end_command.ensures.status;
-  left = record {
-    faults_before = 0;
-    before = record { port = 0; limit = 0; handed = 0 };
-    faults_after = 0;
-    after = record { port = 0; limit = 0; handed = 0 };
-    wall = None;
-  };
-  new_port = refl;
-  unfailed = refl;
-  ran = (refl, refl);
+  ran = (refl, c.requires.fresh, refl);
   told = record {
     between = g.E.Sink.told c.args.notes.now;
     count = g.E.Sink.faults c.args.notes.now;
@@ -29,15 +24,21 @@ returns-in_default-clause-ended g c = record {
 
 pub returns-clause-ended : goal.returns-clause-ended
 returns-clause-ended g c =
-    let run = c.run_serve-end.ensures.run in
+    let run = c.run_serve.ensures.run in
     record {
       outcome = run.0;
       is = run.1;
-      left = _;
-      new_port = c.new.ensures.view;
-      unfailed = c.new.ensures.faults;
-      ran = run.2;
+      ran = subst (λ (clocks : List Readings). Runs (words_texts c.args.words.now) (g.F.Shelf.told c.args.shelf.now)
+          (record {
+            faults_before = g.L.Listener.faults c.args.listener;
+            before = g.L.Listener.told c.args.listener;
+            clocks = clocks;
+            asks = Asks g.T.Ticker.ticked c.args.ticker;
+            faults_after = g.L.Listener.faults c.run_serve.result.listener;
+            after = g.L.Listener.told c.run_serve.result.listener;
+            wall = c.run_serve.result.wall;
+          }) run.0) (untold (λ clock. None) (λ clock. refl) _ 17 c.in-Ok.ensures) run.2;
       told = run.3;
-      exported = c.run_serve-end.ensures.exported;
+      exported = c.run_serve.ensures.exported;
       cause = run.4;
     }

@@ -1,0 +1,18 @@
+//! JSON (RFC 8259) as a tree whose texts stand in the text that was read.
+//!
+//! A tree is the value that `serde_json` gives to the same bytes, and its look-ups find what is found there. It has no
+//! maps: the members of an object lie in one list in the order of the text, and of a name that comes twice the last is
+//! found. Texts without escapes are not copied, and those with some lie in the `Scratch` that is lent to the reading,
+//! which can be kept from one reading to the next.
+#![tactic(auto)]
+
+mod fault;
+mod number;
+mod reading;
+mod value;
+
+pub use fault::ReadFault;
+pub use json::Scratch;
+pub use number::Number;
+pub use reading::read_value;
+pub use value::Value;
