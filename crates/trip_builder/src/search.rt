@@ -108,7 +108,8 @@ fn ride(
     requires taken { MayTake runs.now wish.now way.now departure.now }
     ensures grows { OnOk result (Grows runs.now wish.now found.old.best.items found.new.best.items) }
     ensures bounds { OnOk result (AreBounds runs.now wish.now found.new.bounds) }
-    ensures decided { OnOk result (AreDecidedFrom runs.now wish.now found.new.best.items way.now changes departure.now) }
+    ensures decided { OnOk result
+        (AreDecidedFrom runs.now wish.now found.new.best.items way.now changes departure.now) }
 {
     found.left = found.left.saturating_sub(1);
     if changes == 0 {
@@ -155,7 +156,8 @@ fn may_lead(
     requires order { AreInOrder runs.now found.now.best.items }
     requires bounds { AreBounds runs.now wish.now found.now.bounds }
     ensures fresh { result ≡ true → has_run_of way.now departure.now.run.0 ≡ false }
-    ensures decided { result ≡ false → AreDecidedFrom runs.now wish.now found.now.best.items way.now changes departure.now }
+    ensures decided { result ≡ false
+        → AreDecidedFrom runs.now wish.now found.now.best.items way.now changes departure.now }
 {
     if has_run(way, departure.run) {
         return false;
