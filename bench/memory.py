@@ -1,5 +1,5 @@
 #!/usr/bin/env python3
-"""What a row and a place take: the memory of `replay` without requests, by rows and by places.
+"""What a row and a place take: the memory of `replay` without requests, by rows and by places, the last time with the most of both.
 
   bench/memory.py [--program PATH]
 """
@@ -12,31 +12,36 @@ import tempfile
 
 from replay import PROGRAM
 
-SIZES = [(1, 1), (65_536, 1), (262_144, 1), (1, 1_000), (1, 3_495)]
+MOST_OF_A_RUN = 1_200
+SIZES = [(1, 1_200), (65_536, 1_200), (262_144, 1_200), (1, 1_200_000), (1, 4_194_304), (262_144, 4_194_304)]
 
 
-def catalogue(rows, runs):
-    """A catalogue of runs of one leg with 1,200 places each, in one group."""
-    run = {
+def run(places):
+    """A run of one leg with its places in one group."""
+    return {
         "train": 1,
         "stops": [{"station": "A", "depart": "2026-06-01T08:00:00Z"}, {"station": "B", "arrive": "2026-06-01T09:00:00Z"}],
         "fares": {"first": {"base": 0, "perLeg": 0}, "second": {"base": 0, "perLeg": 0}},
-        "coaches": [{"coach": 1, "class": "SECOND", "places": [{"first": 1, "last": 1200}]}],
+        "coaches": [{"coach": 1, "class": "SECOND", "places": [{"first": 1, "last": places}]}],
     }
+
+
+def catalogue(rows, places):
+    whole, rest = divmod(places, MOST_OF_A_RUN)
     return {
         "currency": "EUR",
         "rows": rows,
         "retailers": [{"number": 1, "key": "north"}],
         "stations": [{"code": "A"}, {"code": "B"}],
         "refundSteps": [{"before": 0, "fee": 0}],
-        "runs": [run] * runs,
+        "runs": [run(MOST_OF_A_RUN)] * whole + [run(rest)] * (rest > 0),
     }
 
 
-def measured(program, folder, rows, runs):
-    """The greatest memory in bytes of a host of so many rows and runs, and the size of its catalogue."""
+def measured(program, folder, rows, places):
+    """The greatest memory in bytes of a host of so many rows and places, and the size of its catalogue."""
     path = pathlib.Path(folder) / "catalogue.json"
-    path.write_text(json.dumps(catalogue(rows, runs), separators=(",", ":")))
+    path.write_text(json.dumps(catalogue(rows, places), separators=(",", ":")))
     timed = subprocess.run(["/usr/bin/time", "-f", "%M", program, "replay", str(path)], stdin=subprocess.DEVNULL, capture_output=True, text=True)
     if timed.returncode != 0:
         sys.exit(timed.stderr)
@@ -50,14 +55,15 @@ def main():
     if not pathlib.Path(given.program).is_file():
         sys.exit("%s is not built: rt run in crates/rail_host builds it" % given.program)
     with tempfile.TemporaryDirectory() as folder:
-        least, _ = measured(given.program, folder, 1, 1)
-        for rows, runs in SIZES:
-            memory, size = measured(given.program, folder, rows, runs)
-            more = memory - least
-            each = "" if (rows, runs) == SIZES[0] else ", %.0f bytes a %s more" % (
-                (more / (rows - 1), "row") if rows > 1 else (more / (1200 * (runs - 1)), "place, its run and the reading among them")
-            )
-            print("%7d rows, %9d places: %6.1f MB, the file %5.1f MB%s" % (rows, 1200 * runs, memory / 1e6, size / 1e6, each))
+        least, _ = measured(given.program, folder, *SIZES[0])
+        for rows, places in SIZES:
+            memory, size = measured(given.program, folder, rows, places)
+            more, each = memory - least, ""
+            if rows > 1 and places == SIZES[0][1]:
+                each = ", %.0f bytes a row more" % (more / (rows - 1))
+            elif rows == 1 and places > SIZES[0][1]:
+                each = ", %.0f bytes a place more, its run and the reading among them" % (more / (places - SIZES[0][1]))
+            print("%7d rows, %9d places: %6.1f MB, the file %5.1f MB%s" % (rows, places, memory / 1e6, size / 1e6, each), flush=True)
 
 
 if __name__ == "__main__":

@@ -6,9 +6,10 @@
 Each catalogue has runs of ten stops over stations that all runs share, drawn at random with a fixed seed. A search asks from a random
 second of the day to the end of the next. The program times each search by `trips` alone; read the figures against one another.
 
-Then one search each of catalogues that give it the most to try: runs of one leg from the first station to the second, from there to
-the third, and from there to the fourth, all within the longest wait, with a wish for the last station, which none of them serves; with
-two trains to it, one too early and one the next day; and with one train that all the ways lead to.
+Then one search each of catalogues that give it the most to try, from the first station to the last: runs of one leg from the first
+station to the second, from there to the third, and from there to the fourth, all within the longest wait, where none goes to the last
+station, two go too early and the next day, or one or two take all who come; where the third kind goes to it, and arrives in one order
+or another; their numbers rising or falling with time, some all at once; and long runs along one line.
 """
 import datetime
 import pathlib
@@ -146,23 +147,97 @@ def leg(train, origin, depart, destination, arrive):
     )
 
 
-def lines(count, last):
-    runs = [leg(1, line, 4000 * line + run, line + 1, 4000 * line + 2000 + run) for line in range(3) for run in range(count)]
-    runs += [leg(2, 2, depart, 4, depart + 2000) for depart in last]
-    codes = ",".join('{"code":"S%d"}' % n for n in range(5))
+def network(stations, runs):
+    codes = ",".join('{"code":"S%d"}' % n for n in range(stations))
     return (
         '{"currency":"EUR","retailers":[{"number":1,"key":"north"}],"stations":[%s],'
         '"refundSteps":[{"before":0,"fee":0}],"runs":[%s]}' % (codes, ",".join(runs))
     )
 
 
-WORST = [("out of reach", []), ("last train gone", [5000, 86_400]), ("one last train", [12_000])]
+def order(count, falls):
+    return range(count - 1, -1, -1) if falls else range(count)
+
+
+def kind(line, count, falls, together):
+    """Runs of one leg, a second after another or all at once."""
+    seconds = [0 if together else run for run in order(count, falls)]
+    return [leg(1, line, 4000 * line + at, line + 1, 4000 * line + 2000 + at) for at in seconds]
+
+
+def lines(count, last, falls=False, together=False):
+    """Three kinds of runs, and trains from the third station to the last one."""
+    runs = [run for line in range(3) for run in kind(line, count, falls, together)]
+    runs += [leg(2, 2, depart, 4, depart + 2000) for depart in last]
+    return network(5, runs)
+
+
+def to_the_last(count, falls, arrive):
+    """Three kinds of runs, the third of which goes to the last station, where each arrives then."""
+    runs = [run for line in range(2) for run in kind(line, count, falls, False)]
+    runs += [leg(1, 2, 8000 + run, 4, 10_000 + arrive(count, run)) for run in order(count, falls)]
+    return network(5, runs)
+
+
+def stop(station, arrive, depart):
+    return '{"station":"S%d","arrive":"%s","depart":"%s"}' % (station, moment(arrive), moment(depart))
+
+
+def long_run(stops):
+    return (
+        '{"train":1,"stops":[%s],"fares":{"first":{"base":1,"perLeg":1},"second":{"base":1,"perLeg":1}},'
+        '"coaches":[{"coach":1,"class":"SECOND","places":[{"first":1,"last":1}]}]}' % ",".join(stops)
+    )
+
+
+def along(count, stations, wait):
+    """Runs along one line, a second after another, from its first station to its last."""
+    runs = []
+    for run in range(count):
+        times = [run + 9000 * n for n in range(stations)]
+        runs.append(long_run([stop(n, at, at if n in (0, stations - 1) else at + wait) for n, at in enumerate(times)]))
+    return network(stations, runs)
+
+
+def overtaken(count, stations):
+    """One run from the first station to the last, which waits at each; the others run beside it, and end before the last."""
+    first = [stop(n, 9000 * n, 9000 * n + (0 if n in (0, stations - 1) else 4300)) for n in range(stations)]
+    runs = [long_run(first)]
+    for run in range(1, count):
+        times = [1000 + run + 9000 * n for n in range(1, stations - 1)]
+        runs.append(long_run([stop(n + 1, at, at) for n, at in enumerate(times)]))
+    return network(stations, runs)
+
+
+ARRIVE = {
+    "in one second": lambda count, run: 2000,
+    "in turn": lambda count, run: 2000 + run,
+    "the last first": lambda count, run: 2000 + count - run,
+    "in no order": lambda count, run: 2000 + run * 577 % count,
+}
+
+
+def worst():
+    """Name and catalogue of each search that is dear."""
+    yield "out of reach", lines(1_364, [])
+    yield "last train gone", lines(1_364, [5000, 86_400])
+    for falls in (False, True):
+        numbers = ", numbers falling" if falls else ""
+        yield "one last train" + numbers, lines(1_364, [12_000], falls)
+        yield "one last train, all at once" + numbers, lines(1_364, [12_000], falls, True)
+        yield "two last trains" + numbers, lines(1_364, [12_000, 12_001], falls)
+        for name, arrive in ARRIVE.items():
+            yield "three kinds, arriving %s%s" % (name, numbers), to_the_last(1_365, falls, arrive)
+    yield "along one line of 12 stations", along(4_096, 12, 60)
+    yield "along one line of 127 stations", along(4_096, 127, 60)
+    yield "along one line, a long wait", along(4_096, 127, 4_300)
+    yield "one train, overtaken by 40 others", overtaken(41, 127)
 
 
 def search_worst(folder, program):
     (folder / "one").write_text("")
-    for name, last in WORST:
-        (folder / "catalogue.json").write_text(lines(1_364, last))
+    for name, text in worst():
+        (folder / "catalogue.json").write_text(text)
         said = subprocess.run([str(program)], cwd=folder, capture_output=True, text=True, check=True).stdout.split()
         print("%s: %.1f us, %s trips" % (name, int(said[0]) / 1000, said[1]))
 

@@ -13,7 +13,7 @@ use Rattle.history_model.specs.History.{IsLegal}
 use Rattle.history_model.specs.Work.{NoStep}
 use Rattle.claim_rule.specs.Rule.{BooksView, DeskView}
 use Rattle.claim_rule.specs.Calls.{ShapeBy}
-use Rattle.claim_rule.specs.Seats.{IsOf, Shape}
+use Rattle.claim_rule.specs.Desks.{IsOf, Shape}
 use Rattle.claim_rule.specs.Out.{KeepsHolds, KeepsEndings, IsTidy, exchanges}
 use Rattle.claim_rule.proofs.Shapes.{shape_then, shape_none}
 use Rattle.claim_rule.proofs.Out.{tidy_through, settled_calm, still_idle}

@@ -1,12 +1,12 @@
 -- Looks at places in order, and what they showed of a span.
-use Rattle.std.specs.Prelude.{◌≡◌, ℕ, ◌↔◌, ◌&&◌, Bool, true, IsTrue, List, [], ◌∷◌, ◌++◌, Option, Some, None, count_by}
+use Rattle.std.specs.Prelude.{◌≡◌, ℕ, zero, suc, ◌+◌, ◌↔◌, ◌&&◌, Bool, true, IsTrue, List, [], ◌∷◌, ◌++◌, Option, Some, None, count_by}
 use Rattle.leg_masks.specs.Interval.{Interval, IsClear, pieces}
 use Rattle.rail_ids.specs.declared.PlaceNo.{PlaceNo}
 use Rattle.history_model.specs.declared.entry.Step.{Step}
 use Rattle.history_model.specs.Looks.{look_at}
 use Rattle.claim_rule.specs.Rule.{DeskView}
 use Rattle.claim_rule.specs.Calls.{ShapeBy}
-use Rattle.claim_rule.specs.Seats.{Shape}
+use Rattle.claim_rule.specs.Desks.{Shape}
 
 -- one look at each of the pieces at a place, in order, and whether all the words that they showed are free on their piece
 abbrev pub LooksPieces : ℕ → List Interval → Bool → List Step → Type 0
@@ -39,3 +39,8 @@ HasLookedAt place piece free old new = (word : ℕ) × (IsTrue free ↔ IsClear 
 abbrev pub listed : Interval → Option Interval → List Interval
 listed first None = first ∷ []
 listed first (Some second) = first ∷ second ∷ []
+
+-- so many places, from this one up
+abbrev pub row_from : ℕ → ℕ → List PlaceNo
+row_from first zero = []
+row_from first (suc n) = record { 0 = first } ∷ row_from (first + 1) n

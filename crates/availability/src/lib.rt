@@ -6,4 +6,4 @@
 
 mod looks;
 
-pub use looks::{free_places, place_states};
+pub use looks::{free_in_row, free_places, place_states};

@@ -1,20 +1,22 @@
-ghost use Rattle.std.specs.Prelude.{◌≡◌, ◌<◌, ◌&&◌, All, length, IfOk, IfSome, OnOk, OnErr};
-ghost use Rattle.leg_masks.specs.Interval.{IsPiece, pieces as pieces_of};
-ghost use Rattle.claim_rule.specs.Seats.{IsOf};
+ghost use Rattle.std.specs.Prelude.{◌≡◌, ◌<◌, ◌≤◌, ◌+◌, ◌&&◌, All, length, cond, IfOk, IfSome, OnOk, OnErr};
+ghost use Rattle.leg_masks.specs.Interval.{IsPiece, most_places, pieces as pieces_of};
+ghost use Rattle.claim_rule.specs.Desks.{IsOf};
 ghost use Rattle.claim_rule.specs.Calls.{ShapeBy};
 ghost use Rattle.claim_rule.specs.Out.{KeepsHolds, KeepsEndings, IsTidy};
-ghost use Rattle.availability.specs.Looks.{LooksAt, CountsFree, HasLooked, HasLookedAt, listed};
+ghost use Rattle.availability.specs.Looks.{LooksAt, CountsFree, HasLooked, HasLookedAt, listed, row_from};
 
 use claim_rule::{Books, Desk};
 use leg_masks::{Span, free_on, half_of, pieces};
 use rail_ids::PlaceNo;
 use seat_words::glance;
 use std::alloc::{AllocError, Global};
+use std::marker::Model;
 
 /// How many of the places were free on all legs of the span, by one look at each piece of the span at each place in
 /// order, half 0 first. Takes no memory.
 ///
 /// Each place is one of the books, and there are fewer than 4,294,967,296.
+#[inline(never)]
 pub fn free_places(books: &Books, desk: &mut Desk, places: &[PlaceNo], span: Span) -> u32
     requires own { IsOf books.now desk.old }
     requires places { All (λ p. p.0 < length books.now.layout.legs) places.now }
@@ -33,6 +35,24 @@ pub fn free_places(books: &Books, desk: &mut Desk, places: &[PlaceNo], span: Spa
         }
     }
     free
+}
+
+/// As `free_places`, for so many places from the first one up: no list of them is read.
+///
+/// Each place is one of the books.
+#[inline(never)]
+pub fn free_in_row(books: &Books, desk: &mut Desk, first: PlaceNo, count: u32, span: Span) -> u32
+    requires own { IsOf books.now desk.old }
+    requires places { first.0 + count ≤ length books.now.layout.legs }
+    ensures own { IsOf books.now desk.new }
+    ensures entries { ShapeBy (CountsFree (row_from first.0 count) span result) desk.old desk.new }
+    ensures holds { KeepsHolds desk.old desk.new }
+    ensures endings { KeepsEndings desk.old desk.new }
+    ensures tidy { IsTidy desk.old → IsTidy desk.new }
+{
+    let _most = books.places();
+    let parts = Parts::of(span);
+    free_one_by_one(books, desk, first.0, count, &parts)
 }
 
 /// Whether each of the places was free on all legs of the span, by one look at each piece of the span at each place in order,
@@ -80,7 +100,76 @@ fn parts_of(span: Span) -> (Span, Option<Span>)
     (first, Some(parts[1]))
 }
 
+// A span with its pieces: the first, and the other where there are two.
+#[derive(Drop)]
+struct Parts {
+    span: Span,
+    first: Span,
+    second: Option<Span>,
+}
+
+impl Model for Parts {
+    ghost use Rattle.std.specs.Prelude.{◌≡◌, IfSome};
+    ghost use Rattle.leg_masks.specs.Interval.{Interval, IsPiece, pieces};
+    ghost use Rattle.availability.specs.Looks.{listed};
+
+    ghost Value = { Interval };
+
+    ghost view = { λ p. p.span };
+
+    ghost invariant = { λ p. (pieces p.span ≡ listed p.first p.second) × IsPiece p.first × IfSome p.second IsPiece };
+}
+
+impl Parts {
+    fn of(span: Span) -> Parts
+        ensures { result ≡ span }
+    {
+        let (first, second) = parts_of(span);
+        Parts {
+            span,
+            first,
+            second,
+        }
+    }
+}
+
+// How many of so many places from the first one up are free. Inlined, since behind a reference the parts would be loaded
+// again at each look.
+#[inline(always)]
+fn free_one_by_one(books: &Books, desk: &mut Desk, first: u32, count: u32, parts: &Parts) -> u32
+    requires own { IsOf books.now desk.old }
+    requires places { first + count ≤ length books.now.layout.legs }
+    requires small { first + count ≤ most_places }
+    ensures own { IsOf books.now desk.new }
+    ensures entries { ShapeBy (CountsFree (row_from first count) parts.now result) desk.old desk.new }
+    ensures few { result ≤ count }
+    ensures holds { KeepsHolds desk.old desk.new }
+    ensures endings { KeepsEndings desk.old desk.new }
+{
+    let mut free = 0;
+    for n in 0..count {
+        free += look_at_one(books, desk, first + n, parts);
+    }
+    free
+}
+
+// 1 where the place is free, else 0.
+#[inline(always)]
+fn look_at_one(books: &Books, desk: &mut Desk, place: u32, parts: &Parts) -> u32
+    requires own { IsOf books.now desk.old }
+    requires places { place + 1 ≤ length books.now.layout.legs }
+    ensures own { IsOf books.now desk.new }
+    ensures entries { ShapeBy (CountsFree (row_from place 1) parts.now result) desk.old desk.new }
+    ensures few { result ≤ 1 }
+    ensures holds { KeepsHolds desk.old desk.new }
+    ensures endings { KeepsEndings desk.old desk.new }
+{
+    let place = PlaceNo(place);
+    u32::from(look_free(books, desk, place, parts.span, parts.first, &parts.second))
+}
+
 // The looks at a place, one for each piece of the span, and whether it was free on all of them.
+#[inline(always)]
 fn look_free(
     books: &Books,
     desk: &mut Desk,
@@ -117,6 +206,7 @@ fn both(one: bool, other: bool) -> bool
 }
 
 // One look at a piece of a place, and whether it was free there.
+#[inline(always)]
 fn look_piece(books: &Books, desk: &mut Desk, place: PlaceNo, piece: Span) -> bool
     requires own { IsOf books.now desk.old }
     requires place { place.0 < length books.now.layout.legs }

@@ -1,11 +1,11 @@
 ghost use Rattle.std.specs.Prelude.{◌≡◌, ◌<◌, length, slice_index, ◌≤◌, All, IfOk, replicate};
-ghost use Rattle.claim_rule.specs.Seats.{IsOf};
+ghost use Rattle.claim_rule.specs.Desks.{IsOf};
 ghost use Rattle.claim_rule.specs.Out.{HoldsNone, EndsNone, IsIdle, KeepsEndings};
 
-use booking_rows::{Detail, Sealed, look_row, note_detail, seal, start_hold};
+use booking_rows::{Detail, Sealed, Swept, look_row, note_detail, seal, start_hold};
 use claim_rule::{Books, Desk, start_books};
 use confirm_core::{Confirmed, Fulfilment, confirm, fulfil};
-use expiry_sweeper::{Swept, sweep};
+use expiry_sweeper::sweep;
 use history_model::phase::{EndKind, Phase};
 use hold_core::{Added, abandon, add_places};
 use leg_masks::Span;

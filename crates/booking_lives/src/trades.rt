@@ -1,5 +1,5 @@
 ghost use Rattle.std.specs.Prelude.{◌≡◌, ◌<◌, ◌≤◌, true, All, length, slice_index};
-ghost use Rattle.claim_rule.specs.Seats.{IsOf};
+ghost use Rattle.claim_rule.specs.Desks.{IsOf};
 ghost use Rattle.claim_rule.specs.Out.{IsHolding, HasNotedItems, IsToBeSealed, HoldsNone, IsIdle, KeepsEndings};
 ghost use Rattle.offer_codes.specs.Offers.{is_offer, offer_view};
 

@@ -10,7 +10,7 @@ use Rattle.history_model.specs.Allowed.{OnRow, MayClose}
 use Rattle.history_model.specs.History.{IsLegal, state_of}
 use Rattle.history_model.proofs.Owners.{on_row}
 use Rattle.claim_rule.specs.Rule.{DeskView}
-use Rattle.claim_rule.specs.Seats.{Shape, Stepped}
+use Rattle.claim_rule.specs.Desks.{Shape, Stepped}
 use Rattle.claim_rule.specs.Holds.{held}
 use Rattle.claim_rule.specs.Endings.{EndingView, IsEndingOf, end_word, given_front}
 use Rattle.claim_rule.proofs.EndingLemmas.{end_notes, all_front}

@@ -19,7 +19,7 @@ use Rattle.history_model.proofs.ListLemmas.{All-found}
 use Rattle.history_model.proofs.Owners.{on_row}
 use Rattle.rail_ids.specs.declared.RowNo.{RowNo}
 use Rattle.claim_rule.specs.Rule.{DeskView, OnBooking, state_seen}
-use Rattle.claim_rule.specs.Seats.{Shape}
+use Rattle.claim_rule.specs.Desks.{Shape}
 use Rattle.claim_rule.specs.Endings.{EndingView, IsEndingOf}
 use Rattle.claim_rule.specs.Out.{IsEnding, EndsNone}
 use Rattle.claim_rule.specs.Turns.{IsPresentIn}

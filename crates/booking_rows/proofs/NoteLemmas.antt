@@ -12,7 +12,7 @@ use Rattle.history_model.specs.Apply.{in_phase}
 use Rattle.history_model.specs.History.{IsLegal, entry, state_of}
 use Rattle.history_model.proofs.Owners.{on_row, firm_making}
 use Rattle.claim_rule.specs.Rule.{DeskView, BooksView, state_seen}
-use Rattle.claim_rule.specs.Seats.{Stepped, Shape, IsOf, MayStep}
+use Rattle.claim_rule.specs.Desks.{Stepped, Shape, IsOf, MayStep}
 use Rattle.claim_rule.specs.Holds.{HoldView, StandsFor, IsHoldOf, held}
 use Rattle.claim_rule.specs.Out.{IsHolding, HasNoted, HasNotedItems, IsToBeSealed, MaySealHold, KeepsEndings, IsSealedAs, SealsItems}
 use Rattle.claim_rule.proofs.Holding.{hold_notes, own_changes}

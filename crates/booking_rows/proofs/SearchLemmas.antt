@@ -2,7 +2,7 @@
 use Rattle.std.proofs.Common.{◌≡◌, ℕ, suc, ◌+◌, ◌-◌, ◌<◌, ◌≤◌, [], ◌∷◌, length, ap, subst, arith}
 use Rattle.history_model.specs.Booking.{Layout}
 use Rattle.claim_rule.specs.Rule.{BooksView, DeskView}
-use Rattle.claim_rule.specs.Seats.{IsOf}
+use Rattle.claim_rule.specs.Desks.{IsOf}
 use Rattle.booking_rows.specs.Starts.{Misses, misses_steps, AreMissesFrom}
 use Rattle.booking_rows.specs.Searches.{Searches, no_call, a_call, a_part, a_meet, a_search}
 

@@ -24,7 +24,7 @@ use Rattle.claim_rule.specs.Rule.{DeskView}
 use Rattle.std.specs.Option.{option_map_or}
 use Rattle.history_model.specs.Booking.{Booking, present}
 use Rattle.claim_rule.specs.Holds.{HoldView, StandsFor, empty_hold}
-use Rattle.claim_rule.specs.Seats.{Shape, Stepped, AreTaken}
+use Rattle.claim_rule.specs.Desks.{Shape, Stepped, AreTaken}
 use Rattle.claim_rule.proofs.Shapes.{step_shape, shape_then, shape_rest, shape_none}
 use Rattle.claim_rule.proofs.Reading.{saw}
 use Rattle.std.specs.List.{AllByRecursion}
@@ -38,7 +38,7 @@ use Rattle.history_model.specs.History.{entry, own}
 use Rattle.history_model.proofs.Keeping.{found}
 use Rattle.history_model.proofs.Owners.{firm_ending, on_row}
 use Rattle.history_model.proofs.Seen.{legal-rest}
-use Rattle.claim_rule.specs.Seats.{AddsAtMost, IsOf}
+use Rattle.claim_rule.specs.Desks.{AddsAtMost, IsOf}
 use Rattle.claim_rule.specs.Rule.{BooksView}
 use Rattle.std.proofs.Common.{IfSome}
 use Rattle.claim_rule.specs.Calls.{ShapeBy}

@@ -21,7 +21,7 @@ use Rattle.history_model.proofs.Generations.{key_present, present_latest}
 use Rattle.history_model.proofs.Ranges.{keys_in_range, turn_fits, ranges_all}
 use Rattle.history_model.proofs.Seen.{legal-rest}
 use Rattle.claim_rule.specs.Rule.{DeskView, BooksView, OnBooking, state_seen}
-use Rattle.claim_rule.specs.Seats.{Stepped, Shape, IsOf, CanTurn, AddsAtMost}
+use Rattle.claim_rule.specs.Desks.{Stepped, Shape, IsOf, CanTurn, AddsAtMost}
 use Rattle.claim_rule.specs.Endings.{EndingView, IsEndingOf, item_looks, items_read}
 use Rattle.claim_rule.specs.Out.{Makes, EndsRow, IsEnding, EndsNone, KeepsHolds, KeepsEndings, AllLooks}
 use Rattle.claim_rule.specs.Turns.{HasTurned, IsPresentIn, IsTurned, IsTurnLost}

@@ -31,7 +31,7 @@ use Rattle.claim_rule.specs.Endings.{item_looks}
 use Rattle.claim_rule.specs.Holds.{HoldView}
 use Rattle.claim_rule.specs.Out.{AllLooks, IsHolding, KeepsHolds, KeepsEndings}
 use Rattle.claim_rule.specs.Rule.{DeskView, BooksView, OnBooking, state_seen}
-use Rattle.claim_rule.specs.Seats.{Stepped, Shape, IsOf, AddsAtMost}
+use Rattle.claim_rule.specs.Desks.{Stepped, Shape, IsOf, AddsAtMost}
 use Rattle.claim_rule.proofs.Moves.{is_sound}
 use Rattle.claim_rule.proofs.Out.{looks_holds, looks_endings}
 use Rattle.claim_rule.proofs.Reading.{saw}

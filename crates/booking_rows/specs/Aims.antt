@@ -11,7 +11,7 @@ use Rattle.rail_ids.specs.declared.RowNo.{RowNo}
 use Rattle.rail_ids.specs.Spelling.{last_generation}
 use Rattle.history_model.specs.Phase.{row_word_of, phase_shown}
 use Rattle.history_model.specs.Booking.{Layout, successor_word}
-use Rattle.claim_rule.specs.Seats.{CanTurn}
+use Rattle.claim_rule.specs.Desks.{CanTurn}
 use Rattle.claim_rule.specs.Rule.{DeskView}
 use Rattle.claim_rule.specs.Endings.{EndingView, items_read}
 use Rattle.claim_rule.specs.Out.{IsEnding, KeepsEndings}
@@ -50,12 +50,12 @@ abbrev pub MayAim : Layout → DeskView → RowNo → Phase → Aim → Type 0
 MayAim layout desk row from aim =
     CanTurn layout desk.seen desk.number row from (aimed aim) (end_of aim).moment (end_of aim).amount (end_of aim).successor
 
-abbrev pub turn_step : ℕ → Phase → Phase → End → Step
-turn_step row from to end = Turn row from to end.moment end.amount end.successor
+abbrev pub end_turn : ℕ → Phase → Phase → End → Step
+end_turn row from to end = Turn row from to end.moment end.amount end.successor
 
 -- the turn of the row, from this phase
 abbrev pub turn_of : ℕ → Phase → Aim → Step
-turn_of row from aim = turn_step row from (aimed aim) (end_of aim)
+turn_of row from aim = end_turn row from (aimed aim) (end_of aim)
 
 -- the row's word was another than that of the phase wanted and the generation, and shows the booking this phase
 abbrev pub LosesTurn : RowNo → Phase → Phase → List Step → Type 0

@@ -5,9 +5,9 @@ use Rattle.history_model.specs.declared.entry.Step.{Step}
 use Rattle.history_model.specs.declared.entry.Step.TheVariants.{Note}
 use Rattle.history_model.specs.declared.phase.Phase.{Phase}
 use Rattle.history_model.specs.declared.phase.Phase.TheVariants as phase
-use Rattle.history_model.specs.Booking.{first_item_word, greatest_amount}
+use Rattle.history_model.specs.Booking.{first_item_word, greatest_amount, retailer_word, limit_word, total_word, count_word}
 use Rattle.claim_rule.specs.Rule.{DeskView}
-use Rattle.claim_rule.specs.Seats.{Shape}
+use Rattle.claim_rule.specs.Desks.{Shape}
 use Rattle.claim_rule.specs.Holds.{HoldView}
 use Rattle.claim_rule.specs.Out.{HasNotedItems, IsToBeSealed}
 use Rattle.booking_rows.specs.declared.notes.Detail.{Detail}
@@ -20,7 +20,9 @@ sealed_phase Confirmed = phase.Confirmed
 
 -- the notes of a detail, with the number of items
 abbrev pub detail_notes : ℕ → Detail → ℕ → List Step
-detail_notes row detail count = Note row 1 detail.retailer.0 ∷ Note row 2 detail.limit ∷ Note row 3 detail.total ∷ Note row 4 count ∷ []
+detail_notes row detail count =
+    Note row retailer_word detail.retailer.0 ∷ Note row limit_word detail.limit ∷ Note row total_word detail.total
+    ∷ Note row count_word count ∷ []
 
 -- the one step is the note of the hold's last item, in the word behind those of the items before it
 abbrev pub NotesLastItem : HoldView → DeskView → DeskView → Type 0

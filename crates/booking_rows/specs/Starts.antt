@@ -6,10 +6,10 @@ use Rattle.history_model.specs.declared.entry.Step.TheVariants.{SawRow, Start}
 use Rattle.rail_ids.specs.Spelling.{last_generation}
 use Rattle.rail_ids.specs.declared.RowNo.{RowNo}
 use Rattle.history_model.specs.Phase.{is_ended, said_phase, generation_words}
-use Rattle.history_model.specs.Booking.{State, present}
+use Rattle.history_model.specs.Booking.{State, present, standing_word}
 use Rattle.history_model.specs.Allowed.{IsMadeBy, OnRow}
 use Rattle.claim_rule.specs.Rule.{DeskView, state_seen}
-use Rattle.claim_rule.specs.Seats.{Shape, Stepped, AddsAtMost}
+use Rattle.claim_rule.specs.Desks.{Shape, Stepped, AddsAtMost}
 use Rattle.claim_rule.specs.Starts.{IsEndedWord}
 use Rattle.claim_rule.specs.Holds.{HoldView, empty_hold}
 use Rattle.claim_rule.specs.Calls.{ShapeBy}
@@ -21,7 +21,7 @@ Misses = List (ℕ × ℕ)
 
 abbrev pub misses_steps : Misses → List Step
 misses_steps [] = []
-misses_steps ((row, word) ∷ rest) = SawRow row 0 word ∷ misses_steps rest
+misses_steps ((row, word) ∷ rest) = SawRow row standing_word word ∷ misses_steps rest
 
 -- in rising order of rows, from one row on and below the last
 abbrev pub AreMissesFrom : ℕ → ℕ → Misses → Type 0
@@ -52,8 +52,8 @@ abbrev pub Passed : Type 0
 Passed = ℕ × Option ℕ
 
 abbrev pub passed_steps : ℕ → Passed → List Step
-passed_steps row (n, None) = SawRow row 0 n ∷ []
-passed_steps row (n, Some m) = SawRow row 0 n ∷ SawRow row 0 m ∷ []
+passed_steps row (n, None) = SawRow row standing_word n ∷ []
+passed_steps row (n, Some m) = SawRow row standing_word n ∷ SawRow row standing_word m ∷ []
 
 -- it was tried exactly where the word shows an ended booking that the row may follow on, and then its word was another
 abbrev pub IsPassed : Passed → Type 0
@@ -69,7 +69,7 @@ search_steps row (p ∷ ps) = passed_steps row p ++ search_steps (suc row) ps
 abbrev pub StartsAgain : RowNo → List Step → Type 0
 StartsAgain row es = (n : ℕ) × (is_startable n ≡ true) × (row.generation ≡ n / generation_words + 1)
     × ((passed : List Passed) × (length passed ≡ row.row) × AllByRecursion IsPassed passed
-    × (es ≡ search_steps 0 passed ++ SawRow row.row 0 n ∷ Start row.row row.generation ∷ []))
+    × (es ≡ search_steps 0 passed ++ SawRow row.row standing_word n ∷ Start row.row row.generation ∷ []))
 
 -- no row may be started again, by what each showed
 abbrev pub StartsNone : ℕ → List Step → Type 0
@@ -96,7 +96,7 @@ StartsHold old new None es =
 -- looks at word 0 of rows in rising number, from one on, with what they showed
 abbrev pub row_looks : ℕ → List ℕ → List Step
 row_looks row [] = []
-row_looks row (n ∷ ns) = SawRow row 0 n ∷ row_looks (suc row) ns
+row_looks row (n ∷ ns) = SawRow row standing_word n ∷ row_looks (suc row) ns
 
 abbrev pub AllSome : List ℕ → Type 0
 AllSome ns = AllByRecursion (λ n. n ≢ 0) ns
@@ -121,7 +121,7 @@ first_of row = record { row = row; generation = 0 }
 -- one row of the second search that is started, and one that is passed
 abbrev pub Restarts : ℕ → RowNo → DeskView → DeskView → Type 0
 Restarts row started old new = (n : ℕ) × (is_startable n ≡ true) × (started ≡ record { row = row; generation = n / generation_words + 1 })
-    × Shape old new (SawRow row 0 n ∷ Start row started.generation ∷ [])
+    × Shape old new (SawRow row standing_word n ∷ Start row started.generation ∷ [])
 
 abbrev pub Passes : ℕ → DeskView → DeskView → Type 0
 Passes row old new = (p : Passed) × IsPassed p × Shape old new (passed_steps row p)

@@ -12,7 +12,7 @@ use Rattle.history_model.specs.declared.phase.EndKind.{EndKind}
 use Rattle.history_model.specs.declared.phase.EndKind.TheVariants.{Release, Expire, Refund, Exchange}
 use Rattle.history_model.specs.declared.booking.End.{End}
 use Rattle.history_model.specs.Phase.{row_word_of, phase_shown, is_sealed}
-use Rattle.history_model.specs.Booking.{amount_word, most_items, first_item_word, successor_rows}
+use Rattle.history_model.specs.Booking.{amount_word, most_items, first_item_word, successor_rows, standing_word, retailer_word, limit_word, total_word, count_word, end_successor_word, end_amount_word, end_moment_word}
 use Rattle.claim_rule.specs.Endings.{items_read}
 
 -- a sealed row, as a look at it shows it
@@ -26,11 +26,17 @@ pub record RowSeen : Type 0 where
 
 -- the look at word 0 that shows a booking this phase
 abbrev pub saw_phase : RowNo → Phase → Step
-saw_phase row phase = SawRow row.row 0 (row_word_of phase row.generation)
+saw_phase row phase = SawRow row.row standing_word (row_word_of phase row.generation)
+
+-- how many looks at a booking there are beside those at its items: at word 0 first and last, and at words 1 to 7
+abbrev pub other_looks : ℕ
+other_looks = 9
 
 -- the looks at the words 5 to 7
 abbrev pub end_looks : ℕ → EndKind → End → List Step
-end_looks row kind e = SawRow row 5 e.successor ∷ SawRow row 6 (amount_word kind e.amount) ∷ SawRow row 7 e.moment ∷ []
+end_looks row kind e =
+    SawRow row end_successor_word e.successor ∷ SawRow row end_amount_word (amount_word kind e.amount)
+    ∷ SawRow row end_moment_word e.moment ∷ []
 
 abbrev pub saw_end : ℕ → Phase → Option End → List Step
 saw_end row (Ended kind) (Some e) = end_looks row kind e
@@ -38,11 +44,13 @@ saw_end row phase e = []
 
 -- the looks after the one at the phase: at retailer, limit and total, at the items, and at the end where the row is ended
 abbrev pub saw_words : ℕ → RowSeen → List Step
-saw_words row v = SawRow row 1 v.retailer ∷ SawRow row 2 v.limit ∷ SawRow row 3 v.total ∷ items_read row v.items ++ saw_end row v.phase v.ended
+saw_words row v =
+    SawRow row retailer_word v.retailer ∷ SawRow row limit_word v.limit ∷ SawRow row total_word v.total
+    ∷ items_read row v.items ++ saw_end row v.phase v.ended
 
 -- the looks that show a sealed booking: the last one is at word 0 again
 abbrev pub saw_row : RowNo → RowSeen → ℕ → List Step
-saw_row row v last = saw_phase row v.phase ∷ saw_words row.row v ++ SawRow row.row 0 last ∷ []
+saw_row row v last = saw_phase row v.phase ∷ saw_words row.row v ++ SawRow row.row standing_word last ∷ []
 
 -- The words that the looks at a sealed booking showed, before it is known whether its row was given away meanwhile: retailer, limit,
 -- total, the number of items, those of the items, and the end's three where it showed an ended phase
@@ -61,8 +69,9 @@ word_looks row w [] = []
 word_looks row w (n ∷ ns) = SawRow row w n ∷ word_looks row (suc w) ns
 
 abbrev pub words_read : ℕ → RowWords → List Step
-words_read row ws = SawRow row 1 ws.retailer ∷ SawRow row 2 ws.limit ∷ SawRow row 3 ws.total ∷ SawRow row 4 ws.count
-    ∷ word_looks row first_item_word ws.items ++ word_looks row 5 ws.end
+words_read row ws =
+    SawRow row retailer_word ws.retailer ∷ SawRow row limit_word ws.limit ∷ SawRow row total_word ws.total
+    ∷ SawRow row count_word ws.count ∷ word_looks row first_item_word ws.items ++ word_looks row end_successor_word ws.end
 
 -- how many end words are read of a row that showed this phase
 abbrev pub end_words : Phase → ℕ
@@ -120,9 +129,9 @@ pub record IsSeen (v : RowSeen) : Type 0 where
 -- row was given away meanwhile. The words between may then be anything
 abbrev pub LooksNone : RowNo → List Step → Type 0
 LooksNone row es =
-    ((n : ℕ) × (is_sealed (phase_shown row.generation n) ≡ false) × (es ≡ SawRow row.row 0 n ∷ []))
+    ((n : ℕ) × (is_sealed (phase_shown row.generation n) ≡ false) × (es ≡ SawRow row.row standing_word n ∷ []))
     ⊎ ((ws : RowWords) × (last : ℕ) × AreRead ws × (phase_shown row.generation last ≡ Free)
-    × (es ≡ saw_phase row ws.phase ∷ words_read row.row ws ++ SawRow row.row 0 last ∷ []))
+    × (es ≡ saw_phase row ws.phase ∷ words_read row.row ws ++ SawRow row.row standing_word last ∷ []))
 
 -- what a look at the row answers, with its steps
 abbrev pub LooksRow : RowNo → Option RowSeen → List Step → Type 0

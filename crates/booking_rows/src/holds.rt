@@ -2,15 +2,17 @@
 ghost use Rattle.std.specs.Prelude.{ℕ, ◌≡◌, ◌≢◌, ◌<◌, ◌+◌, ◌*◌, ◌/◌, true, false, Some, None, [], option_map, IfSome, IfNone};
 ghost use Rattle.history_model.specs.declared.entry.Step.TheVariants.{Start, SawRow};
 ghost use Rattle.claim_rule.specs.Rule.{BooksView};
-ghost use Rattle.claim_rule.specs.Seats.{IsOf, Shape, Stepped, AddsAtMost};
+ghost use Rattle.claim_rule.specs.Desks.{IsOf, Shape, Stepped, AddsAtMost};
 ghost use Rattle.claim_rule.specs.Holds.{empty_hold};
 ghost use Rattle.claim_rule.specs.Calls.{ShapeBy};
 ghost use Rattle.claim_rule.specs.Out.{IsHolding, HoldsNone, HasNotedItems, KeepsHolds, KeepsEndings};
 ghost use Rattle.history_model.specs.Phase.{generation_words};
 ghost use Rattle.booking_rows.specs.Starts.{StartsHold, Finds, FindsAgain, HasFirst, HasNext, Passes, RemembersFree, LearnsFull};
 ghost use Rattle.booking_rows.specs.Starts.{IsNextOf, MayFollowOn, is_startable};
+ghost use Rattle.history_model.specs.Booking.{standing_word};
 
 use claim_rule::{Books, Desk, Hold, Started};
+use history_model::booking::STANDING_WORD;
 use history_model::phase::{Phase, read_row_word};
 use rail_ids::{LAST_GENERATION, RowNo};
 
@@ -83,7 +85,8 @@ fn start_row(books: &Books, desk: &mut Desk, row: u32) -> Option<Hold>
     requires row { row < books.now.layout.rows }
     ensures own { IsOf books.now desk.new }
     ensures some { IfSome result (HasFirst row desk.old desk.new) }
-    ensures none { IfNone result ((n : ℕ) × (n ≢ 0) × Stepped (SawRow row 0 n) desk.old desk.new × HoldsNone desk.new) }
+    ensures none { IfNone result ((n : ℕ) × (n ≢ 0) × Stepped (SawRow row standing_word n) desk.old desk.new
+        × HoldsNone desk.new) }
     ensures endings { KeepsEndings desk.old desk.new }
 {
     let first = RowNo { row, generation: 0 };
@@ -123,7 +126,7 @@ fn restart_row(books: &Books, desk: &mut Desk, row: u32) -> Option<Hold>
     ensures past { desk.new.past ≡ desk.old.past }
     ensures endings { KeepsEndings desk.old desk.new }
 {
-    let shown = books.step_read(desk, RowNo { row, generation: 0 }, 0);
+    let shown = books.step_read(desk, RowNo { row, generation: 0 }, STANDING_WORD);
     let next = RowNo {
         row,
         generation: next_generation(shown)?,

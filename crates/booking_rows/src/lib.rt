@@ -10,10 +10,12 @@
 mod holds;
 pub mod laws;
 mod notes;
+mod swept;
 mod turns;
 mod views;
 
 pub use holds::{keep_row, start_hold};
 pub use notes::{Detail, Sealed, note_detail, note_item, seal};
+pub use swept::Swept;
 pub use turns::{Aim, Turned, close_end, turn};
 pub use views::{EndView, RowView, look_row};

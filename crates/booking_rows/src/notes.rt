@@ -3,12 +3,12 @@ ghost use Rattle.std.specs.Prelude.{ℕ, ◌≡◌, ◌≤◌, ◌<◌, ◌+◌,
 ghost use Rattle.leg_masks.specs.Interval.{item_word, PlacedSpan as Item};
 ghost use Rattle.history_model.specs.declared.entry.Step.TheVariants.{Note, Seal};
 ghost use Rattle.history_model.specs.Booking.{first_item_word, greatest_amount, greatest_retailer};
-ghost use Rattle.claim_rule.specs.Seats.{IsOf, Shape};
+ghost use Rattle.claim_rule.specs.Desks.{IsOf, Shape};
 ghost use Rattle.claim_rule.specs.Out.{IsHolding, HoldsNone, HasNotedItems, HasNotedButLast, IsToBeSealed, MaySealHold, KeepsEndings, SealsItems};
 ghost use Rattle.booking_rows.specs.Notes.{sealed_phase, detail_notes, NotesLastItem, MakesReady};
 
 use claim_rule::{Books, Desk, Hold};
-use history_model::booking::FIRST_ITEM_WORD;
+use history_model::booking::{COUNT_WORD, FIRST_ITEM_WORD, LIMIT_WORD, RETAILER_WORD, TOTAL_WORD};
 use history_model::phase::Phase;
 use leg_masks::write_item;
 use rail_ids::{RetailerNo, RowNo};
@@ -71,10 +71,10 @@ pub fn note_detail(books: &Books, desk: &mut Desk, hold: &mut Hold, detail: Deta
     ensures endings { KeepsEndings desk.old desk.new }
 {
     let count = hold.items().len() as u64;
-    books.step_note(desk, hold, 1, number_word(detail.retailer.0));
-    books.step_note(desk, hold, 2, detail.limit.seconds());
-    books.step_note(desk, hold, 3, detail.total);
-    books.step_note(desk, hold, 4, count);
+    books.step_note(desk, hold, RETAILER_WORD, number_word(detail.retailer.0));
+    books.step_note(desk, hold, LIMIT_WORD, detail.limit.seconds());
+    books.step_note(desk, hold, TOTAL_WORD, detail.total);
+    books.step_note(desk, hold, COUNT_WORD, count);
 }
 
 /// Seals the hold's row, where its items and its detail are noted. As confirmed only where the row is the successor of a booking that

@@ -1,6 +1,6 @@
 //! Turns of a row's phase, and the close of an ending.
 ghost use Rattle.std.specs.Prelude.{ℕ, ◌≡◌, ◌≤◌, ◌+◌, true, false, length};
-ghost use Rattle.claim_rule.specs.Seats.{IsOf, Shape, AddsAtMost};
+ghost use Rattle.claim_rule.specs.Desks.{IsOf, Shape, AddsAtMost};
 ghost use Rattle.claim_rule.specs.Calls.{ShapeBy};
 ghost use Rattle.claim_rule.specs.EndSteps.{closing};
 ghost use Rattle.claim_rule.specs.Out.{IsEnding, EndsNone, KeepsHolds};

@@ -1,26 +1,29 @@
 //! Reading a row: its phase first, the words of a sealed one after it, and its phase again.
 ghost use Rattle.std.specs.Prelude.{ℕ, ◌≡◌, ◌≤◌, ◌<◌, ◌+◌, true, length, map, min, option_map, IfSome};
 ghost use Rattle.std.specs.List.{AllByRecursion};
-ghost use Rattle.leg_masks.specs.Interval.{IsItemOf, item_word};
+ghost use Rattle.leg_masks.specs.Interval.{item_word};
 ghost use Rattle.history_model.specs.declared.phase.EndKind.TheVariants.{Exchange};
-ghost use Rattle.history_model.specs.Booking.{most_items, first_item_word, amount_word, greatest_amount, greatest_retailer, last_moment};
+ghost use Rattle.history_model.specs.Booking.{most_items, first_item_word, amount_word, greatest_amount, greatest_retailer, last_moment, end_successor_word};
 ghost use Rattle.history_model.specs.Phase.{is_sealed as is_sealed_phase};
 ghost use Rattle.rail_ids.specs.Spelling.{last_generation};
-ghost use Rattle.claim_rule.specs.Seats.{IsOf, Shape, AddsAtMost};
+ghost use Rattle.claim_rule.specs.Desks.{IsOf, Shape, AddsAtMost};
 ghost use Rattle.claim_rule.specs.Calls.{ShapeBy};
 ghost use Rattle.claim_rule.specs.Out.{KeepsHolds, KeepsEndings};
-ghost use Rattle.booking_rows.specs.Views.{LooksRow, IsSeen, HasWord, saw_end, saw_words, has_end, said_amount, HasSaidAmount};
+ghost use Rattle.booking_rows.specs.Views.{LooksRow, IsSeen, HasWord, saw_end, saw_words, has_end, other_looks, said_amount, HasSaidAmount};
 ghost use Rattle.booking_rows.specs.Views.{AreRead, end_words, word_looks, words_read};
 ghost use Rattle.booking_rows.specs.Ends.{shown_end};
 ghost use Rattle.booking_rows.specs.SealedRows.{FitWords, IsSealedRow, IsSealedSince, IsStillPresent, HasItems};
 ghost use Rattle.booking_rows.specs.SealedRows.{AreOfOne, IsEndOf, IsAmountWord, IsItemWord};
 
 use arrayvec::ArrayVec;
-use claim_rule::{Books, Desk};
-use history_model::booking::{FIRST_ITEM_WORD, MOST_ITEMS};
+use claim_rule::{Books, Desk, item_of};
+use history_model::booking::{
+    COUNT_WORD, END_AMOUNT_WORD, END_MOMENT_WORD, END_SUCCESSOR_WORD, FIRST_ITEM_WORD, LIMIT_WORD,
+    MOST_ITEMS, RETAILER_WORD, STANDING_WORD, TOTAL_WORD,
+};
 use history_model::phase::{EndKind, Phase, phase_shown};
 use history_model::successor::successor_of;
-use leg_masks::{Item, read_item};
+use leg_masks::Item;
 use rail_ids::{RetailerNo, RowNo};
 use rail_time::Moment;
 use std::marker::Model;
@@ -76,15 +79,15 @@ pub fn look_row(books: &Books, desk: &mut Desk, row: RowNo) -> Option<RowView>
     ensures total { IfSome result (λ view. view.total ≤ greatest_amount) }
     ensures holds { KeepsHolds desk.old desk.new }
     ensures endings { KeepsEndings desk.old desk.new }
-    ensures bound { AddsAtMost (most_items + 9) desk.old desk.new }
+    ensures bound { AddsAtMost (most_items + other_looks) desk.old desk.new }
 {
     let _ = books.places();
-    let phase = phase_shown(books.step_read(desk, row, 0), row.generation);
+    let phase = phase_shown(books.step_read(desk, row, STANDING_WORD), row.generation);
     if !is_sealed(phase) {
         return None;
     }
     let words = read_words(books, desk, row, phase);
-    let last = phase_shown(books.step_read(desk, row, 0), row.generation);
+    let last = phase_shown(books.step_read(desk, row, STANDING_WORD), row.generation);
     if let Phase::Free = last {
         return None;
     }
@@ -141,10 +144,10 @@ fn read_words(books: &Books, desk: &mut Desk, row: RowNo, phase: Phase) -> RowWo
     ensures sealed { IsSealedSince desk.new row phase }
     ensures kept { desk.new.kept ≡ desk.old.kept }
 {
-    let retailer = books.step_read(desk, row, 1);
-    let limit = books.step_read(desk, row, 2);
-    let total = books.step_read(desk, row, 3);
-    let count = books.step_read(desk, row, 4);
+    let retailer = books.step_read(desk, row, RETAILER_WORD);
+    let limit = books.step_read(desk, row, LIMIT_WORD);
+    let total = books.step_read(desk, row, TOTAL_WORD);
+    let count = books.step_read(desk, row, COUNT_WORD);
     let items = read_items(books, desk, row, count);
     let end = read_end(books, desk, row, phase);
     RowWords {
@@ -196,16 +199,16 @@ fn read_end(books: &Books, desk: &mut Desk, row: RowNo, phase: Phase) -> ArrayVe
     requires sealed { IsSealedSince desk.old row phase }
     ensures own { IsOf books.now desk.new }
     ensures many { length result.items ≡ end_words phase }
-    ensures entries { Shape desk.old desk.new (word_looks row.row 5 result.items) }
+    ensures entries { Shape desk.old desk.new (word_looks row.row end_successor_word result.items) }
     ensures words { IsStillPresent desk.new row → IsEndOf phase result.items }
     ensures kept { desk.new.kept ≡ desk.old.kept }
 {
     let _ = books.rows();
     let mut end = ArrayVec::new();
     if let Phase::Ended(_) = phase {
-        end.push(books.step_read(desk, row, 5));
-        end.push(books.step_read(desk, row, 6));
-        end.push(books.step_read(desk, row, 7));
+        end.push(books.step_read(desk, row, END_SUCCESSOR_WORD));
+        end.push(books.step_read(desk, row, END_AMOUNT_WORD));
+        end.push(books.step_read(desk, row, END_MOMENT_WORD));
     }
     end
 }
@@ -258,7 +261,8 @@ fn end_of(phase: Phase, words: &[u64]) -> Option<EndView>
     requires end { IsEndOf phase words.now }
     ensures there { has_end phase (option_map shown_end result) ≡ true }
     ensures said { HasSaidAmount phase (option_map shown_end result) }
-    ensures looks { (row : ℕ) → saw_end row phase (option_map shown_end result) ≡ word_looks row 5 words.now }
+    ensures looks { (row : ℕ) → saw_end row phase (option_map shown_end result)
+        ≡ word_looks row end_successor_word words.now }
 {
     match phase {
         Phase::Ended(kind) => Some(EndView {
@@ -285,17 +289,6 @@ fn moment_of(word: u64) -> Moment
 {
     match Moment::of(word) {
         Some(moment) => moment,
-        None => unreachable!(),
-    }
-}
-
-// The item of a word that is one.
-fn item_of(word: u64) -> Item
-    requires item { IsItemWord word }
-    ensures item { IsItemOf result.place result.span word }
-{
-    match read_item(word) {
-        Some(item) => item,
         None => unreachable!(),
     }
 }

@@ -13,7 +13,7 @@ use Rattle.booking_rows.specs.declared.turns.Aim.TheVariants as aim
 use Rattle.history_model.specs.declared.booking.End.{End}
 use Rattle.history_model.specs.Work.{NoStep}
 use Rattle.claim_rule.specs.Rule.{BooksView, DeskView}
-use Rattle.claim_rule.specs.Seats.{IsOf}
+use Rattle.claim_rule.specs.Desks.{IsOf}
 use Rattle.claim_rule.specs.Calls.{Calls, ShapeBy}
 use Rattle.claim_rule.specs.Endings.{item_looks, items_read}
 use Rattle.claim_rule.specs.EndSteps.{gives_from, closing, ending_steps}

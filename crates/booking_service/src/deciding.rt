@@ -1,6 +1,6 @@
 //! Showing, confirming, collecting and releasing a booking.
 ghost use Rattle.std.specs.Prelude.{◌≡◌, Ok, IfOk, IfSome};
-ghost use Rattle.claim_rule.specs.Seats.{IsOf};
+ghost use Rattle.claim_rule.specs.Desks.{IsOf};
 ghost use Rattle.claim_rule.specs.Out.{IsTidy, IsIdle};
 ghost use Rattle.claim_rule.specs.Turns.{IsPresentIn};
 ghost use Rattle.history_model.specs.declared.phase.Phase.TheVariants as phase;

@@ -1,5 +1,5 @@
-//! A booking that is there: shown, confirmed, collected, released. It is a room of its own, so that its proofs stand beside those of coming
-//! to places.
+//! A booking that is there: shown, confirmed, collected, released, or swept where it is late. It is a room of its own, so that its proofs
+//! stand beside those of coming to places.
 //!
 //! Every answer is the defined reply of the command, by the desk's own entries in this very call, whatever other desks do meanwhile. A
 //! command that changes a booking has its whole answer ready before the exchange that decides, so that want of memory changes no
@@ -7,7 +7,9 @@
 #![tactic(auto)]
 
 mod deciding;
+mod sweeping;
 
 pub use deciding::{
     booking_answer, confirm_booking, fulfil_booking, release_booking, show_booking,
 };
+pub use sweeping::sweep_bookings;

@@ -10,7 +10,8 @@ use Rattle.atomic_table.specs.declared.shared.Seat.{Seat}
 use Rattle.claim_rule.specs.declared.rule.View.{View}
 use Rattle.claim_rule.specs.Rule.{BooksView, DeskView, Fits, Kept, newcomer}
 use Rattle.claim_rule.specs.Openings.{OpensWith, layout_with}
-use Rattle.claim_rule.specs.Seats.{IsOf, desk_view}
+use Rattle.claim_rule.specs.Desks.{IsOf}
+use Rattle.claim_rule.specs.Seats.{desk_view}
 use Rattle.claim_rule.specs.Out.{IsTidy}
 use Rattle.claim_rule.proofs.OwnWork.{opening_work}
 use Rattle.history_model.proofs.Keeping.{found}
@@ -35,7 +36,7 @@ begins lay words is are = record {
   where
     one : (j : ℕ) (u : View) → get_elem? (newcomer lay 0 [] ∷ []) j ≡ some u → Fits [] (newcomer lay 0 [] ∷ []) j u
     one zero u e = subst (Fits [] (newcomer lay 0 [] ∷ []) 0) (some-injective (newcomer lay 0 []) u e)
-        record { number = refl; front = ([], refl); own_all = refl; taken = tt; olds = tt }
+        record { number = refl; front = ([], refl); own_all = refl; joined = tt; olds = tt }
     one (suc j) u e = absurd (some-ne-none u (sym e))
 
 -- zeros are the words of books that open with nothing
@@ -75,7 +76,7 @@ none_ending lay s desk row is on = no_owners lay s row (IsBeingEndedBy desk) is 
 -- the first desk, before its first step
 abbrev pub first_desk : TableId → Layout → DeskView
 first_desk table lay =
-    record { table = table; layout = lay; number = 0; seen = []; taken = []; made = 0; kept = None; past = 0 }
+    record { table = table; layout = lay; number = 0; seen = []; joined = []; parted = 0; kept = None; past = 0 }
 
 pub is_first : (a : Seat ℕ View) (lay : Layout) → a.me ≡ (newcomer lay 0 [], [])
     → desk_view a None 0 ≡ first_desk a.table_id lay
@@ -84,8 +85,8 @@ is_first a lay e = λ i. record {
   layout = (e i).0.plan;
   number = (e i).0.number;
   seen = (e i).0.seen;
-  taken = (e i).0.taken;
-  made = (e i).0.made;
+  joined = (e i).0.joined;
+  parted = (e i).0.parted;
   kept = None;
   past = 0;
 }

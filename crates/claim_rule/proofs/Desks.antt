@@ -5,8 +5,9 @@ use Rattle.rail_ids.specs.declared.RowNo.{RowNo}
 use Rattle.claim_rule.proofs.Views.{each_map, own_other}
 use Rattle.claim_rule.proofs.Meeting.{each_both, each_front}
 use Rattle.claim_rule.specs.declared.rule.View.{View}
-use Rattle.claim_rule.specs.Rule.{Added, DeskView, Each, joined, parting}
-use Rattle.claim_rule.specs.Seats.{HasMade, IsSound, desk_view, Stepped, HasMet, either_step, seeing}
+use Rattle.claim_rule.specs.Rule.{Added, DeskView, Each, joining, parting}
+use Rattle.claim_rule.specs.Desks.{Stepped, HasMet}
+use Rattle.claim_rule.specs.Seats.{HasMade, IsAtRest, desk_view, either_step, seeing}
 use Rattle.history_model.specs.Booking.{Layout}
 use Rattle.history_model.specs.History.{IsLegal, entry, own}
 use Rattle.history_model.specs.declared.entry.Entry.{Entry}
@@ -24,7 +25,7 @@ steps_as lay st a b kept past old is plan made = let m = made.3 in let s = m.sam
   same = (made.0, s.0, s.2, s.3, s.4, refl, refl);
 }
 
-pub sound_after : (lay : Layout) (st : Step) (a b : Seat ℕ View) → a.me.0.plan ≡ lay → IsSound a → HasMade lay st a b → IsSound b
+pub sound_after : (lay : Layout) (st : Step) (a b : Seat ℕ View) → a.me.0.plan ≡ lay → IsAtRest a → HasMade lay st a b → IsAtRest b
 sound_after lay st a b plan sound made = let m = made.3 in let s = m.same in record {
   fresh = s.1 ∙ sound.fresh;
   settled = s.5;
@@ -44,25 +45,25 @@ none_left : (l : List ℕ) (n : ℕ) (rest : List ℕ) → l ++ n ∷ rest ≡ [
 none_left [] n rest e = let no : ◌≡◌ {A = List ℕ} (n ∷ rest) [] = e in cc
 none_left (m ∷ l) n rest e = let no : ◌≡◌ {A = List ℕ} (m ∷ (l ++ n ∷ rest)) [] = e in cc
 
-met_at : (lay : Layout) (a o b : Seat ℕ View) (kept other_kept : Option RowNo) (past other_past : ℕ) → a.me.0.plan ≡ lay → b.table_id ≡ a.table_id → Added lay Met (joined a.me.0 o.me.0) b.me.0 → HasMet (desk_view a kept past) (desk_view o other_kept other_past) (desk_view b kept past)
+met_at : (lay : Layout) (a o b : Seat ℕ View) (kept other_kept : Option RowNo) (past other_past : ℕ) → a.me.0.plan ≡ lay → b.table_id ≡ a.table_id → Added lay Met (joining a.me.0 o.me.0) b.me.0 → HasMet (desk_view a kept past) (desk_view o other_kept other_past) (desk_view b kept past)
 met_at lay a o b kept other_kept past other_past plan table m =
     let s = m.same in
     let v = a.me.0 in
     let w = o.me.0 in
-    let apart = each_front (λ j. j ≡ v.number → ⊥) v.taken (w.number ∷ w.taken) m.apart in
+    let apart = each_front (λ j. j ≡ v.number → ⊥) v.joined (w.number ∷ w.joined) m.apart in
     record {
       front = m.olds.0.0;
       other_front = m.olds.1.0.0;
       legal = subst (λ (l : Layout). IsLegal l b.me.0.seen) (sym (s.0 ∙ plan)) m.legal;
       mine = m.olds.0.1.0 ∙ ap (λ (c : Bool). own v.seen v.number ++ cond c (entry v.number Met ∷ []) []) (eq-eqb v.number v.number refl);
-      theirs = unchanged v.number w.seen b.me.0.seen (w.number ∷ w.taken) m.olds.1.0.1 apart.1;
-      before = unchanged v.number v.seen b.me.0.seen v.taken m.olds.0.1.1 apart.0;
-      taken = s.3;
-      parted = λ number made. none_left v.taken w.number w.taken (m.first number made);
+      theirs = unchanged v.number w.seen b.me.0.seen (w.number ∷ w.joined) m.olds.1.0.1 apart.1;
+      before = unchanged v.number v.seen b.me.0.seen v.joined m.olds.0.1.1 apart.0;
+      joined = s.3;
+      parted = λ number made. none_left v.joined w.number w.joined (m.first number made);
       same = (table, s.0, s.2, s.4, refl, refl);
     }
 
-pub met : (lay : Layout) (a o c b : Seat ℕ View) (kept other_kept : Option RowNo) (past other_past : ℕ) (old other : DeskView) → desk_view a kept past ≡ old → desk_view o other_kept other_past ≡ other → a.me.0.plan ≡ lay → c.table_id ≡ a.table_id → c.me ≡ (joined a.me.0 o.me.0, a.me.1) → HasMade lay Met c b → HasMet old other (desk_view b kept past)
+pub met : (lay : Layout) (a o c b : Seat ℕ View) (kept other_kept : Option RowNo) (past other_past : ℕ) (old other : DeskView) → desk_view a kept past ≡ old → desk_view o other_kept other_past ≡ other → a.me.0.plan ≡ lay → c.table_id ≡ a.table_id → c.me ≡ (joining a.me.0 o.me.0, a.me.1) → HasMade lay Met c b → HasMet old other (desk_view b kept past)
 met lay a o c b kept other_kept past other_past old other is is' plan table me made =
     subst (λ (d : DeskView × DeskView). HasMet d.0 d.1 (desk_view b kept past)) (λ i. (is i, is' i))
     (met_at lay a o b kept other_kept past other_past plan (made.0 ∙ table) (subst (λ (v : View). Added lay Met v b.me.0) (ap (λ (m : View × List (ℕ × ℕ)). m.0) me) made.3))
@@ -70,14 +71,14 @@ met lay a o c b kept other_kept past other_past old other is is' plan table me m
 -- parting
 
 pub part_met : (st : Step) (old : DeskView) (l s : Seat ℕ View) (kept : Option RowNo) (past : ℕ) → Stepped st old (desk_view l kept past) → s.table_id ≡ l.table_id → s.me.0 ≡ parting l.me.0
-    → Stepped st old record { table = s.table_id; layout = s.me.0.plan; number = s.me.0.number; seen = s.me.0.seen; taken = s.me.0.taken; made = old.made; kept = kept; past = past }
+    → Stepped st old record { table = s.table_id; layout = s.me.0.plan; number = s.me.0.number; seen = s.me.0.seen; joined = s.me.0.joined; parted = old.parted; kept = kept; past = past }
 part_met st old l s kept past did table is = record {
   between = did.between;
   seen = ap (λ (v : View). v.seen) is ∙ did.seen;
   others = did.others;
   none = did.none;
   legal = subst (λ (v : View). IsLegal v.plan v.seen) (sym is) did.legal;
-  same = (table ∙ did.same.0, ap (λ (v : View). v.plan) is ∙ did.same.1, ap (λ (v : View). v.number) is ∙ did.same.2, ap (λ (v : View). v.taken) is ∙ did.same.3, refl, did.same.5, did.same.6);
+  same = (table ∙ did.same.0, ap (λ (v : View). v.plan) is ∙ did.same.1, ap (λ (v : View). v.number) is ∙ did.same.2, ap (λ (v : View). v.joined) is ∙ did.same.3, refl, did.same.5, did.same.6);
 }
 
 -- an exchange that missed, and one that hit

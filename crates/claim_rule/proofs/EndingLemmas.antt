@@ -9,12 +9,13 @@ use Rattle.claim_rule.specs.declared.ending.StepTurned.{StepTurned}
 use Rattle.claim_rule.specs.declared.ending.StepTurned.TheVariants as answer
 use Rattle.rail_ids.specs.declared.RowNo.{RowNo}
 use Rattle.claim_rule.specs.Rule.{DeskView, BooksView, Each, Found}
-use Rattle.claim_rule.specs.Seats.{Stepped, IsOf, CanGive, CanNote, CanClose, desk_view}
+use Rattle.claim_rule.specs.Desks.{Stepped, IsOf}
+use Rattle.claim_rule.specs.Seats.{CanGive, CanNote, CanClose, desk_view}
 use Rattle.claim_rule.specs.Holds.{held, IsItem}
 use Rattle.claim_rule.specs.Endings.{EndingView, IsEndingOf, unread, given_front}
 use Rattle.claim_rule.specs.Turns.{HasTurned, IsTurned, IsTurnedTo}
 use Rattle.history_model.specs.Quiet.{AllQuiet}
-use Rattle.claim_rule.specs.Seats.{Shape}
+use Rattle.claim_rule.specs.Desks.{Shape}
 use Rattle.claim_rule.proofs.Shapes.{own_through}
 use Rattle.claim_rule.proofs.Moves.{is_sound}
 use Rattle.claim_rule.proofs.OwnWork.{is_start}

@@ -9,14 +9,14 @@ use Rattle.claim_rule.specs.declared.rule.View.{View}
 use Rattle.claim_rule.specs.declared.chronicle.Story.{Story}
 use Rattle.claim_rule.specs.Rule.{Kept, DeskView}
 use Rattle.claim_rule.specs.Seats.{desk_view}
-use Rattle.claim_rule.specs.Walls.{Ends}
+use Rattle.claim_rule.specs.Walls.{Finishes}
 use Rattle.claim_rule.proofs.Adds.{counts, whole}
 use Rattle.history_model.specs.Booking.{Layout}
 use Rattle.history_model.specs.History.{state_of}
 use Rattle.history_model.specs.Words.{AreWordsOf}
 use Rattle.history_model.specs.declared.entry.Entry.{Entry}
 
-pub ends : (lay : Layout) (a : Seat ℕ View) (kept : Option RowNo) (past : ℕ) (ws xs : List ℕ) → a.me.0.spent ≡ false → Final (Seen (Kept lay) a.id a.me.0) ws xs → (h : List Entry) × Ends lay (desk_view a kept past) ws h
+pub ends : (lay : Layout) (a : Seat ℕ View) (kept : Option RowNo) (past : ℕ) (ws xs : List ℕ) → a.me.0.spent ≡ false → Final (Seen (Kept lay) a.id a.me.0) ws xs → (h : List Entry) × Finishes lay (desk_view a kept past) ws h
 ends lay a kept past ws xs fresh (s, (k, at), is, _, _) =
     let f = k.seats a.id a.me.0 at fresh in (
       k.history,
@@ -29,14 +29,14 @@ ends lay a kept past ws xs fresh (s, (k, at), is, _, _) =
       },
     )
 
-pub ends_as : (key lay : Layout) (a : Seat ℕ View) (kept : Option RowNo) (past : ℕ) (ws xs : List ℕ) (desk : DeskView) → desk_view a kept past ≡ desk → key ≡ lay → a.me.0.spent ≡ false → Final (Seen (Kept key) a.id a.me.0) ws xs → (h : List Entry) × Ends lay desk ws h
-ends_as key lay a kept past ws xs desk is same fresh last = subst (λ (d : DeskView). (h : List Entry) × Ends lay d ws h) is (ends lay a kept past ws xs fresh (subst (λ (l : Layout). Final (Seen (Kept l) a.id a.me.0) ws xs) same last))
+pub ends_as : (key lay : Layout) (a : Seat ℕ View) (kept : Option RowNo) (past : ℕ) (ws xs : List ℕ) (desk : DeskView) → desk_view a kept past ≡ desk → key ≡ lay → a.me.0.spent ≡ false → Final (Seen (Kept key) a.id a.me.0) ws xs → (h : List Entry) × Finishes lay desk ws h
+ends_as key lay a kept past ws xs desk is same fresh last = subst (λ (d : DeskView). (h : List Entry) × Finishes lay d ws h) is (ends lay a kept past ws xs fresh (subst (λ (l : Layout). Final (Seen (Kept l) a.id a.me.0) ws xs) same last))
 
 -- what is told of a story: its layout, and how its history ends
 abbrev pub IsToldOf : Layout → DeskView → List ℕ → Story → Type 0
-IsToldOf lay desk words s = (s.plan ≡ lay) × Ends lay desk words s.history
+IsToldOf lay desk words s = (s.plan ≡ lay) × Finishes lay desk words s.history
 
-pub tells : (lay : Layout) (desk : DeskView) (ws : List ℕ) → (h : List Entry) × Ends lay desk ws h → (s : Story) × IsToldOf lay desk ws s
+pub tells : (lay : Layout) (desk : DeskView) (ws : List ℕ) → (h : List Entry) × Finishes lay desk ws h → (s : Story) × IsToldOf lay desk ws s
 tells lay desk ws (h, e) = (record { plan = lay; history = h }, (refl, e))
 
 pub get_some : (l : List ℕ) (i x : ℕ) → get_elem? l i ≡ some x → slice_get l i ≡ Some x

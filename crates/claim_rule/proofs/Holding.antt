@@ -5,7 +5,8 @@ use mathlib.Core.List.{IsPrefix, map-append, append_cancel_left}
 use Rattle.atomic_table.specs.declared.shared.Seat.{Seat}
 use Rattle.claim_rule.specs.declared.rule.View.{View}
 use Rattle.claim_rule.specs.Rule.{DeskView, BooksView, Each}
-use Rattle.claim_rule.specs.Seats.{AreTaken, Stepped, HasMet, IsOf, CanSeal, CanTake, CanGive, CanNote, desk_view}
+use Rattle.claim_rule.specs.Desks.{AreTaken, Stepped, HasMet, IsOf}
+use Rattle.claim_rule.specs.Seats.{CanSeal, CanTake, CanGive, CanNote, desk_view}
 use Rattle.claim_rule.specs.Holds.{HoldView, StandsFor, IsItem, with_one, held, empty_hold}
 use Rattle.claim_rule.proofs.Meeting.{each_append, each_front}
 use Rattle.rail_ids.specs.declared.RowNo.{RowNo}
@@ -21,7 +22,7 @@ use Rattle.history_model.proofs.Keeping.{found, given_making}
 use Rattle.history_model.proofs.Owners.{firm_making, on_row, quiet_stays, quiet_step, taken_stays}
 use Rattle.history_model.proofs.Seen.{legal-front, legal-rest, own-append, state_of-append}
 use Rattle.history_model.specs.Allowed.{IsAllowedStep, IsMadeBy, IsMakerWord, MayGive, MayNote, OnRow, TurnsWith}
-use Rattle.history_model.specs.Apply.{apply_step, given, noted, started, taken, words_of_row}
+use Rattle.history_model.specs.Apply.{apply_step, given, noted, started, item_taken, words_of_row}
 use Rattle.history_model.specs.Booking.{Booking, Layout, State, change, key_of, limit_of, most_items, present}
 use Rattle.history_model.specs.History.{IsLegal, entry, own, state_of}
 use Rattle.history_model.specs.Laws.{is_owners}
@@ -91,7 +92,7 @@ within_on : (old new : DeskView) → new.layout ≡ old.layout → new.past ≡ 
 within_on old new layout past l = subst (λ (n : ℕ). n ≤ new.layout.rows) (sym past) (subst (λ (g : Layout). old.past ≤ g.rows) (sym layout) l)
 
 -- a lone desk's step stands right behind what it had seen
-alone_before : (st : Step) (old new : DeskView) (did : Stepped st old new) → old.number ≡ 0 → old.made ≡ 0 → old.seen ++ did.between ≡ old.seen
+alone_before : (st : Step) (old new : DeskView) (did : Stepped st old new) → old.number ≡ 0 → old.parted ≡ 0 → old.seen ++ did.between ≡ old.seen
 alone_before st old new did number made =
     ap (λ (l : List Entry). old.seen ++ l) (did.none (number, λ j some few. absurd (omega (arith, some, few, made)))) ∙ append-nil old.seen
 
@@ -103,14 +104,14 @@ allowed_then st old new did number =
 
 -- the work that a desk has while it is alone
 abbrev HasWork : DeskView → Type 0
-HasWork desk = desk.number ≡ 0 → desk.made ≡ 0 → IsOwnWork (state_of desk.layout desk.seen)
+HasWork desk = desk.number ≡ 0 → desk.parted ≡ 0 → IsOwnWork (state_of desk.layout desk.seen)
 
 -- is its own after each step that keeps it
 work_by : (st : Step) (old new : DeskView) (did : Stepped st old new)
     → (old.number ≡ 0 → IsOwnWork (state_of old.layout (old.seen ++ did.between)) → IsOwnWork (apply_step (state_of old.layout (old.seen ++ did.between)) 0 st)) → HasWork old → HasWork new
 work_by st old new did keeps work number made =
     let n : old.number ≡ 0 = sym did.same.2 ∙ number in
-    let m : old.made ≡ 0 = sym did.same.4 ∙ made in
+    let m : old.parted ≡ 0 = sym did.same.4 ∙ made in
     let s = state_of old.layout (old.seen ++ did.between) in
     let had : IsOwnWork s = subst (λ (l : List Entry). IsOwnWork (state_of old.layout l)) (sym (alone_before st old new did n m)) (work n m) in
     subst IsOwnWork (sym (state_then st old new did ∙ ap (λ (d : ℕ). apply_step s d st) n)) (keeps n had)
@@ -178,8 +179,8 @@ kept_apart books desk r q P unlike of on kept =
 -- the hold with one more item, after a take
 abbrev pub hold_takes : (i : Item) (old new : DeskView) (hold : HoldView) → IsItem old.layout i → Stepped (Take hold.row.row i.place i.span) old new → StandsFor old hold → StandsFor new (with_one hold i)
 hold_takes i old new hold fits did is = record {
-  booking = taken i.place i.span is.booking;
-  found = own_changes (Take hold.row.row i.place i.span) old new did hold.row.row is.booking (taken i.place i.span) (λ s. refl) (λ _. refl) is.found is.owner (firm_making is.booking.phase is.making);
+  booking = item_taken i.place i.span is.booking;
+  found = own_changes (Take hold.row.row i.place i.span) old new did hold.row.row is.booking (item_taken i.place i.span) (λ s. refl) (λ _. refl) is.found is.owner (firm_making is.booking.phase is.making);
   generation = is.generation;
   owner = is.owner ∙ sym did.same.2;
   making = is.making;
@@ -342,18 +343,18 @@ still_met books old other new met of = record {
 }
 
 -- how many desks a desk has parted is nothing to its rows
-made_kept : (desk : DeskView) (m : ℕ) (o : Option RowNo) → IfSome o (λ r. StandsFor (record desk { made = m }) (empty_hold r)) → IfSome o (λ r. StandsFor desk (empty_hold r))
+made_kept : (desk : DeskView) (m : ℕ) (o : Option RowNo) → IfSome o (λ r. StandsFor (record desk { parted = m }) (empty_hold r)) → IfSome o (λ r. StandsFor desk (empty_hold r))
 made_kept desk m None is = tt
 made_kept desk m (Some r) is = record { booking = is.booking; found = is.found; generation = is.generation; owner = is.owner; making = is.making; items = is.items; row = is.row; within = is.within }
 
-pub still_parted : (books : BooksView) (old new : DeskView) → Stepped Met old (record new { made = old.made }) → new.made ≡ old.made + 1 → IsOf books old → IsOf books new
+pub still_parted : (books : BooksView) (old new : DeskView) → Stepped Met old (record new { parted = old.parted }) → new.parted ≡ old.parted + 1 → IsOf books old → IsOf books new
 still_parted books old new did more of =
-    let is = still_of Met books old (record new { made = old.made }) refl (λ r e. refl) did of in
+    let is = still_of Met books old (record new { parted = old.parted }) refl (λ r e. refl) did of in
     record {
       table = is.table;
       layout = is.layout;
       legal = is.legal;
-      kept = made_kept new old.made new.kept is.kept;
+      kept = made_kept new old.parted new.kept is.kept;
       past = is.past;
       within = is.within;
       work = λ number made. absurd (omega (arith, more, made));

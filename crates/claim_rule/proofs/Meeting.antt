@@ -7,7 +7,7 @@ use lib.ListN.{get_elem?}
 use Rattle.atomic_table.specs.Table.{Splits, Joins}
 use Rattle.atomic_table.proofs.Lists.{at_set, set_here, set_else, at_longer}
 use Rattle.claim_rule.specs.declared.rule.View.{View}
-use Rattle.claim_rule.specs.Rule.{Each, In, IsSpent, HasAll, IsOld, Fits, Kept, parting, parted, longer, joined, nobody}
+use Rattle.claim_rule.specs.Rule.{Each, In, IsSpent, HasAll, IsOld, Fits, Kept, parting, newly_parted, longer, joining, nobody}
 use Rattle.claim_rule.proofs.Views.{each_map, apart, spent_stays}
 use Rattle.claim_rule.proofs.Adds.{in_range, counts}
 use Rattle.history_model.proofs.Seen.{own_between, own_none}
@@ -21,7 +21,7 @@ fits_views h views views' stay k u f = record {
   number = f.number;
   front = f.front;
   own_all = f.own_all;
-  taken = each_map (λ j. IsSpent views j × HasAll h u.seen j) (λ j. IsSpent views' j × HasAll h u.seen j) (λ j p. (stay j p.0, p.1)) u.taken f.taken;
+  joined = each_map (λ j. IsSpent views j × HasAll h u.seen j) (λ j. IsSpent views' j × HasAll h u.seen j) (λ j p. (stay j p.0, p.1)) u.joined f.joined;
   olds = f.olds;
 }
 
@@ -31,16 +31,16 @@ snoc_at [] a b (suc j) e = absurd (some-ne-none b (sym e))
 snoc_at (x ∷ xs) a b zero e = inl e
 snoc_at (x ∷ xs) a b (suc j) e = ⊎_elim inl (λ t. inr (ap suc t.0, t.1)) (snoc_at xs a b j e)
 
-pub splits : (lay : Layout) (id : ℕ) (v : View) → v.spent ≡ false → v.number ≡ 0 → Splits (Kept lay) id v (parting v) (parted v)
+pub splits : (lay : Layout) (id : ℕ) (v : View) → v.spent ≡ false → v.number ≡ 0 → Splits (Kept lay) id v (parting v) (newly_parted v)
 splits lay id v fresh zero_is s k at =
     let f = k.seats id v at fresh in
     let h = k.history in
     let views = set s.views id (parting v) in
     let many = counts lay s k v (ap (get_elem? s.views) f.number ∙ at) fresh zero_is in
-    let stay : (j : ℕ) → IsSpent s.views j → IsSpent (views ++ parted v ∷ []) j = λ j p.
-    let q = spent_stays s.views id (parting v) j (apart s.views id v at fresh j p) p in (q.0, at_longer views (parted v ∷ []) j q.0 q.1, q.2) in
-    let long : length views ≡ v.made + 1 = length-set s.views id (parting v) ∙ many in
-    let none : own h (v.made + 1) ≡ [] = subst (λ (n : ℕ). own h n ≡ []) many (k.later (length s.views) (omega arith)) in
+    let stay : (j : ℕ) → IsSpent s.views j → IsSpent (views ++ newly_parted v ∷ []) j = λ j p.
+    let q = spent_stays s.views id (parting v) j (apart s.views id v at fresh j p) p in (q.0, at_longer views (newly_parted v ∷ []) j q.0 q.1, q.2) in
+    let long : length views ≡ v.parted + 1 = length-set s.views id (parting v) ∙ many in
+    let none : own h (v.parted + 1) ≡ [] = subst (λ (n : ℕ). own h n ≡ []) many (k.later (length s.views) (omega arith)) in
     let at_zero : get_elem? s.views 0 ≡ some v = ap (get_elem? s.views) (sym zero_is ∙ f.number) ∙ at in
     record {
       history = h;
@@ -48,28 +48,28 @@ splits lay id v fresh zero_is s k at =
       words = k.words;
       seats = λ j u there alive. ⊎_elim
           (λ (old : get_elem? views j ≡ some u). ⊎_elim
-          (λ (t : (j ≡ id) × (parting v ≡ u)). subst (λ (y : ℕ × View). Fits h (views ++ parted v ∷ []) y.0 y.1) (λ i. (sym t.0 i, t.1 i)) (as_parting h (views ++ parted v ∷ []) id v (fits_views h s.views (views ++ parted v ∷ []) stay id v f)))
-          (λ (t : (j ≢ id) × (get_elem? s.views j ≡ some u)). fits_views h s.views (views ++ parted v ∷ []) stay j u (k.seats j u t.1 alive))
+          (λ (t : (j ≡ id) × (parting v ≡ u)). subst (λ (y : ℕ × View). Fits h (views ++ newly_parted v ∷ []) y.0 y.1) (λ i. (sym t.0 i, t.1 i)) (as_parting h (views ++ newly_parted v ∷ []) id v (fits_views h s.views (views ++ newly_parted v ∷ []) stay id v f)))
+          (λ (t : (j ≢ id) × (get_elem? s.views j ≡ some u)). fits_views h s.views (views ++ newly_parted v ∷ []) stay j u (k.seats j u t.1 alive))
           (at_set s.views id j (parting v) u old))
-          (λ (t : (j ≡ length views) × (parted v ≡ u)). subst (λ (y : ℕ × View). Fits h (views ++ parted v ∷ []) y.0 y.1) (λ i. (sym (t.0 ∙ long) i, t.1 i)) record {
+          (λ (t : (j ≡ length views) × (newly_parted v ≡ u)). subst (λ (y : ℕ × View). Fits h (views ++ newly_parted v ∷ []) y.0 y.1) (λ i. (sym (t.0 ∙ long) i, t.1 i)) record {
             number = refl;
             front = f.front;
-            own_all = own_none (v.made + 1) v.seen h f.front none ∙ sym none;
-            taken = tt;
+            own_all = own_none (v.parted + 1) v.seen h f.front none ∙ sym none;
+            joined = tt;
             olds = tt;
           })
-          (snoc_at views (parted v) u j there);
-      later = λ j past. let total : length (views ++ parted v ∷ []) ≡ length views + 1 = length-append views (parted v ∷ []) in k.later j (omega arith);
+          (snoc_at views (newly_parted v) u j there);
+      later = λ j past. let total : length (views ++ newly_parted v ∷ []) ≡ length views + 1 = length-append views (newly_parted v ∷ []) in k.later j (omega arith);
       first = (
         parting v,
-        at_longer views (parted v ∷ []) 0 (parting v) (subst (λ (n : ℕ). get_elem? (set s.views id (parting v)) n ≡ some (parting v)) (sym f.number ∙ zero_is) (set_here s.views id (parting v) (in_range s.views id v at))),
+        at_longer views (newly_parted v ∷ []) 0 (parting v) (subst (λ (n : ℕ). get_elem? (set s.views id (parting v)) n ≡ some (parting v)) (sym f.number ∙ zero_is) (set_here s.views id (parting v) (in_range s.views id v at))),
         fresh,
-        length-append views (parted v ∷ []) ∙ ap (λ (n : ℕ). n + 1) long,
+        length-append views (newly_parted v ∷ []) ∙ ap (λ (n : ℕ). n + 1) long,
       );
     }
   where
     as_parting : (h : List Entry) (views : List View) (id : ℕ) (v : View) → Fits h views id v → Fits h views id (parting v)
-    as_parting h views id v f = record { number = f.number; front = f.front; own_all = f.own_all; taken = f.taken; olds = each_map (IsOld h v) (IsOld h (parting v)) (λ o p. record { front = p.front; whole = p.whole }) v.olds f.olds }
+    as_parting h views id v f = record { number = f.number; front = f.front; own_all = f.own_all; joined = f.joined; olds = each_map (IsOld h v) (IsOld h (parting v)) (λ o p. record { front = p.front; whole = p.whole }) v.olds f.olds }
 
 pub each_append : {A : Type 0} (P : A → Type 0) (xs ys : List A) → Each P xs → Each P ys → Each P (xs ++ ys)
 each_append P [] ys p q = q
@@ -134,10 +134,10 @@ true_false : true ≡ false → ⊥
 true_false e = true≢false e
 
 -- the joined view, where the other is spent
-fits_joined : (h : List Entry) (views views' : List View) (id other : ℕ) (v w : View) → ((j : ℕ) → IsSpent views j → IsSpent views' j) → IsSpent views' other → Fits h views id v → Fits h views other w → Fits h views' id (joined v w)
+fits_joined : (h : List Entry) (views views' : List View) (id other : ℕ) (v w : View) → ((j : ℕ) → IsSpent views j → IsSpent views' j) → IsSpent views' other → Fits h views id v → Fits h views other w → Fits h views' id (joining v w)
 fits_joined h views views' id other v w stay gone f g =
     let l = longer_is v.seen w.seen h f.front g.front in
-    let both : List ℕ = v.taken ++ w.number ∷ w.taken in
+    let both : List ℕ = v.joined ++ w.number ∷ w.joined in
     let here : (j : ℕ) → HasAll h v.seen j → HasAll h (longer v.seen w.seen) j = λ j p. own_between j v.seen (longer v.seen w.seen) h l.1 l.0 p in
     let there : (j : ℕ) → HasAll h w.seen j → HasAll h (longer v.seen w.seen) j = λ j p. own_between j w.seen (longer v.seen w.seen) h l.2 l.0 p in
     let its : HasAll h w.seen w.number = subst (λ (j : ℕ). HasAll h w.seen j) (sym g.number) g.own_all in
@@ -146,27 +146,27 @@ fits_joined h views views' id other v w stay gone f g =
       number = f.number;
       front = l.0;
       own_all = here id f.own_all;
-      taken = each_append (λ j. IsSpent views' j × HasAll h (longer v.seen w.seen) j) v.taken (w.number ∷ w.taken)
-          (each_map (λ j. IsSpent views j × HasAll h v.seen j) (λ j. IsSpent views' j × HasAll h (longer v.seen w.seen) j) (λ j p. (stay j p.0, here j p.1)) v.taken f.taken) (
+      joined = each_append (λ j. IsSpent views' j × HasAll h (longer v.seen w.seen) j) v.joined (w.number ∷ w.joined)
+          (each_map (λ j. IsSpent views j × HasAll h v.seen j) (λ j. IsSpent views' j × HasAll h (longer v.seen w.seen) j) (λ j p. (stay j p.0, here j p.1)) v.joined f.joined) (
             (subst (IsSpent views') (sym g.number) gone, there w.number its),
-            each_map (λ j. IsSpent views j × HasAll h w.seen j) (λ j. IsSpent views' j × HasAll h (longer v.seen w.seen) j) (λ j p. (stay j p.0, there j p.1)) w.taken g.taken,
+            each_map (λ j. IsSpent views j × HasAll h w.seen j) (λ j. IsSpent views' j × HasAll h (longer v.seen w.seen) j) (λ j p. (stay j p.0, there j p.1)) w.joined g.joined,
           );
       olds = (
         record {
           front = f.front;
           whole = (
             (mine, inl refl),
-            each_both (HasAll h v.seen) (λ j. (j ≡ v.number) ⊎ In j both) v.taken
-                (each_map (λ j. IsSpent views j × HasAll h v.seen j) (HasAll h v.seen) (λ j p. p.1) v.taken f.taken) (each_self (λ j. (j ≡ v.number) ⊎ In j both) v.taken (λ j i. inr (in_here j v.taken (w.number ∷ w.taken) i))),
+            each_both (HasAll h v.seen) (λ j. (j ≡ v.number) ⊎ In j both) v.joined
+                (each_map (λ j. IsSpent views j × HasAll h v.seen j) (HasAll h v.seen) (λ j p. p.1) v.joined f.joined) (each_self (λ j. (j ≡ v.number) ⊎ In j both) v.joined (λ j i. inr (in_here j v.joined (w.number ∷ w.joined) i))),
           );
         },
         (
           record {
             front = g.front;
             whole = (
-              (its, inr (in_there w.number v.taken (w.number ∷ w.taken) (inl refl))),
-              each_both (HasAll h w.seen) (λ j. (j ≡ v.number) ⊎ In j both) w.taken
-                  (each_map (λ j. IsSpent views j × HasAll h w.seen j) (HasAll h w.seen) (λ j p. p.1) w.taken g.taken) (each_self (λ j. (j ≡ v.number) ⊎ In j both) w.taken (λ j i. inr (in_there j v.taken (w.number ∷ w.taken) (inr i)))),
+              (its, inr (in_there w.number v.joined (w.number ∷ w.joined) (inl refl))),
+              each_both (HasAll h w.seen) (λ j. (j ≡ v.number) ⊎ In j both) w.joined
+                  (each_map (λ j. IsSpent views j × HasAll h w.seen j) (HasAll h w.seen) (λ j p. p.1) w.joined g.joined) (each_self (λ j. (j ≡ v.number) ⊎ In j both) w.joined (λ j i. inr (in_there j v.joined (w.number ∷ w.joined) (inr i)))),
             );
           },
           tt,
@@ -174,19 +174,19 @@ fits_joined h views views' id other v w stay gone f g =
       );
     }
 
-pub joins : (lay : Layout) (id other : ℕ) (v w : View) → v.spent ≡ false → w.spent ≡ false → (w.number ≡ 0 → ⊥) → Joins (Kept lay) id v other w (joined v w) nobody
+pub joins : (lay : Layout) (id other : ℕ) (v w : View) → v.spent ≡ false → w.spent ≡ false → (w.number ≡ 0 → ⊥) → Joins (Kept lay) id v other w (joining v w) nobody
 joins lay id other v w fresh fresh' apart_zero s k at n there_set =
-    let there : get_elem? s.views other ≡ some w = sym (set_else s.views id other (joined v w) n) ∙ there_set in
+    let there : get_elem? s.views other ≡ some w = sym (set_else s.views id other (joining v w) n) ∙ there_set in
     let f = k.seats id v at fresh in
     let g = k.seats other w there fresh' in
     let h = k.history in
-    let one = set s.views id (joined v w) in
+    let one = set s.views id (joining v w) in
     let two = set one other nobody in
-    let inside : other < length one = subst (λ (m : ℕ). other < m) (sym (length-set s.views id (joined v w))) (in_range s.views other w there) in
+    let inside : other < length one = subst (λ (m : ℕ). other < m) (sym (length-set s.views id (joining v w))) (in_range s.views other w there) in
     let gone : IsSpent two other = (nobody, set_here one other nobody inside, refl) in
     let stay : (j : ℕ) → IsSpent s.views j → IsSpent two j = λ j p.
-    spent_stays one other nobody j (apart s.views other w there fresh' j p) (spent_stays s.views id (joined v w) j (apart s.views id v at fresh j p) p) in
-    let many : length two ≡ length s.views = length-set one other nobody ∙ length-set s.views id (joined v w) in
+    spent_stays one other nobody j (apart s.views other w there fresh' j p) (spent_stays s.views id (joining v w) j (apart s.views id v at fresh j p) p) in
+    let many : length two ≡ length s.views = length-set one other nobody ∙ length-set s.views id (joining v w) in
     let not_zero : 0 ≡ other → ⊥ = λ e. apart_zero (g.number ∙ sym e) in
     record {
       history = h;
@@ -195,14 +195,14 @@ joins lay id other v w fresh fresh' apart_zero s k at n there_set =
       seats = λ j u at' alive. ⊎_elim
           (λ (t : (j ≡ other) × (nobody ≡ u)). absurd (true_false (ap (λ (x : View). x.spent) t.1 ∙ alive)))
           (λ (t : (j ≢ other) × (get_elem? one j ≡ some u)). ⊎_elim
-          (λ (r : (j ≡ id) × (joined v w ≡ u)). subst (λ (y : ℕ × View). Fits h two y.0 y.1) (λ i. (sym r.0 i, r.1 i)) (fits_joined h s.views two id other v w stay gone f g))
+          (λ (r : (j ≡ id) × (joining v w ≡ u)). subst (λ (y : ℕ × View). Fits h two y.0 y.1) (λ i. (sym r.0 i, r.1 i)) (fits_joined h s.views two id other v w stay gone f g))
           (λ (r : (j ≢ id) × (get_elem? s.views j ≡ some u)). fits_views h s.views two stay j u (k.seats j u r.1 alive))
-          (at_set s.views id j (joined v w) u t.1))
+          (at_set s.views id j (joining v w) u t.1))
           (at_set one other j nobody u at');
       later = λ j past. k.later j (subst (λ (m : ℕ). m ≤ j) many past);
       first = ⊎_elim
           (λ (zero_is : 0 ≡ id). let x = k.first in let same : x.0 ≡ v = some-injective x.0 v (sym x.1 ∙ (ap (get_elem? s.views) zero_is ∙ at)) in
-          (joined v w, set_else one other 0 nobody not_zero ∙ (ap (get_elem? one) zero_is ∙ set_here s.views id (joined v w) (in_range s.views id v at)), fresh, many ∙ (x.3 ∙ ap (λ (y : View). y.made + 1) same)))
-          (λ (e : 0 ≡ id → ⊥). let x = k.first in (x.0, set_else one other 0 nobody not_zero ∙ (set_else s.views id 0 (joined v w) e ∙ x.1), x.2, many ∙ x.3))
+          (joining v w, set_else one other 0 nobody not_zero ∙ (ap (get_elem? one) zero_is ∙ set_here s.views id (joining v w) (in_range s.views id v at)), fresh, many ∙ (x.3 ∙ ap (λ (y : View). y.parted + 1) same)))
+          (λ (e : 0 ≡ id → ⊥). let x = k.first in (x.0, set_else one other 0 nobody not_zero ∙ (set_else s.views id 0 (joining v w) e ∙ x.1), x.2, many ∙ x.3))
           (cases_eq 0 id);
     }

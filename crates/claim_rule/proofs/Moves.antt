@@ -8,7 +8,8 @@ use prog.Atomic.{either}
 use Rattle.atomic_table.specs.declared.shared.Seat.{Seat}
 use Rattle.claim_rule.specs.declared.rule.View.{View}
 use Rattle.claim_rule.specs.Rule.{Steps, HasAll}
-use Rattle.claim_rule.specs.Seats.{seeing, either_step, CanTake, CanGive, CanNote, CanSeal, CanClose, CanTurn, turn_step}
+use Rattle.claim_rule.specs.Desks.{CanTurn}
+use Rattle.claim_rule.specs.Seats.{seeing, either_step, CanTake, CanGive, CanNote, CanSeal, CanClose, turn_step}
 use Rattle.claim_rule.specs.Starts.{IsEndedWord, MayExpect}
 use Rattle.rail_ids.specs.Spelling.{last_generation}
 use Rattle.rail_ids.specs.declared.RowNo.{RowNo}

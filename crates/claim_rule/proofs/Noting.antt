@@ -7,14 +7,14 @@ use Rattle.history_model.specs.declared.entry.Step.{Step}
 use Rattle.history_model.specs.declared.entry.Step.TheVariants.{Take, Give, Note}
 use Rattle.history_model.specs.Booking.{Booking, State, key_of, most_items, row_words, present, change}
 use Rattle.history_model.specs.Allowed.{OnRow}
-use Rattle.history_model.specs.Apply.{apply_step, taken, given, noted}
+use Rattle.history_model.specs.Apply.{apply_step, item_taken, given, noted}
 use Rattle.history_model.specs.History.{IsLegal}
 use Rattle.history_model.proofs.Keeping.{found}
 use Rattle.history_model.proofs.Owners.{on_row, firm_making}
 use Rattle.history_model.proofs.Writing.{sound_of}
 use Rattle.claim_rule.specs.Rule.{DeskView, state_seen}
 use Rattle.claim_rule.specs.Holds.{HoldView, StandsFor}
-use Rattle.claim_rule.specs.Seats.{Stepped}
+use Rattle.claim_rule.specs.Desks.{Stepped}
 use Rattle.claim_rule.specs.Out.{HasNoted}
 use Rattle.claim_rule.proofs.Holding.{own_changes}
 use Rattle.claim_rule.proofs.Moves.{is_sound}
@@ -34,7 +34,7 @@ abbrev words_of : List Item → List ℕ
 words_of items = map (λ i. item_word i.place i.span) items
 
 pub noted_takes : (old new : DeskView) (hold : HoldView) (p : ℕ) (i : Item) (items : List Item) → Stepped (Take hold.row.row i.place i.span) old new → StandsFor old hold → HasNoted old hold.row.row items → HasNoted new hold.row.row items
-noted_takes old new hold p i items did is on = changed_row (Take hold.row.row i.place i.span) old new hold (taken i.place i.span) (λ b. take (length items) (drop 8 b.words) ≡ words_of items) (λ b. take (length items) (drop 8 b.words) ≡ words_of items) did is (λ s. refl) (λ _. refl) (λ b e. e) on
+noted_takes old new hold p i items did is on = changed_row (Take hold.row.row i.place i.span) old new hold (item_taken i.place i.span) (λ b. take (length items) (drop 8 b.words) ≡ words_of items) (λ b. take (length items) (drop 8 b.words) ≡ words_of items) did is (λ s. refl) (λ _. refl) (λ b e. e) on
 
 pub noted_gives : (old new : DeskView) (hold : HoldView) (k : ℕ) (items : List Item) → Stepped (Give hold.row.row k) old new → StandsFor old hold → HasNoted old hold.row.row items → HasNoted new hold.row.row items
 noted_gives old new hold k items did is on = changed_row (Give hold.row.row k) old new hold (given k) (λ b. take (length items) (drop 8 b.words) ≡ words_of items) (λ b. take (length items) (drop 8 b.words) ≡ words_of items) did is (λ s. refl) (λ _. refl) (λ b e. e) on

@@ -27,7 +27,7 @@ use Rattle.rail_ids.specs.declared.RowNo.{RowNo}
 use Rattle.claim_rule.specs.Rule.{BooksView, DeskView, state_seen}
 use Rattle.claim_rule.specs.Holds.{HoldView, StandsFor, empty_hold}
 use Rattle.claim_rule.specs.Endings.{EndingView, IsEndingOf}
-use Rattle.claim_rule.specs.Seats.{Stepped, HasMet, IsOf, Shape}
+use Rattle.claim_rule.specs.Desks.{Stepped, HasMet, IsOf, Shape}
 use Rattle.claim_rule.specs.Out.{Makes, EndsRow, IsHolding, HoldsNone, IsEnding, EndsNone, IsIdle, KeepsHolds, KeepsEndings, AreSettled, IsTidy, MakesEmpty, exchanges, seals, successor_row, is_look, AllLooks, IsConfirmedNext}
 use Rattle.claim_rule.proofs.Shapes.{shape_rest, step_shape, own_through, stands_through}
 use Rattle.claim_rule.proofs.EndingLemmas.{ending_through}
@@ -320,48 +320,48 @@ met_tidy books old other new of met is = let idle = met_idle old other new met i
 
 -- parting
 
-pub part_idle : (old new : DeskView) → Stepped Met old (record new { made = old.made }) → IsIdle old → IsIdle new
+pub part_idle : (old new : DeskView) → Stepped Met old (record new { parted = old.parted }) → IsIdle old → IsIdle new
 part_idle old new did is =
-    let now = record new { made = old.made } in
+    let now = record new { parted = old.parted } in
     let shape = step_shape Met old now did in (
       λ r m. ap (λ (o : Option RowNo). option_map (λ (k : RowNo). k.row) o) did.same.5 ∙ is.0 r (makes_before old now (Met ∷ []) r shape (refl, tt) m),
       λ r m. is.1 r (ends_before old now (Met ∷ []) r shape (refl, tt) m),
     )
 
 -- how many desks a desk has parted is nothing to its hold and its ending
-made_holding : (desk : DeskView) (m : ℕ) (hold : HoldView) → IsHolding (record desk { made = m }) hold → IsHolding desk hold
+made_holding : (desk : DeskView) (m : ℕ) (hold : HoldView) → IsHolding (record desk { parted = m }) hold → IsHolding desk hold
 made_holding desk m hold is = let s = is.of.0 in record {
   of = (record { booking = s.booking; found = s.found; generation = s.generation; owner = s.owner; making = s.making; items = s.items; row = s.row; within = s.within }, is.of.1);
   only = is.only;
 }
 
-made_ending : (desk : DeskView) (m : ℕ) (e : EndingView) → IsEnding (record desk { made = m }) e → IsEnding desk e
+made_ending : (desk : DeskView) (m : ℕ) (e : EndingView) → IsEnding (record desk { parted = m }) e → IsEnding desk e
 made_ending desk m e is = let s = is.of in record {
   of = record { booking = s.booking; found = s.found; generation = s.generation; owner = s.owner; phase = s.phase; end = s.end; row = s.row; few = s.few; fresh = s.fresh; items = s.items; within = s.within };
   only = is.only;
 }
 
-pub part_holds : (old new : DeskView) → Stepped Met old (record new { made = old.made }) → KeepsHolds old new
+pub part_holds : (old new : DeskView) → Stepped Met old (record new { parted = old.parted }) → KeepsHolds old new
 part_holds old new did =
-    let now = record new { made = old.made } in
+    let now = record new { parted = old.parted } in
     let kept = looks_holds old now (Met ∷ []) (step_shape Met old now did) did.same.5 (refl, tt) in record {
-      hold = λ hold is. made_holding new old.made hold (kept.hold hold is);
+      hold = λ hold is. made_holding new old.parted hold (kept.hold hold is);
       noted = λ hold items is on. kept.noted hold items is on;
       ready = λ hold is on. kept.ready hold is on;
       none = λ h. kept.none h;
     }
 
-pub part_endings : (old new : DeskView) → Stepped Met old (record new { made = old.made }) → KeepsEndings old new
+pub part_endings : (old new : DeskView) → Stepped Met old (record new { parted = old.parted }) → KeepsEndings old new
 part_endings old new did =
-    let now = record new { made = old.made } in
+    let now = record new { parted = old.parted } in
     let kept = looks_endings old now (Met ∷ []) (step_shape Met old now did) (refl, tt) in record {
-      ending = λ e is. made_ending new old.made e (kept.ending e is);
+      ending = λ e is. made_ending new old.parted e (kept.ending e is);
       none = λ h. kept.none h;
     }
 
-pub part_tidy : (books : BooksView) (old new : DeskView) → IsOf books new → Stepped Met old (record new { made = old.made }) → IsTidy old → IsTidy new
+pub part_tidy : (books : BooksView) (old new : DeskView) → IsOf books new → Stepped Met old (record new { parted = old.parted }) → IsTidy old → IsTidy new
 part_tidy books old new of did is =
-    let now = record new { made = old.made } in
+    let now = record new { parted = old.parted } in
     let idle = part_idle old new did is.0 in (
       idle,
       subst (λ (n : ℕ). AreSettled (own new.seen n)) (sym did.same.2)

@@ -10,7 +10,7 @@ use Rattle.history_model.specs.declared.phase.Phase.{Phase}
 use Rattle.history_model.specs.declared.phase.Phase.TheVariants.{Free, Making, Prebooked, Confirmed, Fulfilled, Ending, Ended}
 use Rattle.history_model.specs.Phase.{is_turn, is_ended}
 use Rattle.history_model.specs.Allowed.{IsAllowedStep, IsMadeBy, MayGive, MayNote, MayClose, MaySealAs, IsSealable, OnRow, TurnsWith}
-use Rattle.history_model.specs.Apply.{apply_step, taken, given, noted, in_phase, turned, closed, started, words_of_row, ended_phase}
+use Rattle.history_model.specs.Apply.{apply_step, item_taken, given, noted, in_phase, turned, closed, started, words_of_row, ended_phase}
 use Rattle.history_model.specs.Booking.{Booking, Layout, State, change, present, stands_in, most_items, limit_of}
 use Rattle.history_model.specs.Laws.{IsWellFormed, IsOpening, is_owners}
 use Rattle.history_model.specs.Lists.{change_first}
@@ -81,7 +81,7 @@ closed_still g b (kind, ending, given, words) making =
 pub step_keeps : (g : Layout) (s : State) (st : Step) → IsAllowedStep g s 0 st → is_start st ≡ false → IsOwnWork s → IsOwnWork (apply_step s 0 st)
 step_keeps g s (Look place half shown) may none work = work
 step_keeps g s (Take row place span) may none work =
-    work_changed s row (taken place span) (λ b. IsMadeBy 0 b × (length b.items < most_items)) may.2 (λ b p e. e) (λ b p own. own) work
+    work_changed s row (item_taken place span) (λ b. IsMadeBy 0 b × (length b.items < most_items)) may.2 (λ b p e. e) (λ b p own. own) work
 step_keeps g s (Give row item) may none work = work_changed s row (given item) (MayGive 0 item) may.1 (λ b p e. e) (λ b p own. own) work
 step_keeps g s (Start row generation) may none work = absurd (true≢false none)
 step_keeps g s (SawRow row word value) may none work = work

@@ -7,7 +7,7 @@ use Rattle.leg_masks.specs.Interval.{Interval, item_word, IsItemOf, most_legs, m
 use Rattle.leg_masks.proofs.Items.{one_item}
 use Rattle.history_model.specs.Laws.{LiesWithin, IsSound}
 use Rattle.claim_rule.specs.Rule.{DeskView, Each}
-use Rattle.claim_rule.specs.Seats.{Stepped, Shape}
+use Rattle.claim_rule.specs.Desks.{Stepped, Shape}
 use Rattle.claim_rule.specs.Holds.{held, IsItem}
 use Rattle.claim_rule.specs.Endings.{EndingView, IsEndingOf, item_looks, given_front}
 use Rattle.claim_rule.proofs.Moves.{is_sound}

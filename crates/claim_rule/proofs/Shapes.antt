@@ -5,7 +5,7 @@ use mathlib.Core.List.{map-append, append_cancel_left}
 use Rattle.rail_ids.specs.declared.RowNo.{RowNo}
 use Rattle.claim_rule.specs.Rule.{DeskView, In, Each}
 use Rattle.claim_rule.specs.Holds.{HoldView, StandsFor, IsHoldOf, IsItem}
-use Rattle.claim_rule.specs.Seats.{Stepped, Shape, AddsAtMost}
+use Rattle.claim_rule.specs.Desks.{Stepped, Shape, AddsAtMost}
 use Rattle.history_model.proofs.Owners.{firm_making, quiet_stays}
 use Rattle.history_model.proofs.Seen.{legal-rest, own-append, state_of-append}
 use Rattle.history_model.specs.Booking.{Booking, Layout, State, present}

@@ -49,15 +49,15 @@ fits_other h views d st v w at fresh k u n f = record {
   number = f.number;
   front = prefix-more u.seen h (entry d st ∷ []) f.front;
   own_all = has_more k d st h u.seen n f.own_all;
-  taken = each_map (λ j. IsSpent views j × HasAll h u.seen j) (λ j. IsSpent (set views d w) j × HasAll (h ++ entry d st ∷ []) u.seen j)
-      (λ j p. let m = apart views d v at fresh j p.0 in (spent_stays views d w j m p.0, has_more j d st h u.seen m p.1)) u.taken f.taken;
+  joined = each_map (λ j. IsSpent views j × HasAll h u.seen j) (λ j. IsSpent (set views d w) j × HasAll (h ++ entry d st ∷ []) u.seen j)
+      (λ j p. let m = apart views d v at fresh j p.0 in (spent_stays views d w j m p.0, has_more j d st h u.seen m p.1)) u.joined f.joined;
   olds = each_map (IsOld h u) (IsOld (h ++ entry d st ∷ []) u) (λ o p. record {
     front = prefix-more o.seen h (entry d st ∷ []) p.front;
-    whole = each_map (λ j. HasAll h o.seen j × ((j ≡ u.number) ⊎ In j u.taken)) (λ j. HasAll (h ++ entry d st ∷ []) o.seen j × ((j ≡ u.number) ⊎ In j u.taken))
+    whole = each_map (λ j. HasAll h o.seen j × ((j ≡ u.number) ⊎ In j u.joined)) (λ j. HasAll (h ++ entry d st ∷ []) o.seen j × ((j ≡ u.number) ⊎ In j u.joined))
         (λ j q. (
           has_more j d st h o.seen
               (⊎_elim (λ (e : j ≡ u.number). λ (m : j ≡ d). n (sym f.number ∙ (sym e ∙ m)))
-              (λ (i : In j u.taken). apart views d v at fresh j (each_in (λ j. IsSpent views j × HasAll h u.seen j) u.taken j f.taken i).0) q.1) q.0,
+              (λ (i : In j u.joined). apart views d v at fresh j (each_in (λ j. IsSpent views j × HasAll h u.seen j) u.joined j f.joined i).0) q.1) q.0,
           q.1,
         ))
         o.whole p.whole;
@@ -66,14 +66,14 @@ fits_other h views d st v w at fresh k u n f = record {
 
 -- the view of the seat that made the step
 abbrev pub moved : View → List Entry → View
-moved v h = record { plan = v.plan; spent = v.spent; number = v.number; seen = h; taken = v.taken; made = v.made; olds = [] }
+moved v h = record { plan = v.plan; spent = v.spent; number = v.number; seen = h; joined = v.joined; parted = v.parted; olds = [] }
 
 pub fits_own : (h : List Entry) (views : List View) (d : ℕ) (st : Step) (v : View) → get_elem? views d ≡ some v → v.spent ≡ false → Fits h views d v → Fits (h ++ entry d st ∷ []) (set views d (moved v (h ++ entry d st ∷ []))) d (moved v (h ++ entry d st ∷ []))
 fits_own h views d st v at fresh f = record {
   number = f.number;
   front = ([], append-nil (h ++ entry d st ∷ []));
   own_all = refl;
-  taken = each_map (λ j. IsSpent views j × HasAll h v.seen j) (λ j. IsSpent (set views d (moved v (h ++ entry d st ∷ []))) j × HasAll (h ++ entry d st ∷ []) (h ++ entry d st ∷ []) j)
-      (λ j p. (spent_stays views d (moved v (h ++ entry d st ∷ [])) j (apart views d v at fresh j p.0) p.0, refl)) v.taken f.taken;
+  joined = each_map (λ j. IsSpent views j × HasAll h v.seen j) (λ j. IsSpent (set views d (moved v (h ++ entry d st ∷ []))) j × HasAll (h ++ entry d st ∷ []) (h ++ entry d st ∷ []) j)
+      (λ j p. (spent_stays views d (moved v (h ++ entry d st ∷ [])) j (apart views d v at fresh j p.0) p.0, refl)) v.joined f.joined;
   olds = tt;
 }

@@ -2,7 +2,7 @@
 use Rattle.std.specs.Prelude.{◌≡◌, ◌⊎◌, List, ◌++◌}
 use Rattle.history_model.specs.declared.entry.Step.{Step}
 use Rattle.claim_rule.specs.Rule.{DeskView}
-use Rattle.claim_rule.specs.Seats.{Shape}
+use Rattle.claim_rule.specs.Desks.{Shape}
 
 -- which lists of steps a call may have
 abbrev pub Calls : Type 1

@@ -5,7 +5,7 @@ use Rattle.history_model.specs.declared.booking.End.{End}
 use Rattle.history_model.specs.declared.entry.Step.{Step}
 use Rattle.history_model.specs.declared.entry.Step.TheVariants.{Give, Note, Close}
 use Rattle.history_model.specs.declared.phase.EndKind.{EndKind}
-use Rattle.history_model.specs.Booking.{amount_word}
+use Rattle.history_model.specs.Booking.{amount_word, end_successor_word, end_amount_word, end_moment_word}
 
 -- so many gives of a row's items, from the item of this number on
 abbrev pub gives_from : ℕ → ℕ → ℕ → List Step
@@ -14,7 +14,9 @@ gives_from row k (suc n) = Give row k ∷ gives_from row (suc k) n
 
 -- the notes of the end's words, and the close
 abbrev pub closing : ℕ → EndKind → End → List Step
-closing row kind end = Note row 5 end.successor ∷ Note row 6 (amount_word kind end.amount) ∷ Note row 7 end.moment ∷ Close row ∷ []
+closing row kind end =
+    Note row end_successor_word end.successor ∷ Note row end_amount_word (amount_word kind end.amount)
+    ∷ Note row end_moment_word end.moment ∷ Close row ∷ []
 
 -- all items are given back, the end is noted, and the row closed
 abbrev pub ending_steps : ℕ → EndKind → End → List Item → List Step

@@ -10,7 +10,7 @@ use Rattle.history_model.specs.declared.entry.Step.{Step}
 use Rattle.history_model.specs.declared.entry.Step.TheVariants.{SawRow}
 use Rattle.history_model.specs.declared.phase.EndKind.{EndKind}
 use Rattle.history_model.specs.declared.phase.Phase.TheVariants.{Ending}
-use Rattle.history_model.specs.Booking.{Booking, present, amount_word, first_item_word}
+use Rattle.history_model.specs.Booking.{Booking, present, amount_word, first_item_word, count_word, end_successor_word, end_amount_word}
 use Rattle.history_model.specs.History.{state_of}
 use Rattle.claim_rule.specs.Rule.{DeskView, Each}
 use Rattle.claim_rule.specs.Holds.{held, IsItem}
@@ -50,7 +50,9 @@ unread row kind end = record { row = row; kind = kind; end = end; items = []; gi
 
 -- the end words, 5 to 7
 abbrev pub end_word : EndKind → End → ℕ → ℕ
-end_word kind end w = if w == 5 then end.successor else if w == 6 then amount_word kind end.amount else end.moment
+end_word kind end w =
+    if w == end_successor_word then end.successor
+    else if w == end_amount_word then amount_word kind end.amount else end.moment
 
 -- the looks at the words of items, from one on
 abbrev pub item_looks : ℕ → ℕ → List Item → List Step
@@ -59,4 +61,4 @@ item_looks row w (i ∷ is) = SawRow row w (item_word i.place i.span) ∷ item_l
 
 -- the looks that read the items of a row
 abbrev pub items_read : ℕ → List Item → List Step
-items_read row is = SawRow row 4 (length is) ∷ item_looks row first_item_word is
+items_read row is = SawRow row count_word (length is) ∷ item_looks row first_item_word is

@@ -1,6 +1,7 @@
 pub mod Rule
 pub mod Holds
 pub mod OwnWork
+pub mod Desks
 pub mod Seats
 pub mod Walls
 pub mod Starts

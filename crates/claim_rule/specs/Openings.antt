@@ -10,7 +10,7 @@ use Rattle.history_model.specs.declared.phase.Phase.TheVariants.{Free, Making, E
 use Rattle.history_model.specs.declared.phase.EndKind.TheVariants.{Release}
 use Rattle.history_model.specs.Lists.{Pairwise}
 use Rattle.history_model.specs.Phase.{is_ended}
-use Rattle.history_model.specs.Booking.{Booking, Layout, State, amount_word, first_item_word, present, row_words, word_at}
+use Rattle.history_model.specs.Booking.{Booking, Layout, State, amount_word, first_item_word, present, row_words, word_at, retailer_word, limit_word, total_word}
 use Rattle.history_model.specs.Laws.{IsOpening}
 use Rattle.history_model.specs.Words.{AreWordsOf}
 
@@ -42,9 +42,9 @@ kept_as b =
       row = b.row;
       generation = b.generation;
       phase = b.phase;
-      retailer = word_at b 1;
-      limit = word_at b 2;
-      total = word_at b 3;
+      retailer = word_at b retailer_word;
+      limit = word_at b limit_word;
+      total = word_at b total_word;
       items = map placed b.items;
       end = end_in b.phase b.end;
     }

@@ -36,8 +36,8 @@ pub record DeskView : Type 0 where
   pub layout : Layout
   pub number : ℕ
   pub seen : List Entry
-  pub taken : List ℕ
-  pub made : ℕ
+  pub joined : List ℕ
+  pub parted : ℕ
   pub kept : Option RowNo
   pub past : ℕ
 
@@ -50,7 +50,7 @@ abbrev pub OnBooking : State → RowNo → (Booking → Type 0) → Type 0
 OnBooking s row P = IsSomeAnd (booking_at s row.row row.generation) P
 
 abbrev pub newcomer : Layout → ℕ → List Entry → View
-newcomer lay d h = record { plan = lay; spent = false; number = d; seen = h; taken = []; made = 0; olds = [] }
+newcomer lay d h = record { plan = lay; spent = false; number = d; seen = h; joined = []; parted = 0; olds = [] }
 
 abbrev pub Each : {A : Type 0} → (A → Type 0) → List A → Type 0
 Each P [] = Unit {0}
@@ -70,14 +70,14 @@ HasAll history h j = own h j ≡ own history j
 -- a former history is a beginning, and has all of the desks beside it
 pub record IsOld (history : List Entry) (v : View) (o : Old) : Type 0 where
   pub front : IsPrefix o.seen history
-  pub whole : Each (λ j. HasAll history o.seen j × ((j ≡ v.number) ⊎ In j v.taken)) o.whole
+  pub whole : Each (λ j. HasAll history o.seen j × ((j ≡ v.number) ⊎ In j v.joined)) o.whole
 
 -- what is so of the view of seat k
 pub record Fits (history : List Entry) (views : List View) (k : ℕ) (v : View) : Type 0 where
   pub number : v.number ≡ k
   pub front : IsPrefix v.seen history
   pub own_all : HasAll history v.seen k
-  pub taken : Each (λ j. IsSpent views j × HasAll history v.seen j) v.taken
+  pub joined : Each (λ j. IsSpent views j × HasAll history v.seen j) v.joined
   pub olds : Each (IsOld history v) v.olds
 
 pub record Kept (layout : Layout) (s : Table ℕ View) : Type 0 where
@@ -86,23 +86,25 @@ pub record Kept (layout : Layout) (s : Table ℕ View) : Type 0 where
   pub words : AreWordsOf layout (state_of layout history) s.words
   pub seats : (k : ℕ) (v : View) → get_elem? s.views k ≡ some v → v.spent ≡ false → Fits history s.views k v
   pub later : (k : ℕ) → length s.views ≤ k → own history k ≡ []
-  pub first : (v : View) × (get_elem? s.views 0 ≡ some v) × (v.spent ≡ false) × (length s.views ≡ v.made + 1)
+  pub first : (v : View) × (get_elem? s.views 0 ≡ some v) × (v.spent ≡ false) × (length s.views ≡ v.parted + 1)
 
--- desk 0 which has taken in every desk that it parted: it has all entries there are
+-- desk 0 which has joined every desk that it parted: it has all entries there are
 abbrev pub IsWhole : ℕ → ℕ → List ℕ → Type 0
-IsWhole number made taken = (number ≡ 0) × ((j : ℕ) → 1 ≤ j → j ≤ made → In j taken)
+IsWhole number parted joined = (number ≡ 0) × ((j : ℕ) → 1 ≤ j → j ≤ parted → In j joined)
 
 -- a desk's step was added behind all that the desk has seen, and no other step of it
 pub record Added (layout : Layout) (st : Step) (v w : View) : Type 0 where
   pub between : List Entry
   pub seen : w.seen ≡ (v.seen ++ between) ++ entry v.number st ∷ []
   pub others : own between v.number ≡ []
-  pub none : IsWhole v.number v.made v.taken → between ≡ []
+  pub none : IsWhole v.number v.parted v.joined → between ≡ []
   pub legal : IsLegal layout w.seen
-  pub same : (w.plan ≡ v.plan) × (w.spent ≡ v.spent) × (w.number ≡ v.number) × (w.taken ≡ v.taken) × (w.made ≡ v.made) × (w.olds ≡ [])
-  pub apart : Each (λ j. j ≡ v.number → ⊥) v.taken
-  pub later : v.number ≡ 0 → (k : ℕ) → v.made < k → own w.seen k ≡ []
-  pub first : v.number ≡ 0 → v.made ≡ 0 → v.taken ≡ []
+  pub same :
+      (w.plan ≡ v.plan) × (w.spent ≡ v.spent) × (w.number ≡ v.number) × (w.joined ≡ v.joined)
+      × (w.parted ≡ v.parted) × (w.olds ≡ [])
+  pub apart : Each (λ j. j ≡ v.number → ⊥) v.joined
+  pub later : v.number ≡ 0 → (k : ℕ) → v.parted < k → own w.seen k ≡ []
+  pub first : v.number ≡ 0 → v.parted ≡ 0 → v.joined ≡ []
   pub olds : Each (λ (o : Old). IsPrefix o.seen w.seen × Each (λ j. own w.seen j ≡ own o.seen j ++ own (entry v.number st ∷ []) j) o.whole) v.olds
 
 -- just before the desk's step, which is the last that the view has seen, the word a was this number
@@ -119,20 +121,20 @@ Steps layout v a f st = (h : List Entry) → IsLegal layout h → IsPrefix v.see
 
 -- a view that parts another has made one more, and the other has seen as much
 abbrev pub parting : View → View
-parting v = record { plan = v.plan; spent = v.spent; number = v.number; seen = v.seen; taken = v.taken; made = v.made + 1; olds = v.olds }
+parting v = record { plan = v.plan; spent = v.spent; number = v.number; seen = v.seen; joined = v.joined; parted = v.parted + 1; olds = v.olds }
 
-abbrev pub parted : View → View
-parted v = newcomer v.plan (v.made + 1) v.seen
+abbrev pub newly_parted : View → View
+newly_parted v = newcomer v.plan (v.parted + 1) v.seen
 
 abbrev pub longer : List Entry → List Entry → List Entry
 longer a b = cond (leb (length a) (length b)) b a
 
 abbrev pub old_of : View → Old
-old_of v = record { seen = v.seen; whole = v.number ∷ v.taken }
+old_of v = record { seen = v.seen; whole = v.number ∷ v.joined }
 
--- a view that takes in another
-abbrev pub joined : View → View → View
-joined v w = record { plan = v.plan; spent = v.spent; number = v.number; seen = longer v.seen w.seen; taken = v.taken ++ w.number ∷ w.taken; made = v.made; olds = old_of v ∷ old_of w ∷ [] }
+-- a view that joins another
+abbrev pub joining : View → View → View
+joining v w = record { plan = v.plan; spent = v.spent; number = v.number; seen = longer v.seen w.seen; joined = v.joined ++ w.number ∷ w.joined; parted = v.parted; olds = old_of v ∷ old_of w ∷ [] }
 
 abbrev pub nobody : View
-nobody = record { plan = record { legs = []; rows = 0; opening = [] }; spent = true; number = 0; seen = []; taken = []; made = 0; olds = [] }
+nobody = record { plan = record { legs = []; rows = 0; opening = [] }; spent = true; number = 0; seen = []; joined = []; parted = 0; olds = [] }

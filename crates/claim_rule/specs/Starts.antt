@@ -9,8 +9,9 @@ use Rattle.history_model.specs.Phase.{row_word_of}
 use Rattle.claim_rule.specs.declared.hold.Started.{Started}
 use Rattle.claim_rule.specs.declared.hold.Started.TheVariants.{Won, Missed}
 use Rattle.claim_rule.specs.Rule.{DeskView}
-use Rattle.claim_rule.specs.Seats.{Stepped}
+use Rattle.claim_rule.specs.Desks.{Stepped}
 use Rattle.claim_rule.specs.Holds.{IsHoldOf, empty_hold}
+use Rattle.history_model.specs.Booking.{standing_word}
 
 -- the word is that of an ended booking of this generation
 abbrev pub IsEndedWord : ℕ → ℕ → Type 0
@@ -26,4 +27,4 @@ MayExpect row expected =
 abbrev pub HasStarted : RowNo → ℕ → DeskView → DeskView → Started → Type 0
 HasStarted row expected old new (Won hold) =
     Stepped (Start row.row row.generation) old new × IsHoldOf new hold × (hold ≡ empty_hold row)
-HasStarted row expected old new (Missed n) = Stepped (SawRow row.row 0 n) old new × (n ≢ expected)
+HasStarted row expected old new (Missed n) = Stepped (SawRow row.row standing_word n) old new × (n ≢ expected)

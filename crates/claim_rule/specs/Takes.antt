@@ -5,7 +5,7 @@ use Rattle.history_model.specs.declared.entry.Step.TheVariants.{Take}
 use Rattle.history_model.specs.Looks.{look_at}
 use Rattle.claim_rule.specs.Rule.{DeskView}
 use Rattle.claim_rule.specs.Holds.{HoldView, with_one}
-use Rattle.claim_rule.specs.Seats.{Stepped}
+use Rattle.claim_rule.specs.Desks.{Stepped}
 
 -- the item is taken, and is now the hold's last
 abbrev pub HasTaken : Item → DeskView → HoldView → DeskView → HoldView → Type 0

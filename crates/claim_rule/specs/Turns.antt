@@ -12,7 +12,7 @@ use Rattle.claim_rule.specs.declared.ending.StepTurned.TheVariants.{Won, Ending,
 use Rattle.history_model.specs.Allowed.{OnRow}
 use Rattle.claim_rule.specs.Rule.{DeskView, state_seen}
 use Rattle.claim_rule.specs.Endings.{IsEndingOf, unread}
-use Rattle.claim_rule.specs.Seats.{Stepped}
+use Rattle.claim_rule.specs.Desks.{Stepped}
 
 -- the booking is its row's present one, and in this phase
 abbrev pub IsPresentIn : DeskView → RowNo → Phase → Type 0

@@ -5,7 +5,8 @@ ghost use Rattle.leg_masks.specs.Interval.{IsPiece, most_places};
 ghost use Rattle.history_model.specs.Booking.{most_rows};
 ghost use Rattle.history_model.specs.Words.{IsWord, index};
 ghost use Rattle.claim_rule.specs.Rule.{Found, IsPlaceLegs, Steps, most_place_legs};
-ghost use Rattle.claim_rule.specs.Seats.{IsNew, IsSeatOf, HasMade, IsOf};
+ghost use Rattle.claim_rule.specs.Desks.{IsNew, IsOf};
+ghost use Rattle.claim_rule.specs.Seats.{IsSeatOf, HasMade};
 ghost use Rattle.claim_rule.specs.Out.{IsTidy};
 ghost use Rattle.claim_rule.specs.Openings.{AllOpenings, IsLayoutOf, KeptBooking, OpensWith};
 

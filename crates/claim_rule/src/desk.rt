@@ -2,7 +2,7 @@
 ghost use Rattle.std.specs.Prelude.{◌≡◌, ◌≤◌, [], Some, None, IfNone, IfSome};
 ghost use Rattle.claim_rule.specs.Rule.{BooksView};
 ghost use Rattle.claim_rule.specs.Holds.{IsHoldOf, empty_hold};
-ghost use Rattle.claim_rule.specs.Seats.{IsOf, AreTaken};
+ghost use Rattle.claim_rule.specs.Desks.{IsOf, AreTaken};
 ghost use Rattle.claim_rule.specs.Out.{IsHolding, HoldsNone};
 
 use crate::hold::Hold;
@@ -12,8 +12,8 @@ use atomic_table::Seat;
 use rail_ids::RowNo;
 use std::marker::Model;
 
-/// A caller's token on the one table. Contracts see its number, what it has seen, and which desks it parted and took
-/// in.
+/// A caller's token on the one table. Contracts see its number, what it has seen, and which desks it parted and
+/// joined.
 #[derive(Drop)]
 pub struct Desk {
     pub(crate) seat: Seat<u64, View>,
@@ -23,13 +23,13 @@ pub struct Desk {
 
 impl Model for Desk {
     ghost use Rattle.claim_rule.specs.Rule.{DeskView};
-    ghost use Rattle.claim_rule.specs.Seats.{desk_view, IsSound};
+    ghost use Rattle.claim_rule.specs.Seats.{desk_view, IsAtRest};
 
     ghost Value = { DeskView };
 
     ghost view = { λ d. desk_view d.seat d.kept d.past };
 
-    ghost invariant = { λ d. IsSound d.seat };
+    ghost invariant = { λ d. IsAtRest d.seat };
 }
 
 impl Desk {

@@ -1,7 +1,7 @@
 //! A turn of a row's phase, and the steps of an ending's owner: read the items, give them back, note the end, close.
 ghost use Rattle.std.specs.Prelude.{◌≡◌, ◌≢◌, ℕ, ◌<◌, length, ◌≤◌, ◌+◌, true, false, IfNone, IfSome};
 ghost use Rattle.leg_masks.specs.Interval.{Interval, IsItemOf};
-ghost use Rattle.history_model.specs.Booking.{most_items};
+ghost use Rattle.history_model.specs.Booking.{most_items, standing_word};
 ghost use Rattle.history_model.specs.declared.phase.EndKind.{EndKind};
 ghost use Rattle.history_model.specs.declared.phase.Phase.TheVariants.{Ending as IsEndingPhase};
 ghost use Rattle.history_model.specs.declared.entry.Step.TheVariants.{Give, Note, Close};
@@ -10,8 +10,10 @@ ghost use Rattle.history_model.specs.Allowed.{IsEndWord};
 ghost use Rattle.claim_rule.specs.Rule.{Found};
 ghost use Rattle.claim_rule.specs.Endings.{IsEndingOf, items_read, end_word as end_word_of};
 ghost use Rattle.claim_rule.specs.Turns.{HasTurned, IsTurned, IsTurnLost, IsTurnedTo};
-ghost use Rattle.claim_rule.specs.Seats.{CanTurn, CanClose, IsTurning, turn_step_from, MayStep};
-ghost use Rattle.claim_rule.specs.Seats.{IsSeatOf, HasMade, IsOf, Stepped, Shape};
+ghost use Rattle.claim_rule.specs.Desks.{CanTurn, MayStep};
+ghost use Rattle.claim_rule.specs.Seats.{CanClose, IsTurning, turn_step_from};
+ghost use Rattle.claim_rule.specs.Desks.{IsOf, Stepped, Shape};
+ghost use Rattle.claim_rule.specs.Seats.{IsSeatOf, HasMade};
 ghost use Rattle.claim_rule.specs.Out.{EndsNone};
 
 use crate::books::Books;
@@ -19,7 +21,10 @@ use crate::desk::Desk;
 use crate::rule::View;
 use arrayvec::ArrayVec;
 use atomic_table::Seat;
-use history_model::booking::{End, FIRST_ITEM_WORD, MOST_ITEMS};
+use history_model::booking::{
+    COUNT_WORD, END_AMOUNT_WORD, END_SUCCESSOR_WORD, End, FIRST_ITEM_WORD, MOST_ITEMS,
+    STANDING_WORD,
+};
 use history_model::entry::Step;
 use history_model::phase::{EndKind, Phase, amount_word_of, row_word_of};
 use history_model::word::Word;
@@ -64,10 +69,10 @@ pub enum StepTurned {
     Missed { shown: u64 },
 }
 
-// The item of a word that is one.
-fn item_of(word: u64) -> Item
-    requires { (place : ℕ) × (span : Interval) × IsItemOf place span word }
-    ensures { IsItemOf result.place result.span word }
+/// The item of a word that is one.
+pub fn item_of(word: u64) -> Item
+    requires item { (place : ℕ) × (span : Interval) × IsItemOf place span word }
+    ensures item { IsItemOf result.place result.span word }
 {
     match read_item(word) {
         Some(item) => item,
@@ -129,10 +134,10 @@ impl Ending {
         requires { IsEndWord word }
         ensures { result ≡ end_word_of self.now.kind self.now.end word }
     {
-        if word == 5 {
+        if word == END_SUCCESSOR_WORD {
             return self.end.successor;
         }
-        if word == 6 {
+        if word == END_AMOUNT_WORD {
             return amount_word_of(self.kind, self.end.amount);
         }
         self.end.moment
@@ -212,11 +217,11 @@ impl Books {
         requires own { IsSeatOf self.now self.now.layout seat.old }
         requires turn { IsTurning self.now.layout seat.old.me.0.seen seat.old.me.0.number row from to hit }
         ensures made { HasMade self.now.layout (turn_step_from from row hit result) seat.old seat.new }
-        ensures found { Found self.now.layout (Row row.row 0) result seat.old.me.0 seat.new.me.0 }
+        ensures found { Found self.now.layout (Row row.row standing_word) result seat.old.me.0 seat.new.me.0 }
     {
         let old = row_word_of(from, row.generation);
         let new = row_word_of(to, row.generation);
-        self.exchange_as::<Brand>(seat, Word::Row(row.row, 0), old, new, hit)
+        self.exchange_as::<Brand>(seat, Word::Row(row.row, STANDING_WORD), old, new, hit)
     }
 
     /// Reads the items that the ending is to give back.
@@ -247,7 +252,7 @@ impl Books {
     {
         let _ = &self.table;
         let row = ending.row;
-        let count = self.step_read(desk, row, 4) as u8;
+        let count = self.step_read(desk, row, COUNT_WORD) as u8;
         let mut items = ArrayVec::new();
         for i in 0..count {
             let word = self.step_read(desk, row, FIRST_ITEM_WORD as u8 + i);
@@ -312,6 +317,6 @@ impl Books {
         let old = row_word_of(Phase::Ending(kind), row.generation);
         let new = row_word_of(Phase::Ended(kind), row.generation);
         let closed = Step::Close { row: row.row };
-        self.exchange_as::<Brand>(seat, Word::Row(row.row, 0), old, new, closed);
+        self.exchange_as::<Brand>(seat, Word::Row(row.row, STANDING_WORD), old, new, closed);
     }
 }

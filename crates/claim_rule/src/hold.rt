@@ -6,8 +6,10 @@ ghost use Rattle.history_model.specs.Booking.{most_items};
 ghost use Rattle.history_model.specs.declared.entry.Step.TheVariants.{Give, Note, Seal};
 ghost use Rattle.history_model.specs.Allowed.{IsMakerWord};
 ghost use Rattle.claim_rule.specs.Holds.{IsHoldOf, IsItem, with_one};
-ghost use Rattle.claim_rule.specs.Seats.{CanTake, CanGive, CanNote, CanSeal, MayStep, take_step, start_step};
-ghost use Rattle.claim_rule.specs.Seats.{IsSeatOf, HasMade, IsOf, Stepped};
+ghost use Rattle.claim_rule.specs.Desks.{MayStep};
+ghost use Rattle.claim_rule.specs.Seats.{CanTake, CanGive, CanNote, CanSeal, take_step, start_step};
+ghost use Rattle.claim_rule.specs.Desks.{IsOf, Stepped};
+ghost use Rattle.claim_rule.specs.Seats.{IsSeatOf, HasMade};
 ghost use Rattle.claim_rule.specs.Out.{HoldsNone};
 ghost use Rattle.claim_rule.specs.Starts.{HasStarted, MayExpect};
 ghost use Rattle.claim_rule.specs.Takes.{HasTaken, HasMissed};
@@ -17,7 +19,7 @@ use crate::desk::Desk;
 use crate::rule::View;
 use arrayvec::ArrayVec;
 use atomic_table::Seat;
-use history_model::booking::MOST_ITEMS;
+use history_model::booking::{MOST_ITEMS, STANDING_WORD};
 use history_model::entry::Step;
 use history_model::phase::{Phase, row_word_of};
 use history_model::word::Word;
@@ -174,7 +176,13 @@ impl Books {
             row: row.row,
             generation: row.generation,
         };
-        self.exchange_as::<Brand>(seat, Word::Row(row.row, 0), expected, making, started)
+        self.exchange_as::<Brand>(
+            seat,
+            Word::Row(row.row, STANDING_WORD),
+            expected,
+            making,
+            started,
+        )
     }
 
     /// Notes a word of the hold's row.
@@ -223,6 +231,6 @@ impl Books {
             row: row.row,
             phase,
         };
-        self.exchange_as::<Brand>(seat, Word::Row(row.row, 0), making, new, sealed);
+        self.exchange_as::<Brand>(seat, Word::Row(row.row, STANDING_WORD), making, new, sealed);
     }
 }

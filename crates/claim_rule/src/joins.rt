@@ -2,9 +2,9 @@
 ghost use Rattle.std.specs.Prelude.{◌≡◌, ◌≢◌, ◌+◌, []};
 ghost use Rattle.history_model.specs.declared.entry.Step.TheVariants.{Met};
 ghost use Rattle.history_model.specs.History.{own};
-ghost use Rattle.claim_rule.specs.Seats.{IsNew, HasMet, IsOf, Stepped};
+ghost use Rattle.claim_rule.specs.Desks.{IsNew, HasMet, IsOf, Stepped};
 ghost use Rattle.claim_rule.specs.Out.{IsIdle, IsTidy, KeepsEndings, KeepsHolds};
-ghost use Rattle.claim_rule.specs.Walls.{Ends};
+ghost use Rattle.claim_rule.specs.Walls.{Finishes};
 
 use crate::books::Books;
 use crate::chronicle::{blank, recall};
@@ -22,9 +22,9 @@ impl Books {
         requires own { IsOf self.now desk.old }
         requires first { desk.old.number ≡ 0 }
         ensures own { IsOf self.now desk.new × IsOf self.now result }
-        ensures met { Stepped Met desk.old record desk.new { made = desk.old.made } }
-        ensures made { desk.new.made ≡ desk.old.made + 1 }
-        ensures new { IsNew result desk.new.made desk.new.seen × (own desk.new.seen desk.new.made ≡ []) }
+        ensures met { Stepped Met desk.old record desk.new { parted = desk.old.parted } }
+        ensures parted { desk.new.parted ≡ desk.old.parted + 1 }
+        ensures new { IsNew result desk.new.parted desk.new.seen × (own desk.new.seen desk.new.parted ≡ []) }
         ensures tidy { IsTidy result }
         ensures past { result.past ≡ desk.new.past }
         ensures holds { KeepsHolds desk.old desk.new }
@@ -65,7 +65,7 @@ impl Books {
         requires own { IsOf self desk }
         requires idle { IsIdle desk }
         ensures layout { result.layout ≡ self.layout }
-        ensures history { Ends self.layout desk result.words result.history }
+        ensures history { Finishes self.layout desk result.words result.history }
     {
         let was = Snapshot::of(&self);
         let knew = Snapshot::of(&desk);

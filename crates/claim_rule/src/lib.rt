@@ -27,7 +27,7 @@ mod wall;
 pub use books::{Books, adopt_books, start_books};
 pub use crossing::crosses;
 pub use desk::Desk;
-pub use ending::{Ending, StepTurned};
+pub use ending::{Ending, StepTurned, item_of};
 pub use hold::{Hold, Started};
 pub use rule::{Plan, View};
 pub use wall::Wall;

@@ -3,7 +3,7 @@ ghost use Rattle.std.specs.Prelude.{◌<◌, length};
 ghost use Rattle.leg_masks.specs.Interval.{halves};
 ghost use Rattle.history_model.specs.Booking.{row_words};
 ghost use Rattle.history_model.specs.declared.entry.Step.TheVariants.{Look, SawRow};
-ghost use Rattle.claim_rule.specs.Seats.{IsOf, Stepped};
+ghost use Rattle.claim_rule.specs.Desks.{IsOf, Stepped};
 
 use crate::books::Books;
 use crate::desk::Desk;

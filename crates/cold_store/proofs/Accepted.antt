@@ -5,7 +5,7 @@ use Rattle.history_model.proofs.ListLemmas.{All-right, flat_map-append}
 use Rattle.cold_store.specs.declared.fault.ImportFault.{ImportFault}
 use Rattle.cold_store.specs.declared.fault.ImportFault.TheVariants.{NotAnExport, Sizes, RowWrong, Overlap, OwnSuccessor, NoMemory}
 use Rattle.cold_store.specs.Exports.{NoneBelow}
-use Rattle.cold_store.specs.Imports.{IsFirstBad, IsImportFault, IsSome, IsSound}
+use Rattle.cold_store.specs.Imports.{IsFirstBad, IsImportFault, IsSome, IsRightText}
 use Rattle.cold_store.specs.Lines.{IsExportOf, SaidBooking, text_of}
 use Rattle.cold_store.specs.Right.{AreRight, IsApartAt, IsFirstWrong, IsRight, OwnsSuccessor}
 use Rattle.cold_store.proofs.OneList.{one_list}
@@ -23,7 +23,7 @@ not_bad text number is bad = ⊎_elim
     (λ line. line.4 (text, is, (line.1, line_begins bad.before line.0 line.1 ∙ (ap (λ t. text_of bad.before ++ t) (sym line.3) ∙ sym bad.parts))))
     bad.stops
 
-module _ (legs : List ℕ) (rows : ℕ) (text : List ℕ) (said : List SaidBooking) (sound : IsSound legs rows text said) where
+module _ (legs : List ℕ) (rows : ℕ) (text : List ℕ) (said : List SaidBooking) (sound : IsRightText legs rows text said) where
   same : (others : List SaidBooking) → IsExportOf text (length legs) rows others → said ≡ others
   same others is = (one_list text (length legs) rows said (length legs) rows others sound.sized is).2
 

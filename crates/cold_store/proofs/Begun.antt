@@ -17,7 +17,7 @@ use Rattle.history_model.proofs.Generations.{generation_below, stands_there}
 use Rattle.claim_rule.specs.Openings.{AreRising, HasOwnEnd, KeptBooking, MayOpen, end_in, layout_with, opening_booking, opening_of}
 use Rattle.cold_store.specs.declared.ends.SaidEnd.{SaidEnd}
 use Rattle.cold_store.specs.declared.ends.SaidRow.{SaidRow}
-use Rattle.cold_store.specs.Imports.{IsSound as IsSoundText}
+use Rattle.cold_store.specs.Imports.{IsRightText}
 use Rattle.cold_store.specs.Lines.{IsEndSaid, IsSayable, SaidBooking}
 use Rattle.cold_store.specs.Right.{HasLine, IsRight, kept_of}
 use Rattle.cold_store.specs.Tidy.{AreSucceeded, HasSuccessor, IsExchanged, IsMade}
@@ -72,7 +72,7 @@ among : (P : SaidBooking → Type 0) (front : List SaidBooking) (c : SaidBooking
 among P [] c rest all = all.0
 among P (x ∷ xs) c rest all = among P xs c rest all.1
 
-module _ (legs : List ℕ) (rows : ℕ) (text : List ℕ) (said : List SaidBooking) (sound : IsSoundText legs rows text said) (few : rows ≤ most_rows)
+module _ (legs : List ℕ) (rows : ℕ) (text : List ℕ) (said : List SaidBooking) (sound : IsRightText legs rows text said) (few : rows ≤ most_rows)
     (opening : IsOpening (layout_with legs rows (map kept_of said)) (opening_of (map kept_of said))) where
   abbrev pub s : State
   s = opening_of (map kept_of said)

@@ -21,7 +21,7 @@ use Rattle.cold_store.specs.Exports.{AreLiveWords, HasItem, IsClosed, IsItemAt, 
 use Rattle.cold_store.proofs.ItemWords.{AreWordsBy, any_more, item_added, or_false, same_words}
 use Rattle.cold_store.proofs.LiveBookings.{live_more, live_on, none_more}
 use Rattle.cold_store.proofs.OpenRows.{booking_in}
-use Rattle.cold_store.proofs.SealedRows.{IsSealedRow, row_items, sealed_at}
+use Rattle.cold_store.proofs.SealedRows.{IsSealedOn, row_items, sealed_at}
 use Rattle.cold_store.proofs.WallRows.{get_placed, item_there}
 
 -- the legs taken by the live bookings of the rows below this one, and by its own first items
@@ -42,7 +42,7 @@ live_sealed (Ended kind) e = cc
 
 -- a row whose booking lives
 pub record IsLiveRow (w : WallView) (row : ℕ) (b : Booking) : Type 0 where
-  pub on : IsSealedRow w row b
+  pub on : IsSealedOn w row b
   pub live : is_live b.phase ≡ true
 
 pub row_lives : (w : WallView) (row : ℕ) (phase : Phase) (answer : Bool) → IsClosed w → phase ≡ phase_of_row (state_on w) row → answer ≡ is_live phase → answer ≡ true

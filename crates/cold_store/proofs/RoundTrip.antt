@@ -29,7 +29,7 @@ use Rattle.claim_rule.proofs.OpeningKept.{IsSettled}
 use Rattle.cold_store.specs.declared.ends.SaidEnd.{SaidEnd}
 use Rattle.cold_store.specs.declared.ends.SaidRow.{SaidRow}
 use Rattle.cold_store.specs.Exports.{IsClosed, IsExport, IsOpenBooking, IsUnmade, NoneBelow, NoneOpen, said_on, state_on, text_on}
-use Rattle.cold_store.specs.Imports.{IsSound}
+use Rattle.cold_store.specs.Imports.{IsRightText}
 use Rattle.cold_store.specs.Laws.{HasBegun, HasSizes}
 use Rattle.cold_store.specs.Lines.{AreItemNumbers, AreRowNumbers, AreSuccessorNumbers, HasLetter, IsEndSaid, IsNumber, IsSayable, SaidBooking, nothing, said_item, said_of, said_successor}
 use Rattle.cold_store.specs.Right.{AreClear, AreClearAt, HasLine, IsApartAt, IsEndIn, IsRight, IsRightAlone, IsWithin, OwnsSuccessor, kept_item, kept_of}
@@ -437,7 +437,7 @@ module _ (w : WallView) (is : IsGood w) where
       subst (λ (x : List Item × List Item). Across (AreClearAt place) (map said_item x.0) (map said_item x.1)) (λ i. (sym b.3 i, sym c.3 i))
       (two_clear place q r b.0 c.0 mid b.1 c.1 b.2 c.2)))
 
-  sound : (text : List ℕ) → text ≡ text_on w → IsSound g.legs g.rows text said
+  sound : (text : List ℕ) → text ≡ text_on w → IsRightText g.legs g.rows text said
   sound text same = record {
     sized = record {
       sizes = ((let n : length g.legs < 2 ^ 64 = let p = is.sizes.places.1 in omega (arith, p) in n), (let n : g.rows < 2 ^ 64 = let f = few in omega (arith, f) in n));
@@ -460,5 +460,5 @@ good_wall w sizes begun closed none = record {
   none = none;
 }
 
-pub read_back : (w : WallView) (text : List ℕ) → HasSizes w.layout → HasBegun w.layout → IsClosed w → IsExport w text → IsSound w.layout.legs w.layout.rows text (said_on w)
+pub read_back : (w : WallView) (text : List ℕ) → HasSizes w.layout → HasBegun w.layout → IsClosed w → IsExport w text → IsRightText w.layout.legs w.layout.rows text (said_on w)
 read_back w text sizes begun closed is = sound w (good_wall w sizes begun closed is.0) text is.2

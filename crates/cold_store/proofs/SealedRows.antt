@@ -24,23 +24,23 @@ use Rattle.cold_store.specs.Exports.{HasItem, IsClosed, IsItemAt, IsShownAs, end
 use Rattle.cold_store.specs.Lines.{amount_field, booking_line, end_fields, head_text, item_field, items_fields, number_field, said_item, said_of, said_successor, successor_field, text_of}
 use Rattle.cold_store.proofs.WallRows.{get_placed, item_there, sound_on, word_on}
 
-pub record IsSealedRow (w : WallView) (row : ℕ) (b : Booking) : Type 0 where
+pub record IsSealedOn (w : WallView) (row : ℕ) (b : Booking) : Type 0 where
   pub at : present (state_on w) row ≡ Some b
   pub sealed : is_sealed b.phase ≡ true
   pub sound : IsSound w.layout b
   pub count : row_word (state_on w) row 4 ≡ length b.items
 
-pub sealed_at : (w : WallView) (row : ℕ) (b : Booking) → IsClosed w → present (state_on w) row ≡ Some b → is_sealed b.phase ≡ true → IsSealedRow w row b
+pub sealed_at : (w : WallView) (row : ℕ) (b : Booking) → IsClosed w → present (state_on w) row ≡ Some b → is_sealed b.phase ≡ true → IsSealedOn w row b
 sealed_at w row b closed at sealed =
     let sound = sound_on w row b closed at in
     record { at = at; sealed = sealed; sound = sound; count = word_on (state_on w) row 4 b at (λ (e : 4 ≡ 0). omega arith) ∙ (sound.sealed sealed).count }
 
-pub sealed_row : (w : WallView) (row : ℕ) → IsClosed w → OnRow (state_on w) row (λ b. is_sealed b.phase ≡ true) → (b : Booking) × IsSealedRow w row b
+pub sealed_row : (w : WallView) (row : ℕ) → IsClosed w → OnRow (state_on w) row (λ b. is_sealed b.phase ≡ true) → (b : Booking) × IsSealedOn w row b
 sealed_row w row closed on =
     let b = found (present (state_on w) row) (λ b. is_sealed b.phase ≡ true) on in
     (b.0, sealed_at w row b.0 closed b.1 b.2)
 
-pub has_item : (w : WallView) (row k : ℕ) (b : Booking) → IsSealedRow w row b → k < row_word (state_on w) row 4 → HasItem w row k
+pub has_item : (w : WallView) (row k : ℕ) (b : Booking) → IsSealedOn w row b → k < row_word (state_on w) row 4 → HasItem w row k
 has_item w row k b is less =
     on_row (state_on w) row b (λ b. (is_sealed b.phase ≡ true) × (k < length b.items)) is.at (is.sealed, subst (λ n. k < n) is.count less)
 
@@ -54,7 +54,7 @@ kept_sealed Fulfilled b e = refl
 kept_sealed (Ending kind) b e = refl
 kept_sealed (Ended kind) b e = refl
 
-pub kept_row : (w : WallView) (row : ℕ) (b : Booking) → IsSealedRow w row b → kept_of_row (state_on w) row ≡ Some (kept_as b)
+pub kept_row : (w : WallView) (row : ℕ) (b : Booking) → IsSealedOn w row b → kept_of_row (state_on w) row ≡ Some (kept_as b)
 kept_row w row b is = ap (λ (o : Option Booking). option_and_then (λ b. kept_in b.phase b) o) is.at ∙ kept_sealed b.phase b is.sealed
 
 -- the fields of items
@@ -68,7 +68,7 @@ fields_more (x ∷ xs) (suc k) i e =
     ap (λ t. item_field (said_item (placed x)) ++ t) (fields_more xs k i e)
     ∙ sym (append_assoc (item_field (said_item (placed x))) (booked_fields (take k xs)) (item_field (said_item (placed i))))
 
-pub items_text_is : (w : WallView) (row : ℕ) (b : Booking) → IsSealedRow w row b → items_text w row ≡ booked_fields b.items
+pub items_text_is : (w : WallView) (row : ℕ) (b : Booking) → IsSealedOn w row b → items_text w row ≡ booked_fields b.items
 items_text_is w row b is =
     ap (λ (o : Option KeptBooking). flat_map (λ k. items_fields (said_of k).items) (option_to_list o)) (kept_row w row b is) ∙ append-nil (booked_fields b.items)
 
@@ -93,7 +93,7 @@ items_go_on w row k item old now new closed has at is more =
     same_item x y e = cc
 
 -- all items
-pub items_done : (w : WallView) (row k : ℕ) (b : Booking) → IsSealedRow w row b → row_word (state_on w) row 4 ≤ k → booked_fields (take k (row_items w row)) ≡ items_text w row
+pub items_done : (w : WallView) (row k : ℕ) (b : Booking) → IsSealedOn w row b → row_word (state_on w) row 4 ≤ k → booked_fields (take k (row_items w row)) ≡ items_text w row
 items_done w row k b is all =
     let enough : length b.items ≤ k = omega (arith, all, is.count) in
     let items : row_items w row ≡ b.items = ap (λ (o : Option Booking). option_map_or (λ (b : Booking). b.items) o []) is.at in
@@ -114,7 +114,7 @@ ends_alike Exchange (negsuc m) (pos n) x y e = absurd (omega arith)
 
 -- a row whose booking has ended
 pub record IsEndedRow (w : WallView) (row : ℕ) (kind : EndKind) (b : Booking) : Type 0 where
-  pub on : IsSealedRow w row b
+  pub on : IsSealedOn w row b
   pub phase : b.phase ≡ Ended kind
   pub range : IsAmountOf kind b.end.amount
   pub successor : row_word (state_on w) row 5 ≡ b.end.successor

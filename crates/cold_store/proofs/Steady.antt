@@ -14,7 +14,7 @@ use Rattle.history_model.specs.declared.phase.EndKind.TheVariants.{Release, Expi
 use Rattle.history_model.specs.declared.phase.Phase.{Phase}
 use Rattle.history_model.specs.declared.phase.Phase.TheVariants.{Free, Making, Prebooked, Confirmed, Fulfilled, Ending, Ended}
 use Rattle.history_model.specs.Allowed.{Blocks, IsAllowedStep, IsBeingEndedBy, IsEndWord, IsMadeBy, IsMakerWord, IsRow, IsSealable, IsSuccessor, MayClose, MayNote, MayGive, MaySealAs, TurnsWith}
-use Rattle.history_model.specs.Apply.{apply, apply_step, closed, ended_phase, given, in_phase, items_given, marked, noted, started, taken, turned, words_of_row}
+use Rattle.history_model.specs.Apply.{apply, apply_step, closed, ended_phase, given, in_phase, items_given, marked, noted, started, item_taken, turned, words_of_row}
 use Rattle.history_model.specs.Booking.{Booking, Layout, State, all_items, change, key_of, limit_of, most_items, next_generation, next_in, present, stands_in, successor_word}
 use Rattle.history_model.specs.History.{IsLegal, IsLegalFrom, state_after, state_of}
 use Rattle.history_model.specs.Laws.{AreClear, AreInRange, IsInRange, IsPresentOrEnded, IsSound, IsWellFormed}
@@ -122,10 +122,10 @@ steady_start g s row generation who words all =
     (record { apart = tt; end = tt }, tt))
 
 -- the new item is clear of the others
-steady_take : (g : Layout) (s : State) (row place who : ℕ) (span : Interval) (b : Booking) → present s row ≡ Some b → IsMadeBy who b → AllByRecursion (λ i. i.given_back ≡ false) b.items → AllByRecursion (λ i. ¬ Blocks place span i) b.items → AreSteady g s → AreSteady g (change s row (taken place span))
+steady_take : (g : Layout) (s : State) (row place who : ℕ) (span : Interval) (b : Booking) → present s row ≡ Some b → IsMadeBy who b → AllByRecursion (λ i. i.given_back ≡ false) b.items → AllByRecursion (λ i. ¬ Blocks place span i) b.items → AreSteady g s → AreSteady g (change s row (item_taken place span))
 steady_take g s row place who span b e made left free all =
     let new : BookedItem = record { place = place; span = span; given_back = false } in
-    steady_changed g s row (taken place span) b e (λ _. refl) all (λ is. record {
+    steady_changed g s row (item_taken place span) b e (λ _. refl) all (λ is. record {
       apart = Pairwise-append AreClear b.items (new ∷ []) is.apart (tt, tt) (Across-one AreClear b.items new
           (All-both {P = λ i. i.given_back ≡ false} {Q = λ i. ¬ Blocks place span i} (λ i here none same meet. none (here, same, meet)) b.items left free));
       end = is.end;

@@ -18,7 +18,7 @@ use Rattle.history_model.specs.declared.entry.Step.TheVariants.{Look, Take, Give
 use Rattle.history_model.specs.Phase.{is_ended, is_live, is_turn}
 use Rattle.history_model.specs.Booking.{Booking, Layout, State, booking_at, change, is_occupied, key_of, limit_of, most_rows, next_generation, occupies, phase_at, present, stands_in, successor_rows, successor_word}
 use Rattle.history_model.specs.Allowed.{AllGiven, HasEndWords, IsAllowed, IsAllowedStep, IsEndedBy, IsExchangedFor, IsMadeBy, IsRow, IsSealable, IsSuccessor, MayClose, MayGive, MayNote, MaySealAs, OnRow, TurnsWith}
-use Rattle.history_model.specs.Apply.{apply, apply_step, words_of_row, started, taken, given, noted, in_phase, turned, ended_phase, closed}
+use Rattle.history_model.specs.Apply.{apply, apply_step, words_of_row, started, item_taken, given, noted, in_phase, turned, ended_phase, closed}
 use Rattle.history_model.specs.History.{IsLegal, IsLegalFrom, own, state_after}
 use Rattle.history_model.specs.Laws.{IsInRange, IsSound, IsWellFormed, MayBecome, stage}
 use Rattle.history_model.specs.Words.{number_of_bits, place_word}
@@ -85,7 +85,7 @@ making_stays g s d st row generation p good may apart at making = go st may apar
 
     go : (st : Step) → IsAllowedStep g s d st → seals row st ≡ false → StaysMaking (apply_step s d st) row generation p
     go (Look place half shown) may apart = (p, at, making, refl)
-    go (Take q place span) may apart = by_change s row generation q (taken place span) p (λ _. refl) at stands making (λ _. (making, refl))
+    go (Take q place span) may apart = by_change s row generation q (item_taken place span) p (λ _. refl) at stands making (λ _. (making, refl))
     go (Give q item) may apart = by_change s row generation q (given item) p (λ _. refl) at stands making (λ _. (making, refl))
     go (Start q j) may apart = (p, key-started s (started q j d (words_of_row s q)) row generation p at, making, refl)
     go (SawRow q word value) may apart = (p, at, making, refl)
@@ -230,7 +230,7 @@ expects_on g s e es good range few settled may all = go e.step refl may
     go : (st : Step) → e.step ≡ st → IsAllowedStep g s e.desk st → AllByRecursion (Expects t es) (apply_step s e.desk st)
     go (Look place half shown) is may = near
     go (Take q place span) is may =
-        let b = found (present s q) (λ b. IsMadeBy e.desk b × _) may.2 in changed q (taken place span) b.0 b.1 (there q b.0 b.1)
+        let b = found (present s q) (λ b. IsMadeBy e.desk b × _) may.2 in changed q (item_taken place span) b.0 b.1 (there q b.0 b.1)
     go (Give q item) is may =
         let b = found (present s q) (MayGive e.desk item) may.1 in changed q (given item) b.0 b.1 (there q b.0 b.1)
     go (Start q j) is may = All-append (Expects t es) s (started q j e.desk (words_of_row s q) ∷ []) near (
@@ -265,7 +265,7 @@ rows_on g s d st may all = go st may
 
     go : (st : Step) → IsAllowedStep g s d st → AreInRows g (apply_step s d st)
     go (Look place half shown) may = all
-    go (Take q place span) may = let b = found (present s q) _ may.2 in changed q (taken place span) b.0 b.1 refl
+    go (Take q place span) may = let b = found (present s q) _ may.2 in changed q (item_taken place span) b.0 b.1 refl
     go (Give q item) may = let b = found (present s q) (MayGive d item) may.1 in changed q (given item) b.0 b.1 refl
     go (Start q j) may = All-append (λ c. c.row < g.rows) s (started q j d (words_of_row s q) ∷ []) all (may.0, tt)
     go (SawRow q word value) may = all

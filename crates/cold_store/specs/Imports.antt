@@ -49,7 +49,7 @@ abbrev pub IsSized : List ℕ → ℕ → List ℕ → List SaidBooking → Type
 IsSized legs rows text said = IsExportOf text (length legs) rows said
 
 -- and these are right, no two live ones overlap, and none is its own row's successor
-pub record IsSound (legs : List ℕ) (rows : ℕ) (text : List ℕ) (said : List SaidBooking) : Type 0 where
+pub record IsRightText (legs : List ℕ) (rows : ℕ) (text : List ℕ) (said : List SaidBooking) : Type 0 where
   pub sized : IsSized legs rows text said
   pub right : AreRight legs rows said said
   pub apart : NoneBelow (length legs) (λ place. ¬ IsApartAt said place)
@@ -86,7 +86,7 @@ pub record AreSound (legs : List ℕ) (rows : ℕ) (said : List SaidBooking) : T
 -- the books open with the bookings of the text
 abbrev pub OpensAs : List ℕ → ℕ → List ℕ → Layout → Type 0
 OpensAs legs rows text layout =
-    (said : List SaidBooking) × IsSound legs rows text said × (layout ≡ layout_with legs rows (map kept_of said))
+    (said : List SaidBooking) × IsRightText legs rows text said × (layout ≡ layout_with legs rows (map kept_of said))
 
 -- the text is an export of so many places and rows, and the draft is that of its bookings
 abbrev pub IsReadText : List ℕ → List ℕ → ℕ → ℕ → DraftView → Type 0

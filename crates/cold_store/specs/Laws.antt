@@ -8,7 +8,7 @@ use Rattle.claim_rule.specs.Walls.{WallView}
 use Rattle.cold_store.specs.declared.fault.ImportFault.{ImportFault}
 use Rattle.cold_store.specs.declared.fault.ImportFault.TheVariants.{NoMemory}
 use Rattle.cold_store.specs.Exports.{IsClosed, IsExport, said_on, state_on}
-use Rattle.cold_store.specs.Imports.{IsImportFault, IsSound, OpensAs}
+use Rattle.cold_store.specs.Imports.{IsImportFault, IsRightText, OpensAs}
 use Rattle.cold_store.specs.Lines.{IsExportOf, SaidBooking}
 use Rattle.cold_store.specs.Right.{kept_of}
 
@@ -25,7 +25,7 @@ HasBegun g = (g.opening ≡ []) ⊎ ((text : List ℕ) × OpensAs g.legs g.rows 
 -- the text is read as the bookings that are kept, and with no fault but want of memory. Books that open with them keep
 -- the same ones
 pub record IsReadBack (w : WallView) (text : List ℕ) : Type 0 where
-  pub sound : IsSound w.layout.legs w.layout.rows text (said_on w)
+  pub sound : IsRightText w.layout.legs w.layout.rows text (said_on w)
   pub kept : map kept_of (said_on w) ≡ kept_bookings w.layout.rows (state_on w)
   pub again : kept_bookings w.layout.rows (opening_of (map kept_of (said_on w)))
       ≡ kept_bookings w.layout.rows (state_on w)

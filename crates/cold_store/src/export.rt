@@ -15,6 +15,10 @@ use crate::writer::{
     push_amount, push_field, push_first_line, push_item, push_last_line, push_successor,
 };
 use claim_rule::Wall;
+use history_model::booking::{
+    COUNT_WORD, END_AMOUNT_WORD, END_MOMENT_WORD, END_SUCCESSOR_WORD, LIMIT_WORD, RETAILER_WORD,
+    TOTAL_WORD,
+};
 use history_model::phase::{EndKind, Phase};
 use std::alloc::{AllocError, Global};
 
@@ -126,10 +130,10 @@ fn push_words(text: &mut Vec<u8>, wall: &Wall, row: u32) -> Result<(), AllocErro
     requires row { row < wall.now.layout.rows }
     ensures { OnOk result (text.new.items ≡ text.old.items ++ words_text wall.now row) }
 {
-    push_field(text, word_at(wall, row, 1))?;
-    push_field(text, word_at(wall, row, 2))?;
-    push_field(text, word_at(wall, row, 3))?;
-    push_field(text, word_at(wall, row, 4))
+    push_field(text, word_at(wall, row, RETAILER_WORD))?;
+    push_field(text, word_at(wall, row, LIMIT_WORD))?;
+    push_field(text, word_at(wall, row, TOTAL_WORD))?;
+    push_field(text, word_at(wall, row, COUNT_WORD))
 }
 
 // The items of a row's booking.
@@ -139,7 +143,7 @@ fn push_items(text: &mut Vec<u8>, wall: &Wall, row: u32) -> Result<(), AllocErro
     requires sealed { OnRow (state_on wall.now) row (λ b. is_sealed b.phase ≡ true) }
     ensures { OnOk result (text.new.items ≡ text.old.items ++ items_text wall.now row) }
 {
-    for k in 0..word_at(wall, row, 4) as u8 {
+    for k in 0..word_at(wall, row, COUNT_WORD) as u8 {
         push_item(text, item_at(wall, row, k))?;
     }
     Ok(())
@@ -170,9 +174,9 @@ fn push_end(text: &mut Vec<u8>, wall: &Wall, row: u32, kind: EndKind) -> Result<
     requires ended { OnRow (state_on wall.now) row (λ b. b.phase ≡ Ended kind) }
     ensures { OnOk result (text.new.items ≡ text.old.items ++ end_text wall.now row) }
 {
-    push_amount(text, amount_of(kind, word_at(wall, row, 6)))?;
-    push_field(text, word_at(wall, row, 7))?;
-    push_successor(text, word_at(wall, row, 5))
+    push_amount(text, amount_of(kind, word_at(wall, row, END_AMOUNT_WORD)))?;
+    push_field(text, word_at(wall, row, END_MOMENT_WORD))?;
+    push_successor(text, word_at(wall, row, END_SUCCESSOR_WORD))
 }
 
 // The amount of an end by its word.

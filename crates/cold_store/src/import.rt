@@ -4,7 +4,7 @@ ghost use Rattle.leg_masks.specs.Interval.{most_places};
 ghost use Rattle.claim_rule.specs.Rule.{IsPlaceLegs};
 ghost use Rattle.history_model.specs.Booking.{most_rows};
 ghost use Rattle.claim_rule.specs.Out.{IsTidy};
-ghost use Rattle.claim_rule.specs.Seats.{IsNew, IsOf};
+ghost use Rattle.claim_rule.specs.Desks.{IsNew, IsOf};
 ghost use Rattle.cold_store.specs.Drafts.{EachDraft, IsDraftOf, IsNextRow, IsSomeDraft, ReadsNext};
 ghost use Rattle.cold_store.specs.Imports.{AreSound, IsFaultOf, IsImportFault, IsReadFault, IsReadText, OpensAs, last_number};
 ghost use Rattle.cold_store.specs.Lines.{IsNumber};

@@ -10,7 +10,7 @@ ghost use Rattle.history_model.specs.declared.phase.EndKind.TheVariants.{Exchang
 ghost use Rattle.cold_store.specs.Exports.{AreLiveWords, HasItem, IsClosed, IsHeldHalf, IsHeldPlace, IsItemAt, IsLeastBelow, IsOpenRow, IsUnmade, NoneHeld, NoneOpen, state_on, with_item};
 
 use claim_rule::Wall;
-use history_model::booking::FIRST_ITEM_WORD;
+use history_model::booking::{COUNT_WORD, END_SUCCESSOR_WORD, FIRST_ITEM_WORD, STANDING_WORD};
 use history_model::phase::{EndKind, Phase, read_row_word, row_word_of};
 use history_model::successor::successor_of;
 use leg_masks::{HALVES, Item, half_of, mask_of, read_item};
@@ -36,7 +36,7 @@ pub(crate) fn shown_at(wall: &Wall, row: u32) -> (Phase, u32)
     ensures phase { result.0 ≡ phase_of_row (state_on wall.now) row }
     ensures generation { result.0 ≢ Free → OnRow (state_on wall.now) row (λ b. b.generation ≡ result.1) }
 {
-    match read_row_word(word_at(wall, row, 0)) {
+    match read_row_word(word_at(wall, row, STANDING_WORD)) {
         Some(shown) => shown,
         None => unreachable!(),
     }
@@ -70,7 +70,7 @@ fn is_unmade(wall: &Wall, row: RowNo) -> bool
     requires closed { IsClosed wall.now }
     ensures { IsTrue result ↔ IsUnmade (state_on wall.now) row.row row.generation }
 {
-    match wall.row_word(row.row, 0) {
+    match wall.row_word(row.row, STANDING_WORD) {
         Some(word) => word == 0 || word == row_word_of(Phase::Making, row.generation),
         None => true,
     }
@@ -83,7 +83,7 @@ fn is_left_open(wall: &Wall, row: u32) -> bool
     requires exchanged { Ended Exchange ≡ phase_of_row (state_on wall.now) row }
     ensures { IsTrue result ↔ IsOpenRow (state_on wall.now) row }
 {
-    match successor_of(word_at(wall, row, 5)) {
+    match successor_of(word_at(wall, row, END_SUCCESSOR_WORD)) {
         Some(successor) => is_unmade(wall, successor),
         None => false,
     }
@@ -135,7 +135,7 @@ fn add_live(wall: &Wall, row: u32, words: &mut [u64])
     if !is_live(shown_at(wall, row).0) {
         return;
     }
-    for k in 0..word_at(wall, row, 4) as u8 {
+    for k in 0..word_at(wall, row, COUNT_WORD) as u8 {
         add_item(words, item_at(wall, row, k));
     }
 }

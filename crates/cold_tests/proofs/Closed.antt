@@ -5,11 +5,11 @@ use Rattle.history_model.specs.Booking.{Layout}
 use Rattle.history_model.specs.History.{IsLegal, state_of}
 use Rattle.history_model.specs.Words.{AreWordsOf}
 use Rattle.claim_rule.specs.Rule.{DeskView}
-use Rattle.claim_rule.specs.Walls.{Ends, WallView}
+use Rattle.claim_rule.specs.Walls.{Finishes, WallView}
 use Rattle.cold_store.specs.Exports.{IsClosed}
 
 pub closed_at : (w : WallView) (layout : Layout) (desk : DeskView) → w.layout ≡ layout
-    → Ends layout desk w.words w.history → length layout.legs ≤ most_places → All (λ n. n ≤ most_legs) layout.legs
+    → Finishes layout desk w.words w.history → length layout.legs ≤ most_places → All (λ n. n ≤ most_legs) layout.legs
     → IsClosed w
 closed_at w layout desk same ends places legs = record {
   legal = subst (λ (g : Layout). IsLegal g w.history) (sym same) ends.legal;

@@ -18,7 +18,7 @@ use Rattle.claim_rule.specs.Endings.{EndingView}
 use Rattle.claim_rule.specs.Holds.{HoldView}
 use Rattle.claim_rule.specs.Out.{IsEnding, IsHolding, MaySealHold}
 use Rattle.claim_rule.specs.Rule.{DeskView, OnBooking, state_seen}
-use Rattle.claim_rule.specs.Seats.{CanTurn}
+use Rattle.claim_rule.specs.Desks.{CanTurn}
 use Rattle.booking_rows.specs.SealedRows.{IsAfter, IsSealedSince}
 
 pub may_prebook : (desk : DeskView) (hold : HoldView) → IsHolding desk hold → MaySealHold desk hold Prebooked

@@ -1,6 +1,6 @@
 ghost use Rattle.std.specs.Prelude.{◌≡◌, ◌<◌, ◌≤◌, length, slice_index, true};
 ghost use Rattle.history_model.specs.Booking.{greatest_amount};
-ghost use Rattle.claim_rule.specs.Seats.{IsOf};
+ghost use Rattle.claim_rule.specs.Desks.{IsOf};
 ghost use Rattle.claim_rule.specs.Out.{EndsNone, HasNotedItems, HoldsNone, IsEnding, IsHolding, IsIdle, IsToBeSealed, KeepsEndings, KeepsHolds};
 ghost use Rattle.cold_store.specs.Exports.{IsClosed};
 

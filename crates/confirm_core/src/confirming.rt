@@ -1,6 +1,6 @@
 //! Confirming a booking (OSDM's confirmation of a prebooked offer).
 ghost use Rattle.std.specs.Prelude.{IfSome};
-ghost use Rattle.claim_rule.specs.Seats.{IsOf, AddsAtMost};
+ghost use Rattle.claim_rule.specs.Desks.{IsOf, AddsAtMost};
 ghost use Rattle.claim_rule.specs.Calls.{ShapeBy};
 ghost use Rattle.claim_rule.specs.Out.{KeepsHolds, KeepsEndings};
 ghost use Rattle.row_decisions.specs.Looks.{HasLimit};
@@ -10,6 +10,7 @@ ghost use Rattle.confirm_core.specs.Confirming.{Confirms, IfConfirmed, FindsTerm
 
 use booking_rows::{Aim, Turned, turn};
 use claim_rule::{Books, Desk};
+use history_model::booking::{LIMIT_WORD, RETAILER_WORD};
 use history_model::phase::Phase;
 use rail_ids::{RetailerNo, RowNo};
 use rail_time::Moment;
@@ -88,8 +89,8 @@ fn find_terms(books: &Books, desk: &mut Desk, row: RowNo, retailer: RetailerNo) 
     if !is_sealed(shown) {
         return None;
     }
-    let owner = look_word(books, desk, row, 1);
-    let limit = look_word(books, desk, row, 2);
+    let owner = look_word(books, desk, row, RETAILER_WORD);
+    let limit = look_word(books, desk, row, LIMIT_WORD);
     let last = look_phase(books, desk, row);
     if let Phase::Free = last {
         return None;

@@ -1,5 +1,5 @@
 //! Collecting the ticket of a confirmed booking (OSDM's fulfilment).
-ghost use Rattle.claim_rule.specs.Seats.{IsOf, AddsAtMost};
+ghost use Rattle.claim_rule.specs.Desks.{IsOf, AddsAtMost};
 ghost use Rattle.claim_rule.specs.Calls.{ShapeBy};
 ghost use Rattle.claim_rule.specs.Out.{KeepsHolds, KeepsEndings};
 ghost use Rattle.claim_rule.specs.Turns.{IsPresentIn};

@@ -1,5 +1,5 @@
 ghost use Rattle.std.specs.Prelude.{◌+◌, ◌<◌, length};
-ghost use Rattle.claim_rule.specs.Seats.{IsOf};
+ghost use Rattle.claim_rule.specs.Desks.{IsOf};
 
 use availability::{free_places, place_states};
 use booking_rows::{keep_row, start_hold};

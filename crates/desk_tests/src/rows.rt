@@ -1,6 +1,6 @@
 ghost use Rattle.std.specs.Prelude.{ℕ, ◌≡◌, ◌<◌, ◌≤◌, ◌≢◌, [], ◌∷◌, length, slice_index, IfOk};
 ghost use Rattle.leg_masks.specs.Interval.{IsPiece};
-ghost use Rattle.claim_rule.specs.Seats.{IsOf};
+ghost use Rattle.claim_rule.specs.Desks.{IsOf};
 ghost use Rattle.claim_rule.specs.Out.{IsHolding, IsIdle, HoldsNone, KeepsEndings};
 
 use booking_rows::{

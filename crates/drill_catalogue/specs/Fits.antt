@@ -20,7 +20,8 @@ numbers_from first (suc n) = first ∷ numbers_from (first + 1) n
 abbrev pub drill_retailer : ℕ
 drill_retailer = 1
 
--- what the law of the totals needs of the catalogue: each place has the eight legs, and all of them are what a request may have, in order
+-- what the law of the totals needs of the catalogue: each place has the eight legs, and all of them are what a request
+-- may have, in order
 pub record HasPlaces (cat : CatalogueView) (places : ℕ) : Type 0 where
   pub legs : legs_in cat ≡ replicate places drill_legs
   pub rows : cat.rows ≡ drill_rows

@@ -7,7 +7,7 @@ use Rattle.history_model.specs.declared.entry.Step.TheVariants.{Look, Take, Give
 use Rattle.history_model.specs.declared.phase.Phase.TheVariants.{Prebooked}
 use Rattle.history_model.specs.Booking.{Booking, Layout, State, is_occupied, most_items, present, change}
 use Rattle.history_model.specs.Allowed.{IsAllowedStep, IsMadeBy}
-use Rattle.history_model.specs.Apply.{apply_step, taken, noted, in_phase, words_of_row}
+use Rattle.history_model.specs.Apply.{apply_step, item_taken, noted, in_phase, words_of_row}
 use Rattle.history_model.proofs.Keeping.{found}
 use Rattle.history_model.proofs.Changes.{occupied_kept, occupied-start, occupied-take, legs_from_open}
 
@@ -80,7 +80,7 @@ effect g places s d (Take row place span) legs may drill =
     free : is_occupied s place span.from ≡ false
     free = legs_from_open s place span may.6 span.from ((let e : span.from ≤ span.from = omega arith in e), may.3)
 
-    gains : (p l : ℕ) → is_occupied (change s row (taken place span)) p l ≡ (is_occupied s p l || ((place == p) && (span.from == l)))
+    gains : (p l : ℕ) → is_occupied (change s row (item_taken place span)) p l ≡ (is_occupied s p l || ((place == p) && (span.from == l)))
     gains p l = occupied-take s row made.0 place span made.1 p l ∙ ap (λ (c : Bool). is_occupied s p l || ((place == p) && c)) (one_leg span.from span.to l drill)
 effect g places s d (Give row item) legs may drill = absurd drill
 effect g places s d (Turn row from to moment amount successor) legs may drill = absurd drill

@@ -7,7 +7,7 @@ use Rattle.history_model.specs.declared.entry.Entry.{Entry}
 use Rattle.history_model.specs.declared.entry.Step.TheVariants.{Met}
 use Rattle.history_model.specs.History.{entry, own}
 use Rattle.claim_rule.specs.Rule.{DeskView, In}
-use Rattle.claim_rule.specs.Seats.{HasMet}
+use Rattle.claim_rule.specs.Desks.{HasMet}
 use Rattle.history_model.proofs.ListLemmas.{All-append}
 use Rattle.claim_rule.proofs.Views.{each_in}
 use Rattle.drill_totals.specs.Meeting.{IsFirst, OfWorker, AreAll, AreAnswered}
@@ -30,28 +30,28 @@ in_last j [] ys = inl refl
 in_last j (x ∷ xs) ys = inr (in_last j xs ys)
 
 -- a parting counts one desk more, none of which is taken in
-pub first_parts : (old new : DeskView) (n : ℕ) → IsFirst old n n → new.number ≡ 0 → new.made ≡ old.made + 1
+pub first_parts : (old new : DeskView) (n : ℕ) → IsFirst old n n → new.number ≡ 0 → new.parted ≡ old.parted + 1
     → own new.seen 0 ≡ own old.seen 0 ++ entry 0 Met ∷ [] → IsFirst new (n + 1) (n + 1)
 first_parts old new n first number made met = record {
   number = number;
-  made = made ∙ ap (λ (m : ℕ). m + 1) first.made;
+  parted = made ∙ ap (λ (m : ℕ). m + 1) first.parted;
   mets = mets_after (own old.seen 0) (own new.seen 0) first.mets met;
-  taken = λ j more few. absurd (let e : ⊥ = omega (arith, more, few) in e);
+  joined = λ j more few. absurd (let e : ⊥ = omega (arith, more, few) in e);
 }
 
 -- the desk of number k + 1 is taken in
 pub first_meets : (old other new : DeskView) (n k : ℕ) → IsFirst old n (k + 1) → other.number ≡ k + 1 → HasMet old other new → IsFirst new n k
 first_meets old other new n k first number met = record {
   number = met.same.2 ∙ first.number;
-  made = met.same.3 ∙ first.made;
+  parted = met.same.3 ∙ first.parted;
   mets = mets_after (own old.seen 0) (own new.seen 0) first.mets
       (subst (λ (d : ℕ). own new.seen d ≡ own old.seen d ++ entry d Met ∷ []) first.number met.mine);
-  taken = λ j more few. taken j more few;
+  joined = λ j more few. taken j more few;
 }
   where
-    by : (j : ℕ) → (j ≡ k + 1) ⊎ (k + 1 < j) → j ≤ n → In j (old.taken ++ other.number ∷ other.taken)
-    by j (inl is) few = subst (λ (m : ℕ). In j (old.taken ++ m ∷ other.taken)) (is ∙ sym number) (in_last j old.taken other.taken)
-    by j (inr more) few = in_front j old.taken (other.number ∷ other.taken) (first.taken j more few)
+    by : (j : ℕ) → (j ≡ k + 1) ⊎ (k + 1 < j) → j ≤ n → In j (old.joined ++ other.number ∷ other.joined)
+    by j (inl is) few = subst (λ (m : ℕ). In j (old.joined ++ m ∷ other.joined)) (is ∙ sym number) (in_last j old.joined other.joined)
+    by j (inr more) few = in_front j old.joined (other.number ∷ other.joined) (first.joined j more few)
 
     cases : (j : ℕ) → k < j → (j ≡ k + 1) ⊎ (k + 1 < j)
     cases j more = ⊎_elim (λ less. absurd (let e : ⊥ = omega (arith, less, more) in e)) at_least (cases_lt j (k + 1))
@@ -59,12 +59,12 @@ first_meets old other new n k first number met = record {
         at_least : k + 1 ≤ j → (j ≡ k + 1) ⊎ (k + 1 < j)
         at_least e = ⊎_elim inl (λ (other : j ≡ k + 1 → ⊥). inr (let f : k + 1 < j = omega (arith, e, other) in f)) (cases_eq j (k + 1))
 
-    taken : (j : ℕ) → k < j → j ≤ n → In j new.taken
-    taken j more few = subst (λ (js : List ℕ). In j js) (sym met.taken) (by j (cases j more) few)
+    taken : (j : ℕ) → k < j → j ≤ n → In j new.joined
+    taken j more few = subst (λ (js : List ℕ). In j js) (sym met.joined) (by j (cases j more) few)
 
 module _ (So : OfWorker) (old other new : DeskView) (n k : ℕ) (first : IsFirst old n (k + 1)) (number : other.number ≡ k + 1) (met : HasMet old other new) where
   stays : (j : ℕ) → k + 1 < j → j ≤ n → own new.seen j ≡ own old.seen j
-  stays j more few = each_in (λ j. own new.seen j ≡ own old.seen j) old.taken j met.before (first.taken j more few)
+  stays j more few = each_in (λ j. own new.seen j ≡ own old.seen j) old.joined j met.before (first.joined j more few)
 
   all_stay : (answered : List (List ℕ)) (l : ℕ) → k + 1 ≤ l → l + length answered ≤ n → AreAll So old.seen l answered → AreAll So new.seen l answered
   all_stay [] l more few all = tt

@@ -14,7 +14,7 @@ use Rattle.history_model.specs.Phase.{is_live, is_ended}
 use Rattle.history_model.specs.Lists.{change_first}
 use Rattle.history_model.specs.Booking.{Booking, Layout, State, key_of, next_generation, present, phase_of_row, change, stands_as, stands_in, most_items}
 use Rattle.history_model.specs.Allowed.{IsAllowedStep, IsMadeBy, MayNote, IsSealable, MaySealAs, MayStart}
-use Rattle.history_model.specs.Apply.{apply, apply_step, started, words_of_row, taken, noted, in_phase}
+use Rattle.history_model.specs.Apply.{apply, apply_step, started, words_of_row, item_taken, noted, in_phase}
 use Rattle.history_model.specs.History.{IsLegalFrom, state_after, state_of}
 use Rattle.history_model.proofs.Keeping.{found}
 use Rattle.history_model.proofs.Generations.{present-changed, present-changed_other, present-started, present-started_other}
@@ -167,7 +167,7 @@ sold_step : (g : Layout) (s : State) (d : ℕ) (st : Step) → IsAllowedStep g s
 sold_step g s d (Start row generation) may drill = none_sold s _ g.rows (λ q. start_unlive s row generation d (words_of_row s row) q may.1)
 sold_step g s d (Take row place span) may drill =
     let made = found (present s row) (λ b. IsMadeBy d b × (length b.items < most_items)) may.2 in
-    none_sold s _ g.rows (λ q. ap is_live (kept_phase s row (taken place span) made.0 made.1 (λ _. refl) refl q))
+    none_sold s _ g.rows (λ q. ap is_live (kept_phase s row (item_taken place span) made.0 made.1 (λ _. refl) refl q))
 sold_step g s d (Note row w value) may drill =
     let made = found (present s row) (MayNote d w) may.1 in
     none_sold s _ g.rows (λ q. ap is_live (kept_phase s row (noted w value) made.0 made.1 (λ _. refl) refl q))

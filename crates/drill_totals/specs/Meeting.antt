@@ -8,12 +8,12 @@ use Rattle.history_model.specs.History.{own}
 use Rattle.claim_rule.specs.Rule.{DeskView, In}
 use Rattle.drill_totals.specs.Totals.{times_in, refused_line, no_memory_line, busy_line}
 
--- the first desk has parted so many desks, has met alone, and has taken in all those behind the k-th
+-- the first desk has parted so many desks, has met alone, and has joined all those behind the k-th
 pub record IsFirst (desk : DeskView) (n k : ℕ) : Type 0 where
   pub number : desk.number ≡ 0
-  pub made : desk.made ≡ n
+  pub parted : desk.parted ≡ n
   pub mets : AllByRecursion (λ e. e.step ≡ Met) (own desk.seen 0)
-  pub taken : (j : ℕ) → k < j → j ≤ n → In j desk.taken
+  pub joined : (j : ℕ) → k < j → j ≤ n → In j desk.joined
 
 -- what is so of each worker, by its number
 abbrev pub EachAt : {A : Type 0} → (ℕ → A → Type 0) → List A → Type 0
@@ -27,7 +27,8 @@ EachPair {A} So xs ys = (i : ℕ) (none : A) → i < length xs → So (slice_ind
 abbrev pub OfWorker : Type 1
 OfWorker = ℕ → DeskView → List ℕ → Type 0
 
--- the history goes on from what a worker's desk had seen at the end, and holds of the desk just the entries that it had then
+-- the history goes on from what a worker's desk had seen at the end, and holds of the desk just the entries that it had
+-- then
 pub record IsOneOf (So : OfWorker) (history : List Entry) (worker : ℕ) (answered : List ℕ) : Type 0 where
   pub desk : DeskView
   pub is : So worker desk answered
@@ -39,7 +40,8 @@ abbrev pub AreAll : OfWorker → List Entry → ℕ → List (List ℕ) → Type
 AreAll So history k [] = Unit {0}
 AreAll So history k (answered ∷ more) = IsOneOf So history k answered × AreAll So history (k + 1) more
 
--- what the workers from the k-th on were answered, and what is counted of it. None of them was answered for want of memory
+-- what the workers from the k-th on were answered, and what is counted of it. None of them was answered for want of
+-- memory
 pub record AreAnswered (So : OfWorker) (history : List Entry) (workers k refused busy : ℕ) : Type 0 where
   pub answered : List (List ℕ)
   pub number : k + length answered ≡ workers

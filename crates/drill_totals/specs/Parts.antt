@@ -68,7 +68,8 @@ pub record IsSale (places leg : ℕ) (es : List Step) : Type 0 where
 pub record IsTurnedAway (places leg : ℕ) (es : List Step) : Type 0 where
   pub minor : AllMinor es
   pub starts : starts_in es ≤ 1
-  pub taken : (place : ℕ) → place < places → (word : ℕ) × Among (look_at place (on_leg leg) word) es × (¬ IsClear word (on_leg leg))
+  pub taken : (place : ℕ) → place < places
+      → (word : ℕ) × Among (look_at place (on_leg leg) word) es × (¬ IsClear word (on_leg leg))
 
 -- one of the places was looked at as often as may be, was free on the leg each time, and had changed each time
 pub record IsBusy (places leg : ℕ) (es : List Step) : Type 0 where
@@ -103,11 +104,13 @@ IsPart g history places leg WithoutRow es = IsWithoutRow g history es
 abbrev pub AreParts : Layout → List Entry → ℕ → ℕ → ℕ → List Outcome → List Step → Type 0
 AreParts g history places seed k [] steps = steps ≡ []
 AreParts g history places seed k (outcome ∷ more) steps =
-    (mine : List Step) × (rest : List Step) × (steps ≡ mine ++ rest) × IsPart g history places (drill_leg seed k) outcome mine
+    (mine : List Step) × (rest : List Step) × (steps ≡ mine ++ rest)
+    × IsPart g history places (drill_leg seed k) outcome mine
     × AreParts g history places seed (k + 1) more rest
 
 -- a worker's entries in the history are those of its requests
-pub record HasWork (g : Layout) (history : List Entry) (places seed size worker : ℕ) (outcomes : List Outcome) : Type 0 where
+pub record HasWork (g : Layout) (history : List Entry) (places seed size worker : ℕ)
+    (outcomes : List Outcome) : Type 0 where
   pub steps : List Step
   pub own : own history (worker + 1) ≡ map (entry (worker + 1)) steps
   pub number : length outcomes ≡ size
@@ -136,8 +139,8 @@ abbrev pub all_outcomes_in : (Outcome → Bool) → List (List Outcome) → ℕ
 all_outcomes_in test [] = 0
 all_outcomes_in test (os ∷ more) = outcomes_in test os + all_outcomes_in test more
 
--- What a drill comes to, whatever the threads did: over the eight legs the lesser of the requests for the leg and the places is sold, each
--- other request is turned away for want of a place, and none is answered busy.
+-- What a drill comes to, whatever the threads did: over the eight legs the lesser of the requests for the leg and the
+-- places is sold, each other request is turned away for want of a place, and none is answered busy.
 pub record IsWholeCount (sold seed requests places : ℕ) (outcomes : List (List Outcome)) : Type 0 where
   pub sold_is : sold ≡ most_sold seed requests places
   pub all : sold + all_outcomes_in is_turned_away outcomes ≡ requests

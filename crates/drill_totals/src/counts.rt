@@ -7,6 +7,7 @@ ghost use Rattle.history_model.specs.Words.{AreWordsOf};
 ghost use Rattle.drill_totals.specs.Totals.{begins, sold_of, times};
 
 use claim_rule::Wall;
+use history_model::booking::STANDING_WORD;
 use history_model::phase::{Phase, read_row_word};
 
 /// Whether the first text begins the second.
@@ -58,7 +59,7 @@ fn is_sold(wall: &Wall, row: u32) -> bool
     requires words { AreWordsOf wall.now.layout (state_of wall.now.layout wall.now.history) wall.now.words }
     ensures { result ≡ is_live (phase_of_row (state_of wall.now.layout wall.now.history) row) }
 {
-    let Some(word) = wall.row_word(row, 0) else {
+    let Some(word) = wall.row_word(row, STANDING_WORD) else {
         return false;
     };
     match read_row_word(word) {

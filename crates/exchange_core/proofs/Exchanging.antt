@@ -18,7 +18,7 @@ use Rattle.history_model.specs.Phase.{is_turn}
 use Rattle.history_model.specs.Work.{NoStep}
 use Rattle.claim_rule.specs.Rule.{DeskView}
 use Rattle.claim_rule.specs.Calls.{ShapeBy}
-use Rattle.claim_rule.specs.Seats.{Shape, CanTurn, AddsAtMost}
+use Rattle.claim_rule.specs.Desks.{Shape, CanTurn, AddsAtMost}
 use Rattle.claim_rule.specs.Holds.{HoldView}
 use Rattle.claim_rule.specs.Endings.{EndingView, items_read, item_looks}
 use Rattle.claim_rule.specs.EndSteps.{ending_steps, gives_from, closing}
@@ -27,7 +27,7 @@ use Rattle.claim_rule.proofs.Out.{settled_append, settled_calm, confirmed_behind
 use Rattle.claim_rule.proofs.Shapes.{shape_then, adds_length}
 use Rattle.booking_rows.specs.declared.turns.Aim.TheVariants as aim
 use Rattle.booking_rows.specs.declared.turns.Turned.TheVariants as turned
-use Rattle.booking_rows.specs.Aims.{end_of, end_at, turn_step, fresh_ending, Turns, LosesTurn}
+use Rattle.booking_rows.specs.Aims.{end_of, end_at, end_turn, fresh_ending, Turns, LosesTurn}
 use Rattle.row_decisions.proofs.Deciding.{can_turn}
 use Rattle.refund_core.specs.Quotes.{phase_named}
 use Rattle.exchange_core.specs.Ready.{ReadyView, IsReadyFor}
@@ -69,11 +69,11 @@ carried a b c d ready from x q successor e is amount same to fresh did sealed re
     let end : End = exchange_end ready successor in
     let kind = kind_is e.kind to in
     let aims = end_is ready x q successor amount same in
-    let first : Shape a b (turn_step row (phase_named ready.code.fulfilled) (Ending Exchange) end ∷ items_read row e.items) =
-    subst (Shape a b) (did.1 ∙ (λ i. turn_step row (is i) (Ending Exchange) (aims i) ∷ items_read row e.items)) did.2 in
+    let first : Shape a b (end_turn row (phase_named ready.code.fulfilled) (Ending Exchange) end ∷ items_read row e.items) =
+    subst (Shape a b) (did.1 ∙ (λ i. end_turn row (is i) (Ending Exchange) (aims i) ∷ items_read row e.items)) did.2 in
     let closed : Shape c d (ending_steps row e.kind (end_of (aim.Exchange ready.moment x q)) e.items) = subst (λ (y : EndingView). Shape c d (ending_steps y.row.row e.kind y.end e.items)) fresh rest in
     let last : Shape c d (ending_steps row Exchange end e.items) = subst (λ (y : EndKind × End). Shape c d (ending_steps row y.0 y.1 e.items)) (λ i. (kind i, aims i)) closed in
-    shape_then a b d (turn_step row (phase_named ready.code.fulfilled) (Ending Exchange) end ∷ items_read row e.items) (Seal successor.row Confirmed ∷ ending_steps row Exchange end e.items) first
+    shape_then a b d (end_turn row (phase_named ready.code.fulfilled) (Ending Exchange) end ∷ items_read row e.items) (Seal successor.row Confirmed ∷ ending_steps row Exchange end e.items) first
     (shape_then b c d (Seal successor.row Confirmed ∷ []) (ending_steps row Exchange end e.items) sealed last)
 
 -- what the seal left is so of the whole call

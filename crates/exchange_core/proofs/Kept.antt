@@ -5,7 +5,7 @@ use Rattle.history_model.specs.declared.entry.Step.{Step}
 use Rattle.history_model.specs.declared.phase.Phase.{Phase}
 use Rattle.history_model.specs.Booking.{Layout}
 use Rattle.claim_rule.specs.Rule.{DeskView}
-use Rattle.claim_rule.specs.Seats.{Shape}
+use Rattle.claim_rule.specs.Desks.{Shape}
 use Rattle.booking_rows.proofs.ViewLemmas.{sealed_on}
 use Rattle.booking_rows.specs.Views.{RowSeen}
 use Rattle.history_model.specs.declared.phase.EndKind.TheVariants.{Exchange}

@@ -12,7 +12,7 @@ use Rattle.claim_rule.specs.Rule.{DeskView}
 use Rattle.claim_rule.specs.Holds.{HoldView}
 use Rattle.claim_rule.specs.Endings.{items_read}
 use Rattle.claim_rule.specs.EndSteps.{ending_steps}
-use Rattle.booking_rows.specs.Aims.{end_at, turn_step, LosesTurn}
+use Rattle.booking_rows.specs.Aims.{end_at, end_turn, LosesTurn}
 use Rattle.booking_rows.specs.Ends.{IsEndedAs}
 use Rattle.refund_core.specs.Quotes.{phase_named}
 use Rattle.exchange_core.specs.Ready.{ReadyView}
@@ -26,7 +26,7 @@ exchange_end ready successor = end_at ready.moment ready.code.difference (succes
 -- the old booking is turned from the phase that the code names, and its items are read; the new one is sealed; the old one is ended
 abbrev pub exchange_steps : ReadyView → RowNo → List Item → List Step
 exchange_steps ready successor items =
-    turn_step ready.code.row.row (phase_named ready.code.fulfilled) (Ending Exchange) (exchange_end ready successor)
+    end_turn ready.code.row.row (phase_named ready.code.fulfilled) (Ending Exchange) (exchange_end ready successor)
     ∷ items_read ready.code.row.row items ++ Seal successor.row Confirmed
     ∷ ending_steps ready.code.row.row Exchange (exchange_end ready successor) items
 

@@ -4,7 +4,7 @@ use Rattle.history_model.specs.declared.phase.EndKind.TheVariants.{Exchange}
 use Rattle.history_model.specs.Allowed.{IsAmountOf}
 use Rattle.history_model.specs.declared.entry.Step.{Step}
 use Rattle.claim_rule.specs.Rule.{DeskView}
-use Rattle.claim_rule.specs.Seats.{Shape}
+use Rattle.claim_rule.specs.Desks.{Shape}
 use Rattle.booking_rows.specs.SealedRows.{IsSealedRow}
 use Rattle.offer_codes.specs.Exchanges.{ExchangeView}
 

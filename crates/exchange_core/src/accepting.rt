@@ -3,7 +3,7 @@ ghost use Rattle.std.specs.Prelude.{◌≡◌, ◌+◌, ◌*◌};
 ghost use Rattle.history_model.specs.Booking.{most_items};
 ghost use Rattle.history_model.specs.declared.phase.Phase.TheVariants.{Confirmed};
 ghost use Rattle.history_model.specs.History.{own};
-ghost use Rattle.claim_rule.specs.Seats.{IsOf, AddsAtMost};
+ghost use Rattle.claim_rule.specs.Desks.{IsOf, AddsAtMost};
 ghost use Rattle.claim_rule.specs.Calls.{ShapeBy};
 ghost use Rattle.claim_rule.specs.Out.{IsHolding, IsToBeSealed, HoldsNone, EndsNone, SealsItems, AreSettled};
 ghost use Rattle.exchange_core.specs.Ready.{IsReadyFor};

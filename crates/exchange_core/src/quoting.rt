@@ -1,11 +1,12 @@
 //! Quoting an exchange (OSDM's exchange offer).
 ghost use Rattle.std.specs.Prelude.{◌≡◌, ◌+◌, true};
 ghost use Rattle.history_model.specs.Booking.{most_items};
-ghost use Rattle.claim_rule.specs.Seats.{IsOf, AddsAtMost};
+ghost use Rattle.claim_rule.specs.Desks.{IsOf, AddsAtMost};
 ghost use Rattle.claim_rule.specs.Calls.{ShapeBy};
 ghost use Rattle.claim_rule.specs.Out.{KeepsHolds, KeepsEndings};
 ghost use Rattle.offer_codes.specs.Offers.{is_offer, offer_view};
 ghost use Rattle.offer_codes.specs.Exchanges.{is_exchange, exchange_view};
+ghost use Rattle.booking_rows.specs.Views.{other_looks};
 ghost use Rattle.exchange_core.specs.Exchanges.{QuotesExchange, IfQuoted};
 
 use crate::copies::copy_of_offer;
@@ -49,7 +50,7 @@ pub fn quote_exchange(
     ensures range { IfQuoted result (λ code. is_exchange (exchange_view code) ≡ true) }
     ensures holds { KeepsHolds desk.old desk.new }
     ensures endings { KeepsEndings desk.old desk.new }
-    ensures bound { AddsAtMost (most_items + 9) desk.old desk.new }
+    ensures bound { AddsAtMost (most_items + other_looks) desk.old desk.new }
 {
     let Some(view) = find_booking(books, desk, row, retailer) else {
         return QuotedExchange::Unknown;

@@ -1,11 +1,12 @@
 //! Checking the quote of an exchange, before places are held for it.
 ghost use Rattle.std.specs.Prelude.{◌≡◌, ◌+◌, true};
 ghost use Rattle.history_model.specs.Booking.{most_items};
-ghost use Rattle.claim_rule.specs.Seats.{IsOf, AddsAtMost};
+ghost use Rattle.claim_rule.specs.Desks.{IsOf, AddsAtMost};
 ghost use Rattle.claim_rule.specs.Calls.{ShapeBy};
 ghost use Rattle.claim_rule.specs.Out.{KeepsHolds, KeepsEndings};
 ghost use Rattle.offer_codes.specs.Offers.{is_offer, offer_view};
 ghost use Rattle.offer_codes.specs.Exchanges.{exchange_view};
+ghost use Rattle.booking_rows.specs.Views.{other_looks};
 ghost use Rattle.exchange_core.specs.Ready.{IsReadyFor};
 ghost use Rattle.exchange_core.specs.Exchanges.{Readies, IfFine};
 
@@ -71,7 +72,7 @@ pub fn ready_exchange(
     ensures ready { IfFine result (IsReadyFor desk.new) }
     ensures holds { KeepsHolds desk.old desk.new }
     ensures endings { KeepsEndings desk.old desk.new }
-    ensures bound { AddsAtMost (most_items + 9) desk.old desk.new }
+    ensures bound { AddsAtMost (most_items + other_looks) desk.old desk.new }
 {
     let made = code.made;
     if is_stale(made, now) {

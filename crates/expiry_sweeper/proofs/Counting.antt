@@ -9,14 +9,14 @@ use Rattle.booking_rows.specs.Aims.{end_of}
 use Rattle.booking_rows.proofs.Ended.{ended_stays}
 use Rattle.history_model.specs.History.{IsLegal}
 use Rattle.claim_rule.specs.Rule.{BooksView, DeskView}
-use Rattle.claim_rule.specs.Seats.{IsOf, Shape, AddsAtMost}
+use Rattle.claim_rule.specs.Desks.{IsOf, Shape, AddsAtMost}
 use Rattle.claim_rule.specs.Calls.{ShapeBy}
 use Rattle.claim_rule.specs.Out.{KeepsHolds, EndsNone, IsTidy}
 use Rattle.claim_rule.proofs.Shapes.{shape_then, shape_none, adds_length}
 use Rattle.claim_rule.proofs.Out.{settled_calm, tidy_through}
 use Rattle.expiry_sweeper.specs.declared.rows.RowSwept.{RowSwept}
 use Rattle.expiry_sweeper.specs.declared.rows.RowSwept.TheVariants as came
-use Rattle.expiry_sweeper.specs.declared.sweeps.Swept.{Swept}
+use Rattle.booking_rows.specs.declared.swept.Swept.{Swept}
 use Rattle.expiry_sweeper.specs.OneRow.{RowSweep, passed, given_away, waiting, expired, lost, IsRowSweep, HasExpired, SweepsRow, outcome_of, row_sweep_steps}
 use Rattle.expiry_sweeper.specs.AllRows.{Sweeps, HaveExpired, ExpiresCounted, sweeps_steps, counted, counts_of}
 use Rattle.expiry_sweeper.proofs.Sweeping.{steps_more, sweeps_length, calm_sweeps}

@@ -19,7 +19,7 @@ use Rattle.history_model.specs.declared.phase.EndKind.TheVariants.{Expire}
 use Rattle.history_model.specs.declared.booking.End.{End}
 use Rattle.history_model.specs.Work.{NoStep}
 use Rattle.claim_rule.specs.Rule.{DeskView, state_seen}
-use Rattle.claim_rule.specs.Seats.{Shape, Stepped}
+use Rattle.claim_rule.specs.Desks.{Shape, Stepped}
 use Rattle.claim_rule.specs.Calls.{ShapeBy}
 use Rattle.claim_rule.specs.Endings.{items_read, item_looks}
 use Rattle.claim_rule.specs.EndSteps.{ending_steps, gives_from, closing}

@@ -4,9 +4,9 @@ use Rattle.std.specs.List.{AllByRecursion}
 use Rattle.history_model.specs.declared.entry.Step.{Step}
 use Rattle.expiry_sweeper.specs.declared.rows.RowSwept.{RowSwept}
 use Rattle.expiry_sweeper.specs.declared.rows.RowSwept.TheVariants as came
-use Rattle.expiry_sweeper.specs.declared.sweeps.Swept.{Swept}
+use Rattle.booking_rows.specs.declared.swept.Swept.{Swept}
 use Rattle.claim_rule.specs.Rule.{DeskView}
-use Rattle.claim_rule.specs.Seats.{Shape}
+use Rattle.claim_rule.specs.Desks.{Shape}
 use Rattle.expiry_sweeper.specs.OneRow.{RowSweep, IsRowSweep, HasExpired, outcome_of, row_sweep_steps}
 
 -- the steps of the sweeps of rows in rising number, from one on

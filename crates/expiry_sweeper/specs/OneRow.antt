@@ -6,9 +6,9 @@ use Rattle.history_model.specs.declared.entry.Step.TheVariants.{SawRow, LostTurn
 use Rattle.history_model.specs.declared.phase.Phase.TheVariants.{Free, Prebooked}
 use Rattle.history_model.specs.declared.phase.EndKind.TheVariants.{Expire}
 use Rattle.history_model.specs.Phase.{generation_words, phase_shown, row_word_of, said_phase}
-use Rattle.history_model.specs.Booking.{most_items}
+use Rattle.history_model.specs.Booking.{most_items, standing_word, limit_word}
 use Rattle.claim_rule.specs.Rule.{DeskView}
-use Rattle.claim_rule.specs.Seats.{Shape}
+use Rattle.claim_rule.specs.Desks.{Shape}
 use Rattle.booking_rows.specs.declared.turns.Aim.TheVariants as aim
 use Rattle.booking_rows.specs.Aims.{end_of}
 use Rattle.booking_rows.specs.Ends.{IsEndedAs}
@@ -52,10 +52,12 @@ IsRowSweep now (lost s shown) = IsThere s × (s.limit < now) × (shown ≢ row_w
 
 -- the looks at the phase and the limit of a prebooked booking, and at its phase again
 abbrev pub saw_prebooked : ℕ → SeenPrebooked → List Step
-saw_prebooked row s = saw_phase (record { row = row; generation = s.generation }) Prebooked ∷ SawRow row 2 s.limit ∷ SawRow row 0 s.last ∷ []
+saw_prebooked row s =
+    saw_phase (record { row = row; generation = s.generation }) Prebooked ∷ SawRow row limit_word s.limit
+    ∷ SawRow row standing_word s.last ∷ []
 
 abbrev pub row_sweep_steps : ℕ → ℕ → RowSweep → List Step
-row_sweep_steps now row (passed n) = SawRow row 0 n ∷ []
+row_sweep_steps now row (passed n) = SawRow row standing_word n ∷ []
 row_sweep_steps now row (given_away s) = saw_prebooked row s
 row_sweep_steps now row (waiting s) = saw_prebooked row s
 row_sweep_steps now row (expired s items) = saw_prebooked row s ++ ends_as row Prebooked Expire (end_of (aim.Expire now)) items

@@ -9,4 +9,4 @@
 mod rows;
 mod sweeps;
 
-pub use sweeps::{Swept, sweep};
+pub use sweeps::sweep;

@@ -1,11 +1,12 @@
 //! The sweep of one row.
 ghost use Rattle.std.specs.Prelude.{◌<◌};
-ghost use Rattle.claim_rule.specs.Seats.{IsOf};
+ghost use Rattle.claim_rule.specs.Desks.{IsOf};
 ghost use Rattle.claim_rule.specs.Out.{EndsNone, KeepsHolds};
 ghost use Rattle.expiry_sweeper.specs.OneRow.{SweepsRow};
 
 use booking_rows::Aim;
 use claim_rule::{Books, Desk};
+use history_model::booking::{LIMIT_WORD, STANDING_WORD};
 use history_model::phase::{Phase, read_row_word};
 use rail_ids::RowNo;
 use rail_time::Moment;
@@ -34,7 +35,7 @@ pub(crate) fn sweep_row(books: &Books, desk: &mut Desk, row: u32, now: Moment) -
     ensures none { EndsNone desk.new }
     ensures holds { KeepsHolds desk.old desk.new }
 {
-    let word = books.step_read(desk, RowNo { row, generation: 0 }, 0);
+    let word = books.step_read(desk, RowNo { row, generation: 0 }, STANDING_WORD);
     let Some((shown, generation)) = read_row_word(word) else {
         return RowSwept::Passed;
     };
@@ -42,7 +43,7 @@ pub(crate) fn sweep_row(books: &Books, desk: &mut Desk, row: u32, now: Moment) -
         return RowSwept::Passed;
     };
     let row = RowNo { row, generation };
-    let limit = look_word(books, desk, row, 2);
+    let limit = look_word(books, desk, row, LIMIT_WORD);
     let last = look_phase(books, desk, row);
     if let Phase::Free = last {
         return RowSwept::Passed;

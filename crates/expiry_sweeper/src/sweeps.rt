@@ -1,25 +1,15 @@
 //! The sweep of all rows.
 ghost use Rattle.std.specs.Prelude.{◌≡◌, ◌+◌, ◌*◌, ◌^◌, ◌<◌};
 ghost use Rattle.history_model.specs.Booking.{most_items};
-ghost use Rattle.claim_rule.specs.Seats.{IsOf, AddsAtMost};
+ghost use Rattle.claim_rule.specs.Desks.{IsOf, AddsAtMost};
 ghost use Rattle.claim_rule.specs.Calls.{ShapeBy};
 ghost use Rattle.claim_rule.specs.Out.{EndsNone, KeepsHolds, IsTidy};
 ghost use Rattle.expiry_sweeper.specs.AllRows.{Sweeps, ExpiresCounted, counted as counted_of};
 
 use crate::rows::{RowSwept, sweep_row};
+use booking_rows::Swept;
 use claim_rule::{Books, Desk};
 use rail_time::Moment;
-
-/// What a sweep did, in rows.
-#[derive(Clone, Copy, Debug, PartialEq, Eq)]
-pub struct Swept {
-    /// Seen prebooked with a limit before now, and expired by this sweep: all legs are given back.
-    pub expired: u32,
-    /// Seen so, and decided by another turn first.
-    pub lost: u32,
-    /// Seen prebooked, with a limit not before now.
-    pub waiting: u32,
-}
 
 /// Looks at every row, in rising number, and expires those bookings seen prebooked with a limit before now. A row whose last look shows
 /// that it was given away meanwhile is in no count. The desk has no ending out. At most 105 entries are added for each row.

@@ -13,7 +13,7 @@ use Rattle.history_model.specs.declared.booking.End.{End}
 use Rattle.history_model.specs.Phase.{is_live, is_sealed, is_turn}
 use Rattle.history_model.specs.Booking.{Booking, Layout, State, key_of, stands_as, booking_at, next_generation, present, change, limit_of, most_items}
 use Rattle.history_model.specs.Allowed.{IsAllowed, IsAllowedStep, MayStart, MaySealAs, IsMadeBy, IsEndedBy, IsBeingEndedBy, IsMakerWord, IsEndWord, IsLeft, IsSealable, TurnsWith, AllGiven, HasEndWords}
-use Rattle.history_model.specs.Apply.{apply_step, words_of_row, started, taken, given, noted, in_phase, turned, closed, ended_phase}
+use Rattle.history_model.specs.Apply.{apply_step, words_of_row, started, item_taken, given, noted, in_phase, turned, closed, ended_phase}
 use Rattle.history_model.specs.History.{IsLegal, IsLegalFrom, state_of, entry}
 use Rattle.history_model.specs.Laws.{MayBecome, IsOpening, IsSound, is_owners, is_turned_to_end, unmarked}
 use Rattle.history_model.specs.Life.{all_given_back, IsPresentAt, IsSealedBy, HasEnded}
@@ -287,7 +287,7 @@ life_step g h row j d Met may k c to = life_same g h row j c (entry d Met) (k c 
 life_step g h row j d (Start x n) may k c to = start_on g h row j x n d c may.1 k to
 life_step g h row j d (Take x p span) may k c to =
     let b = found (present (state_of g h) x) (λ b. IsMadeBy d b × (length b.items < most_items)) may.2 in
-    on_change g h row j x (taken p span) (entry d (Take x p span)) b.0 c (λ _. refl) k b.1 (λ _. life_making g (h ++ entry d (Take x p span) ∷ []) x b.0.generation (taken p span b.0) b.2.0.0) to
+    on_change g h row j x (item_taken p span) (entry d (Take x p span)) b.0 c (λ _. refl) k b.1 (λ _. life_making g (h ++ entry d (Take x p span) ∷ []) x b.0.generation (item_taken p span b.0) b.2.0.0) to
 life_step g h row j d (Give x i) may k c to =
     let b = found (present (state_of g h) x) (λ b. (IsMadeBy d b × (i + 1 ≡ length b.items)) ⊎ (IsBeingEndedBy d b × IsLeft b i)) may.1 in
     on_change g h row j x (given i) (entry d (Give x i)) b.0 c (λ _. refl) k b.1

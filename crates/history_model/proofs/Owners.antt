@@ -10,7 +10,7 @@ use Rattle.history_model.specs.declared.entry.Step.TheVariants.{Look, Take, Give
 use Rattle.history_model.specs.declared.entry.Entry.{Entry}
 use Rattle.history_model.specs.Booking.{Booking, Layout, State, booking_at, next_generation, phase_of_row, stands_in, present}
 use Rattle.history_model.specs.Allowed.{IsAllowedStep, OnRow}
-use Rattle.history_model.specs.Apply.{apply, apply_step, words_of_row, taken, given, noted, in_phase, turned, closed}
+use Rattle.history_model.specs.Apply.{apply, apply_step, words_of_row, item_taken, given, noted, in_phase, turned, closed}
 use Rattle.history_model.specs.History.{own, IsLegal, IsLegalFrom, state_after, state_of, entry}
 use Rattle.history_model.specs.Laws.{is_owners, stage, IsSound, IsWellFormed, MayBecome}
 use Rattle.history_model.specs.Phase.{is_ended}
@@ -72,7 +72,7 @@ apart_rows x r q e = both (sym q ∙ ap not (eq-eqb x r (sym e)))
 
 pub quiet_step : (s : State) (r : ℕ) (b : Booking) (d : ℕ) (st : Step) → present s r ≡ Some b → is_quiet r st ≡ true → present (apply_step s d st) r ≡ Some b
 quiet_step s r b d (Look p k n) at q = at
-quiet_step s r b d (Take x p span) at q = present-changed_other s x r (taken p span) (λ _. refl) (apart_rows x r q) ∙ at
+quiet_step s r b d (Take x p span) at q = present-changed_other s x r (item_taken p span) (λ _. refl) (apart_rows x r q) ∙ at
 quiet_step s r b d (Give x k) at q = present-changed_other s x r (given k) (λ _. refl) (apart_rows x r q) ∙ at
 quiet_step s r b d (Start x j) at q = present-started_other s x j d (words_of_row s x) r (apart_rows x r q) ∙ at
 quiet_step s r b d (SawRow x w n) at q = at

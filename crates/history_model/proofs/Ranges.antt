@@ -14,7 +14,7 @@ use Rattle.history_model.specs.Lists.{change_first}
 use Rattle.history_model.specs.Phase.{is_turn}
 use Rattle.history_model.specs.Booking.{Booking, Layout, State, successor_word, last_moment, limit_of, booking_at, stands_in, present}
 use Rattle.history_model.specs.Allowed.{IsAllowedStep, IsRow, MaySealAs, IsMadeBy, IsSealable, IsExchangedFor, IsAmountOf, TurnsWith}
-use Rattle.history_model.specs.Apply.{apply, apply_step, words_of_row, started, taken, given, noted, in_phase, turned, ended_phase, closed}
+use Rattle.history_model.specs.Apply.{apply, apply_step, words_of_row, started, item_taken, given, noted, in_phase, turned, ended_phase, closed}
 use Rattle.history_model.specs.History.{IsLegal, IsLegalFrom, state_after, state_of}
 use Rattle.history_model.specs.Laws.{IsInRange, AreInRange, IsSuccessorIn, IsWellFormed, HasAmountFor, MayBecome, MayFollow, is_turned_to_end}
 use Rattle.history_model.proofs.Keeping.{found}
@@ -107,7 +107,7 @@ with_end g s who limit (Ended kind) m a x b all moment may none is = absurd may
 
 ranges-step : (g : Layout) (s : State) (who : ℕ) (st : Step) → IsWellFormed g s → IsAllowedStep g s who st → AreInRange g s → AreInRange g (apply_step s who st)
 ranges-step g s who (Look p k n) good may all = all
-ranges-step g s who (Take q p span) good may all = all_changed (IsInRange g) (stands_in s q) (taken p span) s (λ b _. same_range g b (taken p span b) refl refl refl) all
+ranges-step g s who (Take q p span) good may all = all_changed (IsInRange g) (stands_in s q) (item_taken p span) s (λ b _. same_range g b (item_taken p span b) refl refl refl) all
 ranges-step g s who (Give q k) good may all = all_changed (IsInRange g) (stands_in s q) (given k) s (λ b _. same_range g b (given k b) refl refl refl) all
 ranges-step g s who (Start q j) good may all = all_more (IsInRange g) s (started q j who (words_of_row s q)) all (record { row = may.0; moment = omega arith; amount = refl; successor = inl refl })
 ranges-step g s who (SawRow q w n) good may all = all

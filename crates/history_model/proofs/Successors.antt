@@ -12,7 +12,7 @@ use Rattle.history_model.specs.declared.entry.Entry.{Entry}
 use Rattle.history_model.specs.Lists.{change_first}
 use Rattle.history_model.specs.Booking.{Booking, Layout, State, successor_word, key_of, booking_at, stands_in, present, change}
 use Rattle.history_model.specs.Allowed.{IsAllowedStep, IsMadeBy, IsExchangedFor, IsSuccessor}
-use Rattle.history_model.specs.Apply.{apply, apply_step, words_of_row, started, taken, given, noted, in_phase, turned, closed}
+use Rattle.history_model.specs.Apply.{apply, apply_step, words_of_row, started, item_taken, given, noted, in_phase, turned, closed}
 use Rattle.history_model.specs.History.{IsLegalFrom, own, state_after}
 use Rattle.history_model.specs.Phase.{is_ended}
 use Rattle.history_model.specs.Laws.{IsWellFormed, MayBecome, MayFollow, GoesOn, is_turned_to_end}
@@ -82,7 +82,7 @@ exchanged_change d e word s q f keeps on h = some-changed (IsExchangedFor d word
 
 exchanged_step : (g : Layout) (d e word : ℕ) (s : State) (st : Step) → IsAllowedStep g s e st → Some_of (IsExchangedFor d word) s → Some_of (IsExchangedFor d word) (apply_step s e st)
 exchanged_step g d e word s (Look p k n) may h = h
-exchanged_step g d e word s (Take q p span) may h = exchanged_change d e word s q (taken p span) (λ _. refl) (GoesOn-step g s e (Take q p span) may) h
+exchanged_step g d e word s (Take q p span) may h = exchanged_change d e word s q (item_taken p span) (λ _. refl) (GoesOn-step g s e (Take q p span) may) h
 exchanged_step g d e word s (Give q k) may h = exchanged_change d e word s q (given k) (λ _. refl) (GoesOn-step g s e (Give q k) may) h
 exchanged_step g d e word s (Start q j) may h = some-append (IsExchangedFor d word) s (started q j e (words_of_row s q) ∷ []) h
 exchanged_step g d e word s (SawRow q w n) may h = h

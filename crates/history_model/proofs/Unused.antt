@@ -9,7 +9,7 @@ use Rattle.history_model.specs.Phase.{row_word_of}
 use Rattle.history_model.specs.Booking.{Layout, State, most_items, first_item_word, limit_of, present}
 use Rattle.history_model.specs.Words.{row_word}
 use Rattle.history_model.specs.Allowed.{IsAllowedStep, IsMadeBy, IsSealable, MayGive, MayNote, MayClose, MaySealAs, TurnsWith}
-use Rattle.history_model.specs.Apply.{apply, apply_step, taken, given, noted, in_phase, closed}
+use Rattle.history_model.specs.Apply.{apply, apply_step, item_taken, given, noted, in_phase, closed}
 use Rattle.history_model.specs.History.{IsLegal, IsLegalFrom, state_after, state_of}
 use Rattle.history_model.proofs.Keeping.{found}
 use Rattle.history_model.proofs.Seen.{legal-rest, state_of-append}
@@ -34,7 +34,7 @@ row_zero q r w l e = above_zero w l (word_of e)
 unused_step : (g : Layout) (s : State) (d : ℕ) (st : Step) (row w : ℕ) → IsAllowedStep g s d st → 56 ≤ w → row_word (apply_step s d st) row w ≡ row_word s row w
 unused_step g s d (Start q j) row w may l = (start_writes s q j d may.1).rest (Row row w) (row_zero q row w l)
 unused_step g s d (Take q p span) row w may l =
-    let b = found (present s q) (λ b. IsMadeBy d b × (length b.items < most_items)) may.2 in row_kept s q (taken p span) b.0 b.1 (λ _. refl) row w (λ _. refl)
+    let b = found (present s q) (λ b. IsMadeBy d b × (length b.items < most_items)) may.2 in row_kept s q (item_taken p span) b.0 b.1 (λ _. refl) row w (λ _. refl)
 unused_step g s d (Give q k) row w may l = let b = found (present s q) (MayGive d k) may.1 in row_kept s q (given k) b.0 b.1 (λ _. refl) row w (λ _. refl)
 unused_step g s d (Note q v n) row w may l =
     let b = found (present s q) (MayNote d v) may.1 in

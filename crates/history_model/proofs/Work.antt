@@ -11,7 +11,7 @@ use Rattle.history_model.specs.declared.entry.Entry.{Entry}
 use Rattle.history_model.specs.Phase.{is_turn}
 use Rattle.history_model.specs.Booking.{Booking, Layout, State, key_of, most_items, limit_of, present, change}
 use Rattle.history_model.specs.Allowed.{IsAllowedStep, MayStart, MaySealAs, OnRow, IsMadeBy, IsSealable, MayGive, MayNote, MayClose, TurnsWith}
-use Rattle.history_model.specs.Apply.{apply, apply_step, words_of_row, started, taken, given, noted, in_phase, turned, closed, ended_phase}
+use Rattle.history_model.specs.Apply.{apply, apply_step, words_of_row, started, item_taken, given, noted, in_phase, turned, closed, ended_phase}
 use Rattle.history_model.specs.History.{own, IsLegalFrom, state_after, entry}
 use Rattle.history_model.specs.Work.{IsIn, starts_row, ends_row, NoStep}
 use Rattle.history_model.proofs.Keeping.{found, turned-key}
@@ -62,7 +62,7 @@ pub made_step : (g : Layout) (s : State) (who : ℕ) (st : Step) (d r : ℕ) →
 made_step g s who (Look p k n) d r may on = inl on
 made_step g s who (Take q p span) d r may on =
     let b = found (present s q) (λ b. IsMadeBy who b × (length b.items < most_items)) may.2 in
-    inl (same_work s q r (taken p span) Making d b.0 b.1 (λ _. refl) refl refl on)
+    inl (same_work s q r (item_taken p span) Making d b.0 b.1 (λ _. refl) refl refl on)
 made_step g s who (Give q k) d r may on =
     let b = found (present s q) (MayGive who k) may.1 in
     inl (same_work s q r (given k) Making d b.0 b.1 (λ _. refl) refl refl on)
@@ -99,7 +99,7 @@ pub ended_step : (g : Layout) (s : State) (who : ℕ) (st : Step) (kind : EndKin
 ended_step g s who (Look p k n) kind d r may on = inl on
 ended_step g s who (Take q p span) kind d r may on =
     let b = found (present s q) (λ b. IsMadeBy who b × (length b.items < most_items)) may.2 in
-    inl (same_work s q r (taken p span) (Ending kind) d b.0 b.1 (λ _. refl) refl refl on)
+    inl (same_work s q r (item_taken p span) (Ending kind) d b.0 b.1 (λ _. refl) refl refl on)
 ended_step g s who (Give q k) kind d r may on =
     let b = found (present s q) (MayGive who k) may.1 in
     inl (same_work s q r (given k) (Ending kind) d b.0 b.1 (λ _. refl) refl refl on)

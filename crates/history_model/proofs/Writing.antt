@@ -20,7 +20,7 @@ use Rattle.rail_ids.specs.Spelling.{last_generation}
 use Rattle.history_model.specs.Booking.{Booking, Layout, State, key_of, stands_in, present, change, word_at, occupies, is_occupied, row_words}
 use Rattle.history_model.specs.Words.{value, place_word, row_word, Writes}
 use Rattle.history_model.specs.Allowed.{MayGive, MayStart}
-use Rattle.history_model.specs.Apply.{words_of_row, started, taken, given, noted, turned}
+use Rattle.history_model.specs.Apply.{words_of_row, started, item_taken, given, noted, turned}
 use Rattle.history_model.specs.Laws.{IsSound, IsWellFormed, LiesWithin}
 use Rattle.history_model.proofs.ListLemmas.{All-found}
 use Rattle.history_model.proofs.Keeping.{turned-key, turned-items}
@@ -70,19 +70,19 @@ elsewhere p q h i span fits piece l other = ⊎_elim
 
 -- a take sets the bits of its piece in the word of its half, and changes no other
 pub take_writes : (s : State) (r p : ℕ) (span : Interval) (b : Booking) → present s r ≡ Some b → span.from < span.to → span.to ≤ 126 → IsPiece span
-    → Writes s (change s r (taken p span)) (Place p (half_of span)) (bit_or (place_word s p (half_of span)) (mask span))
+    → Writes s (change s r (item_taken p span)) (Place p (half_of span)) (bit_or (place_word s p (half_of span)) (mask span))
 take_writes s r p span b at some fits piece = record { here = here; rest = rest }
   where
-    here : value (change s r (taken p span)) (Place p (half_of span)) ≡ bit_or (place_word s p (half_of span)) (mask span)
-    here = is_place_word (change s r (taken p span)) p (half_of span) (bit_or (place_word s p (half_of span)) (mask span)) (or_lt 63 (place_word s p (half_of span)) (mask span) (place_word-lt s p (half_of span)) (mask-lt span some fits piece))
+    here : value (change s r (item_taken p span)) (Place p (half_of span)) ≡ bit_or (place_word s p (half_of span)) (mask span)
+    here = is_place_word (change s r (item_taken p span)) p (half_of span) (bit_or (place_word s p (half_of span)) (mask span)) (or_lt 63 (place_word s p (half_of span)) (mask span) (place_word-lt s p (half_of span)) (mask-lt span some fits piece))
         (λ i l. let leg : ℕ = leg_of (half_of span) i in
         bit_at_or (place_word s p (half_of span)) (mask span) i ∙ (ap (λ (x : ℕ). max x (bit_at (mask span) i)) (bit_at-place_word s p (half_of span) i l) ∙ (ap (λ (x : ℕ). max (bit (is_occupied s p leg)) x) (bit_at-mask span some i)
         ∙ (max_bits (is_occupied s p leg) (has_leg span leg) ∙ ap bit (sym (occupied-take s r b p span at p leg ∙ ap (λ (t : Bool). is_occupied s p leg || t) (occupies_here p leg span)))))))
 
-    rest : (a : Word) → (a ≡ Place p (half_of span) → ⊥) → value (change s r (taken p span)) a ≡ value s a
-    rest (Place q h) other = place_word-same_half s (change s r (taken p span)) q h
+    rest : (a : Word) → (a ≡ Place p (half_of span) → ⊥) → value (change s r (item_taken p span)) a ≡ value s a
+    rest (Place q h) other = place_word-same_half s (change s r (item_taken p span)) q h
         (λ i l. occupied-take s r b p span at q (leg_of h i) ∙ or_false (is_occupied s q (leg_of h i)) (occupies q (leg_of h i) (left_item p span)) (elsewhere p q h i span fits piece l other))
-    rest (Row q w) other = row_kept s r (taken p span) b at (λ _. refl) q w (λ _. refl)
+    rest (Row q w) other = row_kept s r (item_taken p span) b at (λ _. refl) q w (λ _. refl)
 
 -- starts
 

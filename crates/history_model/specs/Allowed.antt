@@ -12,7 +12,7 @@ use Rattle.history_model.specs.declared.entry.Step.{Step}
 use Rattle.history_model.specs.declared.entry.Step.TheVariants.{Look, Take, Give, Start, SawRow, Note, Seal, Turn, LostTurn, Close, Met}
 use Rattle.rail_ids.specs.Spelling.{last_generation}
 use Rattle.history_model.specs.Phase.{is_turn, is_ended}
-use Rattle.history_model.specs.Booking.{Booking, Layout, State, row_words, most_items, first_item_word, last_moment, greatest_retailer, greatest_amount, least_difference, greatest_difference, word_at, limit_of, present, all_items, amount_word, successor_word}
+use Rattle.history_model.specs.Booking.{Booking, Layout, State, row_words, most_items, first_item_word, last_moment, greatest_retailer, greatest_amount, least_difference, greatest_difference, word_at, limit_of, present, all_items, amount_word, successor_word, standing_word, retailer_word, limit_word, total_word, count_word, end_successor_word, end_amount_word, end_moment_word}
 use Rattle.history_model.specs.Words.{place_word, row_word}
 
 abbrev pub IsPlace : Layout → ℕ → Type 0
@@ -53,10 +53,10 @@ AllGiven b = AllByRecursion (λ i. i.given_back ≡ true) b.items
 
 -- words that a maker notes, and those that the owner of an ending notes
 abbrev pub IsMakerWord : ℕ → Type 0
-IsMakerWord w = ((1 ≤ w) × (w ≤ 4)) ⊎ ((first_item_word ≤ w) × (w < first_item_word + most_items))
+IsMakerWord w = ((retailer_word ≤ w) × (w ≤ count_word)) ⊎ ((first_item_word ≤ w) × (w < first_item_word + most_items))
 
 abbrev pub IsEndWord : ℕ → Type 0
-IsEndWord w = (5 ≤ w) × (w ≤ 7)
+IsEndWord w = (end_successor_word ≤ w) × (w ≤ end_moment_word)
 
 abbrev pub MayGive : ℕ → ℕ → Booking → Type 0
 MayGive desk item b = (IsMadeBy desk b × (item + 1 ≡ length b.items)) ⊎ (IsBeingEndedBy desk b × IsLeft b item)
@@ -67,17 +67,17 @@ MayNote desk word b = (IsMadeBy desk b × IsMakerWord word) ⊎ (IsBeingEndedBy 
 -- the words that a sealed booking has
 pub record IsSealable (b : Booking) : Type 0 where
   pub some : 1 ≤ length b.items
-  pub retailer : word_at b 1 ≤ greatest_retailer
-  pub limit : word_at b 2 ≤ last_moment
-  pub total : word_at b 3 ≤ greatest_amount
-  pub count : word_at b 4 ≡ length b.items
+  pub retailer : word_at b retailer_word ≤ greatest_retailer
+  pub limit : word_at b limit_word ≤ last_moment
+  pub total : word_at b total_word ≤ greatest_amount
+  pub count : word_at b count_word ≡ length b.items
   pub items : take (length b.items) (drop first_item_word b.words) ≡ map (λ i. item_word i.place i.span) b.items
 
 -- the words 5 to 7 of an ended booking
 pub record HasEndWords (kind : EndKind) (b : Booking) : Type 0 where
-  pub successor : word_at b 5 ≡ b.end.successor
-  pub amount : word_at b 6 ≡ amount_word kind b.end.amount
-  pub moment : word_at b 7 ≡ b.end.moment
+  pub successor : word_at b end_successor_word ≡ b.end.successor
+  pub amount : word_at b end_amount_word ≡ amount_word kind b.end.amount
+  pub moment : word_at b end_moment_word ≡ b.end.moment
 
 abbrev pub MayClose : ℕ → Booking → Type 0
 MayClose desk b = (kind : EndKind) × IsEndedBy desk kind b × AllGiven b × HasEndWords kind b
@@ -134,7 +134,7 @@ IsAllowedStep g s desk (Seal row phase) =
 IsAllowedStep g s desk (Turn row from to moment amount successor) =
     IsRow g row × (is_turn from to ≡ true) × (moment ≤ last_moment)
     × OnRow s row (λ b. (b.phase ≡ from) × TurnsWith s desk (limit_of b) to moment amount successor)
-IsAllowedStep g s desk (LostTurn row wanted shown) = IsRow g row × (shown ≡ row_word s row 0) × (shown ≢ wanted)
+IsAllowedStep g s desk (LostTurn row wanted shown) = IsRow g row × (shown ≡ row_word s row standing_word) × (shown ≢ wanted)
 IsAllowedStep g s desk (Close row) =
     IsRow g row × OnRow s row (MayClose desk)
 IsAllowedStep g s desk Met = Unit {0}

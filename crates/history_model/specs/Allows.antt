@@ -8,7 +8,7 @@ use Rattle.history_model.specs.declared.entry.Entry.{Entry}
 use Rattle.history_model.specs.declared.entry.Step.TheVariants.{Turn}
 use Rattle.history_model.specs.declared.phase.Phase.{Phase}
 use Rattle.history_model.specs.Phase.{row_word_of}
-use Rattle.history_model.specs.Booking.{Booking, Host, State, row_words, first_item_word, is_occupied, limit_of}
+use Rattle.history_model.specs.Booking.{Booking, Host, State, row_words, first_item_word, is_occupied, limit_of, standing_word}
 use Rattle.history_model.specs.Allowed.{IsAllowed, IsAllowedStep, IsMadeBy, IsPlace, IsRow, IsSealable, MaySealAs, TurnsWith}
 use Rattle.history_model.specs.Words.{place_word, row_word}
 
@@ -30,7 +30,7 @@ abbrev pub ShowsRow : Host → ℕ → ℕ → ℕ → Type 0
 ShowsRow h row word value = IsRow h.layout row × (word < row_words) × (value ≡ row_word h.bookings row word)
 
 abbrev pub ShowsOther : Host → ℕ → ℕ → ℕ → Type 0
-ShowsOther h row wanted shown = IsRow h.layout row × (shown ≡ row_word h.bookings row 0) × (shown ≢ wanted)
+ShowsOther h row wanted shown = IsRow h.layout row × (shown ≡ row_word h.bookings row standing_word) × (shown ≢ wanted)
 
 -- 1 where a leg of a place is occupied
 abbrev pub occupied_bit : Host → ℕ → ℕ → ℕ

@@ -11,13 +11,39 @@ use Rattle.history_model.specs.declared.booking.End.{End}
 use Rattle.leg_masks.specs.Interval.{most_legs, has_leg}
 use Rattle.history_model.specs.Lists.{change_first}
 
--- the sizes of the format: words of a row, items of a booking, and the number of the first item's word. The words past those of
--- the items stay 0
+-- the sizes of the format: words of a row, and items of a booking
 abbrev pub row_words : ℕ
 row_words = 64
 
 abbrev pub most_items : ℕ
 most_items = 48
+
+-- the words of a row by their numbers: how its booking stands, which is its phase and its generation; whose it is, until when it
+-- may be confirmed, what it costs, and how many items it has; its end's successor, amount and moment; and its first item. The
+-- words past those of the items stay 0
+abbrev pub standing_word : ℕ
+standing_word = 0
+
+abbrev pub retailer_word : ℕ
+retailer_word = 1
+
+abbrev pub limit_word : ℕ
+limit_word = 2
+
+abbrev pub total_word : ℕ
+total_word = 3
+
+abbrev pub count_word : ℕ
+count_word = 4
+
+abbrev pub end_successor_word : ℕ
+end_successor_word = 5
+
+abbrev pub end_amount_word : ℕ
+end_amount_word = 6
+
+abbrev pub end_moment_word : ℕ
+end_moment_word = 7
 
 abbrev pub first_item_word : ℕ
 first_item_word = 8
@@ -45,7 +71,7 @@ least_difference = negsuc 99999999998
 abbrev pub greatest_difference : ℤ
 greatest_difference = pos 100009999999
 
--- a booking. Its words are those of its row; word 0 is not used here, since the phase stands for it
+-- a booking. Its words are those of its row; the standing word is not used here, since the phase stands for it
 pub record Booking : Type 0 where
   pub row : ℕ
   pub generation : ℕ
@@ -81,13 +107,13 @@ abbrev pub word_at : Booking → ℕ → ℕ
 word_at b w = slice_index b.words w
 
 abbrev pub limit_of : Booking → ℕ
-limit_of b = word_at b 2
+limit_of b = word_at b limit_word
 
 -- how many rows the word of a successor has room for
 abbrev pub successor_rows : ℕ
 successor_rows = 4294967296
 
--- how a booking stands as the successor of another, in a turn and in word 5; 0 is for none
+-- how a booking stands as the successor of another, in a turn and in its end's successor word; 0 is for none
 abbrev pub successor_word : ℕ → ℕ → ℕ
 successor_word row generation = 1 + row + successor_rows * generation
 
@@ -139,7 +165,7 @@ occupies place leg i = i.place == place && (not i.given_back && (has_leg i.span 
 abbrev pub is_occupied : State → ℕ → ℕ → Bool
 is_occupied s place leg = list_any (occupies place leg) (all_items s)
 
--- the amount of an end as word 6
+-- the amount of an end as a word
 abbrev pub amount_word : EndKind → ℤ → ℕ
 amount_word Release _ = 0
 amount_word Expire _ = 0

@@ -8,7 +8,7 @@ use Rattle.history_model.specs.declared.phase.EndKind.{EndKind}
 use Rattle.history_model.specs.declared.phase.EndKind.TheVariants.{Release, Expire}
 use Rattle.history_model.specs.declared.booking.BookedItem.{BookedItem}
 use Rattle.history_model.specs.Phase.{is_sealed}
-use Rattle.history_model.specs.Booking.{Booking, Layout, word_at, booking_at, next_generation, amount_word}
+use Rattle.history_model.specs.Booking.{Booking, Layout, word_at, booking_at, next_generation, amount_word, end_amount_word}
 use Rattle.history_model.specs.History.{state_of, entry}
 use Rattle.history_model.specs.Laws.{MayFollow}
 
@@ -62,4 +62,4 @@ pub record HasEnded (g : Layout) (history : List Entry) (row generation : ℕ) (
   pub turning : IsPresentAt g (before ++ between) row generation
   pub history_is : history ≡ (before ++ between) ++ entry ender (Turn row from (Ending kind) c.end.moment c.end.amount c.end.successor) ∷ after
   pub items : c.items ≡ all_given_back sealed.items
-  pub amount : word_at c 6 ≡ amount_word kind c.end.amount
+  pub amount : word_at c end_amount_word ≡ amount_word kind c.end.amount

@@ -5,7 +5,7 @@ use Rattle.leg_masks.specs.Interval.{word_legs, halves, leg_of}
 use Rattle.history_model.specs.declared.word.Word.{Word}
 use Rattle.history_model.specs.declared.word.Word.TheVariants.{Place, Row}
 use Rattle.history_model.specs.Phase.{row_word_of}
-use Rattle.history_model.specs.Booking.{Layout, row_words, State, present, word_at, is_occupied}
+use Rattle.history_model.specs.Booking.{Layout, row_words, State, present, word_at, is_occupied, standing_word}
 
 -- the number with exactly those bits below n that pass
 unfoldable pub number_of_bits : (ℕ → Bool) → ℕ → ℕ
@@ -18,7 +18,7 @@ place_word s place half = number_of_bits (λ bit. is_occupied s place (leg_of ha
 
 -- word w of a row: the phase and generation of its present booking, or a word of it
 abbrev pub row_word : State → ℕ → ℕ → ℕ
-row_word s row w = option_map_or (λ b. if w == 0 then row_word_of b.phase b.generation else word_at b w) (present s row) 0
+row_word s row w = option_map_or (λ b. if w == standing_word then row_word_of b.phase b.generation else word_at b w) (present s row) 0
 
 -- how many words the places have
 abbrev pub place_words : Layout → ℕ

@@ -6,7 +6,7 @@ ghost use Rattle.history_model.specs.Allowed.{OnRow, IsMadeBy, MayGive, MayNote,
 ghost use Rattle.history_model.specs.Allows.{IsSealableAs, TurnsFrom};
 ghost use Rattle.history_model.specs.Booking.{limit_of, most_items, successor_word};
 
-use crate::booking::{BookingRow, End, GREATEST_AMOUNT, MOST_ITEMS};
+use crate::booking::{BookingRow, End, GREATEST_AMOUNT, LIMIT_WORD, MOST_ITEMS};
 use crate::phase::{EndKind, Phase};
 use crate::shown::booking_of;
 use rail_ids::LAST_GENERATION;
@@ -162,7 +162,7 @@ pub(crate) fn row_turns(
             if b.phase != from {
                 return false;
             }
-            turns_with(bookings, desk, b.words[2], to, end)
+            turns_with(bookings, desk, b.words[LIMIT_WORD as usize], to, end)
         }
         None => false,
     }

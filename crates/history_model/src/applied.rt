@@ -2,7 +2,7 @@
 
 ghost use Rattle.std.specs.Prelude.{◌≡◌, true, OnOk, OnErr, position};
 ghost use Rattle.history_model.specs.Booking.{change, stands_in};
-ghost use Rattle.history_model.specs.Apply.{taken, given, noted, in_phase, turned, closed, apply_step, is_growing};
+ghost use Rattle.history_model.specs.Apply.{item_taken, given, noted, in_phase, turned, closed, apply_step, is_growing};
 
 use crate::booking::{BookingRow, End};
 use crate::entry::Step;
@@ -29,7 +29,7 @@ fn take_in(
     place: u32,
     span: Span,
 ) -> Result<(), AllocError>
-    ensures ok { OnOk result (bookings.new.items ≡ change bookings.old.items row (taken place span)) }
+    ensures ok { OnOk result (bookings.new.items ≡ change bookings.old.items row (item_taken place span)) }
     ensures err { OnErr result (bookings.new.items ≡ bookings.old.items) }
 {
     if let Some(at) = place_of(bookings, row) {

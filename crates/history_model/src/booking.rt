@@ -13,6 +13,22 @@ use std::marker::Model;
 pub const ROW_WORDS: usize = 64;
 /// How many items a booking may have.
 pub const MOST_ITEMS: usize = 48;
+/// The word of a row that says how its booking stands: the phase and the generation.
+pub const STANDING_WORD: u8 = 0;
+/// The word of the retailer's number.
+pub const RETAILER_WORD: u8 = 1;
+/// The word of the moment until which the booking may be confirmed, in seconds.
+pub const LIMIT_WORD: u8 = 2;
+/// The word of the total, in minor units.
+pub const TOTAL_WORD: u8 = 3;
+/// The word of the number of items.
+pub const COUNT_WORD: u8 = 4;
+/// The word of the successor of an end.
+pub const END_SUCCESSOR_WORD: u8 = 5;
+/// The word of the amount of an end.
+pub const END_AMOUNT_WORD: u8 = 6;
+/// The word of the moment of an end, in seconds.
+pub const END_MOMENT_WORD: u8 = 7;
 /// The word of a row's first item. The words past the last item's stay 0.
 pub const FIRST_ITEM_WORD: usize = 8;
 /// The last moment, in seconds: 2099-12-31T23:59:59Z.
@@ -117,7 +133,7 @@ impl BookingRow {
     ghost use Rattle.std.specs.List.{list_any};
     ghost use Rattle.history_model.specs.Allowed.{Blocks, IsMadeBy, IsLeft, IsBeingEndedBy, MayGive, MayNote, IsSealable, AllGiven, HasEndWords, MayClose, IsExchangedFor};
     ghost use Rattle.history_model.specs.Phase.{is_ended};
-    ghost use Rattle.history_model.specs.Apply.{started, taken, given, noted, in_phase, turned, closed};
+    ghost use Rattle.history_model.specs.Apply.{started, item_taken, given, noted, in_phase, turned, closed};
 
     /// A booking in the making, with the words that the row has.
     pub fn start(
@@ -171,11 +187,11 @@ impl BookingRow {
         ensures { IsTrue result ↔ MayNote desk word self.now }
     {
         if self.is_made_by(desk) {
-            (1 <= word && word <= 4)
+            (RETAILER_WORD <= word && word <= COUNT_WORD)
                 || (FIRST_ITEM_WORD <= word as usize
                     && (word as usize) < FIRST_ITEM_WORD + MOST_ITEMS)
         } else {
-            self.is_being_ended_by(desk) && 5 <= word && word <= 7
+            self.is_being_ended_by(desk) && END_SUCCESSOR_WORD <= word && word <= END_MOMENT_WORD
         }
     }
 
@@ -194,13 +210,13 @@ impl BookingRow {
         if count == 0 {
             return false;
         }
-        if self.words[1] > GREATEST_RETAILER
-            || self.words[2] > LAST_MOMENT
-            || self.words[3] > GREATEST_AMOUNT
+        if self.words[RETAILER_WORD as usize] > GREATEST_RETAILER
+            || self.words[LIMIT_WORD as usize] > LAST_MOMENT
+            || self.words[TOTAL_WORD as usize] > GREATEST_AMOUNT
         {
             return false;
         }
-        if self.words[4] != count as u64 {
+        if self.words[COUNT_WORD as usize] != count as u64 {
             return false;
         }
         are_written(&self.words, &self.items)
@@ -208,7 +224,7 @@ impl BookingRow {
 
     /// Adds an item.
     pub fn take(&mut self, place: u32, span: Span) -> Result<(), AllocError>
-        ensures ok { OnOk result (self.new ≡ taken place span self.old) }
+        ensures ok { OnOk result (self.new ≡ item_taken place span self.old) }
         ensures err { OnErr result (self.new ≡ self.old) }
     {
         self.items.push(BookedItem {
@@ -263,13 +279,13 @@ impl BookingRow {
     pub fn has_end_words(&self, kind: EndKind) -> bool
         ensures { IsTrue result ↔ HasEndWords kind self.now }
     {
-        if self.words[5] != self.end.successor {
+        if self.words[END_SUCCESSOR_WORD as usize] != self.end.successor {
             return false;
         }
-        if self.words[6] != amount_word_of(kind, self.end.amount) {
+        if self.words[END_AMOUNT_WORD as usize] != amount_word_of(kind, self.end.amount) {
             return false;
         }
-        self.words[7] == self.end.moment
+        self.words[END_MOMENT_WORD as usize] == self.end.moment
     }
 
     /// Whether the desk may close the booking.

@@ -9,7 +9,7 @@ ghost use Rattle.history_model.specs.Booking.{present, next_generation, row_word
 ghost use Rattle.history_model.specs.Words.{place_word, row_word};
 ghost use Rattle.history_model.specs.Apply.{words_of_row as spec_words_of_row};
 
-use crate::booking::{BookingRow, ROW_WORDS};
+use crate::booking::{BookingRow, ROW_WORDS, STANDING_WORD};
 use crate::phase::row_word_of;
 use leg_masks::{Span, WORD_LEGS};
 
@@ -98,7 +98,7 @@ pub(crate) fn word_of_row(bookings: &[BookingRow], row: u32, word: u8) -> u64
 {
     match booking_of(bookings, row) {
         Some(b) => {
-            if word == 0 {
+            if word == STANDING_WORD {
                 return row_word_of(b.phase, b.generation);
             }
             b.words[word as usize]

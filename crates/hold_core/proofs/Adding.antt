@@ -10,7 +10,7 @@ use Rattle.leg_masks.proofs.HalfLegs.{pieces-whole, pieces_some}
 use Rattle.history_model.specs.declared.entry.Step.{Step}
 use Rattle.history_model.specs.History.{IsLegal}
 use Rattle.claim_rule.specs.Rule.{DeskView}
-use Rattle.claim_rule.specs.Seats.{Shape, AddsAtMost}
+use Rattle.claim_rule.specs.Desks.{Shape, AddsAtMost}
 use Rattle.claim_rule.specs.Holds.{HoldView}
 use Rattle.claim_rule.proofs.Shapes.{shape_then, shape_none, adds_length}
 use Rattle.hold_core.specs.declared.tries.Outcome.{Outcome}

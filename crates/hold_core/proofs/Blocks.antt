@@ -7,7 +7,7 @@ use Rattle.leg_masks.proofs.InPieces.{head_same}
 use Rattle.history_model.specs.declared.entry.Step.{Step}
 use Rattle.history_model.specs.declared.entry.Step.TheVariants.{Give}
 use Rattle.claim_rule.specs.Rule.{DeskView}
-use Rattle.claim_rule.specs.Seats.{Shape}
+use Rattle.claim_rule.specs.Desks.{Shape}
 use Rattle.claim_rule.specs.Holds.{HoldView, with_one}
 use Rattle.claim_rule.specs.Out.{HasNoted, HasNotedItems, HasNotedButLast}
 use Rattle.claim_rule.proofs.Holding.{take_front}

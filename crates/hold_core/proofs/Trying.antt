@@ -6,7 +6,7 @@ use Rattle.history_model.specs.declared.entry.Step.{Step}
 use Rattle.history_model.specs.declared.entry.Step.TheVariants.{Look, Take, Note}
 use Rattle.history_model.specs.Looks.{look_at}
 use Rattle.claim_rule.specs.Rule.{DeskView}
-use Rattle.claim_rule.specs.Seats.{Shape}
+use Rattle.claim_rule.specs.Desks.{Shape}
 use Rattle.claim_rule.specs.Holds.{HoldView, with_one}
 use Rattle.claim_rule.proofs.Shapes.{shape_then}
 use Rattle.hold_core.specs.declared.tries.Outcome.TheVariants.{Won, Refused, Contended}

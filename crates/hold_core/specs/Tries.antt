@@ -9,7 +9,7 @@ use Rattle.history_model.specs.declared.entry.Step.TheVariants.{Take, Give, Note
 use Rattle.history_model.specs.Booking.{first_item_word}
 use Rattle.history_model.specs.Looks.{look_at}
 use Rattle.claim_rule.specs.Rule.{DeskView}
-use Rattle.claim_rule.specs.Seats.{Shape}
+use Rattle.claim_rule.specs.Desks.{Shape}
 use Rattle.claim_rule.specs.Holds.{HoldView, with_one}
 use Rattle.hold_core.specs.declared.tries.Outcome.{Outcome}
 use Rattle.hold_core.specs.declared.tries.Outcome.TheVariants.{Won, Refused, Contended}

@@ -1,7 +1,7 @@
 //! Giving a hold up.
 ghost use Rattle.std.specs.Prelude.{◌≡◌, length, Some};
 ghost use Rattle.history_model.specs.Booking.{most_items};
-ghost use Rattle.claim_rule.specs.Seats.{IsOf, Shape, AddsAtMost};
+ghost use Rattle.claim_rule.specs.Desks.{IsOf, Shape, AddsAtMost};
 ghost use Rattle.claim_rule.specs.Out.{IsHolding, HoldsNone, KeepsEndings};
 ghost use Rattle.hold_core.specs.Places.{gives_back};
 

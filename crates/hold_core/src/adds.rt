@@ -2,7 +2,7 @@
 ghost use Rattle.std.specs.Prelude.{ℕ, ◌≡◌, ◌+◌, ◌-◌, ◌*◌, ◌<◌, ◌≤◌, All, length, map, slice_index};
 ghost use Rattle.history_model.specs.Booking.{most_items};
 ghost use Rattle.leg_masks.specs.Interval.{IsPiece, pieces};
-ghost use Rattle.claim_rule.specs.Seats.{IsOf, AddsAtMost};
+ghost use Rattle.claim_rule.specs.Desks.{IsOf, AddsAtMost};
 ghost use Rattle.claim_rule.specs.Out.{IsHolding, HasNotedItems, KeepsEndings};
 ghost use Rattle.hold_core.specs.Tries.{most_looks, place_number};
 ghost use Rattle.hold_core.specs.Places.{AddsPlaces, most_entries};

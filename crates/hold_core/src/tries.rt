@@ -1,8 +1,10 @@
 //! A try of one candidate, piece by piece.
-ghost use Rattle.std.specs.Prelude.{◌≡◌, ◌≢◌, ◌+◌, ◌<◌, ◌≤◌, length, slice_index};
+ghost use Rattle.std.specs.Prelude.{◌≡◌, ◌≢◌, ◌+◌, ◌<◌, ◌≤◌, [], ◌∷◌, length, slice_index};
 ghost use Rattle.history_model.specs.Booking.{most_items};
-ghost use Rattle.leg_masks.specs.Interval.{IsPiece, pieces as spec_pieces};
-ghost use Rattle.claim_rule.specs.Seats.{IsOf};
+ghost use Rattle.history_model.specs.Looks.{look_at};
+ghost use Rattle.leg_masks.specs.Interval.{IsClear, IsPiece, pieces as spec_pieces};
+ghost use Rattle.claim_rule.specs.Rule.{DeskView};
+ghost use Rattle.claim_rule.specs.Desks.{IsOf, Shape};
 ghost use Rattle.claim_rule.specs.Out.{IsHolding, HasNotedItems, KeepsEndings};
 ghost use Rattle.hold_core.specs.Tries.{TriesPiece, TriesPlace, TriesSecond};
 
@@ -114,7 +116,8 @@ fn try_second(
 }
 
 // Looks at a piece, and takes its legs by one exchange on the very word that a look showed free there; where the word has
-// moved on and still is free, once more.
+// moved on and still is free, once more. Most looks of a full run show a taken leg, so what follows one that doesn't
+// stands apart.
 fn try_piece(
     books: &Books,
     desk: &mut Desk,
@@ -134,10 +137,37 @@ fn try_piece(
     ensures noted { HasNotedItems desk.old hold.old → HasNotedItems desk.new hold.new }
     ensures endings { KeepsEndings desk.old desk.new }
 {
-    let mut shown = glance(books, desk, place, half_of(piece));
+    let shown = glance(books, desk, place, half_of(piece));
     if !free_on(shown, piece) {
         return Outcome::Refused;
     }
+    take_shown(books, desk, hold, place, piece, shown)
+}
+
+// Goes on with a piece that the first look showed free.
+fn take_shown(
+    books: &Books,
+    desk: &mut Desk,
+    hold: &mut Hold,
+    place: PlaceNo,
+    piece: Span,
+    first: u64,
+) -> Outcome
+    requires own { IsOf books.now desk.old }
+    requires hold { IsHolding desk.old hold.old }
+    requires room { length hold.old.items < most_items }
+    requires place { place.0 < length books.now.layout.legs }
+    requires piece { IsPiece piece }
+    requires legs { piece.to ≤ slice_index books.now.layout.legs place.0 }
+    requires clear { IsClear first piece }
+    ensures own { IsOf books.now desk.new }
+    ensures tried { (before : DeskView) → Shape before desk.old (look_at place.0 piece first ∷ [])
+        → TriesPiece before hold.old place.0 piece desk.new hold.new result }
+    ensures hold { IsHolding desk.new hold.new }
+    ensures noted { HasNotedItems desk.old hold.old → HasNotedItems desk.new hold.new }
+    ensures endings { KeepsEndings desk.old desk.new }
+{
+    let mut shown = first;
     for _ in 0..MOST_TRIES {
         match try_take(books, desk, hold, place, piece, shown) {
             Take::Won => {

@@ -7,7 +7,7 @@ use Rattle.booking_rows.specs.SealedRows.{FitWords}
 use Rattle.claim_rule.specs.Openings.{KeptBooking, layout_with}
 use Rattle.claim_rule.specs.Out.{IsTidy}
 use Rattle.claim_rule.specs.Rule.{BooksView, DeskView}
-use Rattle.claim_rule.specs.Seats.{IsNew, IsOf}
+use Rattle.claim_rule.specs.Desks.{IsNew, IsOf}
 use Rattle.cold_store.specs.Imports.{OpensAs}
 use Rattle.cold_store.specs.Right.{kept_of}
 use Rattle.cold_store.specs.Tidy.{AreSucceeded}

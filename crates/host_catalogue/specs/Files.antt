@@ -29,7 +29,8 @@ pub record IsTooLarge (file : File) (files : List ℕ → Option (List ℕ)) (na
 abbrev pub IsTextOf : File → Files → List ℕ → List ℕ → Type 0
 IsTextOf file told name text = IfSome told (λ files. IsText file files name text)
 
--- Why there is no text of the file with the name: by the files. A shelf's failure and want of memory may come with any files.
+-- Why there is no text of the file with the name: by the files. A shelf's failure and want of memory may come with any
+-- files.
 abbrev pub IsFileFault : File → Files → List ℕ → LoadFault → Type 0
 IsFileFault file told name (Missing f) = (f ≡ file) × IfSome told (λ files. files name ≡ None)
 IsFileFault file told name (TooLarge f) = (f ≡ file) × IfSome told (λ files. IsTooLarge file files name)
@@ -38,8 +39,9 @@ IsFileFault file told name NoMemory = ⊤
 IsFileFault file told name (Refused fault) = ⊥
 IsFileFault file told name (RefusedExport fault) = ⊥
 
--- What a load that gave nothing did to the shelf's counts of faults and of misses, each before and after: a failure of the shelf is answered
--- where its faults rose, and else they are as they were. A missing or too large file is answered where its misses rose.
+-- What a load that gave nothing did to the shelf's counts of faults and of misses, each before and after: a failure of
+-- the shelf is answered where its faults rose, and else they are as they were. A missing or too large file is answered
+-- where its misses rose.
 abbrev pub HasCause : LoadFault → ℕ → ℕ → ℕ → ℕ → Type 0
 HasCause (Missing f) failed fails missed misses = (fails ≡ failed) × Rose missed misses
 HasCause (TooLarge f) failed fails missed misses = (fails ≡ failed) × Rose missed misses

@@ -18,7 +18,8 @@ Reads text (Err other) = ⊥
 -- The catalogue of the file with the name, or why there is none: by the files and by the text.
 abbrev pub Loads : Files → List ℕ → Result CatalogueView LoadFault → Type 0
 Loads told name (Ok cat) = (text : List ℕ) × IsTextOf Catalogue told name text × Reads text (Ok cat)
-Loads told name (Err (Refused fault)) = (text : List ℕ) × IsTextOf Catalogue told name text × Reads text (Err (Refused fault))
+Loads told name (Err (Refused fault)) =
+    (text : List ℕ) × IsTextOf Catalogue told name text × Reads text (Err (Refused fault))
 Loads told name (Err fault) = IsFileFault Catalogue told name fault
 
 -- the text is no catalogue

@@ -5,8 +5,8 @@ use Rattle.booking_rows.specs.SealedRows.{FitWords}
 use Rattle.claim_rule.specs.Openings.{KeptBooking, MayOpen, layout_with}
 use Rattle.claim_rule.specs.Out.{IsTidy}
 use Rattle.claim_rule.specs.Rule.{BooksView, DeskView}
-use Rattle.claim_rule.specs.Seats.{IsNew, IsOf}
-use Rattle.cold_store.specs.Imports.{IsImportFault, IsSound}
+use Rattle.claim_rule.specs.Desks.{IsNew, IsOf}
+use Rattle.cold_store.specs.Imports.{IsImportFault, IsRightText}
 use Rattle.cold_store.specs.Lines.{SaidBooking}
 use Rattle.cold_store.specs.Right.{kept_of}
 use Rattle.cold_store.specs.Tidy.{AreSucceeded}
@@ -22,7 +22,7 @@ use Rattle.history_model.specs.Booking.{Layout}
 
 -- the text is an export for books of the catalogue, and these are its bookings
 abbrev pub IsExportFor : CatalogueView → List ℕ → List KeptBooking → Type 0
-IsExportFor cat text kept = (said : List SaidBooking) × IsSound (legs_in cat) cat.rows text said × (kept ≡ map kept_of said)
+IsExportFor cat text kept = (said : List SaidBooking) × IsRightText (legs_in cat) cat.rows text said × (kept ≡ map kept_of said)
 
 -- what new books of the catalogue have
 abbrev pub new_layout : CatalogueView → Layout

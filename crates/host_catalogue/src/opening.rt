@@ -1,7 +1,7 @@
 // The books of a catalogue.
 ghost use Rattle.std.specs.Prelude.{◌≡◌, ◌≤◌, List, [], Ok, IfErr, IfOk};
 ghost use Rattle.claim_rule.specs.Openings.{KeptBooking};
-ghost use Rattle.claim_rule.specs.Seats.{IsNew, IsOf};
+ghost use Rattle.claim_rule.specs.Desks.{IsNew, IsOf};
 ghost use Rattle.claim_rule.specs.Out.{IsTidy};
 ghost use Rattle.booking_rows.specs.SealedRows.{FitWords};
 ghost use Rattle.history_model.specs.Booking.{most_rows};

@@ -8,7 +8,7 @@ use Rattle.history_model.specs.History.{IsLegal, own, state_of}
 use Rattle.history_model.specs.Laws.{NoDouble}
 use Rattle.history_model.proofs.Legal.{NoDouble-from_WellFormed, WellFormed-history}
 use Rattle.claim_rule.specs.Rule.{DeskView, IsWhole}
-use Rattle.claim_rule.specs.Walls.{WallView, Ends}
+use Rattle.claim_rule.specs.Walls.{WallView, Finishes}
 use Rattle.rail_catalogue.specs.Contents.{CatalogueView}
 use Rattle.host_words.specs.declared.drill.DrillWords.{DrillWords}
 use Rattle.drill_totals.specs.Totals.{sold_of}
@@ -23,12 +23,12 @@ use Rattle.host_drill.specs.Worked.{all_replies_with}
 use Rattle.host_drill.proofs.Summing.{AllWorked, AreCrew, crew_of, whole_of}
 
 -- a first desk that has taken in all has seen all
-whole : (desk : DeskView) (n : ℕ) → IsFirst desk n 0 → IsWhole desk.number desk.made desk.taken
-whole desk n first = (first.number, λ j low high. first.taken j low (subst (λ (m : ℕ). j ≤ m) first.made high))
+whole : (desk : DeskView) (n : ℕ) → IsFirst desk n 0 → IsWhole desk.number desk.parted desk.joined
+whole desk n first = (first.number, λ j low high. first.joined j low (subst (λ (m : ℕ). j ≤ m) first.parted high))
 
 pub drilled : (said : DrillWords) (cat : CatalogueView) (layout : Layout) (desk : DeskView) (wall : WallView) (totals : Totals) → IsCatalogue cat said
     → HasPlaces cat said.places → AllWorked cat said → said.size ≤ 2000 → said.workers ≤ 16
-    → layout ≡ layout_of cat → wall.layout ≡ layout → Ends layout desk wall.words wall.history
+    → layout ≡ layout_of cat → wall.layout ≡ layout → Finishes layout desk wall.words wall.history
     → IsFirst desk said.workers 0 → AreAnswered (connection_of cat said) desk.seen said.workers 0 totals.refused totals.busy
     → totals.requests ≡ said.workers * said.size → totals.sold ≡ sold_of (state_at wall) cat.rows → totals.double ≡ 0 → IsDrilled said wall totals
 drilled said cat layout desk wall totals catalogue has works size workers is same ends first answered requests sold double = record {
@@ -60,14 +60,14 @@ drilled said cat layout desk wall totals catalogue has works size workers is sam
     seen : wall.history ≡ desk.seen
     seen = ends.whole (whole desk said.workers first)
 
-    books : Ends wall.layout desk wall.words wall.history
-    books = subst (λ (g : Layout). Ends g desk wall.words wall.history) (sym same) ends
+    books : Finishes wall.layout desk wall.words wall.history
+    books = subst (λ (g : Layout). Finishes g desk wall.words wall.history) (sym same) ends
 
     mets : AllByRecursion (λ e. e.step ≡ Met) (own wall.history 0)
     mets = subst (λ (h : List Entry). AllByRecursion (λ e. e.step ≡ Met) (own h 0)) (sym seen) first.mets
 
     others : (k : ℕ) → said.workers < k → own wall.history k ≡ []
-    others k more = ends.no_others first.number k (subst (λ (n : ℕ). n < k) (sym first.made) more)
+    others k more = ends.no_others first.number k (subst (λ (n : ℕ). n < k) (sym first.parted) more)
 
     all : AreAnswered (connection_of cat said) wall.history said.workers 0 totals.refused totals.busy
     all = subst (λ (h : List Entry). AreAnswered (connection_of cat said) h said.workers 0 totals.refused totals.busy) (sym seen) answered

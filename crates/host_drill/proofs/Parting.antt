@@ -16,7 +16,7 @@ use Rattle.history_model.specs.History.{state_of}
 use Rattle.history_model.specs.Looks.{look_at}
 use Rattle.history_model.proofs.ListLemmas.{All-left, All-right}
 use Rattle.claim_rule.specs.Rule.{DeskView}
-use Rattle.claim_rule.specs.Seats.{Shape}
+use Rattle.claim_rule.specs.Desks.{Shape}
 use Rattle.claim_rule.proofs.Shapes.{shape_then}
 use Rattle.booking_rows.specs.declared.notes.Detail.{Detail}
 use Rattle.booking_rows.specs.Notes.{detail_notes}

@@ -7,7 +7,7 @@ use Rattle.session_loop.specs.declared.end.ConnEnd.{ConnEnd}
 use Rattle.session_loop.specs.declared.end.ConnEnd.TheVariants.{Done}
 use Rattle.history_model.specs.History.{own}
 use Rattle.claim_rule.specs.Rule.{BooksView, DeskView}
-use Rattle.claim_rule.specs.Seats.{IsOf}
+use Rattle.claim_rule.specs.Desks.{IsOf}
 use Rattle.claim_rule.specs.Out.{IsIdle}
 use Rattle.rail_catalogue.specs.Contents.{CatalogueView}
 use Rattle.rail_service.specs.Connections.{ServiceView, HasServed, IsServed}
@@ -20,16 +20,16 @@ use Rattle.host_drill.specs.Drilled.{IsDone}
 
 -- a connection at a desk that was just parted is ready
 pub ready_new : (books : BooksView) (seed size worker : ℕ) (old new : DeskView) (c : Connection) → IsFirst old worker worker → IsOf books c.desk → IsIdle c.desk
-    → new.made ≡ old.made + 1 → c.desk.number ≡ new.made → own c.desk.seen new.made ≡ [] → c.desk.taken ≡ [] → source_left c.source ≡ requests_of seed size worker
+    → new.parted ≡ old.parted + 1 → c.desk.number ≡ new.parted → own c.desk.seen new.parted ≡ [] → c.desk.joined ≡ [] → source_left c.source ≡ requests_of seed size worker
     → sink_taken c.sink ≡ [] → (c.clock.next ≡ 0) × (c.clock.tick ≡ 0) → IsReady books seed size worker c
 ready_new books seed size worker old new c first of idle made number none taken requests fresh clock =
-    let count : new.made ≡ worker + 1 = made ∙ ap (λ (n : ℕ). n + 1) first.made in
+    let count : new.parted ≡ worker + 1 = made ∙ ap (λ (n : ℕ). n + 1) first.parted in
     record {
       of = of;
       idle = idle;
       number = number ∙ count;
       none = subst (λ (n : ℕ). own c.desk.seen n ≡ []) count none;
-      taken = taken;
+      joined = taken;
       requests = requests;
       fresh = fresh;
       first = clock.0;
@@ -38,9 +38,9 @@ ready_new books seed size worker old new c first of idle made number none taken 
 
 -- the desk stays the same one
 same_desk : (cat : CatalogueView) (before after : ServiceView) (taken : List ℕ) (told : Option (List ℕ)) (written : List ℕ) (end : ConnEnd)
-    → HasServed cat before after taken told written end → (after.desk.number ≡ before.desk.number) × (after.desk.taken ≡ before.desk.taken)
+    → HasServed cat before after taken told written end → (after.desk.number ≡ before.desk.number) × (after.desk.joined ≡ before.desk.joined)
 same_desk cat before after taken told written end (inl none) =
-    (ap (λ (v : ServiceView). v.desk.number) none.1.same, ap (λ (v : ServiceView). v.desk.taken) none.1.same)
+    (ap (λ (v : ServiceView). v.desk.number) none.1.same, ap (λ (v : ServiceView). v.desk.joined) none.1.same)
 same_desk cat before after taken told written end (inr served) = (served.shape.same.2, served.shape.same.3)
 
 abbrev is_done : ConnEnd → Type 0
@@ -61,7 +61,7 @@ done_served books cat said worker old new layout ready of idle served = record {
   of = of;
   idle = idle;
   number = desk.0 ∙ ready.number;
-  taken = desk.1 ∙ ready.taken;
+  joined = desk.1 ∙ ready.joined;
   connection = λ done. record {
     begins = old.desk;
     first = served.2;
@@ -88,7 +88,7 @@ done_served books cat said worker old new layout ready of idle served = record {
     told : Option (List ℕ)
     told = Some (source_left new.source)
 
-    desk : (new.desk.number ≡ old.desk.number) × (new.desk.taken ≡ old.desk.taken)
+    desk : (new.desk.number ≡ old.desk.number) × (new.desk.joined ≡ old.desk.joined)
     desk = same_desk cat before after served.0 told served.1 new.end served.5
 
     answered : served.1 ≡ sink_taken new.sink

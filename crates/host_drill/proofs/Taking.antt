@@ -7,7 +7,7 @@ use Rattle.history_model.specs.declared.entry.Entry.{Entry}
 use Rattle.history_model.specs.History.{own}
 use Rattle.std.specs.List.{AllByRecursion}
 use Rattle.claim_rule.specs.Rule.{BooksView, DeskView}
-use Rattle.claim_rule.specs.Seats.{HasMet, IsNew, IsOf}
+use Rattle.claim_rule.specs.Desks.{HasMet, IsNew, IsOf}
 use Rattle.claim_rule.specs.Out.{IsIdle}
 use Rattle.rail_catalogue.specs.Contents.{CatalogueView}
 use Rattle.host_words.specs.declared.drill.DrillWords.{DrillWords}
@@ -82,7 +82,7 @@ takes_one books cat said desk new left rest connection refused busy refused_now 
 pub first_new : (desk : DeskView) → IsNew desk 0 [] → IsFirst desk 0 0
 first_new desk new = record {
   number = new.number;
-  made = new.made;
+  parted = new.parted;
   mets = subst (λ (es : List Entry). AllByRecursion (λ e. e.step ≡ Met) (own es 0)) (sym new.seen) tt;
-  taken = λ j more few. absurd (let e : ⊥ = omega (arith, more, few) in e);
+  joined = λ j more few. absurd (let e : ⊥ = omega (arith, more, few) in e);
 }

@@ -7,7 +7,7 @@ use Rattle.session_loop.specs.declared.end.ConnEnd.TheVariants.{Done}
 use Rattle.history_model.specs.Booking.{Layout}
 use Rattle.history_model.specs.History.{own}
 use Rattle.claim_rule.specs.Rule.{BooksView, DeskView}
-use Rattle.claim_rule.specs.Seats.{IsOf}
+use Rattle.claim_rule.specs.Desks.{IsOf}
 use Rattle.claim_rule.specs.Out.{IsIdle}
 use Rattle.rail_catalogue.specs.Contents.{CatalogueView, legs_in}
 use Rattle.rail_service.specs.Connections.{ServiceView, HasServed, IsServed}
@@ -28,25 +28,28 @@ Serves cat old new =
     (taken : List ℕ) × (written : List ℕ) × (first : Option RetailerNo)
     × (source_left old.source ≡ taken ++ source_left new.source)
     × (sink_taken new.sink ≡ sink_taken old.sink ++ written)
-    × HasServed cat (record { desk = old.desk; first = None; clock = Some (script_reading old.clock.next old.clock.tick) })
+    × HasServed cat
+    (record { desk = old.desk; first = None; clock = Some (script_reading old.clock.next old.clock.tick) })
     (record { desk = new.desk; first = first; clock = Some (script_reading new.clock.next new.clock.tick) })
     taken (Some (source_left new.source)) written new.end
 
--- a connection that isn't served yet: its desk is a new one with the worker's number, it has the worker's requests, and the clock stands at 0
+-- a connection that isn't served yet: its desk is a new one with the worker's number, it has the worker's requests, and
+-- the clock stands at 0
 pub record IsReady (books : BooksView) (seed size worker : ℕ) (c : Connection) : Type 0 where
   pub of : IsOf books c.desk
   pub idle : IsIdle c.desk
   pub number : c.desk.number ≡ worker + 1
   pub none : own c.desk.seen (worker + 1) ≡ []
-  pub taken : c.desk.taken ≡ []
+  pub joined : c.desk.joined ≡ []
   pub requests : source_left c.source ≡ requests_of seed size worker
   pub fresh : sink_taken c.sink ≡ []
   pub first : c.clock.next ≡ 0
   pub tick : c.clock.tick ≡ 0
 
--- A worker's connection, over its requests and up to its end: the bytes that it was answered are the defined replies, as of every
--- connection, and the desk that it began at, which is of the catalogue's books, had no entry before.
-pub record IsConnection (cat : CatalogueView) (seed size worker : ℕ) (desk : DeskView) (answered : List ℕ) : Type 0 where
+-- A worker's connection, over its requests and up to its end: the bytes that it was answered are the defined replies,
+-- as of every connection, and the desk that it began at, which is of the catalogue's books, had no entry before.
+pub record IsConnection (cat : CatalogueView) (seed size worker : ℕ) (desk : DeskView)
+    (answered : List ℕ) : Type 0 where
   pub begins : DeskView
   pub first : Option RetailerNo
   pub clock : Option (ℕ → ℕ)
@@ -56,4 +59,5 @@ pub record IsConnection (cat : CatalogueView) (seed size worker : ℕ) (desk : D
   pub taken : List ℕ
   pub left : List ℕ
   pub requests : requests_of seed size worker ≡ taken ++ left
-  pub served : IsServed cat (beginning begins) (record { desk = desk; first = first; clock = clock }) taken (Some left) answered Done
+  pub served : IsServed cat (beginning begins) (record { desk = desk; first = first; clock = clock })
+      taken (Some left) answered Done

@@ -9,9 +9,9 @@ use Rattle.history_model.specs.Booking.{State}
 use Rattle.history_model.specs.History.{own, state_of}
 use Rattle.history_model.specs.Laws.{NoDouble}
 use Rattle.claim_rule.specs.Rule.{BooksView, DeskView}
-use Rattle.claim_rule.specs.Seats.{IsOf}
+use Rattle.claim_rule.specs.Desks.{IsOf}
 use Rattle.claim_rule.specs.Out.{IsIdle}
-use Rattle.claim_rule.specs.Walls.{WallView, Ends}
+use Rattle.claim_rule.specs.Walls.{WallView, Finishes}
 use Rattle.rail_catalogue.specs.Contents.{CatalogueView}
 use Rattle.rail_catalogue.specs.Format.{catalogue_of}
 use Rattle.host_words.specs.declared.drill.DrillWords.{DrillWords}
@@ -30,7 +30,7 @@ pub record IsDone (books : BooksView) (cat : CatalogueView) (said : DrillWords) 
   pub of : IsOf books c.desk
   pub idle : IsIdle c.desk
   pub number : c.desk.number ≡ worker + 1
-  pub taken : c.desk.taken ≡ []
+  pub joined : c.desk.joined ≡ []
   pub connection : c.end ≡ Done → IsConnection cat said.seed said.size worker c.desk (sink_taken c.sink)
 
 -- how often the line stands in what the connection was answered
@@ -60,7 +60,7 @@ AreWorkers cat said history k [] = Unit {0}
 AreWorkers cat said history k (replies ∷ more) = IsWorker cat said history k replies × AreWorkers cat said history (k + 1) more
 
 -- The finished books hold in one legal history the entries of each worker's connection and else only meetings of the first desk, which
--- parted the workers' desks and has taken all of them in. And this is counted: the requests, the live bookings of the books, the answers
+-- parted the workers' desks and has joined all of them. And this is counted: the requests, the live bookings of the books, the answers
 -- 409 and 503, and the pairs of live bookings that share a place on a leg. It comes to what seed, requests and places say, whatever the
 -- threads did: each leg is sold to as many requests as ask for it, or to all places; each other request is refused, and none is busy.
 pub record IsDrilled (said : DrillWords) (wall : WallView) (totals : Totals) : Type 0 where
@@ -70,7 +70,7 @@ pub record IsDrilled (said : DrillWords) (wall : WallView) (totals : Totals) : T
   pub desk : DeskView
   pub first_desk : IsFirst desk said.workers 0
   pub history : wall.history ≡ desk.seen
-  pub books : Ends wall.layout desk wall.words wall.history
+  pub books : Finishes wall.layout desk wall.words wall.history
   pub first : AllByRecursion (λ e. e.step ≡ Met) (own wall.history 0)
   pub no_others : (k : ℕ) → said.workers < k → own wall.history k ≡ []
   pub answered : AreAnswered (connection_of cat said) wall.history said.workers 0 totals.refused totals.busy

@@ -36,8 +36,8 @@ end_of_drill Words = ended.WordsRefused
 end_of_drill Write = ended.WriteFault
 end_of_drill Memory = ended.NoMemory
 
--- What a drill that ended so wrote, and the books that it hands back: the whole line of what the books and the answers came to; a front
--- of it, where the output failed; or nothing.
+-- What a drill that ended so wrote, and the books that it hands back: the whole line of what the books and the answers
+-- came to; a front of it, where the output failed; or nothing.
 abbrev pub Leaves : List (List ℕ) → Option (List ℕ) → Option (List ℕ) → Option WallView → Cause → Type 0
 Leaves words before after wall Whole =
     (said : DrillWords) × (totals : Totals) × IsDrill words said × IsSomeAnd wall (λ w. IsDrilled said w totals)

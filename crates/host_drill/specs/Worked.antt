@@ -4,7 +4,7 @@ use Rattle.place_map.specs.declared.coach.Class.TheVariants.{Second}
 use Rattle.offer_codes.specs.declared.code.Segment.{Segment}
 use Rattle.history_model.specs.declared.entry.Step.{Step}
 use Rattle.claim_rule.specs.Rule.{DeskView}
-use Rattle.claim_rule.specs.Seats.{Shape}
+use Rattle.claim_rule.specs.Desks.{Shape}
 use Rattle.claim_rule.specs.Out.{IsIdle}
 use Rattle.rail_catalogue.specs.Contents.{CatalogueView}
 use Rattle.osdm_texts.specs.declared.problem.Problem.TheVariants.{NoMemory}
@@ -24,17 +24,20 @@ leg_segment leg = record { run = record { 0 = 0 }; span = on_leg leg }
 -- the request for the leg is carried out at moment 0, or there was no memory to read its body
 abbrev pub ReservesLeg : CatalogueView → ℕ → DeskView → DeskView → Reply → Type 0
 ReservesLeg cat leg old new reply =
-    Reserves cat drill_retailer 0 (reserved (leg_segment leg) Second 1 0 0) false old new reply ⊎ (DoesNothing old new × (reply ≡ problem NoMemory))
+    Reserves cat drill_retailer 0 (reserved (leg_segment leg) Second 1 0 0) false old new reply
+    ⊎ (DoesNothing old new × (reply ≡ problem NoMemory))
 
 -- the requests from the k-th on are answered one after the other, each by its reply
 abbrev pub AnswersEach : CatalogueView → ℕ → ℕ → DeskView → List Reply → List ℕ → DeskView → Type 0
 AnswersEach cat seed k old [] written new = (written ≡ []) × (new ≡ old)
 AnswersEach cat seed k old (reply ∷ more) written new =
-    (mid : DeskView) × (steps : List Step) × (rest : List ℕ) × ReservesLeg cat (drill_leg seed k) old mid reply × Shape old mid steps
+    (mid : DeskView) × (steps : List Step) × (rest : List ℕ) × ReservesLeg cat (drill_leg seed k) old mid reply
+    × Shape old mid steps
     × IsIdle mid × (written ≡ reply_bytes cat false reply ++ rest) × AnswersEach cat seed (k + 1) mid more rest new
 
 -- a worker's requests, from the desk that it began at
-pub record IsWorked (cat : CatalogueView) (seed size worker : ℕ) (begins desk : DeskView) (answered : List ℕ) (replies : List Reply) : Type 0 where
+pub record IsWorked (cat : CatalogueView) (seed size worker : ℕ) (begins desk : DeskView) (answered : List ℕ)
+    (replies : List Reply) : Type 0 where
   pub number : length replies ≡ size
   pub each : AnswersEach cat seed (worker * size) begins replies answered desk
 

@@ -1,7 +1,7 @@
 // One connection of a drill.
 ghost use Rattle.std.specs.Prelude.{◌≡◌};
 ghost use Rattle.rail_catalogue.specs.Contents.{legs_in};
-ghost use Rattle.claim_rule.specs.Seats.{IsOf};
+ghost use Rattle.claim_rule.specs.Desks.{IsOf};
 ghost use Rattle.claim_rule.specs.Out.{IsIdle};
 ghost use Rattle.host_drill.specs.Connections.{Serves};
 

@@ -5,7 +5,7 @@ ghost use Rattle.history_model.specs.declared.entry.Step.TheVariants.{Met};
 ghost use Rattle.history_model.specs.History.{entry, own};
 ghost use Rattle.rail_catalogue.specs.Contents.{legs_in};
 ghost use Rattle.session_loop.specs.declared.end.ConnEnd.TheVariants.{Done};
-ghost use Rattle.claim_rule.specs.Seats.{HasMet, IsNew, IsOf};
+ghost use Rattle.claim_rule.specs.Desks.{HasMet, IsNew, IsOf};
 ghost use Rattle.claim_rule.specs.Out.{IsIdle};
 ghost use Rattle.drill_totals.specs.Totals.{busy_line, no_memory_line, refused_line};
 ghost use Rattle.drill_totals.specs.Meeting.{AreAnswered, EachAt, EachPair, IsFirst};
@@ -47,11 +47,12 @@ fn open_connection(alloc: Global, books: &Books, desk: &mut Desk, requests: Vec<
     requires first { desk.old.number ≡ 0 }
     ensures own { IsOf books.now desk.new × IsOf books.now result.desk }
     ensures idle { (IsIdle desk.old → IsIdle desk.new) × IsIdle result.desk }
-    ensures same { (desk.new.number ≡ 0) × (desk.new.taken ≡ desk.old.taken) × (desk.new.made ≡ desk.old.made + 1) }
+    ensures same { (desk.new.number ≡ 0) × (desk.new.joined ≡ desk.old.joined)
+        × (desk.new.parted ≡ desk.old.parted + 1) }
     ensures met { own desk.new.seen 0 ≡ own desk.old.seen 0 ++ entry 0 Met ∷ [] }
-    ensures number { result.desk.number ≡ desk.new.made }
-    ensures none { own result.desk.seen desk.new.made ≡ [] }
-    ensures taken { result.desk.taken ≡ [] }
+    ensures number { result.desk.number ≡ desk.new.parted }
+    ensures none { own result.desk.seen desk.new.parted ≡ [] }
+    ensures joined { result.desk.joined ≡ [] }
     ensures requests { source_left result.source ≡ requests.items }
     ensures fresh { sink_taken result.sink ≡ [] }
     ensures clock { (result.clock.next ≡ 0) × (result.clock.tick ≡ 0) }

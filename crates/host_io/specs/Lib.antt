@@ -1,3 +1,2 @@
 pub mod Tcp
-pub mod Risen
 pub mod Outbox

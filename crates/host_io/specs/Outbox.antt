@@ -1,5 +1,8 @@
 -- What contracts see of an outbox.
-use Rattle.std.specs.Prelude.{ℕ, List, ◌+◌, ◌≤◌, length}
+use Rattle.std.specs.Prelude.{ℕ, List, ◌≡◌, ◌+◌, ◌≤◌, ◌<◌, ◌++◌, length, take, Option}
+use Rattle.rail_io.specs.Told.{with_end}
+use Rattle.rail_io.specs.declared.sink.PushedBoth.{PushedBoth}
+use Rattle.rail_io.specs.declared.sink.PushedBoth.TheVariants.{Took, Failed}
 
 pub record OutboxView : Type 0 where
   -- the bytes that were taken and that the sink hasn't got
@@ -10,3 +13,12 @@ pub record OutboxView : Type 0 where
 -- there is room for the piece
 abbrev pub Fits : OutboxView → List ℕ → Type 0
 Fits o piece = o.used + length piece ≤ 65536
+
+-- it holds the piece too, behind all else
+abbrev pub with_piece : OutboxView → List ℕ → OutboxView
+with_piece o piece = record { held = o.held ++ piece; used = o.used + length piece }
+
+-- what a call takes of a piece that goes out behind others: its first bytes, or nothing
+abbrev pub TakesSome : Option (List ℕ) → Option (List ℕ) → List ℕ → PushedBoth → Type 0
+TakesSome before after piece (Took n) = (n ≤ length piece) × (after ≡ with_end before (take n piece))
+TakesSome before after piece (Failed n) = (n < length piece) × (after ≡ with_end before (take n piece))

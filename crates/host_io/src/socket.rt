@@ -1,12 +1,14 @@
 // A connection of a port: a reader and a sink that share its stream.
-ghost use Rattle.std.specs.Prelude.{◌≡◌, ◌<◌, None, length};
-ghost use Rattle.rail_io.specs.Told.{Pushes};
+ghost use Rattle.std.specs.Prelude.{◌≡◌, ◌≤◌, ◌<◌, ◌++◌, None, IfOk, length};
+ghost use Rattle.std.specs.Io.Slices.{io_slices_bytes};
+ghost use Rattle.rail_io.specs.Answers.{pushed_by};
+ghost use Rattle.rail_io.specs.Told.{Pushes, PushesBoth};
 ghost use Rattle.host_io.specs.Tcp.{seconds_of};
 
 use crate::outbox::Outbox;
-use rail_io::{Pushed, Sink, WriterSink};
+use rail_io::{Pushed, PushedBoth, Sink};
 use std::alloc::Global;
-use std::io::{ErrorKind, Read};
+use std::io::{ErrorKind, IoSlice, Read};
 use std::net::{Shutdown, TcpStream};
 use std::sync::atomic::{AtomicBool, Ordering};
 use std::sync::{Arc, Mutex};
@@ -18,6 +20,9 @@ const IDLE_SECONDS: u64 = 5;
 
 /// How many seconds a read waits inside a request, and a write.
 const STALLED_SECONDS: u64 = 30;
+
+/// How often a write that was interrupted is made once more before it counts as failed.
+const RETRIES: u32 = 1_000;
 
 /// How long a drain waits for each piece, how long it takes as a whole, and how many pieces it reads at most.
 const DRAIN_MILLISECONDS: u64 = 250;
@@ -43,6 +48,69 @@ pub fn make_ready(stream: &TcpStream) -> io::Result<()> {
     stream.set_write_timeout(Some(Duration::from_secs(STALLED_SECONDS)))
 }
 
+/// Writes some of the pieces, one behind the other, by one call of the system, which is made once more where a signal
+/// interrupted it.
+fn send_some(stream: &TcpStream, pieces: &[IoSlice<'_>]) -> io::Result<usize>
+    ensures { IfOk result (λ count. count ≤ length (io_slices_bytes pieces.now)) }
+{
+    for _ in 0..RETRIES {
+        match stream.write_vectored(pieces) {
+            Err(error) if error.kind() == ErrorKind::Interrupted => {}
+            outcome => return outcome,
+        }
+    }
+    stream.write_vectored(pieces)
+}
+
+/// What a write means: so many bytes were taken. One that takes none counts as failed.
+fn pushed_of(answer: io::Result<usize>) -> Pushed
+    ensures { result ≡ pushed_by answer }
+{
+    match answer {
+        Ok(0) => Pushed::Failed,
+        Ok(count) => Pushed::Took(count),
+        Err(_) => Pushed::Failed,
+    }
+}
+
+/// A stream as a sink that tells no content. Two pieces go out by one call of the system.
+#[derive(Drop)]
+struct StreamSink<'a> {
+    stream: &'a TcpStream,
+    faults: u64,
+}
+
+impl<'a> StreamSink<'a> {
+    fn new(stream: &'a TcpStream) -> StreamSink<'a> {
+        StreamSink { stream, faults: 0 }
+    }
+}
+
+impl Sink for StreamSink<'_> {
+    ghost use Rattle.std.specs.Prelude.{None};
+
+    ghost told = { λ _. None };
+
+    ghost faults = { λ s. s.faults };
+
+    fn write(&mut self, piece: &[u8]) -> Pushed {
+        let pushed = pushed_of(send_some(self.stream, &[IoSlice::new(piece)]));
+        if let Pushed::Failed = pushed {
+            self.faults = self.faults.saturating_add(1);
+        }
+        pushed
+    }
+
+    fn write_both(&mut self, first: &[u8], second: &[u8]) -> PushedBoth {
+        let pieces = [IoSlice::new(first), IoSlice::new(second)];
+        let Pushed::Took(count) = pushed_of(send_some(self.stream, &pieces)) else {
+            self.faults = self.faults.saturating_add(1);
+            return PushedBoth::Failed(0);
+        };
+        PushedBoth::Took(count)
+    }
+}
+
 /// What both halves of a connection share.
 #[derive(Drop)]
 struct Shared {
@@ -59,7 +127,7 @@ impl Shared {
         if !self.answered.swap(false, Ordering::SeqCst) {
             return Ok(false);
         }
-        let mut sink = WriterSink::new(&self.stream);
+        let mut sink = StreamSink::new(&self.stream);
         let Some(mut outbox) = self.outbox.try_lock() else {
             return Err(io::Error::from(ErrorKind::BrokenPipe));
         };
@@ -75,13 +143,28 @@ impl Shared {
         requires { 0 < length piece.now }
         ensures { Pushes None None piece.now result }
     {
-        let mut sink = WriterSink::new(&self.stream);
+        let mut sink = StreamSink::new(&self.stream);
         let Some(mut outbox) = self.outbox.try_lock() else {
             return Pushed::Failed;
         };
         let taken = outbox.write(&mut sink, piece);
         self.answered
             .store(taken != Pushed::Failed, Ordering::SeqCst);
+        taken
+    }
+
+    /// Takes some of both pieces of an answer, to be sent with others, or at once where they are too long to be held.
+    fn take_both(&self, first: &[u8], second: &[u8]) -> PushedBoth
+        requires { 0 < length first.now }
+        ensures { PushesBoth None None (first.now ++ second.now) result }
+    {
+        let mut sink = StreamSink::new(&self.stream);
+        let Some(mut outbox) = self.outbox.try_lock() else {
+            return PushedBoth::Failed(0);
+        };
+        let taken = outbox.write_both(&mut sink, first, second);
+        let failed = matches!(taken, PushedBoth::Failed(_));
+        self.answered.store(!failed, Ordering::SeqCst);
         taken
     }
 }
@@ -185,6 +268,14 @@ impl Sink for SocketSink {
     fn write(&mut self, piece: &[u8]) -> Pushed {
         let taken = self.shared.take(piece);
         if taken == Pushed::Failed {
+            self.faults = self.faults.saturating_add(1);
+        }
+        taken
+    }
+
+    fn write_both(&mut self, first: &[u8], second: &[u8]) -> PushedBoth {
+        let taken = self.shared.take_both(first, second);
+        if let PushedBoth::Failed(_) = taken {
             self.faults = self.faults.saturating_add(1);
         }
         taken

@@ -19,8 +19,8 @@ use Rattle.history_model.proofs.ListLemmas.{All-append, All-map}
 use Rattle.claim_rule.specs.Openings.{KeptBooking}
 use Rattle.claim_rule.specs.Out.{AreSettled, IsIdle, IsTidy}
 use Rattle.claim_rule.specs.Rule.{BooksView, DeskView, IsWhole, state_seen}
-use Rattle.claim_rule.specs.Seats.{IsOf}
-use Rattle.claim_rule.specs.Walls.{Ends, WallView}
+use Rattle.claim_rule.specs.Desks.{IsOf}
+use Rattle.claim_rule.specs.Walls.{Finishes, WallView}
 use Rattle.cold_store.specs.Tidy.{AreSucceeded, IsTidyWall}
 use Rattle.lone_desk.specs.Lone.{IsAlone}
 use Rattle.plain_host.specs.Settled.{IsEmptyRow, IsSettled, IsStanding}
@@ -33,7 +33,7 @@ use Rattle.host_replay.specs.Input.{IsFirstDesk, opening}
 use Rattle.host_replay.specs.Export.{HasNoText, IsExportOf, StandsIn, export_in, export_with, no_memory_line}
 
 alone_at_first : (cat : CatalogueView) (kept : List KeptBooking) (books : BooksView) (desk : DeskView) → IsOpened cat kept books desk → IsAlone desk
-alone_at_first cat kept books desk is = record { number = is.new.number; made = is.new.made }
+alone_at_first cat kept books desk is = record { number = is.new.number; parted = is.new.parted }
 
 pub first_desk : (cat : CatalogueView) (kept : List KeptBooking) (books : BooksView) (desk : DeskView) → IsOpened cat kept books desk → IsFirstDesk cat kept desk
 first_desk cat kept books desk is = record {
@@ -73,9 +73,9 @@ empty_ends : (b : Booking) → IsEmptyRow b → (kind : EndKind) → b.phase ≡
 empty_ends b is kind ending = let bad : Making ≡ Ending kind = sym is.making ∙ ending in cc
 
 module _ (books : BooksView) (desk : DeskView) (w : WallView) (of : IsOf books desk) (alone : IsAlone desk) (tidy : IsTidy desk) (same : w.layout ≡ books.layout)
-    (ends : Ends books.layout desk w.words w.history) where
-  whole : IsWhole desk.number desk.made desk.taken
-  whole = (alone.number, λ j some few. absurd (let none : desk.made ≡ 0 = alone.made in omega (arith, some, few, none)))
+    (ends : Finishes books.layout desk w.words w.history) where
+  whole : IsWhole desk.number desk.parted desk.joined
+  whole = (alone.number, λ j some few. absurd (let none : desk.parted ≡ 0 = alone.parted in omega (arith, some, few, none)))
 
   seen : w.history ≡ desk.seen
   seen = ends.whole whole
@@ -86,7 +86,7 @@ module _ (books : BooksView) (desk : DeskView) (w : WallView) (of : IsOf books d
 
   others : (k : ℕ) → AreSettled (own w.history k)
   others zero = subst (λ (h : List Entry). AreSettled (own h 0)) (sym seen) (subst (λ (n : ℕ). AreSettled (own desk.seen n)) alone.number tidy.1)
-  others (suc k) = subst AreSettled (sym (ends.no_others alone.number (suc k) (let none : desk.made ≡ 0 = alone.made in omega (arith, none)))) tt
+  others (suc k) = subst AreSettled (sym (ends.no_others alone.number (suc k) (let none : desk.parted ≡ 0 = alone.parted in omega (arith, none)))) tt
 
   pub tidy_wall : AreSucceeded books.layout.opening → books.layout.rows ≤ most_rows → IsTidyWall w
   tidy_wall succeeded few = record {
@@ -108,7 +108,7 @@ still_alone : (cat : CatalogueView) (before after : ServiceView) (taken : List �
     → IsServed cat before after taken left written e → IsAlone before.desk → IsAlone after.desk
 still_alone cat before after taken left written e served alone = record {
   number = served.shape.same.2 ∙ alone.number;
-  made = served.shape.same.4 ∙ alone.made;
+  parted = served.shape.same.4 ∙ alone.parted;
 }
 
 module _ (cat : CatalogueView) (kept : List KeptBooking) (books : BooksView) (first : DeskView) (is : IsOpened cat kept books first) (said : ReplayView) (after : ServiceView)

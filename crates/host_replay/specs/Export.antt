@@ -56,8 +56,10 @@ export_with g s = export_text_in (length g.legs) g.rows s
 abbrev pub export_in : CatalogueView → State → List ℕ
 export_in cat s = export_text_in (length (legs_in cat)) cat.rows s
 
--- All requests were answered at the desk, none of them for want of memory, and the text is that of the state that they left.
-pub record IsExportOf (cat : CatalogueView) (desk : DeskView) (said : ReplayView) (taken : List ℕ) (left : Option (List ℕ)) (text : List ℕ) : Type 0 where
+-- All requests were answered at the desk, none of them for want of memory, and the text is that of the state that they
+-- left.
+pub record IsExportOf (cat : CatalogueView) (desk : DeskView) (said : ReplayView) (taken : List ℕ)
+    (left : Option (List ℕ)) (text : List ℕ) : Type 0 where
   pub answers : List ℕ
   pub after : ServiceView
   pub served : IsServed cat (opening desk said) after taken left answers conn.Done
@@ -66,7 +68,8 @@ pub record IsExportOf (cat : CatalogueView) (desk : DeskView) (said : ReplayView
   pub is : text ≡ export_in cat (state_seen after.desk)
 
 -- The connection ended so, and not with the answer to a last request. No answer was for want of memory.
-pub record IsCutOf (cat : CatalogueView) (desk : DeskView) (said : ReplayView) (taken : List ℕ) (left : Option (List ℕ)) (e : ConnEnd) : Type 0 where
+pub record IsCutOf (cat : CatalogueView) (desk : DeskView) (said : ReplayView) (taken : List ℕ) (left : Option (List ℕ))
+    (e : ConnEnd) : Type 0 where
   pub answers : List ℕ
   pub after : ServiceView
   pub served : IsServed cat (opening desk said) after taken left answers e
@@ -92,10 +95,12 @@ pub record IsInputRun (said : ReplayView) (files : Files) (input left : Option (
   pub is : P cat desk taken
 
 abbrev pub IsTextRun : ReplayView → Files → Option (List ℕ) → Option (List ℕ) → List ℕ → Type 0
-IsTextRun said files input left text = IsInputRun said files input left (λ cat desk taken. IsExportOf cat desk said taken left text)
+IsTextRun said files input left text =
+    IsInputRun said files input left (λ cat desk taken. IsExportOf cat desk said taken left text)
 
 -- What the words ask for ended so. Nothing is written but the text.
-abbrev pub ServedSo : ReplayView → Files → Option (List ℕ) → Option (List ℕ) → Option (List ℕ) → Option (List ℕ) → ConnEnd → Type 0
+abbrev pub ServedSo : ReplayView → Files → Option (List ℕ) → Option (List ℕ) → Option (List ℕ) → Option (List ℕ)
+    → ConnEnd → Type 0
 ServedSo said files input left output sent conn.Done =
     (text : List ℕ) × IsTextRun said files input left text × (sent ≡ with_end output text)
 ServedSo said files input left output sent conn.WriteFault =
@@ -103,29 +108,33 @@ ServedSo said files input left output sent conn.WriteFault =
 ServedSo said files input left output sent e =
     IsInputRun said files input left (λ cat desk taken. HasNoText cat desk said taken left e) × (sent ≡ output)
 
-abbrev pub Ends : ReplayView → Files → Option (List ℕ) → Option (List ℕ) → Option (List ℕ) → Option (List ℕ) → ReplayEnd → Type 0
+abbrev pub Ends : ReplayView → Files → Option (List ℕ) → Option (List ℕ) → Option (List ℕ) → Option (List ℕ) → ReplayEnd
+    → Type 0
 Ends said files input left output sent end.NoMemory = IsUntouched input left output sent
 Ends said files input left output sent (end.NotLoaded fault) =
     Fails files said.catalogue said.from fault × IsUntouched input left output sent
 Ends said files input left output sent (end.Served e) = ServedSo said files input left output sent e
 
 -- `export` ran so
-abbrev pub Exports : List (List ℕ) → Files → Option (List ℕ) → Option (List ℕ) → Option (List ℕ) → Option (List ℕ) → ReplayEnd → Type 0
+abbrev pub Exports : List (List ℕ) → Files → Option (List ℕ) → Option (List ℕ) → Option (List ℕ) → Option (List ℕ)
+    → ReplayEnd → Type 0
 Exports words files input left output sent e =
     IsUnread command.Export words input left output sent e
     ⊎ ((said : ReplayView) × IsExport words said × Ends said files input left output sent e)
 
 -- A request is answered by a host of one thread, and not for want of memory: so by the outcome of what it asks.
-pub record IsSureAnswer (cat : CatalogueView) (before : PlainView) (request : RequestText) (written : List ℕ) (after : PlainView) : Type 0 where
+pub record IsSureAnswer (cat : CatalogueView) (before : PlainView) (request : RequestText) (written : List ℕ)
+    (after : PlainView) : Type 0 where
   pub answer : IsPlainAnswer cat before request written after
   pub had : answer.reply ≡ problem NoMemory → ⊥
 
 abbrev pub sure_answers_of : CatalogueView → Answering PlainView
 sure_answers_of cat = λ before request written after. IsSureAnswer cat before request written after
 
--- The replies to the stream, which ends so, are the defined ones, and those of a host of one thread that begins with the bookings that the
--- books open with. None of them is for want of memory.
-pub record IsSurelyReplayed (words : List (List ℕ)) (files : Files) (stream : List ℕ) (rest : Rest) (replies : List ℕ) : Type 0 where
+-- The replies to the stream, which ends so, are the defined ones, and those of a host of one thread that begins with
+-- the bookings that the books open with. None of them is for want of memory.
+pub record IsSurelyReplayed (words : List (List ℕ)) (files : Files) (stream : List ℕ) (rest : Rest)
+    (replies : List ℕ) : Type 0 where
   pub said : ReplayView
   pub cat : CatalogueView
   pub kept : List KeptBooking
@@ -135,7 +144,8 @@ pub record IsSurelyReplayed (words : List (List ℕ)) (files : Files) (stream : 
   pub first : IsFirstDesk cat kept desk
   pub answers : IsAnswered (answers_of cat) (refusals_of cat) (opening desk said) after stream rest replies
   pub plain : PlainView
-  pub plainly : IsAnswered (sure_answers_of cat) (plain_refusals_of cat) (plain_opening kept said) plain stream rest replies
+  pub plainly : IsAnswered (sure_answers_of cat) (plain_refusals_of cat) (plain_opening kept said) plain stream rest
+      replies
 
 -- the bytes to come end inside a request or in a refusal, and these are the replies to them
 abbrev pub EndsCut : List (List ℕ) → Files → List ℕ → List ℕ → Type 0
@@ -143,9 +153,11 @@ EndsCut words files stream replies =
     IsSurelyReplayed words files stream unfinished replies
     ⊎ ((fault : WireFault) × IsSurelyReplayed words files stream (refused fault) replies)
 
--- The text is that of the kept bookings of one state, which the replies to the stream leave. Its sealed present bookings are those of the host
--- of one thread, after all requests of the stream. Where that host keeps a row, it is the state's one row in the making; else the state has none.
-pub record IsExported (words : List (List ℕ)) (files : Files) (stream : List ℕ) (rest : Rest) (text : List ℕ) : Type 0 where
+-- The text is that of the kept bookings of one state, which the replies to the stream leave. Its sealed present
+-- bookings are those of the host of one thread, after all requests of the stream. Where that host keeps a row, it is
+-- the state's one row in the making; else the state has none.
+pub record IsExported (words : List (List ℕ)) (files : Files) (stream : List ℕ) (rest : Rest)
+    (text : List ℕ) : Type 0 where
   pub replies : List ℕ
   pub by : IsSurelyReplayed words files stream rest replies
   pub bookings : plain_in (state_seen by.after.desk) ≡ by.plain.plain
@@ -154,4 +166,5 @@ pub record IsExported (words : List (List ℕ)) (files : Files) (stream : List �
 
 -- the text is that of the requests of the bytes to come, to their end or to a last request
 abbrev pub ExportsAll : List (List ℕ) → Files → List ℕ → List ℕ → Type 0
-ExportsAll words files stream text = IsExported words files stream empty text ⊎ IsExported words files stream closed text
+ExportsAll words files stream text =
+    IsExported words files stream empty text ⊎ IsExported words files stream closed text

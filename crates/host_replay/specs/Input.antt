@@ -5,7 +5,7 @@ use Rattle.session_loop.specs.declared.end.ConnEnd.{ConnEnd}
 use Rattle.session_loop.specs.declared.end.ConnEnd.TheVariants.{NoMemory}
 use Rattle.claim_rule.specs.Openings.{KeptBooking, MayOpen, layout_with}
 use Rattle.claim_rule.specs.Rule.{DeskView}
-use Rattle.claim_rule.specs.Seats.{IsNew}
+use Rattle.claim_rule.specs.Desks.{IsNew}
 use Rattle.rail_catalogue.specs.Contents.{CatalogueView, legs_in}
 use Rattle.rail_service.specs.Connections.{ServiceView, IsServed}
 use Rattle.rail_service.specs.OneThread.{PlainView}
@@ -53,15 +53,16 @@ abbrev pub plain_opening : List KeptBooking → ReplayView → PlainView
 plain_opening kept said =
     record { plain = plain_kept kept; first = None; clock = Some (script_reading said.start said.tick) }
 
--- A connection at the desk, with the clock of the words, ended so after these bytes were taken; or there was no memory, and nothing was
--- taken or written.
+-- A connection at the desk, with the clock of the words, ended so after these bytes were taken; or there was no memory,
+-- and nothing was taken or written.
 abbrev pub IsInputEnd : CatalogueView → DeskView → ReplayView → List ℕ → Option (List ℕ) → List ℕ → ConnEnd → Type 0
 IsInputEnd cat desk said taken left written e =
     ((e ≡ NoMemory) × (taken ≡ []) × (written ≡ []))
     ⊎ ((after : ServiceView) × IsServed cat (opening desk said) after taken left written e)
 
 -- the words, the catalogue of their file, and the bookings that its books open with
-pub record IsInputOf (name : CommandName) (words : List (List ℕ)) (files : Files) (said : ReplayView) (cat : CatalogueView) (kept : List KeptBooking) : Type 0 where
+pub record IsInputOf (name : CommandName) (words : List (List ℕ)) (files : Files) (said : ReplayView)
+    (cat : CatalogueView) (kept : List KeptBooking) : Type 0 where
   pub words_are : IsAsked name words said
   pub books : HasBooks files said.catalogue said.from cat kept
 
@@ -71,7 +72,8 @@ pub record IsUntouched (input left output sent : Option (List ℕ)) : Type 0 whe
   pub no_write : sent ≡ output
 
 -- there was no memory to read the words
-pub record IsUnread (name : CommandName) (words : List (List ℕ)) (input left output sent : Option (List ℕ)) (e : ReplayEnd) : Type 0 where
+pub record IsUnread (name : CommandName) (words : List (List ℕ)) (input left output sent : Option (List ℕ))
+    (e : ReplayEnd) : Type 0 where
   pub command : IsFor name words
   pub is : e ≡ end.NoMemory
   pub untouched : IsUntouched input left output sent

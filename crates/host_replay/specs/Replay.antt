@@ -33,7 +33,8 @@ abbrev pub IsNoReplay : List (List ℕ) → Type 0
 IsNoReplay words = (said : ReplayView) → IsReplay words said → ⊥
 
 -- what was taken of the input and written to the output, and how the connection ended
-pub record IsReplayRun (said : ReplayView) (files : Files) (input left output sent : Option (List ℕ)) (e : ConnEnd) : Type 0 where
+pub record IsReplayRun (said : ReplayView) (files : Files) (input left output sent : Option (List ℕ))
+    (e : ConnEnd) : Type 0 where
   pub cat : CatalogueView
   pub kept : List KeptBooking
   pub books : HasBooks files said.catalogue said.from cat kept
@@ -46,21 +47,24 @@ pub record IsReplayRun (said : ReplayView) (files : Files) (input left output se
   pub ends : IsInputEnd cat desk said taken left written e
 
 -- what the words ask for ended so
-abbrev pub Ends : ReplayView → Files → Option (List ℕ) → Option (List ℕ) → Option (List ℕ) → Option (List ℕ) → ReplayEnd → Type 0
+abbrev pub Ends : ReplayView → Files → Option (List ℕ) → Option (List ℕ) → Option (List ℕ) → Option (List ℕ) → ReplayEnd
+    → Type 0
 Ends said files input left output sent end.NoMemory = IsUntouched input left output sent
 Ends said files input left output sent (end.NotLoaded fault) =
     Fails files said.catalogue said.from fault × IsUntouched input left output sent
 Ends said files input left output sent (end.Served e) = IsReplayRun said files input left output sent e
 
 -- `replay` ran so
-abbrev pub Replays : List (List ℕ) → Files → Option (List ℕ) → Option (List ℕ) → Option (List ℕ) → Option (List ℕ) → ReplayEnd → Type 0
+abbrev pub Replays : List (List ℕ) → Files → Option (List ℕ) → Option (List ℕ) → Option (List ℕ) → Option (List ℕ)
+    → ReplayEnd → Type 0
 Replays words files input left output sent e =
     IsUnread command.Replay words input left output sent e
     ⊎ ((said : ReplayView) × IsReplay words said × Ends said files input left output sent e)
 
--- The bytes are the defined replies to the stream, which ends so, and those of a host of one thread that begins with the bookings that the
--- books open with.
-pub record IsReplayed (words : List (List ℕ)) (files : Files) (stream : List ℕ) (rest : Rest) (written : List ℕ) : Type 0 where
+-- The bytes are the defined replies to the stream, which ends so, and those of a host of one thread that begins with
+-- the bookings that the books open with.
+pub record IsReplayed (words : List (List ℕ)) (files : Files) (stream : List ℕ) (rest : Rest)
+    (written : List ℕ) : Type 0 where
   pub said : ReplayView
   pub cat : CatalogueView
   pub kept : List KeptBooking
@@ -70,7 +74,8 @@ pub record IsReplayed (words : List (List ℕ)) (files : Files) (stream : List �
   pub first : IsFirstDesk cat kept desk
   pub answers : IsAnswered (answers_of cat) (refusals_of cat) (opening desk said) after stream rest written
   pub plain : PlainView
-  pub plainly : IsAnswered (plain_answers_of cat) (plain_refusals_of cat) (plain_opening kept said) plain stream rest written
+  pub plainly : IsAnswered (plain_answers_of cat) (plain_refusals_of cat) (plain_opening kept said) plain stream rest
+      written
 
 -- The bytes written are a beginning of the defined replies to the stream, and of those of a host of one thread.
 pub record IsReplayCut (words : List (List ℕ)) (files : Files) (stream written : List ℕ) : Type 0 where
@@ -93,7 +98,8 @@ RepliesAll words files stream written =
 -- the bytes are the defined replies to those to come, which end inside a request or in a refusal
 abbrev pub RepliesCut : List (List ℕ) → Files → List ℕ → List ℕ → Type 0
 RepliesCut words files stream written =
-    IsReplayed words files stream unfinished written ⊎ ((fault : WireFault) × IsReplayed words files stream (refused fault) written)
+    IsReplayed words files stream unfinished written
+    ⊎ ((fault : WireFault) × IsReplayed words files stream (refused fault) written)
 
 -- they are those to the requests that are whole in the bytes taken
 abbrev pub RepliesTaken : List (List ℕ) → Files → List ℕ → Option (List ℕ) → List ℕ → Type 0
@@ -103,4 +109,5 @@ RepliesTaken words files stream told written =
 
 -- they are a beginning of those to the bytes taken
 abbrev pub RepliesPart : List (List ℕ) → Files → List ℕ → Option (List ℕ) → List ℕ → Type 0
-RepliesPart words files stream told written = (taken : List ℕ) × IsTaken stream told taken × IsReplayCut words files taken written
+RepliesPart words files stream told written =
+    (taken : List ℕ) × IsTaken stream told taken × IsReplayCut words files taken written

@@ -6,7 +6,7 @@ ghost use Rattle.session_loop.specs.declared.end.ConnEnd.TheVariants.{Done, NoMe
 ghost use Rattle.claim_rule.specs.Openings.{KeptBooking};
 ghost use Rattle.claim_rule.specs.Out.{IsTidy};
 ghost use Rattle.claim_rule.specs.Rule.{state_seen};
-ghost use Rattle.claim_rule.specs.Seats.{IsOf};
+ghost use Rattle.claim_rule.specs.Desks.{IsOf};
 ghost use Rattle.lone_desk.specs.Lone.{IsAlone};
 ghost use Rattle.booking_rows.specs.SealedRows.{FitWords};
 ghost use Rattle.cold_store.specs.Tidy.{AreSucceeded};

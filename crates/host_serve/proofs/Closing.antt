@@ -1,5 +1,5 @@
 -- The wall that is handed back.
-use Rattle.std.proofs.Common.{◌≡◌, ◌∙◌, ◌+◌, ◌<◌, ◌≤◌, ℕ, zero, suc, List, [], length, slice_index_or, refl, sym, subst, arith, append-nil}
+use Rattle.std.proofs.Common.{◌≡◌, ◌∙◌, ◌+◌, ◌<◌, ◌≤◌, ℕ, zero, suc, List, [], length, slice_index_or, refl, sym, subst, ap, arith, append-nil}
 use Rattle.std.proofs.Math.Logic.{⊎_elim}
 use Rattle.std.proofs.lemmas.Bool.{cases_lt}
 use Rattle.std.specs.Prelude.{All}
@@ -11,8 +11,8 @@ use Rattle.history_model.specs.declared.entry.Entry.{Entry}
 use Rattle.history_model.specs.Words.{AreWordsOf}
 use Rattle.claim_rule.specs.Rule.{BooksView, DeskView, IsWhole}
 use Rattle.claim_rule.specs.Out.{IsTidy}
-use Rattle.claim_rule.specs.Seats.{HasMet, IsOf}
-use Rattle.claim_rule.specs.Walls.{WallView, Ends}
+use Rattle.claim_rule.specs.Desks.{HasMet, IsOf}
+use Rattle.claim_rule.specs.Walls.{WallView, Finishes}
 use Rattle.worker_pool.specs.Turns.{KeepsDesk}
 use Rattle.worker_pool.specs.declared.member.Member.{Member}
 use Rattle.worker_pool.proofs.Chains.{keeps_on}
@@ -20,11 +20,11 @@ use Rattle.cold_store.specs.Tidy.{AreSucceeded, IsTidyWall}
 use Rattle.rail_catalogue.specs.Contents.{CatalogueView}
 use Rattle.host_words.specs.declared.serve.Serving.{Serving}
 use Rattle.host_serve.specs.declared.member.Post.{Post}
-use Rattle.host_serve.specs.Crews.{OnlyMet, AreReady, IsCrew, HasMetAll, HasRun}
-use Rattle.host_serve.specs.Turns.{FitsBooks, HasEnded, DoesTurn, HasChain, Readings, Stand, OneTurn, Asks, Chain, Connection, Sweep, clock_for, clock_of, stand_of}
+use Rattle.host_serve.specs.Crews.{OnlyMet, AreReady, IsCrew, HasMetAll, HasRun, Held, of_member, sum_below}
+use Rattle.host_serve.specs.Turns.{FitsBooks, HasEnded, DoesTurn, HasChain, Readings, Stand, OneTurn, Asks, Chain, Connection, Sweep, clock_for, clock_of, handed_of, part_of, stand_of}
 use Rattle.host_serve.specs.Serve.{AllWorked, HasWorked, IsServedWall}
 use Rattle.host_serve.proofs.Chaining.{all_turns, chain_on, serving_chain, sweeping_chain}
-use Rattle.host_serve.proofs.Crewing.{begins, has_in}
+use Rattle.host_serve.proofs.Crewing.{begins, has_in, sum_more, sum_ones}
 use Rattle.host_serve.proofs.Tidying.{IsRested, never_worked, rested, tidy_wall}
 
 -- a layout in the limits of books
@@ -34,17 +34,18 @@ pub record IsFit (g : Layout) : Type 0 where
   pub rows : g.rows ≤ most_rows
 
 -- Each desk has what it did from a time between two calls of the service, so the wall is free for an export.
-pub served_wall : (cat : CatalogueView) (said : Serving) (clocks : List Readings) (asks : ℕ → ℕ → Type 0) (books : BooksView) (desk : DeskView) (wall : WallView)
+pub served_wall : (cat : CatalogueView) (said : Serving) (clocks : List Readings) (asks : ℕ → ℕ → Type 0) (total : ℕ) (books : BooksView) (desk : DeskView)
+    (wall : WallView)
     → IsOf books desk → IsTidy desk → AreSucceeded books.layout.opening → wall.layout ≡ books.layout → IsFit wall.layout
-    → Ends books.layout desk wall.words wall.history → IsWhole desk.number desk.made desk.taken → desk.made ≡ said.workers + 1 → OnlyMet desk.seen
-    → AllWorked cat books said clocks asks desk.seen
-    → ((n : ℕ) → 1 ≤ n → n ≤ said.workers + 1 → IsRested books.layout desk.seen n) → IsServedWall cat books.layout said clocks asks wall
-served_wall cat said clocks asks books desk wall of tidy succeeded same fit ends whole made meets worked rests =
+    → Finishes books.layout desk wall.words wall.history → IsWhole desk.number desk.parted desk.joined → desk.parted ≡ said.workers + 1 → OnlyMet desk.seen
+    → AllWorked cat books said clocks asks total desk.seen
+    → ((n : ℕ) → 1 ≤ n → n ≤ said.workers + 1 → IsRested books.layout desk.seen n) → IsServedWall cat books.layout said clocks asks total wall
+served_wall cat said clocks asks total books desk wall of tidy succeeded same fit ends whole made meets worked rests =
     let seen : desk.seen ≡ wall.history = sym (ends.whole whole) in
     record {
       books = books;
       layout = refl;
-      of = record { layout = same; desk = desk; of = of; made = made; whole = whole; seen = sym seen; finished = ends };
+      of = record { layout = same; desk = desk; of = of; parted = made; whole = whole; seen = sym seen; finished = ends };
       closed = record {
         legal = subst (λ (l : Layout). IsLegal l wall.history) (sym same) ends.legal;
         are = subst (λ (l : Layout). AreWordsOf l (state_of l wall.history) wall.words) (sym same) ends.are;
@@ -54,7 +55,7 @@ served_wall cat said clocks asks books desk wall of tidy succeeded same fit ends
       tidy = subst (λ (l : Layout). IsTidyWall (record { layout = l; words = wall.words; history = wall.history })) (sym same)
           (tidy_wall books.layout wall.history ends.legal all wall.words succeeded (subst (λ (l : Layout). l.rows ≤ most_rows) same fit.rows));
       first = subst (λ (h : List Entry). OnlyMet h) seen meets;
-      worked = subst (λ (h : List Entry). AllWorked cat books said clocks asks h) seen worked;
+      worked = subst (λ (h : List Entry). AllWorked cat books said clocks asks total h) seen worked;
       no_others = λ n beyond. ends.no_others whole.0 n (omega (arith, made, beyond));
     }
   where
@@ -94,91 +95,152 @@ has_worked Does books n clock count old new history began_of ended_of number sta
   entries = entries;
 }
 
-module _ {S T C : Type 0} (told : C → Readings) (ticked : T → ℕ → T → Type 0) (cat : CatalogueView) (said : Serving) (ticker : T) (clocks : List Readings)
-    (books : BooksView) (old : List (Member (Post S T C))) (first other new : DeskView) (clock later : Readings) where
-  -- All that the members of a crew did stands in what the first desk has seen. The first member's desk served on, and was taken in last.
-  pub all_worked : (member : Member (Post S T C)) (more : ℕ) → IsCrew FitsBooks books old → AreReady told cat said ticker clocks old
-      → length old ≡ said.workers + 1 → 1 ≤ said.workers → HasRun FitsBooks (DoesTurn told ticked) HasEnded books old first member
-      → clock ≡ told (clock_of member.worker) → KeepsDesk member.desk other
-      → Chain (Connection cat) more (record { desk = member.desk; clock = clock }) (record { desk = other; clock = later })
-      → IsOf books other → HasMet first other new → AllWorked cat books said clocks (Asks ticked ticker) new.seen
-  all_worked member more crew ready count some run read kept left of met = record {
-    serving = serving;
-    sweeps = swept.0;
-    sweeping = sweeping;
-    ticks = swept.1;
-    enough = swept.2;
-    asked = swept.3;
-  }
-    where
-      behind : (i : ℕ) → 1 ≤ i → i < length old → i < length run.crew
-      behind i low lt = omega (arith, lt, run.count)
+module _ {S T C : Type 0} (handed : S → ℕ) (told : C → Readings) (ticked : T → ℕ → T → Type 0) (cat : CatalogueView) (said : Serving) (ticker : T)
+    (clocks : List Readings) (books : BooksView) (old : List (Member (Post S T C))) (before after : Held) (first : DeskView) (member : Member (Post S T C))
+    (crew : IsCrew FitsBooks books old) (ready : AreReady old handed told cat said ticker clocks) (count : length old ≡ said.workers + 1) (some : 1 ≤ said.workers)
+    (run : HasRun FitsBooks (DoesTurn told handed ticked) HasEnded part_of (λ w. handed_of w handed) books old before after first member) where
+  behind : (i : ℕ) → i < length old → i < length run.crew
+  behind i lt = omega (arith, lt, run.count)
 
-      entries : (i : ℕ) → 1 ≤ i → i < length old
-          → (own new.seen (i + 1) ≡ own (slice_index_or run.crew i member).desk.seen (i + 1)) × IsPrefix (slice_index_or run.crew i member).desk.seen new.seen
-      entries i low lt = has_in books run.crew first other new run.met met i member low (behind i low lt)
+  chain : (i : ℕ) → i < length old → HasChain told handed ticked (slice_index_or old i member).worker (slice_index_or old i member).desk
+      (slice_index_or run.crew i member).worker (slice_index_or run.crew i member).desk
+  chain i lt = all_turns told handed ticked (slice_index_or old i member).worker (slice_index_or old i member).desk (slice_index_or run.crew i member).worker
+      (slice_index_or run.crew i member).desk (run.turns i member lt)
 
-      chain : (i : ℕ) → i < length old → HasChain told ticked (slice_index_or old i member).worker (slice_index_or old i member).desk
-          (slice_index_or run.crew i member).worker (slice_index_or run.crew i member).desk
-      chain i lt = all_turns told ticked (slice_index_or old i member).worker (slice_index_or old i member).desk (slice_index_or run.crew i member).worker
-          (slice_index_or run.crew i member).desk (run.turns i member lt)
+  last : said.workers < length old
+  last = omega (arith, count)
 
-      last : said.workers < length old
-      last = omega (arith, count)
+  swept : (sweeps ticks : ℕ) × (sweeps ≤ ticks) × Asks ticked ticker said.sweep ticks
+      × Chain Sweep sweeps (stand_of told (slice_index_or old said.workers member).worker (slice_index_or old said.workers member).desk)
+      (stand_of told (slice_index_or run.crew said.workers member).worker (slice_index_or run.crew said.workers member).desk)
+      × (part_of (slice_index_or run.crew said.workers member).worker ≡ 0) × (handed_of (slice_index_or run.crew said.workers member).worker handed ≡ 0)
+  swept =
+      let i : ℕ = said.workers in
+      let w = slice_index_or old i member in
+      let v = slice_index_or run.crew i member in
+      sweeping_chain told handed ticked cat said ticker i w.worker w.desk v.worker v.desk refl (ready i member last).post (chain i last)
 
-      swept : (sweeps ticks : ℕ) × (sweeps ≤ ticks) × Asks ticked ticker said.sweep ticks
-          × Chain Sweep sweeps (stand_of told (slice_index_or old said.workers member).worker (slice_index_or old said.workers member).desk)
-          (stand_of told (slice_index_or run.crew said.workers member).worker (slice_index_or run.crew said.workers member).desk)
-      swept =
-          let i : ℕ = said.workers in
-          let w = slice_index_or old i member in
-          let v = slice_index_or run.crew i member in
-          sweeping_chain told ticked cat said ticker i w.worker w.desk v.worker v.desk refl (ready i member last).post (chain i last)
+  serves : (i : ℕ) → i < said.workers → (part_of (slice_index_or run.crew i member).worker ≡ 1)
+      × Chain (Connection cat) (handed_of (slice_index_or run.crew i member).worker handed)
+      (stand_of told (slice_index_or old i member).worker (slice_index_or old i member).desk)
+      (stand_of told (slice_index_or run.crew i member).worker (slice_index_or run.crew i member).desk)
+  serves i less =
+      let lt : i < length old = omega (arith, count, less) in
+      let w = slice_index_or old i member in
+      let v = slice_index_or run.crew i member in
+      serving_chain told handed ticked cat said ticker i w.worker w.desk v.worker v.desk less (ready i member lt).post (ready i member lt).unserved (chain i lt)
 
-      sweeping : HasWorked Sweep books new.seen (said.workers + 1) (clock_for clocks said.workers) swept.0
-      sweeping =
-          let i : ℕ = said.workers in
-          let w = slice_index_or old i member in
-          let v = slice_index_or run.crew i member in
-          has_worked Sweep books (i + 1) (clock_for clocks i) swept.0 (stand_of told w.worker w.desk) (stand_of told v.worker v.desk) new.seen
-          (crew i member last).desk.own (run.are i member (behind i some last)).desk.own (crew i member last).desk.number (ready i member last).clock
-          (ready i member last).none (run.keeps i member last) swept.4 (entries i some last).0 (entries i some last).1
+  -- the parts and the streams of all members
+  parts_sum : sum_below (of_member part_of run.crew member) (length run.crew) ≡ said.workers
+  parts_sum =
+      let ones = sum_ones (of_member part_of run.crew member) said.workers (λ i less. (serves i less).0) in
+      let none = swept.5 in
+      let at : suc said.workers ≡ length run.crew = omega (arith, count, run.count) in
+      subst (λ (n : ℕ). sum_below (of_member part_of run.crew member) n ≡ said.workers) at (omega (arith, ones, none))
 
-      later_one : (i : ℕ) → 1 ≤ i → i < said.workers → (n : ℕ) × HasWorked (Connection cat) books new.seen (i + 1) (clock_for clocks i) n
-      later_one i low less =
-          let lt : i < length old = omega (arith, count, less) in
-          let w = slice_index_or old i member in
-          let v = slice_index_or run.crew i member in
-          let did = serving_chain told ticked cat said ticker i w.worker w.desk v.worker v.desk less (ready i member lt).post (chain i lt) in (
-            did.0,
-            has_worked (Connection cat) books (i + 1) (clock_for clocks i) did.0 (stand_of told w.worker w.desk) (stand_of told v.worker v.desk) new.seen
-                (crew i member lt).desk.own (run.are i member (behind i low lt)).desk.own (crew i member lt).desk.number (ready i member lt).clock
-                (ready i member lt).none (run.keeps i member lt) did.1 (entries i low lt).0 (entries i low lt).1,
-          )
+  handed_sum : sum_below (of_member (λ w. handed_of w handed) run.crew member) (length run.crew) ≡ sum_below (of_member (λ w. handed_of w handed) run.crew member) said.workers
+  handed_sum =
+      let none = swept.6 in
+      let at : suc said.workers ≡ length run.crew = omega (arith, count, run.count) in
+      subst (λ (n : ℕ). sum_below (of_member (λ w. handed_of w handed) run.crew member) n ≡ sum_below (of_member (λ w. handed_of w handed) run.crew member) said.workers) at
+      (omega (arith, none))
 
-      first_one : (n : ℕ) × HasWorked (Connection cat) books new.seen (0 + 1) (clock_for clocks 0) n
-      first_one =
-          let lt : 0 < length old = omega (arith, count) in
-          let w = slice_index_or old 0 member in
-          let left_is : slice_index_or run.crew 0 member ≡ member = sym (run.left member) in
-          let keeps : KeepsDesk w.desk member.desk = subst (λ (m : Member (Post S T C)). KeepsDesk w.desk m.desk) left_is (run.keeps 0 member lt) in
-          let did : HasChain told ticked w.worker w.desk member.worker member.desk =
-          subst (λ (m : Member (Post S T C)). HasChain told ticked w.worker w.desk m.worker m.desk) left_is (chain 0 lt) in
-          let before = serving_chain told ticked cat said ticker 0 w.worker w.desk member.worker member.desk some (ready 0 member lt).post did in
-          let behind_it = subst (λ (r : Readings). Chain (Connection cat) more (record { desk = member.desk; clock = r }) (record { desk = other; clock = later })) read left in
-          let number : other.number ≡ 1 = kept.number ∙ run.is.desk.number in (
-            before.0 + more,
-            has_worked (Connection cat) books (0 + 1) (clock_for clocks 0) (before.0 + more) (stand_of told w.worker w.desk) (record { desk = other; clock = later }) new.seen
-                (crew 0 member lt).desk.own of (crew 0 member lt).desk.number (ready 0 member lt).clock (ready 0 member lt).none
-                (keeps_on w.desk member.desk other keeps kept)
-                (chain_on (Connection cat) before.0 more (stand_of told w.worker w.desk) (stand_of told member.worker member.desk)
-                (record { desk = other; clock = later }) before.1 behind_it)
-                (subst (λ (k : ℕ). own new.seen k ≡ own other.seen k) number met.theirs.0) met.other_front,
-          )
+  -- what the first member has, by its place
+  first_part : sum_below (of_member part_of run.crew member) 1 ≡ part_of member.worker
+  first_part =
+      let this : part_of (slice_index_or run.crew 0 member).worker ≡ part_of member.worker = ap (λ (m : Member (Post S T C)). part_of m.worker) (sym (run.left member)) in
+      omega (arith, this)
 
-      serving : (i : ℕ) → i < said.workers → (n : ℕ) × HasWorked (Connection cat) books new.seen (i + 1) (clock_for clocks i) n
-      serving zero less = first_one
-      serving (suc i) less = later_one (suc i) (omega arith) less
+  first_handed : sum_below (of_member (λ w. handed_of w handed) run.crew member) 1 ≡ handed_of member.worker handed
+  first_handed =
+      let this : handed_of (slice_index_or run.crew 0 member).worker handed ≡ handed_of member.worker handed =
+      ap (λ (m : Member (Post S T C)). handed_of m.worker handed) (sym (run.left member)) in
+      omega (arith, this)
+
+  -- whoever was given all of it has the parts of all serving members
+  pub all_parts : (parts : ℕ) → before.parts ≡ 0 → parts ≡ after.parts + part_of member.worker → parts ≡ said.workers
+  all_parts parts began has =
+      let given = run.given.all_parts member in
+      let all = parts_sum in
+      let one = first_part in
+      omega (arith, given, all, one, began, has)
+
+  -- how many connections the member at a place served, the first one so many more
+  abbrev served_by : ℕ → ℕ → ℕ
+  served_by more zero = handed_of member.worker handed + more
+  served_by more (suc i) = handed_of (slice_index_or run.crew (suc i) member).worker handed
+
+  module _ (other new : DeskView) (clock later : Readings) where
+    entries : HasMet first other new → (i : ℕ) → 1 ≤ i → i < length old
+        → (own new.seen (i + 1) ≡ own (slice_index_or run.crew i member).desk.seen (i + 1)) × IsPrefix (slice_index_or run.crew i member).desk.seen new.seen
+    entries met i low lt = has_in books run.crew first other new run.met met i member low (behind i lt)
+
+    -- All that the members of a crew did stands in what the first desk has seen. The first member's desk served on, and was taken in last. All
+    -- the streams together are as many as the holder of all shares had counted, and those that were served on.
+    pub all_worked : (more amount total : ℕ) → before.amount ≡ 0 → amount ≡ after.amount + handed_of member.worker handed → total ≡ amount + more
+        → clock ≡ told (clock_of member.worker) → KeepsDesk member.desk other
+        → Chain (Connection cat) more (record { desk = member.desk; clock = clock }) (record { desk = other; clock = later })
+        → IsOf books other → HasMet first other new → AllWorked cat books said clocks (Asks ticked ticker) total new.seen
+    all_worked more amount total began has sums read kept left of met = record {
+      served = served_by more;
+      serving = serving;
+      together = together;
+      sweeps = swept.0;
+      sweeping = sweeping;
+      ticks = swept.1;
+      enough = swept.2;
+      asked = swept.3;
+    }
+      where
+        together : sum_below (served_by more) said.workers ≡ total
+        together =
+            let one = first_handed in
+            let first_is : served_by more 0 ≡ of_member (λ w. handed_of w handed) run.crew member 0 + more = omega (arith, one) in
+            let plus = sum_more (of_member (λ w. handed_of w handed) run.crew member) (served_by more) more said.workers first_is (λ i. refl) some in
+            let given = run.given.all_counted member in
+            let all = handed_sum in
+            omega (arith, plus, one, given, all, began, has, sums)
+
+        sweeping : HasWorked Sweep books new.seen (said.workers + 1) (clock_for clocks said.workers) swept.0
+        sweeping =
+            let i : ℕ = said.workers in
+            let w = slice_index_or old i member in
+            let v = slice_index_or run.crew i member in
+            has_worked Sweep books (i + 1) (clock_for clocks i) swept.0 (stand_of told w.worker w.desk) (stand_of told v.worker v.desk) new.seen
+            (crew i member last).desk.own (run.are i member (behind i last)).desk.own (crew i member last).desk.number (ready i member last).clock
+            (ready i member last).none (run.keeps i member last) swept.4 (entries met i some last).0 (entries met i some last).1
+
+        later_one : (i : ℕ) → 1 ≤ i → i < said.workers
+            → HasWorked (Connection cat) books new.seen (i + 1) (clock_for clocks i) (handed_of (slice_index_or run.crew i member).worker handed)
+        later_one i low less =
+            let lt : i < length old = omega (arith, count, less) in
+            let w = slice_index_or old i member in
+            let v = slice_index_or run.crew i member in
+            has_worked (Connection cat) books (i + 1) (clock_for clocks i) (handed_of v.worker handed) (stand_of told w.worker w.desk) (stand_of told v.worker v.desk) new.seen
+            (crew i member lt).desk.own (run.are i member (behind i lt)).desk.own (crew i member lt).desk.number (ready i member lt).clock
+            (ready i member lt).none (run.keeps i member lt) (serves i less).1 (entries met i low lt).0 (entries met i low lt).1
+
+        first_one : HasWorked (Connection cat) books new.seen (0 + 1) (clock_for clocks 0) (handed_of member.worker handed + more)
+        first_one =
+            let lt : 0 < length old = omega (arith, count) in
+            let w = slice_index_or old 0 member in
+            let left_is : slice_index_or run.crew 0 member ≡ member = sym (run.left member) in
+            let keeps : KeepsDesk w.desk member.desk = subst (λ (m : Member (Post S T C)). KeepsDesk w.desk m.desk) left_is (run.keeps 0 member lt) in
+            let before_it = subst (λ (m : Member (Post S T C)). Chain (Connection cat) (handed_of m.worker handed) (stand_of told w.worker w.desk) (stand_of told m.worker m.desk))
+            left_is (serves 0 some).1 in
+            let behind_it = subst (λ (r : Readings). Chain (Connection cat) more (record { desk = member.desk; clock = r }) (record { desk = other; clock = later })) read left in
+            let number : other.number ≡ 1 = kept.number ∙ run.is.desk.number in
+            has_worked (Connection cat) books (0 + 1) (clock_for clocks 0) (handed_of member.worker handed + more) (stand_of told w.worker w.desk)
+            (record { desk = other; clock = later }) new.seen
+            (crew 0 member lt).desk.own of (crew 0 member lt).desk.number (ready 0 member lt).clock (ready 0 member lt).none
+            (keeps_on w.desk member.desk other keeps kept)
+            (chain_on (Connection cat) (handed_of member.worker handed) more (stand_of told w.worker w.desk) (stand_of told member.worker member.desk)
+            (record { desk = other; clock = later }) before_it behind_it)
+            (subst (λ (k : ℕ). own new.seen k ≡ own other.seen k) number met.theirs.0) met.other_front
+
+        serving : (i : ℕ) → i < said.workers → HasWorked (Connection cat) books new.seen (i + 1) (clock_for clocks i) (served_by more i)
+        serving zero less = first_one
+        serving (suc i) less = later_one (suc i) (omega arith) less
 
 -- The members' desks are tidy, and the first desk has taken in what each did. The first member's is another one by then, and was taken in last.
 pub all_rested : {W : Type 0} (Fits : W → BooksView → Type 0) (books : BooksView) (crew : List (Member W)) (none : Member W) (first other new : DeskView)

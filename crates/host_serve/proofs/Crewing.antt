@@ -1,5 +1,5 @@
 -- Crews that gain and lose a member.
-use Rattle.std.proofs.Common.{◌≡◌, ◌∙◌, ◌<◌, ◌≤◌, ◌+◌, ◌-◌, ℕ, List, [], ◌∷◌, ◌++◌, None, length, map, take, drop, slice_index_or, refl, sym, ap, subst, inl, inr, arith, append-nil, append_assoc}
+use Rattle.std.proofs.Common.{◌≡◌, ◌∙◌, ◌<◌, ◌≤◌, ◌+◌, ◌-◌, ℕ, zero, suc, List, [], ◌∷◌, ◌++◌, None, length, map, take, drop, slice_index_or, refl, sym, ap, subst, inl, inr, arith, append-nil, append_assoc}
 use Rattle.std.proofs.Math.Logic.{⊎_elim}
 use Rattle.std.proofs.lemmas.Bool.{cases_lt}
 use Rattle.std.proofs.lemmas.List.{drop_all, get_or_append_left, length-append, length-map, map-append, take_all}
@@ -12,13 +12,16 @@ use Rattle.history_model.specs.declared.entry.Entry.{Entry}
 use Rattle.history_model.proofs.ListLemmas.{All-append}
 use Rattle.claim_rule.specs.Rule.{BooksView, DeskView, In, IsWhole}
 use Rattle.history_model.specs.declared.entry.Step.TheVariants.{Met}
-use Rattle.claim_rule.specs.Seats.{IsOf, IsNew, HasMet, Stepped}
+use Rattle.claim_rule.specs.Desks.{IsOf, IsNew, HasMet, Stepped}
 use Rattle.claim_rule.specs.Out.{IsTidy}
 use Rattle.claim_rule.proofs.Shapes.{step_shape}
 use Rattle.claim_rule.proofs.Views.{each_in}
 use Rattle.worker_pool.specs.Turns.{KeepsDesk, EachMember}
 use Rattle.worker_pool.specs.declared.member.Member.{Member}
-use Rattle.host_serve.specs.Crews.{OnlyMet, IsFirst, IsDesk, IsMember, IsCrew, HasMetAll}
+use Rattle.host_serve.specs.Crews.{OnlyMet, IsFirst, IsDesk, IsMember, IsCrew, AreReady, HasGiven, HasMetAll, Held, IsReady, of_member, sum_below}
+use Rattle.host_words.specs.declared.serve.Serving.{Serving}
+use Rattle.rail_catalogue.specs.Contents.{CatalogueView}
+use Rattle.host_serve.specs.declared.member.Post.{Post}
 use Rattle.host_serve.specs.Turns.{Readings, clock_for}
 
 -- what begins a beginning begins the whole
@@ -109,7 +112,7 @@ none_met books crew desk first = record {
   own = first.own;
   tidy = first.tidy;
   number = first.number;
-  made = first.made;
+  parted = first.parted;
   meets = first.meets;
   met = λ i none low high. absurd (omega (arith, low, high));
 }
@@ -122,20 +125,20 @@ met_one {W} Fits books all crew m old new front is before met of tidy = record {
   own = of;
   tidy = tidy;
   number = met.same.2 ∙ before.number;
-  made = met.same.3 ∙ before.made;
+  parted = met.same.3 ∙ before.parted;
   meets = one_more old.number old.seen new.seen before.number met.mine before.meets;
   met = λ i none low high. ⊎_elim
       (λ (later : length crew < i).
       let was = before.met i none (omega (arith, later)) high in (
-        subst (λ (ks : List ℕ). In (i + 1) ks) (sym met.taken) (in_left (i + 1) old.taken (m.desk.number ∷ m.desk.taken) was.0),
-        each_in (λ (j : ℕ). own new.seen j ≡ own old.seen j) old.taken (i + 1) met.before was.0 ∙ was.1,
+        subst (λ (ks : List ℕ). In (i + 1) ks) (sym met.joined) (in_left (i + 1) old.joined (m.desk.number ∷ m.desk.joined) was.0),
+        each_in (λ (j : ℕ). own new.seen j ≡ own old.seen j) old.joined (i + 1) met.before was.0 ∙ was.1,
         begins (slice_index_or all i none).desk.seen old.seen new.seen was.2 met.front,
       ))
       (λ (not_later : i ≤ length crew).
       let at : length crew ≡ i = omega (arith, low, not_later) in
       let number : i + 1 ≡ m.desk.number = sym (is.desk.number ∙ ap (λ (k : ℕ). k + 1) at) in
       let member : slice_index_or all i none ≡ m = subst (λ (k : ℕ). slice_index_or all k none ≡ m) at (stands Fits books all crew m none front) in (
-        subst (λ (ks : List ℕ). In (i + 1) ks) (sym met.taken) (in_right (i + 1) old.taken (m.desk.number ∷ m.desk.taken) (inl number)),
+        subst (λ (ks : List ℕ). In (i + 1) ks) (sym met.joined) (in_right (i + 1) old.joined (m.desk.number ∷ m.desk.joined) (inl number)),
         subst (λ (n : Member W). own new.seen (i + 1) ≡ own n.desk.seen (i + 1)) (sym member)
             (subst (λ (k : ℕ). own new.seen k ≡ own m.desk.seen k) (sym number) met.theirs.0),
         subst (λ (n : Member W). IsPrefix n.desk.seen new.seen) (sym member) met.other_front,
@@ -143,31 +146,82 @@ met_one {W} Fits books all crew m old new front is before met of tidy = record {
       (cases_lt (length crew) i);
 }
 
+-- one more that is ready
+pub ready_more : {S T C : Type 0} (handed : S → ℕ) (told : C → Readings) (cat : CatalogueView) (said : Serving) (ticker : T) (clocks : List Readings)
+    (all crew : List (Member (Post S T C))) (m : Member (Post S T C)) → all ≡ crew ++ m ∷ [] → AreReady crew handed told cat said ticker clocks
+    → IsReady m handed told cat said ticker clocks (length crew) → AreReady all handed told cat said ticker clocks
+ready_more {S} {T} {C} handed told cat said ticker clocks all crew m items are is =
+    subst (λ (l : List (Member (Post S T C))). AreReady l handed told cat said ticker clocks) (sym items)
+    (joined_each (λ i n. IsReady n handed told cat said ticker clocks i) crew m are is)
+
+-- nothing was given yet
+pub none_given : {W : Type 0} (has counts : W → ℕ) (crew : List (Member W)) (held : Held) → HasGiven has counts crew (length crew) held held
+none_given has counts crew held = record { all_parts = λ none. refl; all_counted = λ none. refl }
+
+-- a sum with one number more
+sum_step : (f : ℕ → ℕ) (n : ℕ) → sum_below f (n + 1) ≡ sum_below f n + f n
+sum_step f n = let at : n + 1 ≡ suc n = omega arith in ap (λ (k : ℕ). sum_below f k) at
+
+-- one member more has given what it had
+pub given_one : {W : Type 0} (Fits : W → BooksView → Type 0) (books : BooksView) (has counts : W → ℕ) (all crew : List (Member W)) (m : Member W) (old mid new : Held)
+    → IsPrefix (crew ++ m ∷ []) all → HasGiven has counts all (length crew + 1) old mid → new.parts ≡ mid.parts + has m.worker
+    → new.amount ≡ mid.amount + counts m.worker → HasGiven has counts all (length crew) old new
+given_one {W} Fits books has counts all crew m old mid new front given parts amount = record {
+  all_parts = λ none. step has none mid.parts new.parts old.parts parts (given.all_parts none);
+  all_counted = λ none. step counts none mid.amount new.amount old.amount amount (given.all_counted none);
+}
+  where
+    step : (of : W → ℕ) (none : Member W) (b c a : ℕ) → c ≡ b + of m.worker
+        → b + sum_below (of_member of all none) (length crew + 1) ≡ a + sum_below (of_member of all none) (length all)
+        → c + sum_below (of_member of all none) (length crew) ≡ a + sum_below (of_member of all none) (length all)
+    step of none b c a more given =
+        let split : sum_below (of_member of all none) (length crew + 1) ≡ sum_below (of_member of all none) (length crew) + of (slice_index_or all (length crew) none).worker =
+        sum_step (of_member of all none) (length crew) in
+        let this : of (slice_index_or all (length crew) none).worker ≡ of m.worker = ap (λ (n : Member W). of n.worker) (stands Fits books all crew m none front) in
+        omega (arith, split, this, more, given)
+
+-- a sum of ones
+pub sum_ones : (f : ℕ → ℕ) (n : ℕ) → ((i : ℕ) → i < n → f i ≡ 1) → sum_below f n ≡ n
+sum_ones f zero ones = refl
+sum_ones f (suc n) ones =
+    let before : sum_below f n ≡ n = sum_ones f n (λ i lt. ones i (omega (arith, lt))) in
+    let last : f n ≡ 1 = ones n (omega arith) in
+    omega (arith, before, last)
+
+-- a sum whose first number alone is greater
+pub sum_more : (f g : ℕ → ℕ) (more n : ℕ) → g 0 ≡ f 0 + more → ((i : ℕ) → g (suc i) ≡ f (suc i)) → 1 ≤ n → sum_below g n ≡ sum_below f n + more
+sum_more f g more zero first same some = absurd (omega (arith, some))
+sum_more f g more (suc zero) first same some = omega (arith, first)
+sum_more f g more (suc (suc n)) first same some =
+    let before : sum_below g (suc n) ≡ sum_below f (suc n) + more = sum_more f g more (suc n) first same (omega arith) in
+    let last : g (suc n) ≡ f (suc n) = same n in
+    omega (arith, before, last)
+
 -- a desk more was parted
-pub parted_first : (books : BooksView) (n : ℕ) (old new : DeskView) → IsFirst books n old → IsOf books new → Stepped Met old (record new { made = old.made })
-    → new.made ≡ old.made + 1 → IsTidy new → IsFirst books (n + 1) new
+pub parted_first : (books : BooksView) (n : ℕ) (old new : DeskView) → IsFirst books n old → IsOf books new → Stepped Met old (record new { parted = old.parted })
+    → new.parted ≡ old.parted + 1 → IsTidy new → IsFirst books (n + 1) new
 parted_first books n old new first of met made tidy = record {
   own = of;
   tidy = tidy;
   number = met.same.2 ∙ first.number;
-  made = made ∙ ap (λ (k : ℕ). k + 1) first.made;
-  taken = met.same.3 ∙ first.taken;
-  meets = one_more old.number old.seen new.seen first.number (step_shape Met old (record new { made = old.made }) met).mine first.meets;
+  parted = made ∙ ap (λ (k : ℕ). k + 1) first.parted;
+  joined = met.same.3 ∙ first.joined;
+  meets = one_more old.number old.seen new.seen first.number (step_shape Met old (record new { parted = old.parted }) met).mine first.meets;
 }
 
-pub parted_desk : (books : BooksView) (n : ℕ) (old new desk : DeskView) → IsFirst books n old → new.made ≡ old.made + 1 → IsNew desk new.made new.seen
+pub parted_desk : (books : BooksView) (n : ℕ) (old new desk : DeskView) → IsFirst books n old → new.parted ≡ old.parted + 1 → IsNew desk new.parted new.seen
     → IsOf books desk → IsTidy desk → IsDesk books (n + 1) desk
 parted_desk books n old new desk first made is of tidy = record {
   own = of;
   tidy = tidy;
-  number = is.number ∙ (made ∙ ap (λ (k : ℕ). k + 1) first.made);
-  taken = is.taken;
+  number = is.number ∙ (made ∙ ap (λ (k : ℕ). k + 1) first.parted);
+  joined = is.joined;
 }
 
 -- it has no entries of its own
-pub parted_empty : (n : ℕ) (new desk : DeskView) → new.made ≡ n + 1 → IsNew desk new.made new.seen → own new.seen new.made ≡ [] → own desk.seen (n + 1) ≡ []
+pub parted_empty : (n : ℕ) (new desk : DeskView) → new.parted ≡ n + 1 → IsNew desk new.parted new.seen → own new.seen new.parted ≡ [] → own desk.seen (n + 1) ≡ []
 parted_empty n new desk made is none =
-    subst (λ (k : ℕ). own desk.seen k ≡ []) made (ap (λ (es : List Entry). own es new.made) is.seen ∙ none)
+    subst (λ (k : ℕ). own desk.seen k ≡ []) made (ap (λ (es : List Entry). own es new.parted) is.seen ∙ none)
 
 -- the members of a crew that has run stand at their desks
 pub after_run : {W : Type 0} (Fits : W → BooksView → Type 0) (books : BooksView) (old crew : List (Member W)) → IsCrew Fits books old → length crew ≡ length old
@@ -183,25 +237,25 @@ after_run Fits books old crew is count fits of tidy keeps i none lt =
         own = of i none low;
         tidy = tidy i none low;
         number = kept.number ∙ was.desk.number;
-        taken = kept.taken ∙ was.desk.taken;
+        joined = kept.joined ∙ was.desk.joined;
       };
     }
 
 -- The first desk has taken in all others once it has met the first member's
 pub complete : {W : Type 0} (books : BooksView) (crew : List (Member W)) (none : Member W) (first other new : DeskView) → HasMetAll books crew 1 first
-    → HasMet first other new → other.number ≡ 1 → IsWhole new.number new.made new.taken × (new.made ≡ length crew)
+    → HasMet first other new → other.number ≡ 1 → IsWhole new.number new.parted new.joined × (new.parted ≡ length crew)
 complete {W} books crew none first other new all met number =
-    let made : new.made ≡ length crew = met.same.3 ∙ all.made in (
+    let made : new.parted ≡ length crew = met.same.3 ∙ all.parted in (
       (
         met.same.2 ∙ all.number,
-        λ j low high. subst (λ (ks : List ℕ). In j ks) (sym met.taken) (⊎_elim
+        λ j low high. subst (λ (ks : List ℕ). In j ks) (sym met.joined) (⊎_elim
             (λ (later : 1 < j).
             let at : j - 1 + 1 ≡ j = omega (arith, later) in
-            in_left j first.taken (other.number ∷ other.taken)
-            (subst (λ (k : ℕ). In k first.taken) at (all.met (j - 1) none (omega (arith, later)) (omega (arith, later, high, made))).0))
+            in_left j first.joined (other.number ∷ other.joined)
+            (subst (λ (k : ℕ). In k first.joined) at (all.met (j - 1) none (omega (arith, later)) (omega (arith, later, high, made))).0))
             (λ (one : j ≤ 1).
             let at : j ≡ 1 = omega (arith, one, low) in
-            in_right j first.taken (other.number ∷ other.taken) (inl (at ∙ sym number)))
+            in_right j first.joined (other.number ∷ other.joined) (inl (at ∙ sym number)))
             (cases_lt 1 j)),
       ),
       made,
@@ -213,7 +267,7 @@ pub has_in : {W : Type 0} (books : BooksView) (crew : List (Member W)) (first ot
     → (own new.seen (i + 1) ≡ own (slice_index_or crew i none).desk.seen (i + 1)) × IsPrefix (slice_index_or crew i none).desk.seen new.seen
 has_in books crew first other new all met i none low high =
     let was = all.met i none low high in (
-      each_in (λ (j : ℕ). own new.seen j ≡ own first.seen j) first.taken (i + 1) met.before was.0 ∙ was.1,
+      each_in (λ (j : ℕ). own new.seen j ≡ own first.seen j) first.joined (i + 1) met.before was.0 ∙ was.1,
       begins (slice_index_or crew i none).desk.seen first.seen new.seen was.2 met.front,
     )
 

@@ -1,3 +1,4 @@
+pub mod Risings
 pub mod Chaining
 pub mod Crewing
 pub mod Leaving

@@ -1,3 +1,4 @@
+pub mod Risen
 pub mod Turns
 pub mod Crews
 pub mod Ends

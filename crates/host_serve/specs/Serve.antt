@@ -1,5 +1,5 @@
 -- What `serve` promises.
-use Rattle.std.specs.Prelude.{◌≡◌, ◌⊎◌, ◌<◌, ◌≤◌, ◌+◌, ℕ, true, false, List, [], Option, Some, None, IsSomeAnd}
+use Rattle.std.specs.Prelude.{◌≡◌, ◌<◌, ◌≤◌, ◌+◌, ℕ, true, false, List, [], Option, Some, None, IsSomeAnd}
 use Rattle.rail_io.specs.Faults.{Rose}
 use mathlib.Core.List.{IsPrefix}
 use Rattle.history_model.specs.Booking.{Layout}
@@ -7,8 +7,8 @@ use Rattle.history_model.specs.History.{own}
 use Rattle.history_model.specs.declared.entry.Entry.{Entry}
 use Rattle.claim_rule.specs.Openings.{KeptBooking, layout_with}
 use Rattle.claim_rule.specs.Rule.{BooksView, DeskView, IsWhole}
-use Rattle.claim_rule.specs.Seats.{IsOf}
-use Rattle.claim_rule.specs.Walls.{WallView, Ends as Finishes}
+use Rattle.claim_rule.specs.Desks.{IsOf}
+use Rattle.claim_rule.specs.Walls.{WallView, Finishes}
 use Rattle.cold_store.specs.Exports.{IsClosed}
 use Rattle.cold_store.specs.Tidy.{IsTidyWall}
 use Rattle.rail_catalogue.specs.Contents.{CatalogueView, legs_in}
@@ -19,7 +19,7 @@ use Rattle.host_catalogue.specs.Files.{Files, HasCause}
 use Rattle.host_catalogue.specs.Opening.{Fails, HasBooks, IsRefusedFile, LacksBooks}
 use Rattle.host_words.specs.Commands.{IsFor}
 use Rattle.host_words.specs.declared.command.CommandName.TheVariants as command
-use Rattle.host_serve.specs.Crews.{OnlyMet}
+use Rattle.host_serve.specs.Crews.{OnlyMet, sum_below}
 use Rattle.host_serve.specs.Turns.{Readings, Stand, OneTurn, Chain, Connection, Sweep, clock_for}
 use Rattle.host_serve.specs.declared.end.ServeOutcome.{ServeOutcome}
 use Rattle.host_serve.specs.declared.end.ServeOutcome.TheVariants as end
@@ -60,39 +60,41 @@ pub record HasWorked (Does : OneTurn) (books : BooksView) (history : List Entry)
   pub turns : Chain Does count began ended
   pub entries : own history n ≡ own ended.desk.seen n
 
--- In the history the desks 1 to the number of workers served connections, and the one behind them swept, each by its own of the clocks. For
--- each sweep the ticker was asked once at least for a tick, and each time after the words' seconds.
-pub record AllWorked (cat : CatalogueView) (books : BooksView) (said : Serving) (clocks : List Readings) (asks : ℕ → ℕ → Type 0)
+-- In the history the desks 1 to the number of workers served connections, so many all together, and the one behind them swept, each by its
+-- own of the clocks. For each sweep the ticker was asked once at least for a tick, and each time after the words' seconds.
+pub record AllWorked (cat : CatalogueView) (books : BooksView) (said : Serving) (clocks : List Readings) (asks : ℕ → ℕ → Type 0) (total : ℕ)
     (history : List Entry) : Type 0 where
-  pub serving : (i : ℕ) → i < said.workers → (served : ℕ) × HasWorked (Connection cat) books history (i + 1) (clock_for clocks i) served
+  pub served : ℕ → ℕ
+  pub serving : (i : ℕ) → i < said.workers → HasWorked (Connection cat) books history (i + 1) (clock_for clocks i) (served i)
+  pub together : sum_below served said.workers ≡ total
   pub sweeps : ℕ
   pub sweeping : HasWorked Sweep books history (said.workers + 1) (clock_for clocks said.workers) sweeps
   pub ticks : ℕ
   pub enough : sweeps ≤ ticks
   pub asked : asks said.sweep ticks
 
--- The books were finished by their first desk, which had parted so many others and had taken in each: this is the wall that was left, and
+-- The books were finished by their first desk, which had parted so many others and had joined each: this is the wall that was left, and
 -- in its history is what that desk had seen.
 pub record IsWallOf (books : BooksView) (others : ℕ) (wall : WallView) : Type 0 where
   pub layout : wall.layout ≡ books.layout
   pub desk : DeskView
   pub of : IsOf books desk
-  pub made : desk.made ≡ others
-  pub whole : IsWhole desk.number desk.made desk.taken
+  pub parted : desk.parted ≡ others
+  pub whole : IsWhole desk.number desk.parted desk.joined
   pub seen : wall.history ≡ desk.seen
   pub finished : Finishes books.layout desk wall.words wall.history
 
 -- The wall is that of the books at which the members served, and these have this layout. Its words are those of its history, which is legal,
 -- and it is free for an export. In the history the first desk only met others, and the members' entries are those of all their turns at these
--- books. No desk beyond these has any.
-pub record IsServedWall (cat : CatalogueView) (plan : Layout) (said : Serving) (clocks : List Readings) (asks : ℕ → ℕ → Type 0) (wall : WallView) : Type 0 where
+-- books: so many connections all together, and the sweeps. No desk beyond these has any.
+pub record IsServedWall (cat : CatalogueView) (plan : Layout) (said : Serving) (clocks : List Readings) (asks : ℕ → ℕ → Type 0) (total : ℕ) (wall : WallView) : Type 0 where
   pub books : BooksView
   pub layout : books.layout ≡ plan
   pub of : IsWallOf books (said.workers + 1) wall
   pub closed : IsClosed wall
   pub tidy : IsTidyWall wall
   pub first : OnlyMet wall.history
-  pub worked : AllWorked cat books said clocks asks wall.history
+  pub worked : AllWorked cat books said clocks asks total wall.history
   pub no_others : (n : ℕ) → said.workers + 1 < n → own wall.history n ≡ []
 
 -- what the listener told and how often it had failed, before and after; what the clocks told, and whether the ticker was asked for a tick
@@ -106,12 +108,13 @@ pub record Left : Type 1 where
   pub after : ListenerView
   pub wall : Option WallView
 
--- what was served: the books of the words' catalogue, with its places and rows, which opened with no booking or with those of the words' export
+-- what was served: the books of the words' catalogue, with its places and rows, which opened with no booking or with those of the words'
+-- export, over just as many connections as the listener has handed out
 pub record HasWall (files : Files) (said : ServeView) (left : Left) : Type 0 where
   pub cat : CatalogueView
   pub kept : List KeptBooking
   pub books : HasBooks files said.catalogue said.from cat kept
-  pub closed : IsSomeAnd left.wall (IsServedWall cat (layout_with (legs_in cat) cat.rows kept) said.numbers left.clocks left.asks)
+  pub closed : IsSomeAnd left.wall (IsServedWall cat (layout_with (legs_in cat) cat.rows kept) said.numbers left.clocks left.asks left.after.handed)
 
 -- There are books that the words ask for: the catalogue is there, and the export, if one is named.
 pub record HasOpened (files : Files) (said : ServeView) : Type 0 where
@@ -156,9 +159,9 @@ Ends files said left end.Refused = ⊥
 -- it then told
 abbrev pub BooksEnd : CatalogueView → Layout → Serving → List Readings → (ℕ → ℕ → Type 0) → ℕ → ℕ → ListenerView → Option WallView → ServeOutcome → Type 0
 BooksEnd cat plan said clocks asks before after view wall end.Served =
-    IsSpent said before after view × IsSomeAnd wall (IsServedWall cat plan said clocks asks)
+    IsSpent said before after view × IsSomeAnd wall (IsServedWall cat plan said clocks asks view.handed)
 BooksEnd cat plan said clocks asks before after view wall end.AcceptFailed =
-    HasFailed said before after view × IsSomeAnd wall (IsServedWall cat plan said clocks asks)
+    HasFailed said before after view × IsSomeAnd wall (IsServedWall cat plan said clocks asks view.handed)
 BooksEnd cat plan said clocks asks before after view wall end.Unwritten = ⊥
 BooksEnd cat plan said clocks asks before after view wall end.NoText = ⊥
 BooksEnd cat plan said clocks asks before after view wall end.NotBound = ⊥

@@ -7,7 +7,7 @@ use Rattle.claim_rule.specs.Rule.{BooksView, DeskView}
 use Rattle.claim_rule.specs.Calls.{ShapeBy}
 use Rattle.rail_catalogue.specs.Contents.{CatalogueView, legs_in}
 use Rattle.expiry_sweeper.specs.AllRows.{Sweeps}
-use Rattle.expiry_sweeper.specs.declared.sweeps.Swept.{Swept}
+use Rattle.booking_rows.specs.declared.swept.Swept.{Swept}
 use Rattle.rail_service.specs.Connections.{IsReading, HasServed}
 use Rattle.host_words.specs.declared.serve.Serving.{Serving as Numbers}
 use Rattle.host_serve.specs.declared.member.Post.{Post}
@@ -96,6 +96,11 @@ abbrev pub ServesTurn : CatalogueView → Readings → DeskView → Readings →
 ServesTurn cat clock old later new true = Rests clock old later new
 ServesTurn cat clock old later new false = ServesOne cat clock old later new
 
+-- a stream more was handed out, but where the member has ended
+abbrev pub Counts : Bool → ℕ → ℕ → Type 0
+Counts true old new = new ≡ old
+Counts false old new = new ≡ old + 1
+
 -- a sweeping member's turn: one sweep, or nothing, where it has then ended
 abbrev pub SweepsTurn : Readings → DeskView → Readings → DeskView → Bool → Type 0
 SweepsTurn clock old later new true = Rests clock old later new
@@ -115,29 +120,40 @@ module _ {S T C : Type 0} where
   clock_of (Serving w) = w.clock
   clock_of (Sweeping w) = w.clock
 
+  -- how many streams a member was handed out, and in how many parts of a ledger they are counted
+  abbrev pub handed_of : Post S T C → (S → ℕ) → ℕ
+  handed_of (Serving w) handed = handed w.streams
+  handed_of (Sweeping w) handed = 0
+
+  abbrev pub part_of : Post S T C → ℕ
+  part_of (Serving w) = 1
+  part_of (Sweeping w) = 0
+
   -- a member's desk, beside its clock
   abbrev pub stand_of : (C → Readings) → Post S T C → DeskView → Stand
   stand_of told w d = record { desk = d; clock = told (clock_of w) }
 
-  -- A member stays at its post, a serving one with its catalogue. A sweeping one asks its ticker once for a tick, after its seconds.
-  abbrev pub DoesTurn : (C → Readings) → (T → ℕ → T → Type 0) → Post S T C → DeskView → Post S T C → DeskView → Type 0
-  DoesTurn told ticked (Serving w) old (Serving v) new =
-      (v.common.cat.now ≡ w.common.cat.now) × ServesTurn w.common.cat.now (told w.clock) old (told v.clock) new v.ended
-  DoesTurn told ticked (Sweeping w) old (Sweeping v) new =
+  -- A member stays at its post, a serving one with its catalogue, and is handed out the stream that it serves. A sweeping one asks its ticker once for a tick, after its seconds.
+  abbrev pub DoesTurn : (C → Readings) → (S → ℕ) → (T → ℕ → T → Type 0) → Post S T C → DeskView → Post S T C → DeskView → Type 0
+  DoesTurn told handed ticked (Serving w) old (Serving v) new =
+      (v.common.cat.now ≡ w.common.cat.now) × Counts v.ended (handed w.streams) (handed v.streams)
+      × ServesTurn w.common.cat.now (told w.clock) old (told v.clock) new v.ended
+  DoesTurn told handed ticked (Sweeping w) old (Sweeping v) new =
       (v.seconds ≡ w.seconds) × ticked w.ticker w.seconds v.ticker × SweepsTurn (told w.clock) old (told v.clock) new v.ended
-  DoesTurn told ticked (Serving w) old (Sweeping v) new = ⊥
-  DoesTurn told ticked (Sweeping w) old (Serving v) new = ⊥
+  DoesTurn told handed ticked (Serving w) old (Sweeping v) new = ⊥
+  DoesTurn told handed ticked (Sweeping w) old (Serving v) new = ⊥
 
-  -- All turns of a member up to its end are a chain: of connections of its catalogue, or of sweeps, with a tick for each at least.
-  abbrev pub HasChain : (C → Readings) → (T → ℕ → T → Type 0) → Post S T C → DeskView → Post S T C → DeskView → Type 0
-  HasChain told ticked (Serving w) old (Serving v) new =
-      (v.common.cat.now ≡ w.common.cat.now)
-      × (served : ℕ) × Chain (Connection w.common.cat.now) served (stand_of told (Serving w) old) (stand_of told (Serving v) new)
-  HasChain told ticked (Sweeping w) old (Sweeping v) new =
+  -- All turns of a member up to its end are a chain: of as many connections of its catalogue as it was handed out streams, or of sweeps, with a
+  -- tick for each at least.
+  abbrev pub HasChain : (C → Readings) → (S → ℕ) → (T → ℕ → T → Type 0) → Post S T C → DeskView → Post S T C → DeskView → Type 0
+  HasChain told handed ticked (Serving w) old (Serving v) new =
+      (v.common.cat.now ≡ w.common.cat.now) × (served : ℕ) × (handed v.streams ≡ handed w.streams + served)
+      × Chain (Connection w.common.cat.now) served (stand_of told (Serving w) old) (stand_of told (Serving v) new)
+  HasChain told handed ticked (Sweeping w) old (Sweeping v) new =
       (v.seconds ≡ w.seconds) × (sweeps ticks : ℕ) × (sweeps ≤ ticks) × Ticks ticked w.seconds ticks w.ticker v.ticker
       × Chain Sweep sweeps (stand_of told (Sweeping w) old) (stand_of told (Sweeping v) new)
-  HasChain told ticked (Serving w) old (Sweeping v) new = ⊥
-  HasChain told ticked (Sweeping w) old (Serving v) new = ⊥
+  HasChain told handed ticked (Serving w) old (Sweeping v) new = ⊥
+  HasChain told handed ticked (Sweeping w) old (Serving v) new = ⊥
 
   -- The post of member i, from 0: as many as the words say serve the catalogue, and a last one asks this ticker for a tick each so many
   -- seconds.

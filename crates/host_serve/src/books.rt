@@ -4,12 +4,12 @@ ghost use Rattle.rail_io.specs.Faults.{Rose};
 ghost use Rattle.leg_masks.specs.Interval.{most_places};
 ghost use Rattle.history_model.specs.Booking.{most_rows};
 ghost use Rattle.claim_rule.specs.Rule.{most_place_legs};
-ghost use Rattle.claim_rule.specs.Seats.{IsOf};
+ghost use Rattle.claim_rule.specs.Desks.{IsOf};
 ghost use Rattle.claim_rule.specs.Out.{IsIdle, IsTidy};
-ghost use Rattle.claim_rule.specs.Walls.{Ends};
+ghost use Rattle.claim_rule.specs.Walls.{Finishes};
 ghost use Rattle.cold_store.specs.Tidy.{AreSucceeded};
 ghost use Rattle.worker_pool.specs.Turns.{KeepsDesk};
-ghost use Rattle.host_io.specs.declared.shared_listener.ListenerEnd.TheVariants as ended;
+ghost use Rattle.host_serve.specs.declared.shared_listener.ListenerEnd.TheVariants as ended;
 ghost use Rattle.host_serve.specs.Crews.{IsCrew, IsFirst, HasRun};
 ghost use Rattle.host_serve.specs.Serve.{BooksEnd};
 ghost use Rattle.host_serve.specs.Turns.{HasCatalogue, Asks, Chain, Connection};
@@ -17,19 +17,21 @@ ghost use Rattle.host_serve.specs.Turns.{HasCatalogue, Asks, Chain, Connection};
 use crate::crew::crew_of;
 use crate::draining::drain_listener;
 use crate::end::ServeOutcome;
+use crate::giving::Gives;
 use crate::meeting::meet_others;
 use crate::member::Common;
+use crate::shared_listener::{ListenerEnd, Named, SharedListener};
 use claim_rule::{Books, Desk, Wall};
-use host_io::{ListenerEnd, Named, SharedListener, Ticker};
 use host_words::Serving;
 use rail_catalogue::Catalogue;
-use rail_io::Clock;
+use rail_io::{Clock, Ticker};
 use rail_service::Listener;
 use std::alloc::Global;
 use std::sync::atomic::AtomicBool;
+use std::sync::ledger::{Blank, Ledger, Share};
 use std::sync::{Mutex, Wait};
 use std::thread::Threads;
-use worker_pool::{Member, Open, Worker, run_workers};
+use worker_pool::{Member, Open, run_workers};
 
 /// How serving ended, and what is left of it.
 pub struct ServeRun<L> {
@@ -38,20 +40,23 @@ pub struct ServeRun<L> {
     pub wall: Option<Wall>,
 }
 
-/// Runs a crew until its members have ended, takes in the desks of all but the first, and hands that one back.
-fn run_crew<R: Threads + Wait + Sync, W: Worker + Send + Drop>(
+/// Runs a crew until its members have ended, takes in the desks of all but the first, with what those had counted, and hands that one back.
+fn run_crew<R: Threads + Wait + Sync, N: Ledger, W: Gives<N> + Send + Drop>(
     rt: &R,
     books: &Books,
     first: &mut Desk,
     mut crew: Vec<Member<W>>,
+    all: &mut Share<N>,
 ) -> Member<W>
     requires some { 0 < length crew.items }
     requires crew { IsCrew W.fits books.now crew.items }
     requires first { IsFirst books.now (length crew.items) first.old }
-    ensures run { HasRun W.fits W.does W.ended books.now crew.items first.new result }
+    ensures run { HasRun W.fits W.does W.ended W.parts W.amount books.now crew.items
+        (record { parts = all.old.parts; amount = all.old.amount })
+        (record { parts = all.new.parts; amount = all.new.amount }) first.new result }
 {
     run_workers(rt, books, crew.as_mut_slice(), &Open);
-    meet_others(books, first, crew)
+    meet_others(books, first, crew, all)
 }
 
 /// Serves what is left of the listener's streams at the member's desk, where the listener hasn't ended: whether as many as its limit
@@ -101,7 +106,7 @@ fn close(books: Books, first: Desk) -> Wall
     requires own { IsOf books first }
     requires idle { IsIdle first }
     ensures layout { result.layout ≡ books.layout }
-    ensures history { Ends books.layout first result.words result.history }
+    ensures history { Finishes books.layout first result.words result.history }
     ensures places { length result.layout.legs ≤ most_places }
     ensures legs { All (λ n. n ≤ most_place_legs) result.layout.legs }
     ensures rows { result.layout.rows ≤ most_rows }
@@ -128,10 +133,14 @@ pub fn run_books<
     listener: L,
     ticker: T,
     clocks: Vec<C>,
+    blank: Blank,
 ) -> ServeRun<L>
 where
     L::Input: Send,
     L::Output: Send,
+    requires name { blank.name ≡ N.name }
+    requires parts { blank.parts ≡ N.parts }
+    requires one_each { blank.parts ≡ said.workers }
     requires has { HasCatalogue books cat.now }
     requires opening { AreSucceeded books.layout.opening }
     requires first { IsFirst books 0 first }
@@ -153,18 +162,19 @@ where
         };
     };
     let closed = AtomicBool::new(false);
-    let shared: Mutex<SharedListener<L, N>> = Mutex::new(SharedListener::new(listener));
+    let (book, mut rest) = blank.open::<N>();
+    let shared: Mutex<SharedListener<L, N>> = Mutex::new(SharedListener::new(listener, book));
     let common = Common {
         alloc,
         cat,
         closed: &closed,
     };
     let crew = crew_of(
-        rt, &shared, common, &books, &mut first, said, ticker, clocks, crew,
+        rt, &shared, common, &books, &mut first, said, ticker, clocks, &mut rest, crew,
     );
-    let Member { mut desk, worker } = run_crew(rt, &books, &mut first, crew);
-    let mut clock = worker.into_clock();
-    let (mut listener, end) = shared.into_inner().into_listener();
+    let Member { mut desk, worker } = run_crew(rt, &books, &mut first, crew, &mut rest);
+    let mut clock = worker.into_clock(&mut rest);
+    let (mut listener, end) = shared.into_inner().into_listener(&mut rest);
     let all = finish_listener::<N, L, C>(
         common,
         &books,

@@ -1,13 +1,17 @@
 // What members do.
+use crate::giving::Gives;
 use crate::serving::Server;
-use crate::streams::Streams;
+use crate::shared_listener::Named;
+use crate::streams::{LockedStreams, Streams};
 use crate::sweeping::Sweeper;
 use claim_rule::{Books, Desk};
-use host_io::Ticker;
 use rail_catalogue::Catalogue;
-use rail_io::Clock;
+use rail_io::{Clock, Ticker};
+use rail_service::Listener;
 use std::alloc::Global;
+use std::sync::Wait;
 use std::sync::atomic::AtomicBool;
+use std::sync::ledger::Share;
 use worker_pool::{TurnEnd, Worker};
 
 /// What all serving members share.
@@ -26,21 +30,36 @@ pub enum Post<'s, S, T, C> {
     Sweeping(Sweeper<'s, T, C>),
 }
 
-impl<S, T: Drop, C> Post<'_, S, T, C>
-where
-    S: Drop,
-{
-    ghost use Rattle.std.specs.Prelude.{◌≡◌};
-    ghost use Rattle.host_serve.specs.Turns.{clock_of};
+impl<R, L: Listener + Drop, N: Named, T: Drop, C> Post<'_, LockedStreams<'_, R, L, N>, T, C> {
+    ghost use Rattle.std.specs.Prelude.{◌≡◌, ◌+◌};
+    ghost use Rattle.host_serve.specs.Turns.{clock_of, handed_of, part_of};
 
-    /// The clock of the post, at its end.
-    pub fn into_clock(self) -> C
-        ensures { result ≡ clock_of self.entry }
+    /// The clock of the post, at its end. What it was handed out is counted in the share from then on.
+    pub fn into_clock(self, all: &mut Share<N>) -> C
+        ensures clock { result ≡ clock_of self.entry }
+        ensures parts { all.new.parts ≡ all.old.parts + part_of self.entry }
+        ensures amount { all.new.amount ≡ all.old.amount + handed_of self.entry (λ s. s.share.amount) }
     {
         match self {
-            Post::Serving(server) => server.clock,
+            Post::Serving(server) => {
+                all.merge(server.streams.share);
+                server.clock
+            }
             Post::Sweeping(sweeper) => sweeper.clock,
         }
+    }
+}
+
+impl<R: Wait, L: Listener + Drop, N: Named, T: Ticker + Drop, C: Clock + Drop> Gives<N>
+    for Post<'_, LockedStreams<'_, R, L, N>, T, C> {
+    ghost use Rattle.host_serve.specs.Turns.{handed_of, part_of};
+
+    ghost parts = { λ w. part_of w };
+
+    ghost amount = { λ w. handed_of w (λ s. s.share.amount) };
+
+    fn give(self, all: &mut Share<N>) {
+        let _clock = self.into_clock(all);
     }
 }
 
@@ -51,7 +70,7 @@ impl<S: Streams, T: Ticker, C: Clock> Worker for Post<'_, S, T, C> {
 
     ghost ended = { λ w. HasEnded w };
 
-    ghost does = { λ before old after new. DoesTurn C.told T.ticked before old after new };
+    ghost does = { λ before old after new. DoesTurn C.told S.handed T.ticked before old after new };
 
     fn turn(&mut self, books: &Books, desk: &mut Desk) -> TurnEnd {
         match self {

@@ -26,15 +26,15 @@ use crate::end::{ServeEnd, ServeOutcome, command_end};
 use crate::export::write_export;
 use claim_rule::{Books, Desk};
 use host_catalogue::{LoadFault, load_books};
-use host_io::Ticker;
 use host_notes::end_command;
 use host_words::{CommandName, ServeWords, WordsFault, is_for, read_serve};
 use rail_catalogue::Catalogue;
-use rail_io::{Clock, Shelf, Sink};
+use rail_io::{Clock, Shelf, Sink, Ticker};
 use rail_service::{Bound, Listener};
 use std::alloc::Global;
 use std::marker::Brand;
 use std::sync::Wait;
+use std::sync::ledger::Blank;
 use std::thread::Threads;
 
 /// The catalogue of the words, and its books with their first desk.
@@ -128,6 +128,7 @@ where
         listener,
         ticker,
         clocks,
+        Blank::new(said.numbers.workers as u64),
     )
 }
 
@@ -235,8 +236,9 @@ where
 /// Wherever members ran, the books are finished and handed back. In the wall's history the first desk only met others, each serving member's
 /// entries are those of the connections that it served, and the last member's those of its sweeps; no other desk has any. Each desk is between
 /// two calls of the service, so that the wall has an export. All these desks are of one set of books, which the first finished: the wall is
-/// theirs, and so is the export. Which streams the connections came by, and how many of those handed out had a request, is said by no clause,
-/// since a listener tells no more of its streams than their count.
+/// theirs, and so is the export. The members served as many connections together as the listener has handed out streams: at status 0 as many
+/// as the words say. Which streams these came by, and how many of them had a request, is said by no clause, since a listener tells no more of
+/// its streams than their count.
 pub fn run_serve<
     R: Threads + Wait + Sync,
     F: Shelf,

@@ -1,10 +1,10 @@
 // The member that serves.
 ghost use Rattle.std.specs.Prelude.{◌≡◌, ◌↔◌, true};
-ghost use Rattle.claim_rule.specs.Seats.{IsOf};
+ghost use Rattle.claim_rule.specs.Desks.{IsOf};
 ghost use Rattle.claim_rule.specs.Out.{IsTidy};
 ghost use Rattle.worker_pool.specs.Turns.{KeepsDesk};
 ghost use Rattle.worker_pool.specs.declared.worker.TurnEnd.TheVariants.{End};
-ghost use Rattle.host_serve.specs.Turns.{HasCatalogue, ServesTurn};
+ghost use Rattle.host_serve.specs.Turns.{Counts, HasCatalogue, ServesTurn};
 
 use crate::member::Common;
 use crate::stream::serve_stream;
@@ -36,6 +36,7 @@ impl<S: Streams, C: Clock> Server<'_, S, C> {
         ensures cat { self.new.common.cat.now ≡ self.old.common.cat.now }
         ensures turn { ServesTurn self.old.common.cat.now (C.told self.old.clock) desk.old
             (C.told self.new.clock) desk.new self.new.ended }
+        ensures counts { Counts self.new.ended (S.handed self.old.streams) (S.handed self.new.streams) }
         ensures end { (result ≡ End) ↔ (self.new.ended ≡ true) }
     {
         let Some(waiting) = self.streams.next_stream() else {

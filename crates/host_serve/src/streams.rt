@@ -1,7 +1,10 @@
 // Where serving members take their streams.
-use host_io::{Named, SharedListener};
+ghost use Rattle.std.specs.Prelude.{◌≡◌, ◌+◌, ℕ, IfSome, IfNone};
+
+use crate::shared_listener::{Named, SharedListener};
 use rail_io::{Sink, Source};
 use rail_service::{Listener, Waiting};
+use std::sync::ledger::Share;
 use std::sync::{Mutex, Wait};
 
 /// Hands out streams one after the other, and none once it has ended.
@@ -12,15 +15,22 @@ pub trait Streams {
     /// What goes into it.
     type Output: Sink + Drop;
 
+    /// How many it has handed out.
+    ghost handed: { Self → ℕ };
+
     /// The next stream, for which it may wait, or none, where there will be no more.
-    fn next_stream(&mut self) -> Option<Waiting<Self::Input, Self::Output>>;
+    fn next_stream(&mut self) -> Option<Waiting<Self::Input, Self::Output>>
+        ensures some { IfSome result (λ _. handed self.new ≡ handed self.old + 1) }
+        ensures none { IfNone result (handed self.new ≡ handed self.old) };
 }
 
-/// The streams of a listener behind a lock, which is held only while a stream is taken.
+/// The streams of a listener behind a lock, which is held only while a stream is taken. Those that were taken here are counted in the share.
 #[derive(Drop)]
 pub struct LockedStreams<'s, R, L: Listener + Drop, N: Named> {
     pub rt: &'s R,
     pub shared: &'s Mutex<SharedListener<L, N>>,
+    pub share: Share<N>,
+    ghost one_part: { share.parts ≡ 1 },
 }
 
 impl<R: Wait, L: Listener + Drop, N: Named> Streams for LockedStreams<'_, R, L, N> {
@@ -28,7 +38,9 @@ impl<R: Wait, L: Listener + Drop, N: Named> Streams for LockedStreams<'_, R, L, 
 
     type Output = L::Output;
 
+    ghost handed = { λ s. s.share.amount };
+
     fn next_stream(&mut self) -> Option<Waiting<L::Input, L::Output>> {
-        self.shared.lock(self.rt).next()
+        self.shared.lock(self.rt).next(&mut self.share)
     }
 }

@@ -1,6 +1,6 @@
 // The member that sweeps.
 ghost use Rattle.std.specs.Prelude.{◌≡◌, ◌↔◌, true};
-ghost use Rattle.claim_rule.specs.Seats.{IsOf};
+ghost use Rattle.claim_rule.specs.Desks.{IsOf};
 ghost use Rattle.claim_rule.specs.Out.{IsTidy};
 ghost use Rattle.worker_pool.specs.Turns.{KeepsDesk};
 ghost use Rattle.worker_pool.specs.declared.worker.TurnEnd.TheVariants.{End};
@@ -8,8 +8,7 @@ ghost use Rattle.host_serve.specs.Turns.{SweepsTurn};
 
 use claim_rule::{Books, Desk};
 use expiry_sweeper::sweep;
-use host_io::Ticker;
-use rail_io::Clock;
+use rail_io::{Clock, Ticker};
 use std::sync::atomic::{AtomicBool, Ordering};
 use worker_pool::TurnEnd;
 

@@ -16,8 +16,8 @@ use Rattle.history_model.proofs.Ranges.{all_found}
 use Rattle.claim_rule.proofs.OpeningKept.{kept_back}
 use Rattle.claim_rule.specs.Openings.{KeptBooking, MayOpen, kept_bookings, layout_with}
 use Rattle.claim_rule.specs.Rule.{BooksView, DeskView, IsWhole}
-use Rattle.claim_rule.specs.Seats.{IsNew}
-use Rattle.claim_rule.specs.Walls.{Ends as Closes, WallView}
+use Rattle.claim_rule.specs.Desks.{IsNew}
+use Rattle.claim_rule.specs.Walls.{Finishes, WallView}
 use Rattle.settle_report.specs.Accounts.{IsSettled, NoneEnding, kept_on}
 use Rattle.rail_catalogue.specs.Contents.{CatalogueView, legs_in}
 use Rattle.host_words.specs.Settle.{IsSettle}
@@ -41,9 +41,9 @@ none_ending s rows settled row kind below on =
 
 -- books that their first desk finishes at once
 module _ (books : BooksView) (desk : DeskView) (w : WallView) (new : IsNew desk 0 []) (layout : w.layout ≡ books.layout)
-    (ends : Closes books.layout desk w.words w.history) where
-  whole : IsWhole desk.number desk.made desk.taken
-  whole = (new.number, λ j low high. let none : desk.made ≡ 0 = new.made in absurd (omega (arith, low, high, none)))
+    (ends : Finishes books.layout desk w.words w.history) where
+  whole : IsWhole desk.number desk.parted desk.joined
+  whole = (new.number, λ j low high. let none : desk.parted ≡ 0 = new.parted in absurd (omega (arith, low, high, none)))
 
   nothing : w.history ≡ []
   nothing = ends.whole whole ∙ new.seen

@@ -38,8 +38,9 @@ pub record IsUnused (g : Layout) (w : WallView) : Type 0 where
 abbrev pub IsTableOf : Layout → List ℕ → Type 0
 IsTableOf g text = (wall : WallView) × IsUnused g wall × IsSettlement wall text
 
--- The text is the settlement table of the closed wall of books that have the places and rows of the one file's catalogue and open with the
--- bookings of the other's export. Nothing was done at their table, so the bookings settled are just those.
+-- The text is the settlement table of the closed wall of books that have the places and rows of the one file's
+-- catalogue and open with the bookings of the other's export. Nothing was done at their table, so the bookings settled
+-- are just those.
 pub record IsFetchedTable (files : Files) (catalogue export text : List ℕ) : Type 0 where
   pub cat : CatalogueView
   pub kept : List KeptBooking
@@ -55,7 +56,8 @@ Ends files catalogue export output sent end.Written =
     (text : List ℕ) × IsFetchedTable files catalogue export text × (sent ≡ with_end output text)
 Ends files catalogue export output sent end.WriteFault =
     (front back : List ℕ) × IsFetchedTable files catalogue export (front ++ back) × (sent ≡ with_end output front)
-Ends files catalogue export output sent (end.NotLoaded fault) = Fails files catalogue (Some export) fault × (sent ≡ output)
+Ends files catalogue export output sent (end.NotLoaded fault) =
+    Fails files catalogue (Some export) fault × (sent ≡ output)
 Ends files catalogue export output sent end.NoMemory = sent ≡ output
 
 -- what is so of the names that the words of `settle` say

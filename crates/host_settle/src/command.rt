@@ -2,7 +2,7 @@
 ghost use Rattle.std.specs.Prelude.{◌≡◌, ◌≤◌, ◌++◌, ◌⊎◌, ℕ, List, [], Option, Some, IfOk};
 ghost use Rattle.rail_io.specs.Faults.{Rose};
 ghost use Rattle.claim_rule.specs.Out.{IsTidy};
-ghost use Rattle.claim_rule.specs.Seats.{IsNew, IsOf};
+ghost use Rattle.claim_rule.specs.Desks.{IsNew, IsOf};
 ghost use Rattle.host_words.specs.Options.{words_texts};
 ghost use Rattle.host_words.specs.Settle.{IsNoSettle, IsSettle};
 ghost use Rattle.host_catalogue.specs.Opening.{HasNoBooks};

@@ -1,6 +1,6 @@
 // Crews at work.
 ghost use Rattle.std.specs.Prelude.{◌≡◌, ◌≢◌, IfOk};
-ghost use Rattle.claim_rule.specs.Seats.{IsOf};
+ghost use Rattle.claim_rule.specs.Desks.{IsOf};
 ghost use Rattle.claim_rule.specs.Out.{IsTidy};
 
 use claim_rule::{Books, Desk, start_books};
@@ -21,7 +21,7 @@ struct Job<'a> {
 
 impl Worker for Job<'_> {
     ghost use Rattle.std.specs.Prelude.{◌≡◌, ◌+◌, ◌↔◌};
-    ghost use Rattle.claim_rule.specs.Seats.{IsOf};
+    ghost use Rattle.claim_rule.specs.Desks.{IsOf};
     ghost use Rattle.claim_rule.specs.Out.{IsTidy};
 
     ghost fits = { λ _ _. Unit {0} };

@@ -10,7 +10,7 @@ use Rattle.history_model.specs.declared.entry.Step.{Step}
 use Rattle.history_model.specs.declared.phase.Phase.TheVariants.{Making}
 use Rattle.history_model.specs.Booking.{Booking, Layout, State, present}
 use Rattle.claim_rule.specs.Rule.{BooksView, DeskView, state_seen}
-use Rattle.claim_rule.specs.Seats.{IsOf, Shape}
+use Rattle.claim_rule.specs.Desks.{IsOf, Shape}
 use Rattle.claim_rule.specs.Calls.{ShapeBy}
 use Rattle.claim_rule.specs.Holds.{HoldView, held as item_of}
 use Rattle.claim_rule.specs.Out.{HoldsNone, IsHolding}

@@ -45,7 +45,8 @@ pub record IsCutOrRefused (words : List (List ℕ)) (stream written : List ℕ) 
 
 -- The bytes written are the answers of the requests that are whole in the bytes taken, which are those
 -- before what the input still tells.
-pub record IsReadFault (words : List (List ℕ)) (stream : List ℕ) (told : Option (List ℕ)) (written : List ℕ) : Type 0 where
+pub record IsReadFault (words : List (List ℕ)) (stream : List ℕ) (told : Option (List ℕ))
+    (written : List ℕ) : Type 0 where
   pub legs : ℕ
   pub places : ℕ
   pub words_are : IsTiny words legs places
@@ -57,7 +58,8 @@ pub record IsReadFault (words : List (List ℕ)) (stream : List ℕ) (told : Opt
 
 -- The bytes written are a beginning of the answers of the bytes taken, which are those before what the input
 -- still tells.
-pub record IsWriteFault (words : List (List ℕ)) (stream : List ℕ) (told : Option (List ℕ)) (written : List ℕ) : Type 0 where
+pub record IsWriteFault (words : List (List ℕ)) (stream : List ℕ) (told : Option (List ℕ))
+    (written : List ℕ) : Type 0 where
   pub legs : ℕ
   pub places : ℕ
   pub words_are : IsTiny words legs places

@@ -14,4 +14,5 @@ in_range least most n = if nat_le least n && nat_le n most then Some n else None
 
 -- a whole number without fraction, exponent and sign, from `least` to `most`
 abbrev pub whole_in : ℕ → ℕ → Option Data → Option ℕ
-whole_in least most member = option_and_then (in_range least most) (option_and_then as_u64 (option_and_then as_number member))
+whole_in least most member =
+    option_and_then (in_range least most) (option_and_then as_u64 (option_and_then as_number member))

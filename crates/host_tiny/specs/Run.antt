@@ -7,10 +7,10 @@ use Rattle.history_model.specs.declared.booking.BookedItem.{BookedItem}
 use Rattle.history_model.specs.declared.entry.Step.{Step}
 use Rattle.history_model.specs.declared.entry.Step.TheVariants.{Note, Seal}
 use Rattle.history_model.specs.declared.phase.Phase.TheVariants.{Making, Prebooked}
-use Rattle.history_model.specs.Booking.{Booking, State}
+use Rattle.history_model.specs.Booking.{Booking, State, retailer_word, limit_word, total_word, count_word}
 use Rattle.claim_rule.specs.Rule.{BooksView, DeskView, most_place_legs, state_seen}
 use Rattle.claim_rule.specs.Holds.{held as item_of}
-use Rattle.claim_rule.specs.Seats.{IsOf}
+use Rattle.claim_rule.specs.Desks.{IsOf}
 use Rattle.claim_rule.specs.Out.{HoldsNone}
 use Rattle.hold_core.specs.Tries.{place_number}
 use Rattle.lone_desk.specs.Lone.{IsAlone}
@@ -53,7 +53,8 @@ StandFrom row (b ∷ bs) = (b.row ≡ row) × (b.generation ≡ 0) × StandFrom 
 -- the notes of a booking's detail, and its seal
 abbrev pub notes_and_seal : ℕ → ℕ → ℕ → ℕ → ℕ → List Step
 notes_and_seal row retailer limit total count =
-    Note row 1 retailer ∷ Note row 2 limit ∷ Note row 3 total ∷ Note row 4 count ∷ Seal row Prebooked ∷ []
+    Note row retailer_word retailer ∷ Note row limit_word limit ∷ Note row total_word total ∷ Note row count_word count
+    ∷ Seal row Prebooked ∷ []
 
 -- a row for each reservation, in order, and behind them at most an empty one
 pub record IsSettled (s : State) : Type 0 where

@@ -34,11 +34,13 @@ IsReply legs places held method path body (Reserved place span) after =
     × IsLeastFree held places place span × (after ≡ held ++ record { place = place; span = span } ∷ [])
 IsReply legs places held method path body NotBuilt after = (IsReservation method path → ⊥) × (after ≡ held)
 IsReply legs places held method path body NotJson after = Faults legs method path body wish.NotJson × (after ≡ held)
-IsReply legs places held method path body (BadField name) after = Faults legs method path body (wish.BadField name) × (after ≡ held)
+IsReply legs places held method path body (BadField name) after =
+    Faults legs method path body (wish.BadField name) × (after ≡ held)
 IsReply legs places held method path body RowsFull after =
     (span : Interval) × Wants legs method path body span × (1024 ≤ length held) × (after ≡ held)
 IsReply legs places held method path body NoPlace after =
-    (span : Interval) × Wants legs method path body span × (length held < 1024) × IsNoneFree held places span × (after ≡ held)
+    (span : Interval) × Wants legs method path body span × (length held < 1024) × IsNoneFree held places span
+    × (after ≡ held)
 IsReply legs places held method path body NoMemory after = IsReservation method path × (after ≡ held)
 
 -- a request is answered so, by a run with these legs and places

@@ -37,7 +37,8 @@ with_default text rule = record rule { defaults = text ∷ [] }
 
 -- the number that a value spells, if it lies from `least` to `most`: digits, behind a plus or none
 abbrev pub number_in : ℕ → ℕ → Text → Option ℕ
-number_in least most text = if is_unsigned_in least most text then Some (digits_value 10 (without_leading_plus text)) else None
+number_in least most text =
+    if is_unsigned_in least most text then Some (digits_value 10 (without_leading_plus text)) else None
 
 -- the number of an option
 abbrev pub number_of : ℕ → ℕ → Text → List Row → Option ℕ

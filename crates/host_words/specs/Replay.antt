@@ -34,13 +34,14 @@ abbrev pub replay_of : List Row → Option ReplayView
 replay_of rows =
     option_and_then (λ catalogue.
     option_and_then (λ start.
-    option_map (λ tick. record { catalogue = catalogue; from = first_of (codes "from") rows; start = start; tick = tick })
+    option_map
+    (λ tick. record { catalogue = catalogue; from = first_of (codes "from") rows; start = start; tick = tick })
     (number_of 0 86400 (codes "tick") rows))
     (start_of rows))
     (first_of (codes "catalogue") rows)
 
--- what the words of a command of this name say, and nothing where they are refused: by `clap`, by a value out of its range, or by a text
--- that is no moment
+-- what the words of a command of this name say, and nothing where they are refused: by `clap`, by a value out of its
+-- range, or by a text that is no moment
 abbrev pub input_words : Text → List Text → Option ReplayView
 input_words name words = option_and_then replay_of (taken (input_app name) words)
 

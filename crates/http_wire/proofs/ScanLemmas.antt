@@ -362,6 +362,9 @@ just false e = absurd cc
 pub not_feed : (b : ℕ) → b ≢ 10 → (b == 10) ≡ false
 not_feed b other = false_from_ne_true (b == 10) (λ e. other ((Decides-eqb b 10).0 e))
 
+pub not_carriage : (b : ℕ) → b ≢ 13 → (b == 13) ≡ false
+not_carriage b other = false_from_ne_true (b == 13) (λ e. other ((Decides-eqb b 13).0 e))
+
 -- behind a CR
 ends_true : (b : ℕ) (tail : List ℕ) → b ≢ 10 → only_ends true (b ∷ tail) ≡ false
 ends_true b tail other =

@@ -67,9 +67,7 @@ pub fn append(text: &mut ArrayVec<u8, 256>, bytes: &[u8])
     ensures items { text.new.items ≡ text.old.items ++ bytes.now }
     ensures len { array_vec_len text.new ≡ array_vec_len text.old + length bytes.now }
 {
-    for byte in bytes {
-        text.push(*byte);
-    }
+    text.try_extend_from_slice(bytes).unwrap();
 }
 
 /// Adds a number for which there is room.

@@ -100,6 +100,15 @@ impl HeadScan {
         ensures step { steps.new ≡ steps.old + 1 }
     {
         steps.tick();
+        // Most bytes: neither of the two that tell lines apart.
+        if byte > b'\r' {
+            return HeadScan {
+                at: self.at + 1,
+                line_empty: false,
+                carriage: false,
+                ..self
+            };
+        }
         if byte == b'\n' {
             return self.with_feed();
         }

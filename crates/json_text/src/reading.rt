@@ -1,5 +1,5 @@
 //! From bytes to a value, in one pass over the tokens.
-ghost use Rattle.std.specs.Prelude.{◌≡◌, ◌<◌, length, Some, None, Err, IfOk, OnOk, IsUtf8};
+ghost use Rattle.std.specs.Prelude.{◌≡◌, ◌<◌, [], length, Some, None, Err, IfOk, OnOk, IsUtf8};
 ghost use Rattle.json.specs.Json.{value, items, members};
 ghost use Rattle.serde_json.specs.Data.{no_members};
 ghost use Rattle.serde_json.specs.Read.{of_json, of_items, of_members, converted, read as read_text};
@@ -9,9 +9,12 @@ use crate::fault::ReadFault;
 use crate::number::Number;
 use crate::value::Value;
 use json::{Reader, Scratch, Token};
-use std::alloc::Global;
+use std::alloc::{AllocError, Global};
 
 const MAX_DEPTH: usize = 127;
+
+/// How many members the outermost object has room for at first.
+const OUTERMOST: usize = 8;
 
 /// The value that the bytes are. `scratch` is room for the texts with escapes; one that is kept from reading to reading
 /// saves its making.
@@ -98,6 +101,26 @@ fn read_items<'a>(
     Ok(found)
 }
 
+// A list for the members at this depth. There is one outermost object, so what room it doesn't need is little.
+fn new_members<'a>(alloc: Global, depth: usize) -> Result<Vec<(&'a str, Value<'a>)>, AllocError>
+    ensures items { IfOk result (λ m. m.items ≡ []) }
+{
+    if depth == MAX_DEPTH - 1 {
+        return Vec::with_capacity(alloc, OUTERMOST);
+    }
+    Ok(Vec::new(alloc))
+}
+
+// The members, without room that they don't need where there may be many such lists.
+fn fitted<'a>(mut members: Vec<(&'a str, Value<'a>)>, depth: usize) -> Vec<(&'a str, Value<'a>)>
+    ensures items { result.items ≡ members.entry.items }
+{
+    if depth != MAX_DEPTH - 1 {
+        members.shrink_to_fit();
+    }
+    members
+}
+
 #[cycle(read)]
 fn read_members<'a>(
     alloc: Global,
@@ -112,11 +135,10 @@ fn read_members<'a>(
         → converted (λ ms. of_members ms no_members)
         (members (value depth) (length reader.old) reader.old) ≡ None }
 {
-    let mut found = Vec::new(alloc);
+    let mut found = new_members(alloc, depth)?;
     'members: while let Some(name) = reader.next_key()? {
         let member = read(alloc, reader, depth)?;
         found.push((name, member))?;
     }
-    found.shrink_to_fit();
-    Ok(found)
+    Ok(fitted(found, depth))
 }

@@ -5,11 +5,11 @@ use Rattle.history_model.specs.Booking.{Layout}
 use Rattle.history_model.specs.History.{IsLegal, state_of}
 use Rattle.history_model.proofs.Seen.{legal-rest, state_of-append}
 use Rattle.claim_rule.specs.Rule.{DeskView, IsWhole}
-use Rattle.claim_rule.specs.Seats.{Shape}
+use Rattle.claim_rule.specs.Desks.{Shape}
 use Rattle.lone_desk.specs.Lone.{IsAlone, Follows, entries_of}
 
-alone_is_whole : (desk : DeskView) → IsAlone desk → IsWhole desk.number desk.made desk.taken
-alone_is_whole desk is = (is.number, λ j some few. absurd (omega (arith, some, few, is.made)))
+alone_is_whole : (desk : DeskView) → IsAlone desk → IsWhole desk.number desk.parted desk.joined
+alone_is_whole desk is = (is.number, λ j some few. absurd (omega (arith, some, few, is.parted)))
 
 pub shape_follows : (old new : DeskView) (steps : List Step) → IsAlone old → Shape old new steps → Follows old new steps
 shape_follows old new steps alone did =
@@ -21,5 +21,5 @@ shape_follows old new steps alone did =
       legal = legal-rest old.layout old.seen more legal;
       state = ap (λ (g : Layout). state_of g new.seen) layout ∙ (ap (state_of old.layout) seen ∙ state_of-append old.layout old.seen more);
       layout = layout;
-      alone = record { number = did.same.2 ∙ alone.number; made = did.same.4 ∙ alone.made };
+      alone = record { number = did.same.2 ∙ alone.number; parted = did.same.4 ∙ alone.parted };
     }

@@ -10,7 +10,7 @@ use Rattle.history_model.specs.declared.phase.Phase.TheVariants.{Making}
 use Rattle.history_model.specs.declared.word.Word.TheVariants.{Place}
 use Rattle.history_model.specs.Lists.{Pairwise}
 use Rattle.history_model.specs.Allowed.{IsMadeBy}
-use Rattle.history_model.specs.Apply.{taken, noted, given}
+use Rattle.history_model.specs.Apply.{item_taken, noted, given}
 use Rattle.history_model.specs.Booking.{Booking, Layout, State, change, first_item_word, most_items, present, occupies, is_occupied}
 use Rattle.history_model.specs.History.{IsLegalFrom, entry, state_after}
 use Rattle.history_model.specs.Words.{place_word}
@@ -105,7 +105,7 @@ module _ (g : Layout) (s : State) (desk row k place : ℕ) (piece : Interval) (l
   -- nothing at another place
   pub won_elsewhere : (q : ℕ) → q ≢ place → (leg : ℕ) → is_occupied now q leg ≡ is_occupied s q leg
   won_elsewhere q other leg =
-      let t : State = change s row (taken place piece) in
+      let t : State = change s row (item_taken place piece) in
       occupied_kept t row (noted (first_item_word + k) (item_word place piece)) (λ _. refl) q leg
       ∙ (occupied-take s row taking.b place piece taking.at q leg
       ∙ (ap (λ (c : Bool). is_occupied s q leg || (c && has_leg piece leg)) (ne_eqb place q (λ e. other (sym e))) ∙ or_false (is_occupied s q leg)))
@@ -117,7 +117,7 @@ module _ (g : Layout) (s : State) (desk row k place : ℕ) (piece : Interval) (l
   -- nor in the other half of the place
   pub won_other_half : piece.to ≤ 126 → (h : ℕ) → h ≢ half_of piece → place_word now place h ≡ place_word s place h
   won_other_half fits h other =
-      let t : State = change s row (taken place piece) in
+      let t : State = change s row (item_taken place piece) in
       place_word-same t now place h (λ leg. occupied_kept t row (noted (first_item_word + k) (item_word place piece)) (λ _. refl) place leg)
       ∙ (take_writes s row place piece taking.b taking.at taking.some fits taking.is).rest (Place place h) (λ e. other (half_in place h place (half_of piece) e))
     where
@@ -139,10 +139,10 @@ won_last g s desk row k place piece legal =
     let b = taking g s desk row k place piece legal in
     let w : ℕ = first_item_word + k in
     let n : ℕ = item_word place piece in
-    let one = present-changed s row (taken place piece) b.b (λ _. refl) b.at in
+    let one = present-changed s row (item_taken place piece) b.b (λ _. refl) b.at in
     record {
-      b = noted w n (taken place piece b.b);
-      at = present-changed (change s row (taken place piece)) row (noted w n) (taken place piece b.b) (λ _. refl) one;
+      b = noted w n (item_taken place piece b.b);
+      at = present-changed (change s row (item_taken place piece)) row (noted w n) (item_taken place piece b.b) (λ _. refl) one;
       making = b.making;
       front = b.b.items;
       last = left_item place piece;

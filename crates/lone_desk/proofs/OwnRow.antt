@@ -7,7 +7,7 @@ use mathlib.Core.List.{map-append}
 use Rattle.leg_masks.specs.Interval.{Interval}
 use Rattle.history_model.specs.declared.entry.Step.{Step}
 use Rattle.history_model.specs.declared.entry.Step.TheVariants.{Look, Take, Give, Start, SawRow, Note, Seal, Turn, LostTurn, Close, Met}
-use Rattle.history_model.specs.Apply.{apply_step, taken, given, noted, in_phase}
+use Rattle.history_model.specs.Apply.{apply_step, item_taken, given, noted, in_phase}
 use Rattle.history_model.specs.declared.booking.BookedItem.{BookedItem}
 use Rattle.history_model.specs.Booking.{Booking, State, key_of, stands_as, next_in, next_generation, change, all_items}
 use Rattle.history_model.specs.Lists.{change_first}
@@ -82,7 +82,7 @@ changed front b row r f here same at apart =
 step_keeps : (front : State) (b : Booking) (row desk : ℕ) (st : Step) → b.row ≡ row → IsApart row front → is_at row st ≡ true
     → KeepsFront front row (apply_step (front ++ b ∷ []) desk st)
 step_keeps front b row desk (Look place half shown) here apart at = record { last = b; same = here; is = refl }
-step_keeps front b row desk (Take r place span) here apart at = changed front b row r (taken place span) here (λ x. refl) at apart
+step_keeps front b row desk (Take r place span) here apart at = changed front b row r (item_taken place span) here (λ x. refl) at apart
 step_keeps front b row desk (Give r item) here apart at = changed front b row r (given item) here (λ x. refl) at apart
 step_keeps front b row desk (Start r generation) here apart at = absurd cc
 step_keeps front b row desk (SawRow r word value) here apart at = record { last = b; same = here; is = refl }

@@ -16,7 +16,7 @@ use Rattle.booking_rows.specs.Starts.{IsLeastFree, MakesBooking, MakesNone}
 -- the first desk of its books, which has parted no other
 pub record IsAlone (desk : DeskView) : Type 0 where
   pub number : desk.number ≡ 0
-  pub made : desk.made ≡ 0
+  pub parted : desk.parted ≡ 0
 
 -- the entries of a desk's steps
 abbrev pub entries_of : ℕ → List Step → List Entry

@@ -17,7 +17,7 @@ ghost use Rattle.history_model.specs.Booking.{Booking, Layout, State};
 ghost use Rattle.history_model.specs.History.{IsLegalFrom};
 ghost use Rattle.claim_rule.specs.Rule.{DeskView};
 ghost use Rattle.claim_rule.specs.Calls.{ShapeBy};
-ghost use Rattle.claim_rule.specs.Seats.{Shape};
+ghost use Rattle.claim_rule.specs.Desks.{Shape};
 ghost use Rattle.booking_rows.specs.Starts.{StartsHold};
 ghost use Rattle.hold_core.specs.Tries.{Try, IsTry};
 ghost use Rattle.hold_core.specs.Places.{Adds, tries_steps, tried};

@@ -37,6 +37,10 @@ sign_mark less = if less then codes "m" else codes "p"
 abbrev pub difference_mark : Bool → ℤ → List ℕ × ℕ
 difference_mark fulfilled difference = (phase_mark fulfilled ++ sign_mark (is_less difference), magnitude difference)
 
+-- how many bytes a difference takes at most: four of its mark, and twenty digits
+abbrev pub difference_bytes : ℕ
+difference_bytes = 24
+
 -- `X` row, its generation, `-` made `-` phase `-` sign difference `-` offer
 abbrev pub exchange_text : ExchangeView → List ℕ
 exchange_text x = marked (row_marks (codes "X") x.row ++ (codes "-", x.made)

@@ -24,9 +24,17 @@ offer_view c = record { made = c.made; adults = c.adults; children = c.children;
 abbrev pub is_segment : Segment → Bool
 is_segment s = nat_le s.run.0 4095 && (nat_lt s.span.from s.span.to && nat_le s.span.to most_legs)
 
+-- how many passengers an offer is for at most
+abbrev pub most_passengers : ℕ
+most_passengers = 8
+
+-- for how many seconds an offer and a quote stand
+abbrev pub valid_seconds : ℕ
+valid_seconds = 900
+
 -- one to eight passengers
 abbrev pub is_party : ℕ → ℕ → Bool
-is_party adults children = nat_le 1 (adults + children) && nat_le (adults + children) 8
+is_party adults children = nat_le 1 (adults + children) && nat_le (adults + children) most_passengers
 
 -- the ranges of an offer that has a spelling
 abbrev pub is_offer : OfferView → Bool

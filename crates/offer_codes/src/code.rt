@@ -4,6 +4,12 @@ use place_map::Class;
 use rail_ids::{RowNo, RunNo};
 use rail_time::Moment;
 
+/// How many passengers an offer is for at most.
+pub const MOST_PASSENGERS: u8 = 8;
+
+/// For how many seconds an offer and a quote stand.
+pub const VALID_SECONDS: u32 = 900;
+
 /// A stretch of one run that a trip travels.
 #[derive(Debug, Clone, Copy, PartialEq, Eq)]
 pub struct Segment {

@@ -3,7 +3,7 @@ ghost use Rattle.arrayvec.specs.ArrayVec.{array_vec_len};
 ghost use Rattle.offer_codes.specs.Marked.{marked, IsSpelling, ReadsAny};
 ghost use Rattle.offer_codes.specs.Rows.{is_row};
 ghost use Rattle.offer_codes.specs.Refunds.{phase_mark};
-ghost use Rattle.offer_codes.specs.Exchanges.{exchange_view, exchange_text, is_exchange, sign_mark, difference_mark};
+ghost use Rattle.offer_codes.specs.Exchanges.{exchange_view, exchange_text, is_exchange, sign_mark, difference_mark, difference_bytes};
 ghost use Rattle.offer_codes.specs.Found.{exchange_from, exchange_behind, signed as signed_of};
 
 use crate::code::ExchangeCode;
@@ -32,7 +32,7 @@ pub fn write_exchange(code: &ExchangeCode) -> ArrayVec<u8, 128>
 fn push_difference(text: &mut ArrayVec<u8, 128>, fulfilled: bool, difference: i64)
     requires room { array_vec_len text.old ≤ 28 }
     ensures spelling { text.new.items ≡ text.old.items ++ marked (difference_mark fulfilled difference ∷ []) }
-    ensures len { array_vec_len text.new ≤ array_vec_len text.old + 24 }
+    ensures len { array_vec_len text.new ≤ array_vec_len text.old + difference_bytes }
 {
     push_number(
         text,

@@ -11,7 +11,9 @@ mod numbers;
 mod offer;
 mod refund;
 
-pub use code::{ExchangeCode, Offer, OfferCode, RefundCode, Segment};
+pub use code::{
+    ExchangeCode, MOST_PASSENGERS, Offer, OfferCode, RefundCode, Segment, VALID_SECONDS,
+};
 pub use exchange::{read_exchange, write_exchange};
 pub use offer::{read_offer, write_offer};
 pub use refund::{read_refund, write_refund};

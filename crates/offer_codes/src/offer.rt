@@ -2,11 +2,11 @@ ghost use Rattle.std.specs.Prelude.{◌≡◌, ◌≤◌, ◌<◌, ◌+◌, ◌^
 ghost use Rattle.std.specs.List.{list_all};
 ghost use Rattle.arrayvec.specs.ArrayVec.{array_vec_len};
 ghost use Rattle.offer_codes.specs.Marked.{marked, IsSpelling, ReadsAny};
-ghost use Rattle.offer_codes.specs.Offers.{offer_view, offer_text, offer_marks, is_offer, is_party as is_party_of, is_segment, segment_marks, segments_marks, class_number};
+ghost use Rattle.offer_codes.specs.Offers.{offer_view, offer_text, offer_marks, is_offer, is_party as is_party_of, is_segment, segment_marks, segments_marks, class_number, most_passengers};
 ghost use Rattle.offer_codes.specs.declared.code.Segment.{Segment};
 ghost use Rattle.offer_codes.specs.Found.{offer_from, segments_from, segment_value, class_from};
 
-use crate::code::{OfferCode, Segment};
+use crate::code::{MOST_PASSENGERS, OfferCode, Segment};
 use crate::numbers::{numbers, push_number};
 use arrayvec::ArrayVec;
 use leg_masks::{MOST_LEGS, Span};
@@ -117,9 +117,10 @@ pub(crate) fn offer_of(numbers: &[u64]) -> Option<OfferCode>
 fn is_party(adults: u64, children: u64) -> bool
     requires { (adults < 2 ^ 64) × (children < 2 ^ 64) }
     ensures value { result ≡ is_party_of adults children }
-    ensures small { IsTrue result → (adults ≤ 8) × (children ≤ 8) }
+    ensures small { IsTrue result → (adults ≤ most_passengers) × (children ≤ most_passengers) }
 {
-    adults <= 8 && children <= 8 && 1 <= adults + children && adults + children <= 8
+    let most = u64::from(MOST_PASSENGERS);
+    adults <= most && children <= most && 1 <= adults + children && adults + children <= most
 }
 
 fn class_of(number: u64) -> Option<Class>

@@ -1,6 +1,6 @@
 ghost use Rattle.std.specs.Prelude.{◌≡◌, max, true, IfOk, OnErr};
 ghost use Rattle.offer_codes.specs.Offers.{is_party};
-ghost use Rattle.claim_rule.specs.Seats.{IsOf};
+ghost use Rattle.claim_rule.specs.Desks.{IsOf};
 ghost use Rattle.claim_rule.specs.Calls.{ShapeBy};
 ghost use Rattle.claim_rule.specs.Out.{KeepsHolds, KeepsEndings, IsTidy};
 ghost use Rattle.rail_catalogue.specs.Contents.{legs_in};

@@ -18,5 +18,5 @@ mod stretches;
 pub use command::Command;
 pub use fault::BodyFault;
 pub use osdm_texts::{FieldName, Problem, Reply, reply_text, small_text, swept_text};
-pub use reader::read_command;
+pub use reader::{BodyRoom, read_command, read_command_in};
 pub use route::Route;

@@ -19,6 +19,23 @@ use osdm_texts::FieldName;
 use rail_catalogue::Catalogue;
 use std::alloc::Global;
 
+/// Memory for the reading of bodies. What one took serves the next.
+#[derive(Drop)]
+pub struct BodyRoom {
+    alloc: Global,
+    scratch: Scratch,
+}
+
+impl BodyRoom {
+    /// Room that is not taken yet.
+    pub fn new(alloc: Global) -> BodyRoom {
+        BodyRoom {
+            alloc,
+            scratch: Scratch::new(alloc),
+        }
+    }
+}
+
 /// The command that a route asks with this body, or the first fault: fields in the order of the route's table, then stations. A route that
 /// has no body lets it be, and takes no memory. `NoMemory` is the one answer without a cause.
 pub fn read_command(
@@ -32,11 +49,27 @@ pub fn read_command(
     ensures err { IfErr result (λ e. ¬ (e ≡ BodyFault.NoMemory) → asked_by cat.now route.entry body.now ≡ Err e) }
     ensures memory { IfErr result (λ e. e ≡ BodyFault.NoMemory → has_body_of route.entry ≡ true) }
 {
+    let mut room = BodyRoom::new(alloc);
+    read_command_in(&mut room, cat, route, body)
+}
+
+/// `read_command`, in room that is kept from body to body.
+pub fn read_command_in(
+    room: &mut BodyRoom,
+    cat: &Catalogue,
+    route: Route<'_>,
+    body: &[u8],
+) -> Result<Command, BodyFault>
+    ensures ok { IfOk result (λ c. Asks (asked_by cat.now route.entry body.now) c) }
+    ensures readable { IfOk result (λ c. IsReadable cat.now c) }
+    ensures err { IfErr result (λ e. ¬ (e ≡ BodyFault.NoMemory) → asked_by cat.now route.entry body.now ≡ Err e) }
+    ensures memory { IfErr result (λ e. e ≡ BodyFault.NoMemory → has_body_of route.entry ≡ true) }
+{
+    let alloc = room.alloc;
     if !has_body(&route) {
         return read_in(alloc, cat, &route, &Value::Null);
     }
-    let mut scratch = Scratch::new(alloc);
-    let value = read_object(alloc, body, &mut scratch)?;
+    let value = read_object(alloc, body, &mut room.scratch)?;
     read_in(alloc, cat, &route, &value)
 }
 

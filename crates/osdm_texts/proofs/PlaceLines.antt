@@ -10,7 +10,7 @@ use Rattle.place_map.specs.declared.coach.Class.{Class}
 use Rattle.place_map.specs.declared.coach.Class.TheVariants.{First, Second}
 use Rattle.place_map.specs.declared.coach.Place.{Place}
 use Rattle.osdm_texts.specs.Places.{trait_trees, place_tree, place_trees, place_list_tree}
-use Rattle.osdm_texts.specs.PlaceTexts.{class_line, first_line, free_line, last_line, named_line, has_trait, traits_text}
+use Rattle.osdm_texts.specs.PlaceTexts.{class_line, first_line, free_line, front_line, last_line, named_line, has_trait, traits_text}
 
 named : (later given : Bool) (name : List ℕ) (ds : List Data)
     → items_text later (items_of ((if given then string name ∷ [] else []) ++ ds)) ≡ named_line later given (quoted name) ++ items_text (later || given) (items_of ds)
@@ -52,10 +52,22 @@ place_line later p free = by_class p.class free
     by_class Second true = rw (← traits_line p.traits) (simp append_assoc)
     by_class Second false = rw (← traits_line p.traits) (simp append_assoc)
 
--- five pieces, each put behind those before
-pub put_five : (t0 t1 t2 t3 t4 t5 p1 p2 p3 p4 p5 : List ℕ) → t1 ≡ t0 ++ p1 → t2 ≡ t1 ++ p2 → t3 ≡ t2 ++ p3 → t4 ≡ t3 ++ p4 → t5 ≡ t4 ++ p5
-    → t5 ≡ t0 ++ (p1 ++ (p2 ++ (p3 ++ (p4 ++ p5))))
-put_five t0 t1 t2 t3 t4 t5 p1 p2 p3 p4 p5 e1 e2 e3 e4 e5 = rw (e5, e4, e3, e2, e1) (simp append_assoc)
+-- three pieces, each put behind those before
+pub put_three : (t0 t1 t2 t3 p1 p2 p3 : List ℕ) → t1 ≡ t0 ++ p1 → t2 ≡ t1 ++ p2 → t3 ≡ t2 ++ p3 → t3 ≡ t0 ++ (p1 ++ (p2 ++ p3))
+put_three t0 t1 t2 t3 p1 p2 p3 e1 e2 e3 = rw (e3, e2, e1) (simp append_assoc)
+
+-- a place's text behind its front
+pub framed_line : (later : Bool) (p : Place) (free : Bool) → front_line later p.class p.coach free ++ (decimal p.number ++ traits_text p.traits) ≡ comma_if later ++ compact_text (place_tree p free)
+framed_line later p free = sym (place_line later p free ∙ framed)
+  where
+    framed : class_line later p.class ++ (decimal p.coach ++ (free_line free ++ (decimal p.number ++ traits_text p.traits)))
+        ≡ front_line later p.class p.coach free ++ (decimal p.number ++ traits_text p.traits)
+    framed = simp append_assoc
+
+-- likewise where the front is given by other terms
+pub framed_is : (is_later : Bool) (class : Class) (coach : ℕ) (later : Bool) (p : Place) (free : Bool) → is_later ≡ later → class ≡ p.class → coach ≡ p.coach
+    → front_line is_later class coach free ++ (decimal p.number ++ traits_text p.traits) ≡ comma_if later ++ compact_text (place_tree p free)
+framed_is is_later class coach later p free same_later same_class same_coach = rw (same_later, same_class, same_coach) (framed_line later p free)
 
 pub put_traits : (traits : ℕ) (t0 t1 t2 : List ℕ) (later : Bool) → later ≡ ((has_trait traits 1 || has_trait traits 2) || has_trait traits 4)
     → t1 ≡ t0 ++ first_line (has_trait traits 1) (has_trait traits 2) (has_trait traits 4) → t2 ≡ t1 ++ last_line later (has_trait traits 8) (has_trait traits 16) → t2 ≡ t0 ++ traits_text traits

@@ -6,7 +6,7 @@ use Rattle.history_model.specs.declared.phase.Phase.{Phase}
 use Rattle.history_model.specs.declared.phase.Phase.TheVariants.{Ending, Ended}
 use Rattle.history_model.specs.declared.phase.EndKind.{EndKind}
 use Rattle.history_model.specs.declared.phase.EndKind.TheVariants.{Release}
-use Rattle.expiry_sweeper.specs.declared.sweeps.Swept.{Swept}
+use Rattle.booking_rows.specs.declared.swept.Swept.{Swept}
 use Rattle.osdm_texts.specs.declared.field.FieldName.{FieldName}
 use Rattle.osdm_texts.specs.declared.field.FieldName.TheVariants.{Adults}
 use Rattle.osdm_texts.specs.declared.problem.Problem.{Problem}

@@ -5,7 +5,7 @@ use Rattle.serde_json.specs.View.{items_of}
 use Rattle.rail_time.specs.Moments.{last_second}
 use Rattle.offer_codes.specs.declared.code.Segment.{Segment}
 use Rattle.offer_codes.specs.declared.code.Offer.{Offer}
-use Rattle.offer_codes.specs.Offers.{offer_view, is_offer}
+use Rattle.offer_codes.specs.Offers.{offer_view, is_offer, valid_seconds}
 use Rattle.rail_catalogue.specs.Contents.{CatalogueView}
 use Rattle.osdm_texts.specs.Times.{time_text}
 use Rattle.osdm_texts.specs.Ids.{offer_id}
@@ -14,7 +14,7 @@ use Rattle.osdm_texts.specs.Spots.{run_stop, stop_code, train_of}
 
 -- an offer or a quote is valid for so many seconds, and never past the last moment
 abbrev pub valid_until : ℕ → ℕ
-valid_until made = min (made + 900) last_second
+valid_until made = min (made + valid_seconds) last_second
 
 -- a segment with the number of places that were free on it
 abbrev pub segment_tree : CatalogueView → Segment → ℕ → Data

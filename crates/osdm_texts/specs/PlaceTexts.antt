@@ -1,5 +1,5 @@
 -- The pieces of a place's text.
-use Rattle.std.specs.Prelude.{ℕ, ◌==◌, ◌||◌, Bool, false, List, [], ◌++◌, bit_and, if◌then◌else◌, codes}
+use Rattle.std.specs.Prelude.{ℕ, ◌==◌, ◌||◌, Bool, false, List, [], ◌++◌, bit_and, if◌then◌else◌, codes, decimal}
 use Rattle.serde_json.specs.Written.{comma_if}
 use Rattle.place_map.specs.declared.coach.Class.{Class}
 use Rattle.osdm_texts.specs.Places.{class_name}
@@ -11,6 +11,10 @@ class_line later class = comma_if later ++ (codes "{\"class\":\"" ++ (class_name
 -- what stands between the number of the coach and that of the place
 abbrev pub free_line : Bool → List ℕ
 free_line free = if free then codes ",\"free\":true,\"place\":" else codes ",\"free\":false,\"place\":"
+
+-- what stands before the number of the place
+abbrev pub front_line : Bool → Class → ℕ → Bool → List ℕ
+front_line later class coach free = class_line later class ++ (decimal coach ++ free_line free)
 
 -- a quoted name that is given, behind a comma where another stands before
 abbrev pub named_line : Bool → Bool → List ℕ → List ℕ

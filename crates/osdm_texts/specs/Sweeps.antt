@@ -1,7 +1,7 @@
 -- The JSON of a sweep's counts.
 use Rattle.std.specs.Prelude.{codes}
 use Rattle.serde_json.specs.Data.{Data, object, no_members, member}
-use Rattle.expiry_sweeper.specs.declared.sweeps.Swept.{Swept}
+use Rattle.booking_rows.specs.declared.swept.Swept.{Swept}
 use Rattle.osdm_texts.specs.Amounts.{count_tree}
 
 abbrev pub swept_tree : Swept → Data

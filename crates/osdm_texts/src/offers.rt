@@ -8,12 +8,9 @@ use crate::ids::{offer_id, text_of};
 use crate::members::{put_count, put_price, put_text, put_time};
 use crate::spots::{run_stop, stop_code, train_number};
 use json::Writer;
-use offer_codes::{Offer, Segment};
+use offer_codes::{Offer, Segment, VALID_SECONDS};
 use rail_catalogue::Catalogue;
 use std::alloc::AllocError;
-
-/// How many seconds an offer or a quote is valid.
-pub(crate) const VALID_SECONDS: u32 = 900;
 
 pub(crate) fn put_offers(
     out: &mut Writer,

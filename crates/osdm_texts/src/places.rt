@@ -1,8 +1,8 @@
 //! Places with their traits, and whether each is free.
-ghost use Rattle.std.specs.Prelude.{◌≡◌, ◌++◌, ◌||◌, length, IfOk, OnOk};
-ghost use Rattle.serde_json.specs.Written.{compact_text, comma_if};
-ghost use Rattle.osdm_texts.specs.Places.{place_tree, place_list_tree};
-ghost use Rattle.osdm_texts.specs.PlaceTexts.{class_line, first_line, free_line, last_line, traits_text};
+ghost use Rattle.std.specs.Prelude.{◌≡◌, ◌++◌, ◌||◌, length, true, false, decimal, IfOk, OnOk};
+ghost use Rattle.serde_json.specs.Written.{compact_text};
+ghost use Rattle.osdm_texts.specs.Places.{place_list_tree};
+ghost use Rattle.osdm_texts.specs.PlaceTexts.{class_line, first_line, free_line, front_line, last_line, traits_text};
 
 use itoa::{Buffer, Integer};
 use place_map::{Class, Place};
@@ -23,26 +23,91 @@ pub(crate) fn places_text(
     let room = places.len().saturating_mul(PLACE_BYTES);
     let mut text = Vec::with_capacity(alloc, room.saturating_add(16))?;
     put(&mut text, b"{\"places\":[")?;
+    let mut front = Front::new(alloc, false, Class::First, 0)?;
     for (n, place) in places.iter().enumerate() {
-        put_place(&mut text, n > 0, place, free[n])?;
+        front = renewed(alloc, front, n > 0, place)?;
+        put_place(&mut text, &front, place, free[n])?;
     }
     put(&mut text, b"]}")?;
     Ok(text)
 }
 
-// The text of a place, behind a comma where another stands before.
-fn put_place(
-    text: &mut Vec<u8>,
+// What stands before the number of a place, free or taken. It is the same for all places of a coach, so it is put
+// together once for them.
+#[derive(Drop)]
+struct Front {
     is_later: bool,
-    place: &Place,
+    class: Class,
+    coach: u16,
+    free: Vec<u8>,
+    taken: Vec<u8>,
+    ghost lines: { (free.items ≡ front_line is_later class coach true)
+        × (taken.items ≡ front_line is_later class coach false) },
+}
+
+impl Front {
+    fn new(alloc: Global, is_later: bool, class: Class, coach: u16) -> Result<Front, AllocError>
+        ensures { IfOk result (λ f. (f.is_later ≡ is_later) × (f.class ≡ class) × (f.coach ≡ coach)) }
+    {
+        let free = line_before(alloc, is_later, class, coach, true)?;
+        let taken = line_before(alloc, is_later, class, coach, false)?;
+        Ok(Front {
+            is_later,
+            class,
+            coach,
+            free,
+            taken,
+        })
+    }
+
+    fn fits(&self, is_later: bool, place: &Place) -> bool
+        ensures { result ≡ true → (self.now.is_later ≡ is_later) × (self.now.class ≡ place.now.class)
+            × (self.now.coach ≡ place.now.coach) }
+    {
+        self.is_later == is_later && self.class == place.class && self.coach == place.coach
+    }
+}
+
+// What stands before the number of a place.
+fn line_before(
+    alloc: Global,
+    is_later: bool,
+    class: Class,
+    coach: u16,
     free: bool,
-) -> Result<(), AllocError>
-    ensures { OnOk result (text.new.items
-        ≡ text.old.items ++ (comma_if is_later ++ compact_text (place_tree place.now free))) }
+) -> Result<Vec<u8>, AllocError>
+    ensures { IfOk result (λ text. text.items ≡ front_line is_later class coach free) }
 {
-    put(text, class_text(is_later, place.class))?;
-    put_number(text, place.coach)?;
-    put(text, free_text(free))?;
+    let mut text = Vec::new(alloc);
+    put(&mut text, class_text(is_later, class))?;
+    put_number(&mut text, coach)?;
+    put(&mut text, free_text(free))?;
+    Ok(text)
+}
+
+// The front, where it is that of the place, and else a new one.
+fn renewed(alloc: Global, front: Front, is_later: bool, place: &Place) -> Result<Front, AllocError>
+    ensures { IfOk result (λ f. (f.is_later ≡ is_later) × (f.class ≡ place.now.class)
+        × (f.coach ≡ place.now.coach)) }
+{
+    if front.fits(is_later, place) {
+        return Ok(front);
+    }
+    Front::new(alloc, is_later, place.class, place.coach)
+}
+
+// The text of a place with this front.
+fn put_place(text: &mut Vec<u8>, front: &Front, place: &Place, free: bool) -> Result<(), AllocError>
+    ensures { OnOk result (text.new.items ≡ text.old.items
+        ++ (front_line front.now.is_later front.now.class front.now.coach free
+        ++ (decimal place.now.number ++ traits_text place.now.traits))) }
+{
+    let line = if free {
+        front.free.as_slice()
+    } else {
+        front.taken.as_slice()
+    };
+    put(text, line)?;
     put_number(text, place.number)?;
     put_traits(text, place.traits)
 }

@@ -7,9 +7,8 @@ ghost use Rattle.osdm_texts.specs.Appends.{Appends, tokens_of};
 
 use crate::ids::{exchange_id, refund_id, text_of};
 use crate::members::{put_amount, put_price, put_text, put_time};
-use crate::offers::VALID_SECONDS;
 use json::Writer;
-use offer_codes::{ExchangeCode, RefundCode};
+use offer_codes::{ExchangeCode, RefundCode, VALID_SECONDS};
 use rail_catalogue::Catalogue;
 use std::alloc::AllocError;
 

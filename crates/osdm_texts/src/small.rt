@@ -10,7 +10,7 @@ ghost use Rattle.osdm_texts.specs.SmallTexts.{detail_text, AreMoments};
 use crate::pieces::{push, push_number};
 use crate::problem::{Problem, phase_text};
 use arrayvec::ArrayVec;
-use expiry_sweeper::Swept;
+use booking_rows::Swept;
 use rail_time::{Moment, write_moment};
 
 /// The JSON text of a problem (RFC 9457). A `WrongState` shows a phase that is neither free nor in the making; of those two the detail is

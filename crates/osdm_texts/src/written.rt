@@ -8,7 +8,7 @@ ghost use Rattle.osdm_texts.specs.Answers.{status_told, telling, told_of};
 use crate::reply::{Reply, reply_text};
 use crate::small::swept_text;
 use arrayvec::ArrayVec;
-use expiry_sweeper::Swept;
+use booking_rows::Swept;
 use rail_catalogue::Catalogue;
 use std::alloc::Global;
 

@@ -2,7 +2,7 @@
 ghost use Rattle.std.specs.Prelude.{ℕ, ◌≡◌, ◌+◌, ◌-◌, ◌*◌, ◌≤◌, List, drop, length, take};
 ghost use Rattle.leg_masks.specs.Interval.{PlacedSpan as Item, pieces};
 ghost use Rattle.history_model.specs.Booking.{most_items};
-ghost use Rattle.claim_rule.specs.Seats.{IsOf};
+ghost use Rattle.claim_rule.specs.Desks.{IsOf};
 ghost use Rattle.claim_rule.specs.Calls.{ShapeBy};
 ghost use Rattle.claim_rule.specs.Out.{IsHolding, HasNotedItems, KeepsEndings};
 ghost use Rattle.hold_core.specs.Tries.{with_items};

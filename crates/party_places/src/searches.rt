@@ -1,7 +1,7 @@
 //! Looking for a stretch that is free.
 ghost use Rattle.std.specs.Prelude.{◌≡◌, ◌<◌, ◌≤◌, ◌&&◌, nat_lt, All, IfSome, IfNone, length, map};
 ghost use Rattle.leg_masks.specs.Interval.{pieces as spec_pieces};
-ghost use Rattle.claim_rule.specs.Seats.{IsOf};
+ghost use Rattle.claim_rule.specs.Desks.{IsOf};
 ghost use Rattle.claim_rule.specs.Calls.{ShapeBy};
 ghost use Rattle.claim_rule.specs.Out.{KeepsHolds, KeepsEndings};
 ghost use Rattle.availability.specs.Looks.{LooksPieces};

@@ -2,7 +2,7 @@
 ghost use Rattle.std.specs.Prelude.{◌≡◌, ◌+◌, ◌-◌, ◌*◌, ◌<◌, ◌≤◌, IfSome, IfNone, List, length};
 ghost use Rattle.leg_masks.specs.Interval.{PlacedSpan as Item, pieces};
 ghost use Rattle.history_model.specs.Booking.{most_items};
-ghost use Rattle.claim_rule.specs.Seats.{IsOf, Shape};
+ghost use Rattle.claim_rule.specs.Desks.{IsOf, Shape};
 ghost use Rattle.claim_rule.specs.Out.{IsHolding, HasNotedItems, KeepsEndings};
 ghost use Rattle.hold_core.specs.Tries.{with_items};
 ghost use Rattle.party_places.specs.Parties.{AreCandidates, GivesUp, LosesOne, Takes, gives_down};

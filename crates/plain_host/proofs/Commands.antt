@@ -1,5 +1,5 @@
 -- Commands on a booking come to the outcomes of a plain host.
-use Rattle.std.proofs.Common.{◌≡◌, ℕ, ◌<◌, ◌≤◌, ◌⊎◌, inl, inr, true, List, Option, Some, None, refl, sym, ap, ◌∙◌, subst}
+use Rattle.std.proofs.Common.{◌≡◌, ℕ, ◌<◌, ◌≤◌, ◌⊎◌, inl, inr, true, List, Option, Some, None, Ok, refl, sym, ap, ◌∙◌, subst}
 use Rattle.history_model.specs.declared.entry.Step.{Step}
 use Rattle.history_model.specs.Phase.{is_sealed}
 use Rattle.history_model.specs.Booking.{Booking, State, present, word_at}
@@ -15,8 +15,8 @@ use Rattle.rail_ids.specs.declared.RowNo.{RowNo}
 use Rattle.rail_catalogue.specs.Contents.{CatalogueView}
 use Rattle.osdm_texts.specs.declared.problem.Problem.TheVariants.{NoMemory}
 use Rattle.osdm_texts.specs.Answers.{Reply, problem}
-use Rattle.osdm_json.specs.declared.command.Command.TheVariants as command
 use Rattle.refund_core.specs.Quotes.{FindsBooking}
+use Rattle.service_rules.specs.Ordered as order
 use Rattle.booking_service.specs.Deciding.{Replying, OnBooking, shows, confirm_reply, ConfirmsIt, fulfil_reply, FulfilsIt, release_reply, ReleasesIt}
 use Rattle.lone_desk.specs.Lone.{IsAlone, after_steps}
 use Rattle.lone_desk.proofs.Following.{shape_follows}
@@ -24,7 +24,7 @@ use Rattle.plain_host.specs.Plain.{Plain, Outcome, own_view}
 use Rattle.plain_host.specs.Outcomes.{on_view, on_own, shown, confirmed, fulfilled, released}
 use Rattle.plain_host.specs.PlainOf.{view_of, plain_in, plain_of}
 use Rattle.plain_host.specs.Settled.{IsSettled}
-use Rattle.plain_host.specs.Plainly.{IsLone, IsPlainly}
+use Rattle.plain_host.specs.Plainly.{IsLone, AnswersPlainly}
 use Rattle.plain_host.proofs.Staying.{StaysAlone, stays_by, stays_then, still_lone}
 use Rattle.plain_host.proofs.Standings.{own_is, own_other, own_unshown, own_past}
 use Rattle.plain_host.proofs.Looks.{looks_stay, none_shown}
@@ -147,26 +147,22 @@ pub to_plainly : (cat : CatalogueView) (retailer now : ℕ) (o : Outcome) (old n
 to_plainly cat retailer now o old new reply (inl comes, lone) = (inl (comes.reply_is, comes.plain_is), lone)
 to_plainly cat retailer now o old new reply (inr none, lone) = (inr none, lone)
 
-pub show_is_plain : (cat : CatalogueView) (retailer now : ℕ) (row : RowNo) (old new : DeskView) (reply : Reply) → IsLone cat old
-    → OnBooking cat.rows row retailer (shows row) old new reply → IsPlainly cat retailer now (command.Show (Some row)) old new reply × IsLone cat new
-show_is_plain cat retailer now row old new reply lone did =
+pub show_plain : (cat : CatalogueView) (retailer now : ℕ) (row : RowNo) → AnswersPlainly cat retailer now (Ok (order.show row))
+show_plain cat retailer now row old new reply lone did =
     to_plainly cat retailer now (on_own (plain_of old) row retailer (shown row (plain_of old))) old new reply
     (booking_comes cat row retailer (shows row) (shown row) old new reply lone (show_on cat.rows row retailer) did)
 
-pub confirm_is_plain : (cat : CatalogueView) (retailer now : ℕ) (row : RowNo) (old new : DeskView) (reply : Reply) → IsLone cat old
-    → OnBooking cat.rows row retailer (ConfirmsIt cat.rows row retailer now) old new reply → IsPlainly cat retailer now (command.Confirm (Some row)) old new reply × IsLone cat new
-confirm_is_plain cat retailer now row old new reply lone did =
+pub confirm_plain : (cat : CatalogueView) (retailer now : ℕ) (row : RowNo) → AnswersPlainly cat retailer now (Ok (order.confirm row))
+confirm_plain cat retailer now row old new reply lone did =
     to_plainly cat retailer now (on_own (plain_of old) row retailer (confirmed row now (plain_of old))) old new reply
     (booking_comes cat row retailer (ConfirmsIt cat.rows row retailer now) (confirmed row now) old new reply lone (confirm_on cat.rows row retailer now) did)
 
-pub fulfil_is_plain : (cat : CatalogueView) (retailer now : ℕ) (row : RowNo) (old new : DeskView) (reply : Reply) → IsLone cat old
-    → OnBooking cat.rows row retailer (FulfilsIt cat.rows row retailer) old new reply → IsPlainly cat retailer now (command.Fulfil (Some row)) old new reply × IsLone cat new
-fulfil_is_plain cat retailer now row old new reply lone did =
+pub fulfil_plain : (cat : CatalogueView) (retailer now : ℕ) (row : RowNo) → AnswersPlainly cat retailer now (Ok (order.fulfil row))
+fulfil_plain cat retailer now row old new reply lone did =
     to_plainly cat retailer now (on_own (plain_of old) row retailer (fulfilled row (plain_of old))) old new reply
     (booking_comes cat row retailer (FulfilsIt cat.rows row retailer) (fulfilled row) old new reply lone (fulfil_on cat.rows row retailer) did)
 
-pub release_is_plain : (cat : CatalogueView) (retailer now : ℕ) (row : RowNo) (old new : DeskView) (reply : Reply) → IsLone cat old
-    → OnBooking cat.rows row retailer (ReleasesIt cat.rows row retailer now) old new reply → IsPlainly cat retailer now (command.Release (Some row)) old new reply × IsLone cat new
-release_is_plain cat retailer now row old new reply lone did =
+pub release_plain : (cat : CatalogueView) (retailer now : ℕ) (row : RowNo) → AnswersPlainly cat retailer now (Ok (order.release row))
+release_plain cat retailer now row old new reply lone did =
     to_plainly cat retailer now (on_own (plain_of old) row retailer (released row now (plain_of old))) old new reply
     (booking_comes cat row retailer (ReleasesIt cat.rows row retailer now) (released row now) old new reply lone (release_on cat.rows row retailer now) did)

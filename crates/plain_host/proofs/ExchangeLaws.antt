@@ -1,37 +1,32 @@
 -- The law of carrying out an exchange.
-use Rattle.std.proofs.Common.{◌≡◌, ◌≢◌, ℕ, ◌+◌, ℤ, pos, negsuc, inl, inr, Bool, true, false, cond, eq-eqb, ne_eqb, Option, Some, None, refl, sym, ap, ◌∙◌, subst}
+use Rattle.std.proofs.Common.{◌≡◌, ◌≢◌, ℕ, ℤ, pos, negsuc, inl, inr, Bool, true, false, cond, eq-eqb, ne_eqb, Ok, refl, sym, ap, ◌∙◌, subst, Some}
 use Rattle.std.specs.Prelude.{◌⊎◌, ◌&&◌, nat_le}
 use Rattle.std.proofs.lemmas.Bool.{and_parts}
-use Rattle.rail_ids.specs.declared.RowNo.{RowNo}
 use Rattle.history_model.specs.declared.phase.Phase.{Phase}
 use Rattle.history_model.specs.Booking.{State, present}
 use Rattle.claim_rule.specs.Rule.{DeskView, state_seen}
 use Rattle.booking_rows.specs.Views.{RowSeen}
 use Rattle.rail_catalogue.specs.Contents.{CatalogueView}
 use Rattle.offer_codes.specs.declared.code.ExchangeCode.{ExchangeCode}
-use Rattle.offer_codes.specs.Offers.{offer_view, is_offer}
+use Rattle.offer_codes.specs.Offers.{is_offer}
 use Rattle.offer_codes.specs.Rows.{is_row}
 use Rattle.offer_codes.specs.Exchanges.{ExchangeView, exchange_view, magnitude, is_exchange}
-use Rattle.offer_engine.specs.Codes.{is_offered}
 use Rattle.refund_core.specs.Quotes.{phase_named, is_stale}
 use Rattle.exchange_core.specs.Exchanges.{difference_at}
 use Rattle.exchange_core.specs.declared.readying.Readied.TheVariants as readied
 use Rattle.osdm_texts.specs.declared.problem.Problem.{Problem}
-use Rattle.osdm_texts.specs.declared.problem.Problem.TheVariants.{UnknownOffer, WrongState, QuoteWrong, NoMemory}
+use Rattle.osdm_texts.specs.declared.problem.Problem.TheVariants.{WrongState, QuoteWrong, NoMemory}
 use Rattle.osdm_texts.specs.Answers.{Reply, problem}
-use Rattle.osdm_json.specs.declared.command.Command.TheVariants as command
-use Rattle.osdm_json.specs.Readable.{IsReadable}
 use Rattle.trade_service.specs.Exchanges.{ExchangesIt}
-use Rattle.service_rules.specs.Checks.{validity, is_of_row, is_quoted, command_fault}
-use Rattle.service_rules.specs.Answering.{AnswersBy}
+use Rattle.service_rules.specs.Ordered as order
+use Rattle.service_rules.specs.Orders.{IsSound}
 use Rattle.plain_host.specs.Plain.{Plain, Outcome}
-use Rattle.plain_host.specs.Outcomes.{refusing, wrong, with_places_for, exchanged_for, exchanged_by, is_same, exchanged_with, on_view, on_own, outcome_by}
+use Rattle.plain_host.specs.Outcomes.{refusing, wrong, with_places_for, exchanged_for, exchanged_by, is_same, exchanged_with, on_view, on_own}
 use Rattle.plain_host.specs.PlainOf.{view_of, plain_in, plain_of}
 use Rattle.plain_host.specs.Plainly.{IsLone, AnswersPlainly, MayKeepRow}
 use Rattle.plain_host.proofs.Decided.{is_in_yes, is_in_no}
-use Rattle.plain_host.proofs.Laws.{refused_plain}
 use Rattle.plain_host.proofs.Seeing.{IsBy, has_seen, seen_by, unseen_by, stays_seen}
-use Rattle.plain_host.proofs.Trades.{known_code, fresh_code}
+use Rattle.plain_host.proofs.Trades.{fresh_code}
 use Rattle.plain_host.proofs.PlacesChosen.{Differ, Fit}
 use Rattle.plain_host.proofs.PlacesFit.{offer_fits}
 use Rattle.plain_host.proofs.PlacesLaws.{offered_differ}
@@ -117,23 +112,8 @@ offer_of x is =
     (and_parts (nat_le x.made 4_102_444_799) (nat_le (magnitude x.difference) 99_999_999_999 && is_offer x.offer)
     (and_parts (is_row x.row) (nat_le x.made 4_102_444_799 && (nat_le (magnitude x.difference) 99_999_999_999 && is_offer x.offer)) is).1).1).1
 
-pub accept_exchange_plain : (cat : CatalogueView) (retailer now : ℕ) (row : Option RowNo) (code : Option ExchangeCode) → IsReadable cat (command.AcceptExchange row code) → AnswersPlainly cat retailer now (command.AcceptExchange row code)
-accept_exchange_plain cat retailer now row None readable = refused_plain cat retailer now (command.AcceptExchange row None) UnknownOffer refl
-accept_exchange_plain cat retailer now row (Some code) readable = go (command_fault cat now (command.AcceptExchange row (Some code))) refl where
-  known : (k : Bool) → (is_of_row row code.row && is_quoted cat code) ≡ k → k ≡ true → is_offered cat (offer_view code.offer) ≡ true
-  known k is right =
-      let both = and_parts (is_of_row row code.row) (is_quoted cat code) (is ∙ right) in
-      (and_parts (is_offered cat (offer_view code.offer)) (nat_le code.offer.made code.made && nat_le code.made (code.offer.made + validity)) both.1).0
-
-  go : (fault : Option Problem) → command_fault cat now (command.AcceptExchange row (Some code)) ≡ fault → AnswersPlainly cat retailer now (command.AcceptExchange row (Some code))
-  go (Some p) is = refused_plain cat retailer now (command.AcceptExchange row (Some code)) p is
-  go None is = λ old new reply lone did.
-      let x = exchange_view code in
-      let did_it : ExchangesIt cat cat.rows retailer x now old new reply =
-      subst (λ (f : Option Problem). AnswersBy cat retailer now (command.AcceptExchange row (Some code)) f old new reply) is did in
-      let offered = known (is_of_row row code.row && is_quoted cat code) refl (known_code (is_of_row row code.row && is_quoted cat code) code.made now is) in
-      let came = exchanges_plainly cat x retailer now old new reply lone (offer_fits cat x.offer (offer_of x readable)) (offered_differ cat x.offer offered) (fresh_code (is_of_row row code.row && is_quoted cat code) code.made now is) did_it in (
-        subst (λ (f : Option Problem). (let it = outcome_by cat retailer now (command.AcceptExchange row (Some code)) (plain_of old) f in (reply ≡ it.reply) × (plain_of new ≡ it.plain))
-            ⊎ ((reply ≡ problem NoMemory) × MayKeepRow cat.rows (plain_of old) (plain_of new))) (sym is) came.0,
-        came.1,
-      )
+pub accept_exchange_plain : (cat : CatalogueView) (retailer now : ℕ) (code : ExchangeCode) → IsSound cat now (order.accept_exchange code)
+    → AnswersPlainly cat retailer now (Ok (order.accept_exchange code))
+accept_exchange_plain cat retailer now code sound = λ old new reply lone did.
+    let x = exchange_view code in
+    exchanges_plainly cat x retailer now old new reply lone (offer_fits cat x.offer (offer_of x sound.0)) (offered_differ cat x.offer sound.1) (fresh_code code.made now sound.2) did

@@ -22,7 +22,7 @@ use Rattle.claim_rule.specs.Holds.{held}
 use Rattle.claim_rule.specs.Endings.{items_read}
 use Rattle.claim_rule.specs.EndSteps.{ending_steps}
 use Rattle.claim_rule.proofs.Moves.{is_sound}
-use Rattle.booking_rows.specs.Aims.{turn_step}
+use Rattle.booking_rows.specs.Aims.{end_turn}
 use Rattle.booking_rows.specs.Notes.{detail_notes}
 use Rattle.booking_rows.specs.Views.{RowSeen}
 use Rattle.rail_catalogue.specs.Contents.{CatalogueView}
@@ -177,7 +177,7 @@ exchange_makes standing b d ready row retailer limit total items olds n st lates
     let old = ready.code.row.row in
     let from = phase_named ready.code.fulfilled in
     let end = exchange_end ready row in
-    let first : List Step = turn_step old from (phase.Ending kind.Exchange) end ∷ items_read old olds in
+    let first : List Step = end_turn old from (phase.Ending kind.Exchange) end ∷ items_read old olds in
     let second : List Step = ending_steps old kind.Exchange end olds in
     let on = ends_on old from kind.Exchange end olds in
     let P : Step → Type 0 = λ x. is_on old x ≡ true in

@@ -1,21 +1,19 @@
 -- What a host begins with whose books open with bookings.
-use Rattle.std.proofs.Common.{◌≡◌, ◌≢◌, inl, inr, ⊎_elim, ℕ, ◌+◌, ◌-◌, ◌<◌, ◌≤◌, max, Bool, true, false, ◌&&◌, cond, eqb, List, [], ◌∷◌, map, filter, find, Option, Some, None, refl, sym, ap, ◌∙◌, subst, arith}
+use Rattle.std.proofs.Common.{◌≡◌, ◌≢◌, ℕ, ◌+◌, ◌-◌, ◌<◌, max, Bool, true, false, List, [], ◌∷◌, map, filter, find, Option, Some, None, refl, ap, ◌∙◌, arith}
 use Rattle.std.specs.List.{AllByRecursion}
 use Rattle.std.proofs.lemmas.Bool.{eq-eqb, ne_eqb}
 use Rattle.leg_masks.specs.Interval.{PlacedSpan as Item}
-use Rattle.history_model.specs.declared.booking.BookedItem.{BookedItem}
 use Rattle.history_model.specs.declared.booking.End.{End}
 use Rattle.history_model.specs.declared.phase.Phase.{Phase}
 use Rattle.history_model.specs.declared.phase.Phase.TheVariants.{Free, Making, Prebooked, Confirmed, Fulfilled, Ending, Ended}
 use Rattle.history_model.specs.Lists.{Pairwise}
 use Rattle.history_model.specs.Phase.{is_ended, is_sealed}
-use Rattle.history_model.specs.Booking.{Booking, Layout, State, key_of, next_generation, next_in, stands_in}
-use Rattle.history_model.specs.Laws.{IsOpening, IsSound, is_owners}
-use Rattle.history_model.proofs.ListLemmas.{All-both, All-map, All-under_map}
+use Rattle.history_model.specs.Booking.{Booking, State, key_of, next_in, stands_in}
+use Rattle.history_model.specs.Laws.{IsSound, is_owners}
+use Rattle.history_model.proofs.ListLemmas.{All-both, All-map}
 use Rattle.claim_rule.specs.Openings.{KeptBooking, MayOpen, booked, opening_booking, opening_of, layout_with}
 use Rattle.claim_rule.specs.Openings.{end_in as kept_end}
-use Rattle.plain_host.specs.Plain.{Plain, Standing}
-use Rattle.plain_host.specs.PlainOf.{end_in, is_in_making, is_standing, item_of, kept_of, plain_in, plain_kept, row_of, standing_kept, standing_of, standings_of}
+use Rattle.plain_host.specs.PlainOf.{end_in, is_in_making, is_standing, item_of, plain_in, plain_kept, row_of, standing_kept, standing_of}
 
 items_kept : (given : Bool) (items : List Item) → map item_of (map (booked given) items) ≡ items
 items_kept given [] = refl

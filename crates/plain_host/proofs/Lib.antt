@@ -18,7 +18,6 @@ pub mod Decided
 pub mod Commands
 pub mod Sweeping
 pub mod Sweeps
-pub mod Laws
 pub mod PlacesSeen
 pub mod PlacesLaws
 pub mod Seeing

@@ -14,7 +14,7 @@ use Rattle.history_model.proofs.Generations.{stands_there, unended_present}
 use Rattle.history_model.proofs.Owners.{on_row}
 use Rattle.claim_rule.specs.OwnWork.{MakesLast}
 use Rattle.claim_rule.specs.Rule.{BooksView, DeskView, state_seen}
-use Rattle.claim_rule.specs.Seats.{IsOf}
+use Rattle.claim_rule.specs.Desks.{IsOf}
 use Rattle.claim_rule.specs.Holds.{StandsFor, empty_hold}
 use Rattle.claim_rule.specs.Out.{IsIdle}
 use Rattle.claim_rule.proofs.Moves.{is_sound}
@@ -98,7 +98,7 @@ settles_from desk front (b ∷ rest) well kept alone idle is sound owned last =
 pub alone_settles : (books : BooksView) (desk : DeskView) → IsOf books desk → IsAlone desk → IsIdle desk → IsSettled (state_seen desk)
 alone_settles books desk of alone idle =
     let well = is_sound desk.layout desk.seen of.legal in
-    let work = of.work alone.number alone.made in
+    let work = of.work alone.number alone.parted in
     settles_from desk [] (state_seen desk) well of.kept alone idle refl well.each work.owned work.last
 
 -- So it is a lone one.

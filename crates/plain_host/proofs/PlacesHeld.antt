@@ -11,7 +11,7 @@ use Rattle.history_model.specs.declared.booking.BookedItem.{BookedItem}
 use Rattle.history_model.specs.declared.entry.Step.{Step}
 use Rattle.history_model.specs.declared.entry.Step.TheVariants.{Give}
 use Rattle.history_model.specs.Allowed.{IsOpen}
-use Rattle.history_model.specs.Apply.{taken, given, noted}
+use Rattle.history_model.specs.Apply.{item_taken, given, noted}
 use Rattle.history_model.specs.Booking.{Booking, Layout, State, change, first_item_word}
 use Rattle.history_model.specs.Laws.{IsWellFormed}
 use Rattle.history_model.specs.Phase.{is_sealed}
@@ -62,9 +62,9 @@ piece_making : (standing : State) (row : RowNo) (desk k place : ℕ) (piece : In
     → IsMaking standing row (items ++ map held (piece_won place piece o)) (after_steps s desk (won_steps row.row k place piece o))
 piece_making standing row desk k place piece Won items s m =
     let more = items ++ held (record { place = place; span = piece }) ∷ [] in
-    let took = change_making standing row items more s (taken place piece) m refl
+    let took = change_making standing row items more s (item_taken place piece) m refl
     (ap (λ (is : List BookedItem). is ++ held (record { place = place; span = piece }) ∷ []) m.items_are) refl refl in
-    change_making standing row more more (change s row.row (taken place piece)) (noted (first_item_word + k) (item_word place piece)) took refl took.items_are refl refl
+    change_making standing row more more (change s row.row (item_taken place piece)) (noted (first_item_word + k) (item_word place piece)) took refl took.items_are refl refl
 piece_making standing row desk k place piece Refused items s m = subst (λ (is : List BookedItem). IsMaking standing row is s) (sym (append-nil items)) m
 piece_making standing row desk k place piece Contended items s m = subst (λ (is : List BookedItem). IsMaking standing row is s) (sym (append-nil items)) m
 

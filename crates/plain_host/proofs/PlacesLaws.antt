@@ -1,13 +1,11 @@
 -- The laws of booking, of searching and of listing places.
-use Rattle.std.proofs.Common.{◌≡◌, ◌≢◌, ℕ, Bool, true, false, eqb, List, [], ◌∷◌, ◌++◌, length, take, drop, Option, Some, None, refl, sym, ap, ◌∙◌, subst, inl, inr, append-nil, append_assoc}
+use Rattle.std.proofs.Common.{◌≡◌, ◌≢◌, ℕ, Bool, true, false, eqb, List, [], ◌∷◌, ◌++◌, length, take, drop, Option, Some, None, Ok, refl, sym, ap, ◌∙◌, subst, inl, inr, append-nil, append_assoc}
 use Rattle.std.specs.Prelude.{◌⊎◌, ◌&&◌, ◌==◌, not, nat_le, nat_lt}
 use Rattle.std.specs.List.{list_all}
 use Rattle.std.proofs.lemmas.Bool.{and_parts, or_parts, true≢false, eqb-false}
 use Rattle.std.proofs.lemmas.List.{take-append-drop}
 use Rattle.rail_ids.specs.declared.RowNo.{RowNo}
-use Rattle.place_map.specs.declared.coach.Class.{Class}
 use Rattle.train_runs.specs.Runs.{RunsView}
-use Rattle.trip_builder.specs.declared.trip.TripWish.{TripWish}
 use Rattle.trip_builder.specs.Segments.{first_of, last_of, first_stop, last_stop}
 use Rattle.trip_builder.specs.Trips.{trips_of, uses_run, connects, follows, is_chain, are_connected}
 use Rattle.offer_codes.specs.declared.code.Segment.{Segment}
@@ -23,23 +21,19 @@ use Rattle.booking_rows.specs.Starts.{StartsHold}
 use Rattle.offer_engine.specs.Codes.{is_of_runs, goes, is_offered}
 use Rattle.offer_engine.specs.declared.wish.OfferWish.{OfferWish}
 use Rattle.offer_engine.specs.Offers.{raised}
-use Rattle.osdm_texts.specs.declared.problem.Problem.{Problem}
-use Rattle.osdm_texts.specs.declared.problem.Problem.TheVariants.{UnknownOffer, NoMemory}
+use Rattle.osdm_texts.specs.declared.problem.Problem.TheVariants.{NoMemory}
 use Rattle.osdm_texts.specs.Answers.{Reply, offer_list, place_list, problem}
-use Rattle.osdm_json.specs.declared.command.Command.TheVariants as command
-use Rattle.osdm_json.specs.Readable.{IsReadable}
-use Rattle.reservation_service.specs.Reserving.{reserved, Reserves}
+use Rattle.reservation_service.specs.declared.booking.Reservation.{Reservation}
+use Rattle.reservation_service.specs.Reserving.{reserved}
 use Rattle.search_service.specs.Searching.{numbers_on}
-use Rattle.service_rules.specs.Checks.{code_fault, command_fault}
-use Rattle.service_rules.specs.Answering.{AnswersBy}
+use Rattle.service_rules.specs.Ordered as order
+use Rattle.service_rules.specs.Orders.{IsSound}
 use Rattle.plain_host.specs.Plain.{choice_for}
-use Rattle.plain_host.specs.Outcomes.{outcome_by}
 use Rattle.plain_host.specs.PlainOf.{plain_in, plain_of}
 use Rattle.plain_host.specs.Settled.{IsSettled}
 use Rattle.plain_host.specs.Found.{ChoosesRow}
-use Rattle.plain_host.specs.Plainly.{IsLone, AnswersPlainly, MayKeepRow}
+use Rattle.plain_host.specs.Plainly.{IsLone, AnswersPlainly}
 use Rattle.plain_host.proofs.Staying.{StaysAlone, stays_by, still_lone}
-use Rattle.plain_host.proofs.Laws.{refused_plain}
 use Rattle.plain_host.proofs.PlacesRows.{choice_at, has_begun, none_begun, plain_making}
 use Rattle.plain_host.proofs.PlacesChosen.{Differ}
 use Rattle.plain_host.proofs.PlacesFit.{listed_fit, offer_fits, reserved_fit}
@@ -104,44 +98,24 @@ row_started cat old new None lone did =
     let none = none_begun old new lone.alone lone.settled (is_sound old.layout old.seen lone.legal) did in
     (subst (λ (n : ℕ). choice_for n (plain_of old) ≡ None) lone.rows none.0, ap plain_in none.1)
 
-pub book_plain : (cat : CatalogueView) (retailer now : ℕ) (offer : Option OfferCode) (together : Bool) → IsReadable cat (command.Book offer together)
-    → AnswersPlainly cat retailer now (command.Book offer together)
-book_plain cat retailer now None together readable = refused_plain cat retailer now (command.Book None together) UnknownOffer refl
-book_plain cat retailer now (Some code) together readable = go (command_fault cat now (command.Book (Some code) together)) refl
-  where
-    known : (k : Bool) (made : ℕ) → code_fault k made now ≡ None → k ≡ true
-    known true made none = refl
-    known false made none = absurd (let no : Some UnknownOffer ≡ None = none in cc)
+pub book_plain : (cat : CatalogueView) (retailer now : ℕ) (code : OfferCode) (together : Bool) → IsSound cat now (order.book code together)
+    → AnswersPlainly cat retailer now (Ok (order.book code together))
+book_plain cat retailer now code together sound = λ old new reply lone did.
+    let o = offer_view code in
+    reserves_plainly cat retailer now o together old new reply lone (offer_fits cat o sound.0) (offered_differ cat o sound.1) did
 
-    go : (fault : Option Problem) → command_fault cat now (command.Book (Some code) together) ≡ fault → AnswersPlainly cat retailer now (command.Book (Some code) together)
-    go (Some p) is = refused_plain cat retailer now (command.Book (Some code) together) p is
-    go None is = λ old new reply lone did.
-        let o = offer_view code in
-        let did_it : Reserves cat retailer now o together old new reply =
-        subst (λ (f : Option Problem). AnswersBy cat retailer now (command.Book (Some code) together) f old new reply) is did in
-        let offered = known (is_offered cat o) code.made is in
-        let came = reserves_plainly cat retailer now o together old new reply lone (offer_fits cat o readable) (offered_differ cat o offered) did_it in (
-          subst (λ (f : Option Problem). (let it = outcome_by cat retailer now (command.Book (Some code) together) (plain_of old) f in (reply ≡ it.reply) × (plain_of new ≡ it.plain))
-              ⊎ ((reply ≡ problem NoMemory) × MayKeepRow cat.rows (plain_of old) (plain_of new))) (sym is) came.0,
-          came.1,
-        )
-
-pub reserve_plain : (cat : CatalogueView) (retailer now : ℕ) (segment : Segment) (class : Class) (count wanted : ℕ) (together : Bool) → IsReadable cat (command.Reserve segment class count wanted together)
-    → AnswersPlainly cat retailer now (command.Reserve segment class count wanted together)
-reserve_plain cat retailer now segment class count wanted together readable = λ old new reply lone did.
-    let o = reserved segment class count wanted now in
-    reserves_plainly cat retailer now o together old new reply lone
-    (reserved_fit cat old o segment lone readable.0, tt) (tt, tt) did
+pub reserve_plain : (cat : CatalogueView) (retailer now : ℕ) (r : Reservation) → IsSound cat now (order.reserve r) → AnswersPlainly cat retailer now (Ok (order.reserve r))
+reserve_plain cat retailer now r sound = λ old new reply lone did.
+    let o = reserved r.segment r.class r.count r.traits now in
+    reserves_plainly cat retailer now o r.together old new reply lone (reserved_fit cat old o r.segment lone sound.0, tt) (tt, tt) did
 
 -- ---- searching
 
 stays_as : (cat : CatalogueView) (old new : DeskView) → IsLone cat old → StaysAlone old new → state_seen new ≡ state_seen old → IsLone cat new
 stays_as cat old new lone stays same = still_lone cat old new lone stays (subst IsSettled (sym same) lone.settled)
 
-pub offers_plain : (cat : CatalogueView) (retailer now : ℕ) (trip : TripWish) (adults children : ℕ) (class : Class) (wanted : ℕ)
-    → AnswersPlainly cat retailer now (command.Offers trip adults children class wanted)
-offers_plain cat retailer now trip adults children class wanted old new reply lone (inl (offers, (es, did, shape), told)) =
-    let w : OfferWish = record { trip = trip; adults = adults; children = children; class = class; wanted = wanted } in
+pub offers_plain : (cat : CatalogueView) (retailer now : ℕ) (w : OfferWish) → AnswersPlainly cat retailer now (Ok (order.offers w))
+offers_plain cat retailer now w old new reply lone (inl (offers, (es, did, shape), told)) =
     let seen = offers_seen cat w now offers old new lone (es, did, shape) in (
       answered told (ap offer_list seen.0) (ap plain_in seen.1),
       stays_as cat old new lone (stays_by old new es lone.alone shape) seen.1,
@@ -151,14 +125,13 @@ offers_plain cat retailer now trip adults children class wanted old new reply lo
         → ((reply ≡ is) × (plain_of new ≡ plain_of old)) ⊎ ((reply ≡ problem NoMemory) × (plain_of new ≡ plain_of old))
     answered (inl here) is same = inl (here ∙ is, same)
     answered (inr none) is same = inr (none, same)
-offers_plain cat retailer now trip adults children class wanted old new reply lone (inr ((es, did, shape), none)) =
-    let w : OfferWish = record { trip = trip; adults = adults; children = children; class = class; wanted = wanted } in
-    let same = begun_seen cat w (trips_of cat.runs (raised trip now)) old new lone (es, did, shape) in
+offers_plain cat retailer now w old new reply lone (inr ((es, did, shape), none)) =
+    let same = begun_seen cat w (trips_of cat.runs (raised w.trip now)) old new lone (es, did, shape) in
     (inr (none, ap plain_in same), stays_as cat old new lone (stays_by old new es lone.alone shape) same)
 
-pub places_plain : (cat : CatalogueView) (retailer now : ℕ) (segment : Segment) → IsReadable cat (command.Places segment) → AnswersPlainly cat retailer now (command.Places segment)
-places_plain cat retailer now segment readable old new reply lone (inl (free, (es, did, shape), told)) =
-    let seen = places_seen cat (numbers_on cat segment.run.0) segment.span free old new lone (listed_fit cat old segment lone readable) (es, did, shape) in (
+pub places_plain : (cat : CatalogueView) (retailer now : ℕ) (segment : Segment) → IsSound cat now (order.places segment) → AnswersPlainly cat retailer now (Ok (order.places segment))
+places_plain cat retailer now segment within old new reply lone (inl (free, (es, did, shape), told)) =
+    let seen = places_seen cat (numbers_on cat segment.run.0) segment.span free old new lone (listed_fit cat old segment lone within) (es, did, shape) in (
       answered told (ap (place_list segment.run.0) seen.0) (ap plain_in seen.1),
       stays_as cat old new lone (stays_by old new es lone.alone shape) seen.1,
     )
@@ -167,5 +140,5 @@ places_plain cat retailer now segment readable old new reply lone (inl (free, (e
         → ((reply ≡ is) × (plain_of new ≡ plain_of old)) ⊎ ((reply ≡ problem NoMemory) × (plain_of new ≡ plain_of old))
     answered (inl here) is same = inl (here ∙ is, same)
     answered (inr none) is same = inr (none, same)
-places_plain cat retailer now segment readable old new reply lone (inr (same, none)) =
+places_plain cat retailer now segment within old new reply lone (inr (same, none)) =
     (inr (none, ap plain_of same), subst (IsLone cat) (sym same) lone)

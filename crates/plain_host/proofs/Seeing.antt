@@ -8,7 +8,7 @@ use Rattle.history_model.specs.History.{IsLegalFrom}
 use Rattle.history_model.specs.Laws.{IsWellFormed, AreInRange}
 use Rattle.history_model.proofs.Ranges.{ranges_all}
 use Rattle.claim_rule.specs.Rule.{DeskView, state_seen}
-use Rattle.claim_rule.specs.Seats.{Shape}
+use Rattle.claim_rule.specs.Desks.{Shape}
 use Rattle.claim_rule.specs.Calls.{ShapeBy}
 use Rattle.claim_rule.proofs.Moves.{is_sound}
 use Rattle.booking_rows.specs.Views.{RowSeen}

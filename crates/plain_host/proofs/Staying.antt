@@ -7,7 +7,7 @@ use Rattle.history_model.specs.Booking.{Booking, Layout, State}
 use Rattle.history_model.specs.History.{IsLegal}
 use Rattle.history_model.proofs.ListLemmas.{All-append, All-left, All-right}
 use Rattle.claim_rule.specs.Rule.{DeskView, state_seen}
-use Rattle.claim_rule.specs.Seats.{Shape}
+use Rattle.claim_rule.specs.Desks.{Shape}
 use Rattle.booking_rows.specs.SealedRows.{FitWords}
 use Rattle.rail_catalogue.specs.Contents.{CatalogueView}
 use Rattle.lone_desk.specs.Lone.{IsAlone}

@@ -22,7 +22,7 @@ use Rattle.history_model.proofs.Legal.{WellFormed-history}
 use Rattle.history_model.proofs.PhaseWords.{shown_back}
 use Rattle.booking_rows.specs.Aims.{end_of}
 use Rattle.booking_rows.specs.declared.turns.Aim.TheVariants as aim
-use Rattle.expiry_sweeper.specs.declared.sweeps.Swept.{Swept}
+use Rattle.booking_rows.specs.declared.swept.Swept.{Swept}
 use Rattle.expiry_sweeper.specs.OneRow.{SeenPrebooked, RowSweep, passed, given_away, waiting, expired, lost, IsRowSweep, outcome_of, row_sweep_steps}
 use Rattle.expiry_sweeper.specs.AllRows.{sweeps_steps, counted, counts_of}
 use Rattle.booking_service.specs.Deciding.{at_end}

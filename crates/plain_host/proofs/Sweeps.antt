@@ -1,5 +1,5 @@
 -- A sweep, and what is refused, come to the outcomes of a plain host.
-use Rattle.std.proofs.Common.{◌≡◌, ℕ, ◌+◌, ◌<◌, inl, Bool, true, false, cond, List, [], ◌∷◌, map, length, Option, Some, sym, ap, ◌∙◌, subst, arith}
+use Rattle.std.proofs.Common.{◌≡◌, ℕ, ◌+◌, ◌<◌, inl, Bool, true, false, cond, List, [], ◌∷◌, map, length, Ok, Err, sym, ap, ◌∙◌, subst, arith}
 use Rattle.std.specs.Prelude.{◌&&◌, count_by}
 use Rattle.std.specs.List.{AllByRecursion, filter}
 use Rattle.history_model.specs.declared.entry.Step.{Step}
@@ -11,23 +11,21 @@ use Rattle.history_model.proofs.ListLemmas.{All-map}
 use Rattle.history_model.proofs.Ranges.{ranges_all}
 use Rattle.claim_rule.specs.Rule.{DeskView, state_seen}
 use Rattle.claim_rule.proofs.Moves.{is_sound}
-use Rattle.expiry_sweeper.specs.declared.sweeps.Swept.{Swept}
+use Rattle.booking_rows.specs.declared.swept.Swept.{Swept}
 use Rattle.expiry_sweeper.specs.AllRows.{sweeps_steps}
 use Rattle.rail_catalogue.specs.Contents.{CatalogueView}
 use Rattle.osdm_texts.specs.declared.problem.Problem.{Problem}
-use Rattle.osdm_texts.specs.Answers.{Reply, swept, problem}
-use Rattle.osdm_json.specs.declared.command.Command.{Command}
-use Rattle.osdm_json.specs.declared.command.Command.TheVariants as command
-use Rattle.search_service.specs.Searching.{SweepsRows}
-use Rattle.service_rules.specs.Checks.{command_fault}
+use Rattle.osdm_texts.specs.Answers.{swept}
+use Rattle.booking_service.specs.Sweeping.{SweepsRows}
+use Rattle.service_rules.specs.Ordered as order
 use Rattle.service_rules.specs.Performing.{DoesNothing}
 use Rattle.lone_desk.specs.Lone.{entries_of, after_steps}
 use Rattle.lone_desk.proofs.Following.{shape_follows}
 use Rattle.plain_host.specs.Plain.{Standing}
-use Rattle.plain_host.specs.Outcomes.{is_late, is_waiting, swept_one, outcome_by}
+use Rattle.plain_host.specs.Outcomes.{is_late, is_waiting, swept_one}
 use Rattle.plain_host.specs.PlainOf.{standing_of, standings_of, plain_in, plain_of}
 use Rattle.plain_host.specs.Settled.{IsSettled}
-use Rattle.plain_host.specs.Plainly.{IsLone, IsPlainly}
+use Rattle.plain_host.specs.Plainly.{IsLone, AnswersPlainly}
 use Rattle.plain_host.proofs.Standings.{is_there, standings_by}
 use Rattle.plain_host.proofs.Staying.{stays_by, still_lone}
 use Rattle.plain_host.proofs.Sweeping.{rows_swept, all_swept, late_counts, wait_counts}
@@ -40,9 +38,8 @@ rows_below m test (b ∷ s) below = go (test b && is_sealed b.phase) (rows_below
   go true all = (below.0, all)
   go false all = all
 
-pub sweep_is_plain : (cat : CatalogueView) (retailer now : ℕ) (old new : DeskView) (reply : Reply) → IsLone cat old
-    → SweepsRows cat.rows now old new reply → IsPlainly cat retailer now command.Sweep old new reply × IsLone cat new
-sweep_is_plain cat retailer now old new reply lone (n, (es, did, shape), told) =
+pub sweep_plain : (cat : CatalogueView) (retailer now : ℕ) → AnswersPlainly cat retailer now (Ok order.sweep)
+sweep_plain cat retailer now old new reply lone (n, (es, did, shape), told) =
     let f = shape_follows old new es lone.alone shape in
     let s = state_seen old in
     let d = old.number in
@@ -77,13 +74,6 @@ nothing_done cat old new lone did =
       still_lone cat old new lone (stays_by old new [] lone.alone did) (subst IsSettled (sym f.state) lone.settled),
     )
 
-pub refused_is_plain : (cat : CatalogueView) (retailer now : ℕ) (c : Command) (p : Problem) (old new : DeskView) (reply : Reply) → IsLone cat old
-    → command_fault cat now c ≡ Some p → DoesNothing old new → reply ≡ problem p → IsPlainly cat retailer now c old new reply × IsLone cat new
-refused_is_plain cat retailer now c p old new reply lone fault did told =
-    let none = nothing_done cat old new lone did in (
-      inl (
-        told ∙ ap (λ (o : Option Problem). (outcome_by cat retailer now c (plain_of old) o).reply) (sym fault),
-        none.0 ∙ ap (λ (o : Option Problem). (outcome_by cat retailer now c (plain_of old) o).plain) (sym fault),
-      ),
-      none.1,
-    )
+pub refused_plain : (cat : CatalogueView) (retailer now : ℕ) (p : Problem) → AnswersPlainly cat retailer now (Err p)
+refused_plain cat retailer now p old new reply lone (did, told) =
+    let none = nothing_done cat old new lone did in (inl (told, none.0), none.1)

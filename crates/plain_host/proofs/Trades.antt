@@ -1,7 +1,7 @@
 -- Quotes, and refunds by them, come to the outcomes of a plain host.
-use Rattle.std.proofs.Common.{◌≡◌, ◌≢◌, ℕ, ◌+◌, ◌-◌, ◌<◌, ◌≤◌, inl, inr, Bool, true, false, cond, eq-eqb, ne_eqb, Option, Some, None, List, [], ◌∷◌, ◌++◌, refl, sym, ap, ◌∙◌, subst, arith}
-use Rattle.std.specs.Prelude.{◌==◌, ◌||◌, ◌⊎◌, nat_lt, nat_le}
-use Rattle.std.proofs.lemmas.Bool.{le-ltb, leb-true, ltb-false}
+use Rattle.std.proofs.Common.{◌≡◌, ◌≢◌, ℕ, ◌-◌, ◌<◌, ◌≤◌, inl, inr, Bool, true, false, cond, eq-eqb, ne_eqb, Some, List, [], ◌∷◌, ◌++◌, refl, sym, ap, ◌∙◌, subst, arith, Ok}
+use Rattle.std.specs.Prelude.{◌==◌, ◌||◌, nat_lt}
+use Rattle.std.proofs.lemmas.Bool.{le-ltb}
 use Rattle.rail_ids.specs.declared.RowNo.{RowNo}
 use Rattle.history_model.specs.declared.entry.Step.{Step}
 use Rattle.history_model.specs.declared.entry.Step.TheVariants.{SawRow}
@@ -14,7 +14,7 @@ use Rattle.history_model.specs.Booking.{Booking, Layout, State, present, word_at
 use Rattle.history_model.specs.Words.{row_word}
 use Rattle.history_model.specs.History.{IsLegalFrom}
 use Rattle.history_model.proofs.Ranges.{ranges_all}
-use Rattle.claim_rule.specs.Rule.{DeskView, state_seen}
+use Rattle.claim_rule.specs.Rule.{state_seen}
 use Rattle.claim_rule.specs.Out.{AllLooks}
 use Rattle.claim_rule.proofs.Moves.{is_sound}
 use Rattle.booking_rows.specs.Views.{RowSeen, saw_words}
@@ -36,29 +36,25 @@ use Rattle.refund_core.specs.declared.refunding.Refunded.{Refunded}
 use Rattle.refund_core.specs.declared.refunding.Refunded.TheVariants as came
 use Rattle.exchange_core.specs.Exchanges.{difference_at}
 use Rattle.exchange_core.specs.declared.quoting.QuotedExchange.TheVariants as offered
-use Rattle.osdm_texts.specs.declared.problem.Problem.{Problem}
-use Rattle.osdm_texts.specs.declared.problem.Problem.TheVariants.{UnknownBooking, UnknownOffer, OfferTooOld, WrongState, QuoteWrong, NoMemory}
+use Rattle.osdm_texts.specs.declared.problem.Problem.TheVariants.{WrongState, QuoteWrong}
 use Rattle.osdm_texts.specs.Answers.{Reply, booking, refund_offer, exchange_offer, problem}
-use Rattle.osdm_json.specs.declared.command.Command.TheVariants as command
-use Rattle.booking_service.specs.Deciding.{OnBooking, at_end}
-use Rattle.trade_service.specs.Refunds.{QuotesIt, RefundsIt, refund_reply}
-use Rattle.trade_service.specs.Exchanges.{QuotesExchangeOfIt}
-use Rattle.service_rules.specs.Checks.{code_fault, age_fault, is_of_row, command_fault}
-use Rattle.service_rules.specs.Answering.{AnswersBy}
+use Rattle.booking_service.specs.Deciding.{at_end}
+use Rattle.trade_service.specs.Refunds.{RefundsIt, refund_reply}
+use Rattle.service_rules.specs.Ordered as order
+use Rattle.service_rules.specs.Orders.{IsFresh}
 use Rattle.lone_desk.specs.Lone.{entries_of, after_steps}
 use Rattle.lone_desk.proofs.Following.{shape_follows}
 use Rattle.plain_host.specs.Plain.{Plain, Outcome, outcome, is_in}
-use Rattle.plain_host.specs.Outcomes.{refusing, changed_to, wrong, code_of, is_quotable, is_fulfilled, refund_quoted, refunded_by, refunded, exchange_quoted, on_own, outcome_by}
+use Rattle.plain_host.specs.Outcomes.{refusing, changed_to, wrong, code_of, is_quotable, is_fulfilled, refund_quoted, refunded_by, refunded, exchange_quoted, on_own}
 use Rattle.plain_host.specs.PlainOf.{view_of, plain_in, plain_of}
 use Rattle.plain_host.specs.Settled.{IsSettled}
-use Rattle.plain_host.specs.Plainly.{IsLone, IsPlainly, AnswersPlainly}
+use Rattle.plain_host.specs.Plainly.{AnswersPlainly}
 use Rattle.plain_host.proofs.Staying.{stays_by}
 use Rattle.lone_desk.proofs.Looking.{after-append, legal_parts}
 use Rattle.plain_host.proofs.Changes.{ends_on, ends_leave}
 use Rattle.plain_host.proofs.Looks.{looks_stay, none_shown, phase_seen, never_lost}
 use Rattle.plain_host.proofs.Decided.{ComesTo, row_changed, is_in_yes, is_in_no}
 use Rattle.plain_host.proofs.Commands.{ComesOn, booking_comes, to_plainly}
-use Rattle.plain_host.proofs.Laws.{refused_plain}
 use Rattle.plain_host.proofs.Seeing.{has_seen, seen_again, seen_by, unseen_by, stays_seen}
 
 -- the phases that can be quoted
@@ -89,26 +85,21 @@ unquoted_is : (cat : CatalogueView) (row : RowNo) (now : ℕ) (plain : Plain) (v
 unquoted_is cat row now plain v one two =
     ap (λ (t : Bool). cond t (outcome (refund_offer (record { row = row; made = now; fulfilled = is_fulfilled v; amount = refund_at cat v now (is_fulfilled v) })) plain) (wrong plain v)) (not_quotable v one two)
 
-quotes_refund : (cat : CatalogueView) (retailer now : ℕ) (row : RowNo) (old new : DeskView) (reply : Reply) → IsLone cat old → QuotesIt cat cat.rows row retailer now old new reply
-    → IsPlainly cat retailer now (command.QuoteRefund (Some row)) old new reply × IsLone cat new
-quotes_refund cat retailer now row old new reply lone (quoted.Done code, (es, (here, (v, saw, is, code_is)), did), inl told) =
+pub quote_refund_plain : (cat : CatalogueView) (retailer now : ℕ) (row : RowNo) → AnswersPlainly cat retailer now (Ok (order.quote_refund row))
+quote_refund_plain cat retailer now row old new reply lone (quoted.Done code, (es, (here, (v, saw, is, code_is)), did), inl told) =
     let has = has_seen cat row retailer v es old new lone saw did in
     let c = seen_by cat row retailer v (refund_quoted cat row now (plain_of old)) (refund_offer code) old new reply lone has (quoted_is cat row now (plain_of old) v code is code_is) told in
     (inl c.0, c.1)
-quotes_refund cat retailer now row old new reply lone (quoted.Done code, (es, (here, (v, saw, is, code_is)), did), inr none) =
+quote_refund_plain cat retailer now row old new reply lone (quoted.Done code, (es, (here, (v, saw, is, code_is)), did), inr none) =
     let has = has_seen cat row retailer v es old new lone saw did in
     (inr (none, ap plain_in has.same), stays_seen cat row retailer v old new lone has)
-quotes_refund cat retailer now row old new reply lone (quoted.Unknown, did, told) =
+quote_refund_plain cat retailer now row old new reply lone (quoted.Unknown, did, told) =
     let c = unseen_by cat row retailer (refund_quoted cat row now (plain_of old)) old new reply lone did told in (inl c.0, c.1)
-quotes_refund cat retailer now row old new reply lone (quoted.WrongState shown, (es, (here, one, two, (v, saw, is)), did), told) =
+quote_refund_plain cat retailer now row old new reply lone (quoted.WrongState shown, (es, (here, one, two, (v, saw, is)), did), told) =
     let has = has_seen cat row retailer v es old new lone saw did in
     let c = seen_by cat row retailer v (refund_quoted cat row now (plain_of old)) (problem (WrongState v.phase)) old new reply lone has
     (unquoted_is cat row now (plain_of old) v (λ e. one (sym is ∙ e)) (λ e. two (sym is ∙ e))) (told ∙ ap (λ (p : Phase). problem (WrongState p)) (sym is)) in
     (inl c.0, c.1)
-
-pub quote_refund_plain : (cat : CatalogueView) (retailer now : ℕ) (row : Option RowNo) → AnswersPlainly cat retailer now (command.QuoteRefund row)
-quote_refund_plain cat retailer now None = refused_plain cat retailer now (command.QuoteRefund None) UnknownBooking refl
-quote_refund_plain cat retailer now (Some row) = λ old new reply lone did. quotes_refund cat retailer now row old new reply lone did
 
 -- quoting an exchange
 
@@ -131,61 +122,26 @@ unoffered_is : (cat : CatalogueView) (row : RowNo) (now : ℕ) (offer : OfferCod
 unoffered_is cat row now offer plain v one two =
     ap (λ (t : Bool). cond t (outcome (exchange_offer (exchange_code row now cat v offer (is_fulfilled v))) plain) (wrong plain v)) (not_quotable v one two)
 
-quotes_exchange : (cat : CatalogueView) (retailer now : ℕ) (row : RowNo) (offer : OfferCode) (old new : DeskView) (reply : Reply) → IsLone cat old
-    → QuotesExchangeOfIt cat cat.rows row retailer (offer_view offer) now old new reply
-    → (((reply ≡ (on_own (plain_of old) row retailer (exchange_quoted cat row offer now (plain_of old))).reply)
-    × (plain_of new ≡ (on_own (plain_of old) row retailer (exchange_quoted cat row offer now (plain_of old))).plain))
-    ⊎ ((reply ≡ problem NoMemory) × (plain_of new ≡ plain_of old))) × IsLone cat new
-quotes_exchange cat retailer now row offer old new reply lone (offered.Done code, (es, (here, (v, saw, is, code_is)), did), inl told) =
+pub quote_exchange_plain : (cat : CatalogueView) (retailer now : ℕ) (row : RowNo) (offer : OfferCode) → AnswersPlainly cat retailer now (Ok (order.quote_exchange row offer))
+quote_exchange_plain cat retailer now row offer old new reply lone (offered.Done code, (es, (here, (v, saw, is, code_is)), did), inl told) =
     let has = has_seen cat row retailer v es old new lone saw did in
     let c = seen_by cat row retailer v (exchange_quoted cat row offer now (plain_of old)) (exchange_offer code) old new reply lone has (offered_is cat row now offer (plain_of old) v code is code_is) told in
     (inl c.0, c.1)
-quotes_exchange cat retailer now row offer old new reply lone (offered.Done code, (es, (here, (v, saw, is, code_is)), did), inr none) =
+quote_exchange_plain cat retailer now row offer old new reply lone (offered.Done code, (es, (here, (v, saw, is, code_is)), did), inr none) =
     let has = has_seen cat row retailer v es old new lone saw did in
     (inr (none, ap plain_in has.same), stays_seen cat row retailer v old new lone has)
-quotes_exchange cat retailer now row offer old new reply lone (offered.Unknown, did, told) =
+quote_exchange_plain cat retailer now row offer old new reply lone (offered.Unknown, did, told) =
     let c = unseen_by cat row retailer (exchange_quoted cat row offer now (plain_of old)) old new reply lone did told in (inl c.0, c.1)
-quotes_exchange cat retailer now row offer old new reply lone (offered.WrongState shown, (es, (here, one, two, (v, saw, is)), did), told) =
+quote_exchange_plain cat retailer now row offer old new reply lone (offered.WrongState shown, (es, (here, one, two, (v, saw, is)), did), told) =
     let has = has_seen cat row retailer v es old new lone saw did in
     let c = seen_by cat row retailer v (exchange_quoted cat row offer now (plain_of old)) (problem (WrongState v.phase)) old new reply lone has
     (unoffered_is cat row now offer (plain_of old) v (λ e. one (sym is ∙ e)) (λ e. two (sym is ∙ e))) (told ∙ ap (λ (p : Phase). problem (WrongState p)) (sym is)) in
     (inl c.0, c.1)
 
-pub quote_exchange_plain : (cat : CatalogueView) (retailer now : ℕ) (row : Option RowNo) (offer : Option OfferCode) → AnswersPlainly cat retailer now (command.QuoteExchange row offer)
-quote_exchange_plain cat retailer now row None = refused_plain cat retailer now (command.QuoteExchange row None) UnknownOffer refl
-quote_exchange_plain cat retailer now row (Some offer) = go row (command_fault cat now (command.QuoteExchange row (Some offer))) refl where
-  go : (row : Option RowNo) (fault : Option Problem) → command_fault cat now (command.QuoteExchange row (Some offer)) ≡ fault → AnswersPlainly cat retailer now (command.QuoteExchange row (Some offer))
-  go row (Some p) is = refused_plain cat retailer now (command.QuoteExchange row (Some offer)) p is
-  go None None is = λ old new reply lone did.
-      let none : AnswersBy cat retailer now (command.QuoteExchange None (Some offer)) None old new reply =
-      subst (λ (f : Option Problem). AnswersBy cat retailer now (command.QuoteExchange None (Some offer)) f old new reply) is did in absurd none
-  go (Some row) None is = λ old new reply lone did.
-      let c : AnswersBy cat retailer now (command.QuoteExchange (Some row) (Some offer)) None old new reply =
-      subst (λ (f : Option Problem). AnswersBy cat retailer now (command.QuoteExchange (Some row) (Some offer)) f old new reply) is did in
-      let came = quotes_exchange cat retailer now row offer old new reply lone c in (
-        subst (λ (f : Option Problem). (let it = outcome_by cat retailer now (command.QuoteExchange (Some row) (Some offer)) (plain_of old) f in (reply ≡ it.reply) × (plain_of new ≡ it.plain))
-            ⊎ ((reply ≡ problem NoMemory) × (plain_of new ≡ plain_of old))) (sym is) came.0,
-        came.1,
-      )
-
--- a code that isn't refused is known, and isn't stale
-
-pub known_code : (k : Bool) (made now : ℕ) → code_fault k made now ≡ None → k ≡ true
-known_code true made now none = refl
-known_code false made now none = absurd (let no : Some UnknownOffer ≡ None = none in cc)
-
-pub fresh_code : (k : Bool) (made now : ℕ) → code_fault k made now ≡ None → is_stale made now ≡ false
-fresh_code false made now none = absurd (let no : Some UnknownOffer ≡ None = none in cc)
-fresh_code true made now none = go (nat_le made now) refl none where
-  aged : (t : Bool) → nat_lt (made + 900) now ≡ t → cond t (Some (OfferTooOld made now)) None ≡ None → made ≤ now → is_stale made now ≡ false
-  aged true is none before = absurd (let no : Some (OfferTooOld made now) ≡ None = none in cc)
-  aged false is none before =
-      let late : now ≤ made + 900 = ltb-false (made + 900) now is in
-      ap (λ (t : Bool). t || nat_lt 900 (now - made)) (le-ltb now made before) ∙ le-ltb 900 (now - made) (let few : now - made ≤ 900 = omega (arith, late) in few)
-
-  go : (t : Bool) → nat_le made now ≡ t → cond t (age_fault made now) (Some UnknownOffer) ≡ None → is_stale made now ≡ false
-  go false is none = absurd (let no : Some UnknownOffer ≡ None = none in cc)
-  go true is none = aged (nat_lt (made + 900) now) refl none (leb-true made now is)
+-- a fresh code isn't stale
+pub fresh_code : (made now : ℕ) → IsFresh made now → is_stale made now ≡ false
+fresh_code made now (before, late) =
+    ap (λ (t : Bool). t || nat_lt 900 (now - made)) (le-ltb now made before) ∙ le-ltb 900 (now - made) (let few : now - made ≤ 900 = omega (arith, late) in few)
 
 -- accepting a refund
 
@@ -287,17 +243,7 @@ refund_on cat retailer code now fresh mid new b reply alone legal at generation 
       stays_by mid new es alone shape,
     )
 
-pub accept_refund_plain : (cat : CatalogueView) (retailer now : ℕ) (row : Option RowNo) (code : Option RefundCode) → AnswersPlainly cat retailer now (command.AcceptRefund row code)
-accept_refund_plain cat retailer now row None = refused_plain cat retailer now (command.AcceptRefund row None) UnknownOffer refl
-accept_refund_plain cat retailer now row (Some code) = go (command_fault cat now (command.AcceptRefund row (Some code))) refl where
-  go : (fault : Option Problem) → command_fault cat now (command.AcceptRefund row (Some code)) ≡ fault → AnswersPlainly cat retailer now (command.AcceptRefund row (Some code))
-  go (Some p) is = refused_plain cat retailer now (command.AcceptRefund row (Some code)) p is
-  go None is = λ old new reply lone did.
-      let did_it : OnBooking cat.rows code.row retailer (RefundsIt cat cat.rows retailer code now) old new reply =
-      subst (λ (f : Option Problem). AnswersBy cat retailer now (command.AcceptRefund row (Some code)) f old new reply) is did in
-      let came = to_plainly cat retailer now (on_own (plain_of old) code.row retailer (refunded cat code now (plain_of old))) old new reply
-      (booking_comes cat code.row retailer (RefundsIt cat cat.rows retailer code now) (refunded cat code now) old new reply lone (refund_on cat retailer code now (fresh_code (is_of_row row code.row) code.made now is)) did_it) in (
-        subst (λ (f : Option Problem). (let it = outcome_by cat retailer now (command.AcceptRefund row (Some code)) (plain_of old) f in (reply ≡ it.reply) × (plain_of new ≡ it.plain))
-            ⊎ ((reply ≡ problem NoMemory) × (plain_of new ≡ plain_of old))) (sym is) came.0,
-        came.1,
-      )
+pub accept_refund_plain : (cat : CatalogueView) (retailer now : ℕ) (code : RefundCode) → IsFresh code.made now → AnswersPlainly cat retailer now (Ok (order.accept_refund code))
+accept_refund_plain cat retailer now code fresh old new reply lone did =
+    to_plainly cat retailer now (on_own (plain_of old) code.row retailer (refunded cat code now (plain_of old))) old new reply
+    (booking_comes cat code.row retailer (RefundsIt cat cat.rows retailer code now) (refunded cat code now) old new reply lone (refund_on cat retailer code now (fresh_code code.made now fresh)) did)

@@ -1,5 +1,5 @@
 -- What a host of one thread answers to each command, and leaves.
-use Rattle.std.specs.Prelude.{ℕ, ◌==◌, ℤ, pos, negsuc, Bool, false, ◌&&◌, ◌||◌, nat_lt, nat_le, List, map, count_by, Option, Some, None, if◌then◌else◌}
+use Rattle.std.specs.Prelude.{ℕ, ◌==◌, ℤ, pos, negsuc, Bool, false, ◌&&◌, ◌||◌, nat_lt, nat_le, List, map, count_by, Option, Some, None, Result, Ok, Err, if◌then◌else◌}
 use Rattle.leg_masks.specs.Interval.{PlacedSpan as Item}
 use Rattle.rail_ids.specs.declared.PlaceNo.{PlaceNo}
 use Rattle.rail_ids.specs.declared.RowNo.{RowNo}
@@ -23,14 +23,14 @@ use Rattle.offer_engine.specs.Offers.{raised, offer_price, code_for, wanted_plac
 use Rattle.osdm_texts.specs.declared.problem.Problem.{Problem}
 use Rattle.refund_core.specs.Quotes.{phase_named, refund_at}
 use Rattle.exchange_core.specs.Exchanges.{difference_at}
-use Rattle.osdm_texts.specs.declared.problem.Problem.TheVariants.{UnknownBooking, UnknownOffer, RowsFull, NoPlace, TooLate, WrongState, QuoteWrong}
+use Rattle.osdm_texts.specs.declared.problem.Problem.TheVariants.{UnknownBooking, RowsFull, NoPlace, TooLate, WrongState, QuoteWrong}
 use Rattle.osdm_texts.specs.Answers.{offer_list, created, booking, refund_offer, exchange_offer, exchanged, place_list, swept, problem}
 use Rattle.osdm_json.specs.declared.command.Command.{Command}
-use Rattle.osdm_json.specs.declared.command.Command.TheVariants as command
 use Rattle.booking_service.specs.Deciding.{in_phase, at_end}
 use Rattle.reservation_service.specs.Reserving.{reserved, detail_of, made_view}
 use Rattle.search_service.specs.Searching.{numbers_on}
-use Rattle.service_rules.specs.Checks.{command_fault}
+use Rattle.service_rules.specs.Ordered as order
+use Rattle.service_rules.specs.Checks.{ordered}
 use Rattle.plain_host.specs.Plain.{Standing, Plain, Outcome, outcome, is_free, chosen, Choice, choice_for, keeping, own_view, is_in, with_view, with_new}
 
 abbrev pub refusing : Problem → Plain → Outcome
@@ -218,43 +218,31 @@ listed cat plain s =
     outcome (place_list s.run.0 (map (λ (p : PlaceNo). is_free plain.bookings s.span p.0) (numbers_on cat s.run.0)))
     plain
 
--- the outcome of a command that its codes and ids don't refuse
-abbrev pub performed : CatalogueView → ℕ → ℕ → Command → Plain → Outcome
-performed cat retailer now (command.Offers trip adults children class wanted) plain =
-    outcome (offer_list (offered cat plain (record { trip = trip; adults = adults; children = children; class = class; wanted = wanted }) now)) plain
-performed cat retailer now (command.Book None together) plain = refusing UnknownOffer plain
-performed cat retailer now (command.Book (Some code) together) plain =
-    booked cat retailer now (offer_view code) together plain
-performed cat retailer now (command.Reserve segment class count wanted together) plain =
-    booked cat retailer now (reserved segment class count wanted now) together plain
-performed cat retailer now (command.Show None) plain = refusing UnknownBooking plain
-performed cat retailer now (command.Show (Some row)) plain = on_own plain row retailer (shown row plain)
-performed cat retailer now (command.Release None) plain = refusing UnknownBooking plain
-performed cat retailer now (command.Release (Some row)) plain = on_own plain row retailer (released row now plain)
-performed cat retailer now (command.Confirm None) plain = refusing UnknownBooking plain
-performed cat retailer now (command.Confirm (Some row)) plain = on_own plain row retailer (confirmed row now plain)
-performed cat retailer now (command.Fulfil None) plain = refusing UnknownBooking plain
-performed cat retailer now (command.Fulfil (Some row)) plain = on_own plain row retailer (fulfilled row plain)
-performed cat retailer now (command.QuoteRefund None) plain = refusing UnknownBooking plain
-performed cat retailer now (command.QuoteRefund (Some row)) plain =
-    on_own plain row retailer (refund_quoted cat row now plain)
-performed cat retailer now (command.AcceptRefund row None) plain = refusing UnknownOffer plain
-performed cat retailer now (command.AcceptRefund row (Some code)) plain =
+-- the outcome of an order
+abbrev pub performed : CatalogueView → ℕ → ℕ → order.Ordered → Plain → Outcome
+performed cat retailer now (order.offers wish) plain = outcome (offer_list (offered cat plain wish now)) plain
+performed cat retailer now (order.book code together) plain = booked cat retailer now (offer_view code) together plain
+performed cat retailer now (order.reserve r) plain =
+    booked cat retailer now (reserved r.segment r.class r.count r.traits now) r.together plain
+performed cat retailer now (order.show row) plain = on_own plain row retailer (shown row plain)
+performed cat retailer now (order.release row) plain = on_own plain row retailer (released row now plain)
+performed cat retailer now (order.confirm row) plain = on_own plain row retailer (confirmed row now plain)
+performed cat retailer now (order.fulfil row) plain = on_own plain row retailer (fulfilled row plain)
+performed cat retailer now (order.quote_refund row) plain = on_own plain row retailer (refund_quoted cat row now plain)
+performed cat retailer now (order.accept_refund code) plain =
     on_own plain code.row retailer (refunded cat code now plain)
-performed cat retailer now (command.QuoteExchange None offer) plain = refusing UnknownBooking plain
-performed cat retailer now (command.QuoteExchange (Some row) None) plain = refusing UnknownOffer plain
-performed cat retailer now (command.QuoteExchange (Some row) (Some offer)) plain =
-    on_own plain row retailer (exchange_quoted cat row offer now plain)
-performed cat retailer now (command.AcceptExchange row None) plain = refusing UnknownOffer plain
-performed cat retailer now (command.AcceptExchange row (Some code)) plain =
+performed cat retailer now (order.quote_exchange row code) plain =
+    on_own plain row retailer (exchange_quoted cat row code now plain)
+performed cat retailer now (order.accept_exchange code) plain =
     on_own plain code.row retailer (exchanged_with cat (exchange_view code) retailer now plain)
-performed cat retailer now (command.Places segment) plain = listed cat plain segment
-performed cat retailer now command.Sweep plain = swept_all now plain
+performed cat retailer now (order.places segment) plain = listed cat plain segment
+performed cat retailer now order.sweep plain = swept_all now plain
 
-abbrev pub outcome_by : CatalogueView → ℕ → ℕ → Command → Plain → Option Problem → Outcome
-outcome_by cat retailer now c plain (Some p) = refusing p plain
-outcome_by cat retailer now c plain None = performed cat retailer now c plain
+-- refused by its codes and ids, or performed
+abbrev pub outcome_by : CatalogueView → ℕ → ℕ → Result order.Ordered Problem → Plain → Outcome
+outcome_by cat retailer now (Err p) plain = refusing p plain
+outcome_by cat retailer now (Ok o) plain = performed cat retailer now o plain
 
 -- what the host answers to a retailer's command at this moment, and leaves
 abbrev pub outcome_of : CatalogueView → ℕ → ℕ → Command → Plain → Outcome
-outcome_of cat retailer now c plain = outcome_by cat retailer now c plain (command_fault cat now c)
+outcome_of cat retailer now c plain = outcome_by cat retailer now (ordered cat now c) plain

@@ -8,7 +8,7 @@ use Rattle.history_model.specs.declared.booking.BookedItem.{BookedItem}
 use Rattle.history_model.specs.declared.booking.End.{End}
 use Rattle.history_model.specs.Phase.{is_sealed}
 use Rattle.rail_ids.specs.declared.RowNo.{RowNo}
-use Rattle.history_model.specs.Booking.{Booking, State, word_at, stands_in}
+use Rattle.history_model.specs.Booking.{Booking, State, word_at, stands_in, retailer_word, limit_word, total_word}
 use Rattle.claim_rule.specs.Openings.{KeptBooking}
 use Rattle.claim_rule.specs.Rule.{DeskView, state_seen}
 use Rattle.booking_rows.specs.Views.{RowSeen}
@@ -25,9 +25,9 @@ end_in phase end = None
 abbrev pub view_of : Booking → RowSeen
 view_of b = record {
   phase = b.phase;
-  retailer = word_at b 1;
-  limit = word_at b 2;
-  total = word_at b 3;
+  retailer = word_at b retailer_word;
+  limit = word_at b limit_word;
+  total = word_at b total_word;
   items = map item_of b.items;
   ended = end_in b.phase b.end;
 }

@@ -3,7 +3,7 @@ ghost use Rattle.std.specs.Prelude.{◌≡◌};
 ghost use Rattle.rail_catalogue.specs.Contents.{CatalogueView, legs_in};
 ghost use Rattle.claim_rule.specs.Rule.{BooksView, DeskView};
 ghost use Rattle.claim_rule.specs.Out.{IsIdle};
-ghost use Rattle.claim_rule.specs.Seats.{IsOf};
+ghost use Rattle.claim_rule.specs.Desks.{IsOf};
 ghost use Rattle.booking_rows.specs.SealedRows.{FitWords};
 ghost use Rattle.lone_desk.specs.Lone.{IsAlone};
 ghost use Rattle.plain_host.specs.Plainly.{IsLone};

@@ -1,5 +1,5 @@
 //! Booking, searching, and all commands together.
-ghost use Rattle.std.specs.Prelude.{◌≡◌, ◌≢◌, ◌≤◌, ◌↔◌, ℕ, Bool, IsTrue, List, Option};
+ghost use Rattle.std.specs.Prelude.{◌≡◌, ◌≢◌, ◌≤◌, ◌↔◌, ℕ, Bool, IsTrue, List, Option, Ok};
 ghost use Rattle.std.specs.List.{AllByRecursion};
 ghost use Rattle.leg_masks.specs.Interval.{Interval, most_legs, PlacedSpan as Item};
 ghost use Rattle.history_model.specs.declared.entry.Step.{Step};
@@ -15,16 +15,18 @@ ghost use Rattle.party_places.specs.declared.party.PartyAdded.{PartyAdded};
 ghost use Rattle.party_places.specs.Parties.{Party, SeatsParty};
 ghost use Rattle.lone_desk.specs.Lone.{entries_of};
 ghost use Rattle.lone_desk.specs.Decided.{IsFreeAt, HasClearWords};
-ghost use Rattle.place_map.specs.declared.coach.Class.{Class};
-ghost use Rattle.trip_builder.specs.declared.trip.TripWish.{TripWish};
+ghost use Rattle.offer_engine.specs.declared.wish.OfferWish.{OfferWish};
+ghost use Rattle.reservation_service.specs.declared.booking.Reservation.{Reservation};
 ghost use Rattle.offer_codes.specs.declared.code.Segment.{Segment};
 ghost use Rattle.rail_ids.specs.declared.RowNo.{RowNo};
 ghost use Rattle.offer_codes.specs.declared.code.OfferCode.{OfferCode};
 ghost use Rattle.offer_codes.specs.declared.code.ExchangeCode.{ExchangeCode};
 ghost use Rattle.rail_catalogue.specs.Contents.{CatalogueView};
 ghost use Rattle.osdm_json.specs.declared.command.Command.{Command};
-ghost use Rattle.osdm_json.specs.declared.command.Command.TheVariants.{Offers, Book, Reserve, Places, AcceptExchange};
 ghost use Rattle.osdm_json.specs.Readable.{IsReadable};
+ghost use Rattle.service_rules.specs.Ordered.{offers, book, reserve, places, accept_exchange};
+ghost use Rattle.service_rules.specs.Checks.{ordered};
+ghost use Rattle.service_rules.specs.Orders.{IsSound};
 ghost use Rattle.plain_host.specs.Plain.{is_free};
 ghost use Rattle.plain_host.specs.PlainOf.{plain_of};
 ghost use Rattle.plain_host.specs.Found.{FindsFree, SeatsFree, ChoosesRow};
@@ -53,25 +55,25 @@ pub fn places_are_found()
         → ShapeBy (StartsHold old new row) old new → ChoosesRow cat.rows (plain_of old) row (plain_of new) }
 {}
 
-/// The laws of a lone desk's commands on places: each is answered as by a host of one thread. All but the search for
-/// offers are commands that can be read with this catalogue.
+/// The laws of a lone desk's orders on places: each is answered as by a host of one thread. All but the search for
+/// offers are sound with this catalogue.
 pub fn places_are_plain()
-    ensures book { (cat : CatalogueView) (retailer now : ℕ) (offer : Option OfferCode) (together : Bool)
-        → IsReadable cat (Book offer together) → AnswersPlainly cat retailer now (Book offer together) }
-    ensures reserve { (cat : CatalogueView) (retailer now : ℕ) (segment : Segment) (class : Class) (count wanted : ℕ)
-        (together : Bool) → IsReadable cat (Reserve segment class count wanted together)
-        → AnswersPlainly cat retailer now (Reserve segment class count wanted together) }
-    ensures offers { (cat : CatalogueView) (retailer now : ℕ) (trip : TripWish) (adults children : ℕ) (class : Class)
-        (wanted : ℕ) → AnswersPlainly cat retailer now (Offers trip adults children class wanted) }
-    ensures places { (cat : CatalogueView) (retailer now : ℕ) (segment : Segment) → IsReadable cat (Places segment)
-        → AnswersPlainly cat retailer now (Places segment) }
-    ensures exchange { (cat : CatalogueView) (retailer now : ℕ) (row : Option RowNo) (code : Option ExchangeCode)
-        → IsReadable cat (AcceptExchange row code) → AnswersPlainly cat retailer now (AcceptExchange row code) }
+    ensures book { (cat : CatalogueView) (retailer now : ℕ) (offer : OfferCode) (together : Bool)
+        → IsSound cat now (book offer together) → AnswersPlainly cat retailer now (Ok (book offer together)) }
+    ensures reserve { (cat : CatalogueView) (retailer now : ℕ) (r : Reservation)
+        → IsSound cat now (reserve r) → AnswersPlainly cat retailer now (Ok (reserve r)) }
+    ensures offers { (cat : CatalogueView) (retailer now : ℕ) (wish : OfferWish)
+        → AnswersPlainly cat retailer now (Ok (offers wish)) }
+    ensures places { (cat : CatalogueView) (retailer now : ℕ) (segment : Segment)
+        → IsSound cat now (places segment) → AnswersPlainly cat retailer now (Ok (places segment)) }
+    ensures exchange { (cat : CatalogueView) (retailer now : ℕ) (code : ExchangeCode)
+        → IsSound cat now (accept_exchange code) → AnswersPlainly cat retailer now (Ok (accept_exchange code)) }
 {}
 
-/// The law of all commands: what a lone desk answers to a command that can be read is what a host of one thread answers
-/// at the list of the desk's bookings, and it leaves the list that the host of one thread leaves.
+/// The law of all commands: what a lone desk answers to a command that can be read, by what it orders or is refused for,
+/// is what a host of one thread answers at the list of the desk's bookings, and it leaves the list that the host of one
+/// thread leaves.
 pub fn commands_are_plain()
     ensures plain { (cat : CatalogueView) (retailer now : ℕ) (c : Command) → IsReadable cat c
-        → AnswersPlainly cat retailer now c }
+        → AnswersPlainly cat retailer now (ordered cat now c) }
 {}

@@ -6,10 +6,9 @@ ghost use Rattle.host_serve.specs.Serve.{IsExporting, IsNoServe, IsOfRefusedText
 ghost use Rattle.host_serve.specs.Turns.{Asks};
 ghost use Rattle.rail_host.specs.Commands.{ServesPort};
 
-use host_io::Ticker;
 use host_notes::{CommandEnd, end_command};
 use host_serve::{ServeEnd, run_serve};
-use rail_io::{Shelf, Sink, SystemClock};
+use rail_io::{Shelf, Sink, SystemClock, Ticker};
 use rail_service::Listener;
 use std::alloc::{AllocError, Global};
 use std::sync::Wait;

@@ -1,11 +1,12 @@
-//! The outside of the program as traits: where bytes come from, where they go, files by name, and moments.
+//! The outside of the program as traits: where bytes come from, where they go, files by name, moments, and ticks.
 //!
 //! Each trait says what an object holds, where the object tells it, and counts its failures. A call
 //! answers `Failed` only where that count rose in it. The program above speaks of the outside by
 //! these traits alone, so that what it promises holds over a socket as over memory.
 //!
 //! `BytesSource`, `VecSink` and `MapShelf` hold their bytes in memory and tell them; each has a list
-//! of the calls that are to fail. `ScriptClock` and `ListClock` tell their readings. `ReaderSource` and
+//! of the calls that are to fail. `ScriptClock` and `ListClock` tell their readings, and `CountTicker` ticks
+//! so many times. `ReaderSource` and
 //! `WriterSink` stand before a reader and a writer of std, as standard input and output, `FileShelf`
 //! before the system's files and `SystemClock` before its clock; they tell nothing.
 #![tactic(auto)]
@@ -22,6 +23,7 @@ mod sink;
 mod source;
 mod standard;
 mod system_clock;
+mod ticker;
 
 pub use clock::Clock;
 pub use file_shelf::FileShelf;
@@ -34,3 +36,4 @@ pub use sink::{Pushed, PushedBoth, Sink};
 pub use source::{Pulled, Source};
 pub use standard::{ReaderSource, WriterSink};
 pub use system_clock::SystemClock;
+pub use ticker::{CountTicker, Ticker};

@@ -2,12 +2,15 @@
 ghost use Rattle.std.specs.Prelude.{None, IfOk, ◌≤◌, length};
 
 use crate::answers::{pulled_of, pushed_of};
-use crate::{Pulled, Pushed, Sink, Source};
+use crate::{Pulled, Pushed, PushedBoth, Sink, Source};
 use std::io;
 use std::io::{ErrorKind, Read, Write};
 
 /// How often an interrupted call is made once more before it counts as failed.
 const RETRIES: u32 = 1_000;
+
+/// The most bytes of two pieces that one call of the writer gets together.
+const JOINED: usize = 512;
 
 /// Standard input, or another reader, as a source.
 #[derive(Drop)]
@@ -96,5 +99,29 @@ impl<W: Write> Sink for WriterSink<W> {
             self.faults = self.faults.saturating_add(1);
         }
         pushed
+    }
+
+    // Two short pieces go by one call of the writer, which costs more than to copy them.
+    fn write_both(&mut self, first: &[u8], second: &[u8]) -> PushedBoth {
+        if first.len() <= JOINED && second.len() <= JOINED - first.len() {
+            let mut both = [0; JOINED];
+            let end = first.len() + second.len();
+            both[..first.len()].copy_from_slice(first);
+            both[first.len()..end].copy_from_slice(second);
+            return match self.write(&both[..end]) {
+                Pushed::Took(count) => PushedBoth::Took(count),
+                Pushed::Failed => PushedBoth::Failed(0),
+            };
+        }
+        let Pushed::Took(count) = self.write(first) else {
+            return PushedBoth::Failed(0);
+        };
+        if count < first.len() || second.is_empty() {
+            return PushedBoth::Took(count);
+        }
+        match self.write(second) {
+            Pushed::Took(more) => PushedBoth::Took(count + more),
+            Pushed::Failed => PushedBoth::Failed(count),
+        }
     }
 }

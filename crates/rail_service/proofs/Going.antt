@@ -10,5 +10,5 @@ goes_on old new own =
       front = own.1.front;
       number = same.2;
       parted = same.4;
-      taken = same.3;
+      joined = same.3;
     }

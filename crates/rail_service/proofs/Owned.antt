@@ -1,5 +1,5 @@
 -- Every answer is a list of the desk's own steps.
-use Rattle.std.proofs.Common.{◌≡◌, ℕ, Bool, false, List, [], ◌++◌, Option, Some, None, Ok, Err, sym, subst, inl, inr}
+use Rattle.std.proofs.Common.{◌≡◌, ℕ, Bool, false, List, [], ◌++◌, Option, Ok, Err, sym, subst, inl, inr}
 use Rattle.std.specs.Prelude.{Result}
 use Rattle.leg_masks.specs.Interval.{PlacedSpan as Item}
 use Rattle.offer_codes.specs.declared.code.Segment.{Segment}
@@ -12,7 +12,7 @@ use Rattle.trade_service.specs.Exchanges.{DecidesOrNot, CarriesOut, ExchangesIt,
 use Rattle.history_model.specs.declared.entry.Step.{Step}
 use Rattle.history_model.specs.History.{IsLegal}
 use Rattle.claim_rule.specs.Rule.{DeskView}
-use Rattle.claim_rule.specs.Seats.{Shape}
+use Rattle.claim_rule.specs.Desks.{Shape}
 use Rattle.claim_rule.specs.Calls.{Calls, ShapeBy}
 use Rattle.claim_rule.proofs.Shapes.{shape_then, shape_none}
 use Rattle.rail_ids.specs.declared.RetailerNo.{RetailerNo}
@@ -23,16 +23,16 @@ use Rattle.booking_rows.specs.Views.{RowSeen}
 use Rattle.osdm_texts.specs.declared.problem.Problem.{Problem}
 use Rattle.osdm_texts.specs.Answers.{Reply}
 use Rattle.osdm_json.specs.declared.command.Command.{Command}
-use Rattle.osdm_json.specs.declared.command.Command.TheVariants as command
 use Rattle.booking_service.specs.Deciding.{Replying, OnBooking, shows, ConfirmsIt, FulfilsIt, ReleasesIt}
 use Rattle.reservation_service.specs.declared.holding.Placing.{Placing}
 use Rattle.reservation_service.specs.Holding.{HoldsPlaces}
 use Rattle.reservation_service.specs.Reserving.{reserved, FailsToHold, Reserves}
 use Rattle.reservation_service.proofs.Adding.{places_only}
 use Rattle.search_service.specs.Searching.{SearchesOffers, ListsPlaces}
-use Rattle.service_rules.specs.Checks.{command_fault}
+use Rattle.service_rules.specs.Ordered as order
+use Rattle.service_rules.specs.Checks.{ordered}
 use Rattle.service_rules.specs.Performing.{Performs}
-use Rattle.service_rules.specs.Answering.{AnswersBy, Answers}
+use Rattle.service_rules.specs.Answering.{AnswersBy}
 use Rattle.rail_service.specs.Serving.{AnswersAsked, AnswersRequest}
 
 -- one list of the desk's own steps, and nothing else of it
@@ -102,50 +102,36 @@ exchanges_own cat rows retailer x now old new reply (inl (a, p, did, un, is)) = 
 exchanges_own cat rows retailer x now old new reply (inr (mid, did, goes)) =
     own_then old mid new (own_by _ old mid did) (carries_own cat (ready_of retailer x now) mid new reply goes)
 
-performs_own : (cat : CatalogueView) (retailer now : ℕ) (c : Command) (old new : DeskView) (reply : Reply) → IsLegal old.layout old.seen
-    → Performs cat retailer now c old new reply → Own old new
-performs_own cat retailer now (command.Offers trip adults children class wanted) old new reply legal did = searches_own cat _ now old new reply did
-performs_own cat retailer now (command.Book None together) old new reply legal did = absurd did
-performs_own cat retailer now (command.Book (Some code) together) old new reply legal did = reserves_own cat retailer now (offer_view code) together old new reply did
-performs_own cat retailer now (command.Reserve segment class count wanted together) old new reply legal did =
-    reserves_own cat retailer now (reserved segment class count wanted now) together old new reply did
-performs_own cat retailer now (command.Show None) old new reply legal did = absurd did
-performs_own cat retailer now (command.Show (Some row)) old new reply legal did =
+performs_own : (cat : CatalogueView) (retailer now : ℕ) (o : order.Ordered) (old new : DeskView) (reply : Reply) → IsLegal old.layout old.seen
+    → Performs cat retailer now o old new reply → Own old new
+performs_own cat retailer now (order.offers wish) old new reply legal did = searches_own cat wish now old new reply did
+performs_own cat retailer now (order.book code together) old new reply legal did = reserves_own cat retailer now (offer_view code) together old new reply did
+performs_own cat retailer now (order.reserve r) old new reply legal did =
+    reserves_own cat retailer now (reserved r.segment r.class r.count r.traits now) r.together old new reply did
+performs_own cat retailer now (order.show row) old new reply legal did =
     on_booking (shows row) (λ v a b r l is. own_same a b l is.0) cat.rows row retailer old new reply did
-performs_own cat retailer now (command.Release None) old new reply legal did = absurd did
-performs_own cat retailer now (command.Release (Some row)) old new reply legal did =
+performs_own cat retailer now (order.release row) old new reply legal did =
     on_booking (ReleasesIt cat.rows row retailer now) (λ v a b r l is. own_by _ a b is.1) cat.rows row retailer old new reply did
-performs_own cat retailer now (command.Confirm None) old new reply legal did = absurd did
-performs_own cat retailer now (command.Confirm (Some row)) old new reply legal did =
+performs_own cat retailer now (order.confirm row) old new reply legal did =
     on_booking (ConfirmsIt cat.rows row retailer now) (λ v a b r l is. own_by _ a b is.1) cat.rows row retailer old new reply did
-performs_own cat retailer now (command.Fulfil None) old new reply legal did = absurd did
-performs_own cat retailer now (command.Fulfil (Some row)) old new reply legal did =
+performs_own cat retailer now (order.fulfil row) old new reply legal did =
     on_booking (FulfilsIt cat.rows row retailer) (λ v a b r l is. own_by _ a b is.1) cat.rows row retailer old new reply did
-performs_own cat retailer now (command.QuoteRefund None) old new reply legal did = absurd did
-performs_own cat retailer now (command.QuoteRefund (Some row)) old new reply legal did = own_by _ old new did.1
-performs_own cat retailer now (command.AcceptRefund row None) old new reply legal did = absurd did
-performs_own cat retailer now (command.AcceptRefund row (Some code)) old new reply legal did =
+performs_own cat retailer now (order.quote_refund row) old new reply legal did = own_by _ old new did.1
+performs_own cat retailer now (order.accept_refund code) old new reply legal did =
     on_booking (RefundsIt cat cat.rows retailer code now) (λ v a b r l is. own_by _ a b is.1) cat.rows code.row retailer old new reply did
-performs_own cat retailer now (command.QuoteExchange None offer) old new reply legal did = absurd did
-performs_own cat retailer now (command.QuoteExchange (Some row) None) old new reply legal did = absurd did
-performs_own cat retailer now (command.QuoteExchange (Some row) (Some offer)) old new reply legal did = own_by _ old new did.1
-performs_own cat retailer now (command.AcceptExchange row None) old new reply legal did = absurd did
-performs_own cat retailer now (command.AcceptExchange row (Some code)) old new reply legal did = exchanges_own cat cat.rows retailer (exchange_view code) now old new reply did
-performs_own cat retailer now (command.Places segment) old new reply legal did = lists_own cat segment old new reply legal did
-performs_own cat retailer now command.Sweep old new reply legal did = own_by _ old new did.1
+performs_own cat retailer now (order.quote_exchange row code) old new reply legal did = own_by _ old new did.1
+performs_own cat retailer now (order.accept_exchange code) old new reply legal did = exchanges_own cat cat.rows retailer (exchange_view code) now old new reply did
+performs_own cat retailer now (order.places segment) old new reply legal did = lists_own cat segment old new reply legal did
+performs_own cat retailer now order.sweep old new reply legal did = own_by _ old new did.1
 
-by_own : (cat : CatalogueView) (retailer now : ℕ) (c : Command) (fault : Option Problem) (old new : DeskView) (reply : Reply) → IsLegal old.layout old.seen
-    → AnswersBy cat retailer now c fault old new reply → Own old new
-by_own cat retailer now c (Some p) old new reply legal did = (_, did.0)
-by_own cat retailer now c None old new reply legal did = performs_own cat retailer now c old new reply legal did
-
-pub answers_own : (cat : CatalogueView) (retailer now : ℕ) (c : Command) (old new : DeskView) (reply : Reply) → IsLegal old.layout old.seen
-    → Answers cat retailer now c old new reply → Own old new
-answers_own cat retailer now c old new reply legal did = by_own cat retailer now c (command_fault cat now c) old new reply legal did
+pub answers_own : (cat : CatalogueView) (retailer now : ℕ) (o : Result order.Ordered Problem) (old new : DeskView) (reply : Reply) → IsLegal old.layout old.seen
+    → AnswersBy cat retailer now o old new reply → Own old new
+answers_own cat retailer now (Err p) old new reply legal did = (_, did.0)
+answers_own cat retailer now (Ok o) old new reply legal did = performs_own cat retailer now o old new reply legal did
 
 asked_own : (cat : CatalogueView) (now : ℕ) (asked : Result (RetailerNo × Command) Problem) (old new : DeskView) (reply : Reply) → IsLegal old.layout old.seen
     → AnswersAsked cat now asked old new reply → Own old new
-asked_own cat now (Ok a) old new reply legal did = answers_own cat a.0.0 now a.1 old new reply legal did.0
+asked_own cat now (Ok a) old new reply legal did = answers_own cat a.0.0 now (ordered cat now a.1) old new reply legal did.0
 asked_own cat now (Err p) old new reply legal did = (_, did.0)
 
 -- all that the desk does for a request is of its reply

@@ -1,5 +1,5 @@
 -- A request that there was no memory for changes no booking's fate.
-use Rattle.std.proofs.Common.{◌≡◌, ◌∙◌, ℕ, suc, zero, ◌+◌, Bool, true, false, List, [], ◌∷◌, ◌++◌, length, Option, Some, None, Ok, Err, refl, sym, ap, subst, inl, inr}
+use Rattle.std.proofs.Common.{◌≡◌, ◌∙◌, ℕ, suc, zero, Bool, true, false, List, [], ◌∷◌, ◌++◌, length, Option, Some, None, Ok, Err, refl, sym, ap, subst, inl, inr}
 use Rattle.std.specs.Prelude.{Result}
 use Rattle.leg_masks.specs.Interval.{Interval, pieces}
 use Rattle.leg_masks.specs.Interval.{PlacedSpan as Item}
@@ -44,7 +44,6 @@ use Rattle.osdm_texts.specs.declared.problem.Problem.{Problem}
 use Rattle.osdm_texts.specs.declared.problem.Problem.TheVariants.{UnknownBooking, NoMemory, RowsFull, WrongState, OfferTooOld, QuoteWrong}
 use Rattle.osdm_texts.specs.Answers.{Reply, problem}
 use Rattle.osdm_json.specs.declared.command.Command.{Command}
-use Rattle.osdm_json.specs.declared.command.Command.TheVariants as command
 use Rattle.refund_core.specs.Quotes.{SeesOwn, FindsBooking}
 use Rattle.rail_ids.specs.declared.RowNo.{RowNo}
 use Rattle.history_model.specs.declared.phase.Phase.{Phase}
@@ -57,9 +56,10 @@ use Rattle.reservation_service.proofs.Adding.{places_only}
 use Rattle.search_service.specs.Searching.{SearchesOffers, ListsPlaces}
 use Rattle.trade_service.specs.Refunds.{QuotesIt, RefundsIt, refund_reply}
 use Rattle.trade_service.specs.Exchanges.{QuotesExchangeOfIt, DecidesOrNot, lost_problem, CarriesOut, ExchangesIt, ready_of}
-use Rattle.service_rules.specs.Checks.{command_fault}
+use Rattle.service_rules.specs.Ordered as order
+use Rattle.service_rules.specs.Checks.{ordered}
 use Rattle.service_rules.specs.Performing.{Performs}
-use Rattle.service_rules.specs.Answering.{AnswersBy, Answers}
+use Rattle.service_rules.specs.Answering.{AnswersBy}
 use Rattle.rail_service.specs.Serving.{AnswersAsked, AnswersRequest}
 use Rattle.rail_service.specs.Sparing.{decides, MakesFor}
 use Rattle.rail_service.proofs.Owned.{Own, own_same, decides_own}
@@ -283,50 +283,36 @@ exchanges_it cat rows retailer x now old new reply (inl (readied.QuoteWrong, p, 
 exchanges_it cat rows retailer x now old new reply (inr (mid, (es, (same, (v, right, phase)), shape), goes)) =
     makes_then old mid new reply (es, saw x.row retailer v es right.sees, shape) (carries cat (ready_of retailer x now) mid new reply goes)
 
-performs : (cat : CatalogueView) (retailer now : ℕ) (c : Command) (old new : DeskView) (reply : Reply) → IsLegal old.layout old.seen
-    → Performs cat retailer now c old new reply → MakesFor old new reply
-performs cat retailer now (command.Offers trip adults children class wanted) old new reply legal did = searches cat _ now old new reply did
-performs cat retailer now (command.Book None together) old new reply legal did = absurd did
-performs cat retailer now (command.Book (Some code) together) old new reply legal did = reserves cat retailer now (offer_view code) together old new reply did
-performs cat retailer now (command.Reserve segment class count wanted together) old new reply legal did =
-    reserves cat retailer now (reserved segment class count wanted now) together old new reply did
-performs cat retailer now (command.Show None) old new reply legal did = absurd did
-performs cat retailer now (command.Show (Some row)) old new reply legal did =
+performs : (cat : CatalogueView) (retailer now : ℕ) (o : order.Ordered) (old new : DeskView) (reply : Reply) → IsLegal old.layout old.seen
+    → Performs cat retailer now o old new reply → MakesFor old new reply
+performs cat retailer now (order.offers wish) old new reply legal did = searches cat wish now old new reply did
+performs cat retailer now (order.book code together) old new reply legal did = reserves cat retailer now (offer_view code) together old new reply did
+performs cat retailer now (order.reserve r) old new reply legal did =
+    reserves cat retailer now (reserved r.segment r.class r.count r.traits now) r.together old new reply did
+performs cat retailer now (order.show row) old new reply legal did =
     on_booking (shows row) (λ v a b r l is. other a b r _ (own_same a b l is.0) is.1 refl) cat.rows row retailer old new reply did
-performs cat retailer now (command.Release None) old new reply legal did = absurd did
-performs cat retailer now (command.Release (Some row)) old new reply legal did =
+performs cat retailer now (order.release row) old new reply legal did =
     on_booking (ReleasesIt cat.rows row retailer now) (λ v a b r l is. other a b r _ (is.1.0, is.1.2) is.2 (release_told row now v is.0)) cat.rows row retailer old new reply did
-performs cat retailer now (command.Confirm None) old new reply legal did = absurd did
-performs cat retailer now (command.Confirm (Some row)) old new reply legal did =
+performs cat retailer now (order.confirm row) old new reply legal did =
     on_booking (ConfirmsIt cat.rows row retailer now) (λ v a b r l is. other a b r _ (is.1.0, is.1.2) is.2 (confirm_told row now v is.0)) cat.rows row retailer old new reply did
-performs cat retailer now (command.Fulfil None) old new reply legal did = absurd did
-performs cat retailer now (command.Fulfil (Some row)) old new reply legal did =
+performs cat retailer now (order.fulfil row) old new reply legal did =
     on_booking (FulfilsIt cat.rows row retailer) (λ v a b r l is. other a b r _ (is.1.0, is.1.2) is.2 (fulfil_told row v is.0)) cat.rows row retailer old new reply did
-performs cat retailer now (command.QuoteRefund None) old new reply legal did = absurd did
-performs cat retailer now (command.QuoteRefund (Some row)) old new reply legal did = quotes cat cat.rows row retailer now old new reply did
-performs cat retailer now (command.AcceptRefund row None) old new reply legal did = absurd did
-performs cat retailer now (command.AcceptRefund row (Some code)) old new reply legal did =
+performs cat retailer now (order.quote_refund row) old new reply legal did = quotes cat cat.rows row retailer now old new reply did
+performs cat retailer now (order.accept_refund code) old new reply legal did =
     on_booking (RefundsIt cat cat.rows retailer code now) (λ v a b r l is. other a b r _ (is.1.0, is.1.2) is.2 (refund_told code now v is.0)) cat.rows code.row retailer old new reply did
-performs cat retailer now (command.QuoteExchange None offer) old new reply legal did = absurd did
-performs cat retailer now (command.QuoteExchange (Some row) None) old new reply legal did = absurd did
-performs cat retailer now (command.QuoteExchange (Some row) (Some offer)) old new reply legal did = quotes_exchange cat cat.rows row retailer (offer_view offer) now old new reply did
-performs cat retailer now (command.AcceptExchange row None) old new reply legal did = absurd did
-performs cat retailer now (command.AcceptExchange row (Some code)) old new reply legal did = exchanges_it cat cat.rows retailer (exchange_view code) now old new reply did
-performs cat retailer now (command.Places segment) old new reply legal did = lists cat segment old new reply legal did
-performs cat retailer now command.Sweep old new reply legal did = other old new reply _ (did.1.0, did.1.2) did.2 refl
+performs cat retailer now (order.quote_exchange row code) old new reply legal did = quotes_exchange cat cat.rows row retailer (offer_view code) now old new reply did
+performs cat retailer now (order.accept_exchange code) old new reply legal did = exchanges_it cat cat.rows retailer (exchange_view code) now old new reply did
+performs cat retailer now (order.places segment) old new reply legal did = lists cat segment old new reply legal did
+performs cat retailer now order.sweep old new reply legal did = other old new reply _ (did.1.0, did.1.2) did.2 refl
 
-by_fault : (cat : CatalogueView) (retailer now : ℕ) (c : Command) (fault : Option Problem) (old new : DeskView) (reply : Reply) → IsLegal old.layout old.seen
-    → AnswersBy cat retailer now c fault old new reply → MakesFor old new reply
-by_fault cat retailer now c (Some p) old new reply legal did = spared old new reply ([], tt, did.0)
-by_fault cat retailer now c None old new reply legal did = performs cat retailer now c old new reply legal did
-
-pub answers_make : (cat : CatalogueView) (retailer now : ℕ) (c : Command) (old new : DeskView) (reply : Reply) → IsLegal old.layout old.seen
-    → Answers cat retailer now c old new reply → MakesFor old new reply
-answers_make cat retailer now c old new reply legal did = by_fault cat retailer now c (command_fault cat now c) old new reply legal did
+pub answers_make : (cat : CatalogueView) (retailer now : ℕ) (o : Result order.Ordered Problem) (old new : DeskView) (reply : Reply) → IsLegal old.layout old.seen
+    → AnswersBy cat retailer now o old new reply → MakesFor old new reply
+answers_make cat retailer now (Err p) old new reply legal did = spared old new reply ([], tt, did.0)
+answers_make cat retailer now (Ok o) old new reply legal did = performs cat retailer now o old new reply legal did
 
 asked_makes : (cat : CatalogueView) (now : ℕ) (asked : Result (RetailerNo × Command) Problem) (old new : DeskView) (reply : Reply) → IsLegal old.layout old.seen
     → AnswersAsked cat now asked old new reply → MakesFor old new reply
-asked_makes cat now (Ok a) old new reply legal did = answers_make cat a.0.0 now a.1 old new reply legal did.0
+asked_makes cat now (Ok a) old new reply legal did = answers_make cat a.0.0 now (ordered cat now a.1) old new reply legal did.0
 asked_makes cat now (Err p) old new reply legal did = spared old new reply ([], tt, did.0)
 
 -- the steps of a request's reply

@@ -12,6 +12,7 @@ use Rattle.osdm_texts.specs.declared.problem.Problem.TheVariants as refused
 use Rattle.osdm_texts.specs.Answers.{Reply, problem}
 use Rattle.rail_service.specs.Bytes.{reply_bytes}
 use Rattle.osdm_json.specs.declared.command.Command.{Command}
+use Rattle.service_rules.specs.Checks.{ordered}
 use Rattle.plain_host.specs.Plain.{Plain}
 use Rattle.plain_host.specs.Outcomes.{outcome_of}
 use Rattle.plain_host.specs.PlainOf.{plain_of}
@@ -34,7 +35,7 @@ plain_view s = record { plain = plain_of s.desk; first = s.first; clock = s.cloc
 abbrev pub IsOutcome : CatalogueView → ℕ → RetailerNo × Command → Plain → Reply → Plain → Type 0
 IsOutcome cat now a before reply after =
     (let o = outcome_of cat a.0.0 now a.1 before in (reply ≡ o.reply) × (after ≡ o.plain))
-    ⊎ ((reply ≡ problem refused.NoMemory) × MayKeep cat.rows a.1 before after)
+    ⊎ ((reply ≡ problem refused.NoMemory) × MayKeep cat.rows (ordered cat now a.1) before after)
 
 -- what was asked is answered so; a refusal leaves the list as it was
 abbrev pub AnswersPlain : CatalogueView → ℕ → Result (RetailerNo × Command) Problem → Plain → Reply → Plain → Type 0

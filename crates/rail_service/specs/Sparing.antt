@@ -4,7 +4,7 @@ use Rattle.history_model.specs.declared.entry.Step.{Step}
 use Rattle.history_model.specs.declared.entry.Step.TheVariants.{Seal, Turn, Close}
 use Rattle.history_model.specs.Work.{NoStep}
 use Rattle.claim_rule.specs.Rule.{DeskView}
-use Rattle.claim_rule.specs.Seats.{Shape}
+use Rattle.claim_rule.specs.Desks.{Shape}
 use Rattle.osdm_texts.specs.declared.problem.Problem.TheVariants.{NoMemory}
 use Rattle.osdm_texts.specs.Answers.{Reply, problem}
 

@@ -4,16 +4,15 @@ ghost use Rattle.http_wire.specs.Pieces.{request_text, ArePiecesWithin};
 ghost use Rattle.osdm_json.specs.Readable.{IsReadable};
 ghost use Rattle.rail_service.specs.Paths.{all_rows};
 ghost use Rattle.rail_service.specs.Routes.{FindsRoute};
-ghost use Rattle.rail_service.specs.Serving.{retailer_of as retailer_in, first_after as first_then, admitted, ReadsAs, AsksFor};
+ghost use Rattle.rail_service.specs.Serving.{retailer_of as retailer_in, first_after as first_then, admitted as admitted_of, ReadsAs, AsksAdmitted};
 
 use crate::resource::Resource;
 use crate::routing::find_route;
 use http_wire::{Intake, Request};
 use matchit::Router;
-use osdm_json::{Command, Problem, Route, read_command};
+use osdm_json::{BodyRoom, Command, Problem, Route, read_command_in};
 use rail_catalogue::Catalogue;
 use rail_ids::RetailerNo;
-use std::alloc::Global;
 
 /// The retailer of the request's key, if the catalogue has it.
 pub fn retailer_of(cat: &Catalogue, intake: &Intake, request: &Request) -> Option<RetailerNo>
@@ -35,8 +34,8 @@ pub fn first_after(first: Option<RetailerNo>, retailer: Option<RetailerNo>) -> O
 }
 
 /// Whether the retailer of a key may ask on a connection with this first one.
-fn admit(first: Option<RetailerNo>, retailer: Option<RetailerNo>) -> Result<RetailerNo, Problem>
-    ensures value { result ≡ admitted first retailer }
+pub fn admit(first: Option<RetailerNo>, retailer: Option<RetailerNo>) -> Result<RetailerNo, Problem>
+    ensures value { result ≡ admitted_of first retailer }
 {
     match (retailer, first) {
         (None, _) => Err(Problem::NoRetailer),
@@ -46,36 +45,44 @@ fn admit(first: Option<RetailerNo>, retailer: Option<RetailerNo>) -> Result<Reta
 }
 
 /// The command that the route asks with this body.
-fn read(alloc: Global, cat: &Catalogue, route: Route<'_>, body: &[u8]) -> Result<Command, Problem>
+fn read(
+    room: &mut BodyRoom,
+    cat: &Catalogue,
+    route: Route<'_>,
+    body: &[u8],
+) -> Result<Command, Problem>
     ensures reads { ReadsAs cat.now route.entry body.now result }
     ensures readable { IfOk result (λ c. IsReadable cat.now c) }
 {
-    match read_command(alloc, cat, route, body) {
+    match read_command_in(room, cat, route, body) {
         Ok(command) => Ok(command),
         Err(fault) => Err(fault.problem()),
     }
 }
 
-/// What a request asks for: a retailer's command, or why it asks for none. No memory is taken before a body is read.
+/// What a request asks for, where its retailer may ask: a retailer's command, or why it asks for none. No memory is taken
+/// before a body is read.
 pub fn asked(
-    alloc: Global,
+    room: &mut BodyRoom,
     cat: &Catalogue,
     router: &Router<Resource>,
-    first: Option<RetailerNo>,
+    admitted: Result<RetailerNo, Problem>,
     intake: &Intake,
     request: &Request,
 ) -> Result<(RetailerNo, Command), Problem>
     requires rows { router.now ≡ all_rows }
     requires given { ArePiecesWithin (length intake.now.taken) request.now }
-    ensures asks { AsksFor cat.now first (request_text intake.now.taken request.now) result }
+    ensures asks { AsksAdmitted cat.now (request_text intake.now.taken request.now) admitted result }
     ensures readable { IfOk result (λ a. IsReadable cat.now a.1) }
 {
-    let retailer = admit(first, retailer_of(cat, intake, request))?;
+    let retailer = admitted?;
     let route = find_route(
         router,
         intake.part(request.method),
         intake.part(request.path),
     )?;
-    let command = read(alloc, cat, route, intake.part(request.body))?;
-    Ok((retailer, command))
+    match read(room, cat, route, intake.part(request.body)) {
+        Ok(command) => Ok((retailer, command)),
+        Err(problem) => Err(problem),
+    }
 }

@@ -4,7 +4,7 @@ ghost use Rattle.rail_io.specs.Faults.{Rose};
 ghost use Rattle.rail_io.specs.Told.{with_front, with_end};
 ghost use Rattle.session_loop.specs.declared.end.ConnEnd.TheVariants.{ReadFault, WriteFault};
 ghost use Rattle.rail_catalogue.specs.Contents.{legs_in};
-ghost use Rattle.claim_rule.specs.Seats.{IsOf};
+ghost use Rattle.claim_rule.specs.Desks.{IsOf};
 ghost use Rattle.claim_rule.specs.Out.{IsIdle, IsTidy};
 ghost use Rattle.lone_desk.specs.Lone.{IsAlone};
 ghost use Rattle.rail_service.specs.Connections.{IsServed, ServesWhole, connection_at};
@@ -16,6 +16,7 @@ use crate::resource::start_router;
 use crate::service::Service;
 use claim_rule::{Books, Desk};
 use http_wire::Intake;
+use osdm_json::BodyRoom;
 use rail_catalogue::Catalogue;
 use rail_io::{Clock, Sink, Source};
 use session_loop::{ConnEnd, run_session};
@@ -98,6 +99,7 @@ pub fn serve_connection<S: Source, K: Sink, C: Clock>(
     let Ok(router) = start_router(alloc) else {
         return ConnEnd::NoMemory;
     };
+    let mut room = BodyRoom::new(alloc);
     let mut service = Service {
         alloc,
         cat,
@@ -105,6 +107,7 @@ pub fn serve_connection<S: Source, K: Sink, C: Clock>(
         router: &router,
         desk,
         clock,
+        room: &mut room,
         first: None,
     };
     serve(&mut intake, source, sink, &mut service)

@@ -16,7 +16,6 @@ mod refusal;
 mod resource;
 mod routing;
 mod service;
-mod trading;
 mod waiting;
 
 pub use connection::serve_connection;

@@ -1,12 +1,13 @@
 //! The service as it answers the requests of one connection.
 use crate::answering::problem_answer;
-use crate::asking::{asked, first_after, retailer_of};
+use crate::asking::{admit, asked, first_after, retailer_of};
 use crate::performing::perform;
 use crate::refusal::refusal_of;
 use crate::resource::Resource;
 use claim_rule::{Books, Desk};
 use http_wire::{Answer, Intake, Request, WireFault};
 use matchit::Router;
+use osdm_json::BodyRoom;
 use rail_catalogue::Catalogue;
 use rail_ids::RetailerNo;
 use rail_io::Clock;
@@ -22,6 +23,8 @@ pub struct Service<'s, 'd, 'k, C> {
     pub router: &'s Router<Resource>,
     pub desk: &'d mut Desk,
     pub clock: &'k mut C,
+    /// Memory for the reading of bodies, kept from request to request.
+    pub room: &'d mut BodyRoom,
     /// The retailer of the connection's first known key.
     pub first: Option<RetailerNo>,
 }
@@ -38,15 +41,10 @@ impl<C: Clock> Responder for Service<'_, '_, '_, C> {
 
     fn answer(&mut self, intake: &Intake, request: &Request, last: bool) -> Answer {
         let now = self.clock.now();
-        let asking = asked(
-            self.alloc,
-            self.cat,
-            self.router,
-            self.first,
-            intake,
-            request,
-        );
-        self.first = first_after(self.first, retailer_of(self.cat, intake, request));
+        let retailer = retailer_of(self.cat, intake, request);
+        let admitted = admit(self.first, retailer);
+        let asking = asked(self.room, self.cat, self.router, admitted, intake, request);
+        self.first = first_after(self.first, retailer);
         match asking {
             Ok((retailer, command)) => perform(
                 self.alloc, self.cat, self.books, self.desk, retailer, &command, now, last,

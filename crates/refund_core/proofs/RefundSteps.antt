@@ -10,7 +10,7 @@ use Rattle.history_model.specs.declared.phase.EndKind.TheVariants.{Refund}
 use Rattle.history_model.specs.declared.entry.Step.{Step}
 use Rattle.history_model.specs.Phase.{is_turn}
 use Rattle.claim_rule.specs.Rule.{DeskView}
-use Rattle.claim_rule.specs.Seats.{AddsAtMost, CanTurn}
+use Rattle.claim_rule.specs.Desks.{AddsAtMost, CanTurn}
 use Rattle.claim_rule.specs.Calls.{ShapeBy}
 use Rattle.claim_rule.proofs.Shapes.{shape_then, adds_length}
 use Rattle.booking_rows.specs.declared.turns.Aim.TheVariants as aim

@@ -6,6 +6,7 @@ use Rattle.history_model.specs.declared.phase.Phase.TheVariants.{Confirmed, Fulf
 use Rattle.rail_ids.specs.declared.RowNo.{RowNo}
 use Rattle.booking_rows.specs.Views.{RowSeen, LooksRow}
 use Rattle.rail_catalogue.specs.Contents.{CatalogueView, least_departure}
+use Rattle.offer_codes.specs.Offers.{valid_seconds}
 use Rattle.tariff.specs.Refunds.{refund_of}
 
 -- this booking of the retailer was seen
@@ -27,13 +28,9 @@ FindsBooking rows row retailer (Some v) es = (row.row < rows) × SeesOwn row ret
 abbrev pub phase_named : Bool → Phase
 phase_named fulfilled = if fulfilled then Fulfilled else Confirmed
 
--- for how many seconds a quote stands
-abbrev pub quote_seconds : ℕ
-quote_seconds = 900
-
 -- made after now, or too long before
 abbrev pub is_stale : ℕ → ℕ → Bool
-is_stale made now = nat_lt now made || nat_lt quote_seconds (now - made)
+is_stale made now = nat_lt now made || nat_lt valid_seconds (now - made)
 
 -- what the booking is worth at this moment, in the phase named: by its total and the seconds to its least departure, 0 where that has passed
 abbrev pub refund_at : CatalogueView → RowSeen → ℕ → Bool → ℕ

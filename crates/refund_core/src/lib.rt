@@ -11,9 +11,7 @@ mod quoting;
 mod refunding;
 mod releasing;
 
-pub use quotes::{
-    QUOTE_SECONDS, find_booking, is_collected, is_named, is_stale, phase_named, refund_at,
-};
+pub use quotes::{find_booking, is_collected, is_named, is_stale, phase_named, refund_at};
 pub use quoting::{Quoted, quote_refund};
 pub use refunding::{Refunded, accept_refund};
 pub use releasing::{Released, release};

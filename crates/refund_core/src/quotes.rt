@@ -3,22 +3,21 @@ ghost use Rattle.std.specs.Prelude.{◌≡◌, ◌≢◌, ◌<◌, ◌≤◌, �
 ghost use Rattle.history_model.specs.declared.phase.Phase.TheVariants.{Confirmed, Fulfilled};
 ghost use Rattle.history_model.specs.Booking.{most_items, most_rows, greatest_amount};
 ghost use Rattle.rail_ids.specs.Spelling.{last_generation};
-ghost use Rattle.claim_rule.specs.Seats.{IsOf, AddsAtMost};
+ghost use Rattle.claim_rule.specs.Desks.{IsOf, AddsAtMost};
 ghost use Rattle.claim_rule.specs.Calls.{ShapeBy};
 ghost use Rattle.claim_rule.specs.Out.{KeepsHolds, KeepsEndings};
 ghost use Rattle.booking_rows.specs.SealedRows.{IsSealedRow};
+ghost use Rattle.booking_rows.specs.Views.{other_looks};
 ghost use Rattle.refund_core.specs.Quotes.{FindsBooking, phase_named as phase_named_of, is_stale as is_stale_at, refund_at as worth_at};
 
 use booking_rows::{RowView, look_row};
 use claim_rule::{Books, Desk};
 use history_model::phase::Phase;
+use offer_codes::VALID_SECONDS;
 use rail_catalogue::Catalogue;
 use rail_ids::{RetailerNo, RowNo};
 use rail_time::Moment;
 use tariff::refund_value;
-
-/// For how many seconds a quote stands.
-pub const QUOTE_SECONDS: u64 = 900;
 
 /// This retailer's booking, as looks at its row show it. `None` exactly where the row is past the last, the first look shows the booking
 /// free or in the making, the last one free, or its retailer is another.
@@ -37,7 +36,7 @@ pub fn find_booking(
     ensures total { IfSome result (λ v. v.total ≤ greatest_amount) }
     ensures holds { KeepsHolds desk.old desk.new }
     ensures endings { KeepsEndings desk.old desk.new }
-    ensures bound { AddsAtMost (most_items + 9) desk.old desk.new }
+    ensures bound { AddsAtMost (most_items + other_looks) desk.old desk.new }
 {
     if row.row >= books.rows() {
         return None;
@@ -85,7 +84,7 @@ pub fn is_stale(made: Moment, now: Moment) -> bool
 {
     let made = made.seconds();
     let now = now.seconds();
-    made > now || now - made > QUOTE_SECONDS
+    made > now || now - made > u64::from(VALID_SECONDS)
 }
 
 /// What a booking is worth at a moment, in minor units, where its ticket is then collected or not: by its total, and by the seconds from

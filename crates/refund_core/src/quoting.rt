@@ -1,10 +1,11 @@
 //! Quoting a refund (OSDM's refund offer).
 ghost use Rattle.std.specs.Prelude.{◌≡◌, ◌+◌, true};
 ghost use Rattle.history_model.specs.Booking.{most_items};
-ghost use Rattle.claim_rule.specs.Seats.{IsOf, AddsAtMost};
+ghost use Rattle.claim_rule.specs.Desks.{IsOf, AddsAtMost};
 ghost use Rattle.claim_rule.specs.Calls.{ShapeBy};
 ghost use Rattle.claim_rule.specs.Out.{KeepsHolds, KeepsEndings};
 ghost use Rattle.offer_codes.specs.Refunds.{is_refund};
+ghost use Rattle.booking_rows.specs.Views.{other_looks};
 ghost use Rattle.refund_core.specs.Refunding.{QuotesRefund, IfQuoted};
 
 use crate::quotes::{find_booking, is_collected, refund_at};
@@ -43,7 +44,7 @@ pub fn quote_refund(
     ensures range { IfQuoted result (λ code. is_refund code ≡ true) }
     ensures holds { KeepsHolds desk.old desk.new }
     ensures endings { KeepsEndings desk.old desk.new }
-    ensures bound { AddsAtMost (most_items + 9) desk.old desk.new }
+    ensures bound { AddsAtMost (most_items + other_looks) desk.old desk.new }
 {
     let Some(view) = find_booking(books, desk, row, retailer) else {
         return Quoted::Unknown;

@@ -7,7 +7,7 @@ use Rattle.history_model.specs.declared.entry.Step.TheVariants.{SawRow, Start}
 use Rattle.history_model.specs.Work.{NoStep}
 use Rattle.history_model.proofs.ListLemmas.{All-append}
 use Rattle.claim_rule.specs.Rule.{BooksView, DeskView}
-use Rattle.claim_rule.specs.Seats.{IsOf}
+use Rattle.claim_rule.specs.Desks.{IsOf}
 use Rattle.claim_rule.specs.Calls.{ShapeBy}
 use Rattle.claim_rule.specs.Out.{exchanges, IsIdle, IsTidy}
 use Rattle.claim_rule.proofs.Out.{tidy_through, settled_calm}

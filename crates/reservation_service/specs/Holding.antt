@@ -10,7 +10,7 @@ use Rattle.offer_codes.specs.Offers.{OfferView}
 use Rattle.rail_catalogue.specs.Contents.{CatalogueView}
 use Rattle.history_model.specs.Lists.{Pairwise}
 use Rattle.claim_rule.specs.Rule.{DeskView}
-use Rattle.claim_rule.specs.Seats.{Shape}
+use Rattle.claim_rule.specs.Desks.{Shape}
 use Rattle.claim_rule.specs.Calls.{ShapeBy}
 use Rattle.booking_rows.specs.Starts.{StartsHold}
 use Rattle.hold_core.specs.declared.adds.Added.{Added}

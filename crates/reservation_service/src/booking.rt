@@ -7,7 +7,7 @@ ghost use Rattle.offer_engine.specs.Codes.{is_of_runs};
 ghost use Rattle.history_model.specs.Booking.{greatest_amount, most_items};
 ghost use Rattle.history_model.specs.declared.phase.Phase.TheVariants as phase;
 ghost use Rattle.leg_masks.specs.Interval.{PlacedSpan};
-ghost use Rattle.claim_rule.specs.Seats.{IsOf};
+ghost use Rattle.claim_rule.specs.Desks.{IsOf};
 ghost use Rattle.claim_rule.specs.Out.{IsHolding, HasNotedItems, HoldsNone, IsIdle, IsTidy, KeepsEndings};
 ghost use Rattle.osdm_texts.specs.Answers.{Reply as Replied, created, reply_told, told_of};
 ghost use Rattle.osdm_texts.specs.Bookings.{HasIds};

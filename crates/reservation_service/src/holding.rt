@@ -6,7 +6,7 @@ ghost use Rattle.offer_codes.specs.Offers.{is_party, offer_view};
 ghost use Rattle.rail_catalogue.specs.Contents.{legs_in};
 ghost use Rattle.offer_engine.specs.Codes.{is_of_runs};
 ghost use Rattle.history_model.specs.Booking.{most_items};
-ghost use Rattle.claim_rule.specs.Seats.{IsOf};
+ghost use Rattle.claim_rule.specs.Desks.{IsOf};
 ghost use Rattle.claim_rule.specs.Out.{IsHolding, HasNotedItems, HoldsNone, KeepsEndings};
 ghost use Rattle.reservation_service.specs.Holding.{PlacesAll, HoldsPlaces, FindsNoRow, items_wanted, placing_of as placing_of_added, placing_of_party as placing_of_party_added, problem_of};
 

@@ -11,7 +11,7 @@ use Rattle.history_model.specs.Allowed.{TurnsWith}
 use Rattle.history_model.specs.History.{IsLegal, state_of}
 use Rattle.history_model.proofs.Keeping.{found}
 use Rattle.claim_rule.specs.Rule.{DeskView, OnBooking}
-use Rattle.claim_rule.specs.Seats.{Shape, CanTurn, AddsAtMost}
+use Rattle.claim_rule.specs.Desks.{Shape, CanTurn, AddsAtMost}
 use Rattle.claim_rule.specs.Calls.{Calls, ShapeBy}
 use Rattle.claim_rule.proofs.Shapes.{shape_then, shape_none, adds_length}
 use Rattle.booking_rows.specs.SealedRows.{IsSealedRow}

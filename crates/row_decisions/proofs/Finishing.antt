@@ -10,7 +10,7 @@ use Rattle.history_model.specs.declared.phase.Phase.TheVariants.{Ending}
 use Rattle.history_model.specs.Booking.{most_items}
 use Rattle.history_model.specs.History.{IsLegal}
 use Rattle.claim_rule.specs.Rule.{DeskView}
-use Rattle.claim_rule.specs.Seats.{Shape}
+use Rattle.claim_rule.specs.Desks.{Shape}
 use Rattle.claim_rule.specs.Calls.{ShapeBy}
 use Rattle.claim_rule.specs.Holds.{held}
 use Rattle.claim_rule.specs.Endings.{EndingView, given_front, items_read, item_looks}
@@ -21,7 +21,7 @@ use Rattle.claim_rule.proofs.Shapes.{shape_then}
 use Rattle.rail_ids.specs.declared.RowNo.{RowNo}
 use Rattle.booking_rows.specs.declared.turns.Aim.{Aim}
 use Rattle.booking_rows.specs.declared.turns.Turned.TheVariants as turned
-use Rattle.booking_rows.specs.Aims.{aimed, end_of, turn_of, turn_step, fresh_ending, Turns}
+use Rattle.booking_rows.specs.Aims.{aimed, end_of, turn_of, end_turn, fresh_ending, Turns}
 use Rattle.booking_rows.specs.Ends.{IsEndedAs}
 use Rattle.row_decisions.specs.Ends.{ends_as}
 
@@ -61,7 +61,7 @@ ended a b c row from aim e kind to is few wanted did rest =
     let last : Shape b c (ending_steps row.row kind (end_of aim) e.items) = subst (λ (x : EndKind). Shape b c (ending_steps row.row x (end_of aim) e.items)) same (subst (λ (x : EndingView). Shape b c (ending_steps x.row.row e.kind x.end e.items)) is rest) in
     let first : Shape a b (turn_of row.row from aim ∷ items_read row.row e.items) = subst (Shape a b) did.1 did.2 in
     let whole : Shape a c (turn_of row.row from aim ∷ items_read row.row e.items ++ ending_steps row.row kind (end_of aim) e.items) = shape_then a b c (turn_of row.row from aim ∷ items_read row.row e.items) (ending_steps row.row kind (end_of aim) e.items) first last in
-    (ends_as row.row from kind (end_of aim) e.items, (e.items, few, refl), subst (λ (p : Phase). Shape a c (turn_step row.row from p (end_of aim) ∷ items_read row.row e.items ++ ending_steps row.row kind (end_of aim) e.items)) wanted whole)
+    (ends_as row.row from kind (end_of aim) e.items, (e.items, few, refl), subst (λ (p : Phase). Shape a c (end_turn row.row from p (end_of aim) ∷ items_read row.row e.items ++ ending_steps row.row kind (end_of aim) e.items)) wanted whole)
 
 -- how many steps an end has
 

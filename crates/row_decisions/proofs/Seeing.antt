@@ -12,7 +12,7 @@ use Rattle.history_model.proofs.Generations.{key_present}
 use Rattle.history_model.proofs.Keeping.{found}
 use Rattle.history_model.proofs.Ranges.{all_found}
 use Rattle.claim_rule.specs.Rule.{DeskView, state_seen}
-use Rattle.claim_rule.specs.Seats.{Stepped, Shape}
+use Rattle.claim_rule.specs.Desks.{Stepped, Shape}
 use Rattle.claim_rule.specs.Out.{KeepsHolds, KeepsEndings}
 use Rattle.claim_rule.proofs.Moves.{is_sound}
 use Rattle.claim_rule.proofs.Shapes.{step_shape}

@@ -11,11 +11,11 @@ use Rattle.claim_rule.specs.Endings.{items_read}
 use Rattle.claim_rule.specs.EndSteps.{ending_steps}
 use Rattle.rail_ids.specs.declared.RowNo.{RowNo}
 use Rattle.booking_rows.specs.declared.turns.Aim.{Aim}
-use Rattle.booking_rows.specs.Aims.{turn_step, end_of, LosesTurn}
+use Rattle.booking_rows.specs.Aims.{end_turn, end_of, LosesTurn}
 
 -- the turn; the items are read and given back; the end is noted, and the row closed
 abbrev pub ends_as : ℕ → Phase → EndKind → End → List Item → List Step
-ends_as row from kind end items = turn_step row from (Ending kind) end ∷ items_read row items ++ ending_steps row kind end items
+ends_as row from kind end items = end_turn row from (Ending kind) end ∷ items_read row items ++ ending_steps row kind end items
 
 -- the steps of ending a booking, by the phase that its row showed it where another turn had decided
 abbrev pub EndsBooking : RowNo → Phase → EndKind → Aim → Option Phase → List Step → Type 0

@@ -5,7 +5,7 @@ use Rattle.history_model.specs.declared.entry.Step.TheVariants.{SawRow}
 use Rattle.history_model.specs.declared.phase.Phase.{Phase}
 use Rattle.history_model.specs.declared.phase.Phase.TheVariants.{Free}
 use Rattle.history_model.specs.Phase.{is_sealed, phase_shown}
-use Rattle.history_model.specs.Booking.{limit_of, word_at}
+use Rattle.history_model.specs.Booking.{limit_of, word_at, standing_word, retailer_word, limit_word}
 use Rattle.rail_ids.specs.declared.RowNo.{RowNo}
 use Rattle.claim_rule.specs.Rule.{DeskView, OnBooking, state_seen}
 use Rattle.booking_rows.specs.Aims.{LosesTurn}
@@ -13,7 +13,7 @@ use Rattle.booking_rows.specs.Views.{saw_phase}
 
 -- one look at word 0 of its row, which shows the booking this phase
 abbrev pub SawPhase : RowNo → Phase → List Step → Type 0
-SawPhase row phase es = (n : ℕ) × (phase_shown row.generation n ≡ phase) × (es ≡ SawRow row.row 0 n ∷ [])
+SawPhase row phase es = (n : ℕ) × (phase_shown row.generation n ≡ phase) × (es ≡ SawRow row.row standing_word n ∷ [])
 
 -- the word shows that the row wasn't given away
 abbrev pub IsKept : RowNo → ℕ → Type 0
@@ -21,11 +21,13 @@ IsKept row last = phase_shown row.generation last ≢ Free
 
 -- the looks at a booking that the first shows sealed: at its retailer; and at its limit too. The last one is at word 0 again
 abbrev pub saw_owner : RowNo → Phase → ℕ → ℕ → List Step
-saw_owner row phase retailer last = saw_phase row phase ∷ SawRow row.row 1 retailer ∷ SawRow row.row 0 last ∷ []
+saw_owner row phase retailer last =
+    saw_phase row phase ∷ SawRow row.row retailer_word retailer ∷ SawRow row.row standing_word last ∷ []
 
 abbrev pub saw_terms : RowNo → Phase → ℕ → ℕ → ℕ → List Step
 saw_terms row phase retailer limit last =
-    saw_phase row phase ∷ SawRow row.row 1 retailer ∷ SawRow row.row 2 limit ∷ SawRow row.row 0 last ∷ []
+    saw_phase row phase ∷ SawRow row.row retailer_word retailer ∷ SawRow row.row limit_word limit
+    ∷ SawRow row.row standing_word last ∷ []
 
 -- in what the desk has seen the number is a word of the booking; and the booking is sealed, with this limit
 abbrev pub HasWordAt : DeskView → RowNo → ℕ → ℕ → Type 0

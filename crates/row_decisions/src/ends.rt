@@ -3,7 +3,7 @@ ghost use Rattle.std.specs.Prelude.{◌≡◌, true, IfNone};
 ghost use Rattle.history_model.specs.Booking.{most_items};
 ghost use Rattle.history_model.specs.declared.phase.EndKind.{EndKind};
 ghost use Rattle.history_model.specs.declared.phase.Phase.TheVariants.{Ending as IsEndingPhase};
-ghost use Rattle.claim_rule.specs.Seats.{IsOf, Shape};
+ghost use Rattle.claim_rule.specs.Desks.{IsOf, Shape};
 ghost use Rattle.claim_rule.specs.Calls.{ShapeBy};
 ghost use Rattle.claim_rule.specs.EndSteps.{ending_steps};
 ghost use Rattle.claim_rule.specs.Out.{IsEnding, EndsNone, KeepsHolds};

@@ -1,11 +1,11 @@
 //! Looks at single words of a booking's row.
 ghost use Rattle.std.specs.Prelude.{◌≡◌, ◌≢◌, ◌<◌, true, [], ◌∷◌, IfSome};
 ghost use Rattle.history_model.specs.Phase.{is_sealed as sealed_phase};
-ghost use Rattle.history_model.specs.Booking.{row_words};
+ghost use Rattle.history_model.specs.Booking.{row_words, standing_word};
 ghost use Rattle.history_model.specs.declared.entry.Step.TheVariants.{SawRow};
 ghost use Rattle.history_model.specs.declared.phase.Phase.{Phase as PhaseShown};
 ghost use Rattle.history_model.specs.declared.phase.Phase.TheVariants.{Free};
-ghost use Rattle.claim_rule.specs.Seats.{IsOf, Shape};
+ghost use Rattle.claim_rule.specs.Desks.{IsOf, Shape};
 ghost use Rattle.claim_rule.specs.Calls.{ShapeBy};
 ghost use Rattle.claim_rule.specs.Out.{KeepsHolds, KeepsEndings};
 ghost use Rattle.booking_rows.specs.Views.{saw_phase};
@@ -13,6 +13,7 @@ ghost use Rattle.booking_rows.specs.SealedRows.{IsSealedRow, IsSealedSince, IsSt
 ghost use Rattle.row_decisions.specs.Looks.{SawPhase, HasWordAt, FindsOwned};
 
 use claim_rule::{Books, Desk};
+use history_model::booking::{RETAILER_WORD, STANDING_WORD};
 use history_model::phase::{Phase, phase_shown};
 use rail_ids::{RetailerNo, RowNo};
 
@@ -35,14 +36,14 @@ pub fn look_phase(books: &Books, desk: &mut Desk, row: RowNo) -> Phase
     ensures holds { KeepsHolds desk.old desk.new }
     ensures endings { KeepsEndings desk.old desk.new }
 {
-    phase_shown(books.step_read(desk, row, 0), row.generation)
+    phase_shown(books.step_read(desk, row, STANDING_WORD), row.generation)
 }
 
 /// One look at a word of a sealed booking's row. It is the booking's where its row was not given away.
 pub fn look_word(books: &Books, desk: &mut Desk, row: RowNo, word: u8) -> u64
     requires own { IsOf books.now desk.old }
     requires row { (row.row < books.now.layout.rows) × (word < row_words) }
-    requires word { 0 < word }
+    requires word { standing_word < word }
     requires sealed { IsSealedRow desk.old row }
     ensures own { IsOf books.now desk.new }
     ensures entries { Shape desk.old desk.new (SawRow row.row word result ∷ []) }
@@ -71,7 +72,7 @@ pub fn find_owned(books: &Books, desk: &mut Desk, row: RowNo, retailer: Retailer
     if !is_sealed(shown) {
         return None;
     }
-    let owner = look_word(books, desk, row, 1);
+    let owner = look_word(books, desk, row, RETAILER_WORD);
     let last = look_phase(books, desk, row);
     if let Phase::Free = last {
         return None;

@@ -2,7 +2,7 @@
 ghost use Rattle.std.specs.Prelude.{◌≡◌, ◌+◌, IfSome, [], length, min};
 ghost use Rattle.rail_time.specs.Moments.{last_second};
 ghost use Rattle.rail_catalogue.specs.Contents.{legs_in};
-ghost use Rattle.claim_rule.specs.Seats.{IsOf, IsNew};
+ghost use Rattle.claim_rule.specs.Desks.{IsOf, IsNew};
 ghost use Rattle.claim_rule.specs.Out.{IsIdle, IsTidy};
 
 use claim_rule::{Books, Desk, start_books};

@@ -1,4 +1,4 @@
--- Searching for offers and for free places, sweeping, and what is answered.
+-- Searching for offers and for free places, and what is answered.
 use Rattle.std.specs.Prelude.{◌≡◌, ◌⊎◌, ℕ, ◌==◌, Bool, List}
 use Rattle.rail_ids.specs.declared.PlaceNo.{PlaceNo}
 use Rattle.place_map.specs.Candidates.{numbers_of}
@@ -8,12 +8,10 @@ use Rattle.rail_catalogue.specs.Contents.{CatalogueView}
 use Rattle.offer_engine.specs.declared.wish.OfferWish.{OfferWish}
 use Rattle.offer_engine.specs.Offers.{MakesOffers, BeginsMaking}
 use Rattle.availability.specs.Looks.{LooksAt}
-use Rattle.expiry_sweeper.specs.declared.sweeps.Swept.{Swept}
-use Rattle.expiry_sweeper.specs.AllRows.{Sweeps}
 use Rattle.claim_rule.specs.Rule.{DeskView}
 use Rattle.claim_rule.specs.Calls.{ShapeBy}
 use Rattle.osdm_texts.specs.declared.problem.Problem.TheVariants.{NoMemory}
-use Rattle.osdm_texts.specs.Answers.{Reply, offer_list, place_list, swept, problem}
+use Rattle.osdm_texts.specs.Answers.{Reply, offer_list, place_list, problem}
 
 -- told, or without memory for the answer
 abbrev pub ToldOr : Reply → Reply → Type 0
@@ -34,6 +32,3 @@ abbrev pub ListsPlaces : CatalogueView → Segment → DeskView → DeskView →
 ListsPlaces cat s old new reply =
     ((free : List Bool) × ShapeBy (LooksAt (numbers_on cat s.run.0) s.span free) old new × ToldOr (place_list s.run.0 free) reply)
     ⊎ ((new ≡ old) × (reply ≡ problem NoMemory))
-
-abbrev pub SweepsRows : ℕ → ℕ → DeskView → DeskView → Reply → Type 0
-SweepsRows rows now old new reply = (n : Swept) × ShapeBy (Sweeps rows now n) old new × (reply ≡ swept n)

@@ -1,5 +1,5 @@
-//! What a retailer may ask of the whole timetable: offers of a wish, the places of a run, and a sweep of late bookings. It is a room of its
-//! own since none of this is asked of one booking, and no other service needs it.
+//! What a retailer may ask of the whole timetable: offers of a wish, and the places of a run. It is a room of its own since none of this is
+//! asked of one booking, and no other service needs it.
 //!
 //! Every answer is the defined reply of the command, by the desk's own entries in this very call, whatever other desks do meanwhile. None
 //! of these commands takes a place: what is free is what this call's looks showed.
@@ -9,8 +9,6 @@ mod offer_search;
 mod place_list;
 mod place_numbers;
 mod ranges;
-mod sweeping;
 
 pub use offer_search::search_offers;
 pub use place_list::list_places;
-pub use sweeping::sweep_bookings;

@@ -1,6 +1,6 @@
 //! The places of a run, and which of them are free.
 ghost use Rattle.std.specs.Prelude.{◌≡◌, length, Ok, IfSome};
-ghost use Rattle.claim_rule.specs.Seats.{IsOf};
+ghost use Rattle.claim_rule.specs.Desks.{IsOf};
 ghost use Rattle.claim_rule.specs.Out.{IsTidy, IsIdle};
 ghost use Rattle.rail_catalogue.specs.Contents.{legs_in};
 ghost use Rattle.osdm_texts.specs.Spots.{run_places};

@@ -3,7 +3,7 @@ use Rattle.std.proofs.Common.{◌≡◌, ℕ, zero, suc, ◌+◌, ◌-◌, ◌<�
 use Rattle.std.proofs.Math.Numerals.{add-one}
 use Rattle.history_model.specs.declared.entry.Step.TheVariants.{Give}
 use Rattle.claim_rule.specs.Rule.{DeskView}
-use Rattle.claim_rule.specs.Seats.{Shape, Stepped}
+use Rattle.claim_rule.specs.Desks.{Shape, Stepped}
 use Rattle.claim_rule.specs.Endings.{EndingView}
 use Rattle.claim_rule.specs.EndSteps.{gives_from}
 use Rattle.claim_rule.specs.Out.{IsEnding, KeepsHolds}

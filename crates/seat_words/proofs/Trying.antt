@@ -4,7 +4,7 @@ use Rattle.leg_masks.specs.Interval.{PlacedSpan as Item}
 use Rattle.history_model.specs.declared.entry.Step.TheVariants.{Look, Take, Give}
 use Rattle.claim_rule.specs.Rule.{DeskView}
 use Rattle.claim_rule.specs.Holds.{HoldView, IsHoldOf, with_one}
-use Rattle.claim_rule.specs.Seats.{Stepped}
+use Rattle.claim_rule.specs.Desks.{Stepped}
 use Rattle.claim_rule.specs.Out.{IsHolding, HasNoted, HasNotedButLast, HasNotedItems, KeepsHolds, KeepsEndings}
 use Rattle.claim_rule.proofs.Shapes.{step_shape}
 use Rattle.claim_rule.proofs.Noting.{noted_takes, noted_gives}

@@ -4,7 +4,7 @@ use Rattle.leg_masks.specs.Interval.{Interval, IsClear}
 use Rattle.history_model.specs.declared.entry.Step.TheVariants.{Take as TakeStep}
 use Rattle.history_model.specs.Looks.{look_at}
 use Rattle.claim_rule.specs.Rule.{DeskView}
-use Rattle.claim_rule.specs.Seats.{Shape}
+use Rattle.claim_rule.specs.Desks.{Shape}
 use Rattle.claim_rule.specs.Holds.{HoldView, with_one}
 use Rattle.seat_words.specs.declared.Take.{Take}
 use Rattle.seat_words.specs.declared.Take.TheVariants.{Won, Taken, Moving}

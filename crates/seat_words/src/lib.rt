@@ -11,7 +11,7 @@ ghost use Rattle.std.specs.Prelude.{ℕ, ◌≡◌, ◌≢◌, ◌<◌, ◌≤�
 ghost use Rattle.history_model.specs.declared.entry.Step.TheVariants.{Look, Give};
 ghost use Rattle.history_model.specs.Booking.{most_items};
 ghost use Rattle.leg_masks.specs.Interval.{IsClear, IsPiece, PlacedSpan as Item, halves};
-ghost use Rattle.claim_rule.specs.Seats.{IsOf, Shape};
+ghost use Rattle.claim_rule.specs.Desks.{IsOf, Shape};
 ghost use Rattle.claim_rule.specs.Holds.{with_one};
 ghost use Rattle.claim_rule.specs.Out.{IsHolding, IsEnding, HasNoted, HasNotedButLast, HasNotedItems, KeepsHolds, KeepsEndings};
 ghost use Rattle.seat_words.specs.Gives.{gives_left};

@@ -1,6 +1,6 @@
 // Serving from memory: two connections at once, sweeping, and how serving ends.
 ghost use Rattle.std.specs.Prelude.{◌≡◌, None, IfOk, length};
-ghost use Rattle.claim_rule.specs.Seats.{IsOf};
+ghost use Rattle.claim_rule.specs.Desks.{IsOf};
 ghost use Rattle.claim_rule.specs.Out.{IsTidy};
 ghost use Rattle.worker_pool.specs.Turns.{KeepsDesk};
 ghost use Rattle.host_serve.specs.Turns.{HasCatalogue};
@@ -8,10 +8,11 @@ ghost use Rattle.host_serve.specs.Turns.{HasCatalogue};
 use claim_rule::{Books, Desk, Wall};
 use history_model::phase::{EndKind, Phase, phase_word};
 use host_catalogue::{load_catalogue, open_books};
-use host_io::CountTicker;
 use host_serve::{Common, Post, ServeEnd, Server, Streams, Sweeper, run_serve};
 use rail_catalogue::Catalogue;
-use rail_io::{BytesSource, MapShelf, Pulled, Pushed, ScriptClock, Sink, Source, VecSink};
+use rail_io::{
+    BytesSource, CountTicker, MapShelf, Pulled, Pushed, ScriptClock, Sink, Source, VecSink,
+};
 use rail_service::{Accepted, Bound, Finished, ListListener, Listener, Waiting, serve_waiting};
 use rail_time::Moment;
 use session_loop::ConnEnd;
@@ -500,9 +501,13 @@ struct OneStream {
 }
 
 impl Streams for OneStream {
+    ghost use Rattle.serve_tests.specs.One.{gone};
+
     type Input = BytesSource;
 
     type Output = VecSink;
+
+    ghost handed = { λ s. gone s.bytes };
 
     fn next_stream(&mut self) -> Option<Waiting<BytesSource, VecSink>> {
         let bytes = self.bytes.take()?;

@@ -1,6 +1,6 @@
 -- A desk that made no step has done nothing.
 use Rattle.claim_rule.specs.Rule.{BooksView, DeskView}
-use Rattle.claim_rule.specs.Seats.{IsOf}
+use Rattle.claim_rule.specs.Desks.{IsOf}
 use Rattle.claim_rule.proofs.Shapes.{shape_none}
 use Rattle.service_rules.specs.Performing.{DoesNothing}
 

@@ -1,61 +1,100 @@
-//! What a command is refused for by its ids, its codes and the moment alone.
-ghost use Rattle.std.specs.Prelude.{◌≡◌, Some};
-ghost use Rattle.service_rules.specs.Checks.{age_fault, code_fault, offer_fault, row_fault, or_else, is_of_row as is_row_of, refund_fault, is_quoted as is_quote, exchange_fault, command_fault};
+//! What a command orders, or is refused for by its ids, its codes and the moment alone.
+ghost use Rattle.std.specs.Prelude.{◌≡◌, Ok, Err, IfOk, IfErr};
+ghost use Rattle.osdm_json.specs.Readable.{IsReadable};
+ghost use Rattle.service_rules.specs.Checks.{aged, checked, offer_checked, row_checked, is_of_row as is_row_of, refund_checked, is_quoted as is_quote, exchange_checked, ordered};
+ghost use Rattle.service_rules.specs.Orders.{order_view, IsOrder, IsSound};
 
-use offer_codes::{ExchangeCode, OfferCode, RefundCode};
-use offer_engine::is_offered;
+use crate::order::Order;
+use offer_codes::{ExchangeCode, OfferCode, RefundCode, VALID_SECONDS};
+use offer_engine::{OfferWish, is_offered};
 use osdm_json::{Command, Problem};
 use rail_catalogue::Catalogue;
 use rail_ids::RowNo;
 use rail_time::Moment;
+use reservation_service::Reservation;
 
-/// How long an offer and a quote are valid, in seconds.
-const VALIDITY: u64 = 900;
-
-/// What the command is refused for by its ids, its codes and the moment alone: an id or a code that is no spelling, an offer that the
-/// catalogue doesn't have or that was made after now, and then one that was made over 900 seconds ago; of quotes also those of another
-/// booking than the id's, and those whose offer wasn't good when the quote was made. `None` where it isn't.
+/// What the command orders, with its ids and codes read and checked; or what it is refused for by these and the moment alone: an id or a
+/// code that is no spelling, an offer that the catalogue doesn't have or that was made after now, and then one that was made over 900 seconds
+/// ago; of quotes also those of another booking than the id's, and those whose offer wasn't good when the quote was made.
 ///
 /// No memory is taken.
-pub fn command_problem(cat: &Catalogue, command: &Command, now: Moment) -> Option<Problem>
-    ensures { result ≡ command_fault cat.now now command.now }
+pub fn order_of<'c>(
+    cat: &Catalogue,
+    command: &'c Command,
+    now: Moment,
+) -> Result<Order<'c>, Problem>
+    ensures exact { IsOrder result (ordered cat.now now command.now) }
+    ensures sound { IsReadable cat.now command.now → IfOk result (λ o. IsSound cat.now now (order_view o)) }
 {
-    match command {
-        Command::Book { offer, .. } => offer_problem(cat, offer, now),
-        Command::Show { row } => row_problem(*row),
-        Command::Release { row } => row_problem(*row),
-        Command::Confirm { row } => row_problem(*row),
-        Command::Fulfil { row } => row_problem(*row),
-        Command::QuoteRefund { row } => row_problem(*row),
-        Command::AcceptRefund { row, code } => refund_problem(*row, code, now),
-        Command::QuoteExchange { row, offer } => match offer_problem(cat, offer, now) {
-            Some(problem) => Some(problem),
-            None => row_problem(*row),
+    Ok(match command {
+        Command::Offers {
+            trip,
+            adults,
+            children,
+            class,
+            wanted,
+        } => Order::Offers(OfferWish {
+            trip: *trip,
+            adults: *adults,
+            children: *children,
+            class: *class,
+            wanted: *wanted,
+        }),
+        Command::Book { offer, together } => Order::Book {
+            offer: check_offer(cat, offer, now)?,
+            together: *together,
         },
-        Command::AcceptExchange { row, code } => exchange_problem(cat, *row, code, now),
-        Command::Offers { .. }
-        | Command::Reserve { .. }
-        | Command::Places { .. }
-        | Command::Sweep => None,
-    }
+        Command::Reserve {
+            segment,
+            class,
+            count,
+            wanted,
+            together,
+        } => Order::Reserve(Reservation {
+            segment: *segment,
+            class: *class,
+            count: *count,
+            traits: *wanted,
+            together: *together,
+        }),
+        Command::Show { row } => Order::Show(check_row(*row)?),
+        Command::Release { row } => Order::Release(check_row(*row)?),
+        Command::Confirm { row } => Order::Confirm(check_row(*row)?),
+        Command::Fulfil { row } => Order::Fulfil(check_row(*row)?),
+        Command::QuoteRefund { row } => Order::QuoteRefund(check_row(*row)?),
+        Command::AcceptRefund { row, code } => Order::AcceptRefund(check_refund(*row, code, now)?),
+        Command::QuoteExchange { row, offer } => {
+            let offer = check_offer(cat, offer, now)?;
+            let row = check_row(*row)?;
+            Order::QuoteExchange { row, offer }
+        }
+        Command::AcceptExchange { row, code } => {
+            Order::AcceptExchange(check_exchange(cat, *row, code, now)?)
+        }
+        Command::Places { segment } => Order::Places(*segment),
+        Command::Sweep => Order::Sweep,
+    })
 }
 
-fn row_problem(row: Option<RowNo>) -> Option<Problem>
-    ensures { result ≡ row_fault row }
+fn check_row(row: Option<RowNo>) -> Result<RowNo, Problem>
+    ensures { result ≡ row_checked row }
 {
-    match row {
-        Some(_) => None,
-        None => Some(Problem::UnknownBooking),
-    }
+    row.ok_or(Problem::UnknownBooking)
 }
 
-fn offer_problem(cat: &Catalogue, offer: &Option<OfferCode>, now: Moment) -> Option<Problem>
-    ensures { result ≡ offer_fault cat.now now offer.now }
+fn check_offer<'c>(
+    cat: &Catalogue,
+    offer: &'c Option<OfferCode>,
+    now: Moment,
+) -> Result<&'c OfferCode, Problem>
+    ensures ok { IfOk result (λ c. offer_checked cat.now now offer.now ≡ Ok c.now) }
+    ensures err { IfErr result (λ p. offer_checked cat.now now offer.now ≡ Err p) }
 {
-    match offer {
-        Some(code) => code_problem(is_offered(cat, code), code.made, now),
-        None => Some(Problem::UnknownOffer),
-    }
+    let Some(code) = offer else {
+        return Err(Problem::UnknownOffer);
+    };
+    check(is_offered(cat, code), code.made, now)?;
+    Ok(code)
 }
 
 // Whether the id spells this booking's row and generation.
@@ -68,30 +107,38 @@ fn is_of_row(id: Option<RowNo>, row: RowNo) -> bool
     }
 }
 
-fn refund_problem(row: Option<RowNo>, quote: &Option<RefundCode>, now: Moment) -> Option<Problem>
-    ensures { result ≡ refund_fault now row quote.now }
+fn check_refund(
+    row: Option<RowNo>,
+    quote: &Option<RefundCode>,
+    now: Moment,
+) -> Result<RefundCode, Problem>
+    ensures { result ≡ refund_checked now row quote.now }
 {
-    match quote {
-        Some(code) => code_problem(is_of_row(row, code.row), code.made, now),
-        None => Some(Problem::UnknownOffer),
-    }
+    let Some(code) = quote else {
+        return Err(Problem::UnknownOffer);
+    };
+    check(is_of_row(row, code.row), code.made, now)?;
+    Ok(*code)
 }
 
-fn exchange_problem(
+fn check_exchange<'c>(
     cat: &Catalogue,
     row: Option<RowNo>,
-    quote: &Option<ExchangeCode>,
+    quote: &'c Option<ExchangeCode>,
     now: Moment,
-) -> Option<Problem>
-    ensures { result ≡ exchange_fault cat.now now row quote.now }
+) -> Result<&'c ExchangeCode, Problem>
+    ensures ok { IfOk result (λ c. exchange_checked cat.now now row quote.now ≡ Ok c.now) }
+    ensures err { IfErr result (λ p. exchange_checked cat.now now row quote.now ≡ Err p) }
 {
-    match quote {
-        Some(code) => {
-            let is_known = is_of_row(row, code.row) && is_quoted(cat, code);
-            code_problem(is_known, code.made, now)
-        }
-        None => Some(Problem::UnknownOffer),
-    }
+    let Some(code) = quote else {
+        return Err(Problem::UnknownOffer);
+    };
+    check(
+        is_of_row(row, code.row) && is_quoted(cat, code),
+        code.made,
+        now,
+    )?;
+    Ok(code)
 }
 
 // Whether the quote's offer is one of the catalogue, and was good when the quote was made.
@@ -100,26 +147,28 @@ fn is_quoted(cat: &Catalogue, code: &ExchangeCode) -> bool
 {
     let offered = code.offer.made.seconds();
     let quoted = code.made.seconds();
-    is_offered(cat, &code.offer) && offered <= quoted && quoted <= offered + VALIDITY
+    is_offered(cat, &code.offer)
+        && offered <= quoted
+        && quoted <= offered + u64::from(VALID_SECONDS)
 }
 
 // What is wrong with a code that was made at this moment, and is known or not.
-fn code_problem(is_known: bool, made: Moment, now: Moment) -> Option<Problem>
-    ensures { result ≡ code_fault is_known made now }
+fn check(is_known: bool, made: Moment, now: Moment) -> Result<(), Problem>
+    ensures { result ≡ checked is_known made now tt }
 {
     if is_known && made.seconds() <= now.seconds() {
-        age_problem(made, now)
+        check_age(made, now)
     } else {
-        Some(Problem::UnknownOffer)
+        Err(Problem::UnknownOffer)
     }
 }
 
-fn age_problem(made: Moment, now: Moment) -> Option<Problem>
-    ensures { result ≡ age_fault made now }
+fn check_age(made: Moment, now: Moment) -> Result<(), Problem>
+    ensures { result ≡ aged made now tt }
 {
-    if made.seconds() + VALIDITY < now.seconds() {
-        Some(Problem::OfferTooOld { made, now })
+    if made.seconds() + u64::from(VALID_SECONDS) < now.seconds() {
+        Err(Problem::OfferTooOld { made, now })
     } else {
-        None
+        Ok(())
     }
 }

@@ -1,14 +1,19 @@
 use offer_codes::{read_exchange, read_offer, read_refund};
 use osdm_json::{Command, Problem};
+use rail_catalogue::Catalogue;
 use rail_ids::RowNo;
 use rail_time::Moment;
 use sample_shop::{SIX, sample};
-use service_rules::command_problem;
+use service_rules::order_of;
 use std::process::Abort;
 use std::test::Fail;
 
 fn at(rt: &impl Abort, seconds: u64) -> Moment {
     Moment::of(seconds).expect(rt, "a moment")
+}
+
+fn refusal(cat: &Catalogue, command: &Command, now: Moment) -> Option<Problem> {
+    order_of(cat, command, now).err()
 }
 
 // The id of the row's first booking.
@@ -34,7 +39,7 @@ fn refuses_offers_by_their_ids(rt: HostRuntime) -> Result<(), Fail> {
         ("O1780293600-2-1-2-1-0.0.2_1.0.1", None),
     ] {
         let offer = read_offer(id.as_bytes());
-        let found = command_problem(
+        let found = refusal(
             &cat,
             &Command::Book {
                 offer,
@@ -60,10 +65,10 @@ fn refuses_ids_of_no_booking(rt: HostRuntime) -> Result<(), Fail> {
             Command::Fulfil { row },
             Command::QuoteRefund { row },
         ] {
-            assert_eq!(rt; command_problem(&cat, &command, now), want);
+            assert_eq!(rt; refusal(&cat, &command, now), want);
         }
     }
-    assert_eq!(rt; command_problem(&cat, &Command::Sweep, now), None);
+    assert_eq!(rt; refusal(&cat, &Command::Sweep, now), None);
     Ok(())
 }
 
@@ -121,11 +126,7 @@ fn refuses_quotes_of_refunds_by_their_ids(rt: HostRuntime) -> Result<(), Fail> {
     ] {
         let code = read_refund(id.as_bytes());
         let command = Command::AcceptRefund { row, code };
-        assert_eq!(rt;
-            command_problem(&cat, &command, at(&rt, seconds)),
-            want,
-            "{id}"
-        );
+        assert_eq!(rt; refusal(&cat, &command, at(&rt, seconds)), want, "{id}");
     }
     Ok(())
 }
@@ -192,7 +193,7 @@ fn refuses_exchanges_by_their_ids(rt: HostRuntime) -> Result<(), Fail> {
         ),
     ] {
         let code = read_exchange(id.as_bytes());
-        let found = command_problem(&cat, &Command::AcceptExchange { row, code }, now);
+        let found = refusal(&cat, &Command::AcceptExchange { row, code }, now);
         assert_eq!(rt; found, want, "{id}");
     }
     let too_old = Problem::OfferTooOld {
@@ -214,7 +215,7 @@ fn refuses_exchanges_by_their_ids(rt: HostRuntime) -> Result<(), Fail> {
         (first_on(0), "O1780293600-1-0-2-0-0.0.2", None),
     ] {
         let offer = read_offer(id.as_bytes());
-        let found = command_problem(&cat, &Command::QuoteExchange { row, offer }, now);
+        let found = refusal(&cat, &Command::QuoteExchange { row, offer }, now);
         assert_eq!(rt; found, want, "{id}");
     }
     Ok(())

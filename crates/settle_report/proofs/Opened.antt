@@ -11,8 +11,8 @@ use Rattle.history_model.specs.Words.{AreWordsOf}
 use Rattle.history_model.proofs.Keeping.{found}
 use Rattle.history_model.proofs.ListLemmas.{All-found}
 use Rattle.claim_rule.specs.Rule.{DeskView}
-use Rattle.claim_rule.specs.Seats.{IsNew}
-use Rattle.claim_rule.specs.Walls.{Ends, WallView}
+use Rattle.claim_rule.specs.Desks.{IsNew}
+use Rattle.claim_rule.specs.Walls.{Finishes, WallView}
 use Rattle.settle_report.specs.Accounts.{IsSettled, NoneEnding, state_on}
 
 none_ending : (s : State) (rows : ℕ) → AllByRecursion (λ b. is_owners b.phase ≡ false) s → NoneEnding s rows
@@ -33,10 +33,10 @@ opened w legal words rows empty =
     }
 
 -- so it is where the only desk of the books closes them, and has seen nothing
-pub finished : (w : WallView) (layout : Layout) (desk : DeskView) → w.layout ≡ layout → Ends layout desk w.words w.history
+pub finished : (w : WallView) (layout : Layout) (desk : DeskView) → w.layout ≡ layout → Finishes layout desk w.words w.history
     → IsNew desk 0 [] → layout.rows ≤ most_rows → IsSettled w
 finished w layout desk same ends fresh rows =
-    let none = fresh.made in
+    let none = fresh.parted in
     let empty : w.history ≡ [] =
     ends.whole (fresh.number, λ j some few. absurd (omega (arith, some, few, none))) ∙ fresh.seen in
     opened w

@@ -9,6 +9,7 @@ ghost use Rattle.settle_report.specs.Steps.{IsAmountBy, IsEndAmount, IsInPhase, 
 
 use crate::account::Sale;
 use claim_rule::Wall;
+use history_model::booking::{END_AMOUNT_WORD, RETAILER_WORD, STANDING_WORD, TOTAL_WORD};
 use history_model::phase::{EndKind, Phase, read_row_word};
 
 /// What a row shows: the generation of its present booking, and what counts of it where it is a retailer's.
@@ -58,7 +59,7 @@ fn amount_at(wall: &Wall, row: u32, phase: Phase) -> i64
     ensures { IsEndAmount (state_on wall.now) row result }
 {
     match phase {
-        Phase::Ended(kind) => amount_of(kind, word_at(wall, row, 6)),
+        Phase::Ended(kind) => amount_of(kind, word_at(wall, row, END_AMOUNT_WORD)),
         _ => 0,
     }
 }
@@ -87,14 +88,14 @@ fn sale_at(wall: &Wall, row: u32, phase: Phase) -> Option<Sale>
     if !is_sealed(phase) {
         return None;
     }
-    let retailer = word_at(wall, row, 1);
+    let retailer = word_at(wall, row, RETAILER_WORD);
     if !is_retailer(retailer) {
         return None;
     }
     Some(Sale {
         retailer,
         phase,
-        total: word_at(wall, row, 3),
+        total: word_at(wall, row, TOTAL_WORD),
         amount: amount_at(wall, row, phase),
     })
 }
@@ -106,7 +107,7 @@ pub(crate) fn shown_at(wall: &Wall, row: u32) -> Shown
     ensures generation { result.generation ≡ generation_at (state_on wall.now) row }
     ensures sale { result.sale ≡ sale_in (state_on wall.now) row }
 {
-    let Some((phase, generation)) = read_row_word(word_at(wall, row, 0)) else {
+    let Some((phase, generation)) = read_row_word(word_at(wall, row, STANDING_WORD)) else {
         unreachable!()
     };
     Shown {

@@ -10,7 +10,7 @@ use Rattle.history_model.specs.Phase.{is_sealed}
 use Rattle.history_model.specs.Booking.{booking_at}
 use Rattle.history_model.proofs.Keeping.{found}
 use Rattle.claim_rule.specs.Rule.{BooksView, DeskView, state_seen}
-use Rattle.claim_rule.specs.Seats.{IsOf}
+use Rattle.claim_rule.specs.Desks.{IsOf}
 use Rattle.claim_rule.specs.Holds.{HoldView}
 use Rattle.claim_rule.specs.Out.{IsHolding}
 use Rattle.booking_rows.specs.declared.notes.Detail.{Detail}

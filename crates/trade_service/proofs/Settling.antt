@@ -6,7 +6,7 @@ use Rattle.history_model.specs.History.{entry, own}
 use Rattle.history_model.specs.Work.{NoStep}
 use Rattle.rail_ids.specs.declared.RowNo.{RowNo}
 use Rattle.claim_rule.specs.Rule.{BooksView, DeskView}
-use Rattle.claim_rule.specs.Seats.{IsOf, Shape}
+use Rattle.claim_rule.specs.Desks.{IsOf, Shape}
 use Rattle.claim_rule.specs.Calls.{ShapeBy}
 use Rattle.claim_rule.specs.Out.{exchanges, IsTidy, AreSettled, KeepsHolds, KeepsEndings}
 use Rattle.claim_rule.proofs.Out.{settled_append, settled_calm}

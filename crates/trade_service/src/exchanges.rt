@@ -1,7 +1,7 @@
 //! Exchanges: offered, and carried out.
 ghost use Rattle.std.specs.Prelude.{◌≡◌, ◌≤◌, true, length, Ok, IfSome, IfOk, IfErr};
 ghost use Rattle.std.specs.List.{list_all};
-ghost use Rattle.claim_rule.specs.Seats.{IsOf};
+ghost use Rattle.claim_rule.specs.Desks.{IsOf};
 ghost use Rattle.claim_rule.specs.Calls.{ShapeBy};
 ghost use Rattle.claim_rule.specs.Out.{IsTidy, IsIdle, IsHolding, HasNotedItems, HoldsNone, EndsNone, AreSettled, KeepsHolds, KeepsEndings};
 ghost use Rattle.history_model.specs.Booking.{greatest_amount};

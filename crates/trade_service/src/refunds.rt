@@ -1,6 +1,6 @@
 //! Refunds: offered, and paid back.
 ghost use Rattle.std.specs.Prelude.{◌≡◌, ◌≤◌, true, Ok, IfSome};
-ghost use Rattle.claim_rule.specs.Seats.{IsOf};
+ghost use Rattle.claim_rule.specs.Desks.{IsOf};
 ghost use Rattle.claim_rule.specs.Out.{IsTidy, IsIdle};
 ghost use Rattle.history_model.specs.declared.phase.EndKind.TheVariants as kind;
 ghost use Rattle.history_model.specs.Booking.{greatest_amount};

@@ -17,17 +17,13 @@ use Rattle.trip_builder.specs.Order.{last_arrival}
 use Rattle.trip_builder.specs.Trips.{change_at, longest_wait, leaves, connects, uses_run, follows, is_chain, arrives, sets_out}
 use Rattle.trip_builder.specs.Best.{IsTrip, IsDecided}
 use Rattle.trip_builder.specs.Search.{leaves_after, IsWindowOf, AreLeaving, AllArriveBefore, AreDecided, AreDecidedFrom}
-use Rattle.trip_builder.specs.Bounds.{never, end_of_windows, goes_to, LeadsTo, end_of, arrival_of, IsBound, IsPosted, BoundsWindow, bound_in, IsBoardOf, AreRides, ReachView, IsReach, AreBounds, BoundsRide, BoundsLeaving, BoundsStop}
+use Rattle.trip_builder.specs.Bounds.{never, end_of_windows, goes_to, LeadsTo, end_of, arrival_of, IsBound, HasPosted, IsNoted, IsPosted, BoundsWindow, bound_in, IsBoardOf, AreRides, AreExits, AreUnknown, IsPut, IsFolded, ReachView, IsReach, AreBounds, BoundsRide, BoundsLeaving, BoundsStop}
 use Rattle.trip_builder.proofs.Ways.{both_true, last_is, known_after, next_goes_on, trip_goes_on}
 use Rattle.trip_builder.proofs.Leaving.{is_station, leaves_there}
 use Rattle.trip_builder.proofs.Deciding.{behind_decided}
-use Rattle.trip_builder.proofs.Boarding.{stop_is}
-use Rattle.trip_builder.proofs.Posting.{posted_on, posted_last, min_left, min_right}
+use Rattle.trip_builder.proofs.Posting.{nothing_known, noted_on, noted_last, min_left, min_right}
 
 -- ---- the bounds of rides
-
-pub nothing_known : (arrival : ℕ) → IsBound 0 arrival
-nothing_known arrival = (omega arith, omega arith)
 
 pub ride_bounded : (r : RunsView) (w : TripWish) (changes : ℕ) (rides : List (List ℕ)) → AreRides r w changes rides → (s : Segment) (rest : List Segment) → length rest ≡ changes → LeadsTo r w s rest
     → IsBound (bound_in rides s.run.0 s.span.from) (arrival_of r s rest)
@@ -92,122 +88,177 @@ bounds_more r w levels new reach changes is size are one =
         subst (λ k. IsReach r w k (get_or (levels ++ reach ∷ []) k none)) (sym at)
         (subst (IsReach r w (length levels)) (sym (get_or-append_seam levels reach [] none)) (subst (λ k. IsReach r w k reach) (sym size) one))
 
--- ---- the row of a run, from its last stop back
+-- ---- the rows of what gets off, and those of what takes a run
 
-abbrev pub IsRowDone : RunsView → TripWish → ℕ → ℕ → List Stop → List ℕ → ℕ → Type 0
-IsRowDone r w changes run stops row back = (s : Segment) (rest : List Segment) → s.run.0 ≡ run → length rest ≡ changes → LeadsTo r w s rest → length stops ≤ s.span.from + back
-    → IsBound (get_or row s.span.from 0) (arrival_of r s rest)
+pub unknown_exits : (r : RunsView) (w : TripWish) (changes : ℕ) (rows : List (List ℕ)) → AreUnknown rows → AreExits r w changes rows
+unknown_exits r w changes rows unknown s rest count leads = subst (λ n. IsBound n (arrival_of r s rest)) (sym (unknown s.run.0 s.span.to)) (nothing_known (arrival_of r s rest))
 
-abbrev pub BoundsFurther : RunsView → TripWish → ℕ → ℕ → List Stop → ℕ → ℕ → Type 0
-BoundsFurther r w changes run stops least back = (s : Segment) (rest : List Segment) → s.run.0 ≡ run → length rest ≡ changes → LeadsTo r w s rest → length stops ≤ s.span.to + back
-    → IsBound least (arrival_of r s rest)
-
-pub ends_within : (r : RunsView) (w : TripWish) (run : ℕ) (stops : List Stop) (s : Segment) (rest : List Segment) → stops ≡ stops_of r run → s.run.0 ≡ run → LeadsTo r w s rest
-    → (s.span.from < s.span.to) × (s.span.to < length stops)
-ends_within r w run stops s rest same is leads =
-    let ends = leads.known.0.ends in
-    let size : length (stops_of r s.run.0) ≡ length stops = ap (λ n. length (stops_of r n)) is ∙ ap (λ (l : List Stop). length l) (sym same) in
-    (leads.known.0.rises, omega (arith, ends, size))
-
-pub row_done : (r : RunsView) (w : TripWish) (changes run : ℕ) (stops : List Stop) (row : List ℕ) (least back : ℕ) → stops ≡ stops_of r run → length row ≡ length stops → back < length stops
-    → IsRowDone r w changes run stops row back → BoundsFurther r w changes run stops least back → IsRowDone r w changes run stops (set row (length stops - 1 - back) least) (back + 1)
-row_done r w changes run stops row least back same size fits done further s rest is count leads low = by_place (cases_lt (length stops - 1 - back) s.span.from)
+pub put_set : (row : List ℕ) (stop bound : ℕ) → stop < length row → IsPut row stop bound (set row stop bound)
+put_set row stop bound inside k = by_place (cases_lt k stop) (cases_lt stop k)
   where
-    by_place : (length stops - 1 - back < s.span.from) ⊎ (s.span.from ≤ length stops - 1 - back) → IsBound (get_or (set row (length stops - 1 - back) least) s.span.from 0) (arrival_of r s rest)
+    by_place : (k < stop) ⊎ (stop ≤ k) → (stop < k) ⊎ (k ≤ stop) → (get_or (set row stop bound) k 0 ≡ get_or row k 0) ⊎ ((k ≡ stop) × (get_or (set row stop bound) k 0 ≡ bound))
+    by_place (inl less) other = inl (get_or-set_other row stop k bound 0 (λ is. omega (arith, less, is)))
+    by_place (inr other) (inl more) = inl (get_or-set_other row stop k bound 0 (λ is. omega (arith, more, is)))
+    by_place (inr low) (inr high) =
+        let at : k ≡ stop = omega (arith, low, high) in
+        inr (at, ap (λ n. get_or (set row stop bound) n 0) at ∙ get_or-set_same row stop bound 0 inside)
+
+pub exits_put : (r : RunsView) (w : TripWish) (changes : ℕ) (rows : List (List ℕ)) (run stop bound : ℕ) (old new : List ℕ) (off : Stop) → AreExits r w changes rows → run < length rows
+    → old ≡ get_or rows run [] → off ≡ stop_at (stops_of r run) stop → BoundsStop r w changes off bound → IsPut old stop bound new → AreExits r w changes (set rows run new)
+exits_put r w changes rows run stop bound old new off exits inside is at bounds put s rest count leads = by_place (cases_lt run s.run.0) (cases_lt s.run.0 run)
+  where
+    arrival : ℕ
+    arrival = arrival_of r s rest
+
+    before : IsBound (bound_in rows s.run.0 s.span.to) arrival
+    before = exits s rest count leads
+
+    by_stop : s.run.0 ≡ run → (get_or new s.span.to 0 ≡ get_or old s.span.to 0) ⊎ ((s.span.to ≡ stop) × (get_or new s.span.to 0 ≡ bound)) → IsBound (get_or new s.span.to 0) arrival
+    by_stop here (inl same) =
+        subst (λ n. IsBound n arrival) (sym (same ∙ (ap (λ (row : List ℕ). get_or row s.span.to 0) is ∙ ap (λ n. bound_in rows n s.span.to) (sym here)))) before
+    by_stop here (inr there) =
+        let off_is : last_stop r s ≡ off = ap (λ n. stop_at (stops_of r n) s.span.to) here ∙ (ap (λ n. stop_at (stops_of r run) n) there.0 ∙ sym at) in
+        subst (λ n. IsBound n arrival) (sym there.1) (bounds s rest off_is count leads)
+
+    by_place : (run < s.run.0) ⊎ (s.run.0 ≤ run) → (s.run.0 < run) ⊎ (run ≤ s.run.0) → IsBound (bound_in (set rows run new) s.run.0 s.span.to) arrival
+    by_place (inl more) other = subst (λ (row : List ℕ). IsBound (get_or row s.span.to 0) arrival) (sym (get_or-set_other rows run s.run.0 new [] (λ e. omega (arith, e, more)))) before
+    by_place (inr other) (inl less) = subst (λ (row : List ℕ). IsBound (get_or row s.span.to 0) arrival) (sym (get_or-set_other rows run s.run.0 new [] (λ e. omega (arith, e, less)))) before
+    by_place (inr low) (inr high) =
+        let here : s.run.0 ≡ run = omega (arith, low, high) in
+        subst (λ n. IsBound (get_or (get_or (set rows run new) n []) s.span.to 0) arrival) (sym here)
+        (subst (λ (row : List ℕ). IsBound (get_or row s.span.to 0) arrival) (sym (get_or-set_same rows run new [] inside)) (by_stop here (put s.span.to)))
+
+-- the row of a run, from its last stop back
+
+abbrev pub IsFoldedFrom : ℕ → List ℕ → List ℕ → ℕ → Type 0
+IsFoldedFrom stops exits row back = (from to arrival : ℕ) → from < to → to < stops → stops ≤ from + back → IsBound (get_or exits to 0) arrival → IsBound (get_or row from 0) arrival
+
+abbrev pub IsLeastFrom : ℕ → List ℕ → ℕ → ℕ → Type 0
+IsLeastFrom stops exits least back = (to arrival : ℕ) → to < stops → stops ≤ to + back → IsBound (get_or exits to 0) arrival → IsBound least arrival
+
+pub fold_row : (stops : ℕ) (exits row : List ℕ) (least back : ℕ) → length row ≡ stops → back < stops → IsFoldedFrom stops exits row back → IsLeastFrom stops exits least back
+    → IsFoldedFrom stops exits (set row (stops - 1 - back) least) (back + 1)
+fold_row stops exits row least back size fits done further from to arrival up inside low bound = by_place (cases_lt (stops - 1 - back) from)
+  where
+    by_place : (stops - 1 - back < from) ⊎ (from ≤ stops - 1 - back) → IsBound (get_or (set row (stops - 1 - back) least) from 0) arrival
     by_place (inl past) =
-        subst (λ n. IsBound n (arrival_of r s rest)) (sym (get_or-set_other row (length stops - 1 - back) s.span.from least 0 (λ e. omega (arith, e, past)))) (done s rest is count leads (omega (arith, past, fits)))
+        subst (λ n. IsBound n arrival) (sym (get_or-set_other row (stops - 1 - back) from least 0 (λ e. omega (arith, e, past)))) (done from to arrival up inside (omega (arith, past, fits)) bound)
     by_place (inr at) =
-        let here : s.span.from ≡ length stops - 1 - back = omega (arith, at, low, fits) in
-        let up = (ends_within r w run stops s rest same is leads).0 in
-        let value : get_or (set row (length stops - 1 - back) least) s.span.from 0 ≡ least =
-        ap (λ n. get_or (set row (length stops - 1 - back) least) n 0) here ∙ get_or-set_same row (length stops - 1 - back) least 0 (omega (arith, size, fits)) in
-        subst (λ n. IsBound n (arrival_of r s rest)) (sym value) (further s rest is count leads (omega (arith, here, up, fits)))
+        let here : from ≡ stops - 1 - back = omega (arith, at, low, fits) in
+        subst (λ n. IsBound (get_or (set row (stops - 1 - back) least) n 0) arrival) (sym here)
+        (subst (λ n. IsBound n arrival) (sym (get_or-set_same row (stops - 1 - back) least 0 (omega (arith, size, fits)))) (further to arrival inside (omega (arith, here, up, fits)) bound))
 
-pub row_further : (r : RunsView) (w : TripWish) (changes run : ℕ) (stops : List Stop) (least value back : ℕ) (stop : Stop) → stops ≡ stops_of r run → back < length stops
-    → stop ≡ get_or stops (length stops - 1 - back) stop → BoundsStop r w changes stop value → BoundsFurther r w changes run stops least back → BoundsFurther r w changes run stops (min least value) (back + 1)
-row_further r w changes run stops least value back stop same fits at ends further s rest is count leads low = by_place (cases_lt (length stops - 1 - back) s.span.to)
+pub fold_least : (stops : ℕ) (exits : List ℕ) (least value back : ℕ) → back < stops → value ≡ get_or exits (stops - 1 - back) 0 → IsLeastFrom stops exits least back
+    → IsLeastFrom stops exits (min least value) (back + 1)
+fold_least stops exits least value back fits is further to arrival inside low bound = by_place (cases_lt (stops - 1 - back) to)
   where
-    by_place : (length stops - 1 - back < s.span.to) ⊎ (s.span.to ≤ length stops - 1 - back) → IsBound (min least value) (arrival_of r s rest)
-    by_place (inl past) = min_left least value (arrival_of r s rest) (further s rest is count leads (omega (arith, past, fits)))
-    by_place (inr last) =
-        let here : s.span.to ≡ length stops - 1 - back = omega (arith, last, low, fits) in
-        let there = stop_is r run (length stops - 1 - back) stops stop same (omega (arith, fits)) at in
-        let off : last_stop r s ≡ stop = ap (λ n. stop_at (stops_of r n) s.span.to) is ∙ (ap (λ n. stop_at (stops_of r run) n) here ∙ there) in
-        min_right least value (arrival_of r s rest) (ends s rest off count leads)
+    by_place : (stops - 1 - back < to) ⊎ (to ≤ stops - 1 - back) → IsBound (min least value) arrival
+    by_place (inl past) = min_left least value arrival (further to arrival inside (omega (arith, past, fits)) bound)
+    by_place (inr at) =
+        let here : to ≡ stops - 1 - back = omega (arith, at, low, fits) in
+        min_right least value arrival (subst (λ n. IsBound n arrival) (sym is) (subst (λ n. IsBound (get_or exits n 0) arrival) here bound))
 
--- ---- the board of a station, from its last departure back
+-- the rows of the first runs
 
-abbrev pub AreLater : List Departure → List Useful → ℕ → Type 0
-AreLater ds board back = (k : ℕ) (none : Departure) → k + back < length ds → All (λ u. (get_or ds k none).moment ≤ u.moment) board
+abbrev pub AreFolded : RunsView → List (List ℕ) → List (List ℕ) → Type 0
+AreFolded r exits rides = (n : ℕ) (none : List ℕ) → n < length rides → IsFolded (length (stops_of r n)) (get_or exits n []) (get_or rides n none)
 
-abbrev pub AreDone : List Departure → List (List ℕ) → List Useful → ℕ → ℕ → Type 0
-AreDone ds rides board least back = (k : ℕ) (none : Departure) (arrival : ℕ) → length ds ≤ k + back → k < length ds
-    → IsBound (bound_in rides (get_or ds k none).run.0 (get_or ds k none).stop) arrival → IsPosted board (get_or ds k none).moment arrival × IsBound least arrival
-
-same_departure : (ds : List Departure) (back k : ℕ) (d none : Departure) → d ≡ get_or ds (length ds - 1 - back) d → back < length ds → k ≡ length ds - 1 - back → get_or ds k none ≡ d
-same_departure ds back k d none is fits at = ap (λ n. get_or ds n none) at ∙ (get_or_default ds (length ds - 1 - back) none d (omega (arith, fits)) ∙ sym is)
-
-pub later_post : (r : RunsView) (station : StationNo) (from to : ℕ) (ds : List Departure) (board : List Useful) (back : ℕ) (d : Departure) (e : Useful) → AreLeaving r station from to ds
-    → d ≡ get_or ds (length ds - 1 - back) d → back < length ds → e.moment ≡ d.moment → AreLater ds board back → AreLater ds (board ++ e ∷ []) (back + 1)
-later_post r station from to ds board back d e leaving is fits at later k none high j u below = by_place (cases_lt j (length board))
+pub folded_more : (r : RunsView) (exits rides : List (List ℕ)) (run : ℕ) (row : List ℕ) → length rides ≡ run → AreFolded r exits rides → IsFolded (length (stops_of r run)) (get_or exits run []) row
+    → AreFolded r exits (rides ++ row ∷ [])
+folded_more r exits rides run row size folded one n none high = by_place (cases_lt n (length rides))
   where
-    by_place : (j < length board) ⊎ (length board ≤ j) → (get_or ds k none).moment ≤ (get_or (board ++ e ∷ []) j u).moment
+    by_place : (n < length rides) ⊎ (length rides ≤ n) → IsFolded (length (stops_of r n)) (get_or exits n []) (get_or (rides ++ row ∷ []) n none)
+    by_place (inl less) = subst (λ (x : List ℕ). IsFolded (length (stops_of r n)) (get_or exits n []) x) (sym (get_or_append_left rides (row ∷ []) none n less)) (folded n none less)
+    by_place (inr past) =
+        let count : length (rides ++ row ∷ []) ≡ length rides + 1 = length-append rides (row ∷ []) in
+        let at : n ≡ length rides = omega (arith, high, past, count) in
+        subst (λ k. IsFolded (length (stops_of r k)) (get_or exits k []) (get_or (rides ++ row ∷ []) k none)) (sym at)
+        (subst (λ (x : List ℕ). IsFolded (length (stops_of r (length rides))) (get_or exits (length rides) []) x) (sym (get_or-append_seam rides row [] none))
+        (subst (λ k. IsFolded (length (stops_of r k)) (get_or exits k []) row) (sym size) one))
+
+pub folded_rides : (r : RunsView) (w : TripWish) (changes : ℕ) (exits rides : List (List ℕ)) → AreExits r w changes exits → AreFolded r exits rides → AreRides r w changes rides
+folded_rides r w changes exits rides are folded n none high s rest is count leads =
+    let ends : s.span.to < length (stops_of r n) = subst (λ k. s.span.to < length (stops_of r k)) is leads.known.0.ends in
+    folded n none high s.span.from s.span.to (arrival_of r s rest) leads.known.0.rises ends
+    (subst (λ k. IsBound (bound_in exits k s.span.to) (arrival_of r s rest)) is (are s rest count leads))
+
+-- ---- the board of a station, from its first departure on
+
+-- the departures from `index` on leave no earlier than those of the board
+abbrev pub AreEarlier : List Departure → List Useful → ℕ → Type 0
+AreEarlier ds board index = (k : ℕ) (none : Departure) → index ≤ k → k < length ds → All (λ u. u.moment ≤ (get_or ds k none).moment) board
+
+-- those before `index` are noted
+abbrev pub AreDone : List Departure → List (List ℕ) → List Useful → ℕ → Type 0
+AreDone ds rides board index = (k : ℕ) (none : Departure) (arrival : ℕ) → k < index → k < length ds
+    → IsBound (bound_in rides (get_or ds k none).run.0 (get_or ds k none).stop) arrival → IsNoted board (get_or ds k none).moment arrival
+
+pub earlier_post : (r : RunsView) (station : StationNo) (from to : ℕ) (ds : List Departure) (board new : List Useful) (index moment least : ℕ) (d : Departure) → AreLeaving r station from to ds
+    → d ≡ get_or ds index d → index < length ds → moment ≡ d.moment → HasPosted board moment least new → AreEarlier ds board index → AreEarlier ds new (index + 1)
+earlier_post r station from to ds board new index moment least d leaving is fits at has earlier k none low high j u below = by_place (cases_lt j (length board))
+  where
+    by_place : (j < length board) ⊎ (length board ≤ j) → (get_or new j u).moment ≤ (get_or ds k none).moment
     by_place (inl less) =
-        let same : (get_or (board ++ e ∷ []) j u).moment ≡ (get_or board j u).moment = ap (λ (x : Useful). x.moment) (get_or_append_left board (e ∷ []) u j less) in
-        let old = later k none (omega (arith, high)) j u less in
+        let same : (get_or new j u).moment ≡ (get_or board j u).moment =
+        ap (λ (l : List Useful). (get_or l j u).moment) has.is ∙ ap (λ (x : Useful). x.moment) (get_or_append_left board (has.it ∷ []) u j less) in
+        let old = earlier k none (omega (arith, low)) high j u less in
         omega (arith, same, old)
     by_place (inr past) =
-        let count : length (board ++ e ∷ []) ≡ length board + 1 = length-append board (e ∷ []) in
+        let count : length new ≡ length board + 1 = ap (λ (l : List Useful). length l) has.is ∙ length-append board (has.it ∷ []) in
         let here : j ≡ length board = omega (arith, past, below, count) in
-        let same : (get_or (board ++ e ∷ []) j u).moment ≡ e.moment = ap (λ (x : Useful). x.moment) (ap (λ n. get_or (board ++ e ∷ []) n u) here ∙ get_or-append_seam board e [] u) in
-        let rise = leaving.rise k (length ds - 1 - back) none (omega (arith, high)) (omega (arith, fits)) in
-        let last : (get_or ds (length ds - 1 - back) none).moment ≡ d.moment = ap (λ (x : Departure). x.moment) (same_departure ds back (length ds - 1 - back) d none is fits refl) in
-        omega (arith, same, rise, last, at)
+        let same : (get_or new j u).moment ≡ moment =
+        ap (λ (l : List Useful). (get_or l j u).moment) has.is
+        ∙ (ap (λ n. (get_or (board ++ has.it ∷ []) n u).moment) here ∙ (ap (λ (x : Useful). x.moment) (get_or-append_seam board has.it [] u) ∙ has.moment_is)) in
+        let rise = leaving.rise index k none (omega (arith, low)) high in
+        let first : (get_or ds index none).moment ≡ d.moment = ap (λ (x : Departure). x.moment) (get_or_default ds index none d fits ∙ sym is) in
+        omega (arith, same, rise, first, at)
 
-pub later_skip : (ds : List Departure) (board : List Useful) (back : ℕ) → AreLater ds board back → AreLater ds board (back + 1)
-later_skip ds board back later k none high = later k none (omega (arith, high))
+pub earlier_skip : (ds : List Departure) (board : List Useful) (index : ℕ) → AreEarlier ds board index → AreEarlier ds board (index + 1)
+earlier_skip ds board index earlier k none low high = earlier k none (omega (arith, low)) high
 
-done_on : (ds : List Departure) (rides : List (List ℕ)) (board new : List Useful) (least lower back : ℕ) (d : Departure) → d ≡ get_or ds (length ds - 1 - back) d → back < length ds
-    → AreDone ds rides board least back → ((depart arrival : ℕ) → IsPosted board depart arrival × IsBound least arrival → IsPosted new depart arrival × IsBound lower arrival)
-    → ((arrival : ℕ) → IsBound (bound_in rides d.run.0 d.stop) arrival → IsPosted new d.moment arrival × IsBound lower arrival) → AreDone ds rides new lower (back + 1)
-done_on ds rides board new least lower back d is fits done old here k none arrival low high bound = by_place (cases_lt (length ds - 1 - back) k)
+done_on : (ds : List Departure) (rides : List (List ℕ)) (board new : List Useful) (index : ℕ) (d : Departure) → d ≡ get_or ds index d → index < length ds → AreDone ds rides board index
+    → ((depart arrival : ℕ) → IsNoted board depart arrival → IsNoted new depart arrival) → ((arrival : ℕ) → IsBound (bound_in rides d.run.0 d.stop) arrival → IsNoted new d.moment arrival)
+    → AreDone ds rides new (index + 1)
+done_on ds rides board new index d is fits done old here k none arrival low high bound = by_place (cases_lt k index)
   where
-    by_place : (length ds - 1 - back < k) ⊎ (k ≤ length ds - 1 - back) → IsPosted new (get_or ds k none).moment arrival × IsBound lower arrival
-    by_place (inl past) = old (get_or ds k none).moment arrival (done k none arrival (omega (arith, past, fits)) high bound)
-    by_place (inr at) =
-        let same = same_departure ds back k d none is fits (omega (arith, at, low, high)) in
-        subst (λ (x : Departure). IsPosted new x.moment arrival × IsBound lower arrival) (sym same) (here arrival (subst (λ (x : Departure). IsBound (bound_in rides x.run.0 x.stop) arrival) same bound))
+    by_place : (k < index) ⊎ (index ≤ k) → IsNoted new (get_or ds k none).moment arrival
+    by_place (inl less) = old (get_or ds k none).moment arrival (done k none arrival less high bound)
+    by_place (inr past) =
+        let at : k ≡ index = omega (arith, low, past) in
+        let same : get_or ds k none ≡ d = ap (λ n. get_or ds n none) at ∙ (get_or_default ds index none d fits ∙ sym is) in
+        subst (λ (x : Departure). IsNoted new x.moment arrival) (sym same) (here arrival (subst (λ (x : Departure). IsBound (bound_in rides x.run.0 x.stop) arrival) same bound))
 
-pub done_post : (ds : List Departure) (rides : List (List ℕ)) (board : List Useful) (least bound back : ℕ) (d : Departure) (e : Useful) → d ≡ get_or ds (length ds - 1 - back) d → back < length ds
-    → bound ≡ bound_in rides d.run.0 d.stop → e.moment ≡ d.moment → e.least ≡ min least bound → AreDone ds rides board least back → AreDone ds rides (board ++ e ∷ []) e.least (back + 1)
-done_post ds rides board least bound back d e is fits value at lower done =
-    done_on ds rides board (board ++ e ∷ []) least e.least back d is fits done
-    (λ depart arrival both. (let one = subst (λ n. IsBound n arrival) (sym lower) (min_left least bound arrival both.1) in (posted_on board e depart arrival both.0 one, one)))
-    (λ arrival here. (let one = subst (λ n. IsBound n arrival) (sym lower) (min_right least bound arrival (subst (λ n. IsBound n arrival) (sym value) here)) in (posted_last board e d.moment arrival at one, one)))
+pub done_post : (ds : List Departure) (rides : List (List ℕ)) (board new : List Useful) (index moment bound : ℕ) (d : Departure) → d ≡ get_or ds index d → index < length ds → moment ≡ d.moment
+    → bound ≡ bound_in rides d.run.0 d.stop → HasPosted board moment bound new → AreDone ds rides board index → AreDone ds rides new (index + 1)
+done_post ds rides board new index moment bound d is fits at value has done =
+    done_on ds rides board new index d is fits done
+    (λ depart arrival noted. subst (λ (l : List Useful). IsNoted l depart arrival) (sym has.is) (noted_on board has.it bound depart arrival has.rises has.follows noted))
+    (λ arrival here. subst (λ (l : List Useful). IsNoted l d.moment arrival) (sym has.is)
+    (noted_last board has.it bound d.moment arrival (has.moment_is ∙ at) has.follows (subst (λ n. IsBound n arrival) (sym value) here)))
 
-pub done_skip : (ds : List Departure) (rides : List (List ℕ)) (board : List Useful) (least bound back : ℕ) (d : Departure) → d ≡ get_or ds (length ds - 1 - back) d → back < length ds
-    → bound ≡ bound_in rides d.run.0 d.stop → never ≤ bound → AreDone ds rides board least back → AreDone ds rides board least (back + 1)
-done_skip ds rides board least bound back d is fits value none done =
-    done_on ds rides board board least least back d is fits done (λ depart arrival both. both)
-    (λ arrival here. (let small = here.1 in absurd (omega (arith, small, value, none))))
+pub done_skip : (ds : List Departure) (rides : List (List ℕ)) (board : List Useful) (index bound : ℕ) (d : Departure) → d ≡ get_or ds index d → index < length ds
+    → bound ≡ bound_in rides d.run.0 d.stop → never ≤ bound → AreDone ds rides board index → AreDone ds rides board (index + 1)
+done_skip ds rides board index bound d is fits value none done =
+    done_on ds rides board board index d is fits done (λ depart arrival noted. noted) (λ arrival here. (let small = here.1 in absurd (omega (arith, small, value, none))))
 
-pub board_done : (r : RunsView) (rides : List (List ℕ)) (station : StationNo) (to : ℕ) (ds : List Departure) (board : List Useful) (least back : ℕ) → AreLeaving r station 0 to ds → end_of_windows ≤ to + 1
-    → AreDone ds rides board least back → length ds ≤ back → IsBoardOf r rides station.0 board
-board_done r rides station to ds board least back leaving far done ended run stop further here early arrival bound =
+pub board_done : (r : RunsView) (rides : List (List ℕ)) (station : StationNo) (from to : ℕ) (ds : List Departure) (board new : List Useful) (index : ℕ) → AreLeaving r station from to ds → from ≡ 0 → end_of_windows ≤ to + 1
+    → AreDone ds rides board index → length ds ≤ index → ((depart arrival : ℕ) → IsNoted board depart arrival → IsPosted new depart arrival) → IsBoardOf r rides station.0 new
+board_done r rides station from to ds board new index leaving start far done ended finish run stop further here early arrival bound =
     let at = stop_at (stops_of r run) stop in
-    let listed = leaving.every run stop further (leaves_there station 0 to at (is_station at.station station here) (omega arith) (omega (arith, early, far))) in
+    let listed = leaving.every run stop further (leaves_there station from to at (is_station at.station station here) (omega (arith, start)) (omega (arith, early, far))) in
     let none : Departure = record { moment = 0; run = record { 0 = run }; stop = stop } in
     let each = leaving.each listed.place none listed.within in
     let is_run = listed.run_is none in
     let is_stop = listed.stop_is none in
+    let within = listed.within in
     let d = get_or ds listed.place none in
     let moment : d.moment ≡ at.depart = sym each.moment ∙ (ap (λ n. (stop_at (stops_of r n) d.stop).depart) is_run ∙ ap (λ n. (stop_at (stops_of r run) n).depart) is_stop) in
     let its : IsBound (bound_in rides d.run.0 d.stop) arrival = subst (λ n. IsBound (bound_in rides n d.stop) arrival) (sym is_run) (subst (λ n. IsBound (bound_in rides run n) arrival) (sym is_stop) bound) in
-    subst (λ n. IsPosted board n arrival) moment (done listed.place none arrival (omega (arith, ended)) listed.within its).0
+    subst (λ n. IsPosted new n arrival) moment (finish d.moment arrival (done listed.place none arrival (omega (arith, ended, within)) listed.within its))
 
 -- ---- what is left out
 
-end_is : (way : List Segment) (s : Segment) (rest : List Segment) → last_of (way ++ s ∷ rest) ≡ end_of s rest
+pub end_is : (way : List Segment) (s : Segment) (rest : List Segment) → last_of (way ++ s ∷ rest) ≡ end_of s rest
 end_is way s [] = last_is way s
 end_is way s (t ∷ rest) = ap last_of (sym (append_assoc way (s ∷ []) (t ∷ rest))) ∙ end_is (way ++ s ∷ []) t rest
 
@@ -220,7 +271,7 @@ chain_goes r w way s (t ∷ rest) chain at =
     let here : connects r (last_stop r s) t ≡ true = subst (λ (x : Segment). connects r (last_stop r x) t ≡ true) (last_is way s) next.0 in
     ap (λ b. b && goes_to r w t rest) here ∙ chain_goes r w (way ++ s ∷ []) t rest parts.1 at
 
-trip_leads : (r : RunsView) (w : TripWish) (way : List Segment) (s : Segment) (rest : List Segment) → IsTrip r w (way ++ s ∷ rest) → LeadsTo r w s rest
+pub trip_leads : (r : RunsView) (w : TripWish) (way : List Segment) (s : Segment) (rest : List Segment) → IsTrip r w (way ++ s ∷ rest) → LeadsTo r w s rest
 trip_leads r w way s rest trip =
     let parts = both_true (sets_out r w (way ++ s ∷ rest)) (arrives r w (way ++ s ∷ rest)) trip.trip in
     record {

@@ -1,5 +1,6 @@
 pub mod Ordering
 pub mod Rising
+pub mod Placing
 pub mod StrictOrder
 pub mod FirstSixteen
 pub mod Members
@@ -10,3 +11,6 @@ pub mod Boarding
 pub mod Leaving
 pub mod Posting
 pub mod Bounding
+pub mod Keeping
+pub mod Outdoing
+pub mod Calling

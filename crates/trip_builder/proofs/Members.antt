@@ -1,5 +1,5 @@
 -- What is among a list that is put together from others, and that no element stands in it twice.
-use Rattle.std.proofs.Common.{◌≡◌, ◌∙◌, ℕ, zero, suc, ◌<◌, arith, get_or, length, ◌⊎◌, inl, inr, ⊎_elim, Bool, true, false, List, [], ◌∷◌, ◌++◌, refl, sym, ap, subst, true≢false, if◌then◌else◌}
+use Rattle.std.proofs.Common.{◌≡◌, ◌∙◌, ℕ, zero, suc, ◌<◌, arith, get_or, length, ◌⊎◌, inl, inr, ⊎_elim, Bool, true, false, List, [], ◌∷◌, ◌++◌, refl, sym, ap, subst, true≢false, if◌then◌else◌, ltb, ltb-true}
 use Rattle.std.specs.List.{filter, flat_map}
 use Rattle.trip_builder.specs.Best.{IsAmong, AreApart}
 
@@ -76,3 +76,6 @@ apart_pieces f [] each tells a = tt
 apart_pieces f (x ∷ xs) each tells a =
     apart_append (f x) (flat_map f xs) (each x) (apart_pieces f xs each tells a.1)
     (λ t here there. (let more = among_pieces f xs t there in a.0 (subst (IsAmong xs) (sym (tells x more.0 t here more.1.1)) more.1.0)))
+
+pub found_among : {X : Type 0} (xs : List X) (k : ℕ) (x : X) → true ≡ ltb k (length xs) → x ≡ get_or xs k x → IsAmong xs x
+found_among xs k x small is = subst (IsAmong xs) (sym is) (among_at xs k x (ltb-true k (length xs) (sym small)))

@@ -10,7 +10,7 @@ use Rattle.train_runs.specs.Runs.{RunsView}
 use Rattle.trip_builder.specs.Segments.{first_stop, last_stop, stops_of}
 use Rattle.trip_builder.specs.Search.{Rise}
 
-none_least : (p : ℕ → Bool) (j n k : ℕ) → least_from p j n ≡ None → j ≤ k → k < j + n → p k ≡ false
+pub none_least : (p : ℕ → Bool) (j n k : ℕ) → least_from p j n ≡ None → j ≤ k → k < j + n → p k ≡ false
 none_least p j zero k e lo hi = absurd (omega arith)
 none_least p j (suc n) k e lo hi = by_test (p j) refl (λ more at. none_least p (j + 1) n k more at (omega arith))
   where

@@ -135,7 +135,7 @@ one_segment s t (e, (f, g)) =
 weaker : {X : Type 0} (before : X → X → Bool) (P Q : X → X → Type 0) → ((a b : X) → P a b → Q a b) → Strict before P → Strict before Q
 weaker before P Q f s = record { one_way = s.one_way; goes_on = s.goes_on; tells = λ a b ab ba. f a b (s.tells a b ab ba) }
 
-segments_strict : Strict is_lower (λ s t. s ≡ t)
+pub segments_strict : Strict is_lower (λ s t. s ≡ t)
 segments_strict =
     let at_last = by_one (λ (s : Segment). s.span.to) in
     let at_first = number_first (λ (s : Segment). s.span.from) (λ s t. nat_lt s.span.to t.span.to) (λ s t. s.span.to ≡ t.span.to) at_last in
@@ -148,7 +148,7 @@ segments_strict =
 is_same-refl : (s : Segment) → is_same s s ≡ true
 is_same-refl s = rw (eq-eqb s.run.0 s.run.0 refl, eq-eqb s.span.from s.span.from refl, eq-eqb s.span.to s.span.to refl) refl
 
-same_segment : (s t : Segment) → is_same s t ≡ true → s ≡ t
+pub same_segment : (s t : Segment) → is_same s t ≡ true → s ≡ t
 same_segment s t says = one_segment s t (by_tests (s.run.0 == t.run.0) (s.span.from == t.span.from) (s.span.to == t.span.to) refl refl refl says)
   where
     by_tests : (a b c : Bool) → (s.run.0 == t.run.0) ≡ a → (s.span.from == t.span.from) ≡ b → (s.span.to == t.span.to) ≡ c → (a && (b && c)) ≡ true
@@ -159,13 +159,13 @@ same_segment s t says = one_segment s t (by_tests (s.run.0 == t.run.0) (s.span.f
     by_tests false b c e f g says = absurd (true≢false (sym says))
 
 -- where the first segments differ, they decide
-differ : (s t : Segment) (ss ts : List Segment) → is_same s t ≡ false → are_lower (s ∷ ss) (t ∷ ts) ≡ is_lower s t
+pub differ : (s t : Segment) (ss ts : List Segment) → is_same s t ≡ false → are_lower (s ∷ ss) (t ∷ ts) ≡ is_lower s t
 differ s t ss ts e = ap (λ (b : Bool). if b then are_lower ss ts else is_lower s t) e
 
-agree : (s t : Segment) (ss ts : List Segment) → is_same s t ≡ true → are_lower (s ∷ ss) (t ∷ ts) ≡ are_lower ss ts
+pub agree : (s t : Segment) (ss ts : List Segment) → is_same s t ≡ true → are_lower (s ∷ ss) (t ∷ ts) ≡ are_lower ss ts
 agree s t ss ts e = ap (λ (b : Bool). if b then are_lower ss ts else is_lower s t) e
 
-is_lower-irreflexive : (s t : Segment) → s ≡ t → is_lower s t ≡ true → ⊥
+pub is_lower-irreflexive : (s t : Segment) → s ≡ t → is_lower s t ≡ true → ⊥
 is_lower-irreflexive s t e says = true≢false (sym says ∙ (ap (λ (x : Segment). is_lower x t) e ∙ (ap (is_lower t) (sym e) ∙ segments_strict.one_way s t says)))
 
 apart_back : (s t : Segment) → is_same s t ≡ false → is_same t s ≡ false

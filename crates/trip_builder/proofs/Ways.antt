@@ -1,5 +1,5 @@
 -- A trip goes on from each of its beginnings, and arrives later than each of them.
-use Rattle.std.proofs.Common.{◌≡◌, ◌∙◌, ℕ, ◌+◌, ◌-◌, ◌<◌, ◌≤◌, Bool, true, false, not, ◌==◌, ◌&&◌, List, [], ◌∷◌, ◌++◌, length, length-append, append_assoc, append-nil, refl, sym, ap, arith, nat_le, get_or, true≢false}
+use Rattle.std.proofs.Common.{◌≡◌, ◌∙◌, ℕ, suc, ◌+◌, ◌-◌, ◌<◌, ◌≤◌, Bool, true, false, not, ◌==◌, ◌&&◌, List, [], ◌∷◌, ◌++◌, length, length-append, append_assoc, append-nil, refl, sym, ap, arith, nat_le, get_or, true≢false}
 use Rattle.std.specs.List.{AllByRecursion}
 use Rattle.std.proofs.Math.Bool.{and-true}
 use Rattle.std.proofs.Math.Seq.{get_or-append_seam}
@@ -7,12 +7,13 @@ use Rattle.std.proofs.lemmas.Bool.Decides.{nat_tests}
 use Rattle.offer_codes.specs.declared.code.Segment.{Segment}
 use Rattle.train_runs.specs.Runs.{RunsView}
 use Rattle.train_runs.specs.declared.departure.Departure.{Departure}
+use Rattle.rail_ids.specs.declared.StationNo.{StationNo}
 use Rattle.trip_builder.specs.declared.trip.TripWish.{TripWish}
 use Rattle.trip_builder.specs.Segments.{segment, stops_of, first_stop, last_stop, last_of, no_segment}
 use Rattle.trip_builder.specs.Order.{last_arrival}
-use Rattle.trip_builder.specs.Trips.{begins, connects, uses_run, follows, is_chain, arrives, sets_out, is_trip, change_at, longest_wait}
+use Rattle.trip_builder.specs.Trips.{leaves, are_connected, begins, connects, uses_run, follows, is_chain, arrives, sets_out, is_trip, change_at, longest_wait}
 use Rattle.trip_builder.specs.Best.{IsKnown, IsTrip}
-use Rattle.trip_builder.specs.Search.{is_way, IsWay, goes_on, has_run, MayTake, Rise}
+use Rattle.trip_builder.specs.Search.{is_way, IsWay, IsWindowOf, goes_on, has_run, MayTake, Rise}
 
 pub both_true : (a b : Bool) → (a && b) ≡ true → (a ≡ true) × (b ≡ true)
 both_true true b e = (refl, e)
@@ -61,6 +62,18 @@ way_taken r w way d to is may low high = record {
   known = known_append r way (segment d.run.0 d.stop to ∷ []) is.known (record { rises = low; ends = high }, tt);
   so_far = way_goes_on r w way (segment d.run.0 d.stop to) is.so_far (taken_goes_on r w way d to may);
 }
+
+-- what begins the wish, and follows each by each
+pub way_is : (r : RunsView) (w : TripWish) (way : List Segment) (first : Segment) (station : StationNo) (from to : ℕ) → 1 ≤ length way → first ≡ get_or way 0 first → IsWindowOf r w [] station from to
+    → leaves station from to (first_stop r first) ≡ true → AllByRecursion (IsKnown r) way → are_connected r way ≡ true → IsWay r w way
+way_is r w [] first station from to some is window leaves known chain = absurd (omega (arith, some))
+way_is r w (s ∷ rest) first station from to some is window out known chain =
+    let begin : begins r w s ≡ true = ap (begins r w) (sym is) ∙ (sym (window (first_stop r first)) ∙ out) in
+    record { known = known; so_far = ap (λ b. b && is_chain r (s ∷ []) rest) begin ∙ chain }
+
+pub each_known : (r : RunsView) (way : List Segment) → ((k : ℕ) → k < length way → (none : Segment) → IsKnown r (get_or way k none)) → AllByRecursion (IsKnown r) way
+each_known r [] each = tt
+each_known r (s ∷ rest) each = (each 0 (omega arith) s, each_known r rest (λ k h none. each (suc k) (omega (arith, h)) none))
 
 -- ---- a trip and its beginnings
 

@@ -1,5 +1,5 @@
 -- What bounds a search from behind: for each departure the earliest arrival at the destination, with so many changes.
-use Rattle.std.specs.Prelude.{◌≡◌, ◌<◌, ◌≤◌, ◌+◌, ◌^◌, ◌==◌, ◌&&◌, ℕ, length, Bool, true, List, [], ◌∷◌, slice_index_or}
+use Rattle.std.specs.Prelude.{◌≡◌, ◌<◌, ◌≤◌, ◌+◌, ◌-◌, ◌^◌, ◌++◌, ◌==◌, ◌&&◌, ◌⊎◌, ℕ, length, Bool, true, List, [], ◌∷◌, slice_index_or}
 use Rattle.std.specs.List.{AllByRecursion}
 use Rattle.rail_ids.specs.declared.StationNo.{StationNo}
 use Rattle.offer_codes.specs.declared.code.Segment.{Segment}
@@ -45,20 +45,53 @@ arrival_of r s rest = (last_stop r (end_of s rest)).arrive
 abbrev pub IsBound : ℕ → ℕ → Type 0
 IsBound bound arrival = (bound ≤ arrival) × (bound < never)
 
--- one that arrives then leaves at this moment: so do the departures of the list from some place on say, each of which leaves no later
+-- ---- the board of a station
+
+-- later departures stand further on, those of a block together
+abbrev pub Rises : List Useful → Type 0
+Rises board = (j k : ℕ) (none : Useful) → j ≤ k → k < length board
+    → ((slice_index_or board j none).moment ≤ (slice_index_or board k none).moment) × ((slice_index_or board j none).block ≤ (slice_index_or board k none).block)
+
+-- the next departure of a board, from which one arrives no earlier than `least`
+pub record Follows (board : List Useful) (least : ℕ) (u : Useful) : Type 0 where
+  pub block : (none : Useful) → 0 < length board → (slice_index_or board (length board - 1) none).block ≤ u.block
+  pub onward : (arrival : ℕ) → IsBound least arrival → IsBound u.onward arrival
+  pub so_far : (arrival : ℕ) → IsBound least arrival → IsBound u.so_far arrival
+  pub same : (none : Useful) (arrival : ℕ) → 0 < length board → (slice_index_or board (length board - 1) none).block ≡ u.block
+      → IsBound (slice_index_or board (length board - 1) none).so_far arrival → IsBound u.so_far arrival
+
+-- the board with one departure more
+pub record HasPosted (old : List Useful) (moment least : ℕ) (new : List Useful) : Type 0 where
+  pub it : Useful
+  pub is : new ≡ old ++ it ∷ []
+  pub rises : Rises old
+  pub moment_is : it.moment ≡ moment
+  pub follows : Follows old least it
+
+-- one that arrives then leaves at this moment: it has its place, and those of its block that leave no earlier say no later arrival
+pub record IsNoted (board : List Useful) (depart arrival : ℕ) : Type 0 where
+  pub place : ℕ
+  pub within : place < length board
+  pub moment : (none : Useful) → (slice_index_or board place none).moment ≡ depart
+  pub here : (none : Useful) → IsBound (slice_index_or board place none).onward arrival
+  pub later : (k : ℕ) (none : Useful) → place ≤ k → k < length board → (slice_index_or board k none).block ≡ (slice_index_or board place none).block
+      → IsBound (slice_index_or board k none).so_far arrival
+
+-- likewise those of its block that leave no later
 pub record IsPosted (board : List Useful) (depart arrival : ℕ) : Type 0 where
   pub place : ℕ
   pub within : place < length board
   pub moment : (none : Useful) → (slice_index_or board place none).moment ≡ depart
-  pub least : (k : ℕ) (none : Useful) → place ≤ k → k < length board → IsBound (slice_index_or board k none).least arrival
-
--- the later departures stand first
-abbrev pub Falls : List Useful → Type 0
-Falls board = (j k : ℕ) (none : Useful) → j ≤ k → k < length board → (slice_index_or board k none).moment ≤ (slice_index_or board j none).moment
+  pub earlier : (k : ℕ) (none : Useful) → k ≤ place → (slice_index_or board k none).block ≡ (slice_index_or board place none).block
+      → IsBound (slice_index_or board k none).onward arrival
+  pub later : (k : ℕ) (none : Useful) → place ≤ k → k < length board → (slice_index_or board k none).block ≡ (slice_index_or board place none).block
+      → IsBound (slice_index_or board k none).so_far arrival
 
 -- what leaves from the one moment to the other arrives no earlier
 abbrev pub BoundsWindow : List Useful → ℕ → ℕ → ℕ → Type 0
 BoundsWindow board from to bound = (depart arrival : ℕ) → IsPosted board depart arrival → from ≤ depart → depart ≤ to → IsBound bound arrival
+
+-- ---- the bounds of rides and stations
 
 -- for each run and each of its stops a bound of what leaves there: 0 where nothing is known
 abbrev pub bound_in : List (List ℕ) → ℕ → ℕ → ℕ
@@ -93,6 +126,22 @@ pub record IsReach (r : RunsView) (w : TripWish) (changes : ℕ) (reach : ReachV
 -- those without a change, with one, and so on
 abbrev pub AreBounds : RunsView → TripWish → List ReachView → Type 0
 AreBounds r w levels = (n : ℕ) (none : ReachView) → n < length levels → IsReach r w n (slice_index_or levels n none)
+
+-- what gets off at a stop of a run, and goes on with so many changes to the destination, arrives no earlier than the run's row says there
+abbrev pub AreExits : RunsView → TripWish → ℕ → List (List ℕ) → Type 0
+AreExits r w changes rows = (s : Segment) (rest : List Segment) → length rest ≡ changes → LeadsTo r w s rest → IsBound (bound_in rows s.run.0 s.span.to) (arrival_of r s rest)
+
+-- the row with another bound at the stop, where it has that stop
+abbrev pub IsPut : List ℕ → ℕ → ℕ → List ℕ → Type 0
+IsPut old stop bound new = (k : ℕ) → (slice_index_or new k 0 ≡ slice_index_or old k 0) ⊎ ((k ≡ stop) × (slice_index_or new k 0 ≡ bound))
+
+-- rows without a bound
+abbrev pub AreUnknown : List (List ℕ) → Type 0
+AreUnknown rows = (run stop : ℕ) → bound_in rows run stop ≡ 0
+
+-- a row of what takes a run of so many stops, by the row of what gets off it
+abbrev pub IsFolded : ℕ → List ℕ → List ℕ → Type 0
+IsFolded stops exits row = (from to arrival : ℕ) → from < to → to < stops → IsBound (slice_index_or exits to 0) arrival → IsBound (slice_index_or row from 0) arrival
 
 -- what takes the run at the stop, and goes on with so many changes to the destination, arrives no earlier
 abbrev pub BoundsRide : RunsView → TripWish → ℕ → ℕ → ℕ → ℕ → Type 0

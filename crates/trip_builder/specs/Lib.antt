@@ -4,3 +4,5 @@ pub mod Trips
 pub mod Search
 pub mod Best
 pub mod Bounds
+pub mod Ends
+pub mod Keeping

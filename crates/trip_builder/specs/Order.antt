@@ -26,6 +26,12 @@ are_lower ss [] = false
 are_lower [] (t ∷ ts) = true
 are_lower (s ∷ ss) (t ∷ ts) = if is_same s t then are_lower ss ts else is_lower s t
 
+-- the trip stands before all that begin so: of the first two segments that differ, its own is the lower
+abbrev pub exceeds : List Segment → List Segment → Bool
+exceeds [] trip = false
+exceeds (s ∷ begun) [] = false
+exceeds (s ∷ begun) (t ∷ trip) = if is_same t s then exceeds begun trip else is_lower t s
+
 -- the one trip stands before the other: it arrives earlier, or then departs later, or then has fewer segments, or then lower ones
 abbrev pub stands_before : RunsView → List Segment → List Segment → Bool
 stands_before r a b =

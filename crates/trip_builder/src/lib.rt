@@ -6,10 +6,14 @@
 //! their runs and stops.
 #![tactic(auto)]
 
+mod ahead;
+mod best;
 mod board;
 mod bounds;
 mod chain;
 mod departures;
+mod ends;
+mod found;
 mod order;
 mod search;
 mod trip;

@@ -1,24 +1,32 @@
 ghost use Rattle.std.specs.Prelude.{◌≡◌, ◌≤◌, true, false, length};
-ghost use Rattle.std.specs.List.{insert};
-ghost use Rattle.trip_builder.specs.Order.{is_same as is_same_of, is_lower as is_lower_of, are_lower as are_lower_of, stands_before as stands_before_of, sorted_in};
+ghost use Rattle.std.specs.List.{AllWithin};
+ghost use Rattle.trip_builder.specs.Order.{is_same as is_same_of, is_lower as is_lower_of, are_lower as are_lower_of, exceeds as exceeds_of, stands_before as stands_before_of};
+ghost use Rattle.trip_builder.specs.Best.{AreInOrder};
 
 use crate::departures::{first_stop_of, last_stop_of};
 use crate::trip::Trip;
 use offer_codes::Segment;
 use train_runs::Runs;
 
-/// Before how many of the sorted trips this one has its place.
+/// How many of the trips, which stand in order, stand before this one.
 pub(crate) fn place_among(runs: &Runs, sorted: &[Trip], trip: &[Segment]) -> usize
     requires some { 1 ≤ length trip.now }
+    requires order { AreInOrder runs.now sorted.now }
     ensures within { result ≤ length sorted.now }
-    ensures place { sorted_in runs.now sorted.now trip.now ≡ insert sorted.now result trip.now }
+    ensures before { AllWithin (λ t. stands_before_of runs.now t trip.now ≡ true) sorted.now 0 result }
+    ensures after { AllWithin (λ t. stands_before_of runs.now t trip.now ≡ false)
+        sorted.now result (length sorted.now) }
 {
-    for (n, other) in sorted.iter().enumerate() {
-        if stands_before(runs, trip, other.segments()) {
-            return n;
+    let mut first = 0;
+    let mut size = sorted.len();
+    'halves: while size > 0 {
+        let half = size / 2;
+        if stands_before(runs, sorted[first + half].segments(), trip) {
+            first += size - half;
         }
+        size = half;
     }
-    sorted.len()
+    first
 }
 
 /// Whether the one trip stands before the other.
@@ -53,6 +61,21 @@ fn are_lower(a: &[Segment], b: &[Segment]) -> bool
         }
     }
     a.len() < b.len()
+}
+
+/// Whether the trip stands before all that begin so: of the first two segments that differ, its own is the lower.
+pub(crate) fn exceeds(begun: &[Segment], trip: &[Segment]) -> bool
+    ensures { result ≡ exceeds_of begun.now trip.now }
+{
+    for (n, segment) in begun.iter().enumerate() {
+        if n >= trip.len() {
+            return false;
+        }
+        if !is_same(&trip[n], segment) {
+            return is_lower(&trip[n], segment);
+        }
+    }
+    false
 }
 
 fn is_same(a: &Segment, b: &Segment) -> bool

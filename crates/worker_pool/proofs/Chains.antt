@@ -5,14 +5,14 @@ use Rattle.worker_pool.specs.Turns.{KeepsDesk, Doing, GoesOn, RunsToEnd}
 
 -- no turn keeps the desk
 pub keeps_still : (desk : DeskView) → KeepsDesk desk desk
-keeps_still desk = record { number = refl; made = refl; taken = refl; seen = ([], append-nil desk.seen) }
+keeps_still desk = record { number = refl; parted = refl; joined = refl; seen = ([], append-nil desk.seen) }
 
 -- one turn after another keeps what each of them keeps
 pub keeps_on : (a b c : DeskView) → KeepsDesk a b → KeepsDesk b c → KeepsDesk a c
 keeps_on a b c p q = record {
   number = q.number ∙ p.number;
-  made = q.made ∙ p.made;
-  taken = q.taken ∙ p.taken;
+  parted = q.parted ∙ p.parted;
+  joined = q.joined ∙ p.joined;
   seen = (p.seen.0 ++ q.seen.0, sym (append_assoc a.seen p.seen.0 q.seen.0) ∙ (ap (λ l. l ++ q.seen.0) p.seen.1 ∙ q.seen.1));
 }
 

@@ -3,11 +3,11 @@ use Rattle.std.specs.Prelude.{◌≡◌, ◌<◌, ℕ, zero, suc, List, length, 
 use mathlib.Core.List.{IsPrefix}
 use Rattle.claim_rule.specs.Rule.{DeskView}
 
--- the desk stays the same one, has parted and taken in no other, and what it had seen begins what it has seen
+-- the desk stays the same one, has parted and joined no other, and what it had seen begins what it has seen
 pub record KeepsDesk (old new : DeskView) : Type 0 where
   pub number : new.number ≡ old.number
-  pub made : new.made ≡ old.made
-  pub taken : new.taken ≡ old.taken
+  pub parted : new.parted ≡ old.parted
+  pub joined : new.joined ≡ old.joined
   pub seen : IsPrefix old.seen new.seen
 
 -- what one turn does, by the worker and the desk before it and after it

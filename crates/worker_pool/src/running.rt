@@ -1,6 +1,6 @@
 // A crew at work.
 ghost use Rattle.std.specs.Prelude.{◌<◌, All};
-ghost use Rattle.claim_rule.specs.Seats.{IsOf};
+ghost use Rattle.claim_rule.specs.Desks.{IsOf};
 ghost use Rattle.claim_rule.specs.Out.{IsTidy};
 ghost use Rattle.worker_pool.specs.Turns.{KeepsDesk, RunsToEnd, EachMember};
 ghost use Rattle.worker_pool.specs.declared.member.Member.{Member};

@@ -1,7 +1,7 @@
 // Who takes turns on a desk.
 ghost use Rattle.std.specs.Prelude.{◌≡◌, ◌↔◌};
 ghost use Rattle.claim_rule.specs.Rule.{BooksView, DeskView};
-ghost use Rattle.claim_rule.specs.Seats.{IsOf};
+ghost use Rattle.claim_rule.specs.Desks.{IsOf};
 ghost use Rattle.claim_rule.specs.Out.{IsTidy};
 ghost use Rattle.worker_pool.specs.declared.worker.TurnEnd.TheVariants.{End};
 ghost use Rattle.worker_pool.specs.Turns.{KeepsDesk};

@@ -1,6 +1,6 @@
 use Rattle.std.proofs.Common.{◌≡◌, ℕ, add-zero, sym, ap, ◌∙◌, subst}
 use Rattle.claim_rule.specs.Endings.{EndingView}
-use Rattle.claim_rule.specs.Seats.{Shape}
+use Rattle.claim_rule.specs.Desks.{Shape}
 use Rattle.claim_rule.specs.EndSteps.{gives_from}
 use Rattle.claim_rule.proofs.Out.{holds_same, holds_then}
 use Rattle.claim_rule.proofs.Shapes.{shape_none}

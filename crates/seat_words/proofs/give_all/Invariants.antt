@@ -1,5 +1,5 @@
 use Rattle.std.proofs.Common.{◌≡◌, ◌+◌, true, length}
-use Rattle.claim_rule.specs.Seats.{IsOf, Shape}
+use Rattle.claim_rule.specs.Desks.{IsOf, Shape}
 use Rattle.claim_rule.specs.EndSteps.{gives_from}
 use Rattle.claim_rule.specs.Out.{IsEnding, KeepsHolds}
 use Rattle.seat_words.proofs.Giving.{so_far}

@@ -2,7 +2,7 @@ use Rattle.std.proofs.Common.{sym, ◌∙◌, subst}
 use Rattle.std.proofs.lemmas.Bool.{true≢false}
 use Rattle.leg_masks.specs.Interval.{PlacedSpan as Item}
 use Rattle.history_model.specs.Looks.{look_at}
-use Rattle.claim_rule.specs.Seats.{Stepped}
+use Rattle.claim_rule.specs.Desks.{Stepped}
 use Rattle.seat_words.proofs.Trying.{won_hold, won_noted, won_endings, missed_hold, missed_noted, looked_endings}
 use Rattle.claim_rule.proofs.Shapes.{step_shape}
 use Rattle.seat_words.proofs.try_take.Goals as goal

@@ -1,5 +1,5 @@
-use Rattle.std.proofs.Common.{◌≡◌, ◌∙◌, ap, Option}
-use Rattle.leg_masks.specs.Interval.{Interval, pieces}
+use Rattle.std.proofs.Common.{◌∙◌, ap, Option}
+use Rattle.leg_masks.specs.Interval.{Interval}
 use Rattle.claim_rule.proofs.Out.{holds_then, endings_then}
 use Rattle.availability.specs.Looks.{listed}
 use Rattle.availability.proofs.Looking.{one_looked, two_looked}

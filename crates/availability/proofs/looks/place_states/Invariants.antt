@@ -1,6 +1,6 @@
 use Rattle.std.proofs.Common.{◌≡◌, ◌≤◌, length, take}
 use Rattle.std.specs.Vec.{vec_len, vec_capacity}
-use Rattle.claim_rule.specs.Seats.{IsOf}
+use Rattle.claim_rule.specs.Desks.{IsOf}
 use Rattle.claim_rule.specs.Calls.{ShapeBy}
 use Rattle.claim_rule.specs.Out.{KeepsHolds, KeepsEndings}
 use Rattle.availability.specs.Looks.{LooksAt}

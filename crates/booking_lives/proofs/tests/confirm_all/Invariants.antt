@@ -1,4 +1,4 @@
-use Rattle.claim_rule.specs.Seats.{IsOf}
+use Rattle.claim_rule.specs.Desks.{IsOf}
 use Rattle.booking_lives.proofs.tests.confirm_all.Given as goal
 
 abbrev pub invariant-loop-row : goal.invariant-loop-row

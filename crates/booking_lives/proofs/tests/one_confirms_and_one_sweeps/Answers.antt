@@ -1,5 +1,5 @@
 use Rattle.std.proofs.Common.{◌≡◌, ◌<◌, ◌∷◌, [], ℕ, zero, suc, List, length, slice_index_or, sym, subst, arith}
-use Rattle.claim_rule.specs.Seats.{IsOf}
+use Rattle.claim_rule.specs.Desks.{IsOf}
 use Rattle.claim_rule.specs.Out.{EndsNone}
 use Rattle.booking_lives.specs.declared.tests.Member.{Member}
 use Rattle.booking_lives.proofs.tests.one_confirms_and_one_sweeps.Goals as goal

@@ -1,4 +1,4 @@
-use Rattle.claim_rule.specs.Seats.{IsOf}
+use Rattle.claim_rule.specs.Desks.{IsOf}
 use Rattle.booking_lives.proofs.trades.refuses.Given as goal
 
 abbrev pub invariant-loop-retailer : goal.invariant-loop-retailer

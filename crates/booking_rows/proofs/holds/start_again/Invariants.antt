@@ -1,5 +1,5 @@
 use Rattle.std.proofs.Common.{◌≡◌, None}
-use Rattle.claim_rule.specs.Seats.{IsOf}
+use Rattle.claim_rule.specs.Desks.{IsOf}
 use Rattle.claim_rule.specs.Out.{HoldsNone, KeepsEndings}
 use Rattle.booking_rows.proofs.StartLemmas.{SeenPassed}
 use Rattle.booking_rows.proofs.holds.start_again.Given as goal

@@ -2,7 +2,7 @@ use Rattle.std.proofs.Common.{◌≡◌, ℕ, ◌+◌, ◌<◌, ◌≤◌, [], �
 use Rattle.history_model.specs.declared.entry.Step.TheVariants.{Start}
 use Rattle.history_model.specs.Booking.{Layout}
 use Rattle.claim_rule.specs.Rule.{DeskView}
-use Rattle.claim_rule.specs.Seats.{Shape}
+use Rattle.claim_rule.specs.Desks.{Shape}
 use Rattle.claim_rule.specs.Holds.{HoldView, empty_hold}
 use Rattle.claim_rule.specs.Out.{KeepsEndings}
 use Rattle.claim_rule.proofs.Shapes.{step_shape, shape_then, shape_past, shape_none}

@@ -2,7 +2,7 @@ use Rattle.std.proofs.Common.{◌≡◌, ◌≤◌, ◌-◌, ◌*◌, ℕ, Optio
 use Rattle.rail_ids.specs.declared.RowNo.{RowNo}
 use Rattle.history_model.specs.Booking.{Layout}
 use Rattle.claim_rule.specs.Rule.{DeskView}
-use Rattle.claim_rule.specs.Seats.{AddsAtMost}
+use Rattle.claim_rule.specs.Desks.{AddsAtMost}
 use Rattle.claim_rule.specs.Holds.{HoldView}
 use Rattle.claim_rule.specs.Calls.{ShapeBy}
 use Rattle.claim_rule.specs.Out.{HoldsNone, KeepsEndings}

@@ -2,7 +2,7 @@ use Rattle.std.proofs.Common.{ℕ, ap, sym, ◌∙◌, length, subst, [], ◌∷
 use Rattle.history_model.specs.declared.entry.Step.TheVariants.{Note}
 use Rattle.claim_rule.specs.Holds.{HoldView}
 use Rattle.claim_rule.specs.Out.{IsToBeSealed}
-use Rattle.claim_rule.specs.Seats.{Shape, Stepped}
+use Rattle.claim_rule.specs.Desks.{Shape, Stepped}
 use Rattle.booking_rows.proofs.NoteLemmas.{four_notes, sealable, detail_hold, detail_endings}
 use Rattle.booking_rows.proofs.notes.note_detail.Goals as goal
 

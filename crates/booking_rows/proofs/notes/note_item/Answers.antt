@@ -2,7 +2,7 @@ use Rattle.std.proofs.Common.{◌≡◌, ℕ, ◌+◌, ◌-◌, ◌<◌, ◌≤�
 use Rattle.leg_masks.specs.Interval.{item_word, PlacedSpan as Item}
 use Rattle.history_model.specs.Booking.{most_items}
 use Rattle.history_model.specs.declared.entry.Step.TheVariants.{Note}
-use Rattle.claim_rule.specs.Seats.{Stepped}
+use Rattle.claim_rule.specs.Desks.{Stepped}
 use Rattle.claim_rule.proofs.Shapes.{step_shape}
 use Rattle.booking_rows.proofs.NoteLemmas.{last_small, last_byte, last_word, last_note, last_noted, noted_hold, noted_endings}
 use Rattle.booking_rows.proofs.notes.note_item.Goals as goal

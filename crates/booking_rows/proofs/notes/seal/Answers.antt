@@ -4,7 +4,7 @@ use Rattle.booking_rows.proofs.NoteLemmas.{may_seal, seals_items, seal_endings}
 use Rattle.std.proofs.Common.{subst, sym}
 use Rattle.history_model.specs.declared.phase.Phase.{Phase}
 use Rattle.history_model.specs.declared.entry.Step.TheVariants.{Seal}
-use Rattle.claim_rule.specs.Seats.{Stepped, MayStep}
+use Rattle.claim_rule.specs.Desks.{Stepped, MayStep}
 use Rattle.claim_rule.proofs.Shapes.{step_shape}
 use Rattle.booking_rows.proofs.notes.seal.Goals as goal
 

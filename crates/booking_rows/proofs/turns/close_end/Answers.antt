@@ -4,7 +4,7 @@ use Rattle.history_model.specs.Booking.{Layout}
 use Rattle.history_model.specs.Allowed.{OnRow, MayClose}
 use Rattle.history_model.specs.History.{state_of}
 use Rattle.claim_rule.specs.Rule.{DeskView}
-use Rattle.claim_rule.specs.Seats.{Stepped}
+use Rattle.claim_rule.specs.Desks.{Stepped}
 use Rattle.claim_rule.specs.Endings.{EndingView, end_word}
 use Rattle.booking_rows.proofs.Ended.{has_ended}
 use Rattle.booking_rows.proofs.CloseLemmas.{may_close, closing, closed_all, closing_holds}

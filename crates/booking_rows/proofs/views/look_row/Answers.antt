@@ -1,7 +1,7 @@
 use Rattle.std.proofs.Common.{◌≡◌, true, false, sym, ◌∙◌, refl, subst, ◌∷◌, [], inl, rules}
 use Rattle.history_model.specs.declared.entry.Step.TheVariants.{SawRow}
 use Rattle.history_model.specs.Phase.{is_sealed as sealed_phase, phase_shown}
-use Rattle.claim_rule.specs.Seats.{Shape}
+use Rattle.claim_rule.specs.Desks.{Shape}
 use Rattle.claim_rule.proofs.Out.{looks_holds, looks_endings}
 use Rattle.claim_rule.proofs.Shapes.{step_shape}
 use Rattle.booking_rows.specs.SealedRows.{IsSealedSince}

@@ -1,7 +1,7 @@
 use Rattle.std.proofs.Common.{◌≡◌, ◌≤◌, ℕ, List, [], ◌∷◌, ◌++◌, ap, ◌∙◌, sym, subst}
 use Rattle.history_model.specs.Booking.{most_rows}
 use Rattle.history_model.specs.declared.phase.Phase.{Phase}
-use Rattle.claim_rule.specs.Seats.{Shape}
+use Rattle.claim_rule.specs.Desks.{Shape}
 use Rattle.booking_rows.specs.SealedRows.{IsSealedSince, IsEndOf}
 use Rattle.booking_rows.specs.Views.{word_looks}
 use Rattle.booking_rows.proofs.ViewLemmas.{three_looks, end_fits}

@@ -3,7 +3,7 @@ use Rattle.std.specs.List.{AllByRecursion}
 use Rattle.leg_masks.specs.Interval.{most_places, most_legs}
 use Rattle.history_model.specs.Booking.{Layout, most_items, row_words}
 use Rattle.history_model.specs.declared.entry.Step.TheVariants.{SawRow}
-use Rattle.claim_rule.specs.Seats.{Shape}
+use Rattle.claim_rule.specs.Desks.{Shape}
 use Rattle.claim_rule.proofs.Shapes.{step_shape, shape_none}
 use Rattle.booking_rows.specs.SealedRows.{IsItemWord, IsStillPresent}
 use Rattle.booking_rows.specs.Views.{word_looks}

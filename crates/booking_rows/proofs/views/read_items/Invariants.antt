@@ -1,6 +1,6 @@
 use Rattle.std.proofs.Common.{◌≡◌, length}
 use Rattle.std.specs.List.{AllByRecursion}
-use Rattle.claim_rule.specs.Seats.{IsOf, Shape}
+use Rattle.claim_rule.specs.Desks.{IsOf, Shape}
 use Rattle.booking_rows.specs.SealedRows.{IsSealedRow, IsStillPresent, HasItems, IsItemWord}
 use Rattle.booking_rows.specs.Views.{word_looks}
 use Rattle.booking_rows.proofs.views.read_items.Given as goal

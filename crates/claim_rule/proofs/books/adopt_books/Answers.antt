@@ -5,7 +5,7 @@ use Rattle.history_model.specs.Words.{AreWordsOf}
 use Rattle.claim_rule.specs.Rule.{BooksView}
 use Rattle.claim_rule.specs.Openings.{IsLayoutOf, layout_with}
 use Rattle.claim_rule.specs.Out.{IsTidy}
-use Rattle.claim_rule.specs.Seats.{IsOf}
+use Rattle.claim_rule.specs.Desks.{IsOf}
 use Rattle.claim_rule.proofs.Begins.{begins, first_of, first_tidy, is_first}
 use Rattle.claim_rule.proofs.OpeningWords.{one_opening}
 use Rattle.claim_rule.proofs.books.adopt_books.Goals as goal

@@ -1,4 +1,4 @@
 use Rattle.claim_rule.proofs.ending.item_of.Goals as goal
 
 pub unreachable-requires : goal.unreachable-requires
-unreachable-requires c = c.in-None.ensures.none c.requires.0 c.requires.1 c.requires.2
+unreachable-requires c = let i = c.requires.item in c.in-None.ensures.none i.0 i.1 i.2

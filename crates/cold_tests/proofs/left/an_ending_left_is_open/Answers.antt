@@ -8,7 +8,7 @@ pub leave_ending-requires-clause-other : goal.leave_ending-requires-clause-other
 leave_ending-requires-clause-other g c = λ e.
     let same = c.book-row.ensures.number in
     let number = c.part-second.ensures.new.0.number in
-    let made = c.part-second.ensures.made in
+    let made = c.part-second.ensures.parted in
     absurd (omega (arith, e, same, number, made))
 
 pub fault_is-requires-clause-idle : goal.fault_is-requires-clause-idle

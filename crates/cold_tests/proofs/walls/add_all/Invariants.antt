@@ -1,5 +1,5 @@
 use Rattle.std.proofs.Common.{◌≡◌}
-use Rattle.claim_rule.specs.Seats.{IsOf}
+use Rattle.claim_rule.specs.Desks.{IsOf}
 use Rattle.claim_rule.specs.Out.{HasNotedItems, IsHolding, KeepsEndings}
 use Rattle.cold_tests.proofs.walls.add_all.Given as goal
 

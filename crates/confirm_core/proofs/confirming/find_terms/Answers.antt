@@ -1,6 +1,6 @@
 use Rattle.std.proofs.Common.{◌≡◌, ℕ, ◌<◌, ◌∙◌, true, rules, refl, subst, sym}
 use Rattle.history_model.specs.Phase.{is_sealed as sealed_phase}
-use Rattle.claim_rule.specs.Seats.{Shape}
+use Rattle.claim_rule.specs.Desks.{Shape}
 use Rattle.booking_rows.proofs.ViewLemmas.{sealed_of}
 use Rattle.row_decisions.specs.Looks.{HasLimit, saw_terms}
 use Rattle.row_decisions.proofs.Deciding.{anothers, given_away, terms_seen, last_look}

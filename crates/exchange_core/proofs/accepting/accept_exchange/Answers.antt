@@ -9,7 +9,7 @@ use Rattle.rail_ids.specs.declared.RowNo.{RowNo}
 use Rattle.rail_ids.specs.Spelling.{last_generation}
 use Rattle.booking_rows.proofs.ViewLemmas.{generation_of_hold}
 use Rattle.claim_rule.specs.Calls.{ShapeBy}
-use Rattle.claim_rule.specs.Seats.{CanTurn}
+use Rattle.claim_rule.specs.Desks.{CanTurn}
 use Rattle.claim_rule.specs.Endings.{EndingView}
 use Rattle.offer_codes.specs.Exchanges.{exchange_view}
 use Rattle.row_decisions.proofs.Finishing.{few_items}

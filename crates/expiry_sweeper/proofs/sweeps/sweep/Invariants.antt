@@ -1,4 +1,4 @@
-use Rattle.claim_rule.specs.Seats.{IsOf}
+use Rattle.claim_rule.specs.Desks.{IsOf}
 use Rattle.claim_rule.specs.Out.{KeepsHolds, EndsNone}
 use Rattle.expiry_sweeper.proofs.Counting.{SweptTo}
 use Rattle.expiry_sweeper.proofs.sweeps.sweep.Given as goal

@@ -1,5 +1,5 @@
 use Rattle.std.proofs.Common.{◌≡◌, ◌+◌, length}
-use Rattle.claim_rule.specs.Seats.{IsOf}
+use Rattle.claim_rule.specs.Desks.{IsOf}
 use Rattle.claim_rule.specs.Out.{IsHolding, KeepsEndings}
 use Rattle.hold_core.proofs.Giving.{GaveSome}
 use Rattle.hold_core.proofs.abandons.abandon.Given as goal

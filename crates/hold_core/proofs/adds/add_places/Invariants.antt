@@ -1,5 +1,5 @@
 use Rattle.std.proofs.Common.{◌<◌, map, take}
-use Rattle.claim_rule.specs.Seats.{IsOf}
+use Rattle.claim_rule.specs.Desks.{IsOf}
 use Rattle.claim_rule.specs.Out.{IsHolding, HasNotedItems, KeepsEndings}
 use Rattle.hold_core.specs.Tries.{place_number}
 use Rattle.hold_core.proofs.Adding.{TriedSettled}

@@ -21,7 +21,7 @@ loop-worker-preserved c =
     let items = c.in_ok-push.ensures.items in
     let one : IsReady c.args.books.now said.seed said.size c.loop-worker.worker connection =
     ready_new c.args.books.now said.seed said.size c.loop-worker.worker c.loop-worker.desk c.open_connection.new.desk connection inv.first opened.own.1 opened.idle.1
-    opened.same.2 opened.number opened.none opened.taken (opened.requests ∙ c.in_ok-requests.ensures) opened.fresh opened.clock in
+    opened.same.2 opened.number opened.none opened.joined (opened.requests ∙ c.in_ok-requests.ensures) opened.fresh opened.clock in
     record {
       own = opened.own.0;
       idle = opened.idle.0 inv.idle;

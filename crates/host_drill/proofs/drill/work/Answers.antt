@@ -1,6 +1,6 @@
 use Rattle.std.proofs.Common.{◌≡◌, ◌∙◌, ◌++◌, ◌<◌, ℕ, List, length, take, drop, ◌*◌, sym, ap, subst, refl, rules}
 use Rattle.std.specs.Prelude.{slice_index_or}
-use Rattle.claim_rule.specs.Seats.{IsOf}
+use Rattle.claim_rule.specs.Desks.{IsOf}
 use Rattle.claim_rule.specs.Out.{IsIdle}
 use Rattle.drill_totals.specs.Meeting.{EachAt, EachPair}
 use Rattle.host_drill.specs.declared.connection.Connection.{Connection}

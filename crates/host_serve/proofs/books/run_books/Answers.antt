@@ -4,7 +4,7 @@ use Rattle.host_serve.specs.declared.end.ServeOutcome.{ServeOutcome}
 use Rattle.host_serve.specs.Serve.{BooksEnd}
 use Rattle.host_serve.proofs.Crewing.{complete, one_more}
 use Rattle.host_serve.specs.Turns.{Asks, FitsBooks}
-use Rattle.host_serve.proofs.Closing.{served_wall, all_rested, all_worked}
+use Rattle.host_serve.proofs.Closing.{served_wall, all_parts, all_rested, all_worked}
 use Rattle.host_serve.proofs.books.run_books.Goals as goal
 use Rattle.host_serve.proofs.books.run_books.Goals.{then-all, else-all}
 
@@ -18,20 +18,22 @@ returns g c =
     let members = c.crew_of-crew.ensures in
     let clocks = map g.C.Clock.told c.args.clocks.items in
     let asks = Asks g.T.Ticker.ticked c.args.ticker in
-    let worked = all_worked g.C.Clock.told g.T.Ticker.ticked c.args.cat.now said c.args.ticker clocks c.args.books c.crew_of-crew.result.items
-    c.run_crew-desk.new.first c.finish_listener-all.new.desk c.meet.new.desk (g.C.Clock.told c.into_clock-clock.result) (g.C.Clock.told c.finish_listener-all.new.clock)
-    c.run_crew-desk.result left.turns.0 members.crew members.ready members.count c.requires.workers run (ap g.C.Clock.told c.into_clock-clock.ensures)
-    left.keeps left.turns.2 left.own c.meet.ensures.met in
+    let view = g.L.Listener.told c.finish_listener-all.new.listener in
+    let worked = all_worked _ g.C.Clock.told g.T.Ticker.ticked c.args.cat.now said c.args.ticker clocks c.args.books c.crew_of-crew.result.items _ _
+    c.run_crew-desk.new.first c.run_crew-desk.result members.crew members.ready members.count c.requires.workers run
+    c.finish_listener-all.new.desk c.meet.new.desk (g.C.Clock.told c.into_clock-clock.result) (g.C.Clock.told c.finish_listener-all.new.clock)
+    left.turns.0 c.into_clock-clock.new.all.amount view.handed members.nothing c.into_clock-clock.ensures.amount
+    (let counted = c.into_listener-listener.ensures.counted in let more = left.turns.1 in omega (arith, counted, more))
+    (ap g.C.Clock.told c.into_clock-clock.ensures.clock) left.keeps left.turns.2 left.own c.meet.ensures.met in
     let books = c.args.books in
     let rests = all_rested FitsBooks books run.crew c.run_crew-desk.result c.run_crew-desk.new.first c.finish_listener-all.new.desk c.meet.new.desk
     run.are run.met left.own left.tidy (left.keeps.number ∙ run.is.desk.number) c.meet.ensures.met in
     let count : length run.crew ≡ said.workers + 1 = run.count ∙ members.count in
     let closed = c.close.ensures in
-    let wall = served_wall c.args.cat.now said clocks asks books c.meet.new.desk c.close.result c.meet.ensures.own (c.meet.ensures.tidy run.met.tidy) c.requires.opening
+    let wall = served_wall c.args.cat.now said clocks asks view.handed books c.meet.new.desk c.close.result c.meet.ensures.own (c.meet.ensures.tidy run.met.tidy) c.requires.opening
     closed.layout (record { places = closed.places; legs = closed.legs; rows = closed.rows }) closed.history
     whole.0 (whole.1 ∙ count) (one_more c.run_crew-desk.new.first.number c.run_crew-desk.new.first.seen c.meet.new.desk.seen run.met.number c.meet.ensures.met.mine run.met.meets)
     worked (λ n low high. rests n low (omega (arith, high, count))) in
-    let view = g.L.Listener.told c.finish_listener-all.new.listener in
     let faults = g.L.Listener.faults c.finish_listener-all.new.listener in
     record {
       never_falls = omega (arith, c.requires.faults, c.into_listener-listener.ensures.never_falls, left.never_falls);
@@ -56,3 +58,13 @@ returns g c =
         )
       ];
     }
+
+-- all members have given what they had
+pub into_listener-listener-requires : goal.into_listener-listener-requires
+into_listener-listener-requires g c =
+    let said = c.args.said in
+    let members = c.crew_of-crew.ensures in
+    let parts = all_parts _ g.C.Clock.told g.T.Ticker.ticked c.args.cat.now said c.args.ticker (map g.C.Clock.told c.args.clocks.items) c.args.books c.crew_of-crew.result.items _ _
+    c.run_crew-desk.new.first c.run_crew-desk.result members.crew members.ready members.count c.requires.workers c.run_crew-desk.ensures.run
+    c.into_clock-clock.new.all.parts members.parts c.into_clock-clock.ensures.parts in
+    record { whole = omega (arith, parts, c.requires.parts, c.requires.one_each) }

@@ -1,9 +1,9 @@
 use Rattle.std.proofs.Common.{◌≡◌, ◌<◌, ◌+◌, ◌++◌, ℕ, List, length, slice_index_or, take, drop, sym, subst, ap, ◌∙◌, arith, rules}
-use Rattle.claim_rule.specs.Seats.{IsOf}
+use Rattle.claim_rule.specs.Desks.{IsOf}
 use Rattle.claim_rule.specs.Out.{IsTidy}
 use Rattle.worker_pool.specs.declared.member.Member.{Member}
 use Rattle.worker_pool.specs.Turns.{KeepsDesk, RunsToEnd}
-use Rattle.host_serve.specs.Crews.{IsCrew, IsMember, HasMetAll}
+use Rattle.host_serve.specs.Crews.{HasGiven, IsCrew, IsMember, HasMetAll}
 use Rattle.host_serve.proofs.Crewing.{after_run, all_written, since}
 use Rattle.host_serve.proofs.books.run_crew.Goals as goal
 
@@ -39,6 +39,9 @@ returns g c =
         is = subst (λ (m : Member g.row.W.Denot). IsMember g.W.Worker.fits books 1 m) (sym (left none))
             (subst (λ (k : ℕ). IsMember g.W.Worker.fits books k (slice_index_or crew 0 none)) one (is 0 none some));
         left = left;
+        given = subst (λ (l : List (Member g.row.W.Denot)). HasGiven g.W.Gives.parts g.W.Gives.amount l 1
+            (record { parts = c.args.all.now.parts; amount = c.args.all.now.amount })
+            (record { parts = c.meet_others.new.all.parts; amount = c.meet_others.new.all.amount })) written c.meet_others.ensures.given;
       };
     }
 

@@ -1,9 +1,9 @@
 use Rattle.std.proofs.Common.{◌≡◌, ◌∙◌, ◌+◌, ◌++◌, ◌∷◌, [], ℕ, length, map, refl, sym, subst, ap, arith, rules, append-nil}
 use mathlib.Core.List.{IsPrefix}
 use Rattle.std.proofs.lemmas.List.{length-append}
-use Rattle.host_serve.specs.Crews.{AreReady, IsCrew, IsFirst, IsReady}
+use Rattle.host_serve.specs.Crews.{AreReady, IsCrew, IsFirst}
 use Rattle.host_serve.specs.Turns.{FitsBooks}
-use Rattle.host_serve.proofs.Crewing.{joined, joined_each, parted_first, parted_desk, parted_empty, popped_clock, shorter}
+use Rattle.host_serve.proofs.Crewing.{joined, parted_first, parted_desk, parted_empty, popped_clock, ready_more, shorter}
 use Rattle.host_serve.proofs.crew.crew_of.Goals as goal
 
 pub loop-number-init : goal.loop-number-init
@@ -15,7 +15,10 @@ loop-number-init g c =
     record {
       first = subst (λ l. IsFirst books (length l) c.args.first.now) (sym nobody) c.requires.first;
       crew = subst (λ l. IsCrew FitsBooks books l) (sym nobody) (λ i none lt. absurd (omega (arith, lt)));
-      ready = subst (λ l. AreReady told c.args.common.cat.now c.args.said c.args.ticker (map told clocks) l) (sym nobody) (λ i none lt. absurd (omega (arith, lt)));
+      ready = subst (λ l. AreReady l (λ s. s.share.amount) told c.args.common.cat.now c.args.said c.args.ticker (map told clocks)) (sym nobody)
+          (λ i none lt. absurd (omega (arith, lt)));
+      parts = omega (arith, c.requires.parts);
+      nothing = c.requires.nothing;
       count = ap length nobody;
       clocks = omega (arith, c.requires.clocks);
       front = ([], append-nil clocks);
@@ -40,22 +43,24 @@ loop-number-preserved g c =
     let front = subst (λ l. IsPrefix l clocks) whole inv.front in
     record {
       first = subst (λ (k : ℕ). IsFirst books k c.part.new.desk) (sym many)
-          (parted_first books n c.loop-number.first c.part.new.desk inv.first part.own.0 part.met part.made (part.still.1 inv.first.tidy));
+          (parted_first books n c.loop-number.first c.part.new.desk inv.first part.own.0 part.met part.parted (part.still.1 inv.first.tidy));
       crew = subst (λ l. IsCrew FitsBooks books l) (sym items)
           (joined FitsBooks books crew _ inv.crew (record {
             fits = c.requires.has;
-            desk = parted_desk books n c.loop-number.first c.part.new.desk c.part.result inv.first part.made part.new.0 part.own.1 part.tidy;
+            desk = parted_desk books n c.loop-number.first c.part.new.desk c.part.result inv.first part.parted part.new.0 part.own.1 part.tidy;
           }));
-      ready = subst (λ l. AreReady told c.args.common.cat.now c.args.said c.args.ticker (map told clocks) l) (sym items)
-          (joined_each (λ i m. IsReady told c.args.common.cat.now c.args.said c.args.ticker (map told clocks) i m) crew _ inv.ready (record {
-            post = (omega (arith, inv.count, c.loop-number-test.true), refl);
-            clock = popped_clock told clocks c.pop.new.self.items c.unwrap.result n front (omega (arith, inv.left, inv.count, popped));
-            none = parted_empty n c.part.new.desk c.part.result (part.made ∙ ap (λ (k : ℕ). k + 1) inv.first.made) part.new.0 part.new.1;
-          }));
+      ready = ready_more (λ s. s.share.amount) told c.args.common.cat.now c.args.said c.args.ticker (map told clocks) _ crew _ items inv.ready (record {
+        post = (omega (arith, inv.count, c.loop-number-test.true), refl);
+        clock = popped_clock told clocks c.pop.new.self.items c.unwrap.result n front (omega (arith, inv.left, inv.count, popped));
+        unserved = c.split_off.ensures.amount;
+        none = parted_empty n c.part.new.desk c.part.result (part.parted ∙ ap (λ (k : ℕ). k + 1) inv.first.parted) part.new.0 part.new.1;
+      });
       count = omega (arith, many, inv.count);
       clocks = omega (arith, inv.clocks, popped, c.loop-number-test.true);
       front = shorter clocks c.pop.new.self.items c.unwrap.result front;
       left = omega (arith, inv.left, popped);
+      parts = (let less = c.split_off.ensures.parts_left in omega (arith, less, inv.parts));
+      nothing = (let same = c.split_off.ensures.amount_left in omega (arith, same, inv.nothing));
       len = omega (arith, c.push_reserved.ensures.len, inv.len);
       room = omega (arith, c.push_reserved.ensures.capacity, inv.room);
     }
@@ -68,7 +73,7 @@ returns-clause-first g c =
     let part = c.part-2.ensures in
     let many : length c.push_reserved-2.new.self.items ≡ length crew + 1 = ap length c.push_reserved-2.ensures.items ∙ length-append crew _ in
     subst (λ (k : ℕ). IsFirst books k c.part-2.new.desk) (sym many)
-    (parted_first books (length crew) c.loop-number.first c.part-2.new.desk inv.first part.own.0 part.met part.made (part.still.1 inv.first.tidy))
+    (parted_first books (length crew) c.loop-number.first c.part-2.new.desk inv.first part.own.0 part.met part.parted (part.still.1 inv.first.tidy))
 
 pub returns-clause-crew : goal.returns-clause-crew
 returns-clause-crew g c =
@@ -79,7 +84,7 @@ returns-clause-crew g c =
     subst (λ l. IsCrew FitsBooks books l) (sym c.push_reserved-2.ensures.items)
     (joined FitsBooks books crew _ inv.crew (record {
       fits = tt {0};
-      desk = parted_desk books (length crew) c.loop-number.first c.part-2.new.desk c.part-2.result inv.first part.made part.new.0 part.own.1 part.tidy;
+      desk = parted_desk books (length crew) c.loop-number.first c.part-2.new.desk c.part-2.result inv.first part.parted part.new.0 part.own.1 part.tidy;
     }))
 
 pub returns-clause-ready : goal.returns-clause-ready
@@ -93,9 +98,9 @@ returns-clause-ready g c =
     let whole : c.loop-number.clocks.items ≡ c.pop-2.new.self.items ++ c.unwrap-2.result ∷ [] = search rules in
     let popped : length c.loop-number.clocks.items ≡ length c.pop-2.new.self.items + 1 = ap length whole ∙ length-append c.pop-2.new.self.items _ in
     let front = subst (λ l. IsPrefix l clocks) whole inv.front in
-    subst (λ l. AreReady told c.args.common.cat.now c.args.said c.args.ticker (map told clocks) l) (sym c.push_reserved-2.ensures.items)
-    (joined_each (λ i m. IsReady told c.args.common.cat.now c.args.said c.args.ticker (map told clocks) i m) crew _ inv.ready (record {
+    ready_more (λ s. s.share.amount) told c.args.common.cat.now c.args.said c.args.ticker (map told clocks) _ crew _ c.push_reserved-2.ensures.items inv.ready (record {
       post = (at, refl, refl);
       clock = popped_clock told clocks c.pop-2.new.self.items c.unwrap-2.result (length crew) front (omega (arith, inv.left, inv.count, popped));
-      none = parted_empty (length crew) c.part-2.new.desk c.part-2.result (part.made ∙ ap (λ (k : ℕ). k + 1) inv.first.made) part.new.0 part.new.1;
-    }))
+      unserved = refl;
+      none = parted_empty (length crew) c.part-2.new.desk c.part-2.result (part.parted ∙ ap (λ (k : ℕ). k + 1) inv.first.parted) part.new.0 part.new.1;
+    })

@@ -8,7 +8,9 @@ abbrev pub invariant-loop-number : goal.invariant-loop-number
 invariant-loop-number g l = record {
   first : IsFirst l.books (length l.crew.items) l.first;
   crew : IsCrew FitsBooks l.books l.crew.items;
-  ready : AreReady g.C.Clock.told l.common.cat.now l.said l.ticker (map g.C.Clock.told l.fn.clocks.items) l.crew.items;
+  ready : AreReady l.crew.items (λ s. s.share.amount) g.C.Clock.told l.common.cat.now l.said l.ticker (map g.C.Clock.told l.fn.clocks.items);
+  parts : l.share.parts + l._number ≡ l.said.workers;
+  nothing : l.share.amount ≡ 0;
   count : length l.crew.items ≡ l._number;
   clocks : l.said.workers + 1 ≤ l._number + length l.clocks.items;
   front : IsPrefix l.clocks.items l.fn.clocks.items;

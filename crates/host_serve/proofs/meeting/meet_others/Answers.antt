@@ -2,8 +2,8 @@ use Rattle.std.proofs.Common.{◌≡◌, ◌+◌, ◌++◌, ◌∷◌, [], List,
 use mathlib.Core.List.{IsPrefix}
 use Rattle.std.proofs.lemmas.List.{length-append}
 use Rattle.worker_pool.specs.declared.member.Member.{Member}
-use Rattle.host_serve.specs.Crews.{IsMember, HasMetAll}
-use Rattle.host_serve.proofs.Crewing.{front_of, last_of, met_one, popped}
+use Rattle.host_serve.specs.Crews.{HasGiven, Held, IsMember, HasMetAll}
+use Rattle.host_serve.proofs.Crewing.{front_of, given_one, last_of, met_one, popped}
 use Rattle.host_serve.proofs.meeting.meet_others.Goals as goal
 
 pub loop-crew-preserved : goal.loop-crew-preserved
@@ -17,9 +17,14 @@ loop-crew-preserved g c =
     let last = last_of g.W.Worker.fits c.args.books.now all crew m c.requires.crew front in
     let count : length c.loop-crew.crew.items ≡ length crew + 1 = ap length whole ∙ length-append crew (m ∷ []) in
     let met = subst (λ n. HasMetAll c.args.books.now all n c.loop-crew.first) count inv.met in
+    let old : Held = record { parts = c.args.all.now.parts; amount = c.args.all.now.amount } in
+    let mid : Held = record { parts = c.loop-crew.all.parts; amount = c.loop-crew.all.amount } in
+    let new : Held = record { parts = c.give.new.all.parts; amount = c.give.new.all.amount } in
+    let given = subst (λ n. HasGiven g.W.Gives.parts g.W.Gives.amount all n old mid) count inv.given in
     record {
       some = omega (arith, count, c.loop-crew-test.true);
       front = front_of g.W.Worker.fits c.args.books.now all crew m front;
+      given = given_one g.W.Worker.fits c.args.books.now g.W.Gives.parts g.W.Gives.amount all crew m old mid new front given c.give.ensures.parts c.give.ensures.amount;
       met = met_one g.W.Worker.fits c.args.books.now all crew m c.loop-crew.first c.meet.new.desk front last.0 met c.meet.ensures.met c.meet.ensures.own (c.meet.ensures.tidy inv.met.tidy);
     }
 

@@ -1,4 +1,7 @@
 use Rattle.host_serve.proofs.run.listen_and_run.Given as goal
 
-abbrev pub ghosts-run_books : goal.ghosts-run_books
-ghosts-run_books g a = record { faults = g.L.Listener.faults a.listener; port = a.said.port; limit = a.said.connections }
+abbrev pub ghosts-run_books-N-Named : goal.ghosts-run_books-N-Named
+ghosts-run_books-N-Named g a = record { faults = g.L.Listener.faults a.listener; port = a.said.port; limit = a.said.connections }
+
+abbrev pub ghosts-run_books-N-Ledger : goal.ghosts-run_books-N-Ledger
+ghosts-run_books-N-Ledger g a = record { name = a.blank.name; parts = a.blank.parts }

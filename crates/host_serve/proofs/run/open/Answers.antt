@@ -20,7 +20,7 @@ returns-clause-first g c = IfOk-weaker c.load_books.result _ _ (λ t x. record {
   own = x.2.own;
   tidy = x.2.tidy;
   number = x.2.new.number;
-  made = x.2.new.made;
-  taken = x.2.new.taken;
+  parted = x.2.new.parted;
+  joined = x.2.new.joined;
   meets = subst (λ (es : List Entry). OnlyMet es) (sym x.2.new.seen) tt;
 }) c.load_books.ensures.ok

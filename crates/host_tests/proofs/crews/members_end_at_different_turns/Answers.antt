@@ -1,5 +1,5 @@
 use Rattle.std.proofs.Common.{◌<◌, ℕ, length, slice_index_or, sym, subst}
-use Rattle.claim_rule.specs.Seats.{IsOf}
+use Rattle.claim_rule.specs.Desks.{IsOf}
 use Rattle.claim_rule.specs.Out.{IsTidy}
 use Rattle.worker_pool.specs.declared.member.Member.{Member}
 use Rattle.host_tests.proofs.Crew.{of_three}

@@ -138,7 +138,7 @@ read_items-returns-clause-ok t c =
 pub read_members-members-init : goal.read_members-members-init
 read_members-members-init t c =
     let all = members (value c.args.depth) (length c.args.reader.now) c.args.reader.now in
-    (length c.args.reader.now, omega arith, ap (λ es. converted (λ ms. of_members ms (members_view es)) all) (sym c.new-found.ensures.items), omega arith)
+    (length c.args.reader.now, omega arith, ap (λ es. converted (λ ms. of_members ms (members_view es)) all) (sym c.in_ok-found.ensures.items), omega arith)
 
 pub read_members-returns-in_err-name-clause-err : goal.read_members-returns-in_err-name-clause-err
 read_members-returns-in_err-name-clause-err t c refused =
@@ -189,4 +189,4 @@ read_members-returns-clause-ok t c =
     let n = l.invariant.0 in
     let old = members_view l.found.items in
     l.invariant.2 ∙ members_over p old n l.reader c.next_key.new.self l.invariant.1 (grind arith)
-    ∙ ap (λ (es : List Entry). Some (members_view es, c.next_key.new.self)) (sym c.shrink_to_fit.ensures.items)
+    ∙ ap (λ (es : List Entry). Some (members_view es, c.next_key.new.self)) (sym c.fitted.ensures.items)

@@ -11,8 +11,8 @@ use Rattle.availability.specs.Looks.{CountsFree}
 use Rattle.offer_engine.proofs.Candidates.{candidates_few}
 use Rattle.offer_engine.proofs.counts.count_segment.Goals as goal
 
-pub free_places-requires-clause-few : goal.free_places-requires-clause-few
-free_places-requires-clause-few c =
+pub count_all-requires-clause-few : goal.count_all-requires-clause-few
+count_all-requires-clause-few c =
     let few = candidates_few c.class_places-numbers.result.now c.args.segment.now.run.0 0 c.args.wish.now.class c.places-map.result.now c.class_places-numbers.ensures.untraited in
     let most = c.all-places.ensures.most in
     let same : length c.all-places.result.now ≡ length c.places-map.result.now = ap length c.all-places.ensures.places in

@@ -1,6 +1,6 @@
 use Rattle.std.proofs.Common.{◌≤◌, take}
 use Rattle.std.specs.List.{filter}
-use Rattle.claim_rule.specs.Seats.{IsOf}
+use Rattle.claim_rule.specs.Desks.{IsOf}
 use Rattle.claim_rule.specs.Calls.{ShapeBy}
 use Rattle.claim_rule.specs.Out.{KeepsHolds, KeepsEndings, IsTidy}
 use Rattle.place_map.specs.ByClass.{has_traits}

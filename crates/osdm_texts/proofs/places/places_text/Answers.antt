@@ -1,9 +1,9 @@
-use Rattle.std.proofs.Common.{◌≡◌, ◌∙◌, ◌+◌, ◌++◌, ◌<◌, ◌≤◌, ◌∷◌, [], length, List, ℕ, codes, sym, ap, arith, refl, nat_lt, true, false}
+use Rattle.std.proofs.Common.{◌≡◌, ◌∙◌, ◌+◌, ◌++◌, ◌<◌, ◌≤◌, ◌∷◌, [], length, get_or, List, ℕ, codes, sym, ap, arith, refl, nat_lt, true, false}
 use Rattle.std.proofs.lemmas.Bool.Decides.{nat_tests}
 use Rattle.serde_json.specs.View.{items_of}
 use Rattle.serde_json.specs.Written.{items_text}
 use Rattle.osdm_texts.specs.Places.{place_trees}
-use Rattle.osdm_texts.proofs.PlaceLines.{first_listed, none_listed, item_turned, list_text}
+use Rattle.osdm_texts.proofs.PlaceLines.{framed_is, first_listed, none_listed, item_turned, list_text}
 use Rattle.osdm_texts.proofs.places.places_text.Goals as goal
 
 pub loop-n-init : goal.loop-n-init
@@ -18,7 +18,9 @@ loop-n-preserved c =
     let n = c.loop-n.n in
     let within : n < length free = omega arith in
     let later : nat_lt 0 (n + 1) ≡ true = grind (arith, nat_tests) in
-    rw later (item_turned _ _ _ _ _ _ _ (first_listed places free n _ _ c.loop-n-test.true within) c.loop-n.invariant c.in_ok-put_place.ensures)
+    let keys = c.in_ok-front-2.ensures in
+    rw later (item_turned _ _ _ _ _ _ _ (first_listed places free n _ _ c.loop-n-test.true within) c.loop-n.invariant
+    (c.in_ok-put_place.ensures ∙ ap (λ (l : List ℕ). c.loop-n.text.items ++ l) (framed_is _ _ _ _ (get_or places n _) (get_or free n _) keys.0 keys.1 keys.2)))
 
 pub returns : goal.returns
 returns c =

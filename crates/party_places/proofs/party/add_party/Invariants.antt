@@ -1,6 +1,6 @@
 use Rattle.std.proofs.Common.{◌≡◌, ◌<◌, ◌≤◌, length, map}
 use Rattle.std.specs.Prelude.{All, slice_index}
-use Rattle.claim_rule.specs.Seats.{IsOf}
+use Rattle.claim_rule.specs.Desks.{IsOf}
 use Rattle.claim_rule.specs.Out.{IsHolding, HasNotedItems, KeepsEndings}
 use Rattle.hold_core.specs.Tries.{place_number}
 use Rattle.party_places.specs.Parties.{asked}

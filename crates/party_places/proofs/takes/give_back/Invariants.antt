@@ -1,5 +1,5 @@
 use Rattle.std.proofs.Common.{◌≡◌, ◌+◌, ◌-◌, ℕ, length}
-use Rattle.claim_rule.specs.Seats.{IsOf}
+use Rattle.claim_rule.specs.Desks.{IsOf}
 use Rattle.claim_rule.specs.Out.{IsHolding, HasNotedItems, KeepsEndings}
 use Rattle.party_places.proofs.Taking.{Gave}
 use Rattle.party_places.proofs.takes.give_back.Given as goal

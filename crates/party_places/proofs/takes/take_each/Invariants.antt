@@ -1,4 +1,4 @@
-use Rattle.claim_rule.specs.Seats.{IsOf}
+use Rattle.claim_rule.specs.Desks.{IsOf}
 use Rattle.claim_rule.specs.Out.{IsHolding, HasNotedItems, KeepsEndings}
 use Rattle.party_places.proofs.Taking.{Took}
 use Rattle.party_places.proofs.takes.take_each.Given as goal

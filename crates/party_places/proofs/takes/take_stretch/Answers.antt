@@ -1,5 +1,5 @@
 use Rattle.std.proofs.Common.{length, ℕ, ◌-◌, ap, subst, ◌∙◌}
-use Rattle.claim_rule.specs.Seats.{Shape}
+use Rattle.claim_rule.specs.Desks.{Shape}
 use Rattle.claim_rule.proofs.Out.{endings_then}
 use Rattle.party_places.specs.Parties.{gives_down}
 use Rattle.party_places.proofs.Taking.{given_up}

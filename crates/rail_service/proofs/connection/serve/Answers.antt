@@ -1,6 +1,6 @@
 use Rattle.std.proofs.Common.{subst}
 use Rattle.claim_rule.specs.Rule.{BooksView}
-use Rattle.claim_rule.specs.Seats.{IsOf}
+use Rattle.claim_rule.specs.Desks.{IsOf}
 use Rattle.rail_service.proofs.Connecting.{through, serves}
 use Rattle.rail_service.proofs.connection.serve.Goals as goal
 

@@ -1,7 +1,7 @@
 use Rattle.std.proofs.Common.{◌≡◌, ℕ, ◌<◌, ◌∙◌, true, [], ◌∷◌, rules, refl, subst, sym}
 use Rattle.history_model.specs.declared.entry.Step.TheVariants.{SawRow}
 use Rattle.history_model.specs.Phase.{is_sealed as sealed_phase}
-use Rattle.claim_rule.specs.Seats.{Shape}
+use Rattle.claim_rule.specs.Desks.{Shape}
 use Rattle.claim_rule.proofs.Out.{holds_then, endings_then}
 use Rattle.booking_rows.proofs.ViewLemmas.{sealed_of, sealed_on}
 use Rattle.row_decisions.specs.Looks.{saw_owner}

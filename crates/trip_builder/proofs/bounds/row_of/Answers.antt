@@ -1,34 +1,25 @@
-use Rattle.std.proofs.Common.{rules, ◌∙◌, ◌+◌, arith, sym, subst}
-use Rattle.std.proofs.lemmas.List.{length-set}
-use Rattle.trip_builder.proofs.Bounding.{BoundsFurther, ends_within, row_done, row_further}
+use Rattle.std.proofs.Common.{◌≡◌, ◌∙◌, ◌+◌, [], List, length, get_or, ap, sym, subst, arith, length-set}
+use Rattle.train_runs.specs.declared.run.Stop.{Stop}
+use Rattle.trip_builder.specs.Segments.{stops_of}
+use Rattle.trip_builder.proofs.Bounding.{IsLeastFrom, fold_row, fold_least}
 use Rattle.trip_builder.proofs.bounds.row_of.Goals as goal
-
-pub loop-back-init : goal.loop-back-init
-loop-back-init c =
-    let r = c.args.runs.now in
-    let w = c.args.wish.now in
-    let stops = c.stops_of-stops.result.now in
-    record {
-      size = search rules;
-      done = λ s rest is count leads low. (let ends = ends_within r w c.args.run.0 stops s rest c.stops_of-stops.ensures.stops is leads in absurd (omega (arith, low, ends.0, ends.1)));
-      further = λ s rest is count leads low. (let ends = ends_within r w c.args.run.0 stops s rest c.stops_of-stops.ensures.stops is leads in absurd (omega (arith, low, ends.1)));
-    }
 
 pub loop-back-preserved : goal.loop-back-preserved
 loop-back-preserved c =
-    let r = c.args.runs.now in
-    let w = c.args.wish.now in
-    let stops = c.stops_of-stops.result.now in
+    let count = length c.stops_of-count.result.now in
+    let exits = get_or c.args.exits.now c.args.run.0 [] in
     let row = c.loop-back.row.items in
     let least = c.loop-back.least in
     let back = c.loop-back.back in
     let was = c.loop-back.invariant in
     record {
       size = length-set _ _ _ ∙ was.size;
-      done = row_done r w c.args.changes c.args.run.0 stops row least back c.stops_of-stops.ensures.stops was.size c.loop-back-test.true was.done was.further;
-      further = subst (λ n. BoundsFurther r w c.args.changes c.args.run.0 stops n (back + 1)) (sym c.min-least.ensures)
-          (row_further r w c.args.changes c.args.run.0 stops least c.bound_at.result back c.index-stops-stop.result c.stops_of-stops.ensures.stops c.loop-back-test.true c.index-stops-stop.is c.bound_at.ensures was.further);
+      done = fold_row count exits row least back was.size c.loop-back-test.true was.done was.further;
+      further = subst (λ n. IsLeastFrom count exits n (back + 1)) (sym c.min-least.ensures) (fold_least count exits least c.bound_of.result back c.loop-back-test.true c.bound_of.ensures was.further);
     }
 
 pub returns : goal.returns
-returns c = let ended = c.loop-back-test.false in λ s rest is count leads. c.loop-back.invariant.done s rest is count leads (omega (arith, ended))
+returns c =
+    let ended = c.loop-back-test.false in
+    let size : length (stops_of c.args.runs.now c.args.run.0) ≡ length c.stops_of-count.result.now = ap (λ (l : List Stop). length l) (sym c.stops_of-count.ensures.stops) in
+    λ from to arrival up inside bound. c.loop-back.invariant.done from to arrival up (omega (arith, inside, size)) (omega (arith, ended)) bound

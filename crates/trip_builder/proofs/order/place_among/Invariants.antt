@@ -1,6 +1,14 @@
-use Rattle.std.proofs.Common.{◌≡◌, ◌++◌, take, drop}
-use Rattle.trip_builder.specs.Order.{sorted_in}
+use Rattle.std.proofs.Common.{◌≡◌, ◌+◌, ◌≤◌, true, false, length}
+use Rattle.std.specs.List.{AllWithin}
+use Rattle.trip_builder.specs.Order.{stands_before}
 use Rattle.trip_builder.proofs.order.place_among.Given as goal
 
-abbrev pub invariant-loop-n : goal.invariant-loop-n
-invariant-loop-n l = take l.n l.sorted ++ sorted_in l.runs (drop l.n l.sorted) l.trip ≡ sorted_in l.runs l.sorted l.trip
+abbrev pub invariant-halves : goal.invariant-halves
+invariant-halves l = record {
+  within : l.first + l.size ≤ length l.sorted;
+  before : AllWithin (λ t. stands_before l.runs t l.trip ≡ true) l.sorted 0 l.first;
+  after : AllWithin (λ t. stands_before l.runs t l.trip ≡ false) l.sorted (l.first + l.size) (length l.sorted);
+}
+
+abbrev pub decreases-halves : goal.decreases-halves
+decreases-halves l = l.size

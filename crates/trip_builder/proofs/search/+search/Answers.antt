@@ -1,37 +1,47 @@
-use Rattle.std.proofs.Common.{◌≡◌, ◌∙◌, ◌<◌, ℕ, suc, ◌+◌, ◌-◌, ◌++◌, ◌∷◌, [], List, length, length-append, ap, sym, subst, arith, get_or}
+use Rattle.std.proofs.Common.{◌≡◌, ◌∙◌, ◌<◌, ℕ, suc, ◌+◌, ◌-◌, ◌++◌, ◌∷◌, [], List, length, length-append, ap, sym, subst, arith, get_or, inl, ⊎_elim}
 use Rattle.std.proofs.lemmas.List.Elements.{at_read}
 use Rattle.train_runs.specs.declared.run.Stop.{Stop}
 use Rattle.offer_codes.specs.declared.code.Segment.{Segment}
 use Rattle.train_runs.specs.declared.departure.Departure.{Departure}
 use Rattle.trip_builder.specs.Segments.{segment}
-use Rattle.trip_builder.specs.Search.{IsWay, Grows, AreDecided, AreDecidedWith, AllArriveBy}
-use Rattle.trip_builder.specs.Bounds.{AreBounds}
+use Rattle.trip_builder.specs.Search.{IsWay, Grows, AreDecided, AreDecidedWith}
+use Rattle.trip_builder.specs.Bounds.{never}
+use Rattle.trip_builder.specs.Keeping.{IsSearch, IsOutdone}
 use Rattle.trip_builder.proofs.Ways.{way_taken}
 use Rattle.trip_builder.proofs.Deciding.{grows_on, stays_with, one_further, with_further, arrives_behind}
 use Rattle.trip_builder.proofs.Boarding.{all_covered, late_covered, stop_is}
 use Rattle.trip_builder.proofs.Bounding.{window_hopeless}
+use Rattle.trip_builder.proofs.Outdoing.{window_outdone}
 use Rattle.trip_builder.proofs.search.+search.Goals as goal
-use Rattle.trip_builder.proofs.search.+search.Goals.{go_on-then-may_lead+in_ok-ride, go_on-else-may_lead, ride-then-not-is_behind+in_ok-go_on, ride-else-not-is_behind}
+use Rattle.trip_builder.proofs.search.+search.Goals.{go_on-then-may_lead+in_ok-ride, go_on-else-may_lead, ride-then-not-are_all_by+in_ok-go_on, ride-else-not-are_all_by}
 
 pub go_on-returns-then-is_hopeless-clause-decided : goal.go_on-returns-then-is_hopeless-clause-decided
 go_on-returns-then-is_hopeless-clause-decided t c =
     let r = c.args.runs.now in
     let w = c.args.wish.now in
+    let way = c.args.way.now in
+    let more = c.args.changes in
+    let best = c.bound_long_search.new.found.best.trips.items in
     let win = c.window_of-window.result in
-    window_hopeless r w c.bound_long_search.new.found.best.items c.args.way.now c.args.changes win.station win.from win.to c.of_leaving.result c.window_of-window.ensures.window
-    (c.of_leaving.ensures r w c.in_ok-bound_long_search.ensures.bounds) (c.is_hopeless.ensures c.if-is_hopeless.true)
+    let bound = c.of_leaving-bound.result in
+    let search = c.in_ok-bound_long_search.ensures.search in
+    let bounds = c.of_leaving-bound.ensures r w search.bounds in
+    let window = c.window_of-window.ensures.window in
+    ⊎_elim (λ (none : bound ≡ never). window_hopeless r w best way more win.station win.from win.to bound window bounds (inl none))
+    (λ (outdone : IsOutdone r best bound way (more + 1)). window_outdone r w best way more win.station win.from win.to bound search.kept.are.order window bounds outdone)
+    (c.is_hopeless.ensures w search c.if-is_hopeless.true)
 
-pub go_on-returns-then-is_behind-clause-decided : goal.go_on-returns-then-is_behind-clause-decided
-go_on-returns-then-is_behind-clause-decided t c =
+pub go_on-returns-then-are_all_by-clause-decided : goal.go_on-returns-then-are_all_by-clause-decided
+go_on-returns-then-are_all_by-clause-decided t c =
     let r = c.args.runs.now in
     let w = c.args.wish.now in
     let way = c.args.way.now in
-    let best = c.loop-departure.found.best.items in
+    let best = c.loop-departure.found.best.trips.items in
     let win = c.window_of-window.result in
     let ds = c.leaving-departure-items.result.now in
     let d = c.departure-item.result in
     let i = c.loop-departure.departure-index in
-    let by = subst (λ (l : List (List Segment)). AllArriveBy r l c.seconds.result) c.as_slice.ensures.value (c.is_behind.ensures c.if-is_behind.true) in
+    let by = c.are_all_by.ensures r w c.loop-departure.invariant.search.kept c.if-are_all_by.true in
     let at : c.seconds.result ≡ (get_or ds i d).moment = c.seconds.ensures.value ∙ ap (λ (x : Departure). x.moment) c.departure-item.is in
     all_covered r w best way c.args.changes win.station win.from win.to ds d c.leaving-departure-items.ensures.leaving c.window_of-window.ensures.window
     (late_covered r w best way c.args.changes win.station win.from win.to ds d i c.seconds.result c.leaving-departure-items.ensures.leaving c.leaving-departure-items.ensures.rise by
@@ -43,8 +53,8 @@ go_on-loop-departure-preserved t c =
     let w = c.args.wish.now in
     let way = c.args.way.now in
     let more = c.args.changes in
-    let old = c.args.found.now.best.items in
-    let best = c.loop-departure.found.best.items in
+    let old = c.args.found.now.best.trips.items in
+    let best = c.loop-departure.found.best.trips.items in
     let ds = c.leaving-departure-items.result.now in
     let d = c.departure-item.result in
     let i = c.loop-departure.departure-index in
@@ -53,20 +63,20 @@ go_on-loop-departure-preserved t c =
     (λ l all. at_read ds (λ (x : Departure). (to : ℕ) → AreDecidedWith r w l way more (segment x.run.0 x.stop to)) i d c.loop-departure-test.true c.departure-item.is all) in
     elim c.if-may_lead.branch [
       | go_on-then-may_lead+in_ok-ride v ↦
-          let new = v.ride.new.found.best.items in
+          let new = v.ride.new.found.best.trips.items in
           record {
-            grows = subst (λ b. Grows r w old b.best.items) (sym v.found-is) (grows_on r w old best new c.loop-departure.invariant.grows v.in_ok-ride.ensures.grows);
-            bounds = subst (λ b. AreBounds r w b.bounds) (sym v.found-is) v.in_ok-ride.ensures.bounds;
-            tried = subst (λ b. (k : ℕ) → k < i + 1 → P b.best.items k) (sym v.found-is) (
+            grows = subst (λ b. Grows r w old b.best.trips.items) (sym v.found-is) (grows_on r w old best new c.loop-departure.invariant.grows v.in_ok-ride.ensures.grows);
+            search = subst (IsSearch r w) (sym v.found-is) v.in_ok-ride.ensures.search;
+            tried = subst (λ b. (k : ℕ) → k < i + 1 → P b.best.trips.items k) (sym v.found-is) (
                 one_further (P new) i
                 (λ k h none to. stays_with r w best new way more (segment (get_or ds k none).run.0 (get_or ds k none).stop to) v.in_ok-ride.ensures.grows (c.loop-departure.invariant.tried k h none to))
                 (here new v.in_ok-ride.ensures.decided)
                 );
           }
       | go_on-else-may_lead v ↦ record {
-        grows = subst (λ b. Grows r w old b.best.items) (sym v.found-is) c.loop-departure.invariant.grows;
-        bounds = subst (λ b. AreBounds r w b.bounds) (sym v.found-is) c.loop-departure.invariant.bounds;
-        tried = subst (λ b. (k : ℕ) → k < i + 1 → P b.best.items k) (sym v.found-is)
+        grows = subst (λ b. Grows r w old b.best.trips.items) (sym v.found-is) c.loop-departure.invariant.grows;
+        search = subst (IsSearch r w) (sym v.found-is) c.loop-departure.invariant.search;
+        tried = subst (λ b. (k : ℕ) → k < i + 1 → P b.best.trips.items k) (sym v.found-is)
             (one_further (P best) i c.loop-departure.invariant.tried (here best (c.may_lead.ensures.decided v.if-may_lead.false)));
       }
     ]
@@ -79,7 +89,7 @@ go_on-returns-clause-decided t c =
     let ds = c.leaving-departure-items.result.now in
     let ended = c.loop-departure-test.false in
     let none : Departure = record { moment = 0; run = record { 0 = 0 }; stop = 0 } in
-    all_covered r w c.loop-departure.found.best.items c.args.way.now c.args.changes win.station win.from win.to ds none c.leaving-departure-items.ensures.leaving c.window_of-window.ensures.window
+    all_covered r w c.loop-departure.found.best.trips.items c.args.way.now c.args.changes win.station win.from win.to ds none c.leaving-departure-items.ensures.leaving c.window_of-window.ensures.window
     (λ k h to. c.loop-departure.invariant.tried k (omega (arith, h, ended)) none to)
 
 pub ride-go_on-requires : goal.ride-go_on-requires
@@ -92,15 +102,15 @@ ride-go_on-requires t c =
     let low = c.loop-to.auto.to in
     let high = c.loop-to-test.true in
     let some = c.if-changes-eq0.false in
-    let longer = c.as_slice-then-not-is_behind.ensures.value ∙ c.longer-way.ensures in
-    let count : length c.as_slice-then-not-is_behind.result.now ≡ length way + 1 = ap (λ (l : List Segment). length l) longer ∙ length-append way (segment d.run.0 d.stop to ∷ []) in (
+    let longer = c.as_slice.ensures.value ∙ c.longer-way.ensures in
+    let count : length c.as_slice.result.now ≡ length way + 1 = ap (λ (l : List Segment). length l) longer ∙ length-append way (segment d.run.0 d.stop to ∷ []) in (
       omega (arith, c.decreases, some),
       (
         omega (arith, count, c.requires.few, some),
         (
           subst (IsWay r w) (sym longer)
               (way_taken r w way d to c.requires.way c.requires.taken (omega (arith, low)) (subst (λ (xs : List Stop). to < length xs) c.stops_of-stops.ensures.stops (omega (arith, high)))),
-          (c.loop-to.invariant.grows.best, c.loop-to.invariant.bounds),
+          c.loop-to.invariant.search,
         ),
       ),
     )
@@ -112,35 +122,35 @@ ride-loop-to-preserved t c =
     let way = c.args.way.now in
     let d = c.args.departure.now in
     let more = c.args.changes in
-    let old = c.args.found.now.best.items in
-    let best = c.loop-to.found.best.items in
+    let old = c.args.found.now.best.trips.items in
+    let best = c.loop-to.found.best.trips.items in
     let to = c.loop-to.to in
     let s = segment d.run.0 d.stop to in
     let some = c.if-changes-eq0.false in
     let fewer : more ≡ suc (more - 1) = omega (arith, some) in
     let P : List (List Segment) → ℕ → Type 0 = (λ l k. AreDecidedWith r w l way more (segment d.run.0 d.stop k)) in
-    elim c.if-not-is_behind.branch [
-      | ride-then-not-is_behind+in_ok-go_on v ↦
-          let new = v.go_on.new.found.best.items in
-          let longer : v.as_slice-then-not-is_behind.result.now ≡ way ++ s ∷ [] = v.as_slice-then-not-is_behind.ensures.value ∙ v.longer-way.ensures in
+    elim c.if-not-are_all_by.branch [
+      | ride-then-not-are_all_by+in_ok-go_on v ↦
+          let new = v.go_on.new.found.best.trips.items in
+          let longer : v.as_slice.result.now ≡ way ++ s ∷ [] = v.as_slice.ensures.value ∙ v.longer-way.ensures in
           let here = with_further r w new way (more - 1) more s fewer (subst (λ (t : List Segment). AreDecided r w new t (more - 1)) longer v.in_ok-go_on.ensures.decided) in
           record {
-            grows = subst (λ b. Grows r w old b.best.items) (sym v.found-is) (grows_on r w old best new c.loop-to.invariant.grows v.in_ok-go_on.ensures.grows);
-            bounds = subst (λ b. AreBounds r w b.bounds) (sym v.found-is) v.in_ok-go_on.ensures.bounds;
-            tried = subst (λ b. (k : ℕ) → k < to + 1 → P b.best.items k) (sym v.found-is)
+            grows = subst (λ b. Grows r w old b.best.trips.items) (sym v.found-is) (grows_on r w old best new c.loop-to.invariant.grows v.in_ok-go_on.ensures.grows);
+            search = subst (IsSearch r w) (sym v.found-is) v.in_ok-go_on.ensures.search;
+            tried = subst (λ b. (k : ℕ) → k < to + 1 → P b.best.trips.items k) (sym v.found-is)
                 (one_further (P new) to (λ k h. stays_with r w best new way more (segment d.run.0 d.stop k) v.in_ok-go_on.ensures.grows (c.loop-to.invariant.tried k h)) here);
           }
-      | ride-else-not-is_behind v ↦
+      | ride-else-not-are_all_by v ↦
           let at : c.from.result ≡ to = c.from.ensures in
           let stop = c.index-stops-from.result in
           let there = stop_is r d.run.0 to c.stops_of-stops.result.now stop c.stops_of-stops.ensures.stops (omega (arith, c.loop-to-test.true))
           (c.index-stops-from.is ∙ ap (λ k. get_or c.stops_of-stops.result.now k stop) at) in
           let arrive = c.seconds-arrive.ensures.value ∙ sym (ap (λ (x : Stop). x.arrive) (there ∙ c.index-stops-from.is)) in
-          let by = subst (λ (l : List (List Segment)). AllArriveBy r l c.seconds-arrive.result) c.as_slice.ensures.value (c.is_behind.ensures v.if-not-is_behind.false) in
+          let by = c.are_all_by.ensures r w c.loop-to.invariant.search.kept v.if-not-are_all_by.false in
           let here = arrives_behind r w best way (more - 1) more c.seconds-arrive.result s c.requires.rise fewer by (omega (arith, arrive)) in
           record {
-            grows = subst (λ b. Grows r w old b.best.items) (sym v.found-is) c.loop-to.invariant.grows;
-            bounds = subst (λ b. AreBounds r w b.bounds) (sym v.found-is) c.loop-to.invariant.bounds;
-            tried = subst (λ b. (k : ℕ) → k < to + 1 → P b.best.items k) (sym v.found-is) (one_further (P best) to c.loop-to.invariant.tried here);
+            grows = subst (λ b. Grows r w old b.best.trips.items) (sym v.found-is) c.loop-to.invariant.grows;
+            search = subst (IsSearch r w) (sym v.found-is) c.loop-to.invariant.search;
+            tried = subst (λ b. (k : ℕ) → k < to + 1 → P b.best.trips.items k) (sym v.found-is) (one_further (P best) to c.loop-to.invariant.tried here);
           }
     ]

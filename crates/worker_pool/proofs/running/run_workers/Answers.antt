@@ -1,6 +1,6 @@
 use Rattle.std.proofs.Common.{sym, subst}
 use Rattle.std.specs.Prelude.{slice_index_or}
-use Rattle.claim_rule.specs.Seats.{IsOf}
+use Rattle.claim_rule.specs.Desks.{IsOf}
 use Rattle.claim_rule.specs.Out.{IsTidy}
 use Rattle.worker_pool.specs.Turns.{KeepsDesk}
 use Rattle.worker_pool.specs.declared.member.Member.{Member}

@@ -2,7 +2,7 @@ use Rattle.std.proofs.Common.{ap, sym, subst, ◌∙◌}
 use Rattle.std.specs.Mem.Slots.{slots_items}
 use Rattle.claim_rule.specs.declared.chronicle.Story.{Story}
 use Rattle.claim_rule.specs.Rule.{BooksView, DeskView}
-use Rattle.claim_rule.specs.Walls.{Ends}
+use Rattle.claim_rule.specs.Walls.{Finishes}
 use Rattle.claim_rule.proofs.Finishing.{ends_as, tells, IsToldOf}
 use Rattle.claim_rule.proofs.books.Books.finish.Goals as goal
 
@@ -16,7 +16,7 @@ recall-requires-clause-told c =
 
 pub returns-clause-history : goal.returns-clause-history
 returns-clause-history c =
-    subst (λ (x : BooksView × DeskView). Ends x.0.layout x.1 (slots_items c.close_with-closed.result.words) c.recall.new.chronicle.view.history) (λ i. (c.of-was.ensures i, c.of-knew.ensures i)) c.recall.ensures.1
+    subst (λ (x : BooksView × DeskView). Finishes x.0.layout x.1 (slots_items c.close_with-closed.result.words) c.recall.new.chronicle.view.history) (λ i. (c.of-was.ensures i, c.of-knew.ensures i)) c.recall.ensures.1
 
 pub returns-clause-layout : goal.returns-clause-layout
 returns-clause-layout c = c.recall.ensures.0 ∙ ap (λ (b : BooksView). b.layout) c.of-was.ensures

@@ -42,9 +42,9 @@ returns-clause-own c =
     let did = returns-clause-met c in
     let v = ap (λ (m : View × List (ℕ × ℕ)). m.0) p.2 in
     let w = ap (λ (m : View × List (ℕ × ℕ)). m.0) p.4 in
-    let more = ap (λ (x : View). x.made) v ∙ ap (λ (n : ℕ). n + 1) (c.load_as.ensures.3.same.4 ∙ ap (λ (d : DeskView). d.made) c.desk.view_is) in
+    let more = ap (λ (x : View). x.parted) v ∙ ap (λ (n : ℕ). n + 1) (c.load_as.ensures.3.same.4 ∙ ap (λ (d : DeskView). d.parted) c.desk.view_is) in
     let now = still_parted c.args.self.now c.args.desk.now (desk_view c.split_seat-seat.new.seat c.desk.inside.kept c.desk.inside.past) did more c.requires.own in
-    let other : c.split_seat-seat.result.me.0.number ≡ 0 → ⊥ = λ e. none_zero c.load_as.new.seat.me.0.made (sym (ap (λ (x : View). x.number) w) ∙ e) in (
+    let other : c.split_seat-seat.result.me.0.number ≡ 0 → ⊥ = λ e. none_zero c.load_as.new.seat.me.0.parted (sym (ap (λ (x : View). x.number) w) ∙ e) in (
       now,
       newly_of c.args.self.now (desk_view c.split_seat-seat.new.seat c.desk.inside.kept c.desk.inside.past) (desk_view c.split_seat-seat.result None c.desk.inside.past) now (p.3 ∙ sym p.0)
           (ap (λ (x : View). x.plan) w ∙ sym (ap (λ (x : View). x.plan) v)) (ap (λ (x : View). x.seen) w ∙ sym (ap (λ (x : View). x.seen) v)) refl refl other,
@@ -58,7 +58,7 @@ returns-clause-tidy c =
     let v = c.load_as.new.seat.me.0 in
     let m = c.load_as.ensures.3 in
     let w = ap (λ (m : View × List (ℕ × ℕ)). m.0) c.split_seat-seat.ensures.4 in
-    let none = m.later (ap (λ (d : DeskView). d.number) c.desk.view_is ∙ c.requires.first) (v.made + 1) (made_less c.desk.inside.seat.me.0.made v.made m.same.4) in
+    let none = m.later (ap (λ (d : DeskView). d.number) c.desk.view_is ∙ c.requires.first) (v.parted + 1) (made_less c.desk.inside.seat.me.0.parted v.parted m.same.4) in
     new_tidy (desk_view c.split_seat-seat.result None c.desk.inside.past) (returns-clause-own c).1.legal (ap (λ (x : View). own_of x.seen x.number) w ∙ none)
 
 pub returns-clause-still : goal.returns-clause-still

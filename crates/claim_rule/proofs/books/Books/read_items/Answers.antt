@@ -4,7 +4,7 @@ use Rattle.leg_masks.specs.Interval.{PlacedSpan as Item}
 use Rattle.history_model.specs.Booking.{Layout, most_items, row_words}
 use Rattle.history_model.specs.declared.entry.Step.TheVariants.{SawRow}
 use Rattle.claim_rule.specs.Rule.{BooksView}
-use Rattle.claim_rule.specs.Seats.{Stepped, Shape}
+use Rattle.claim_rule.specs.Desks.{Stepped, Shape}
 use Rattle.claim_rule.specs.Endings.{EndingView, item_looks}
 use Rattle.claim_rule.proofs.Shapes.{step_shape}
 use Rattle.claim_rule.proofs.Reading.{ReadSoFar, read_count, read_none, read_more, items_fit, shown_item, seen_more}
@@ -57,7 +57,7 @@ item_of-requires c =
     let new = c.step_read-word.new.desk in
     let look = subst (λ (r : ℕ). Stepped (SawRow r (8 + c.loop-i.i) v) c.loop-i.desk new) (ap (λ (e : EndingView). e.row.row) c.ending.view_is) c.step_read-word.ensures.look in
     let few = subst (λ (l : Layout). length l.legs ≤ most_places) (ap (λ (b : BooksView). b.layout) c.self.view_is ∙ sym c.step_read-word.ensures.own.layout) c.self.invariant.5 in
-    shown_item v c.loop-i.i c.step_read-count.result c.loop-i.desk new c.args.ending.now c.loop-i.items.items few look c.requires.unread.0 c.loop-i.invariant.so_far c.loop-i-test.true
+    record { item = shown_item v c.loop-i.i c.step_read-count.result c.loop-i.desk new c.args.ending.now c.loop-i.items.items few look c.requires.unread.0 c.loop-i.invariant.so_far c.loop-i-test.true }
 
 pub push-requires : goal.push-requires
 push-requires c = let look = subst (λ (r : ℕ). Stepped (SawRow r 4 c.step_read-count.result) c.args.desk.now c.step_read-count.new.desk) (ap (λ (e : EndingView). e.row.row) c.ending.view_is) c.step_read-count.ensures.look in
@@ -81,9 +81,9 @@ loop-i-preserved c =
     let first = subst (λ (r : ℕ). Stepped (SawRow r 4 c.step_read-count.result) c.args.desk.now c.step_read-count.new.desk) (ap (λ (e : EndingView). e.row.row) c.ending.view_is) c.step_read-count.ensures.look in
     let pushed = c.push.ensures.items in record {
       own = c.step_read-word.ensures.own;
-      so_far = subst (ReadSoFar new e count (k + 1)) (sym pushed) (read_more v k count old new e c.loop-i.items.items i few look c.requires.unread.0 so c.loop-i-test.true c.item_of.ensures);
+      so_far = subst (ReadSoFar new e count (k + 1)) (sym pushed) (read_more v k count old new e c.loop-i.items.items i few look c.requires.unread.0 so c.loop-i-test.true c.item_of.ensures.item);
       kept = look.same.5 ∙ c.loop-i.invariant.kept;
       few = subst (λ (l : List Item). length l ≤ most_items) (sym pushed) (one_less c.loop-i.items.items i k count so.many c.loop-i-test.true (read_count count c.args.desk.now c.step_read-count.new.desk e first c.requires.ending).2);
       seen = subst (λ (l : List Item). Shape c.args.desk.now new (SawRow e.row.row 4 count ∷ item_looks e.row.row 8 l)) (sym pushed)
-          (seen_more c.args.desk.now old new e.row.row v k count c.loop-i.items.items i so.many c.item_of.ensures c.loop-i.invariant.seen look);
+          (seen_more c.args.desk.now old new e.row.row v k count c.loop-i.items.items i so.many c.item_of.ensures.item c.loop-i.invariant.seen look);
     }

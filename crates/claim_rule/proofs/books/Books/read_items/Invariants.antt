@@ -1,7 +1,7 @@
 use Rattle.std.proofs.Common.{◌≡◌, ◌≤◌, ◌∷◌, length}
 use Rattle.history_model.specs.Booking.{most_items}
 use Rattle.history_model.specs.declared.entry.Step.TheVariants.{SawRow}
-use Rattle.claim_rule.specs.Seats.{IsOf, Shape}
+use Rattle.claim_rule.specs.Desks.{IsOf, Shape}
 use Rattle.claim_rule.specs.Endings.{item_looks}
 use Rattle.claim_rule.proofs.Reading.{ReadSoFar}
 use Rattle.claim_rule.proofs.books.Books.read_items.Given as goal

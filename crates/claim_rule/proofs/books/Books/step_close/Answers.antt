@@ -1,7 +1,8 @@
 use Rattle.std.proofs.Common.{◌<◌, ℕ, ap, ◌∙◌, subst, sym, refl}
 use Rattle.history_model.specs.declared.entry.Step.TheVariants.{Close}
 use Rattle.claim_rule.specs.Rule.{DeskView}
-use Rattle.claim_rule.specs.Seats.{desk_view, Stepped}
+use Rattle.claim_rule.specs.Desks.{Stepped}
+use Rattle.claim_rule.specs.Seats.{desk_view}
 use Rattle.claim_rule.specs.Endings.{EndingView}
 use Rattle.claim_rule.proofs.Desks.{steps_as}
 use Rattle.claim_rule.proofs.EndingLemmas.{still_ending, end_can_close}

@@ -1,7 +1,8 @@
 use Rattle.std.proofs.Common.{ℕ, ◌+◌, ap, ◌∙◌, subst, sym, refl}
 use Rattle.history_model.specs.declared.entry.Step.TheVariants.{Give}
 use Rattle.claim_rule.specs.Rule.{DeskView}
-use Rattle.claim_rule.specs.Seats.{desk_view, Stepped, CanGive}
+use Rattle.claim_rule.specs.Desks.{Stepped}
+use Rattle.claim_rule.specs.Seats.{desk_view, CanGive}
 use Rattle.claim_rule.specs.Endings.{EndingView, IsEndingOf}
 use Rattle.claim_rule.proofs.Desks.{steps_as}
 use Rattle.claim_rule.proofs.EndingLemmas.{end_gives, still_ending, end_can_give, item_read}

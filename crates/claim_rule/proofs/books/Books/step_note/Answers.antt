@@ -1,6 +1,7 @@
 use Rattle.std.proofs.Common.{ℕ, ap, ◌∙◌, refl, subst, sym}
 use Rattle.claim_rule.specs.Rule.{DeskView}
-use Rattle.claim_rule.specs.Seats.{desk_view, Stepped, CanNote}
+use Rattle.claim_rule.specs.Desks.{Stepped}
+use Rattle.claim_rule.specs.Seats.{desk_view, CanNote}
 use Rattle.claim_rule.specs.Holds.{HoldView}
 use Rattle.claim_rule.proofs.Desks.{steps_as}
 use Rattle.claim_rule.proofs.Holding.{hold_notes, still_alone, can_note}

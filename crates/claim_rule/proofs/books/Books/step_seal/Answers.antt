@@ -1,6 +1,7 @@
 use Rattle.std.proofs.Common.{ℕ, ap, sym, ◌∙◌, subst, refl}
 use Rattle.claim_rule.specs.Rule.{DeskView}
-use Rattle.claim_rule.specs.Seats.{desk_view, Stepped, CanSeal}
+use Rattle.claim_rule.specs.Desks.{Stepped}
+use Rattle.claim_rule.specs.Seats.{desk_view, CanSeal}
 use Rattle.claim_rule.specs.Holds.{HoldView}
 use Rattle.claim_rule.proofs.Desks.{steps_as}
 use Rattle.claim_rule.proofs.Holding.{can_seal, still_alone}

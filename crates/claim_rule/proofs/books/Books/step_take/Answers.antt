@@ -3,7 +3,8 @@ use Rattle.atomic_table.specs.declared.shared.Seat.{Seat}
 use Rattle.rail_ids.specs.declared.RowNo.{RowNo}
 use Rattle.claim_rule.specs.declared.rule.View.{View}
 use Rattle.claim_rule.specs.Rule.{DeskView, BooksView}
-use Rattle.claim_rule.specs.Seats.{either_step, HasMade, Stepped, IsOf, desk_view, CanTake}
+use Rattle.claim_rule.specs.Desks.{Stepped, IsOf}
+use Rattle.claim_rule.specs.Seats.{either_step, HasMade, desk_view, CanTake}
 use Rattle.claim_rule.specs.Holds.{HoldView, IsHoldOf, IsItem, with_one}
 use Rattle.claim_rule.proofs.Desks.{steps_as}
 use Rattle.claim_rule.proofs.Holding.{hold_stays, hold_takes, still_alone, can_take}

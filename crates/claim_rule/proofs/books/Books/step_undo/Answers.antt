@@ -1,6 +1,7 @@
 use Rattle.std.proofs.Common.{◌≡◌, ℕ, ap, sym, ◌∙◌, subst, refl}
 use Rattle.claim_rule.specs.Rule.{DeskView}
-use Rattle.claim_rule.specs.Seats.{desk_view, Stepped}
+use Rattle.claim_rule.specs.Desks.{Stepped}
+use Rattle.claim_rule.specs.Seats.{desk_view}
 use Rattle.claim_rule.specs.Holds.{HoldView, with_one}
 use Rattle.claim_rule.proofs.Desks.{steps_as}
 use Rattle.claim_rule.proofs.Holding.{hold_gives, can_give, still_alone}

@@ -1,7 +1,8 @@
 use Rattle.std.proofs.Common.{sym, ap, ◌∙◌, subst}
 use Rattle.claim_rule.specs.Rule.{DeskView}
 use Rattle.claim_rule.specs.Holds.{HoldView, StandsFor}
-use Rattle.claim_rule.specs.Seats.{IsOf, desk_view}
+use Rattle.claim_rule.specs.Desks.{IsOf}
+use Rattle.claim_rule.specs.Seats.{desk_view}
 use Rattle.claim_rule.proofs.Holding.{still_kept}
 use Rattle.claim_rule.proofs.desk.Desk.keep.Goals as goal
 

@@ -1,6 +1,7 @@
 use Rattle.std.proofs.Common.{sym, subst}
 use Rattle.claim_rule.specs.Holds.{HoldView}
-use Rattle.claim_rule.specs.Seats.{IsOf, desk_view}
+use Rattle.claim_rule.specs.Desks.{IsOf}
+use Rattle.claim_rule.specs.Seats.{desk_view}
 use Rattle.claim_rule.specs.Out.{HoldsNone}
 use Rattle.claim_rule.proofs.Holding.{still_unkept, unkept_holding}
 use Rattle.claim_rule.proofs.desk.Desk.kept.Goals as goal

@@ -1,6 +1,7 @@
 use Rattle.std.proofs.Common.{◌≤◌, sym, subst}
 use Rattle.claim_rule.specs.Rule.{DeskView}
-use Rattle.claim_rule.specs.Seats.{AreTaken, IsOf, desk_view}
+use Rattle.claim_rule.specs.Desks.{AreTaken, IsOf}
+use Rattle.claim_rule.specs.Seats.{desk_view}
 use Rattle.claim_rule.proofs.Holding.{still_past}
 use Rattle.claim_rule.proofs.desk.Desk.pass.Goals as goal
 

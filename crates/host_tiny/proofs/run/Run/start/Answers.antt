@@ -5,7 +5,7 @@ use Rattle.rail_ids.specs.declared.PlaceNo.{PlaceNo}
 use Rattle.history_model.specs.Booking.{Layout}
 use Rattle.history_model.specs.History.{state_of}
 use Rattle.claim_rule.specs.Rule.{BooksView, DeskView, state_seen}
-use Rattle.claim_rule.specs.Seats.{IsNew, IsOf}
+use Rattle.claim_rule.specs.Desks.{IsNew, IsOf}
 use Rattle.hold_core.specs.Tries.{place_number}
 use Rattle.host_tiny.specs.Run.{reservations, reserved}
 use Rattle.host_tiny.proofs.run.Run.start.Goals as goal
@@ -38,7 +38,7 @@ invariant_of-result c =
       numbers = c.in_ok-numbers.ensures ∙ ap (range_with_len 0) (sym count);
       layout = b.layout ∙ ap (λ (ls : List ℕ). record { legs = ls; rows = 1024; opening = [] }) legs;
       own = b.own;
-      alone = record { number = b.desk.number; made = b.desk.made };
+      alone = record { number = b.desk.number; parted = b.desk.parted };
       none = b.tidy.0.0;
       settled = record {
         sold = [];

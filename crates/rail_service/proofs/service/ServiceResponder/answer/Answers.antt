@@ -1,4 +1,4 @@
-use Rattle.std.proofs.Common.{Bool, Option, Ok, Err, refl, ap, ◌∙◌}
+use Rattle.std.proofs.Common.{Bool, Option, Result, Ok, Err, refl, ap, subst, ◌∙◌}
 use Rattle.rail_ids.specs.declared.RetailerNo.{RetailerNo}
 use Rattle.http_wire.specs.Pieces.{request_text}
 use Rattle.claim_rule.proofs.Shapes.{shape_none}
@@ -6,7 +6,8 @@ use Rattle.osdm_texts.specs.Answers.{problem}
 use Rattle.claim_rule.proofs.Out.{makes_empty}
 use Rattle.rail_service.specs.Bytes.{reply_bytes}
 use Rattle.rail_service.proofs.Telling.{of_problem}
-use Rattle.rail_service.specs.Serving.{first_after}
+use Rattle.osdm_texts.specs.declared.problem.Problem.{Problem}
+use Rattle.rail_service.specs.Serving.{first_after, admitted, AsksAdmitted}
 use Rattle.rail_service.specs.Responding.{view_of}
 use Rattle.rail_service.proofs.Replying.{reading_of, answer_by}
 use Rattle.rail_service.proofs.service.ServiceResponder.answer.Goals as goal
@@ -15,12 +16,16 @@ pub returns-in-Ok-clause-answers : goal.returns-in-Ok-clause-answers
 returns-in-Ok-clause-answers g c =
     let cat = c.args.self.now.cat.now in
     let did = c.perform.ensures.answer in
+    let first = c.args.self.now.first in
+    let request = request_text c.args.intake.now.taken c.args.request.now in
+    let may = c.admit-admitted.ensures.value ∙ ap (λ (retailer : Option RetailerNo). admitted first retailer) c.retailer_of-retailer.ensures.value in
+    let asks = subst (λ (a : Result RetailerNo Problem). AsksAdmitted cat request a (Ok (c.in-Ok.retailer, c.in-Ok.command))) may c.in-Ok.ensures.asks in
     record {
       answer = answer_by cat (view_of g.C.Clock.told c.args.self.now) (request_text c.args.intake.now.taken c.args.request.now) _ _ c.now-now.result did.0
           c.requires.ready.own.legal (reading_of _ _ _ c.now-now.ensures.first c.now-now.ensures.rest)
-          (Ok (c.in-Ok.retailer, c.in-Ok.command), c.in-Ok.ensures.asks, (did.1, did.2))
+          (Ok (c.in-Ok.retailer, c.in-Ok.command), asks, (did.1, did.2))
           (did.4 ∙ ap (λ (last : Bool). reply_bytes cat last did.0) c.requires.last)
-          (c.first_after-self.ensures.value ∙ ap (λ (retailer : Option RetailerNo). first_after c.args.self.now.first retailer) c.retailer_of.ensures.value)
+          (c.first_after-self.ensures.value ∙ ap (λ (retailer : Option RetailerNo). first_after c.args.self.now.first retailer) c.retailer_of-retailer.ensures.value)
           c.perform.ensures.idle c.perform.ensures.no_item;
       tidy = c.perform.ensures.tidy;
       cat = refl;
@@ -33,12 +38,16 @@ pub returns-in-Err-clause-answers : goal.returns-in-Err-clause-answers
 returns-in-Err-clause-answers g c =
     let cat = c.args.self.now.cat.now in
     let reply = problem c.in-Err.problem in
+    let first = c.args.self.now.first in
+    let request = request_text c.args.intake.now.taken c.args.request.now in
+    let may = c.admit-admitted.ensures.value ∙ ap (λ (retailer : Option RetailerNo). admitted first retailer) c.retailer_of-retailer.ensures.value in
+    let asks = subst (λ (a : Result RetailerNo Problem). AsksAdmitted cat request a (Err c.in-Err.problem)) may c.in-Err.ensures.asks in
     record {
       answer = answer_by cat (view_of g.C.Clock.told c.args.self.now) (request_text c.args.intake.now.taken c.args.request.now) _ _ c.now-now.result reply
           c.requires.ready.own.legal (reading_of _ _ _ c.now-now.ensures.first c.now-now.ensures.rest)
-          (Err c.in-Err.problem, c.in-Err.ensures.asks, (shape_none c.args.self.now.desk.now c.requires.ready.own.legal, refl))
+          (Err c.in-Err.problem, asks, (shape_none c.args.self.now.desk.now c.requires.ready.own.legal, refl))
           (c.problem_answer.ensures.bytes ∙ (of_problem cat c.args.last c.in-Err.problem ∙ ap (λ (last : Bool). reply_bytes cat last reply) c.requires.last))
-          (c.first_after-self.ensures.value ∙ ap (λ (retailer : Option RetailerNo). first_after c.args.self.now.first retailer) c.retailer_of.ensures.value)
+          (c.first_after-self.ensures.value ∙ ap (λ (retailer : Option RetailerNo). first_after c.args.self.now.first retailer) c.retailer_of-retailer.ensures.value)
           c.requires.ready.idle (makes_empty c.args.self.now.books.now c.args.self.now.desk.now c.requires.ready.own c.requires.ready.idle.0);
       tidy = λ tidy. tidy;
       cat = refl;

@@ -1,5 +1,5 @@
 use Rattle.std.proofs.Common.{◌∙◌, ◌++◌, ◌∷◌, [], List, ℕ, ap, subst}
-use Rattle.trip_builder.specs.Bounds.{AreBoards, ReachView}
+use Rattle.trip_builder.specs.Bounds.{AreBoards, AreRides, ReachView}
 use Rattle.trip_builder.proofs.Bounding.{bounds_more}
 use Rattle.trip_builder.proofs.bounds.Bounds.of.Goals as goal
 
@@ -10,4 +10,4 @@ loop-changes-preserved c =
     let reach : ReachView = record { rides = c.in_ok-rides.rides.items; boards = boards } in
     bounds_more r c.args.wish.now c.loop-changes.bounds c.push.new.self.items reach c.loop-changes.changes
     (c.in_ok-push.ensures.items ∙ ap (λ (l : List ReachView). l ++ reach ∷ []) c.bounds.view_is) c.loop-changes.invariant.0 c.loop-changes.invariant.1
-    (record { rides = c.in_ok-rides.ensures; boards = subst (λ (l : List (List ℕ)). AreBoards r l boards) c.as_slice.ensures.value c.in_ok-boards.ensures })
+    (record { rides = subst (λ n. AreRides r c.args.wish.now n c.in_ok-rides.rides.items) c.loop-changes.invariant.0 c.in_ok-rides.ensures; boards = subst (λ (l : List (List ℕ)). AreBoards r l boards) c.as_slice.ensures.value c.in_ok-boards.ensures })

@@ -1,4 +1,0 @@
-use Rattle.booking_rows.proofs.views.item_of.Goals as goal
-
-pub unreachable-requires : goal.unreachable-requires
-unreachable-requires c = let i = c.requires.item in c.in-None.ensures.none i.0 i.1 i.2

@@ -1,0 +1,127 @@
+// A listener that members take turns at.
+ghost use Rattle.std.specs.Prelude.{◌≡◌, ◌≢◌, true, ◌<◌, ◌≤◌, ◌+◌, ℕ, IfSome, IfNone};
+ghost use Rattle.rail_io.specs.Faults.{Rose};
+ghost use Rattle.host_serve.specs.Risen.{has_risen};
+ghost use Rattle.host_serve.specs.declared.shared_listener.ListenerEnd.TheVariants.{Open, Closed, Failed};
+
+use rail_service::{Accepted, Listener, Waiting};
+use std::marker::Brand;
+use std::sync::ledger::{Book, Ledger, Share};
+
+/// What is named of a listener while it stands behind a lock: its count of faults when it was handed in, its port and its limit; and the
+/// ledger in which those who take its streams count them.
+pub trait Named: Ledger {
+    ghost faults: { ℕ };
+
+    ghost port: { ℕ };
+
+    ghost limit: { ℕ };
+}
+
+impl Named for Brand {
+    ghost faults = { 0 };
+
+    ghost port = { 0 };
+
+    ghost limit = { 0 };
+}
+
+/// How a shared listener ended.
+#[derive(Clone, Copy, Debug, PartialEq, Eq)]
+pub enum ListenerEnd {
+    /// It hasn't ended.
+    Open,
+    /// As many streams as the limit says were handed out.
+    Closed,
+    /// An accept failed.
+    Failed,
+}
+
+/// A listener beside how it ended, to stand in a lock. Whoever has the lock knows what is named of it, and why it ended. The book has as its
+/// total how many streams were handed out: so many are counted in all shares of the ledger together.
+#[derive(Drop)]
+pub struct SharedListener<L: Listener + Drop, N: Named> {
+    listener: L,
+    end: ListenerEnd,
+    book: Book<N>,
+    ghost counted: { book.total ≡ (L.told listener).handed },
+    ghost port: { (L.told listener).port ≡ N.port },
+    ghost limit: { (L.told listener).limit ≡ N.limit },
+    ghost within: { (L.told listener).handed ≤ N.limit },
+    ghost never_falls: { N.faults ≤ L.faults listener },
+    ghost steady: { end ≢ Failed → L.faults listener ≡ N.faults },
+    ghost rose: { end ≡ Failed → has_risen N.faults (L.faults listener) ≡ true },
+    ghost failed: { end ≡ Failed → (L.told listener).handed < N.limit },
+    ghost closed: { end ≡ Closed → N.limit ≤ (L.told listener).handed },
+}
+
+impl<L: Listener + Drop, N: Named> SharedListener<L, N> {
+    /// A listener with what is named, which hasn't ended, beside the ledger's book.
+    pub fn new(listener: L, book: Book<N>) -> Self
+        requires counted { book.total ≡ (L.told listener).handed }
+        requires port { (L.told listener).port ≡ N.port }
+        requires limit { (L.told listener).limit ≡ N.limit }
+        requires within { (L.told listener).handed ≤ N.limit }
+        requires faults { L.faults listener ≡ N.faults }
+        ensures listener { result.listener ≡ listener }
+        ensures open { result.end ≡ Open }
+    {
+        SharedListener {
+            listener,
+            end: ListenerEnd::Open,
+            book,
+        }
+    }
+
+    /// The next stream, which is counted in the share. None exactly where the listener has then ended; one that has ended isn't asked again.
+    pub fn next(&mut self, share: &mut Share<N>) -> Option<Waiting<L::Input, L::Output>>
+        requires part { 0 < share.old.parts }
+        ensures some { IfSome result (λ _. (self.new.end ≡ Open) × (share.new.amount ≡ share.old.amount + 1)
+            × ((L.told self.new.listener).handed ≡ (L.told self.old.listener).handed + 1)) }
+        ensures none { IfNone result ((self.new.end ≢ Open) × (share.new.amount ≡ share.old.amount)) }
+        ensures parts { share.new.parts ≡ share.old.parts }
+        ensures ended { self.old.end ≢ Open → self.new ≡ self.old }
+    {
+        if self.end != ListenerEnd::Open {
+            return None;
+        }
+        match self.listener.accept() {
+            Accepted::Stream(waiting) => {
+                self.book.add(share, 1);
+                return Some(waiting);
+            }
+            Accepted::Failed => self.end = ListenerEnd::Failed,
+            Accepted::Closed => self.end = ListenerEnd::Closed,
+        }
+        None
+    }
+
+    /// How it has ended so far.
+    pub fn end(&self) -> ListenerEnd
+        ensures { result ≡ self.now.end }
+    {
+        self.end
+    }
+
+    /// Takes the listener out, with what is known of it. The share with all parts of the ledger counts all streams that were handed out.
+    pub fn into_listener(self, all: &mut Share<N>) -> (L, ListenerEnd)
+        requires whole { all.old.parts ≡ N.parts }
+        ensures counted { (L.told result.0).handed ≡ all.old.amount }
+        ensures port { (L.told result.0).port ≡ N.port }
+        ensures limit { (L.told result.0).limit ≡ N.limit }
+        ensures within { (L.told result.0).handed ≤ N.limit }
+        ensures never_falls { N.faults ≤ L.faults result.0 }
+        ensures steady { result.1 ≢ Failed → L.faults result.0 ≡ N.faults }
+        ensures rose { result.1 ≡ Failed → Rose N.faults (L.faults result.0) }
+        ensures failed { result.1 ≡ Failed → (L.told result.0).handed < N.limit }
+        ensures closed { result.1 ≡ Closed → N.limit ≤ (L.told result.0).handed }
+    {
+        let SharedListener {
+            listener,
+            end,
+            mut book,
+        } = self;
+        book.audit(all);
+        (listener, end)
+    }
+}

@@ -1,0 +1,27 @@
+use Rattle.std.proofs.Common.{◌∙◌, ◌-◌, ◌<◌, arith, subst, set}
+use Rattle.trip_builder.proofs.Posting.{IsHalf, told_set, told_rises, half_on, half_posted}
+use Rattle.trip_builder.proofs.board.Board.finish.Goals as goal
+
+pub loop-back-preserved : goal.loop-back-preserved
+loop-back-preserved c =
+    let old = c.loop-back.self-inside.useful.items in
+    let next = c.len-count.result - c.loop-back.back in
+    let was = c.loop-back.invariant in
+    let size = was.size in
+    let test = c.loop-back-test.true in
+    let low = c.loop-back.auto.back in
+    let some : 0 < next = omega (arith, test) in
+    let inside : next < c.len-count.result = omega (arith, test, low) in
+    let told = told_set next old c.index-here.result.now c.index-later.result.now c.told.result some (omega (arith, inside, size)) c.index-here.ensures c.index-later.ensures
+    c.told.ensures.moment c.told.ensures.block c.told.ensures.so_far c.told.ensures.own c.told.ensures.told in
+    let new = set old (next - 1) c.told.result in
+    record {
+      size = told.size ∙ was.size;
+      rises = told_rises next old new told was.rises;
+      half = λ depart arrival noted. subst (λ n. IsHalf n new depart arrival) (omega arith) (half_on next old new depart arrival some (omega (arith, inside, size)) was.rises told (was.half depart arrival noted));
+    }
+
+pub returns : goal.returns
+returns c =
+    let ended = c.loop-back-test.false in
+    λ depart arrival noted. half_posted c.loop-back.self-inside.useful.items (c.len-count.result - c.loop-back.back) depart arrival (omega (arith, ended)) (c.loop-back.invariant.half depart arrival noted)
