@@ -13,7 +13,10 @@ fn at(rt: &impl Abort, seconds: u64) -> Moment {
 }
 
 fn refusal(cat: &Catalogue, command: &Command, now: Moment) -> Option<Problem> {
-    order_of(cat, command, now).err()
+    match order_of(cat, command, now) {
+        Ok(_order) => None,
+        Err(problem) => Some(problem),
+    }
 }
 
 // The id of the row's first booking.
