@@ -232,6 +232,7 @@ def worst():
     yield "along one line of 127 stations", along(4_096, 127, 60)
     yield "along one line, a long wait", along(4_096, 127, 4_300)
     yield "one train, overtaken by 40 others", overtaken(41, 127)
+    yield "one train, overtaken by 4,095 others", overtaken(4_096, 127)
 
 
 def search_worst(folder, program):

@@ -1,9 +1,11 @@
-"""`serve` over real sockets: idle and stalled connections, requests sent ahead, refusals of long bodies, want of file handles, and its end.
+"""`serve` over real sockets: idle and stalled connections, requests sent ahead, long answers, refusals of long bodies,
+want of file handles, and its end.
 
   sockets.py PROGRAM
 
 Time limits are held against wide bounds, so that a busy machine changes nothing.
 """
+import json
 import os
 import resource
 import socket
@@ -22,6 +24,9 @@ CHUNKED = b"POST /offers HTTP/1.1\r\nTransfer-Encoding: chunked\r\n\r\n"
 CODING = b'{"code":"Coding","status":501,"title":"Coding not supported"}'
 LONG = b"POST /offers HTTP/1.1\r\nContent-Length: 5000000\r\n\r\n"
 TOO_LARGE = b'{"code":"BodyTooLarge","status":413,"title":"Body too large"}'
+PLACES = b"GET /runs/0/places/A/B HTTP/1.1\r\nRetailer-Key: north\r\n\r\n"
+MOST_PLACES = 1_200
+MOST_HELD = 65_536  # bytes of answers that the host holds back to send them together
 SECONDS = 90
 
 
@@ -37,12 +42,13 @@ def expect(is_so: bool, what: str):
 class Host:
     """The program, serving so many connections at a free port."""
 
-    def __init__(self, program: str, connections: int, workers: int, sweep: int = 1, handles: int = None):
+    def __init__(self, program: str, connections: int, workers: int, sweep: int = 1, handles: int = None,
+                 catalogue: str = EXAMPLE):
         free = socket.create_server(("127.0.0.1", 0))
         self.port = free.getsockname()[1]
         free.close()
         limit = (lambda: resource.setrlimit(resource.RLIMIT_NOFILE, (handles, handles))) if handles else None
-        words = ["serve", EXAMPLE, "--port", self.port, "--connections", connections, "--workers", workers, "--sweep", sweep]
+        words = ["serve", catalogue, "--port", self.port, "--connections", connections, "--workers", workers, "--sweep", sweep]
         self.process = subprocess.Popen([program] + [str(word) for word in words], stdin=subprocess.DEVNULL,
                                         stdout=subprocess.PIPE, stderr=subprocess.PIPE, preexec_fn=limit)
 
@@ -185,6 +191,42 @@ def ahead(program: str):
         host.end()
 
 
+def largest_run() -> dict:
+    """A catalogue of one run with as many places as a run may have."""
+    fare = {"base": 500, "perLeg": 300}
+    stops = [{"station": "A", "depart": "2099-06-01T08:00:00Z"}, {"station": "B", "arrive": "2099-06-01T09:00:00Z"}]
+    places = {"first": 1, "last": MOST_PLACES, "traits": ["WINDOW", "TABLE"]}
+    coach = {"coach": 1, "class": "SECOND", "places": [places]}
+    return {"currency": "EUR", "retailers": [{"number": 1, "key": "north"}], "stations": [{"code": "A"}, {"code": "B"}],
+            "refundSteps": [{"before": 0, "fee": 0}], "rows": 64,
+            "runs": [{"train": 1, "stops": stops, "fares": {"first": fare, "second": fare}, "coaches": [coach]}]}
+
+
+def long_answers(program: str):
+    """A body that is too long to be held goes out behind its head and the answers that are, by one call for both pieces."""
+    asked = ASKS + PLACES * 4 + ASKS
+    with tempfile.TemporaryDirectory() as folder:
+        catalogue = os.path.join(folder, "largest.json")
+        with open(catalogue, "w") as file:
+            json.dump(largest_run(), file)
+        replay = [program, "replay", catalogue]
+        wanted = subprocess.run(replay, input=asked, stdout=subprocess.PIPE, timeout=SECONDS, check=True).stdout
+        expect(wanted.count(b'"free":true') == 4 * MOST_PLACES, "replay gives other lists: %r" % wanted[:200])
+        expect(len(wanted) > 4 * MOST_HELD, "the lists are too short to pass what is held")
+        with Host(program, 1, 1, catalogue=catalogue) as host:
+            client = host.connect()
+            client.sendall(asked)
+            client.shutdown(socket.SHUT_WR)
+            answers = b""
+            while piece := client.recv(65_536):
+                answers += piece
+            same = os.path.commonprefix([answers, wanted])
+            expect(answers == wanted, "the answers differ from those of replay behind byte %d: %r for %r" %
+                   (len(same), answers[len(same):][:80], wanted[len(same):][:80]))
+            client.close()
+            host.end()
+
+
 def handles(program: str):
     """With six handles of files two connections are open at once; a third one waits until one of them has ended."""
     with Host(program, 6, 4, handles=6) as host:
@@ -226,7 +268,7 @@ def ticks(program: str):
 
 def main() -> int:
     program = os.path.abspath(sys.argv[1])
-    parts = [ticks, refusals, ahead, handles, time_limits]
+    parts = [ticks, refusals, ahead, long_answers, handles, time_limits]
     for part in parts:
         try:
             part(program)

@@ -52,83 +52,95 @@ fn prebooked(rt: &impl Abort, books: &Books, desk: &mut Desk, place: PlaceNo) ->
     seal(books, desk, hold, Sealed::Prebooked)
 }
 
+// Collects a booking's ticket.
+fn collects(rt: &impl Abort, books: &Books, desk: &mut Desk, row: RowNo, want: Fulfilment)
+    requires own { IsOf books.now desk.old }
+    ensures own { IsOf books.now desk.new }
+{
+    let found = fulfil(books, desk, row, RETAILER);
+    assert!(rt; found == want);
+}
+
+// Confirmations by their row, retailer and second: the first row's, and then the second one's and that of a row that
+// isn't there.
+fn confirms_each(rt: &impl Abort, books: &Books, desk: &mut Desk)
+    requires own { IsOf books.now desk.old }
+    ensures own { IsOf books.now desk.new }
+{
+    let limit = at(rt, 900);
+    for (row, retailer, seconds, want) in [
+        (0, RETAILER, 900, Confirmed::Done),
+        (1, RETAILER, 901, Confirmed::TooLate { limit }),
+        (1, RetailerNo(8), 0, Confirmed::Unknown),
+        (262_144, RETAILER, 0, Confirmed::Unknown),
+    ] {
+        let row = RowNo { row, generation: 0 };
+        let found = confirm(books, desk, row, retailer, at(rt, seconds));
+        assert!(rt; found == want);
+    }
+}
+
 #[test]
 fn confirmed_up_to_the_limit(rt: HostRuntime) -> Result<(), Fail> {
     let alloc = rt.alloc();
     let (books, mut desk) = start_books(alloc, [1, 1, 1].as_slice(), 4)?;
     let first = prebooked(&rt, &books, &mut desk, PlaceNo(0));
-    let second = prebooked(&rt, &books, &mut desk, PlaceNo(1));
-    assert_eq!(rt;
-        fulfil(&books, &mut desk, first, RETAILER),
-        Fulfilment::WrongState {
-            shown: Phase::Prebooked,
-        }
+    let _second = prebooked(&rt, &books, &mut desk, PlaceNo(1));
+    let shown = Phase::Prebooked;
+    collects(
+        &rt,
+        &books,
+        &mut desk,
+        first,
+        Fulfilment::WrongState { shown },
     );
-    assert_eq!(rt;
-        confirm(&books, &mut desk, first, RETAILER, at(&rt, 900)),
-        Confirmed::Done
-    );
-    assert_eq!(rt;
-        confirm(&books, &mut desk, second, RETAILER, at(&rt, 901)),
-        Confirmed::TooLate {
-            limit: at(&rt, 900)
-        }
-    );
-    assert_eq!(rt;
-        confirm(&books, &mut desk, second, RetailerNo(8), at(&rt, 0)),
-        Confirmed::Unknown
-    );
-    assert_eq!(rt;
-        confirm(
-            &books,
-            &mut desk,
-            RowNo {
-                row: 262_144,
-                generation: 0
-            },
-            RETAILER,
-            at(&rt, 0)
-        ),
-        Confirmed::Unknown
-    );
-    assert_eq!(rt;
-        fulfil(&books, &mut desk, first, RETAILER),
-        Fulfilment::Done
-    );
+    confirms_each(&rt, &books, &mut desk);
+    collects(&rt, &books, &mut desk, first, Fulfilment::Done);
     Ok(())
+}
+
+// Sweeps, and counts.
+fn sweeps(rt: &impl Abort, books: &Books, desk: &mut Desk, seconds: u64, expired: u32, waiting: u32)
+    requires own { IsOf books.now desk.old }
+    requires idle { IsIdle desk.old }
+    ensures own { IsOf books.now desk.new }
+    ensures idle { IsIdle desk.new }
+{
+    let swept = sweep(books, desk, at(rt, seconds));
+    let want = Swept {
+        expired,
+        lost: 0,
+        waiting,
+    };
+    assert!(rt; swept == want);
+}
+
+// Prebooks the first place, and sweeps at the limit and a second later.
+fn expires(rt: &impl Abort, books: &Books, desk: &mut Desk) -> RowNo
+    requires own { IsOf books.now desk.old }
+    requires idle { IsIdle desk.old }
+    requires place { 0 < length books.now.layout.legs }
+    requires legs { 1 ≤ slice_index books.now.layout.legs 0 }
+    ensures own { IsOf books.now desk.new }
+    ensures idle { IsIdle desk.new }
+{
+    let row = prebooked(rt, books, desk, PlaceNo(0));
+    sweeps(rt, books, desk, 900, 0, 1);
+    sweeps(rt, books, desk, 901, 1, 0);
+    row
 }
 
 #[test]
 fn expired_after_the_limit(rt: HostRuntime) -> Result<(), Fail> {
     let alloc = rt.alloc();
     let (books, mut desk) = start_books(alloc, [1, 1].as_slice(), 4)?;
-    let first = prebooked(&rt, &books, &mut desk, PlaceNo(0));
-    let waiting = sweep(&books, &mut desk, at(&rt, 900));
-    assert_eq!(rt;
-        waiting,
-        Swept {
-            expired: 0,
-            lost: 0,
-            waiting: 1,
-        }
-    );
-    let expired = sweep(&books, &mut desk, at(&rt, 901));
-    assert_eq!(rt;
-        expired,
-        Swept {
-            expired: 1,
-            lost: 0,
-            waiting: 0,
-        }
-    );
+    let first = expires(&rt, &books, &mut desk);
     let shown = Phase::Ended(EndKind::Expire);
     let late = confirm(&books, &mut desk, first, RETAILER, at(&rt, 0));
-    assert_eq!(rt; late, Confirmed::WrongState { shown });
+    assert!(rt; late == Confirmed::WrongState { shown });
     let second = prebooked(&rt, &books, &mut desk, PlaceNo(0));
-    assert_eq!(rt;
-        release(&books, &mut desk, second, RETAILER, at(&rt, 5000)),
-        Released::Done
-    );
+    let free = release(&books, &mut desk, second, RETAILER, at(&rt, 5000));
+    assert!(rt; free == Released::Done);
     Ok(())
 }
 
@@ -145,8 +157,8 @@ fn thousand(alloc: Global) -> Result<(Books, Desk), AllocError>
     Ok((books, desk))
 }
 
-// Prebooks each of a thousand places, in the row of its number. A search for a row has at most as many entries as it moves on the first
-// row that isn't known to be taken, so each of these has one.
+// Prebooks each of a thousand places, in the row of its number. A search for a row has at most as many entries as it
+// moves on the first row that isn't known to be taken, so each of these has one.
 fn book_all(rt: &impl Abort, books: &Books, desk: &mut Desk)
     requires own { IsOf books.now desk.old }
     requires none { HoldsNone desk.old }
@@ -156,15 +168,13 @@ fn book_all(rt: &impl Abort, books: &Books, desk: &mut Desk)
     ensures number { desk.new.number ≡ desk.old.number }
 {
     for place in 0..1000 {
-        assert_eq!(rt; desk.past(), place);
-        assert_eq!(rt;
-            prebooked(rt, books, desk, PlaceNo(place)),
-            RowNo {
-                row: place,
-                generation: 0
-            }
-        );
-        assert_eq!(rt; desk.past(), place + 1);
+        assert!(rt; desk.past() == place);
+        let want = RowNo {
+            row: place,
+            generation: 0,
+        };
+        assert!(rt; prebooked(rt, books, desk, PlaceNo(place)) == want);
+        assert!(rt; desk.past() == place + 1);
     }
 }
 
@@ -227,7 +237,8 @@ fn play<R: Threads + Sync>(
     );
 }
 
-/// Of a confirmation and an expiry of each of a thousand rows one is won, and a place is free exactly where its row has expired.
+/// Of a confirmation and an expiry of each of a thousand rows one is won, and a place is free exactly where its row
+/// has expired.
 #[test]
 fn one_confirms_and_one_sweeps(rt: HostRuntime) -> Result<(), Fail> {
     let (books, mut desk) = thousand(rt.alloc())?;
@@ -253,8 +264,9 @@ fn one_confirms_and_one_sweeps(rt: HostRuntime) -> Result<(), Fail> {
     );
     let won = members[0].decided;
     let expired = members[1].decided;
-    assert_eq!(rt; u64::from(won) + u64::from(expired), 1000);
-    assert_eq!(rt; count_confirmed(&rt, &books, &mut desk), won);
+    assert!(rt; u64::from(won) + u64::from(expired) == 1000);
+    let confirmed = count_confirmed(&rt, &books, &mut desk);
+    assert!(rt; confirmed == won);
     Ok(())
 }
 
@@ -273,10 +285,10 @@ fn count_confirmed(rt: &impl Abort, books: &Books, desk: &mut Desk) -> u32
         };
         if phase == Phase::Confirmed {
             confirmed = confirmed.saturating_add(1);
-            assert_eq!(rt; word, 1);
+            assert!(rt; word == 1);
         } else {
-            assert_eq!(rt; phase, Phase::Ended(EndKind::Expire));
-            assert_eq!(rt; word, 0);
+            assert!(rt; phase == Phase::Ended(EndKind::Expire));
+            assert!(rt; word == 0);
         }
     }
     confirmed
@@ -293,7 +305,7 @@ fn finds_none(rt: &impl Abort, books: &Books, desk: &mut Desk)
         abandon(books, desk, hold);
         panic!(rt; "all rows are taken");
     }
-    assert_eq!(rt; desk.past(), 1000);
+    assert!(rt; desk.past() == 1000);
 }
 
 /// A desk that knows of no row finds none of a thousand free, and remembers it.
@@ -302,7 +314,7 @@ fn searches_each_row_once(rt: HostRuntime) -> Result<(), Fail> {
     let (books, mut desk) = thousand(rt.alloc())?;
     let mut late = books.part(&mut desk);
     book_all(&rt, &books, &mut desk);
-    assert_eq!(rt; late.past(), 0);
+    assert!(rt; late.past() == 0);
     finds_none(&rt, &books, &mut late);
     finds_none(&rt, &books, &mut late);
     Ok(())

@@ -3,18 +3,20 @@ use Rattle.std.proofs.Common.{◌≡◌, ◌≢◌, ℕ, suc, ◌+◌, ◌≤◌
 use Rattle.std.proofs.lemmas.Int.{ints, fits_signed_from_abs}
 use Rattle.leg_masks.specs.Interval.{PlacedSpan as Item}
 use Rattle.history_model.specs.declared.entry.Step.{Step}
-use Rattle.history_model.specs.declared.entry.Step.TheVariants.{Turn, LostTurn}
+use Rattle.history_model.specs.declared.entry.Step.TheVariants.{LostTurn}
 use Rattle.history_model.specs.declared.phase.EndKind.{EndKind}
 use Rattle.history_model.specs.declared.phase.EndKind.TheVariants as kind
 use Rattle.history_model.specs.declared.phase.Phase.{Phase}
 use Rattle.history_model.specs.declared.phase.Phase.TheVariants as phase
 use Rattle.rail_ids.specs.declared.RowNo.{RowNo}
-use Rattle.history_model.specs.Booking.{Booking, Layout, State, most_items, least_difference, greatest_difference, present, booking_at, limit_of, successor_word}
+use Rattle.history_model.specs.Booking.{Booking, Layout, State, most_items, least_difference, greatest_difference, present, booking_at, limit_of}
 use Rattle.history_model.specs.Phase.{is_live, is_sealed, phase_shown, row_word_of}
 use Rattle.history_model.specs.Allowed.{IsAllowedStep, IsAmountOf, IsMadeBy, IsBeingEndedBy, TurnsWith}
 use Rattle.history_model.specs.History.{IsLegal, entry, state_of}
 use Rattle.history_model.specs.Work.{ends_row}
 use Rattle.history_model.specs.Laws.{AreInRange, IsWellFormed}
+use Rattle.history_model.specs.WholeEnds.{end_turn, end_at}
+use Rattle.history_model.specs.declared.booking.End.{End}
 use Rattle.history_model.proofs.Keeping.{found, turn_from}
 use Rattle.history_model.proofs.Owners.{firm_ending}
 use Rattle.history_model.proofs.Generations.{key_present, present_latest}
@@ -47,22 +49,22 @@ at_most kind.Expire a is = subst (λ (z : ℤ). (least_difference ≤ℤ z) × (
 at_most kind.Refund a is = let l : pos 0 ≤ℤ a = is.0 in let m : a ≤ℤ pos 99999999999 = is.1 in (omega (arith, ints), omega (arith, ints))
 at_most kind.Exchange a is = is
 
-aim_fits : (g : Layout) (s : State) (d limit : ℕ) (aim : Aim) → IsWellFormed g s → AreInRange g s → TurnsWith s d limit (aimed aim) (end_of aim).moment (end_of aim).amount (end_of aim).successor
+aim_fits : (g : Layout) (s : State) (d limit : ℕ) (aim : Aim) → IsWellFormed g s → AreInRange g s → TurnsWith s d limit (aimed aim) (end_of aim)
     → (least_difference ≤ℤ (end_of aim).amount) × ((end_of aim).amount ≤ℤ greatest_difference)
 aim_fits g s d limit (Confirm now) wf all may = (omega (arith, ints), omega (arith, ints))
 aim_fits g s d limit Fulfil wf all may = (omega (arith, ints), omega (arith, ints))
 aim_fits g s d limit (Release now) wf all may = (omega (arith, ints), omega (arith, ints))
 aim_fits g s d limit (Expire now) wf all may = (omega (arith, ints), omega (arith, ints))
-aim_fits g s d limit (Refund now amount) wf all may = at_most kind.Refund (pos amount) (turn_fits g s d limit kind.Refund now (pos amount) 0 (keys_in_range g s wf all) may).0
+aim_fits g s d limit (Refund now amount) wf all may = at_most kind.Refund (pos amount) (turn_fits g s d limit kind.Refund (end_of (Refund now amount)) (keys_in_range g s wf all) may).0
 aim_fits g s d limit (Exchange now difference successor) wf all may =
-    at_most kind.Exchange difference (turn_fits g s d limit kind.Exchange now difference (successor_word successor.row successor.generation) (keys_in_range g s wf all) may).0
+    at_most kind.Exchange difference (turn_fits g s d limit kind.Exchange (end_of (Exchange now difference successor)) (keys_in_range g s wf all) may).0
 
-pub turn_in_range : (books : BooksView) (desk : DeskView) (row : RowNo) (from : Phase) (aim : Aim) → IsOf books desk → CanTurn books.layout desk.seen desk.number row from (aimed aim) (end_of aim).moment (end_of aim).amount (end_of aim).successor
+pub turn_in_range : (books : BooksView) (desk : DeskView) (row : RowNo) (from : Phase) (aim : Aim) → IsOf books desk → CanTurn books.layout desk.seen desk.number row from (aimed aim) (end_of aim)
     → (least_difference ≤ℤ (end_of aim).amount) × ((end_of aim).amount ≤ℤ greatest_difference)
 turn_in_range books desk row from aim of can =
     let legal : IsLegal books.layout desk.seen = subst (λ (g : Layout). IsLegal g desk.seen) of.layout of.legal in
     let s = state_of books.layout desk.seen in
-    let b = found (booking_at s row.row row.generation) (λ b. (is_sealed b.phase ≡ true) × TurnsWith s desk.number (limit_of b) (aimed aim) (end_of aim).moment (end_of aim).amount (end_of aim).successor) can.3 in
+    let b = found (booking_at s row.row row.generation) (λ b. (is_sealed b.phase ≡ true) × TurnsWith s desk.number (limit_of b) (aimed aim) (end_of aim)) can.3 in
     aim_fits books.layout s desk.number (limit_of b.0) aim (is_sound books.layout desk.seen legal) (ranges_all books.layout desk.seen legal) b.2.1
 
 -- a booking that is turned is its row's present one, so its row is none that the desk makes
@@ -86,43 +88,43 @@ sealed_apart books desk row q on still made same =
     some_same y z e = cc
 
 -- a turn that can be made is one of a sealed booking
-pub turn_sealed : (books : BooksView) (desk : DeskView) (row : RowNo) (from to : Phase) (m : ℕ) (x : ℤ) (n : ℕ) → IsOf books desk → CanTurn books.layout desk.seen desk.number row from to m x n → IsSealedRow desk row
-turn_sealed books desk row from to m x n of can =
-    let P : Layout → Booking → Type 0 = λ l b. (is_sealed b.phase ≡ true) × TurnsWith (state_of l desk.seen) desk.number (limit_of b) to m x n in
+pub turn_sealed : (books : BooksView) (desk : DeskView) (row : RowNo) (from to : Phase) (end : End) → IsOf books desk → CanTurn books.layout desk.seen desk.number row from to end → IsSealedRow desk row
+turn_sealed books desk row from to end of can =
+    let P : Layout → Booking → Type 0 = λ l b. (is_sealed b.phase ≡ true) × TurnsWith (state_of l desk.seen) desk.number (limit_of b) to end in
     let on = subst (λ (l : Layout). OnBooking (state_of l desk.seen) row (P l)) (sym of.layout) can.3 in
     let b = found (booking_at (state_seen desk) row.row row.generation) (P desk.layout) on in
     at_key desk row b.0 (λ b. is_sealed b.phase ≡ true) b.1 b.2.0
 
-pub turn_holds : (books : BooksView) (old new : DeskView) (row : RowNo) (from to : Phase) (m : ℕ) (x : ℤ) (n : ℕ) → IsOf books old → CanTurn books.layout old.seen old.number row from to m x n → IsTurned row from to m x n old new → KeepsHolds old new
-turn_holds books old new row from to m x n of can did =
-    let st : Step = Turn row.row from to m x n in
+pub turn_holds : (books : BooksView) (old new : DeskView) (row : RowNo) (from to : Phase) (end : End) → IsOf books old → CanTurn books.layout old.seen old.number row from to end → IsTurned row from to end old new → KeepsHolds old new
+turn_holds books old new row from to end of can did =
+    let st : Step = end_turn row.row from to end in
     let shape = step_shape st old new did.0 in
-    let sealed = turn_sealed books old row from to m x n of can in
+    let sealed = turn_sealed books old row from to end of can in
     let still = still_before old new (st ∷ []) row shape sealed (turned_still new row to did.1) in
     keeps_holds old new (st ∷ []) shape did.0.same.5
     (λ q made. (ap not (ne_eqb row.row q (sealed_apart books old row q sealed still made)), tt)) (λ q. (refl, tt))
 
 -- a turn to no ending leaves the desk's ending
 
-no_end : (q row : ℕ) (from to : Phase) (m : ℕ) (x : ℤ) (n : ℕ) → ((k : EndKind) → to ≢ phase.Ending k) → ends_row q (Turn row from to m x n) ≡ false
-no_end q row from phase.Free m x n not_so = refl
-no_end q row from phase.Making m x n not_so = refl
-no_end q row from phase.Prebooked m x n not_so = refl
-no_end q row from phase.Confirmed m x n not_so = refl
-no_end q row from phase.Fulfilled m x n not_so = refl
-no_end q row from (phase.Ending k) m x n not_so = absurd (not_so k refl)
-no_end q row from (phase.Ended k) m x n not_so = refl
+no_end : (q row : ℕ) (from to : Phase) (end : End) → ((k : EndKind) → to ≢ phase.Ending k) → ends_row q (end_turn row from to end) ≡ false
+no_end q row from phase.Free end not_so = refl
+no_end q row from phase.Making end not_so = refl
+no_end q row from phase.Prebooked end not_so = refl
+no_end q row from phase.Confirmed end not_so = refl
+no_end q row from phase.Fulfilled end not_so = refl
+no_end q row from (phase.Ending k) end not_so = absurd (not_so k refl)
+no_end q row from (phase.Ended k) end not_so = refl
 
 -- the row that is turned is none that the desk ends: it is in a phase that a turn starts from
-turn_apart : (row q : ℕ) (from to : Phase) (m : ℕ) (x : ℤ) (n : ℕ) (old new : DeskView) → Stepped (Turn row from to m x n) old new → EndsRow old q → row ≡ q → ⊥
-turn_apart row q from to m x n old new did on same =
-    let st : Step = Turn row from to m x n in
+turn_apart : (row q : ℕ) (from to : Phase) (end : End) (old new : DeskView) → Stepped (end_turn row from to end) old new → EndsRow old q → row ≡ q → ⊥
+turn_apart row q from to end old new did on same =
+    let st : Step = end_turn row from to end in
     let h = old.seen ++ did.between in
     let s = state_of old.layout h in
     let may : IsAllowedStep old.layout s old.number st = (legal-rest old.layout h (entry old.number st ∷ []) (legal_before st old new did)).0 in
     let e = found (present (state_seen old) q) (IsBeingEndedBy old.number) on in
     let there = own_before st old new did q e.0 e.1 e.2.1.1 (firm_ending e.0.phase e.2.0 e.2.1.0) in
-    let b = found (present s row) (λ b. (b.phase ≡ from) × TurnsWith s old.number (limit_of b) to m x n) may.3 in
+    let b = found (present s row) (λ b. (b.phase ≡ from) × TurnsWith s old.number (limit_of b) to end) may.3 in
     let is : b.0 ≡ e.0 = some_same b.0 e.0 (sym b.1 ∙ (ap (present s) same ∙ there)) in
     let live : is_live (phase.Ending e.2.0) ≡ true = ap is_live (sym e.2.1.0 ∙ (ap (λ (y : Booking). y.phase) (sym is) ∙ b.2.0)) ∙ turn_from from to may.1 in
     let no : false ≡ true = live in
@@ -131,9 +133,9 @@ turn_apart row q from to m x n old new did on same =
     some_same : (y z : Booking) → Some y ≡ Some z → y ≡ z
     some_same y z e = cc
 
-pub turn_endings : (row : ℕ) (from to : Phase) (m : ℕ) (x : ℤ) (n : ℕ) (old new : DeskView) → ((k : EndKind) → to ≢ phase.Ending k) → Stepped (Turn row from to m x n) old new → KeepsEndings old new
-turn_endings row from to m x n old new not_so did =
-    keeps_endings old new (Turn row from to m x n ∷ []) (step_shape (Turn row from to m x n) old new did) (λ q e. (ap not (ne_eqb row q (turn_apart row q from to m x n old new did e)), tt)) (λ q. (no_end q row from to m x n not_so, tt))
+pub turn_endings : (row : ℕ) (from to : Phase) (end : End) (old new : DeskView) → ((k : EndKind) → to ≢ phase.Ending k) → Stepped (end_turn row from to end) old new → KeepsEndings old new
+turn_endings row from to end old new not_so did =
+    keeps_endings old new (end_turn row from to end ∷ []) (step_shape (end_turn row from to end) old new did) (λ q e. (ap not (ne_eqb row q (turn_apart row q from to end old new did e)), tt)) (λ q. (no_end q row from to end not_so, tt))
 
 -- a lost turn leaves all
 
@@ -167,10 +169,24 @@ length-items row w (i ∷ is) = ap suc (length-items row (suc w) is)
 pub items_bound : (old new : DeskView) (st : Step) (row : ℕ) (items : List Item) → Shape old new (st ∷ items_read row items) → length items ≤ most_items → AddsAtMost (most_items + 2) old new
 items_bound old new st row items did few = adds_length old new (st ∷ items_read row items) (most_items + 2) did (let l = length-items row 8 items in omega arith)
 
--- what a turn answered, as the aim says it
+-- the amount that a turn aims at fits its word
 
-pub turned_as : (row : RowNo) (from p : Phase) (m : ℕ) (x : ℤ) (n : ℕ) (aim : Aim) (old new : DeskView) (answer : StepTurned) → p ≡ aimed aim → m ≡ (end_of aim).moment → x ≡ (end_of aim).amount → n ≡ (end_of aim).successor → HasTurned row from p m x n old new answer → HasTurned row from (aimed aim) (end_of aim).moment (end_of aim).amount (end_of aim).successor old new answer
-turned_as row from p m x n aim old new answer is moment amount successor did = subst (λ (y : Phase × ℕ × ℤ × ℕ). HasTurned row from y.0 y.1 y.2 y.3 old new answer) (λ i. (is i, moment i, amount i, successor i)) did
+between : (z : ℤ) → least_difference ≤ℤ z → z ≤ℤ greatest_difference → FitsSigned w64 z
+between (pos n) l m = fits_signed_from_abs w64 (pos n) (omega (arith, ints))
+between (negsuc n) l m = fits_signed_from_abs w64 (negsuc n) (omega (arith, ints))
+
+pub amount_fits : (amount z : ℤ) → least_difference ≤ℤ amount → amount ≤ℤ greatest_difference → z ≡ amount → to_z w64 (of_z w64 z) ≡ amount
+amount_fits amount z l m is = to_z-of_z {w = w64} {z = z} (subst (FitsSigned w64) (sym is) (between amount l m)) ∙ is
+
+-- what a turn answered, as the aim says it: its end was passed in its parts, the amount as a word
+pub turned_as : (books : BooksView) (row : RowNo) (from p : Phase) (end : End) (aim : Aim) (old new : DeskView) (answer : StepTurned) → IsOf books old
+    → CanTurn books.layout old.seen old.number row from (aimed aim) (end_of aim) → p ≡ aimed aim → end ≡ end_of aim
+    → HasTurned row from p (end_at end.moment (to_z w64 (of_z w64 end.amount)) end.successor) old new answer → HasTurned row from (aimed aim) (end_of aim) old new answer
+turned_as books row from p end aim old new answer of can is same did =
+    let within = turn_in_range books old row from aim of can in
+    let amount = amount_fits (end_of aim).amount end.amount within.0 within.1 (ap (λ (e : End). e.amount) same) in
+    let whole : end_at end.moment (to_z w64 (of_z w64 end.amount)) end.successor ≡ end_of aim = λ i. end_at (same i).moment (amount i) (same i).successor in
+    subst (λ (y : Phase × End). HasTurned row from y.0 y.1 old new answer) (λ i. (is i, whole i)) did
 
 pub lost_entries : (row : RowNo) (n : ℕ) (from shown : Phase) (aim : Aim) (old new : DeskView) → shown ≡ phase_shown row.generation n → IsTurnLost row from n old new → ShapeBy (Turns row from aim (Lost shown)) old new
 lost_entries row n from shown aim old new is lost =
@@ -178,24 +194,13 @@ lost_entries row n from shown aim old new is lost =
     (LostTurn row.row wanted n ∷ [], (n, lost.0, is, refl), step_shape (LostTurn row.row wanted n) old new lost.1)
 
 -- a turn to an ending leaves that ending out
-pub turned_ending : (row : RowNo) (from : Phase) (aim : Aim) (e : EndingView) (old new : DeskView) → ((k : EndKind) → aimed aim ≡ phase.Ending k → EndsNone old) → HasTurned row from (aimed aim) (end_of aim).moment (end_of aim).amount (end_of aim).successor old new (answer.Ending e) → IsEnding new e
+pub turned_ending : (row : RowNo) (from : Phase) (aim : Aim) (e : EndingView) (old new : DeskView) → ((k : EndKind) → aimed aim ≡ phase.Ending k → EndsNone old) → HasTurned row from (aimed aim) (end_of aim) old new (answer.Ending e) → IsEnding new e
 turned_ending row from aim e old new none t =
     let end = end_of aim in
-    let did = subst (λ (ph : Phase). Stepped (Turn row.row from ph end.moment end.amount end.successor) old new) t.2 t.0.0 in
-    record { of = t.1; only = λ r on. turned_only row.row from e.kind end.moment end.amount end.successor old new (none e.kind t.2) did r on ∙ sym (ap (λ (v : EndingView). v.row.row) t.3) }
+    let did = subst (λ (ph : Phase). Stepped (end_turn row.row from ph end) old new) t.2 t.0.0 in
+    record { of = t.1; only = λ r on. turned_only row.row from e.kind end old new (none e.kind t.2) did r on ∙ sym (ap (λ (v : EndingView). v.row.row) t.3) }
 
-pub ending_shape : (row : RowNo) (from : Phase) (aim : Aim) (e now : EndingView) (old mid new : DeskView) → HasTurned row from (aimed aim) (end_of aim).moment (end_of aim).amount (end_of aim).successor old mid (answer.Ending e) → Shape mid new (items_read e.row.row now.items) → Shape old new (turn_of row.row from aim ∷ items_read row.row now.items)
+pub ending_shape : (row : RowNo) (from : Phase) (aim : Aim) (e now : EndingView) (old mid new : DeskView) → HasTurned row from (aimed aim) (end_of aim) old mid (answer.Ending e) → Shape mid new (items_read e.row.row now.items) → Shape old new (turn_of row.row from aim ∷ items_read row.row now.items)
 ending_shape row from aim e now old mid new t seen =
     shape_then old mid new (turn_of row.row from aim ∷ []) (items_read row.row now.items) (step_shape (turn_of row.row from aim) old mid t.0.0)
     (subst (λ (r : ℕ). Shape mid new (items_read r now.items)) (ap (λ (v : EndingView). v.row.row) t.3) seen)
-
--- the amount that a turn aims at fits its word
-
-between : (z : ℤ) → least_difference ≤ℤ z → z ≤ℤ greatest_difference → FitsSigned w64 z
-between (pos n) l m = fits_signed_from_abs w64 (pos n) (omega (arith, ints))
-between (negsuc n) l m = fits_signed_from_abs w64 (negsuc n) (omega (arith, ints))
-
-pub amount_fits : (books : BooksView) (desk : DeskView) (row : RowNo) (from : Phase) (aim : Aim) (z : ℤ) → IsOf books desk → CanTurn books.layout desk.seen desk.number row from (aimed aim) (end_of aim).moment (end_of aim).amount (end_of aim).successor → z ≡ (end_of aim).amount → to_z w64 (of_z w64 z) ≡ (end_of aim).amount
-amount_fits books desk row from aim z of can is =
-    let l = turn_in_range books desk row from aim of can in
-    to_z-of_z {w = w64} {z = z} (subst (FitsSigned w64) (sym is) (between (end_of aim).amount l.0 l.1)) ∙ is

@@ -1,7 +1,7 @@
 -- Turns by what they aim at, and what they answer.
-use Rattle.std.specs.Prelude.{◌≡◌, ◌≢◌, ℕ, ℤ, pos, ◌≤◌, true, List, [], ◌∷◌}
+use Rattle.std.specs.Prelude.{◌≡◌, ◌≢◌, ℕ, pos, ◌≤◌, true, List, [], ◌∷◌}
 use Rattle.history_model.specs.declared.entry.Step.{Step}
-use Rattle.history_model.specs.declared.entry.Step.TheVariants.{Turn, LostTurn}
+use Rattle.history_model.specs.declared.entry.Step.TheVariants.{LostTurn}
 use Rattle.history_model.specs.declared.phase.Phase.{Phase}
 use Rattle.history_model.specs.declared.phase.Phase.TheVariants as phase
 use Rattle.history_model.specs.declared.phase.EndKind.{EndKind}
@@ -11,6 +11,7 @@ use Rattle.rail_ids.specs.declared.RowNo.{RowNo}
 use Rattle.rail_ids.specs.Spelling.{last_generation}
 use Rattle.history_model.specs.Phase.{row_word_of, phase_shown}
 use Rattle.history_model.specs.Booking.{Layout, successor_word}
+use Rattle.history_model.specs.WholeEnds.{end_at, end_turn}
 use Rattle.claim_rule.specs.Desks.{CanTurn}
 use Rattle.claim_rule.specs.Rule.{DeskView}
 use Rattle.claim_rule.specs.Endings.{EndingView, items_read}
@@ -19,9 +20,6 @@ use Rattle.booking_rows.specs.declared.turns.Aim.{Aim}
 use Rattle.booking_rows.specs.declared.turns.Aim.TheVariants.{Confirm, Fulfil, Release, Expire, Refund, Exchange}
 use Rattle.booking_rows.specs.declared.turns.Turned.{Turned}
 use Rattle.booking_rows.specs.declared.turns.Turned.TheVariants.{Won, Ending, Lost}
-
-abbrev pub end_at : ℕ → ℤ → ℕ → End
-end_at moment amount successor = record { moment = moment; amount = amount; successor = successor }
 
 -- the phase and the end that a turn aims at
 abbrev pub aimed : Aim → Phase
@@ -47,11 +45,7 @@ HasGeneration aim = Unit {0}
 
 -- the turn is one that may be made of this booking
 abbrev pub MayAim : Layout → DeskView → RowNo → Phase → Aim → Type 0
-MayAim layout desk row from aim =
-    CanTurn layout desk.seen desk.number row from (aimed aim) (end_of aim).moment (end_of aim).amount (end_of aim).successor
-
-abbrev pub end_turn : ℕ → Phase → Phase → End → Step
-end_turn row from to end = Turn row from to end.moment end.amount end.successor
+MayAim layout desk row from aim = CanTurn layout desk.seen desk.number row from (aimed aim) (end_of aim)
 
 -- the turn of the row, from this phase
 abbrev pub turn_of : ℕ → Phase → Aim → Step
@@ -59,8 +53,9 @@ turn_of row from aim = end_turn row from (aimed aim) (end_of aim)
 
 -- the row's word was another than that of the phase wanted and the generation, and shows the booking this phase
 abbrev pub LosesTurn : RowNo → Phase → Phase → List Step → Type 0
-LosesTurn row wanted shown es = (n : ℕ) × (n ≢ row_word_of wanted row.generation) × (shown ≡ phase_shown row.generation n)
-    × (es ≡ LostTurn row.row (row_word_of wanted row.generation) n ∷ [])
+LosesTurn row wanted shown es =
+    (word : ℕ) × (word ≢ row_word_of wanted row.generation) × (shown ≡ phase_shown row.generation word)
+    × (es ≡ LostTurn row.row (row_word_of wanted row.generation) word ∷ [])
 
 -- an ending whose items are read and not given back
 abbrev pub fresh_ending : RowNo → EndKind → End → EndingView → EndingView
@@ -75,7 +70,8 @@ Turns row from aim (Lost shown) es = LosesTurn row from shown es
 -- won where it aims at no ending; else the ending is the desk's and out
 abbrev pub LeavesTurned : RowNo → Aim → DeskView → DeskView → Turned → Type 0
 LeavesTurned row aim old new Won = ((k : EndKind) → aimed aim ≢ phase.Ending k) × KeepsEndings old new
-LeavesTurned row aim old new (Ending e) = (aimed aim ≡ phase.Ending e.kind) × (e ≡ fresh_ending row e.kind (end_of aim) e) × IsEnding new e
+LeavesTurned row aim old new (Ending e) =
+    (aimed aim ≡ phase.Ending e.kind) × (e ≡ fresh_ending row e.kind (end_of aim) e) × IsEnding new e
 LeavesTurned row aim old new (Lost shown) = KeepsEndings old new
 
 -- what holds where the turn was made

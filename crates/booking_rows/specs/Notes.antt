@@ -31,4 +31,5 @@ NotesLastItem hold old new = (front : List Item) (last : Item) → hold.items �
 
 -- a hold with an item, all of them noted and the total in range, may now be sealed
 abbrev pub MakesReady : Detail → DeskView → HoldView → DeskView → HoldView → Type 0
-MakesReady detail old hold new held = HasNotedItems old hold → 1 ≤ length hold.items → detail.total ≤ greatest_amount → IsToBeSealed new held
+MakesReady detail old hold new held =
+    HasNotedItems old hold → 1 ≤ length hold.items → detail.total ≤ greatest_amount → IsToBeSealed new held

@@ -49,7 +49,8 @@ HasItems desk row n = OnBooking (state_seen desk) row (λ b. (is_sealed b.phase 
 
 -- end words of a booking that has ended in this way
 abbrev pub IsEndOf : Phase → List ℕ → Type 0
-IsEndOf (Ended kind) (successor ∷ amount ∷ moment ∷ []) = (successor ≤ last_successor) × IsAmountWord kind amount × (moment ≤ last_moment)
+IsEndOf (Ended kind) (successor ∷ amount ∷ moment ∷ []) =
+    (successor ≤ last_successor) × IsAmountWord kind amount × (moment ≤ last_moment)
 IsEndOf (Ended kind) _ = ⊥
 IsEndOf phase ns = Unit {0}
 

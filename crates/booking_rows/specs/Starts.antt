@@ -26,7 +26,8 @@ misses_steps ((row, word) ∷ rest) = SawRow row standing_word word ∷ misses_s
 -- in rising order of rows, from one row on and below the last
 abbrev pub AreMissesFrom : ℕ → ℕ → Misses → Type 0
 AreMissesFrom from last [] = Unit {0}
-AreMissesFrom from last ((row, word) ∷ rest) = (from ≤ row) × (row < last) × (word ≢ 0) × AreMissesFrom (row + 1) last rest
+AreMissesFrom from last ((row, word) ∷ rest) =
+    (from ≤ row) × (row < last) × (word ≢ 0) × AreMissesFrom (row + 1) last rest
 
 -- all rows below this one are in use
 abbrev pub IsLeastFree : State → ℕ → Type 0
@@ -45,7 +46,8 @@ is_startable n = is_ended (said_phase (n % generation_words)) && nat_lt (n / gen
 
 -- the generation may follow on a booking that the word shows ended
 abbrev pub MayFollowOn : ℕ → ℕ → Type 0
-MayFollowOn word generation = (before : ℕ) × (generation ≡ before + 1) × (generation ≤ last_generation) × IsEndedWord before word
+MayFollowOn word generation =
+    (before : ℕ) × (generation ≡ before + 1) × (generation ≤ last_generation) × IsEndedWord before word
 
 -- a row that the second search passed: the word shown, and the other one that a try to start the next generation found
 abbrev pub Passed : Type 0
@@ -73,25 +75,29 @@ StartsAgain row es = (n : ℕ) × (is_startable n ≡ true) × (row.generation �
 
 -- no row may be started again, by what each showed
 abbrev pub StartsNone : ℕ → List Step → Type 0
-StartsNone rows es = (passed : List Passed) × (length passed ≡ rows) × AllByRecursion IsPassed passed × (es ≡ search_steps 0 passed)
+StartsNone rows es = (passed : List Passed) × (length passed ≡ rows) × AllByRecursion IsPassed passed
+    × (es ≡ search_steps 0 passed)
 
 -- all rows are in use
 abbrev pub IsFull : DeskView → Type 0
 IsFull desk = IsLeastFree (state_seen desk) desk.layout.rows
 
--- The row that a hold is started on: the one that the desk makes already, without an entry; else, after misses, the row below which all
--- are in use in what the desk has then seen; else, where all rows are in use there, the first one that is started again. None where
--- all rows are in use, and none could be started again. The misses begin at the row up to which the desk knew that all are in use.
+-- The row that a hold is started on: the one that the desk makes already, without an entry; else, after misses, the row
+-- below which all are in use in what the desk has then seen; else, where all rows are in use there, the first one that
+-- is started again. None where all rows are in use, and none could be started again. The misses begin at the row up to
+-- which the desk knew that all are in use.
 abbrev pub StartsHold : DeskView → DeskView → Option RowNo → List Step → Type 0
 StartsHold old new (Some row) es =
     (MakesBooking old row × (es ≡ []))
     ⊎ ((MakesNone old × (row.generation ≡ 0) × IsLeastFree (state_seen new) row.row
     × ((misses : Misses) × AreMissesFrom old.past row.row misses × (es ≡ misses_steps misses ++ Start row.row 0 ∷ [])))
     ⊎ (MakesNone old × IsFull new
-    × ((misses : Misses) × (rest : List Step) × AreMissesFrom old.past new.layout.rows misses × StartsAgain row rest × (es ≡ misses_steps misses ++ rest))))
+    × ((misses : Misses) × (rest : List Step) × AreMissesFrom old.past new.layout.rows misses
+    × StartsAgain row rest × (es ≡ misses_steps misses ++ rest))))
 StartsHold old new None es =
     MakesNone old × IsFull new
-    × ((misses : Misses) × (rest : List Step) × AreMissesFrom old.past new.layout.rows misses × StartsNone new.layout.rows rest × (es ≡ misses_steps misses ++ rest))
+    × ((misses : Misses) × (rest : List Step) × AreMissesFrom old.past new.layout.rows misses
+    × StartsNone new.layout.rows rest × (es ≡ misses_steps misses ++ rest))
 
 -- looks at word 0 of rows in rising number, from one on, with what they showed
 abbrev pub row_looks : ℕ → List ℕ → List Step
@@ -101,18 +107,22 @@ row_looks row (n ∷ ns) = SawRow row standing_word n ∷ row_looks (suc row) ns
 abbrev pub AllSome : List ℕ → Type 0
 AllSome ns = AllByRecursion (λ n. n ≢ 0) ns
 
--- a search from the first row that the desk didn't know to be taken: each row was seen taken, up to the one that is started; or to the last
+-- a search from the first row that the desk didn't know to be taken: each row was seen taken, up to the one that is
+-- started; or to the last
 abbrev pub Finds : DeskView → DeskView → Option HoldView → Type 0
 Finds old new (Some hold) =
     IsHolding new hold × (hold ≡ empty_hold hold.row) × (hold.row.generation ≡ 0) × (new.past ≡ hold.row.row + 1)
-    × ((ns : List ℕ) × (old.past + length ns ≡ hold.row.row) × AllSome ns × Shape old new (row_looks old.past ns ++ Start hold.row.row 0 ∷ []))
+    × ((ns : List ℕ) × (old.past + length ns ≡ hold.row.row) × AllSome ns
+    × Shape old new (row_looks old.past ns ++ Start hold.row.row 0 ∷ []))
 Finds old new None =
     HoldsNone new × (new.past ≡ old.layout.rows)
     × ((ns : List ℕ) × (old.past + length ns ≡ old.layout.rows) × AllSome ns × Shape old new (row_looks old.past ns))
 
 -- the second search: the first row that is started again, or none
 abbrev pub FindsAgain : DeskView → DeskView → Option HoldView → Type 0
-FindsAgain old new (Some hold) = IsHolding new hold × (hold ≡ empty_hold hold.row) × (new.past ≡ old.past) × ShapeBy (StartsAgain hold.row) old new
+FindsAgain old new (Some hold) =
+    IsHolding new hold × (hold ≡ empty_hold hold.row) × (new.past ≡ old.past)
+    × ShapeBy (StartsAgain hold.row) old new
 FindsAgain old new None = HoldsNone new × (new.past ≡ old.past) × ShapeBy (StartsNone old.layout.rows) old new
 
 abbrev pub first_of : ℕ → RowNo
@@ -120,7 +130,8 @@ first_of row = record { row = row; generation = 0 }
 
 -- one row of the second search that is started, and one that is passed
 abbrev pub Restarts : ℕ → RowNo → DeskView → DeskView → Type 0
-Restarts row started old new = (n : ℕ) × (is_startable n ≡ true) × (started ≡ record { row = row; generation = n / generation_words + 1 })
+Restarts row started old new = (n : ℕ) × (is_startable n ≡ true)
+    × (started ≡ record { row = row; generation = n / generation_words + 1 })
     × Shape old new (SawRow row standing_word n ∷ Start row started.generation ∷ [])
 
 abbrev pub Passes : ℕ → DeskView → DeskView → Type 0
@@ -137,7 +148,8 @@ HasNext row old new hold = Restarts row hold.row old new × IsHolding new hold �
 abbrev pub IsNextOf : ℕ → ℕ → Type 0
 IsNextOf word generation = (is_startable word ≡ true) × (generation ≡ word / generation_words + 1)
 
--- a start of a first generation has at most one entry for each row that the desk has learned to be taken by it, and the start
+-- a start of a first generation has at most one entry for each row that the desk has learned to be taken by it, and the
+-- start
 abbrev pub RemembersFree : DeskView → DeskView → HoldView → Type 0
 RemembersFree old new hold = hold.row.generation ≡ 0 → AddsAtMost (new.past - old.past) old new
 

@@ -42,7 +42,8 @@ abbrev pub saw_end : ℕ → Phase → Option End → List Step
 saw_end row (Ended kind) (Some e) = end_looks row kind e
 saw_end row phase e = []
 
--- the looks after the one at the phase: at retailer, limit and total, at the items, and at the end where the row is ended
+-- the looks after the one at the phase: at retailer, limit and total, at the items, and at the end where the row is
+-- ended
 abbrev pub saw_words : ℕ → RowSeen → List Step
 saw_words row v =
     SawRow row retailer_word v.retailer ∷ SawRow row limit_word v.limit ∷ SawRow row total_word v.total
@@ -52,8 +53,8 @@ saw_words row v =
 abbrev pub saw_row : RowNo → RowSeen → ℕ → List Step
 saw_row row v last = saw_phase row v.phase ∷ saw_words row.row v ++ SawRow row.row standing_word last ∷ []
 
--- The words that the looks at a sealed booking showed, before it is known whether its row was given away meanwhile: retailer, limit,
--- total, the number of items, those of the items, and the end's three where it showed an ended phase
+-- The words that the looks at a sealed booking showed, before it is known whether its row was given away meanwhile:
+-- retailer, limit, total, the number of items, those of the items, and the end's three where it showed an ended phase
 pub record RowWords : Type 0 where
   pub phase : Phase
   pub retailer : ℕ
@@ -71,7 +72,8 @@ word_looks row w (n ∷ ns) = SawRow row w n ∷ word_looks row (suc w) ns
 abbrev pub words_read : ℕ → RowWords → List Step
 words_read row ws =
     SawRow row retailer_word ws.retailer ∷ SawRow row limit_word ws.limit ∷ SawRow row total_word ws.total
-    ∷ SawRow row count_word ws.count ∷ word_looks row first_item_word ws.items ++ word_looks row end_successor_word ws.end
+    ∷ SawRow row count_word ws.count
+    ∷ word_looks row first_item_word ws.items ++ word_looks row end_successor_word ws.end
 
 -- how many end words are read of a row that showed this phase
 abbrev pub end_words : Phase → ℕ
@@ -117,7 +119,8 @@ MaySucceed None = Unit {0}
 abbrev pub HasWord : Item → Type 0
 HasWord i = (i.place < most_places) × (i.span.from < i.span.to) × (i.span.to ≤ most_legs) × IsPiece i.span
 
--- a view of a sealed row. Its end stands exactly where the row is ended, with the amount that its word says, and a successor that may be
+-- a view of a sealed row. Its end stands exactly where the row is ended, with the amount that its word says, and a
+-- successor that may be
 pub record IsSeen (v : RowSeen) : Type 0 where
   pub sealed : is_sealed v.phase ≡ true
   pub ended : has_end v.phase v.ended ≡ true
@@ -125,8 +128,8 @@ pub record IsSeen (v : RowSeen) : Type 0 where
   pub successor : MaySucceed v.ended
   pub items : AllByRecursion HasWord v.items
 
--- The looks that show no booking: word 0 alone, which shows Free or Making; or those of a sealed one, of which the last shows that its
--- row was given away meanwhile. The words between may then be anything
+-- The looks that show no booking: word 0 alone, which shows Free or Making; or those of a sealed one, of which the last
+-- shows that its row was given away meanwhile. The words between may then be anything
 abbrev pub LooksNone : RowNo → List Step → Type 0
 LooksNone row es =
     ((n : ℕ) × (is_sealed (phase_shown row.generation n) ≡ false) × (es ≡ SawRow row.row standing_word n ∷ []))
@@ -136,4 +139,5 @@ LooksNone row es =
 -- what a look at the row answers, with its steps
 abbrev pub LooksRow : RowNo → Option RowSeen → List Step → Type 0
 LooksRow row None es = LooksNone row es
-LooksRow row (Some v) es = IsSeen v × ((last : ℕ) × (phase_shown row.generation last ≢ Free) × (es ≡ saw_row row v last))
+LooksRow row (Some v) es =
+    IsSeen v × ((last : ℕ) × (phase_shown row.generation last ≢ Free) × (es ≡ saw_row row v last))

@@ -11,6 +11,7 @@ ghost use Rattle.booking_rows.specs.Ends.{IsEndedAs};
 ghost use Rattle.booking_rows.specs.Aims.{aimed, end_of, HasGeneration, MayAim, Turns, LeavesTurned, IfMade, OfEnding};
 
 use claim_rule::{Books, Desk, Ending, StepTurned};
+use history_model::booking::End;
 use history_model::phase::{EndKind, Phase, phase_shown};
 use history_model::successor::successor_word;
 use rail_ids::RowNo;
@@ -68,7 +69,7 @@ impl Aim {
 
 impl Aim {
     ghost use Rattle.std.specs.Prelude.{◌<◌, ◌≤ℤ◌, ◌^◌};
-    ghost use Rattle.history_model.specs.Booking.{greatest_difference};
+    ghost use Rattle.history_model.specs.Booking.{greatest_difference, least_difference};
 
     // The moment of the end that it gives.
     fn moment(&self) -> u64
@@ -106,6 +107,20 @@ impl Aim {
             _ => 0,
         }
     }
+
+    // The end that it gives.
+    fn end(&self) -> End
+        requires least { least_difference ≤ℤ (end_of self.now).amount }
+        requires amount { (end_of self.now).amount ≤ℤ greatest_difference }
+        requires generation { HasGeneration self.now }
+        ensures end { result ≡ end_of self.now }
+    {
+        End {
+            moment: self.moment(),
+            amount: self.amount(),
+            successor: self.successor(),
+        }
+    }
 }
 
 /// Turns a booking from this phase. In what the desk has seen it is sealed, and the turn is one that may be; for an ending
@@ -126,10 +141,16 @@ pub fn turn(books: &Books, desk: &mut Desk, row: RowNo, from: Phase, to: Aim) ->
     ensures bound { AddsAtMost (most_items + 2) desk.old desk.new }
 {
     let _ = books.rows();
-    let moment = to.moment();
-    let amount = to.amount();
-    let successor = to.successor();
-    match books.step_turn(desk, row, from, to.phase(), moment, amount, successor) {
+    let end = to.end();
+    match books.step_turn(
+        desk,
+        row,
+        from,
+        to.phase(),
+        end.moment,
+        end.amount,
+        end.successor,
+    ) {
         StepTurned::Won => Turned::Won,
         StepTurned::Missed { shown } => Turned::Lost {
             shown: phase_shown(shown, row.generation),

@@ -148,7 +148,7 @@ fn read_words(books: &Books, desk: &mut Desk, row: RowNo, phase: Phase) -> RowWo
     let limit = books.step_read(desk, row, LIMIT_WORD);
     let total = books.step_read(desk, row, TOTAL_WORD);
     let count = books.step_read(desk, row, COUNT_WORD);
-    let items = read_items(books, desk, row, count);
+    let items = read_item_words(books, desk, row, count);
     let end = read_end(books, desk, row, phase);
     RowWords {
         phase,
@@ -162,7 +162,12 @@ fn read_words(books: &Books, desk: &mut Desk, row: RowNo, phase: Phase) -> RowWo
 }
 
 // Reads the words of so many items, and of no more than a booking may have.
-fn read_items(books: &Books, desk: &mut Desk, row: RowNo, count: u64) -> ArrayVec<u64, MOST_ITEMS>
+fn read_item_words(
+    books: &Books,
+    desk: &mut Desk,
+    row: RowNo,
+    count: u64,
+) -> ArrayVec<u64, MOST_ITEMS>
     requires own { IsOf books.now desk.old }
     requires row { row.row < books.now.layout.rows }
     requires fit { FitWords books.now.layout }

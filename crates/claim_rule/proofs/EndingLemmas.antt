@@ -1,5 +1,5 @@
 -- What a desk's step does to its ending.
-use Rattle.std.proofs.Common.{◌≡◌, inr, ℕ, ℤ, zero, suc, ◌+◌, ◌<◌, List, [], ◌∷◌, ◌++◌, map, length, true, false, not, eqb, Option, Some, None, IsSomeAnd, refl, sym, ap, ◌∙◌, subst, arith, slice_get, get_or}
+use Rattle.std.proofs.Common.{◌≡◌, inr, ℕ, zero, suc, ◌+◌, ◌<◌, List, [], ◌∷◌, ◌++◌, map, length, true, false, not, eqb, Option, Some, None, IsSomeAnd, refl, sym, ap, ◌∙◌, subst, arith, slice_get, get_or}
 use Rattle.std.specs.List.{AllByRecursion}
 use Rattle.std.proofs.lemmas.List.{length-map}
 use Rattle.std.proofs.Math.Numerals.{add-one}
@@ -38,17 +38,18 @@ use Rattle.history_model.specs.declared.booking.BookedItem.{BookedItem}
 use Rattle.history_model.specs.declared.booking.End.{End}
 use Rattle.history_model.specs.declared.entry.Entry.{Entry}
 use Rattle.history_model.specs.declared.entry.Step.{Step}
-use Rattle.history_model.specs.declared.entry.Step.TheVariants.{Give, Note, Turn}
+use Rattle.history_model.specs.declared.entry.Step.TheVariants.{Give, Note}
 use Rattle.history_model.specs.declared.phase.EndKind.{EndKind}
 use Rattle.history_model.specs.declared.phase.Phase.{Phase}
 use Rattle.history_model.specs.declared.phase.Phase.TheVariants.{Ending, Free, Making}
+use Rattle.history_model.specs.WholeEnds.{end_turn}
 use Rattle.leg_masks.specs.Interval.{PlacedSpan as Item}
 
 -- a turn that found the word of a generation turned that booking
-pub turned_booking : (lay : Layout) (row : RowNo) (from to : Phase) (m : ℕ) (x : ℤ) (q : ℕ) (a b : Seat ℕ View) (kept : Option RowNo) (past : ℕ) (old : DeskView) (n : ℕ) → desk_view a kept past ≡ old → a.me.0.plan ≡ lay → n ≡ row_word_of from row.generation
-    → Found lay (Row row.row 0) n a.me.0 b.me.0 → Stepped (Turn row.row from to m x q) old (desk_view b kept past) → IsTurned row from to m x q old (desk_view b kept past)
-turned_booking lay row from to m x q a b kept past old n is plan at there did =
-    let st : Step = Turn row.row from to m x q in
+pub turned_booking : (lay : Layout) (row : RowNo) (from to : Phase) (end : End) (a b : Seat ℕ View) (kept : Option RowNo) (past : ℕ) (old : DeskView) (n : ℕ) → desk_view a kept past ≡ old → a.me.0.plan ≡ lay → n ≡ row_word_of from row.generation
+    → Found lay (Row row.row 0) n a.me.0 b.me.0 → Stepped (end_turn row.row from to end) old (desk_view b kept past) → IsTurned row from to end old (desk_view b kept past)
+turned_booking lay row from to end a b kept past old n is plan at there did =
+    let st : Step = end_turn row.row from to end in
     let new = desk_view b kept past in
     let h : List Entry = old.seen ++ did.between in
     let s : State = state_of old.layout h in
@@ -58,7 +59,6 @@ turned_booking lay row from to m x q a b kept past old n is plan at there did =
     let word : value s (Row row.row 0) ≡ row_word_of from row.generation =
     ap (λ (z : Layout × List Entry). value (state_of z.0 z.1) (Row row.row 0)) (λ i. (sym layout i, sym same i)) ∙ (there.number ∙ at) in
     let may : IsAllowedStep old.layout s old.number st = (legal-rest old.layout h (entry old.number st ∷ []) (legal_before st old new did)).0 in
-    let end : End = record { moment = m; amount = x; successor = q } in
     let c = booking_of_word s row.row from row.generation (turn_unfree from to may.1) word in
     let now : present (state_of new.layout new.seen) row.row ≡ Some (turned old.number to end c.0) =
     ap (λ (t : State). present t row.row) (state_then st old new did) ∙ present-changed s row.row (turned old.number to end) c.0 (turned-key old.number to end) c.1 in (
@@ -71,17 +71,17 @@ turned_booking lay row from to m x q a b kept past old n is plan at there did =
     turn_unfree from to t e = let no : false ≡ true = subst (λ (ph : Phase). is_turn ph to ≡ true) e t in cc
 
 -- a turn to an ending leaves the desk one
-pub ending_turns : (row : RowNo) (from : Phase) (kind : EndKind) (end : End) (old new : DeskView) → IsTurned row from (Ending kind) end.moment end.amount end.successor old new → IsEndingOf new (unread row kind end)
+pub ending_turns : (row : RowNo) (from : Phase) (kind : EndKind) (end : End) (old new : DeskView) → IsTurned row from (Ending kind) end old new → IsEndingOf new (unread row kind end)
 ending_turns row from kind end old new (did, its) =
     let r = row.row in
-    let st : Step = Turn r from (Ending kind) end.moment end.amount end.successor in
+    let st : Step = end_turn r from (Ending kind) end in
     let lay : Layout = old.layout in
     let d : ℕ = old.number in
     let h : List Entry = old.seen ++ did.between in
     let s : State = state_of lay h in
     let whole = legal_before st old new did in
     let may : IsAllowedStep lay s d st = (legal-rest lay h (entry d st ∷ []) whole).0 in
-    let f = found (present s r) (λ b. (b.phase ≡ from) × TurnsWith s d (limit_of b) (Ending kind) end.moment end.amount end.successor) may.3 in
+    let f = found (present s r) (λ b. (b.phase ≡ from) × TurnsWith s d (limit_of b) (Ending kind) end) may.3 in
     let sound = sound_of lay s r f.0 (is_sound lay h (legal-front lay h (entry d st ∷ []) whole)) f.1 in
     let live : is_live f.0.phase ≡ true = ap is_live f.2.0 ∙ turn_from from (Ending kind) may.1 in
     let now : present (state_of new.layout new.seen) r ≡ Some (turned d (Ending kind) end f.0) =
@@ -100,11 +100,11 @@ ending_turns row from kind end old new (did, its) =
       within = tt;
     }
 
-pub has_turned : (row : RowNo) (from to : Phase) (end : End) (old new : DeskView) (a : StepTurned) → IsTurned row from to end.moment end.amount end.successor old new → IsTurnedTo row to end a
-    → HasTurned row from to end.moment end.amount end.successor old new a
+pub has_turned : (row : RowNo) (from to : Phase) (end : End) (old new : DeskView) (a : StepTurned) → IsTurned row from to end old new → IsTurnedTo row to end a
+    → HasTurned row from to end old new a
 has_turned row from to end old new (answer.Won) did is = (did, is)
 has_turned row from to end old new (answer.Ending e) did is =
-    (did, subst (IsEndingOf new) (sym is.1) (ending_turns row from e.kind end old new (subst (λ (ph : Phase). IsTurned row from ph end.moment end.amount end.successor old new) is.0 did)), is.0, is.1)
+    (did, subst (IsEndingOf new) (sym is.1) (ending_turns row from e.kind end old new (subst (λ (ph : Phase). IsTurned row from ph end old new) is.0 did)), is.0, is.1)
 has_turned row from to end old new (answer.Missed n) did is = absurd is
 
 -- items given back from the front

@@ -1,5 +1,5 @@
 -- What a desk's step does to the rows that it owns.
-use Rattle.std.proofs.Common.{eqb, append_assoc, ◌≤◌, ◌≡◌, inl, ℕ, ◌+◌, ◌-◌, ◌<◌, length-append, List, [], ◌∷◌, ◌++◌, map, take, length, ℤ, true, false, not, Option, Some, None, IfSome, option_map, refl, sym, ap, ◌∙◌, subst, append-nil, arith, slice_get, ne_eqb}
+use Rattle.std.proofs.Common.{eqb, append_assoc, ◌≤◌, ◌≡◌, inl, ℕ, ◌+◌, ◌-◌, ◌<◌, length-append, List, [], ◌∷◌, ◌++◌, map, take, length, true, false, not, Option, Some, None, IfSome, option_map, refl, sym, ap, ◌∙◌, subst, append-nil, arith, slice_get, ne_eqb}
 use Rattle.std.proofs.lemmas.List.{length-map}
 use mathlib.Core.List.{IsPrefix, map-append, append_cancel_left}
 use Rattle.atomic_table.specs.declared.shared.Seat.{Seat}
@@ -31,9 +31,11 @@ use Rattle.history_model.specs.Quiet.{AllQuiet, is_quiet}
 use Rattle.history_model.specs.declared.booking.BookedItem.{BookedItem}
 use Rattle.history_model.specs.declared.entry.Entry.{Entry}
 use Rattle.history_model.specs.declared.entry.Step.{Step}
-use Rattle.history_model.specs.declared.entry.Step.TheVariants.{Give, Met, Note, Seal, Start, Take, Turn}
+use Rattle.history_model.specs.declared.entry.Step.TheVariants.{Give, Met, Note, Seal, Start, Take}
 use Rattle.history_model.specs.declared.phase.Phase.{Phase}
 use Rattle.history_model.specs.declared.phase.Phase.TheVariants.{Making}
+use Rattle.history_model.specs.WholeEnds.{end_turn}
+use Rattle.history_model.specs.declared.booking.End.{End}
 use Rattle.leg_masks.specs.Interval.{PlacedSpan as Item}
 
 -- the state before the step, and after it
@@ -408,18 +410,18 @@ newly_of books old new of table layout seen kept past other = record {
 }
 
 -- a turn that is made leaves a kept row, which is in the making
-turn_quiet : (q : ℕ) (from to : Phase) (m : ℕ) (x : ℤ) (n : ℕ) (books : BooksView) (old new : DeskView) → Stepped (Turn q from to m x n) old new → IsOf books old → (r : RowNo) → old.kept ≡ Some r → not (eqb q r.row) ≡ true
-turn_quiet q from to m x n books old new did of r kept =
-    let st : Step = Turn q from to m x n in
+turn_quiet : (q : ℕ) (from to : Phase) (end : End) (books : BooksView) (old new : DeskView) → Stepped (end_turn q from to end) old new → IsOf books old → (r : RowNo) → old.kept ≡ Some r → not (eqb q r.row) ≡ true
+turn_quiet q from to end books old new did of r kept =
+    let st : Step = end_turn q from to end in
     let h : List Entry = old.seen ++ did.between in
     let s : State = state_of old.layout h in
     let is : StandsFor old (empty_hold r) = subst (λ (o : Option RowNo). IfSome o (λ r. StandsFor old (empty_hold r))) kept of.kept in
     let may : IsAllowedStep old.layout s old.number st = (legal-rest old.layout h (entry old.number st ∷ []) (legal_before st old new did)).0 in
-    apart_from s q r.row is.booking (λ b. (b.phase ≡ from) × TurnsWith s old.number (limit_of b) to m x n) (λ b p making. unlike b.phase p.0 may.1 making) may.3
+    apart_from s q r.row is.booking (λ b. (b.phase ≡ from) × TurnsWith s old.number (limit_of b) to end) (λ b p making. unlike b.phase p.0 may.1 making) may.3
     (own_before st old new did r.row is.booking is.found is.owner (firm_making is.booking.phase is.making)) is.making
   where
     unlike : (ph : Phase) → ph ≡ from → is_turn from to ≡ true → ph ≡ Making → ⊥
     unlike ph at t making = let no : false ≡ true = subst (λ (p : Phase). is_turn p to ≡ true) (sym at ∙ making) t in cc
 
-pub still_turned : (books : BooksView) (old new : DeskView) (q : ℕ) (from to : Phase) (m : ℕ) (x : ℤ) (n : ℕ) → IsOf books old → Stepped (Turn q from to m x n) old new → IsOf books new
-still_turned books old new q from to m x n of did = still_of (Turn q from to m x n) books old new refl (turn_quiet q from to m x n books old new did of) did of
+pub still_turned : (books : BooksView) (old new : DeskView) (q : ℕ) (from to : Phase) (end : End) → IsOf books old → Stepped (end_turn q from to end) old new → IsOf books new
+still_turned books old new q from to end of did = still_of (end_turn q from to end) books old new refl (turn_quiet q from to end books old new did of) did of

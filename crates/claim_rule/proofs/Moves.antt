@@ -1,5 +1,5 @@
 -- Each kind of step is allowed, and writes what it says.
-use Rattle.std.proofs.Common.{◌≡◌, ◌⊎◌, ℕ, ◌+◌, ◌<◌, ◌≤◌, Bool, true, false, cond, eqb, bit_or, bit_and, w64, lit<, lit≤, ℤ, List, [], ◌++◌, length, arith, Option, Some, IsSomeAnd, refl, sym, ap, ◌∙◌, subst, ⊎_elim, inl, inr, eq-eqb, ne_eqb, slice_get}
+use Rattle.std.proofs.Common.{◌≡◌, ◌⊎◌, ℕ, ◌+◌, ◌<◌, ◌≤◌, Bool, true, false, cond, eqb, bit_or, bit_and, w64, lit<, lit≤, List, [], ◌++◌, length, arith, Option, Some, IsSomeAnd, refl, sym, ap, ◌∙◌, subst, ⊎_elim, inl, inr, eq-eqb, ne_eqb, slice_get}
 use Rattle.std.proofs.lemmas.Bool.{cases_eq}
 use Rattle.std.specs.Int.{bit_not}
 use Rattle.std.specs.List.{Any}
@@ -34,13 +34,14 @@ use Rattle.history_model.specs.Phase.{is_sealed, is_turn, row_word_of}
 use Rattle.history_model.specs.Words.{IsWord, Writes, place_word, value}
 use Rattle.history_model.specs.declared.entry.Entry.{Entry}
 use Rattle.history_model.specs.declared.entry.Step.{Step}
-use Rattle.history_model.specs.declared.entry.Step.TheVariants.{Close, Give, LostTurn, Met, Note, Seal, Start, Take, Turn}
+use Rattle.history_model.specs.declared.entry.Step.TheVariants.{Close, Give, LostTurn, Met, Note, Seal, Start, Take}
 use Rattle.history_model.specs.declared.phase.EndKind.{EndKind}
 use Rattle.history_model.specs.declared.phase.EndKind.TheVariants.{Exchange, Expire, Refund, Release}
 use Rattle.history_model.specs.declared.phase.Phase.{Phase}
 use Rattle.history_model.specs.declared.phase.Phase.TheVariants.{Confirmed, Ended, Ending, Free, Fulfilled, Making, Prebooked}
 use Rattle.history_model.specs.declared.word.Word.{Word}
 use Rattle.history_model.specs.declared.word.Word.TheVariants.{Place, Row}
+use Rattle.history_model.specs.WholeEnds.{end_turn}
 use Rattle.leg_masks.proofs.HalfLegs.{half_of-lt}
 use Rattle.leg_masks.proofs.Masks.{bit}
 use Rattle.leg_masks.specs.Interval.{Interval, IsClear, IsPiece, half_of, mask, most_legs, shows}
@@ -184,17 +185,17 @@ some_same x y e = cc
 at_word : (s u : State) (a : Word) (n old new : ℕ) → n ≡ old → Writes s u a new → Writes s u a (either (eqb n old) new n)
 at_word s u a n old new e w = subst (λ (c : Bool). Writes s u a (either c new n)) (sym (eq-eqb n old e)) w
 
-turns_with : (s t : State) (d lim lim' : ℕ) (to : Phase) (m : ℕ) (x : ℤ) (q : ℕ) → lim' ≡ lim → (IsSuccessor s d q → IsSuccessor t d q) → TurnsWith s d lim to m x q → TurnsWith t d lim' to m x q
-turns_with s t d lim lim' Confirmed m x q same stays w = (subst (λ (l : ℕ). m ≤ l) (sym same) w.0, w.1, w.2)
-turns_with s t d lim lim' Fulfilled m x q same stays w = w
-turns_with s t d lim lim' (Ending Release) m x q same stays w = w
-turns_with s t d lim lim' (Ending Expire) m x q same stays w = (subst (λ (l : ℕ). l < m) (sym same) w.0, w.1, w.2)
-turns_with s t d lim lim' (Ending Refund) m x q same stays w = w
-turns_with s t d lim lim' (Ending Exchange) m x q same stays w = (w.0, stays w.1)
-turns_with s t d lim lim' Free m x q same stays w = w
-turns_with s t d lim lim' Making m x q same stays w = w
-turns_with s t d lim lim' Prebooked m x q same stays w = w
-turns_with s t d lim lim' (Ended k) m x q same stays w = w
+turns_with : (s t : State) (d lim lim' : ℕ) (to : Phase) (end : End) → lim' ≡ lim → (IsSuccessor s d end.successor → IsSuccessor t d end.successor) → TurnsWith s d lim to end → TurnsWith t d lim' to end
+turns_with s t d lim lim' Confirmed end same stays w = (subst (λ (l : ℕ). end.moment ≤ l) (sym same) w.0, w.1, w.2)
+turns_with s t d lim lim' Fulfilled end same stays w = w
+turns_with s t d lim lim' (Ending Release) end same stays w = w
+turns_with s t d lim lim' (Ending Expire) end same stays w = (subst (λ (l : ℕ). l < end.moment) (sym same) w.0, w.1, w.2)
+turns_with s t d lim lim' (Ending Refund) end same stays w = w
+turns_with s t d lim lim' (Ending Exchange) end same stays w = (w.0, stays w.1)
+turns_with s t d lim lim' Free end same stays w = w
+turns_with s t d lim lim' Making end same stays w = w
+turns_with s t d lim lim' Prebooked end same stays w = w
+turns_with s t d lim lim' (Ended k) end same stays w = w
 
 -- what a sealed booking is now, whoever acted
 pub sealed_booking : (lay : Layout) (seen h : List Entry) (row : RowNo) (b : Booking) → IsLegal lay h → IsPrefix seen h → booking_at (state_of lay seen) row.row row.generation ≡ Some b → is_sealed b.phase ≡ true
@@ -216,9 +217,9 @@ successor_on lay seen h d q legal (es, e) mine is =
     subst (λ (s : State). IsSuccessor s d q) (sym (state_of-append lay seen es) ∙ ap (state_of lay) e)
     (successor_stays lay (state_of lay seen) es d q (is_sound lay seen (legal-front lay seen es whole)) (legal-rest lay seen es whole) (own_rest d seen es h e mine) is)
 
-pub turns : (lay : Layout) (a : Seat ℕ View) (row : RowNo) (from to : Phase) (m : ℕ) (x : ℤ) (q : ℕ) → CanTurn lay a.me.0.seen a.me.0.number row from to m x q
-    → Steps lay a.me.0 (Row row.row 0) (λ n. either (eqb n (row_word_of from row.generation)) (row_word_of to row.generation) n) (turn_step (row_word_of from row.generation) (Turn row.row from to m x q))
-turns lay a row from to m x q can = exchanges_or lay a.me.0 (Row row.row 0) old (row_word_of to row.generation) (Turn row.row from to m x q) (λ n. LostTurn row.row old n) hit
+pub turns : (lay : Layout) (a : Seat ℕ View) (row : RowNo) (from to : Phase) (end : End) → CanTurn lay a.me.0.seen a.me.0.number row from to end
+    → Steps lay a.me.0 (Row row.row 0) (λ n. either (eqb n (row_word_of from row.generation)) (row_word_of to row.generation) n) (turn_step (row_word_of from row.generation) (end_turn row.row from to end))
+turns lay a row from to end can = exchanges_or lay a.me.0 (Row row.row 0) old (row_word_of to row.generation) (end_turn row.row from to end) (λ n. LostTurn row.row old n) hit
     (λ h legal e. ((can.0, refl, e), refl))
   where
     old : ℕ
@@ -231,18 +232,17 @@ turns lay a row from to m x q can = exchanges_or lay a.me.0 (Row row.row 0) old 
     s0 = state_of lay a.me.0.seen
 
     hit : (h : List Entry) → IsLegal lay h → IsPrefix a.me.0.seen h → HasAll h a.me.0.seen d → value (state_of lay h) (Row row.row 0) ≡ old
-        → IsAllowedStep lay (state_of lay h) d (Turn row.row from to m x q) × Writes (state_of lay h) (apply_step (state_of lay h) d (Turn row.row from to m x q)) (Row row.row 0) (row_word_of to row.generation)
+        → IsAllowedStep lay (state_of lay h) d (end_turn row.row from to end) × Writes (state_of lay h) (apply_step (state_of lay h) d (end_turn row.row from to end)) (Row row.row 0) (row_word_of to row.generation)
     hit h legal pre mine e =
         let s : State = state_of lay h in
-        let end : End = record { moment = m; amount = x; successor = q } in
-        let f = found (booking_at s0 row.row row.generation) (λ b. (is_sealed b.phase ≡ true) × TurnsWith s0 d (limit_of b) to m x q) can.3 in
+        let f = found (booking_at s0 row.row row.generation) (λ b. (is_sealed b.phase ≡ true) × TurnsWith s0 d (limit_of b) to end) can.3 in
         let k = sealed_booking lay a.me.0.seen h row f.0 legal pre f.1 f.2.0 in
         let c = booking_of_word s row.row from row.generation (turned_from from to can.1) e in
         let there : booking_at s row.row row.generation ≡ Some c.0 = subst (λ (n : ℕ). booking_at s row.row n ≡ Some c.0) c.3 (present_key s row.row c.0 c.1) in
         let same : k.0 ≡ c.0 = some_same k.0 c.0 (sym k.1 ∙ there) in
         let lim : limit_of c.0 ≡ limit_of f.0 = ap limit_of (sym same) ∙ k.2.sealed.words 2 (inl (lit≤ tt, lit≤ tt)) in
-        let with = turns_with s0 s d (limit_of f.0) (limit_of c.0) to m x q lim (successor_on lay a.me.0.seen h d q legal pre mine) f.2.1 in (
-          (can.0, can.1, can.2, on_row s row.row c.0 (λ b. (b.phase ≡ from) × TurnsWith s d (limit_of b) to m x q) c.1 (c.2, with)),
+        let with = turns_with s0 s d (limit_of f.0) (limit_of c.0) to end lim (successor_on lay a.me.0.seen h d end.successor legal pre mine) f.2.1 in (
+          (can.0, can.1, can.2, on_row s row.row c.0 (λ b. (b.phase ≡ from) × TurnsWith s d (limit_of b) to end) c.1 (c.2, with)),
           subst (λ (n : ℕ). Writes s (change s row.row (turned d to end)) (Row row.row 0) (row_word_of to n)) c.3 (turn_writes s row.row d to end c.0 c.1),
         )
 

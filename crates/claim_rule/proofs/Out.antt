@@ -1,5 +1,5 @@
 -- What a desk has out stays so through calls that leave its rows alone.
-use Rattle.std.proofs.Common.{◌≡◌, ◌⊎◌, inl, inr, ⊎_elim, ℕ, ◌+◌, ◌-◌, ◌*◌, ◌%◌, ◌<◌, arith, true, false, not, eqb, ne_eqb, List, [], ◌∷◌, ◌++◌, map, take, drop, length, ℤ, Option, Some, None, IfSome, IsSomeAnd, option_map, refl, sym, ap, ◌∙◌, subst}
+use Rattle.std.proofs.Common.{◌≡◌, ◌⊎◌, inl, inr, ⊎_elim, ℕ, ◌+◌, ◌-◌, ◌*◌, ◌%◌, ◌<◌, arith, true, false, not, eqb, ne_eqb, List, [], ◌∷◌, ◌++◌, map, take, drop, length, Option, Some, None, IfSome, IsSomeAnd, option_map, refl, sym, ap, ◌∙◌, subst}
 use Rattle.std.proofs.lemmas.Bool.{eqb-true}
 use Rattle.std.proofs.lemmas.Nat.{mod-mul-add}
 use mathlib.Core.List.{append_cancel_left}
@@ -18,6 +18,8 @@ use Rattle.history_model.specs.History.{IsLegal, IsLegalFrom, entry, own, state_
 use Rattle.history_model.specs.Laws.{is_owners}
 use Rattle.history_model.specs.Quiet.{AllQuiet, is_quiet}
 use Rattle.history_model.specs.Work.{IsIn, NoStep, starts_row, ends_row}
+use Rattle.history_model.specs.WholeEnds.{end_turn}
+use Rattle.history_model.specs.declared.booking.End.{End}
 use Rattle.history_model.proofs.Keeping.{found}
 use Rattle.history_model.proofs.Owners.{on_row, firm_making, firm_ending}
 use Rattle.history_model.proofs.Ranges.{all_found}
@@ -199,8 +201,8 @@ ending_only st old new e did calm is r m = ⊎_elim (λ (o : EndsRow old r). is.
 pub started_only : (q j : ℕ) (old new : DeskView) → old.kept ≡ None → HoldsNone old → Stepped (Start q j) old new → (r : ℕ) → Makes new r → r ≡ q
 started_only q j old new kept none did r m = ⊎_elim (λ (o : Makes old r). absurd (makes_none old r kept none o)) (λ (t : eqb q r ≡ true). sym (eqb-true q r t)) (step_makes (Start q j) old new r did m)
 
-pub turned_only : (q : ℕ) (from : Phase) (kind : EndKind) (m : ℕ) (x : ℤ) (n : ℕ) (old new : DeskView) → EndsNone old → Stepped (Turn q from (Ending kind) m x n) old new → (r : ℕ) → EndsRow new r → r ≡ q
-turned_only q from kind m x n old new none did r on = ⊎_elim (λ (o : EndsRow old r). absurd (none r o)) (λ (t : eqb q r ≡ true). sym (eqb-true q r t)) (step_ends (Turn q from (Ending kind) m x n) old new r did on)
+pub turned_only : (q : ℕ) (from : Phase) (kind : EndKind) (end : End) (old new : DeskView) → EndsNone old → Stepped (end_turn q from (Ending kind) end) old new → (r : ℕ) → EndsRow new r → r ≡ q
+turned_only q from kind end old new none did r on = ⊎_elim (λ (o : EndsRow old r). absurd (none r o)) (λ (t : eqb q r ≡ true). sym (eqb-true q r t)) (step_ends (end_turn q from (Ending kind) end) old new r did on)
 
 -- a sealed row is no longer made, and a closed one no longer ended
 pub sealed_none : (ph : Phase) (old new : DeskView) (hold : HoldView) → IsHolding old hold → Stepped (Seal hold.row.row ph) old new → HoldsNone new

@@ -14,6 +14,7 @@ use Rattle.history_model.specs.Apply.{apply_step, item_taken, given, noted, in_p
 use Rattle.history_model.specs.Booking.{Booking, Layout, State, change, present, stands_in, most_items, limit_of}
 use Rattle.history_model.specs.Laws.{IsWellFormed, IsOpening, is_owners}
 use Rattle.history_model.specs.Lists.{change_first}
+use Rattle.history_model.specs.WholeEnds.{end_at}
 use Rattle.history_model.proofs.Going.{turned-phase}
 use Rattle.history_model.proofs.Keeping.{found}
 use Rattle.history_model.proofs.ListLemmas.{All-append, All-changed, All-found}
@@ -89,8 +90,8 @@ step_keeps g s (Note row word value) may none work = work_changed s row (noted w
 step_keeps g s (Seal row phase) may none work =
     work_changed s row (in_phase phase) (λ b. IsMadeBy 0 b × IsSealable b × MaySealAs s 0 b phase) may.1 (λ b p e. p.0.0) (λ b p own owners. p.0.1) work
 step_keeps g s (Turn row from to moment amount successor) may none work =
-    let end : End = record { moment = moment; amount = amount; successor = successor } in
-    work_changed s row (turned 0 to end) (λ b. (b.phase ≡ from) × TurnsWith s 0 (limit_of b) to moment amount successor) may.3
+    let end : End = end_at moment amount successor in
+    work_changed s row (turned 0 to end) (λ b. (b.phase ≡ from) × TurnsWith s 0 (limit_of b) to end) may.3
     (λ b p e. absurd (no_turn_to_making from (subst (λ (q : Phase). is_turn from q ≡ true) (sym (turned-phase 0 to end b) ∙ e) may.1)))
     (λ b p own. turned_owned from to end b may.1) work
 step_keeps g s (LostTurn row wanted shown) may none work = work

@@ -14,11 +14,12 @@ Exactly steps = λ es. es ≡ steps
 
 -- steps of the one, and then of the other
 abbrev pub Then : Calls → Calls → Calls
-Then P Q = λ es. (first : List Step) × (second : List Step) × P first × Q second × (es ≡ first ++ second)
+Then First Second =
+    λ es. (first : List Step) × (second : List Step) × First first × Second second × (es ≡ first ++ second)
 
 abbrev pub OneOf : Calls → Calls → Calls
-OneOf P Q = λ es. P es ⊎ Q es
+OneOf This That = λ es. This es ⊎ That es
 
 -- the desk's own steps of the call are of these
 abbrev pub ShapeBy : Calls → DeskView → DeskView → Type 0
-ShapeBy P old new = (steps : List Step) × P steps × Shape old new steps
+ShapeBy Steps old new = (steps : List Step) × Steps steps × Shape old new steps

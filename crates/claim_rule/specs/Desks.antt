@@ -1,5 +1,5 @@
 -- What holds of a desk, and what a call of it adds to what it has seen.
-use Rattle.std.specs.Prelude.{◌≡◌, ◌≢◌, ℕ, ℤ, true, IfSome, None, map, ◌+◌, ◌<◌, ◌≤◌, length, [], List, ◌++◌, ◌∷◌}
+use Rattle.std.specs.Prelude.{◌≡◌, ◌≢◌, ℕ, true, IfSome, None, map, ◌+◌, ◌<◌, ◌≤◌, length, [], List, ◌++◌, ◌∷◌}
 use mathlib.Core.List.{IsPrefix}
 use Rattle.rail_ids.specs.declared.RowNo.{RowNo}
 use Rattle.claim_rule.specs.Holds.{StandsFor, empty_hold}
@@ -10,6 +10,7 @@ use Rattle.history_model.specs.Booking.{phase_of_row, Layout, last_moment, limit
 use Rattle.history_model.specs.Laws.{stage}
 use Rattle.history_model.specs.History.{IsLegal, entry, own, state_of}
 use Rattle.history_model.specs.Phase.{is_sealed, is_turn}
+use Rattle.history_model.specs.declared.booking.End.{End}
 use Rattle.history_model.specs.declared.entry.Entry.{Entry}
 use Rattle.history_model.specs.declared.entry.Step.{Step}
 use Rattle.history_model.specs.declared.entry.Step.TheVariants.{Met}
@@ -19,8 +20,8 @@ use Rattle.history_model.specs.declared.phase.Phase.{Phase}
 abbrev pub AreTaken : DeskView → ℕ → Type 0
 AreTaken desk row = (lower : ℕ) → lower < row → 1 ≤ stage (phase_of_row (state_seen desk) lower)
 
--- The desk is of these books, and has seen a legal history of theirs. A row that it keeps is its own, without items, and no row
--- below `past` is free. What the first desk has seen while it is alone is its own work.
+-- The desk is of these books, and has seen a legal history of theirs. A row that it keeps is its own, without items,
+-- and no row below `past` is free. What the first desk has seen while it is alone is its own work.
 pub record IsOf (books : BooksView) (desk : DeskView) : Type 0 where
   pub table : desk.table ≡ books.table
   pub layout : desk.layout ≡ books.layout
@@ -49,8 +50,8 @@ pub record Stepped (step : Step) (old new : DeskView) : Type 0 where
       (new.table ≡ old.table) × (new.layout ≡ old.layout) × (new.number ≡ old.number) × (new.joined ≡ old.joined)
       × (new.parted ≡ old.parted) × (new.kept ≡ old.kept) × (new.past ≡ old.past)
 
--- From one call of a desk to the next: what it had seen begins what it has seen, and it has of its own these steps more. Where
--- it has all entries there are, these are all. It never forgets that rows are taken
+-- From one call of a desk to the next: what it had seen begins what it has seen, and it has of its own these steps
+-- more. Where it has all entries there are, these are all. It never forgets that rows are taken
 pub record Shape (old new : DeskView) (steps : List Step) : Type 0 where
   pub front : IsPrefix old.seen new.seen
   pub legal : IsLegal new.layout new.seen
@@ -65,8 +66,8 @@ pub record Shape (old new : DeskView) (steps : List Step) : Type 0 where
 abbrev pub AddsAtMost : ℕ → DeskView → DeskView → Type 0
 AddsAtMost most old new = length (own new.seen old.number) ≤ length (own old.seen old.number) + most
 
--- The desk has joined the other: it has seen what both had seen, with all entries of both and of those that they had joined, and
--- has made a Met. Where it is the first desk it has parted one
+-- The desk has joined the other: it has seen what both had seen, with all entries of both and of those that they had
+-- joined, and has made a Met. Where it is the first desk it has parted one
 pub record HasMet (old other new : DeskView) : Type 0 where
   pub front : IsPrefix old.seen new.seen
   pub other_front : IsPrefix other.seen new.seen
@@ -84,9 +85,10 @@ pub record HasMet (old other new : DeskView) : Type 0 where
 abbrev pub MayStep : Layout → DeskView → Step → Type 0
 MayStep layout desk step = IsAllowedStep layout (state_of layout desk.seen) desk.number step
 
--- In what was seen the booking stands, sealed, and the turn is allowed but for its phase. It need not be its row's present one
-abbrev pub CanTurn : Layout → List Entry → ℕ → RowNo → Phase → Phase → ℕ → ℤ → ℕ → Type 0
-CanTurn layout seen desk row from to moment amount successor =
-    (row.row < layout.rows) × (is_turn from to ≡ true) × (moment ≤ last_moment)
-    × OnBooking (state_of layout seen) row (λ b. (is_sealed b.phase ≡ true)
-    × TurnsWith (state_of layout seen) desk (limit_of b) to moment amount successor)
+-- In what was seen the booking stands, sealed, and the turn with this end is allowed but for its phase. It need not be
+-- its row's present one
+abbrev pub CanTurn : Layout → List Entry → ℕ → RowNo → Phase → Phase → End → Type 0
+CanTurn layout seen desk row from to end =
+    (row.row < layout.rows) × (is_turn from to ≡ true) × (end.moment ≤ last_moment)
+    × OnBooking (state_of layout seen) row
+    (λ b. (is_sealed b.phase ≡ true) × TurnsWith (state_of layout seen) desk (limit_of b) to end)

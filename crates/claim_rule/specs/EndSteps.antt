@@ -9,8 +9,8 @@ use Rattle.history_model.specs.Booking.{amount_word, end_successor_word, end_amo
 
 -- so many gives of a row's items, from the item of this number on
 abbrev pub gives_from : ℕ → ℕ → ℕ → List Step
-gives_from row k zero = []
-gives_from row k (suc n) = Give row k ∷ gives_from row (suc k) n
+gives_from row item zero = []
+gives_from row item (suc more) = Give row item ∷ gives_from row (suc item) more
 
 -- the notes of the end's words, and the close
 abbrev pub closing : ℕ → EndKind → End → List Step

@@ -26,23 +26,24 @@ pub record EndingView : Type 0 where
 
 -- the items with so many from the front given back
 abbrev pub given_front : ℕ → List BookedItem → List BookedItem
-given_front zero is = is
-given_front (suc n) [] = []
-given_front (suc n) (i ∷ is) = record i { given_back = true } ∷ given_front n is
+given_front zero items = items
+given_front (suc more) [] = []
+given_front (suc more) (item ∷ items) = record item { given_back = true } ∷ given_front more items
 
 -- the booking is its row's present one, and the desk's, ending in this way, with these items
-pub record IsEndingOf (desk : DeskView) (e : EndingView) : Type 0 where
+pub record IsEndingOf (desk : DeskView) (ending : EndingView) : Type 0 where
   pub booking : Booking
-  pub found : present (state_of desk.layout desk.seen) e.row.row ≡ Some booking
-  pub generation : booking.generation ≡ e.row.generation
+  pub found : present (state_of desk.layout desk.seen) ending.row.row ≡ Some booking
+  pub generation : booking.generation ≡ ending.row.generation
   pub owner : booking.owner ≡ desk.number
-  pub phase : booking.phase ≡ Ending e.kind
-  pub end : booking.end ≡ e.end
-  pub row : e.row.row < desk.layout.rows
-  pub few : e.given ≤ length e.items
-  pub fresh : e.read ≡ false → AllByRecursion (λ i. i.given_back ≡ false) booking.items × (e.items ≡ [])
-  pub items : e.read ≡ true → booking.items ≡ given_front e.given (map held e.items)
-  pub within : Each (IsItem desk.layout) e.items
+  pub phase : booking.phase ≡ Ending ending.kind
+  pub end : booking.end ≡ ending.end
+  pub row : ending.row.row < desk.layout.rows
+  pub few : ending.given ≤ length ending.items
+  pub fresh :
+      ending.read ≡ false → AllByRecursion (λ i. i.given_back ≡ false) booking.items × (ending.items ≡ [])
+  pub items : ending.read ≡ true → booking.items ≡ given_front ending.given (map held ending.items)
+  pub within : Each (IsItem desk.layout) ending.items
 
 -- an ending as a turn leaves it
 abbrev pub unread : RowNo → EndKind → End → EndingView
@@ -50,15 +51,16 @@ unread row kind end = record { row = row; kind = kind; end = end; items = []; gi
 
 -- the end words, 5 to 7
 abbrev pub end_word : EndKind → End → ℕ → ℕ
-end_word kind end w =
-    if w == end_successor_word then end.successor
-    else if w == end_amount_word then amount_word kind end.amount else end.moment
+end_word kind end word =
+    if word == end_successor_word then end.successor
+    else if word == end_amount_word then amount_word kind end.amount else end.moment
 
 -- the looks at the words of items, from one on
 abbrev pub item_looks : ℕ → ℕ → List Item → List Step
-item_looks row w [] = []
-item_looks row w (i ∷ is) = SawRow row w (item_word i.place i.span) ∷ item_looks row (suc w) is
+item_looks row word [] = []
+item_looks row word (item ∷ items) =
+    SawRow row word (item_word item.place item.span) ∷ item_looks row (suc word) items
 
 -- the looks that read the items of a row
 abbrev pub items_read : ℕ → List Item → List Step
-items_read row is = SawRow row count_word (length is) ∷ item_looks row first_item_word is
+items_read row items = SawRow row count_word (length items) ∷ item_looks row first_item_word items

@@ -15,15 +15,15 @@ pub record HoldView : Type 0 where
 
 -- an item as its holder has it
 abbrev pub held : Item → BookedItem
-held i = record { place = i.place; span = i.span; given_back = false }
+held item = record { place = item.place; span = item.span; given_back = false }
 
 -- the item lies within its place, in one half
-pub record IsItem (layout : Layout) (i : Item) : Type 0 where
-  pub place : i.place < length layout.legs
-  pub some : i.span.from < i.span.to
-  pub within : i.span.to ≤ slice_index layout.legs i.place
-  pub fits : i.span.to ≤ most_legs
-  pub piece : IsPiece i.span
+pub record IsItem (layout : Layout) (item : Item) : Type 0 where
+  pub place : item.place < length layout.legs
+  pub some : item.span.from < item.span.to
+  pub within : item.span.to ≤ slice_index layout.legs item.place
+  pub fits : item.span.to ≤ most_legs
+  pub piece : IsPiece item.span
 
 -- the booking is its row's present one, and the desk's, in the making, with just these items
 pub record StandsFor (desk : DeskView) (hold : HoldView) : Type 0 where
@@ -44,4 +44,4 @@ abbrev pub empty_hold : RowNo → HoldView
 empty_hold row = record { row = row; items = [] }
 
 abbrev pub with_one : HoldView → Item → HoldView
-with_one hold i = record { row = hold.row; items = hold.items ++ i ∷ [] }
+with_one hold item = record { row = hold.row; items = hold.items ++ item ∷ [] }

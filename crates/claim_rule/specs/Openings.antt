@@ -13,6 +13,7 @@ use Rattle.history_model.specs.Phase.{is_ended}
 use Rattle.history_model.specs.Booking.{Booking, Layout, State, amount_word, first_item_word, present, row_words, word_at, retailer_word, limit_word, total_word}
 use Rattle.history_model.specs.Laws.{IsOpening}
 use Rattle.history_model.specs.Words.{AreWordsOf}
+use Rattle.history_model.specs.WholeEnds.{end_at}
 
 -- a booking that is kept. Where it hasn't ended its end is `no_end`
 pub record KeptBooking : Type 0 where
@@ -26,7 +27,7 @@ pub record KeptBooking : Type 0 where
   pub end : End
 
 abbrev pub no_end : End
-no_end = record { moment = 0; amount = pos 0; successor = 0 }
+no_end = end_at 0 (pos 0) 0
 
 -- the end that counts: an ended booking's own
 abbrev pub end_in : Phase → End → End
@@ -34,23 +35,23 @@ end_in (Ended kind) end = end
 end_in _ end = no_end
 
 abbrev pub placed : BookedItem → Item
-placed i = record { place = i.place; span = i.span }
+placed item = record { place = item.place; span = item.span }
 
 abbrev pub kept_as : Booking → KeptBooking
-kept_as b =
+kept_as booking =
     record {
-      row = b.row;
-      generation = b.generation;
-      phase = b.phase;
-      retailer = word_at b retailer_word;
-      limit = word_at b limit_word;
-      total = word_at b total_word;
-      items = map placed b.items;
-      end = end_in b.phase b.end;
+      row = booking.row;
+      generation = booking.generation;
+      phase = booking.phase;
+      retailer = word_at booking retailer_word;
+      limit = word_at booking limit_word;
+      total = word_at booking total_word;
+      items = map placed booking.items;
+      end = end_in booking.phase booking.end;
     }
 
--- what is kept of a row that serves again, and whose booking isn't made yet: that the generations up to this one are gone. No
--- retailer has number 0, so it is unknown to all
+-- what is kept of a row that serves again, and whose booking isn't made yet: that the generations up to this one are
+-- gone. No retailer has number 0, so it is unknown to all
 abbrev pub stub : ℕ → ℕ → KeptBooking
 stub row generation =
     record {
@@ -66,20 +67,21 @@ stub row generation =
 
 -- what is kept of a booking in this phase
 abbrev pub kept_in : Phase → Booking → Option KeptBooking
-kept_in Free b = None
-kept_in Making b = if b.generation == 0 then None else Some (stub b.row b.generation)
-kept_in _ b = Some (kept_as b)
+kept_in Free booking = None
+kept_in Making booking =
+    if booking.generation == 0 then None else Some (stub booking.row booking.generation)
+kept_in _ booking = Some (kept_as booking)
 
 abbrev pub kept_of_row : State → ℕ → Option KeptBooking
-kept_of_row s row = option_and_then (λ b. kept_in b.phase b) (present s row)
+kept_of_row state row = option_and_then (λ b. kept_in b.phase b) (present state row)
 
 -- the present bookings of the rows below a number that are kept, in rising row
 abbrev pub kept_bookings : ℕ → State → List KeptBooking
-kept_bookings rows s = filter_map (kept_of_row s) (range_with_len 0 rows)
+kept_bookings rows state = filter_map (kept_of_row state) (range_with_len 0 rows)
 
 -- the item as a booking has it, given back or not
 abbrev pub booked : Bool → Item → BookedItem
-booked given i = record { place = i.place; span = i.span; given_back = given }
+booked given item = record { place = item.place; span = item.span; given_back = given }
 
 -- the words 5 to 7
 abbrev pub end_words : Phase → End → List ℕ
@@ -93,19 +95,20 @@ item_words items =
 
 -- the words of the row; word 0 is not used here
 abbrev pub opening_words : KeptBooking → List ℕ
-opening_words k =
-    (0 ∷ k.retailer ∷ k.limit ∷ k.total ∷ length k.items ∷ end_words k.phase k.end) ++ item_words k.items
+opening_words kept =
+    (0 ∷ kept.retailer ∷ kept.limit ∷ kept.total ∷ length kept.items ∷ end_words kept.phase kept.end)
+    ++ item_words kept.items
 
 abbrev pub opening_booking : KeptBooking → Booking
-opening_booking k =
+opening_booking kept =
     record {
-      row = k.row;
-      generation = k.generation;
+      row = kept.row;
+      generation = kept.generation;
       owner = 0;
-      phase = k.phase;
-      items = map (booked (is_ended k.phase)) k.items;
-      words = opening_words k;
-      end = end_in k.phase k.end;
+      phase = kept.phase;
+      items = map (booked (is_ended kept.phase)) kept.items;
+      words = opening_words kept;
+      end = end_in kept.phase kept.end;
     }
 
 -- the state that a history opens with
@@ -122,7 +125,7 @@ AreRising kept = Pairwise (λ j k. j.row < k.row) kept
 
 -- a booking that hasn't ended has no end
 abbrev pub HasOwnEnd : KeptBooking → Type 0
-HasOwnEnd k = k.end ≡ end_in k.phase k.end
+HasOwnEnd kept = kept.end ≡ end_in kept.phase kept.end
 
 -- The bookings may be kept ones of books of these legs and rows. An opening has its rows, ends and successors in range
 pub record MayOpen (legs : List ℕ) (rows : ℕ) (kept : List KeptBooking) : Type 0 where
@@ -130,8 +133,8 @@ pub record MayOpen (legs : List ℕ) (rows : ℕ) (kept : List KeptBooking) : Ty
   pub ends : AllByRecursion HasOwnEnd kept
   pub opening : IsOpening (layout_with legs rows kept) (opening_of kept)
 
--- And the words are those of the state that they open with. Where no place has more legs than there may be, no other list
--- has the same words
+-- And the words are those of the state that they open with. Where no place has more legs than there may be, no other
+-- list has the same words
 pub record OpensWith (legs : List ℕ) (rows : ℕ) (words : List ℕ) (kept : List KeptBooking) : Type 0 where
   pub may : MayOpen legs rows kept
   pub are : AreWordsOf (layout_with legs rows kept) (opening_of kept) words

@@ -8,9 +8,9 @@ use Rattle.history_model.specs.Laws.{is_owners}
 -- no booking in the making has others behind it
 abbrev pub MakesLast : State → Type 0
 MakesLast [] = Unit {0}
-MakesLast (b ∷ rest) = (b.phase ≡ Making → rest ≡ []) × MakesLast rest
+MakesLast (booking ∷ rest) = (booking.phase ≡ Making → rest ≡ []) × MakesLast rest
 
 -- all bookings in the making and ending are the first desk's own, and it started none while it made one
-pub record IsOwnWork (s : State) : Type 0 where
-  pub owned : AllByRecursion (λ b. is_owners b.phase ≡ true → b.owner ≡ 0) s
-  pub last : MakesLast s
+pub record IsOwnWork (state : State) : Type 0 where
+  pub owned : AllByRecursion (λ b. is_owners b.phase ≡ true → b.owner ≡ 0) state
+  pub last : MakesLast state

@@ -24,7 +24,7 @@ most_place_legs = most_legs
 
 -- how many legs a place of new books may have
 abbrev pub IsPlaceLegs : ℕ → Type 0
-IsPlaceLegs n = (0 < n) × (n ≤ most_place_legs)
+IsPlaceLegs legs = (0 < legs) × (legs ≤ most_place_legs)
 
 -- what contracts see of the books, and of a desk
 pub record BooksView : Type 0 where
@@ -47,94 +47,123 @@ state_seen desk = state_of desk.layout desk.seen
 
 -- the booking stands in the state, and this holds of it. It need not be its row's present one
 abbrev pub OnBooking : State → RowNo → (Booking → Type 0) → Type 0
-OnBooking s row P = IsSomeAnd (booking_at s row.row row.generation) P
+OnBooking state row Holds = IsSomeAnd (booking_at state row.row row.generation) Holds
 
 abbrev pub newcomer : Layout → ℕ → List Entry → View
-newcomer lay d h = record { plan = lay; spent = false; number = d; seen = h; joined = []; parted = 0; olds = [] }
+newcomer layout number seen =
+    record { plan = layout; spent = false; number = number; seen = seen; joined = []; parted = 0; olds = [] }
 
 abbrev pub Each : {A : Type 0} → (A → Type 0) → List A → Type 0
-Each P [] = Unit {0}
-Each P (x ∷ xs) = P x × Each P xs
+Each Holds [] = Unit {0}
+Each Holds (first ∷ rest) = Holds first × Each Holds rest
 
 abbrev pub In : ℕ → List ℕ → Type 0
-In j [] = ⊥
-In j (k ∷ ks) = (j ≡ k) ⊎ In j ks
+In number [] = ⊥
+In number (first ∷ rest) = (number ≡ first) ⊎ In number rest
 
 abbrev pub IsSpent : List View → ℕ → Type 0
-IsSpent views j = (v : View) × (get_elem? views j ≡ some v) × (v.spent ≡ true)
+IsSpent views seat = (view : View) × (get_elem? views seat ≡ some view) × (view.spent ≡ true)
 
--- h has all of the entries of j that the history has
+-- what was seen has all entries of the desk that the history has
 abbrev pub HasAll : List Entry → List Entry → ℕ → Type 0
-HasAll history h j = own h j ≡ own history j
+HasAll history seen desk = own seen desk ≡ own history desk
 
 -- a former history is a beginning, and has all of the desks beside it
-pub record IsOld (history : List Entry) (v : View) (o : Old) : Type 0 where
-  pub front : IsPrefix o.seen history
-  pub whole : Each (λ j. HasAll history o.seen j × ((j ≡ v.number) ⊎ In j v.joined)) o.whole
+pub record IsOld (history : List Entry) (view : View) (old : Old) : Type 0 where
+  pub front : IsPrefix old.seen history
+  pub whole : Each (λ j. HasAll history old.seen j × ((j ≡ view.number) ⊎ In j view.joined)) old.whole
 
--- what is so of the view of seat k
-pub record Fits (history : List Entry) (views : List View) (k : ℕ) (v : View) : Type 0 where
-  pub number : v.number ≡ k
-  pub front : IsPrefix v.seen history
-  pub own_all : HasAll history v.seen k
-  pub joined : Each (λ j. IsSpent views j × HasAll history v.seen j) v.joined
-  pub olds : Each (IsOld history v) v.olds
+-- what is so of the view of a seat
+pub record Fits (history : List Entry) (views : List View) (seat : ℕ) (view : View) : Type 0 where
+  pub number : view.number ≡ seat
+  pub front : IsPrefix view.seen history
+  pub own_all : HasAll history view.seen seat
+  pub joined : Each (λ j. IsSpent views j × HasAll history view.seen j) view.joined
+  pub olds : Each (IsOld history view) view.olds
 
-pub record Kept (layout : Layout) (s : Table ℕ View) : Type 0 where
+pub record Kept (layout : Layout) (table : Table ℕ View) : Type 0 where
   pub history : List Entry
   pub legal : IsLegal layout history
-  pub words : AreWordsOf layout (state_of layout history) s.words
-  pub seats : (k : ℕ) (v : View) → get_elem? s.views k ≡ some v → v.spent ≡ false → Fits history s.views k v
-  pub later : (k : ℕ) → length s.views ≤ k → own history k ≡ []
-  pub first : (v : View) × (get_elem? s.views 0 ≡ some v) × (v.spent ≡ false) × (length s.views ≡ v.parted + 1)
+  pub words : AreWordsOf layout (state_of layout history) table.words
+  pub seats : (seat : ℕ) (view : View) → get_elem? table.views seat ≡ some view → view.spent ≡ false
+      → Fits history table.views seat view
+  pub later : (seat : ℕ) → length table.views ≤ seat → own history seat ≡ []
+  pub first : (view : View) × (get_elem? table.views 0 ≡ some view) × (view.spent ≡ false)
+      × (length table.views ≡ view.parted + 1)
 
 -- desk 0 which has joined every desk that it parted: it has all entries there are
 abbrev pub IsWhole : ℕ → ℕ → List ℕ → Type 0
-IsWhole number parted joined = (number ≡ 0) × ((j : ℕ) → 1 ≤ j → j ≤ parted → In j joined)
+IsWhole number parted joined = (number ≡ 0) × ((other : ℕ) → 1 ≤ other → other ≤ parted → In other joined)
+
+-- a former history begins this one, which has of its whole desks one entry more, where that is theirs
+abbrev pub AddedTo : Entry → List Entry → Old → Type 0
+AddedTo added history old =
+    IsPrefix old.seen history × Each (λ j. own history j ≡ own old.seen j ++ own (added ∷ []) j) old.whole
 
 -- a desk's step was added behind all that the desk has seen, and no other step of it
-pub record Added (layout : Layout) (st : Step) (v w : View) : Type 0 where
+pub record Added (layout : Layout) (step : Step) (old new : View) : Type 0 where
   pub between : List Entry
-  pub seen : w.seen ≡ (v.seen ++ between) ++ entry v.number st ∷ []
-  pub others : own between v.number ≡ []
-  pub none : IsWhole v.number v.parted v.joined → between ≡ []
-  pub legal : IsLegal layout w.seen
+  pub seen : new.seen ≡ (old.seen ++ between) ++ entry old.number step ∷ []
+  pub others : own between old.number ≡ []
+  pub none : IsWhole old.number old.parted old.joined → between ≡ []
+  pub legal : IsLegal layout new.seen
   pub same :
-      (w.plan ≡ v.plan) × (w.spent ≡ v.spent) × (w.number ≡ v.number) × (w.joined ≡ v.joined)
-      × (w.parted ≡ v.parted) × (w.olds ≡ [])
-  pub apart : Each (λ j. j ≡ v.number → ⊥) v.joined
-  pub later : v.number ≡ 0 → (k : ℕ) → v.parted < k → own w.seen k ≡ []
-  pub first : v.number ≡ 0 → v.parted ≡ 0 → v.joined ≡ []
-  pub olds : Each (λ (o : Old). IsPrefix o.seen w.seen × Each (λ j. own w.seen j ≡ own o.seen j ++ own (entry v.number st ∷ []) j) o.whole) v.olds
+      (new.plan ≡ old.plan) × (new.spent ≡ old.spent) × (new.number ≡ old.number) × (new.joined ≡ old.joined)
+      × (new.parted ≡ old.parted) × (new.olds ≡ [])
+  pub apart : Each (λ j. j ≡ old.number → ⊥) old.joined
+  pub later : old.number ≡ 0 → (other : ℕ) → old.parted < other → own new.seen other ≡ []
+  pub first : old.number ≡ 0 → old.parted ≡ 0 → old.joined ≡ []
+  pub olds : Each (AddedTo (entry old.number step) new.seen) old.olds
 
--- just before the desk's step, which is the last that the view has seen, the word a was this number
-pub record Found (layout : Layout) (a : Word) (n : ℕ) (v w : View) : Type 0 where
+-- just before the desk's step, which is the last that the view has seen, the word was this number
+pub record Found (layout : Layout) (word : Word) (found : ℕ) (old new : View) : Type 0 where
   pub between : List Entry
   pub step : Entry
-  pub seen : w.seen ≡ (v.seen ++ between) ++ step ∷ []
-  pub number : value (state_of layout (v.seen ++ between)) a ≡ n
+  pub seen : new.seen ≡ (old.seen ++ between) ++ step ∷ []
+  pub number : value (state_of layout (old.seen ++ between)) word ≡ found
 
--- whatever the history is, the step is allowed, and makes the word a become f of what it was
+-- in this state the desk's step is allowed, and makes the word become the next of what it was
+abbrev pub MayWrite : Layout → State → ℕ → Word → (ℕ → ℕ) → (ℕ → Step) → Type 0
+MayWrite layout state desk word next step =
+    IsAllowedStep layout state desk (step (value state word))
+    × Writes state (apply_step state desk (step (value state word))) word (next (value state word))
+
+-- and so it is whatever the history is
 abbrev pub Steps : Layout → View → Word → (ℕ → ℕ) → (ℕ → Step) → Type 0
-Steps layout v a f st = (h : List Entry) → IsLegal layout h → IsPrefix v.seen h → HasAll h v.seen v.number
-    → IsAllowedStep layout (state_of layout h) v.number (st (value (state_of layout h) a)) × Writes (state_of layout h) (apply_step (state_of layout h) v.number (st (value (state_of layout h) a))) a (f (value (state_of layout h) a))
+Steps layout view word next step =
+    (history : List Entry) → IsLegal layout history → IsPrefix view.seen history → HasAll history view.seen view.number
+    → MayWrite layout (state_of layout history) view.number word next step
 
 -- a view that parts another has made one more, and the other has seen as much
 abbrev pub parting : View → View
-parting v = record { plan = v.plan; spent = v.spent; number = v.number; seen = v.seen; joined = v.joined; parted = v.parted + 1; olds = v.olds }
+parting view = record view { parted = view.parted + 1 }
 
 abbrev pub newly_parted : View → View
-newly_parted v = newcomer v.plan (v.parted + 1) v.seen
+newly_parted view = newcomer view.plan (view.parted + 1) view.seen
 
 abbrev pub longer : List Entry → List Entry → List Entry
-longer a b = cond (leb (length a) (length b)) b a
+longer one other = cond (leb (length one) (length other)) other one
 
 abbrev pub old_of : View → Old
-old_of v = record { seen = v.seen; whole = v.number ∷ v.joined }
+old_of view = record { seen = view.seen; whole = view.number ∷ view.joined }
 
 -- a view that joins another
 abbrev pub joining : View → View → View
-joining v w = record { plan = v.plan; spent = v.spent; number = v.number; seen = longer v.seen w.seen; joined = v.joined ++ w.number ∷ w.joined; parted = v.parted; olds = old_of v ∷ old_of w ∷ [] }
+joining view other =
+    record view {
+      seen = longer view.seen other.seen;
+      joined = view.joined ++ other.number ∷ other.joined;
+      olds = old_of view ∷ old_of other ∷ [];
+    }
 
 abbrev pub nobody : View
-nobody = record { plan = record { legs = []; rows = 0; opening = [] }; spent = true; number = 0; seen = []; joined = []; parted = 0; olds = [] }
+nobody =
+    record {
+      plan = record { legs = []; rows = 0; opening = [] };
+      spent = true;
+      number = 0;
+      seen = [];
+      joined = [];
+      parted = 0;
+      olds = [];
+    }

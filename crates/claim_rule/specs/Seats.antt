@@ -1,5 +1,5 @@
 -- A seat at the table, as the steps see it. No crate but this one cites it.
-use Rattle.std.specs.Prelude.{◌≡◌, ℤ, Option, Some, ℕ, ◌<◌, ◌≤◌, length, false, [], cond, eqb, List, slice_get}
+use Rattle.std.specs.Prelude.{◌≡◌, Option, Some, ℕ, ◌<◌, ◌≤◌, length, false, [], cond, eqb, List, slice_get}
 use Rattle.atomic_table.specs.declared.shared.Seat.{Seat}
 use Rattle.rail_ids.specs.declared.RowNo.{RowNo}
 use Rattle.claim_rule.specs.declared.rule.View.{View}
@@ -10,6 +10,8 @@ use Rattle.history_model.specs.Allowed.{AllGiven, HasEndWords, IsAllowedStep, Is
 use Rattle.history_model.specs.Booking.{Layout, most_items, standing_word}
 use Rattle.history_model.specs.History.{IsLegal, state_of}
 use Rattle.history_model.specs.Phase.{row_word_of}
+use Rattle.history_model.specs.WholeEnds.{end_turn}
+use Rattle.history_model.specs.declared.booking.End.{End}
 use Rattle.history_model.specs.declared.entry.Entry.{Entry}
 use Rattle.history_model.specs.declared.entry.Step.{Step}
 use Rattle.history_model.specs.declared.entry.Step.TheVariants.{Look, LostTurn, Met, SawRow, Seal, Start, Take, Turn}
@@ -85,7 +87,8 @@ CanTake layout seat row =
 
 -- the row is this seat's, and this is its item of this number, which may be given back
 abbrev pub CanGive : Layout → Seat ℕ View → ℕ → ℕ → Item → Type 0
-CanGive layout seat row number item = (row < layout.rows) × (item.place < length layout.legs) × (item.span.to ≤ most_legs)
+CanGive layout seat row number item =
+    (row < layout.rows) × (item.place < length layout.legs) × (item.span.to ≤ most_legs)
     × OnRow (state_of layout seat.me.0.seen) row
     (λ b. MayGive seat.me.0.number number b × (slice_get b.items number ≡ Some (held item)))
 
@@ -97,8 +100,7 @@ CanNote layout seat row word =
 -- the step is a turn that can be made
 abbrev pub IsTurning : Layout → List Entry → ℕ → RowNo → Phase → Phase → Step → Type 0
 IsTurning layout seen desk row from to hit =
-    (moment : ℕ) × (amount : ℤ) × (successor : ℕ) × (hit ≡ Turn row.row from to moment amount successor)
-    × CanTurn layout seen desk row from to moment amount successor
+    (end : End) × (hit ≡ end_turn row.row from to end) × CanTurn layout seen desk row from to end
 
 -- the seal is allowed in what was seen, and the row's present booking is of this generation
 abbrev pub CanSeal : Layout → List Entry → ℕ → RowNo → Phase → Type 0

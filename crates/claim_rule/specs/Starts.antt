@@ -27,4 +27,5 @@ MayExpect row expected =
 abbrev pub HasStarted : RowNo → ℕ → DeskView → DeskView → Started → Type 0
 HasStarted row expected old new (Won hold) =
     Stepped (Start row.row row.generation) old new × IsHoldOf new hold × (hold ≡ empty_hold row)
-HasStarted row expected old new (Missed n) = Stepped (SawRow row.row standing_word n) old new × (n ≢ expected)
+HasStarted row expected old new (Missed shown) =
+    Stepped (SawRow row.row standing_word shown) old new × (shown ≢ expected)

@@ -13,11 +13,11 @@ pub record WallView : Type 0 where
   pub words : List ℕ
   pub history : List Entry
 
--- The words are those of this history, which is legal and goes on from what the desk had seen. The first desk knows that no desk beyond
--- those that it parted has an entry
-pub record Finishes (layout : Layout) (desk : DeskView) (words : List ℕ) (h : List Entry) : Type 0 where
-  pub legal : IsLegal layout h
-  pub front : IsPrefix desk.seen h
-  pub are : AreWordsOf layout (state_of layout h) words
-  pub whole : IsWhole desk.number desk.parted desk.joined → h ≡ desk.seen
-  pub no_others : desk.number ≡ 0 → (k : ℕ) → desk.parted < k → own h k ≡ []
+-- The words are those of this history, which is legal and goes on from what the desk had seen. The first desk knows
+-- that no desk beyond those that it parted has an entry
+pub record Finishes (layout : Layout) (desk : DeskView) (words : List ℕ) (history : List Entry) : Type 0 where
+  pub legal : IsLegal layout history
+  pub front : IsPrefix desk.seen history
+  pub are : AreWordsOf layout (state_of layout history) words
+  pub whole : IsWhole desk.number desk.parted desk.joined → history ≡ desk.seen
+  pub no_others : desk.number ≡ 0 → (other : ℕ) → desk.parted < other → own history other ≡ []

@@ -3,10 +3,11 @@ ghost use Rattle.std.specs.Prelude.{◌≡◌, ◌≢◌, ℕ, ◌<◌, length, 
 ghost use Rattle.leg_masks.specs.Interval.{Interval, IsItemOf};
 ghost use Rattle.history_model.specs.Booking.{most_items, standing_word};
 ghost use Rattle.history_model.specs.declared.phase.EndKind.{EndKind};
-ghost use Rattle.history_model.specs.declared.phase.Phase.TheVariants.{Ending as IsEndingPhase};
+ghost use Rattle.history_model.specs.declared.phase.Phase.TheVariants as phase;
 ghost use Rattle.history_model.specs.declared.entry.Step.TheVariants.{Give, Note, Close};
 ghost use Rattle.history_model.specs.declared.word.Word.TheVariants.{Row};
 ghost use Rattle.history_model.specs.Allowed.{IsEndWord};
+ghost use Rattle.history_model.specs.WholeEnds.{end_at};
 ghost use Rattle.claim_rule.specs.Rule.{Found};
 ghost use Rattle.claim_rule.specs.Endings.{IsEndingOf, items_read, end_word as end_word_of};
 ghost use Rattle.claim_rule.specs.Turns.{HasTurned, IsTurned, IsTurnLost, IsTurnedTo};
@@ -157,37 +158,29 @@ impl Books {
         successor: u64,
     ) -> StepTurned
         requires own { IsOf self.now desk.old }
-        requires turn { CanTurn self.now.layout desk.old.seen desk.old.number row from to moment amount successor }
-        requires none { (kind : EndKind) → to ≡ IsEndingPhase kind → EndsNone desk.old }
+        requires turn { CanTurn self.now.layout desk.old.seen desk.old.number row from to
+            (end_at moment amount successor) }
+        requires none { (kind : EndKind) → to ≡ phase.Ending kind → EndsNone desk.old }
         ensures own { IsOf self.now desk.new }
-        ensures turned { HasTurned row from to moment amount successor desk.old desk.new result }
+        ensures turned { HasTurned row from to (end_at moment amount successor) desk.old desk.new result }
     {
         let end = End {
             moment,
             amount,
             successor,
         };
-        match self.turn_row(desk, row, from, to, moment, amount, successor) {
+        match self.turn_row(desk, row, from, to, end) {
             Some(shown) => StepTurned::Missed { shown },
             None => turned_to(row, to, end),
         }
     }
 
     // None where the turn is made, else the word shown.
-    fn turn_row(
-        &self,
-        desk: &mut Desk,
-        row: RowNo,
-        from: Phase,
-        to: Phase,
-        moment: u64,
-        amount: i64,
-        successor: u64,
-    ) -> Option<u64>
+    fn turn_row(&self, desk: &mut Desk, row: RowNo, from: Phase, to: Phase, end: End) -> Option<u64>
         requires own { IsOf self.now desk.old }
-        requires turn { CanTurn self.now.layout desk.old.seen desk.old.number row from to moment amount successor }
+        requires turn { CanTurn self.now.layout desk.old.seen desk.old.number row from to end }
         ensures own { IsOf self.now desk.new }
-        ensures turned { IfNone result (IsTurned row from to moment amount successor desk.old desk.new) }
+        ensures turned { IfNone result (IsTurned row from to end desk.old desk.new) }
         ensures lost { IfSome result (λ n. IsTurnLost row from n desk.old desk.new) }
     {
         let old = row_word_of(from, row.generation);
@@ -195,9 +188,9 @@ impl Books {
             row: row.row,
             from,
             to,
-            moment,
-            amount,
-            successor,
+            moment: end.moment,
+            amount: end.amount,
+            successor: end.successor,
         };
         let found = self.turn_at(&mut desk.seat, row, from, to, hit);
         if found != old {

@@ -1,4 +1,4 @@
-//! Parting a desk, taking one in, and closing the table.
+//! Parting a desk, joining one, and closing the table.
 ghost use Rattle.std.specs.Prelude.{◌≡◌, ◌≢◌, ◌+◌, []};
 ghost use Rattle.history_model.specs.declared.entry.Step.TheVariants.{Met};
 ghost use Rattle.history_model.specs.History.{own};
@@ -41,7 +41,7 @@ impl Books {
         }
     }
 
-    /// Takes in another desk, and all that it had taken in. An empty row that the other desk kept stays unused.
+    /// Joins another desk, and with it all that it had joined. An empty row that the other desk kept stays unused.
     pub fn meet(&self, desk: &mut Desk, other: Desk)
         requires own { IsOf self.now desk.old × IsOf self.now other }
         requires other { other.number ≢ 0 }

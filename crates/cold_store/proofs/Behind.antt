@@ -111,10 +111,10 @@ record Comes (all said : List SaidBooking) (zs : List (List ℕ)) : Type 0 where
   same : AreSameRows front said
   lines : zs ≡ booking_line booking ∷ more
 
-abbrev Ends : List SaidBooking → List SaidBooking → ℕ → List (List ℕ) → Type 0
-Ends all said n zs = (zs ≡ last_line n ∷ []) × (length all ≡ length said)
+abbrev IsAtLast : List SaidBooking → List SaidBooking → ℕ → List (List ℕ) → Type 0
+IsAtLast all said n zs = (zs ≡ last_line n ∷ []) × (length all ≡ length said)
 
-one_before : (a b : SaidBooking) (all said : List SaidBooking) (n : ℕ) (zs : List (List ℕ)) → a.row ≡ b.row → Comes all said zs ⊎ Ends all said n zs → Comes (a ∷ all) (b ∷ said) zs ⊎ Ends (a ∷ all) (b ∷ said) n zs
+one_before : (a b : SaidBooking) (all said : List SaidBooking) (n : ℕ) (zs : List (List ℕ)) → a.row ≡ b.row → Comes all said zs ⊎ IsAtLast all said n zs → Comes (a ∷ all) (b ∷ said) zs ⊎ IsAtLast (a ∷ all) (b ∷ said) n zs
 one_before a b all said n zs e (inl h) =
     inl (record {
       front = a ∷ h.front;
@@ -127,7 +127,7 @@ one_before a b all said n zs e (inl h) =
     })
 one_before a b all said n zs e (inr h) = inr (h.0, let k = h.1 in omega arith)
 
-behind : (all said : List SaidBooking) (n : ℕ) (zs : List (List ℕ)) → AllByRecursion IsSayable all → AllByRecursion IsSayable said → map booking_line all ++ last_line n ∷ [] ≡ map booking_line said ++ zs → Comes all said zs ⊎ Ends all said n zs
+behind : (all said : List SaidBooking) (n : ℕ) (zs : List (List ℕ)) → AllByRecursion IsSayable all → AllByRecursion IsSayable said → map booking_line all ++ last_line n ∷ [] ≡ map booking_line said ++ zs → Comes all said zs ⊎ IsAtLast all said n zs
 behind [] [] n zs p q e = inr (sym e, refl)
 behind (a ∷ all) [] n zs p q e =
     inl (record {
@@ -153,7 +153,7 @@ pub record IsNextLine (said : List SaidBooking) (zs : List (List ℕ)) : Type 0 
   pub next : IsNextRow (map row_said said) booking.row
   pub lines : zs ≡ booking_line booking ∷ more
 
-next_or_last : (all said : List SaidBooking) (n : ℕ) (zs : List (List ℕ)) → AllByRecursion IsSayable all → Pairwise Rises all → n ≡ length all → Comes all said zs ⊎ Ends all said n zs → IsNextLine said zs ⊎ (zs ≡ last_line (length said) ∷ [])
+next_or_last : (all said : List SaidBooking) (n : ℕ) (zs : List (List ℕ)) → AllByRecursion IsSayable all → Pairwise Rises all → n ≡ length all → Comes all said zs ⊎ IsAtLast all said n zs → IsNextLine said zs ⊎ (zs ≡ last_line (length said) ∷ [])
 next_or_last all said n zs each rising many (inl h) =
     let p = subst (AllByRecursion IsSayable) h.parts each in
     let r = subst (Pairwise Rises) h.parts rising in

@@ -15,6 +15,7 @@ use Rattle.history_model.specs.declared.word.Word.TheVariants.{Place}
 use Rattle.history_model.specs.Allowed.{Blocks}
 use Rattle.history_model.specs.Booking.{Booking, State, all_items, is_occupied, occupies}
 use Rattle.history_model.specs.Words.{place_word}
+use Rattle.history_model.specs.WholeEnds.{end_at}
 use Rattle.history_model.proofs.Bits.{bit_at-place_word, is_place_word, max_bits, place_word-lt, place_word-same, place_word-same_half, shows-on_piece}
 use Rattle.history_model.proofs.Changes.{legs_from_open, open_from_legs}
 use Rattle.history_model.proofs.Items.{any-append}
@@ -23,7 +24,7 @@ use Rattle.claim_rule.specs.Openings.{booked}
 -- a state that has just these items
 abbrev pub holder : List BookedItem → State
 holder items =
-    record { row = 0; generation = 0; owner = 0; phase = Free; items = items; words = []; end = record { moment = 0; amount = pos 0; successor = 0 } } ∷ []
+    record { row = 0; generation = 0; owner = 0; phase = Free; items = items; words = []; end = end_at 0 (pos 0) 0 } ∷ []
 
 abbrev pub left : Item → BookedItem
 left i = booked false i

@@ -20,6 +20,7 @@ use Rattle.history_model.specs.History.{IsLegal, IsLegalFrom, state_after, state
 use Rattle.history_model.specs.Laws.{AreClear, AreInRange, IsInRange, IsPresentOrEnded, IsSound, IsWellFormed}
 use Rattle.history_model.specs.Lists.{Pairwise}
 use Rattle.history_model.specs.Phase.{is_ended, is_turn}
+use Rattle.history_model.specs.WholeEnds.{end_at}
 use Rattle.history_model.proofs.Generations.{next-push, present_latest, same_key}
 use Rattle.history_model.proofs.Keeping.{found, items_around, other_word, turned-key}
 use Rattle.history_model.proofs.Legal.{WellFormed-history}
@@ -162,7 +163,7 @@ all_follow g s row b e good range = All-both {P = λ c. IsInRange g c × IsPrese
     (All-both {P = IsInRange g} {Q = IsPresentOrEnded (map key_of s)} (λ c p q. (p, q)) s range good.earlier) (same_key s row b e good.keys)
 
 exchanged_end : (g : Layout) (s : State) (who row limit x : ℕ) (b : Booking) → present s row ≡ Some b → (b.phase ≡ Making → ⊥) → IsWellFormed g s → AreInRange g s → IsSuccessor s who x → (m : ℕ) (a : ℤ)
-    → IsRightEnd g (map key_of s) b.row limit Exchange (record { moment = m; amount = a; successor = x })
+    → IsRightEnd g (map key_of s) b.row limit Exchange (end_at m a x)
 exchanged_end g s who row limit x b e other good range is m a =
     let f = any_found (MaySucceed g s row b.phase) (λ c. IsMadeBy who c × (successor_word c.row c.generation ≡ x)) s (all_follow g s row b e good range) is in
     let c : Booking = f.0 in
@@ -183,21 +184,21 @@ exchanged_end g s who row limit x b e other good range is m a =
 live_not_making : (from to : Phase) → is_turn from to ≡ true → from ≡ Making → ⊥
 live_not_making from to t e = let no : false ≡ true = rw e at t in cc
 
-turned_end : (g : Layout) (s : State) (who row : ℕ) (from to : Phase) (m : ℕ) (a : ℤ) (x : ℕ) (b : Booking) → present s row ≡ Some b → is_turn from to ≡ true → b.phase ≡ from → IsWellFormed g s → AreInRange g s → TurnsWith s who (limit_of b) to m a x
-    → IsSteady g (map key_of s) b → IsSteady g (map key_of s) (turned who to (record { moment = m; amount = a; successor = x }) b)
-turned_end g s who row from (Ending Release) m a x b e t is good range may steady = record { apart = steady.apart; end = may.1 }
-turned_end g s who row from (Ending Expire) m a x b e t is good range may steady = record { apart = steady.apart; end = (may.0, may.2) }
-turned_end g s who row from (Ending Refund) m a x b e t is good range may steady = record { apart = steady.apart; end = may.1 }
-turned_end g s who row from (Ending Exchange) m a x b e t is good range may steady = record {
+turned_end : (g : Layout) (s : State) (who row : ℕ) (from to : Phase) (end : End) (b : Booking) → present s row ≡ Some b → is_turn from to ≡ true → b.phase ≡ from → IsWellFormed g s → AreInRange g s → TurnsWith s who (limit_of b) to end
+    → IsSteady g (map key_of s) b → IsSteady g (map key_of s) (turned who to end b)
+turned_end g s who row from (Ending Release) end b e t is good range may steady = record { apart = steady.apart; end = may.1 }
+turned_end g s who row from (Ending Expire) end b e t is good range may steady = record { apart = steady.apart; end = (may.0, may.2) }
+turned_end g s who row from (Ending Refund) end b e t is good range may steady = record { apart = steady.apart; end = may.1 }
+turned_end g s who row from (Ending Exchange) end b e t is good range may steady = record {
   apart = steady.apart;
-  end = exchanged_end g s who row (limit_of b) x b e (λ making. live_not_making from (Ending Exchange) t (sym is ∙ making)) good range may.1 m a;
+  end = exchanged_end g s who row (limit_of b) end.successor b e (λ making. live_not_making from (Ending Exchange) t (sym is ∙ making)) good range may.1 end.moment end.amount;
 }
-turned_end g s who row from Confirmed m a x b e t is good range may steady = record { apart = steady.apart; end = tt }
-turned_end g s who row from Fulfilled m a x b e t is good range may steady = record { apart = steady.apart; end = tt }
-turned_end g s who row from Free m a x b e t is good range may steady = absurd may
-turned_end g s who row from Making m a x b e t is good range may steady = absurd may
-turned_end g s who row from Prebooked m a x b e t is good range may steady = absurd may
-turned_end g s who row from (Ended kind) m a x b e t is good range may steady = absurd may
+turned_end g s who row from Confirmed end b e t is good range may steady = record { apart = steady.apart; end = tt }
+turned_end g s who row from Fulfilled end b e t is good range may steady = record { apart = steady.apart; end = tt }
+turned_end g s who row from Free end b e t is good range may steady = absurd may
+turned_end g s who row from Making end b e t is good range may steady = absurd may
+turned_end g s who row from Prebooked end b e t is good range may steady = absurd may
+turned_end g s who row from (Ended kind) end b e t is good range may steady = absurd may
 
 steady_step : (g : Layout) (s : State) (who : ℕ) (st : Step) → IsWellFormed g s → AreInRange g s → IsAllowedStep g s who st → AreSteady g s → AreSteady g (apply_step s who st)
 steady_step g s who (Look p h n) good range may all = all
@@ -222,9 +223,9 @@ steady_step g s who (Seal q ph) good range may all =
       end = not_turned g (map key_of s) f.0.row (limit_of f.0) f.0.end ph (⊎_elim (λ p. inr (inl p)) (λ p. inr (inr p.0)) f.2.2);
     })
 steady_step g s who (Turn q from to m a x) good range may all =
-    let f = found (present s q) (λ b. (b.phase ≡ from) × TurnsWith s who (limit_of b) to m a x) may.3 in
-    let end : End = record { moment = m; amount = a; successor = x } in
-    steady_changed g s q (turned who to end) f.0 f.1 (turned-key who to end) all (turned_end g s who q from to m a x f.0 f.1 may.1 f.2.0 good range f.2.1)
+    let end : End = end_at m a x in
+    let f = found (present s q) (λ b. (b.phase ≡ from) × TurnsWith s who (limit_of b) to end) may.3 in
+    steady_changed g s q (turned who to end) f.0 f.1 (turned-key who to end) all (turned_end g s who q from to end f.0 f.1 may.1 f.2.0 good range f.2.1)
 steady_step g s who (Close q) good range may all =
     let f = found (present s q) (MayClose who) may.1 in
     steady_changed g s q closed f.0 f.1 (λ _. refl) all (λ is. record { apart = is.apart; end = closed_ends g (map key_of s) f.0.row (limit_of f.0) f.0.end f.0.phase is.end })

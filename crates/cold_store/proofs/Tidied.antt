@@ -22,6 +22,7 @@ use Rattle.history_model.specs.Apply.{apply, apply_step, words_of_row, started, 
 use Rattle.history_model.specs.History.{IsLegal, IsLegalFrom, own, state_after}
 use Rattle.history_model.specs.Laws.{IsInRange, IsSound, IsWellFormed, MayBecome, stage}
 use Rattle.history_model.specs.Words.{number_of_bits, place_word}
+use Rattle.history_model.specs.WholeEnds.{end_at, end_turn}
 use Rattle.history_model.proofs.Keeping.{found, turned-key}
 use Rattle.history_model.proofs.Going.{GoesOn-step, turned-phase}
 use Rattle.history_model.proofs.ListLemmas.{All-append, All-both, All-changed, All-found, All-map}
@@ -93,8 +94,9 @@ making_stays g s d st row generation p good may apart at making = go st may apar
     go (Seal q phase) may apart = by_change s row generation q (in_phase phase) p (λ _. refl) at stands making
         (λ here. absurd (let yes : eqb q row ≡ true = rw here (eq-eqb row row refl) in let bad : true ≡ false = sym yes ∙ apart in cc))
     go (Turn q from to m x w) may apart =
-        let b = found (present s q) (λ b. (b.phase ≡ from) × TurnsWith s d (limit_of b) to m x w) may.3 in
-        by_change s row generation q (turned d to (record { moment = m; amount = x; successor = w })) p (turned-key d to (record { moment = m; amount = x; successor = w })) at stands making
+        let end : End = end_at m x w in
+        let b = found (present s q) (λ b. (b.phase ≡ from) × TurnsWith s d (limit_of b) to end) may.3 in
+        by_change s row generation q (turned d to end) p (turned-key d to end) at stands making
         (λ here. absurd (no_turn to (subst (λ (ph : Phase). is_turn ph to ≡ true) (sym b.2.0 ∙ (ap (λ (y : Booking). y.phase) (same_present s row q p b.0 stands here b.1) ∙ making)) may.1)))
     go (LostTurn q wanted shown) may apart = (p, at, making, refl)
     go (Close q) may apart =
@@ -141,10 +143,11 @@ any_at {X} P (y ∷ ys) (suc k, x, below, e, p) =
     let r = any_at P ys (k, x, (omega arith), e, p) in (y ∷ r.0, r.1, r.2, ap (λ (l : List X). y ∷ l) r.3, r.4)
 
 -- a booking that an exchange's turn left expects its successor
-turn_expects : (g : Layout) (s : State) (e : Entry) (es : List Entry) (q : ℕ) (from : Phase) (m : ℕ) (x : _) (w : ℕ) → IsWellFormed g s → AreInRows g s → g.rows ≤ most_rows
-    → e.step ≡ Turn q from (Ending Exchange) m x w → IsAllowed g s e → IsSuccessor s e.desk w → IsConfirmedNext ((w - 1) % successor_rows) (own es e.desk)
-    → (row generation : ℕ) → row < successor_rows → w ≡ successor_word row generation → Comes (apply s e) es row generation
-turn_expects g s e es q from m x w good range few is may successor next row generation small word =
+turn_expects : (g : Layout) (s : State) (e : Entry) (es : List Entry) (q : ℕ) (from : Phase) (end : End) → IsWellFormed g s → AreInRows g s → g.rows ≤ most_rows
+    → e.step ≡ end_turn q from (Ending Exchange) end → IsAllowed g s e → IsSuccessor s e.desk end.successor → IsConfirmedNext ((end.successor - 1) % successor_rows) (own es e.desk)
+    → (row generation : ℕ) → row < successor_rows → end.successor ≡ successor_word row generation → Comes (apply s e) es row generation
+turn_expects g s e es q from end good range few is may successor next row generation small word =
+    let w : ℕ = end.successor in
     let p = any_at (λ b. IsMadeBy e.desk b × (successor_word b.row b.generation ≡ w)) s successor in
     let b : Booking = p.1 in
     let at : booking_at s b.row b.generation ≡ Some b = stands_there s p.0 b p.2 good.keys p.3 in
@@ -189,26 +192,26 @@ settled_at e es all = go (eqb e.desk e.desk) (eq-eqb e.desk e.desk refl) (all e.
     go false is all = absurd cc
 
 -- what a turn leaves of a booking
-turned_expects : (g : Layout) (s : State) (e : Entry) (es : List Entry) (q : ℕ) (from to : Phase) (m : ℕ) (x : _) (w limit : ℕ) (b : Booking) → IsWellFormed g s → AreInRows g s → g.rows ≤ most_rows
-    → AllSettled (e ∷ es) → e.step ≡ Turn q from to m x w → IsAllowed g s e → TurnsWith s e.desk limit to m x w
-    → Expects (apply s e) es (turned e.desk to (record { moment = m; amount = x; successor = w }) b)
-turned_expects g s e es q from (Ending Exchange) m x w limit b good range few settled is may with exchanged row generation small word =
-    turn_expects g s e es q from m x w good range few is may with.1
+turned_expects : (g : Layout) (s : State) (e : Entry) (es : List Entry) (q : ℕ) (from to : Phase) (end : End) (limit : ℕ) (b : Booking) → IsWellFormed g s → AreInRows g s → g.rows ≤ most_rows
+    → AllSettled (e ∷ es) → e.step ≡ end_turn q from to end → IsAllowed g s e → TurnsWith s e.desk limit to end
+    → Expects (apply s e) es (turned e.desk to end b)
+turned_expects g s e es q from (Ending Exchange) end limit b good range few settled is may with exchanged row generation small word =
+    turn_expects g s e es q from end good range few is may with.1
     (subst (λ (st : Step). IsConfirmedNext (successor_row st) (own es e.desk)) is (settled_at e es settled (ap exchanges is))) row generation small word
-turned_expects g s e es q from (Ending Release) m x w limit b good range few settled is may with (inl a) row generation small word = let bad : Ending Release ≡ Ending Exchange = a in absurd cc
-turned_expects g s e es q from (Ending Release) m x w limit b good range few settled is may with (inr a) row generation small word = let bad : Ending Release ≡ Ended Exchange = a in absurd cc
-turned_expects g s e es q from (Ending Expire) m x w limit b good range few settled is may with (inl a) row generation small word = let bad : Ending Expire ≡ Ending Exchange = a in absurd cc
-turned_expects g s e es q from (Ending Expire) m x w limit b good range few settled is may with (inr a) row generation small word = let bad : Ending Expire ≡ Ended Exchange = a in absurd cc
-turned_expects g s e es q from (Ending Refund) m x w limit b good range few settled is may with (inl a) row generation small word = let bad : Ending Refund ≡ Ending Exchange = a in absurd cc
-turned_expects g s e es q from (Ending Refund) m x w limit b good range few settled is may with (inr a) row generation small word = let bad : Ending Refund ≡ Ended Exchange = a in absurd cc
-turned_expects g s e es q from Confirmed m x w limit b good range few settled is may with (inl a) row generation small word = let bad : Confirmed ≡ Ending Exchange = a in absurd cc
-turned_expects g s e es q from Confirmed m x w limit b good range few settled is may with (inr a) row generation small word = let bad : Confirmed ≡ Ended Exchange = a in absurd cc
-turned_expects g s e es q from Fulfilled m x w limit b good range few settled is may with (inl a) row generation small word = let bad : Fulfilled ≡ Ending Exchange = a in absurd cc
-turned_expects g s e es q from Fulfilled m x w limit b good range few settled is may with (inr a) row generation small word = let bad : Fulfilled ≡ Ended Exchange = a in absurd cc
-turned_expects g s e es q from Free m x w limit b good range few settled is may with exchanged row generation small word = absurd with
-turned_expects g s e es q from Making m x w limit b good range few settled is may with exchanged row generation small word = absurd with
-turned_expects g s e es q from Prebooked m x w limit b good range few settled is may with exchanged row generation small word = absurd with
-turned_expects g s e es q from (Ended kind) m x w limit b good range few settled is may with exchanged row generation small word = absurd with
+turned_expects g s e es q from (Ending Release) end limit b good range few settled is may with (inl a) row generation small word = let bad : Ending Release ≡ Ending Exchange = a in absurd cc
+turned_expects g s e es q from (Ending Release) end limit b good range few settled is may with (inr a) row generation small word = let bad : Ending Release ≡ Ended Exchange = a in absurd cc
+turned_expects g s e es q from (Ending Expire) end limit b good range few settled is may with (inl a) row generation small word = let bad : Ending Expire ≡ Ending Exchange = a in absurd cc
+turned_expects g s e es q from (Ending Expire) end limit b good range few settled is may with (inr a) row generation small word = let bad : Ending Expire ≡ Ended Exchange = a in absurd cc
+turned_expects g s e es q from (Ending Refund) end limit b good range few settled is may with (inl a) row generation small word = let bad : Ending Refund ≡ Ending Exchange = a in absurd cc
+turned_expects g s e es q from (Ending Refund) end limit b good range few settled is may with (inr a) row generation small word = let bad : Ending Refund ≡ Ended Exchange = a in absurd cc
+turned_expects g s e es q from Confirmed end limit b good range few settled is may with (inl a) row generation small word = let bad : Confirmed ≡ Ending Exchange = a in absurd cc
+turned_expects g s e es q from Confirmed end limit b good range few settled is may with (inr a) row generation small word = let bad : Confirmed ≡ Ended Exchange = a in absurd cc
+turned_expects g s e es q from Fulfilled end limit b good range few settled is may with (inl a) row generation small word = let bad : Fulfilled ≡ Ending Exchange = a in absurd cc
+turned_expects g s e es q from Fulfilled end limit b good range few settled is may with (inr a) row generation small word = let bad : Fulfilled ≡ Ended Exchange = a in absurd cc
+turned_expects g s e es q from Free end limit b good range few settled is may with exchanged row generation small word = absurd with
+turned_expects g s e es q from Making end limit b good range few settled is may with exchanged row generation small word = absurd with
+turned_expects g s e es q from Prebooked end limit b good range few settled is may with exchanged row generation small word = absurd with
+turned_expects g s e es q from (Ended kind) end limit b good range few settled is may with exchanged row generation small word = absurd with
 
 -- all that was exchanged, after one entry more
 expects_on : (g : Layout) (s : State) (e : Entry) (es : List Entry) → IsWellFormed g s → AreInRows g s → g.rows ≤ most_rows → AllSettled (e ∷ es) → IsAllowed g s e
@@ -247,9 +250,10 @@ expects_on g s e es good range few settled may all = go e.step refl may
         let b = found (present s q) (λ b. IsMadeBy e.desk b × IsSealable b × MaySealAs s e.desk b phase) may.1 in
         changed q (in_phase phase) b.0 b.1 (λ exchanged row generation small word. absurd (not_sealed_so phase _ b.2.2 exchanged))
     go (Turn q from to m x w) is may =
-        let b = found (present s q) (λ b. (b.phase ≡ from) × TurnsWith s e.desk (limit_of b) to m x w) may.3 in
-        changed q (turned e.desk to (record { moment = m; amount = x; successor = w })) b.0 b.1
-        (turned_expects g s e es q from to m x w (limit_of b.0) b.0 good range few settled is (subst (IsAllowedStep g s e.desk) (sym is) may) b.2.1)
+        let end : End = end_at m x w in
+        let b = found (present s q) (λ b. (b.phase ≡ from) × TurnsWith s e.desk (limit_of b) to end) may.3 in
+        changed q (turned e.desk to end) b.0 b.1
+        (turned_expects g s e es q from to end (limit_of b.0) b.0 good range few settled is (subst (IsAllowedStep g s e.desk) (sym is) may) b.2.1)
     go (LostTurn q wanted shown) is may = near
     go (Close q) is may =
         let b = found (present s q) (MayClose e.desk) may.1 in
@@ -272,8 +276,9 @@ rows_on g s d st may all = go st may
     go (Note q word value) may = let b = found (present s q) (MayNote d word) may.1 in changed q (noted word value) b.0 b.1 refl
     go (Seal q phase) may = let b = found (present s q) _ may.1 in changed q (in_phase phase) b.0 b.1 refl
     go (Turn q from to m x w) may =
+        let end : End = end_at m x w in
         let b = found (present s q) _ may.3 in
-        changed q (turned d to (record { moment = m; amount = x; successor = w })) b.0 b.1 (ap (λ (k : ℕ × ℕ). k.0) (turned-key d to (record { moment = m; amount = x; successor = w }) b.0))
+        changed q (turned d to end) b.0 b.1 (ap (λ (k : ℕ × ℕ). k.0) (turned-key d to end b.0))
     go (LostTurn q wanted shown) may = all
     go (Close q) may = let b = found (present s q) (MayClose d) may.1 in changed q closed b.0 b.1 refl
     go Met may = all

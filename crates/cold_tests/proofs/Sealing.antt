@@ -11,6 +11,7 @@ use Rattle.history_model.specs.Allowed.{IsAmountOf, IsExchangedFor, IsMadeBy, Is
 use Rattle.history_model.specs.Booking.{Booking, Layout, booking_at, last_moment, limit_of, stands_in, successor_word}
 use Rattle.history_model.specs.History.{state_of}
 use Rattle.history_model.specs.Phase.{is_sealed, is_turn}
+use Rattle.history_model.specs.WholeEnds.{end_at}
 use Rattle.history_model.proofs.Generations.{present_latest}
 use Rattle.history_model.proofs.Keeping.{found}
 use Rattle.history_model.proofs.Owners.{on_row}
@@ -48,11 +49,12 @@ is_successor desk hold is =
     (stands_in s hold.row.row) s st.booking st.found ((st.making, st.owner), λ i. successor_word (row i) (st.generation i))
 
 -- a booking that is sealed may be turned to an exchange for that of a hold
-pub may_exchange : (lay : Layout) (desk : DeskView) (row q : RowNo) (hold : HoldView) (from shown : Phase) (m : ℕ) (x : ℤ)
-    → desk.layout ≡ lay → row.row < lay.rows → is_turn from (Ending Exchange) ≡ true → m ≤ last_moment
-    → IsAmountOf Exchange x → q ≡ hold.row → IsSealedSince desk row shown → IsHolding desk hold
-    → CanTurn lay desk.seen desk.number row from (Ending Exchange) m x (successor_word q.row q.generation)
-may_exchange lay desk row q hold from shown m x same here is years amount next sealed holds =
+pub may_exchange : (lay : Layout) (desk : DeskView) (row q : RowNo) (hold : HoldView) (from shown : Phase) (moment : ℕ) (amount : ℤ)
+    → desk.layout ≡ lay → row.row < lay.rows → is_turn from (Ending Exchange) ≡ true → moment ≤ last_moment
+    → IsAmountOf Exchange amount → q ≡ hold.row → IsSealedSince desk row shown → IsHolding desk hold
+    → CanTurn lay desk.seen desk.number row from (Ending Exchange)
+    (end_at moment amount (successor_word q.row q.generation))
+may_exchange lay desk row q hold from shown moment amount same here is years fits next sealed holds =
     let on = subst (λ (g : Layout). OnBooking (state_of g desk.seen) row (IsAfter shown)) same sealed in
     let b = found (booking_at (state_of lay desk.seen) row.row row.generation) (IsAfter shown) on in
     let successor = subst
@@ -63,8 +65,8 @@ may_exchange lay desk row q hold from shown m x same here is years amount next s
       years,
       subst
           (λ (o : Option Booking). IsSomeAnd o (λ y. (is_sealed y.phase ≡ true)
-          × TurnsWith (state_of lay desk.seen) desk.number (limit_of y) (Ending Exchange) m x
-          (successor_word q.row q.generation))) (sym b.1) (b.2.0, (amount, successor)),
+          × TurnsWith (state_of lay desk.seen) desk.number (limit_of y) (Ending Exchange)
+          (end_at moment amount (successor_word q.row q.generation)))) (sym b.1) (b.2.0, (fits, successor)),
     )
 
 -- the successor of an exchange that the desk has out may be sealed as confirmed

@@ -1,4 +1,4 @@
--- The first desk parts others, and takes them in.
+-- The first desk parts others, and joins them.
 use Rattle.std.proofs.Common.{◌≡◌, ◌∙◌, ◌+◌, ◌<◌, ◌≤◌, ◌⊎◌, ⊎_elim, inl, inr, ℕ, suc, List, [], ◌∷◌, ◌++◌, length, refl, sym, ap, subst, arith, append_assoc}
 use Rattle.std.specs.List.{AllByRecursion}
 use mathlib.Core.List.{IsPrefix}
@@ -29,7 +29,7 @@ in_last : (j : ℕ) (xs ys : List ℕ) → In j (xs ++ j ∷ ys)
 in_last j [] ys = inl refl
 in_last j (x ∷ xs) ys = inr (in_last j xs ys)
 
--- a parting counts one desk more, none of which is taken in
+-- a parting counts one desk more, none of which is joined
 pub first_parts : (old new : DeskView) (n : ℕ) → IsFirst old n n → new.number ≡ 0 → new.parted ≡ old.parted + 1
     → own new.seen 0 ≡ own old.seen 0 ++ entry 0 Met ∷ [] → IsFirst new (n + 1) (n + 1)
 first_parts old new n first number made met = record {
@@ -39,7 +39,7 @@ first_parts old new n first number made met = record {
   joined = λ j more few. absurd (let e : ⊥ = omega (arith, more, few) in e);
 }
 
--- the desk of number k + 1 is taken in
+-- the desk of number k + 1 is joined
 pub first_meets : (old other new : DeskView) (n k : ℕ) → IsFirst old n (k + 1) → other.number ≡ k + 1 → HasMet old other new → IsFirst new n k
 first_meets old other new n k first number met = record {
   number = met.same.2 ∙ first.number;

@@ -1,4 +1,4 @@
--- The first desk of a drill, and the workers' desks that it takes in.
+-- The first desk of a drill, and the workers' desks that it joins.
 use Rattle.std.specs.Prelude.{◌≡◌, ℕ, ◌+◌, ◌<◌, ◌≤◌, List, [], ◌∷◌, length, slice_index_or}
 use Rattle.std.specs.List.{AllByRecursion}
 use mathlib.Core.List.{IsPrefix}

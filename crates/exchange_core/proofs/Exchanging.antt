@@ -16,6 +16,7 @@ use Rattle.history_model.specs.Allowed.{OnRow, IsSuccessor}
 use Rattle.history_model.specs.History.{entry, own, state_of}
 use Rattle.history_model.specs.Phase.{is_turn}
 use Rattle.history_model.specs.Work.{NoStep}
+use Rattle.history_model.specs.WholeEnds.{end_at, end_turn}
 use Rattle.claim_rule.specs.Rule.{DeskView}
 use Rattle.claim_rule.specs.Calls.{ShapeBy}
 use Rattle.claim_rule.specs.Desks.{Shape, CanTurn, AddsAtMost}
@@ -27,7 +28,7 @@ use Rattle.claim_rule.proofs.Out.{settled_append, settled_calm, confirmed_behind
 use Rattle.claim_rule.proofs.Shapes.{shape_then, adds_length}
 use Rattle.booking_rows.specs.declared.turns.Aim.TheVariants as aim
 use Rattle.booking_rows.specs.declared.turns.Turned.TheVariants as turned
-use Rattle.booking_rows.specs.Aims.{end_of, end_at, end_turn, fresh_ending, Turns, LosesTurn}
+use Rattle.booking_rows.specs.Aims.{end_of, fresh_ending, Turns, LosesTurn}
 use Rattle.row_decisions.proofs.Deciding.{can_turn}
 use Rattle.refund_core.specs.Quotes.{phase_named}
 use Rattle.exchange_core.specs.Ready.{ReadyView, IsReadyFor}
@@ -42,9 +43,9 @@ named_turns true = refl
 named_turns false = refl
 
 pub may_turn : (lay : Layout) (desk : DeskView) (ready : ReadyView) (hold : HoldView) (from : Phase) (q : RowNo) → from ≡ phase_named ready.code.fulfilled → q ≡ hold.row → desk.layout ≡ lay → ready.moment ≤ 4102444799 → IsReadyFor desk ready → IsHolding desk hold
-    → CanTurn lay desk.seen desk.number ready.code.row from (Ending Exchange) ready.moment ready.code.difference (successor_word q.row q.generation)
+    → CanTurn lay desk.seen desk.number ready.code.row from (Ending Exchange) (exchange_end ready q)
 may_turn lay desk ready hold from q is row same years fit holds =
-    can_turn lay desk ready.code.row from (Ending Exchange) ready.moment ready.code.difference (successor_word q.row q.generation) same (subst (λ (g : Layout). ready.code.row.row < g.rows) same fit.row)
+    can_turn lay desk ready.code.row from (Ending Exchange) (exchange_end ready q) same (subst (λ (g : Layout). ready.code.row.row < g.rows) same fit.row)
     (subst (λ (p : Phase). is_turn p (Ending Exchange) ≡ true) (sym is) (named_turns ready.code.fulfilled)) years
     (λ limit. (fit.difference, subst (λ (x : Layout × RowNo). IsSuccessor (state_of x.0 desk.seen) desk.number (successor_word x.1.row x.1.generation)) (λ i. (same i, sym row i)) (is_successor desk hold holds)))
     fit.sealed

@@ -7,12 +7,13 @@ use Rattle.history_model.specs.declared.entry.Step.TheVariants.{Seal}
 use Rattle.history_model.specs.declared.phase.Phase.TheVariants.{Confirmed, Ending}
 use Rattle.history_model.specs.declared.phase.EndKind.TheVariants.{Exchange}
 use Rattle.history_model.specs.Booking.{most_items, successor_word}
+use Rattle.history_model.specs.WholeEnds.{end_at, end_turn}
 use Rattle.rail_ids.specs.declared.RowNo.{RowNo}
 use Rattle.claim_rule.specs.Rule.{DeskView}
 use Rattle.claim_rule.specs.Holds.{HoldView}
 use Rattle.claim_rule.specs.Endings.{items_read}
 use Rattle.claim_rule.specs.EndSteps.{ending_steps}
-use Rattle.booking_rows.specs.Aims.{end_at, end_turn, LosesTurn}
+use Rattle.booking_rows.specs.Aims.{LosesTurn}
 use Rattle.booking_rows.specs.Ends.{IsEndedAs}
 use Rattle.refund_core.specs.Quotes.{phase_named}
 use Rattle.exchange_core.specs.Ready.{ReadyView}

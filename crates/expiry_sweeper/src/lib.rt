@@ -9,4 +9,5 @@
 mod rows;
 mod sweeps;
 
+pub use booking_rows::Swept;
 pub use sweeps::sweep;

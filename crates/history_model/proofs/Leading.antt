@@ -2,7 +2,7 @@
 use Rattle.std.proofs.Common.{◌≡◌, ℕ, ◌+◌, ◌⊎◌, inl, inr, ⊎_elim, Bool, true, false, List, [], ◌∷◌, ◌++◌, Option, Some, None, IfSome, IfNone, IsSomeAnd, refl, sym, ap, ◌∙◌, subst}
 use Rattle.std.specs.Option.{option_map_or}
 use Rattle.history_model.specs.declared.entry.Entry.{Entry}
-use Rattle.history_model.specs.declared.entry.Step.TheVariants.{Turn, LostTurn}
+use Rattle.history_model.specs.declared.entry.Step.TheVariants.{LostTurn}
 use Rattle.history_model.specs.declared.phase.Phase.{Phase}
 use Rattle.history_model.specs.declared.phase.Phase.TheVariants.{Free, Making, Prebooked, Confirmed, Fulfilled, Ending, Ended}
 use Rattle.history_model.specs.declared.phase.EndKind.{EndKind}
@@ -16,6 +16,7 @@ use Rattle.history_model.specs.History.{IsLegalFrom, state_after}
 use Rattle.history_model.specs.Words.{row_word}
 use Rattle.history_model.specs.Laws.{MayFollow, MayBecome, GoesOn}
 use Rattle.history_model.specs.Life.{LeadsTo, leads_here, leads_on, IsTurnBetween, IsLostTurn, is_let_go}
+use Rattle.history_model.specs.WholeEnds.{end_turn}
 use Rattle.history_model.proofs.Keeping.{found, turned-key}
 use Rattle.history_model.proofs.Going.{GoesOn-step, turned-phase}
 use Rattle.history_model.proofs.Generations.{key-changed}
@@ -123,13 +124,12 @@ leads-history g s (e ∷ es) row generation l =
 
 -- a turn leaves the booking in its second phase
 turned_phase : (g : Layout) (s : State) (e : Entry) (row generation : ℕ) (from to : Phase) → next_generation s row ≡ generation + 1 → IsTurnBetween row from to e → IsAllowed g s e → phase_at (apply s e) row generation ≡ to
-turned_phase g s e row generation from to next (moment, amount, successor, is) may = rw is (now (rw is at may))
+turned_phase g s e row generation from to next (end, is) may = rw is (now (rw is at may))
   where
-    now : IsAllowedStep g s e.desk (Turn row from to moment amount successor) → phase_at (apply_step s e.desk (Turn row from to moment amount successor)) row generation ≡ to
+    now : IsAllowedStep g s e.desk (end_turn row from to end) → phase_at (apply_step s e.desk (end_turn row from to end)) row generation ≡ to
     now a =
-        let f = found (present s row) (λ b. (b.phase ≡ from) × TurnsWith s e.desk (limit_of b) to moment amount successor) a.3 in
+        let f = found (present s row) (λ b. (b.phase ≡ from) × TurnsWith s e.desk (limit_of b) to end) a.3 in
         let at = at_generation s row generation f.0 next f.1 in
-        let end : End = record { moment = moment; amount = amount; successor = successor } in
         let there : booking_at (change s row (turned e.desk to end)) row generation ≡ Some (turned e.desk to end f.0) =
         subst (λ (n : ℕ). booking_at (change s row (turned e.desk to end)) row n ≡ Some (turned e.desk to end f.0)) at.0 (key-changed s row (turned e.desk to end) f.0 (turned-key e.desk to end) f.1) in
         ap (λ o. option_map_or (λ (b : Booking). b.phase) o Free) there ∙ turned-phase e.desk to end f.0

@@ -17,6 +17,7 @@ use Rattle.history_model.specs.Apply.{apply_step, words_of_row, started, item_ta
 use Rattle.history_model.specs.History.{IsLegal, IsLegalFrom, state_of, entry}
 use Rattle.history_model.specs.Laws.{MayBecome, IsOpening, IsSound, is_owners, is_turned_to_end, unmarked}
 use Rattle.history_model.specs.Life.{all_given_back, IsPresentAt, IsSealedBy, HasEnded}
+use Rattle.history_model.specs.WholeEnds.{end_at}
 use Rattle.history_model.proofs.ListLemmas.{All-found}
 use Rattle.history_model.proofs.Keeping.{found, turned-key, turned-items, turn_from}
 use Rattle.history_model.proofs.Going.{GoesOn-step, GoesOn-Start, turned-phase}
@@ -233,11 +234,11 @@ turn_to (Ended l) to t = absurd cc
 
 -- a turn to an ending
 turning_now : (g : Layout) (h : List Entry) (x d : ℕ) (from : Phase) (k : EndKind) (m : ℕ) (a : ℤ) (y : ℕ) (b : Booking) → present (state_of g h) x ≡ Some b → is_live b.phase ≡ true → Life g h x b.generation b
-    → Life g (h ++ entry d (Turn x from (Ending k) m a y) ∷ []) x b.generation (turned d (Ending k) (record { moment = m; amount = a; successor = y }) b)
+    → Life g (h ++ entry d (Turn x from (Ending k) m a y) ∷ []) x b.generation (turned d (Ending k) (end_at m a y) b)
 turning_now g h x d from k m a y b at live l =
     let e : Entry = entry d (Turn x from (Ending k) m a y) in
     let w = l.sealed live in
-    life_ending g (h ++ e ∷ []) x b.generation k (turned d (Ending k) (record { moment = m; amount = a; successor = y }) b) refl
+    life_ending g (h ++ e ∷ []) x b.generation k (turned d (Ending k) (end_at m a y) b) refl
     (record {
       before = w.before;
       between = w.after;
@@ -252,9 +253,9 @@ turning_now g h x d from k m a y b at live l =
     })
 
 turn_on : (g : Layout) (h : List Entry) (x d : ℕ) (from to : Phase) (m : ℕ) (a : ℤ) (y : ℕ) (b : Booking) → present (state_of g h) x ≡ Some b → b.phase ≡ from → is_turn from to ≡ true → Life g h x b.generation b
-    → Life g (h ++ entry d (Turn x from to m a y) ∷ []) x b.generation (turned d to (record { moment = m; amount = a; successor = y }) b)
+    → Life g (h ++ entry d (Turn x from to m a y) ∷ []) x b.generation (turned d to (end_at m a y) b)
 turn_on g h x d from to m a y b here at t l =
-    let end : End = record { moment = m; amount = a; successor = y } in
+    let end : End = end_at m a y in
     let live : is_live b.phase ≡ true = ap is_live at ∙ turn_from from to t in
     ⊎_elim
     (λ (on : is_live to ≡ true). life_live g (h ++ entry d (Turn x from to m a y) ∷ []) x b.generation (turned d to end b) (ap is_live (turned-phase d to end b) ∙ on)
@@ -306,8 +307,8 @@ life_step g h row j d (Seal x phase) may k c to =
     let b = found (present (state_of g h) x) (λ b. IsMadeBy d b × IsSealable b × MaySealAs (state_of g h) d b phase) may.1 in
     on_change g h row j x (in_phase phase) (entry d (Seal x phase)) b.0 c (λ _. refl) k b.1 (λ _. sealing_now g h x d phase b.0 b.1 (⊎_elim (λ p. inl p) (λ q. inr q.0) b.2.2)) to
 life_step g h row j d (Turn x from to_phase m a y) may k c to =
-    let end : End = record { moment = m; amount = a; successor = y } in
-    let b = found (present (state_of g h) x) (λ b. (b.phase ≡ from) × TurnsWith (state_of g h) d (limit_of b) to_phase m a y) may.3 in
+    let end : End = end_at m a y in
+    let b = found (present (state_of g h) x) (λ b. (b.phase ≡ from) × TurnsWith (state_of g h) d (limit_of b) to_phase end) may.3 in
     on_change g h row j x (turned d to_phase end) (entry d (Turn x from to_phase m a y)) b.0 c (turned-key d to_phase end) k b.1 (λ l. turn_on g h x d from to_phase m a y b.0 b.1 b.2.0 may.1 l) to
 life_step g h row j d (Close x) may k c to =
     let b = found (present (state_of g h) x) (λ b. (kind : EndKind) × IsEndedBy d kind b × AllGiven b × HasEndWords kind b) may.1 in

@@ -15,6 +15,7 @@ use Rattle.history_model.specs.History.{own, IsLegal, IsLegalFrom, state_after, 
 use Rattle.history_model.specs.Laws.{is_owners, stage, IsSound, IsWellFormed, MayBecome}
 use Rattle.history_model.specs.Phase.{is_ended}
 use Rattle.history_model.specs.Quiet.{is_quiet, AllQuiet}
+use Rattle.history_model.specs.WholeEnds.{end_at}
 use Rattle.history_model.proofs.Keeping.{found, turned-key}
 use Rattle.history_model.proofs.Going.{GoesOn-step}
 use Rattle.history_model.proofs.Generations.{free_next, free_of_next, unended_present, present_key, key_at, present-changed_other, present-started_other}
@@ -78,7 +79,7 @@ quiet_step s r b d (Start x j) at q = present-started_other s x j d (words_of_ro
 quiet_step s r b d (SawRow x w n) at q = at
 quiet_step s r b d (Note x w n) at q = present-changed_other s x r (noted w n) (λ _. refl) (apart_rows x r q) ∙ at
 quiet_step s r b d (Seal x ph) at q = present-changed_other s x r (in_phase ph) (λ _. refl) (apart_rows x r q) ∙ at
-quiet_step s r b d (Turn x from to m a y) at q = present-changed_other s x r (turned d to (record { moment = m; amount = a; successor = y })) (turned-key d to (record { moment = m; amount = a; successor = y })) (apart_rows x r q) ∙ at
+quiet_step s r b d (Turn x from to m a y) at q = present-changed_other s x r (turned d to (end_at m a y)) (turned-key d to (end_at m a y)) (apart_rows x r q) ∙ at
 quiet_step s r b d (LostTurn x wanted shown) at q = at
 quiet_step s r b d (Close x) at q = present-changed_other s x r closed (λ _. refl) (apart_rows x r q) ∙ at
 quiet_step s r b d Met at q = at

@@ -17,6 +17,7 @@ use Rattle.history_model.specs.Allowed.{IsAllowedStep, IsRow, MaySealAs, IsMadeB
 use Rattle.history_model.specs.Apply.{apply, apply_step, words_of_row, started, item_taken, given, noted, in_phase, turned, ended_phase, closed}
 use Rattle.history_model.specs.History.{IsLegal, IsLegalFrom, state_after, state_of}
 use Rattle.history_model.specs.Laws.{IsInRange, AreInRange, IsSuccessorIn, IsWellFormed, HasAmountFor, MayBecome, MayFollow, is_turned_to_end}
+use Rattle.history_model.specs.WholeEnds.{end_at}
 use Rattle.history_model.proofs.Keeping.{found}
 use Rattle.history_model.proofs.Going.{GoesOn-step}
 use Rattle.history_model.proofs.ListLemmas.{All-found, All-both}
@@ -83,27 +84,27 @@ none_before (Ending k) to a t is = let no : false ≡ true = t in cc
 none_before (Ended k) to a t is = let no : false ≡ true = t in cc
 
 -- what a turn to an ending writes is in range
-pub turn_fits : (g : Layout) (s : State) (who limit : ℕ) (kind : EndKind) (m : ℕ) (a : ℤ) (x : ℕ) → AllByRecursion (λ b. IsRow g b.row × (b.generation ≤ last_generation)) s → TurnsWith s who limit (Ending kind) m a x → IsAmountOf kind a × IsSuccessorIn g x
-turn_fits g s who limit Release m a x all may = (may.0, inl may.1)
-turn_fits g s who limit Expire m a x all may = (may.1, inl may.2)
-turn_fits g s who limit Refund m a x all may = (may.0, inl may.1)
-turn_fits g s who limit Exchange m a x all may =
-    let b = successor_found (λ b. IsRow g b.row × (b.generation ≤ last_generation)) s who x all may.1 in
+pub turn_fits : (g : Layout) (s : State) (who limit : ℕ) (kind : EndKind) (end : End) → AllByRecursion (λ b. IsRow g b.row × (b.generation ≤ last_generation)) s → TurnsWith s who limit (Ending kind) end → IsAmountOf kind end.amount × IsSuccessorIn g end.successor
+turn_fits g s who limit Release end all may = (may.0, inl may.1)
+turn_fits g s who limit Expire end all may = (may.1, inl may.2)
+turn_fits g s who limit Refund end all may = (may.0, inl may.1)
+turn_fits g s who limit Exchange end all may =
+    let b = successor_found (λ b. IsRow g b.row × (b.generation ≤ last_generation)) s who end.successor all may.1 in
     (may.0, inr (b.0.row, b.0.generation, b.1.0, b.1.1, sym b.2))
 
 -- the rows and generations of a state
 pub keys_in_range : (g : Layout) (s : State) → IsWellFormed g s → AreInRange g s → AllByRecursion (λ b. IsRow g b.row × (b.generation ≤ last_generation)) s
 keys_in_range g s good all = All-both (λ b sound range. (range.row, sound.generation)) s good.each all
 
-with_end : (g : Layout) (s : State) (who limit : ℕ) (to : Phase) (m : ℕ) (a : ℤ) (x : ℕ) (b : Booking) → AllByRecursion (λ c. IsRow g c.row × (c.generation ≤ last_generation)) s → m ≤ last_moment → TurnsWith s who limit to m a x → b.end.amount ≡ pos 0 → IsInRange g b
-    → IsInRange g (turned who to (record { moment = m; amount = a; successor = x }) b)
-with_end g s who limit (Ending kind) m a x b all moment may none is = let f = turn_fits g s who limit kind m a x all may in record { row = is.row; moment = moment; amount = f.0; successor = f.1 }
-with_end g s who limit Confirmed m a x b all moment may none is = same_end g b Confirmed none is
-with_end g s who limit Fulfilled m a x b all moment may none is = same_end g b Fulfilled none is
-with_end g s who limit Free m a x b all moment may none is = absurd may
-with_end g s who limit Making m a x b all moment may none is = absurd may
-with_end g s who limit Prebooked m a x b all moment may none is = absurd may
-with_end g s who limit (Ended kind) m a x b all moment may none is = absurd may
+with_end : (g : Layout) (s : State) (who limit : ℕ) (to : Phase) (end : End) (b : Booking) → AllByRecursion (λ c. IsRow g c.row × (c.generation ≤ last_generation)) s → end.moment ≤ last_moment → TurnsWith s who limit to end → b.end.amount ≡ pos 0 → IsInRange g b
+    → IsInRange g (turned who to end b)
+with_end g s who limit (Ending kind) end b all moment may none is = let f = turn_fits g s who limit kind end all may in record { row = is.row; moment = moment; amount = f.0; successor = f.1 }
+with_end g s who limit Confirmed end b all moment may none is = same_end g b Confirmed none is
+with_end g s who limit Fulfilled end b all moment may none is = same_end g b Fulfilled none is
+with_end g s who limit Free end b all moment may none is = absurd may
+with_end g s who limit Making end b all moment may none is = absurd may
+with_end g s who limit Prebooked end b all moment may none is = absurd may
+with_end g s who limit (Ended kind) end b all moment may none is = absurd may
 
 ranges-step : (g : Layout) (s : State) (who : ℕ) (st : Step) → IsWellFormed g s → IsAllowedStep g s who st → AreInRange g s → AreInRange g (apply_step s who st)
 ranges-step g s who (Look p k n) good may all = all
@@ -117,8 +118,9 @@ ranges-step g s who (Seal q ph) good may all =
     all_changed (IsInRange g) (stands_in s q) (in_phase ph) s (λ c at is. same_end g c ph (sealed_amount ph c.end.amount (Any (IsExchangedFor who (successor_word b.0.row b.0.generation)) s) b.2.2
     (subst (λ (p : Phase). HasAmountFor p c.end.amount) (ap (λ (y : Booking). y.phase) (same_found s q b.0 c b.1 at) ∙ b.2.0.0) is.amount)) is) all
 ranges-step g s who (Turn q from to m a x) good may all =
-    let b = found (present s q) (λ b. (b.phase ≡ from) × TurnsWith s who (limit_of b) to m a x) may.3 in
-    all_changed (IsInRange g) (stands_in s q) (turned who to (record { moment = m; amount = a; successor = x })) s (λ c at is. with_end g s who (limit_of b.0) to m a x c (keys_in_range g s good all) may.2 b.2.1
+    let end : End = end_at m a x in
+    let b = found (present s q) (λ b. (b.phase ≡ from) × TurnsWith s who (limit_of b) to end) may.3 in
+    all_changed (IsInRange g) (stands_in s q) (turned who to end) s (λ c at is. with_end g s who (limit_of b.0) to end c (keys_in_range g s good all) may.2 b.2.1
     (none_before from to c.end.amount may.1 (subst (λ (p : Phase). HasAmountFor p c.end.amount) (ap (λ (y : Booking). y.phase) (same_found s q b.0 c b.1 at) ∙ b.2.0) is.amount)) is) all
 ranges-step g s who (LostTurn q wanted shown) good may all = all
 ranges-step g s who (Close q) good may all = all_changed (IsInRange g) (stands_in s q) closed s (λ b _ is. same_end g b (ended_phase b.phase) (closed_amount b.phase b.end.amount is.amount) is) all

@@ -16,6 +16,7 @@ use Rattle.history_model.specs.Apply.{apply, apply_step, words_of_row, started, 
 use Rattle.history_model.specs.History.{IsLegalFrom, own, state_after}
 use Rattle.history_model.specs.Phase.{is_ended}
 use Rattle.history_model.specs.Laws.{IsWellFormed, MayBecome, MayFollow, GoesOn, is_turned_to_end}
+use Rattle.history_model.specs.WholeEnds.{end_at}
 use Rattle.history_model.proofs.Keeping.{found, turned-key}
 use Rattle.history_model.proofs.Going.{GoesOn-step}
 use Rattle.history_model.proofs.Generations.{present_key, key-changed, unended_present, stands_there}
@@ -88,7 +89,7 @@ exchanged_step g d e word s (Start q j) may h = some-append (IsExchangedFor d wo
 exchanged_step g d e word s (SawRow q w n) may h = h
 exchanged_step g d e word s (Note q w n) may h = exchanged_change d e word s q (noted w n) (λ _. refl) (GoesOn-step g s e (Note q w n) may) h
 exchanged_step g d e word s (Seal q ph) may h = exchanged_change d e word s q (in_phase ph) (λ _. refl) (GoesOn-step g s e (Seal q ph) may) h
-exchanged_step g d e word s (Turn q from to m a x) may h = exchanged_change d e word s q (turned e to (record { moment = m; amount = a; successor = x })) (turned-key e to (record { moment = m; amount = a; successor = x })) (GoesOn-step g s e (Turn q from to m a x) may) h
+exchanged_step g d e word s (Turn q from to m a x) may h = exchanged_change d e word s q (turned e to (end_at m a x)) (turned-key e to (end_at m a x)) (GoesOn-step g s e (Turn q from to m a x) may) h
 exchanged_step g d e word s (LostTurn q wanted shown) may h = h
 exchanged_step g d e word s (Close q) may h = exchanged_change d e word s q closed (λ _. refl) (GoesOn-step g s e (Close q) may) h
 exchanged_step g d e word s Met may h = h

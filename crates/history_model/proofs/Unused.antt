@@ -11,6 +11,7 @@ use Rattle.history_model.specs.Words.{row_word}
 use Rattle.history_model.specs.Allowed.{IsAllowedStep, IsMadeBy, IsSealable, MayGive, MayNote, MayClose, MaySealAs, TurnsWith}
 use Rattle.history_model.specs.Apply.{apply, apply_step, item_taken, given, noted, in_phase, closed}
 use Rattle.history_model.specs.History.{IsLegal, IsLegalFrom, state_after, state_of}
+use Rattle.history_model.specs.WholeEnds.{end_at}
 use Rattle.history_model.proofs.Keeping.{found}
 use Rattle.history_model.proofs.Seen.{legal-rest, state_of-append}
 use Rattle.history_model.proofs.Writing.{row_kept, start_writes, phase_writes, turn_writes}
@@ -44,8 +45,8 @@ unused_step g s d (Seal q ph) row w may l =
     let b = found (present s q) (λ b. IsMadeBy d b × IsSealable b × MaySealAs s d b ph) may.1 in
     (phase_writes (in_phase ph) (λ _. refl) (λ _. refl) (λ _. refl) s q b.0 b.1).rest (Row row w) (row_zero q row w l)
 unused_step g s d (Turn q from to m a x) row w may l =
-    let end : End = record { moment = m; amount = a; successor = x } in
-    let b = found (present s q) (λ b. (b.phase ≡ from) × TurnsWith s d (limit_of b) to m a x) may.3 in
+    let end : End = end_at m a x in
+    let b = found (present s q) (λ b. (b.phase ≡ from) × TurnsWith s d (limit_of b) to end) may.3 in
     (turn_writes s q d to end b.0 b.1).rest (Row row w) (row_zero q row w l)
 unused_step g s d (Close q) row w may l =
     let b = found (present s q) (MayClose d) may.1 in (phase_writes closed (λ _. refl) (λ _. refl) (λ _. refl) s q b.0 b.1).rest (Row row w) (row_zero q row w l)

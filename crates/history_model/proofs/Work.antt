@@ -14,6 +14,7 @@ use Rattle.history_model.specs.Allowed.{IsAllowedStep, MayStart, MaySealAs, OnRo
 use Rattle.history_model.specs.Apply.{apply, apply_step, words_of_row, started, item_taken, given, noted, in_phase, turned, closed, ended_phase}
 use Rattle.history_model.specs.History.{own, IsLegalFrom, state_after, entry}
 use Rattle.history_model.specs.Work.{IsIn, starts_row, ends_row, NoStep}
+use Rattle.history_model.specs.WholeEnds.{end_at}
 use Rattle.history_model.proofs.Keeping.{found, turned-key}
 use Rattle.history_model.proofs.Going.{turned-phase}
 use Rattle.history_model.proofs.Generations.{present-changed, present-changed_other, present-started, present-started_other}
@@ -77,8 +78,8 @@ made_step g s who (Seal q ph) d r may on =
     (λ (h : (r ≡ q) × IsMadeBy d (in_phase ph b.0)). absurd (⊎_elim (λ e. let no : Prebooked ≡ Making = sym e ∙ h.1.0 in cc) (λ e. let no : Confirmed ≡ Making = sym e.0 ∙ h.1.0 in cc) b.2.2))
     (split_change s q r (in_phase ph) (IsMadeBy d) b.0 b.1 (λ _. refl) on)
 made_step g s who (Turn q from to m a x) d r may on =
-    let end : End = record { moment = m; amount = a; successor = x } in
-    let b = found (present s q) (λ b. (b.phase ≡ from) × TurnsWith s who (limit_of b) to m a x) may.3 in
+    let end : End = end_at m a x in
+    let b = found (present s q) (λ b. (b.phase ≡ from) × TurnsWith s who (limit_of b) to end) may.3 in
     ⊎_elim (λ (o : OnRow s r (IsMadeBy d)). inl o)
     (λ (h : (r ≡ q) × IsMadeBy d (turned who to end b.0)). absurd (no_turn from (subst (λ (ph : Phase). is_turn from ph ≡ true) (sym (turned-phase who to end b.0) ∙ h.1.0) may.1)))
     (split_change s q r (turned who to end) (IsMadeBy d) b.0 b.1 (turned-key who to end) on)
@@ -115,8 +116,8 @@ ended_step g s who (Seal q ph) kind d r may on =
     (λ (h : (r ≡ q) × IsIn (Ending kind) d (in_phase ph b.0)). absurd (⊎_elim (λ e. let no : Prebooked ≡ Ending kind = sym e ∙ h.1.0 in cc) (λ e. let no : Confirmed ≡ Ending kind = sym e.0 ∙ h.1.0 in cc) b.2.2))
     (split_change s q r (in_phase ph) (IsIn (Ending kind) d) b.0 b.1 (λ _. refl) on)
 ended_step g s who (Turn q from to m a x) kind d r may on =
-    let end : End = record { moment = m; amount = a; successor = x } in
-    let b = found (present s q) (λ b. (b.phase ≡ from) × TurnsWith s who (limit_of b) to m a x) may.3 in
+    let end : End = end_at m a x in
+    let b = found (present s q) (λ b. (b.phase ≡ from) × TurnsWith s who (limit_of b) to end) may.3 in
     ⊎_elim (λ (o : OnRow s r (IsIn (Ending kind) d)). inl o)
     (λ (h : (r ≡ q) × IsIn (Ending kind) d (turned who to end b.0)). inr (turn_ends s q who d r from to end m a x kind b.0 h.0 (sym (turned-phase who to end b.0) ∙ h.1.0) h.1))
     (split_change s q r (turned who to end) (IsIn (Ending kind) d) b.0 b.1 (turned-key who to end) on)

@@ -7,12 +7,14 @@ use Rattle.history_model.specs.declared.phase.Phase.TheVariants.{Making, Prebook
 use Rattle.history_model.specs.declared.phase.EndKind.{EndKind}
 use Rattle.history_model.specs.declared.phase.EndKind.TheVariants.{Release, Expire, Refund, Exchange}
 use Rattle.history_model.specs.declared.booking.BookedItem.{BookedItem}
+use Rattle.history_model.specs.declared.booking.End.{End}
 use Rattle.history_model.specs.declared.entry.Entry.{Entry}
 use Rattle.history_model.specs.declared.entry.Step.{Step}
 use Rattle.history_model.specs.declared.entry.Step.TheVariants.{Look, Take, Give, Start, SawRow, Note, Seal, Turn, LostTurn, Close, Met}
 use Rattle.rail_ids.specs.Spelling.{last_generation}
 use Rattle.history_model.specs.Phase.{is_turn, is_ended}
 use Rattle.history_model.specs.Booking.{Booking, Layout, State, row_words, most_items, first_item_word, last_moment, greatest_retailer, greatest_amount, least_difference, greatest_difference, word_at, limit_of, present, all_items, amount_word, successor_word, standing_word, retailer_word, limit_word, total_word, count_word, end_successor_word, end_amount_word, end_moment_word}
+use Rattle.history_model.specs.WholeEnds.{end_at}
 use Rattle.history_model.specs.Words.{place_word, row_word}
 
 abbrev pub IsPlace : Layout → ℕ → Type 0
@@ -89,33 +91,35 @@ MayStart s row generation = ((generation ≡ 0) × (present s row ≡ None))
 
 -- the booking was turned to an exchange by the desk, for this successor
 abbrev pub IsExchangedFor : ℕ → ℕ → Booking → Type 0
-IsExchangedFor desk successor b = (b.owner ≡ desk) × (b.end.successor ≡ successor) × ((b.phase ≡ Ending Exchange) ⊎ (b.phase ≡ Ended Exchange))
+IsExchangedFor desk successor b =
+    (b.owner ≡ desk) × (b.end.successor ≡ successor) × ((b.phase ≡ Ending Exchange) ⊎ (b.phase ≡ Ended Exchange))
 
 -- in which phase the booking may be sealed
 abbrev pub MaySealAs : State → ℕ → Booking → Phase → Type 0
-MaySealAs s desk b phase = (phase ≡ Prebooked) ⊎ ((phase ≡ Confirmed) × Any (IsExchangedFor desk (successor_word b.row b.generation)) s)
+MaySealAs s desk b phase = (phase ≡ Prebooked)
+    ⊎ ((phase ≡ Confirmed) × Any (IsExchangedFor desk (successor_word b.row b.generation)) s)
 
 -- a booking in the making of the desk is this successor
 abbrev pub IsSuccessor : State → ℕ → ℕ → Type 0
 IsSuccessor s desk successor = Any (λ b. IsMadeBy desk b × (successor_word b.row b.generation ≡ successor)) s
 
--- the amount that an end of this kind may have: of a refund what is paid back, of an exchange what the new booking costs more
+-- the amount that an end of this kind may have: of a refund what is paid back, of an exchange what the new booking
+-- costs more
 abbrev pub IsAmountOf : EndKind → ℤ → Type 0
 IsAmountOf Release amount = amount ≡ pos 0
 IsAmountOf Expire amount = amount ≡ pos 0
 IsAmountOf Refund amount = (pos 0 ≤ℤ amount) × (amount ≤ℤ pos greatest_amount)
 IsAmountOf Exchange amount = (least_difference ≤ℤ amount) × (amount ≤ℤ greatest_difference)
 
--- what a turn to a phase asks of its moment, amount and successor, where the booking has this limit
-abbrev pub TurnsWith : State → ℕ → ℕ → Phase → ℕ → ℤ → ℕ → Type 0
-TurnsWith s desk limit Confirmed moment amount successor = (moment ≤ limit) × (amount ≡ pos 0) × (successor ≡ 0)
-TurnsWith s desk limit Fulfilled moment amount successor = (moment ≡ 0) × (amount ≡ pos 0) × (successor ≡ 0)
-TurnsWith s desk limit (Ending Release) moment amount successor = IsAmountOf Release amount × (successor ≡ 0)
-TurnsWith s desk limit (Ending Expire) moment amount successor = (limit < moment) × IsAmountOf Expire amount × (successor ≡ 0)
-TurnsWith s desk limit (Ending Refund) moment amount successor = IsAmountOf Refund amount × (successor ≡ 0)
-TurnsWith s desk limit (Ending Exchange) moment amount successor =
-    IsAmountOf Exchange amount × IsSuccessor s desk successor
-TurnsWith s desk limit _ moment amount successor = ⊥
+-- what a turn to a phase asks of its end, where the booking has this limit
+abbrev pub TurnsWith : State → ℕ → ℕ → Phase → End → Type 0
+TurnsWith s desk limit Confirmed end = (end.moment ≤ limit) × (end.amount ≡ pos 0) × (end.successor ≡ 0)
+TurnsWith s desk limit Fulfilled end = (end.moment ≡ 0) × (end.amount ≡ pos 0) × (end.successor ≡ 0)
+TurnsWith s desk limit (Ending Release) end = IsAmountOf Release end.amount × (end.successor ≡ 0)
+TurnsWith s desk limit (Ending Expire) end = (limit < end.moment) × IsAmountOf Expire end.amount × (end.successor ≡ 0)
+TurnsWith s desk limit (Ending Refund) end = IsAmountOf Refund end.amount × (end.successor ≡ 0)
+TurnsWith s desk limit (Ending Exchange) end = IsAmountOf Exchange end.amount × IsSuccessor s desk end.successor
+TurnsWith s desk limit _ end = ⊥
 
 -- whether the desk's step is allowed
 abbrev pub IsAllowedStep : Layout → State → ℕ → Step → Type 0
@@ -133,8 +137,10 @@ IsAllowedStep g s desk (Seal row phase) =
     IsRow g row × OnRow s row (λ b. IsMadeBy desk b × IsSealable b × MaySealAs s desk b phase)
 IsAllowedStep g s desk (Turn row from to moment amount successor) =
     IsRow g row × (is_turn from to ≡ true) × (moment ≤ last_moment)
-    × OnRow s row (λ b. (b.phase ≡ from) × TurnsWith s desk (limit_of b) to moment amount successor)
-IsAllowedStep g s desk (LostTurn row wanted shown) = IsRow g row × (shown ≡ row_word s row standing_word) × (shown ≢ wanted)
+    × OnRow s row
+    (λ b. (b.phase ≡ from) × TurnsWith s desk (limit_of b) to (end_at moment amount successor))
+IsAllowedStep g s desk (LostTurn row wanted shown) =
+    IsRow g row × (shown ≡ row_word s row standing_word) × (shown ≢ wanted)
 IsAllowedStep g s desk (Close row) =
     IsRow g row × OnRow s row (MayClose desk)
 IsAllowedStep g s desk Met = Unit {0}

@@ -5,22 +5,23 @@ use Rattle.leg_masks.specs.Interval.{Interval, IsPiece, halves, item_word, leg_o
 use Rattle.history_model.specs.declared.booking.BookedItem.{BookedItem}
 use Rattle.history_model.specs.declared.booking.End.{End}
 use Rattle.history_model.specs.declared.entry.Entry.{Entry}
-use Rattle.history_model.specs.declared.entry.Step.TheVariants.{Turn}
 use Rattle.history_model.specs.declared.phase.Phase.{Phase}
 use Rattle.history_model.specs.Phase.{row_word_of}
 use Rattle.history_model.specs.Booking.{Booking, Host, State, row_words, first_item_word, is_occupied, limit_of, standing_word}
 use Rattle.history_model.specs.Allowed.{IsAllowed, IsAllowedStep, IsMadeBy, IsPlace, IsRow, IsSealable, MaySealAs, TurnsWith}
+use Rattle.history_model.specs.WholeEnds.{end_turn}
 use Rattle.history_model.specs.Words.{place_word, row_word}
 
 abbrev pub IsAllowedIn : Host → Entry → Type 0
 IsAllowedIn h e = IsAllowed h.layout h.bookings e
 
 abbrev pub IsTurnIn : Host → ℕ → ℕ → Phase → Phase → End → Type 0
-IsTurnIn h desk row from to end = IsAllowedStep h.layout h.bookings desk (Turn row from to end.moment end.amount end.successor)
+IsTurnIn h desk row from to end = IsAllowedStep h.layout h.bookings desk (end_turn row from to end)
 
 -- the span lies in one half, and within the legs of the place
 abbrev pub FitsIn : Host → ℕ → Interval → Type 0
-FitsIn h place span = IsPlace h.layout place × (span.from < span.to) × IsPiece span × (span.to ≤ slice_index h.layout.legs place)
+FitsIn h place span =
+    IsPlace h.layout place × (span.from < span.to) × IsPiece span × (span.to ≤ slice_index h.layout.legs place)
 
 -- the number is the word of a half of a place; that of a row; and word 0 of the row, which isn't the one wanted
 abbrev pub ShowsPlace : Host → ℕ → ℕ → ℕ → Type 0
@@ -38,7 +39,8 @@ occupied_bit h place leg = if is_occupied h.bookings place leg then 1 else 0
 
 -- each bit of the word says whether its leg of this half of the place is occupied
 abbrev pub HasOccupiedBits : Host → ℕ → ℕ → ℕ → Type 0
-HasOccupiedBits h place half word = (bit : ℕ) → bit < word_legs → bit_at word bit ≡ occupied_bit h place (leg_of half bit)
+HasOccupiedBits h place half word =
+    (bit : ℕ) → bit < word_legs → bit_at word bit ≡ occupied_bit h place (leg_of half bit)
 
 -- the words of a row have those of the items, in order
 abbrev pub AreWrittenIn : List ℕ → List BookedItem → Type 0
@@ -48,9 +50,9 @@ AreWrittenIn words items = take (length items) (drop first_item_word words) ≡ 
 abbrev pub IsSealableAs : State → ℕ → Phase → Booking → Type 0
 IsSealableAs s desk phase b = IsMadeBy desk b × IsSealable b × MaySealAs s desk b phase
 
--- the booking is in the phase, and a turn to the other phase may have these numbers
+-- the booking is in the phase, and a turn to the other phase may have this end
 abbrev pub TurnsFrom : State → ℕ → Phase → Phase → End → Booking → Type 0
-TurnsFrom s desk from to end b = (b.phase ≡ from) × TurnsWith s desk (limit_of b) to end.moment end.amount end.successor
+TurnsFrom s desk from to end b = (b.phase ≡ from) × TurnsWith s desk (limit_of b) to end
 
 -- the number is no row's word
 abbrev pub IsNoRowWord : ℕ → Type 0

@@ -1,6 +1,7 @@
 pub mod Phase
 pub mod Lists
 pub mod Booking
+pub mod WholeEnds
 pub mod Words
 pub mod Allowed
 pub mod Apply

@@ -16,4 +16,5 @@ look_at place piece shown = Look place (half_of piece) shown
 abbrev pub ChangesPlace : Layout → List Entry → ℕ → ℕ → List Entry → Type 0
 ChangesPlace g history place half entries =
     (front : List Entry) × (change : Entry) × (back : List Entry) × (entries ≡ front ++ change ∷ back)
-    × (place_word (state_of g ((history ++ front) ++ change ∷ [])) place half ≢ place_word (state_of g (history ++ front)) place half)
+    × (place_word (state_of g ((history ++ front) ++ change ∷ [])) place half
+    ≢ place_word (state_of g (history ++ front)) place half)

@@ -34,31 +34,37 @@ EmptyIsLegal = (places rows : ℕ) → IsLegal (layout_of places rows) [] × (st
 -- with one allowed entry behind it a legal history is legal, and its state is the applied one
 
 abbrev pub LegalGoesOn : Type 0
-LegalGoesOn = (g : Layout) (history : List Entry) (e : Entry) → IsLegal g history → IsAllowed g (state_of g history) e → IsLegal g (history ++ e ∷ [])
+LegalGoesOn = (g : Layout) (history : List Entry) (e : Entry) → IsLegal g history → IsAllowed g (state_of g history) e
+    → IsLegal g (history ++ e ∷ [])
 
 abbrev pub StateGoesOn : Type 0
-StateGoesOn = (g : Layout) (history : List Entry) (e : Entry) → state_of g (history ++ e ∷ []) ≡ apply (state_of g history) e
+StateGoesOn =
+    (g : Layout) (history : List Entry) (e : Entry) → state_of g (history ++ e ∷ []) ≡ apply (state_of g history) e
 
 -- a booking in the making or ending, its owner, and its row
 
 abbrev pub OwnersChangeAlone : Type 0
 OwnersChangeAlone = (g : Layout) (history more : List Entry) (row generation : ℕ) → IsLegal g (history ++ more)
     → IfSome (booking_at (state_of g history) row generation)
-    (λ b. is_owners b.phase ≡ true → own more b.owner ≡ [] → booking_at (state_of g (history ++ more)) row generation ≡ Some b)
+    (λ b. is_owners b.phase ≡ true → own more b.owner ≡ []
+    → booking_at (state_of g (history ++ more)) row generation ≡ Some b)
 
 abbrev pub OwnersStayPresent : Type 0
 OwnersStayPresent = (g : Layout) (history more : List Entry) (row : ℕ) → IsLegal g (history ++ more)
-    → IfSome (present (state_of g history) row) (λ b. is_owners b.phase ≡ true → own more b.owner ≡ [] → present (state_of g (history ++ more)) row ≡ Some b)
+    → IfSome (present (state_of g history) row)
+    (λ b. is_owners b.phase ≡ true → own more b.owner ≡ [] → present (state_of g (history ++ more)) row ≡ Some b)
 
 abbrev pub UnendedIsPresent : Type 0
 UnendedIsPresent = (g : Layout) (history : List Entry) (row generation : ℕ) → IsLegal g history
-    → IfSome (booking_at (state_of g history) row generation) (λ b. is_ended b.phase ≡ false → present (state_of g history) row ≡ Some b)
+    → IfSome (booking_at (state_of g history) row generation)
+    (λ b. is_ended b.phase ≡ false → present (state_of g history) row ≡ Some b)
 
 -- phases and generations go forward
 
 abbrev pub StagesRise : Type 0
 StagesRise = (g : Layout) (history more : List Entry) (row generation : ℕ) → IsLegal g (history ++ more)
-    → stage (phase_at (state_of g history) row generation) ≤ stage (phase_at (state_of g (history ++ more)) row generation)
+    → stage (phase_at (state_of g history) row generation)
+    ≤ stage (phase_at (state_of g (history ++ more)) row generation)
 
 abbrev pub PhasesLeadOn : Type 0
 PhasesLeadOn = (g : Layout) (history more : List Entry) (row generation : ℕ) → IsLegal g (history ++ more)
@@ -71,7 +77,8 @@ GenerationsRise = (g : Layout) (history more : List Entry) (row : ℕ) → IsLeg
 -- of all turns of a booking from one phase there is one: it decides the phase, and what the lost ones after it show
 
 abbrev pub OneTurnFrom : Type 0
-OneTurnFrom = (g : Layout) (before between after : List Entry) (first second : Entry) (row generation : ℕ) (from : Phase)
+OneTurnFrom =
+    (g : Layout) (before between after : List Entry) (first second : Entry) (row generation : ℕ) (from : Phase)
     → IsPresentAt g before row generation → IsTurnFrom row from first
     → IsPresentAt g (before ++ first ∷ between) row generation → IsTurnFrom row from second
     → IsLegal g (before ++ first ∷ between ++ second ∷ after) → ⊥
@@ -82,13 +89,16 @@ FirstTurnDecides = (g : Layout) (before after : List Entry) (first : Entry) (row
     → LeadsTo to (phase_at (state_of g (before ++ first ∷ after)) row generation)
 
 abbrev pub LosersSeeIt : Type 0
-LosersSeeIt = (g : Layout) (before between after : List Entry) (first lost : Entry) (row generation : ℕ) (from to : Phase) (shown : ℕ)
+LosersSeeIt =
+    (g : Layout) (before between after : List Entry) (first lost : Entry) (row generation : ℕ) (from to : Phase)
+    (shown : ℕ)
     → IsPresentAt g before row generation → IsTurnBetween row from to first → IsLostTurn row shown lost
     → IsLegal g (before ++ first ∷ between ++ lost ∷ after)
     → (phase_shown generation shown ≡ Free) ⊎ LeadsTo to (phase_shown generation shown)
 
 abbrev pub EndingsStayOfKind : Type 0
-EndingsStayOfKind = (kind : EndKind) (phase : Phase) → LeadsTo (Ending kind) phase → (phase ≡ Ending kind) ⊎ (phase ≡ Ended kind)
+EndingsStayOfKind =
+    (kind : EndKind) (phase : Phase) → LeadsTo (Ending kind) phase → (phase ≡ Ending kind) ⊎ (phase ≡ Ended kind)
 
 -- sealed and ended bookings
 
@@ -100,18 +110,24 @@ SealedStays = (g : Layout) (history more : List Entry) (row generation : ℕ) �
 abbrev pub EndedGaveBack : Type 0
 EndedGaveBack = (g : Layout) (history : List Entry) (row generation : ℕ) → IsLegal g history
     → IfSome (booking_at (state_of g history) row generation)
-    (λ c. (kind : EndKind) → c.phase ≡ Ended kind → (booking_at g.opening row generation ≡ Some c) ⊎ HasEnded g history row generation kind c)
+    (λ c. (kind : EndKind) → c.phase ≡ Ended kind
+    → (booking_at g.opening row generation ≡ Some c) ⊎ HasEnded g history row generation kind c)
 
 -- words
 
 abbrev pub LooksHaveCause : Type 0
-LooksHaveCause = (g : Layout) (before between after : List Entry) (first second place half shown later : ℕ) → shown ≢ later
-    → IsLegal g (before ++ (entry first (Look place half shown) ∷ (between ++ (entry second (Look place half later) ∷ after))))
+LooksHaveCause =
+    (g : Layout) (before between after : List Entry) (first second place half shown later : ℕ) → shown ≢ later
+    → IsLegal g
+    (before ++ (entry first (Look place half shown) ∷ (between ++ (entry second (Look place half later) ∷ after))))
     → ChangesPlace g (before ++ entry first (Look place half shown) ∷ []) place half between
 
 abbrev pub ChangeIsOthers : Type 0
-ChangeIsOthers = (front back : List Entry) (change : Entry) (desk : ℕ) → own (front ++ change ∷ back) desk ≡ [] → change.desk ≢ desk
+ChangeIsOthers =
+    (front back : List Entry) (change : Entry) (desk : ℕ) → own (front ++ change ∷ back) desk ≡ []
+    → change.desk ≢ desk
 
 abbrev pub UnusedWordsStay : Type 0
-UnusedWordsStay = (g : Layout) (history more : List Entry) (row word : ℕ) → IsLegal g (history ++ more) → first_item_word + most_items ≤ word
+UnusedWordsStay = (g : Layout) (history more : List Entry) (row word : ℕ) → IsLegal g (history ++ more)
+    → first_item_word + most_items ≤ word
     → row_word (state_of g (history ++ more)) row word ≡ row_word (state_of g history) row word

@@ -18,7 +18,8 @@ place_word s place half = number_of_bits (λ bit. is_occupied s place (leg_of ha
 
 -- word w of a row: the phase and generation of its present booking, or a word of it
 abbrev pub row_word : State → ℕ → ℕ → ℕ
-row_word s row w = option_map_or (λ b. if w == standing_word then row_word_of b.phase b.generation else word_at b w) (present s row) 0
+row_word s row w =
+    option_map_or (λ b. if w == standing_word then row_word_of b.phase b.generation else word_at b w) (present s row) 0
 
 -- how many words the places have
 abbrev pub place_words : Layout → ℕ

@@ -122,9 +122,9 @@ fn is_amount_of(kind: EndKind, amount: i64) -> bool
     }
 }
 
-/// Whether a turn of the booking to the phase may have these numbers.
+/// Whether a turn of the booking to the phase may have this end.
 fn turns_with(bookings: &[BookingRow], desk: u32, limit: u64, to: Phase, end: End) -> bool
-    ensures { IsTrue result ↔ TurnsWith bookings.now desk limit to end.moment end.amount end.successor }
+    ensures { IsTrue result ↔ TurnsWith bookings.now desk limit to end }
 {
     match to {
         Phase::Confirmed => end.moment <= limit && end.amount == 0 && end.successor == 0,
@@ -146,7 +146,7 @@ fn turns_with(bookings: &[BookingRow], desk: u32, limit: u64, to: Phase, end: En
     }
 }
 
-/// Whether the row's booking is in the phase, and a turn to the other phase may have these numbers.
+/// Whether the row's booking is in the phase, and a turn to the other phase may have this end.
 pub(crate) fn row_turns(
     bookings: &[BookingRow],
     desk: u32,

@@ -71,6 +71,6 @@ pub enum Step {
     Close {
         row: u32,
     },
-    /// The desk parted another, or took one in.
+    /// The desk parted another, or joined one.
     Met,
 }

@@ -116,11 +116,11 @@ still_settled a b hold held span places place won outcome so ne = record {
 
 -- what the call answers
 
-abbrev pub Answers : DeskView → DeskView → HoldView → HoldView → Interval → ℕ → List ℕ → Added → Type 0
-Answers old new hold held span count candidates answer =
+abbrev pub AddsSo : DeskView → DeskView → HoldView → HoldView → Interval → ℕ → List ℕ → Added → Type 0
+AddsSo old new hold held span count candidates answer =
     (won : List Item) × ((es : List Step) × Adds hold.row.row (length hold.items) span count candidates answer won es × Shape old new es) × (held ≡ with_items hold won)
 
-answers : (a b : DeskView) (hold held : HoldView) (span : Interval) (count : ℕ) (places candidates : List ℕ) (answer : Added) → (so : Tried a b hold held span places) → IsAdding span count candidates so.tries answer → Answers a b hold held span count candidates answer
+answers : (a b : DeskView) (hold held : HoldView) (span : Interval) (count : ℕ) (places candidates : List ℕ) (answer : Added) → (so : Tried a b hold held span places) → IsAdding span count candidates so.tries answer → AddsSo a b hold held span count candidates answer
 answers a b hold held span count places candidates answer so is =
     (items_won span so.tries, (tries_steps hold.row.row (length hold.items) span so.tries, record { tries = so.tries; each = so.each; adding = is; items = refl; steps = refl }, so.seen), so.held)
 
@@ -190,7 +190,7 @@ has_room a b hold held span places won count so few room =
 
 -- what the call answers, after the try of one candidate
 
-pub at_contended : (a b c : DeskView) (hold mid kept : HoldView) (span : Interval) (count i won : ℕ) (cs : List PlaceNo) (d : PlaceNo) → i < length cs → TriedSettled a b hold mid span (map place_number (take i cs)) won → won < count → TriesPlace b mid (get_or cs i d).0 span c kept Contended → Answers a c hold kept span count (map place_number cs) (added.Contended (get_or cs i d))
+pub at_contended : (a b c : DeskView) (hold mid kept : HoldView) (span : Interval) (count i won : ℕ) (cs : List PlaceNo) (d : PlaceNo) → i < length cs → TriedSettled a b hold mid span (map place_number (take i cs)) won → won < count → TriesPlace b mid (get_or cs i d).0 span c kept Contended → AddsSo a c hold kept span count (map place_number cs) (added.Contended (get_or cs i d))
 at_contended a b c hold mid kept span count i won cs d inside so few did =
     let p = get_or cs i d in
     let places = map place_number (take i cs) in
@@ -201,7 +201,7 @@ at_contended a b c hold mid kept span count i won cs d inside so few did =
       (map place_number (drop (i + 1) cs), places_left cs (i + 1) ∙ ap (λ (x : List ℕ). x ++ map place_number (drop (i + 1) cs)) (places_more cs i d inside ∙ l.tried.are)),
     )
 
-pub won_last : (a b c : DeskView) (hold mid kept : HoldView) (span : Interval) (count i won : ℕ) (cs : List PlaceNo) (d : PlaceNo) → i < length cs → TriedSettled a b hold mid span (map place_number (take i cs)) won → won + 1 ≡ count → TriesPlace b mid (get_or cs i d).0 span c kept Won → Answers a c hold kept span count (map place_number cs) added.All
+pub won_last : (a b c : DeskView) (hold mid kept : HoldView) (span : Interval) (count i won : ℕ) (cs : List PlaceNo) (d : PlaceNo) → i < length cs → TriedSettled a b hold mid span (map place_number (take i cs)) won → won + 1 ≡ count → TriesPlace b mid (get_or cs i d).0 span c kept Won → AddsSo a c hold kept span count (map place_number cs) added.All
 won_last a b c hold mid kept span count i won cs d inside so many did =
     let p = get_or cs i d in
     let places = map place_number (take i cs) in
@@ -225,7 +225,7 @@ won_next a b c hold mid kept span i won cs d inside so did = next a b c hold mid
 pub refused_next : (a b c : DeskView) (hold mid kept : HoldView) (span : Interval) (i won : ℕ) (cs : List PlaceNo) (d : PlaceNo) → i < length cs → TriedSettled a b hold mid span (map place_number (take i cs)) won → TriesPlace b mid (get_or cs i d).0 span c kept Refused → TriedSettled a c hold kept span (map place_number (take (i + 1) cs)) won
 refused_next a b c hold mid kept span i won cs d inside so did = subst (TriedSettled a c hold kept span (map place_number (take (i + 1) cs))) (add-zero won) (next a b c hold mid kept span i won cs d Refused inside so (λ e. cc) did)
 
-pub at_end : (a b : DeskView) (hold kept : HoldView) (span : Interval) (count won n : ℕ) (cs : List PlaceNo) → length cs ≤ n → TriedSettled a b hold kept span (map place_number (take n cs)) won → won < count → Answers a b hold kept span count (map place_number cs) (added.NoPlace won)
+pub at_end : (a b : DeskView) (hold kept : HoldView) (span : Interval) (count won n : ℕ) (cs : List PlaceNo) → length cs ≤ n → TriedSettled a b hold kept span (map place_number (take n cs)) won → won < count → AddsSo a b hold kept span count (map place_number cs) (added.NoPlace won)
 at_end a b hold kept span count won n cs whole so few =
     answers a b hold kept span count (map place_number (take n cs)) (map place_number cs) (added.NoPlace won) so.tried (
       so.settled,

@@ -30,6 +30,7 @@ pub enum Added {
 /// `count` is at least 1, and the hold's items and those of `count` places are together at most 48. A hold keeps what
 /// it won: after another answer than `All` the caller abandons it. At most twenty entries are added for each candidate;
 /// where the span lies in one half nine, and a note for each place won.
+#[inline(never)]
 pub fn add_places(
     books: &Books,
     desk: &mut Desk,

@@ -28,7 +28,9 @@ pub enum Outcome {
     Contended,
 }
 
-/// Tries one candidate: each piece of the span in turn, until one isn't won. Then what was won of it is given back.
+/// Tries one candidate: each piece of the span in turn, until one isn't won. Then what was won of it is given back. Inlined,
+/// so that the loop over the candidates works out a piece's half and mask once.
+#[inline(always)]
 pub(crate) fn try_place(
     books: &Books,
     desk: &mut Desk,
@@ -54,6 +56,7 @@ pub(crate) fn try_place(
 }
 
 // The same, piece by piece.
+#[inline(never)]
 fn try_parts(books: &Books, desk: &mut Desk, hold: &mut Hold, place: PlaceNo, span: Span) -> Outcome
     requires own { IsOf books.now desk.old }
     requires hold { IsHolding desk.old hold.old }
@@ -118,6 +121,7 @@ fn try_second(
 // Looks at a piece, and takes its legs by one exchange on the very word that a look showed free there; where the word has
 // moved on and still is free, once more. Most looks of a full run show a taken leg, so what follows one that doesn't
 // stands apart.
+#[inline(always)]
 fn try_piece(
     books: &Books,
     desk: &mut Desk,
@@ -145,6 +149,7 @@ fn try_piece(
 }
 
 // Goes on with a piece that the first look showed free.
+#[inline(never)]
 fn take_shown(
     books: &Books,
     desk: &mut Desk,

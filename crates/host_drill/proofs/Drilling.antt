@@ -22,7 +22,7 @@ use Rattle.host_drill.specs.Drilled.{IsCatalogue, IsDrilled, connection_of, stat
 use Rattle.host_drill.specs.Worked.{all_replies_with}
 use Rattle.host_drill.proofs.Summing.{AllWorked, AreCrew, crew_of, whole_of}
 
--- a first desk that has taken in all has seen all
+-- a first desk that has joined all has seen all
 whole : (desk : DeskView) (n : ℕ) → IsFirst desk n 0 → IsWhole desk.number desk.parted desk.joined
 whole desk n first = (first.number, λ j low high. first.joined j low (subst (λ (m : ℕ). j ≤ m) first.parted high))
 

@@ -163,20 +163,20 @@ abbrev candidates_on : CatalogueView → ℕ → List ℕ
 candidates_on cat leg = candidates_in cat (offer_on leg) (leg_segment leg)
 
 -- what the adding answered, by how the placing ended
-abbrev pub Answers : Added → Placing → Type 0
-Answers added.All placing = placing ≡ Whole
-Answers (added.NoPlace won) placing = placing ≡ Short
-Answers (added.Contended place) placing = placing ≡ Contended
+abbrev pub EndsPlacing : Added → Placing → Type 0
+EndsPlacing added.All placing = placing ≡ Whole
+EndsPlacing (added.NoPlace won) placing = placing ≡ Short
+EndsPlacing (added.Contended place) placing = placing ≡ Contended
 
 -- places were added for the one segment
 pub record AddsOne (cat : CatalogueView) (leg row : ℕ) (placing : Placing) (items : List Item) (old new : DeskView) : Type 0 where
   pub answer : Added
-  pub ends : Answers answer placing
+  pub ends : EndsPlacing answer placing
   pub steps : List Step
   pub adds : Adds row 0 (on_leg leg) 1 (candidates_on cat leg) answer items steps
   pub shape : Shape old new steps
 
-ends_by : (answer : Added) (placing : Placing) → placing ≡ placing_of answer → Answers answer placing
+ends_by : (answer : Added) (placing : Placing) → placing ≡ placing_of answer → EndsPlacing answer placing
 ends_by added.All placing is = is
 ends_by (added.NoPlace won) placing is = is
 ends_by (added.Contended place) placing is = is
@@ -201,7 +201,7 @@ adds_one cat leg row placing items old new memory (inr none) = absurd (memory no
 
 -- the adding of a whole placing, of a short one, and of a contended one
 
-adding_whole : (leg : ℕ) (candidates : List ℕ) (tries : List Try) (answer : Added) → Answers answer Whole → IsAdding (on_leg leg) 1 candidates tries answer
+adding_whole : (leg : ℕ) (candidates : List ℕ) (tries : List Try) (answer : Added) → EndsPlacing answer Whole → IsAdding (on_leg leg) 1 candidates tries answer
     → IsAdding (on_leg leg) 1 candidates tries added.All
 adding_whole leg candidates tries added.All ends is = is
 adding_whole leg candidates tries (added.NoPlace won) ends is = absurd (let e : Whole ≡ Short = ends in cc)
@@ -211,7 +211,7 @@ adding_whole leg candidates tries (added.Contended place) ends is = absurd (let 
 abbrev TriesInVain : ℕ → List ℕ → List Try → Type 0
 TriesInVain leg candidates tries = AllRefused tries × (length (places_won tries) < 1) × (candidates ≡ tried tries)
 
-adding_short : (leg : ℕ) (candidates : List ℕ) (tries : List Try) (answer : Added) → Answers answer Short → IsAdding (on_leg leg) 1 candidates tries answer
+adding_short : (leg : ℕ) (candidates : List ℕ) (tries : List Try) (answer : Added) → EndsPlacing answer Short → IsAdding (on_leg leg) 1 candidates tries answer
     → TriesInVain leg candidates tries
 adding_short leg candidates tries added.All ends is = absurd (let e : Short ≡ Whole = ends in cc)
 adding_short leg candidates tries (added.NoPlace won) ends (settled, many, few, are) =
@@ -234,7 +234,7 @@ pub record TriesUpTo (leg : ℕ) (candidates : List ℕ) (tries : List Try) : Ty
   pub none : length (places_won tries) < 1
   pub candidates_are : candidates ≡ tried tries ++ left
 
-adding_contended : (leg : ℕ) (candidates : List ℕ) (tries : List Try) (answer : Added) → Answers answer Contended → IsAdding (on_leg leg) 1 candidates tries answer
+adding_contended : (leg : ℕ) (candidates : List ℕ) (tries : List Try) (answer : Added) → EndsPlacing answer Contended → IsAdding (on_leg leg) 1 candidates tries answer
     → TriesUpTo leg candidates tries
 adding_contended leg candidates tries added.All ends is = absurd (let e : Contended ≡ Whole = ends in cc)
 adding_contended leg candidates tries (added.NoPlace won) ends is = absurd (let e : Contended ≡ Short = ends in cc)

@@ -1,4 +1,4 @@
--- The first desk takes in the desks of connections that are done.
+-- The first desk joins the desks of connections that are done.
 use Rattle.std.proofs.Common.{◌≡◌, ◌≢◌, ◌∙◌, ◌+◌, ℕ, suc, List, [], ◌∷◌, ◌++◌, refl, sym, ap, subst, length, arith}
 use Rattle.rail_io.specs.Memory.{sink_taken}
 use Rattle.session_loop.specs.declared.end.ConnEnd.TheVariants.{Done}
@@ -18,7 +18,7 @@ use Rattle.drill_totals.proofs.Workers.{each_front}
 use Rattle.host_drill.specs.declared.connection.Connection.{Connection}
 use Rattle.host_drill.specs.Drilled.{IsDone, connection_of}
 
--- these connections are left, and those behind them are taken in and counted
+-- these connections are left, and those behind them are joined and counted
 pub record IsTaking (books : BooksView) (cat : CatalogueView) (said : DrillWords) (desk : DeskView) (left : List Connection) (refused busy : ℕ) : Type 0 where
   pub of : IsOf books desk
   pub idle : IsIdle desk
@@ -56,7 +56,7 @@ last_done books cat said left rest connection done is =
 pub not_first : (k n : ℕ) → n ≡ k + 1 → n ≢ 0
 not_first k n is zero' = (let e : ⊥ = omega (arith, is, zero') in e)
 
--- it is taken in
+-- its desk is joined
 pub takes_one : (books : BooksView) (cat : CatalogueView) (said : DrillWords) (desk new : DeskView) (left rest : List Connection) (connection : Connection)
     (refused busy refused_now busy_now : ℕ) → IsTaking books cat said desk left refused busy → left ≡ rest ++ connection ∷ []
     → IsOf books new → IsIdle new → HasMet desk connection.desk new → connection.end ≡ Done

@@ -1,5 +1,5 @@
 -- What a port of this machine keeps, and what its calls make of the system's answers.
-use Rattle.std.specs.Prelude.{ℕ, Bool, true, false, ◌==◌, ◌||◌, if◌then◌else◌}
+use Rattle.std.specs.Prelude.{◌≡◌, ◌≤◌, ◌+◌, ℕ, Bool, true, false, ◌==◌, ◌||◌, if◌then◌else◌, List, Option, None}
 use Rattle.host_io.specs.declared.tcp_port.TcpPort.{TcpPort}
 use Rattle.host_io.specs.declared.tcp_port.AfterRefusal.{AfterRefusal}
 use Rattle.host_io.specs.declared.tcp_port.AfterRefusal.TheVariants.{Fail, Again, Pause}
@@ -10,6 +10,14 @@ tcp_view l = record { port = l.port; limit = l.limit; handed = l.handed }
 
 abbrev pub tcp_faults : {N : Type 0} → TcpPort N → ℕ
 tcp_faults l = l.faults
+
+-- the later one has handed out no fewer
+abbrev pub IsLaterOf : {N : Type 0} → TcpPort N → TcpPort N → Type 0
+IsLaterOf first later = (tcp_view first).handed ≤ (tcp_view later).handed
+
+-- one stream more was handed out, which tells no content
+abbrev pub HandsUntold : {N : Type 0} → TcpPort N → Option (List ℕ) → Option (List ℕ) → TcpPort N → Type 0
+HandsUntold old stream sent new = ((tcp_view new).handed ≡ (tcp_view old).handed + 1) × (stream ≡ None) × (sent ≡ None)
 
 -- the seconds that a read may wait: between two requests, and inside one
 abbrev pub seconds_of : Bool → ℕ

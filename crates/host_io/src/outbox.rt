@@ -49,7 +49,8 @@ impl Model for Outbox {
 impl Outbox {
     /// An outbox that holds nothing back. It takes all its memory here.
     pub fn new(alloc: Global) -> Result<Outbox, AllocError>
-        ensures { IfOk result (λ outbox. outbox.held ≡ []) }
+        ensures held { IfOk result (λ outbox. outbox.held ≡ []) }
+        ensures unused { IfOk result (λ outbox. outbox.used ≡ 0) }
     {
         Ok(Outbox {
             bytes: Vec::with_capacity(alloc, HELD_ROOM)?,
@@ -57,13 +58,14 @@ impl Outbox {
         })
     }
 
-    /// Sends what is held back. Where the sink fails, what it hasn't got stays held.
+    /// Sends what is held back: then all the room is free again. Where the sink fails, what it hasn't got stays held.
     pub fn send<K: Sink>(&mut self, sink: &mut K) -> bool
         ensures told { with_end (K.told sink.new) (self.new.held) ≡ with_end (K.told sink.old) (self.old.held) }
         ensures all { result ≡ true → self.new.held ≡ [] }
         ensures never_falls { K.faults sink.old ≤ K.faults sink.new }
         ensures cause { result ≡ false → Rose (K.faults sink.old) (K.faults sink.new) }
         ensures steady { result ≡ true → K.faults sink.new ≡ K.faults sink.old }
+        ensures unused { result ≡ true → self.new.used ≡ 0 }
     {
         while self.sent < self.bytes.len() {
             match sink.write(&self.bytes[self.sent..]) {

@@ -1,12 +1,11 @@
 // A connection of a port: a reader and a sink that share its stream.
 ghost use Rattle.std.specs.Prelude.{◌≡◌, ◌≤◌, ◌<◌, ◌++◌, None, IfOk, length};
 ghost use Rattle.std.specs.Io.Slices.{io_slices_bytes};
-ghost use Rattle.rail_io.specs.Answers.{pushed_by};
 ghost use Rattle.rail_io.specs.Told.{Pushes, PushesBoth};
 ghost use Rattle.host_io.specs.Tcp.{seconds_of};
 
 use crate::outbox::Outbox;
-use rail_io::{Pushed, PushedBoth, Sink};
+use rail_io::{Pushed, PushedBoth, RETRIES, Sink, pushed_of};
 use std::alloc::Global;
 use std::io::{ErrorKind, IoSlice, Read};
 use std::net::{Shutdown, TcpStream};
@@ -20,9 +19,6 @@ const IDLE_SECONDS: u64 = 5;
 
 /// How many seconds a read waits inside a request, and a write.
 const STALLED_SECONDS: u64 = 30;
-
-/// How often a write that was interrupted is made once more before it counts as failed.
-const RETRIES: u32 = 1_000;
 
 /// How long a drain waits for each piece, how long it takes as a whole, and how many pieces it reads at most.
 const DRAIN_MILLISECONDS: u64 = 250;
@@ -62,15 +58,11 @@ fn send_some(stream: &TcpStream, pieces: &[IoSlice<'_>]) -> io::Result<usize>
     stream.write_vectored(pieces)
 }
 
-/// What a write means: so many bytes were taken. One that takes none counts as failed.
-fn pushed_of(answer: io::Result<usize>) -> Pushed
-    ensures { result ≡ pushed_by answer }
+/// Two pieces for one call of the system: the second stands behind the first.
+fn pieces_of<'a>(first: &'a [u8], second: &'a [u8]) -> [IoSlice<'a>; 2]
+    ensures { io_slices_bytes result ≡ first.now ++ second.now }
 {
-    match answer {
-        Ok(0) => Pushed::Failed,
-        Ok(count) => Pushed::Took(count),
-        Err(_) => Pushed::Failed,
-    }
+    [IoSlice::new(first), IoSlice::new(second)]
 }
 
 /// A stream as a sink that tells no content. Two pieces go out by one call of the system.
@@ -102,8 +94,8 @@ impl Sink for StreamSink<'_> {
     }
 
     fn write_both(&mut self, first: &[u8], second: &[u8]) -> PushedBoth {
-        let pieces = [IoSlice::new(first), IoSlice::new(second)];
-        let Pushed::Took(count) = pushed_of(send_some(self.stream, &pieces)) else {
+        let Pushed::Took(count) = pushed_of(send_some(self.stream, &pieces_of(first, second)))
+        else {
             self.faults = self.faults.saturating_add(1);
             return PushedBoth::Failed(0);
         };

@@ -1,7 +1,7 @@
 // A port of this machine as a listener. Its streams tell no content.
 ghost use Rattle.std.specs.Prelude.{◌≡◌, ◌≤◌};
 ghost use Rattle.rail_io.specs.Faults.{Rose};
-ghost use Rattle.host_io.specs.Tcp.{after_refusal as after_of, tcp_view, tcp_faults};
+ghost use Rattle.host_io.specs.Tcp.{after_refusal as after_of, tcp_view, tcp_faults, IsLaterOf, HandsUntold};
 
 use crate::socket::{SocketReader, SocketSink, halves_of};
 use rail_io::ReaderSource;
@@ -123,6 +123,10 @@ impl<N: Net<Listener = TcpListener, Stream = TcpStream> + time::Clock + Copy + D
     ghost told = { tcp_view };
 
     ghost faults = { tcp_faults };
+
+    ghost becomes = { IsLaterOf };
+
+    ghost hands = { HandsUntold };
 
     fn bind(&mut self, port: u16) -> Bound {
         match TcpListener::bind(&self.net, SocketAddr::from((Ipv4Addr::LOCALHOST, port))) {

@@ -14,15 +14,15 @@ use Rattle.host_serve.specs.Telling.{IsBefore}
 
 module _ (cat : CatalogueView) (kept : List KeptBooking) (plan : Layout) (files : Files) (said : ServeView) (left : Left)
     (books : HasBooks files said.catalogue said.from cat kept) (is : plan ≡ layout_with (legs_in cat) cat.rows kept) where
-  wall : IsSomeAnd left.wall (IsServedWall cat plan said.numbers left.clocks left.asks left.after.handed) → HasWall files said left
+  wall : IsSomeAnd left.wall (IsServedWall cat plan said.numbers left.clocks left.asks left.hands left.after.handed) → HasWall files said left
   wall has = record {
     cat = cat;
     kept = kept;
     books = books;
-    closed = subst (λ (l : Layout). IsSomeAnd left.wall (IsServedWall cat l said.numbers left.clocks left.asks left.after.handed)) is has;
+    closed = subst (λ (l : Layout). IsSomeAnd left.wall (IsServedWall cat l said.numbers left.clocks left.asks left.hands left.after.handed)) is has;
   }
 
-  pub books_ended : (o : ServeOutcome) → BooksEnd cat plan said.numbers left.clocks left.asks left.faults_before left.faults_after left.after left.wall o
+  pub books_ended : (o : ServeOutcome) → BooksEnd cat plan said.numbers left.clocks left.asks left.hands left.faults_before left.faults_after left.after left.wall o
       → Ends files said left o × IsBefore o
   books_ended end.Served r = ((r.0, wall r.1), tt)
   books_ended end.AcceptFailed r = ((r.0, wall r.1), tt)

@@ -1,12 +1,13 @@
 -- Chains of turns.
-use Rattle.std.proofs.Common.{◌≡◌, ◌∙◌, ◌+◌, ◌<◌, ◌≤◌, ℕ, zero, suc, Bool, true, false, List, [], ◌∷◌, ◌++◌, length, refl, sym, subst, arith}
+use Rattle.std.proofs.Common.{◌≡◌, ◌∙◌, ◌+◌, ◌<◌, ◌≤◌, ℕ, zero, suc, Bool, true, false, List, [], ◌∷◌, ◌++◌, Option, length, refl, sym, subst, arith}
 use Rattle.std.proofs.lemmas.List.{length-append}
 use Rattle.claim_rule.specs.Rule.{DeskView}
 use Rattle.rail_catalogue.specs.Contents.{CatalogueView}
+use Rattle.rail_service.specs.Listeners.{Handing, HandingBy}
 use Rattle.worker_pool.specs.Turns.{RunsToEnd}
 use Rattle.host_words.specs.declared.serve.Serving.{Serving as Numbers}
 use Rattle.worker_pool.proofs.Chains.{whole_run}
-use Rattle.host_serve.specs.Turns.{Readings, ServesTurn, SweepsTurn, Stand, OneTurn, Connection, Sweep, Leads, Chain, Asks, Counts, Ticks, HasEnded, DoesTurn, HasChain, IsPosted, handed_of, part_of, stand_of}
+use Rattle.host_serve.specs.Turns.{Readings, ServesOne, ServesTurn, SweepsTurn, Stand, OneTurn, Connection, Sweep, Leads, Chain, Asks, Counts, Ticks, HasEnded, DoesTurn, HasChain, IsPosted, handed_of, part_of, stand_of}
 use Rattle.host_serve.specs.declared.member.Post.{Post}
 use Rattle.host_serve.specs.declared.member.Post.TheVariants.{Serving, Sweeping}
 
@@ -40,14 +41,24 @@ chain_on Does k n a b c p q =
       leads = leads_on Does a p.stands b q.stands c p.leads q.leads;
     }
 
+-- what holds of each stream that was handed out so, in other words
+module _ (here there : Handing) (goes : (stream sent : Option (List ℕ)) → here stream sent → there stream sent) (cat : CatalogueView) where
+  pub one_so : (clock : Readings) (old : DeskView) (later : Readings) (new : DeskView) → ServesOne here cat clock old later new → ServesOne there cat clock old later new
+  one_so clock old later new did = (did.0, did.1, goes did.0 did.1 did.2, did.3)
+
+  turn_so : (clock : Readings) (old : DeskView) (later : Readings) (new : DeskView) (ended : Bool) → ServesTurn here cat clock old later new ended
+      → ServesTurn there cat clock old later new ended
+  turn_so clock old later new true did = did
+  turn_so clock old later new false did = one_so clock old later new did
+
 -- a turn is a chain
-serves : (cat : CatalogueView) (clock : Readings) (old : DeskView) (later : Readings) (new : DeskView) (ended : Bool) → ServesTurn cat clock old later new ended
+serves : (hands : Handing) (cat : CatalogueView) (clock : Readings) (old : DeskView) (later : Readings) (new : DeskView) (ended : Bool) → ServesTurn hands cat clock old later new ended
     → (before after : ℕ) → Counts ended before after
-    → (n : ℕ) × (after ≡ before + n) × Chain (Connection cat) n (record { desk = old; clock = clock }) (record { desk = new; clock = later })
-serves cat clock old later new true did before after counts =
-    (0, (let same = counts in omega (arith, same)), rests (Connection cat) clock old later new did.same did.unread)
-serves cat clock old later new false did before after counts =
-    (1, counts, one (Connection cat) (record { desk = old; clock = clock }) (record { desk = new; clock = later }) did)
+    → (n : ℕ) × (after ≡ before + n) × Chain (Connection hands cat) n (record { desk = old; clock = clock }) (record { desk = new; clock = later })
+serves hands cat clock old later new true did before after counts =
+    (0, (let same = counts in omega (arith, same)), rests (Connection hands cat) clock old later new did.same did.unread)
+serves hands cat clock old later new false did before after counts =
+    (1, counts, one (Connection hands cat) (record { desk = old; clock = clock }) (record { desk = new; clock = later }) did)
 
 sweeps : (clock : Readings) (old : DeskView) (later : Readings) (new : DeskView) (ended : Bool) → SweepsTurn clock old later new ended
     → (n : ℕ) × (n ≤ 1) × Chain Sweep n (record { desk = old; clock = clock }) (record { desk = new; clock = later })
@@ -64,19 +75,19 @@ ticks_on {T} ticked seconds k (suc n) a b c p q =
     let at : suc (k + n) ≡ k + suc n = omega arith in
     subst (λ (m : ℕ). Ticks ticked seconds m a c) at (q.0, ticks_on ticked seconds k n a b q.0 p q.1, q.2)
 
-module _ {S T C : Type 0} (told : C → Readings) (handed : S → ℕ) (ticked : T → ℕ → T → Type 0) where
-  still : (w : Post S T C) (d : DeskView) → HasChain told handed ticked w d w d
-  still (Serving w) d = (refl, 0, omega arith, no_turn (Connection w.common.cat.now) (record { desk = d; clock = told w.clock }))
+module _ {S T C : Type 0} (told : C → Readings) (handed : S → ℕ) (hands : Handing) (ticked : T → ℕ → T → Type 0) where
+  still : (w : Post S T C) (d : DeskView) → HasChain told handed hands ticked w d w d
+  still (Serving w) d = (refl, 0, omega arith, no_turn (Connection hands w.common.cat.now) (record { desk = d; clock = told w.clock }))
   still (Sweeping w) d = (refl, 0, 0, omega arith, refl, no_turn Sweep (record { desk = d; clock = told w.clock }))
 
-  next : (a : Post S T C) (x : DeskView) (b : Post S T C) (y : DeskView) (c : Post S T C) (z : DeskView) → HasChain told handed ticked a x b y
-      → HasChain told handed ticked b y c z → HasChain told handed ticked a x c z
+  next : (a : Post S T C) (x : DeskView) (b : Post S T C) (y : DeskView) (c : Post S T C) (z : DeskView) → HasChain told handed hands ticked a x b y
+      → HasChain told handed hands ticked b y c z → HasChain told handed hands ticked a x c z
   next (Serving a) x (Serving b) y (Serving c) z p q = (
     q.0 ∙ p.0,
     p.1 + q.1,
     (let k = p.2 in let n = q.2 in omega (arith, k, n)),
-    chain_on (Connection a.common.cat.now) p.1 q.1 (stand_of {S = S} {T = T} {C = C} told (Serving a) x) (stand_of {S = S} {T = T} {C = C} told (Serving b) y) (stand_of {S = S} {T = T} {C = C} told (Serving c) z) p.3
-        (subst (λ (cat : CatalogueView). Chain (Connection cat) q.1 (stand_of {S = S} {T = T} {C = C} told (Serving b) y) (stand_of {S = S} {T = T} {C = C} told (Serving c) z)) p.0 q.3),
+    chain_on (Connection hands a.common.cat.now) p.1 q.1 (stand_of {S = S} {T = T} {C = C} told (Serving a) x) (stand_of {S = S} {T = T} {C = C} told (Serving b) y) (stand_of {S = S} {T = T} {C = C} told (Serving c) z) p.3
+        (subst (λ (cat : CatalogueView). Chain (Connection hands cat) q.1 (stand_of {S = S} {T = T} {C = C} told (Serving b) y) (stand_of {S = S} {T = T} {C = C} told (Serving c) z)) p.0 q.3),
   )
   next (Sweeping a) x (Sweeping b) y (Sweeping c) z p q = (
     q.0 ∙ p.0,
@@ -91,38 +102,41 @@ module _ {S T C : Type 0} (told : C → Readings) (handed : S → ℕ) (ticked :
   next (Serving a) x (Serving b) y (Sweeping c) z p q = absurd q
   next (Sweeping a) x (Sweeping b) y (Serving c) z p q = absurd q
 
-  each : (w : Post S T C) (d : DeskView) (v : Post S T C) (e : DeskView) → DoesTurn told handed ticked w d v e → HasChain told handed ticked w d v e
-  each (Serving w) d (Serving v) e did =
-      let turn = serves w.common.cat.now (told w.clock) d (told v.clock) e v.ended did.2 (handed w.streams) (handed v.streams) did.1 in
-      (did.0, turn.0, turn.1, turn.2)
-  each (Sweeping w) d (Sweeping v) e did =
-      let turn = sweeps (told w.clock) d (told v.clock) e v.ended did.2 in
-      (did.0, turn.0, 1, turn.1, (w.ticker, refl, did.1), turn.2)
-  each (Serving w) d (Sweeping v) e did = absurd did
-  each (Sweeping w) d (Serving v) e did = absurd did
+  module _ (gives : HandingBy S) (only : (s : S) (stream sent : Option (List ℕ)) (t : S) → gives s stream sent t → hands stream sent) where
+    each : (w : Post S T C) (d : DeskView) (v : Post S T C) (e : DeskView) → DoesTurn told handed gives ticked w d v e → HasChain told handed hands ticked w d v e
+    each (Serving w) d (Serving v) e did =
+        let did_so = turn_so (λ stream sent. gives w.streams stream sent v.streams) hands (λ stream sent. only w.streams stream sent v.streams) w.common.cat.now
+        (told w.clock) d (told v.clock) e v.ended did.2 in
+        let turn = serves hands w.common.cat.now (told w.clock) d (told v.clock) e v.ended did_so (handed w.streams) (handed v.streams) did.1 in
+        (did.0, turn.0, turn.1, turn.2)
+    each (Sweeping w) d (Sweeping v) e did =
+        let turn = sweeps (told w.clock) d (told v.clock) e v.ended did.2 in
+        (did.0, turn.0, 1, turn.1, (w.ticker, refl, did.1), turn.2)
+    each (Serving w) d (Sweeping v) e did = absurd did
+    each (Sweeping w) d (Serving v) e did = absurd did
 
-  -- the turns of a member to its end are a chain
-  pub all_turns : (before : Post S T C) (old : DeskView) (after : Post S T C) (new : DeskView)
-      → RunsToEnd (DoesTurn told handed ticked) HasEnded before old after new → HasChain told handed ticked before old after new
-  all_turns before old after new run =
-      whole_run (DoesTurn told handed ticked) HasEnded (HasChain told handed ticked) still next each before old after new run
+    -- the turns of a member to its end are a chain
+    pub all_turns : (before : Post S T C) (old : DeskView) (after : Post S T C) (new : DeskView)
+        → RunsToEnd (DoesTurn told handed gives ticked) HasEnded before old after new → HasChain told handed hands ticked before old after new
+    all_turns before old after new run =
+        whole_run (DoesTurn told handed gives ticked) HasEnded (HasChain told handed hands ticked) still next each before old after new run
 
   -- Of a member that serves, which was handed out no stream before: as many connections as it was handed out. It has one part of the ledger.
   pub serving_chain : (cat : CatalogueView) (said : Numbers) (ticker : T) (i : ℕ) (w : Post S T C) (old : DeskView) (v : Post S T C) (new : DeskView)
-      → i < said.workers → IsPosted cat said ticker i w → handed_of w handed ≡ 0 → HasChain told handed ticked w old v new
-      → (part_of v ≡ 1) × Chain (Connection cat) (handed_of v handed) (stand_of told w old) (stand_of told v new)
+      → i < said.workers → IsPosted cat said ticker i w → handed_of w handed ≡ 0 → HasChain told handed hands ticked w old v new
+      → (part_of v ≡ 1) × Chain (Connection hands cat) (handed_of v handed) (stand_of told w old) (stand_of told v new)
   serving_chain cat said ticker i (Serving w) old (Serving v) new lt post none chain =
       let many : chain.1 ≡ handed v.streams = (let more = chain.2 in omega (arith, more, none)) in (
         refl,
-        subst (λ (n : ℕ). Chain (Connection cat) n (stand_of {S = S} {T = T} {C = C} told (Serving w) old) (stand_of {S = S} {T = T} {C = C} told (Serving v) new)) many
-            (subst (λ (c : CatalogueView). Chain (Connection c) chain.1 (stand_of {S = S} {T = T} {C = C} told (Serving w) old) (stand_of {S = S} {T = T} {C = C} told (Serving v) new)) post.1 chain.3),
+        subst (λ (n : ℕ). Chain (Connection hands cat) n (stand_of {S = S} {T = T} {C = C} told (Serving w) old) (stand_of {S = S} {T = T} {C = C} told (Serving v) new)) many
+            (subst (λ (c : CatalogueView). Chain (Connection hands c) chain.1 (stand_of {S = S} {T = T} {C = C} told (Serving w) old) (stand_of {S = S} {T = T} {C = C} told (Serving v) new)) post.1 chain.3),
       )
   serving_chain cat said ticker i (Serving w) old (Sweeping v) new lt post none chain = absurd chain
   serving_chain cat said ticker i (Sweeping w) old v new lt post none chain = (let at = post.0 in absurd (omega (arith, lt, at)))
 
   -- of the one that sweeps, which has none
   pub sweeping_chain : (cat : CatalogueView) (said : Numbers) (ticker : T) (i : ℕ) (w : Post S T C) (old : DeskView) (v : Post S T C) (new : DeskView)
-      → said.workers ≡ i → IsPosted cat said ticker i w → HasChain told handed ticked w old v new
+      → said.workers ≡ i → IsPosted cat said ticker i w → HasChain told handed hands ticked w old v new
       → (sweeps ticks : ℕ) × (sweeps ≤ ticks) × Asks ticked ticker said.sweep ticks × Chain Sweep sweeps (stand_of told w old) (stand_of told v new)
       × (part_of v ≡ 0) × (handed_of v handed ≡ 0)
   sweeping_chain cat said ticker i (Sweeping w) old (Sweeping v) new at post chain = (

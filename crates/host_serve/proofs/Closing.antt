@@ -1,5 +1,5 @@
 -- The wall that is handed back.
-use Rattle.std.proofs.Common.{◌≡◌, ◌∙◌, ◌+◌, ◌<◌, ◌≤◌, ℕ, zero, suc, List, [], length, slice_index_or, refl, sym, subst, ap, arith, append-nil}
+use Rattle.std.proofs.Common.{◌≡◌, ◌∙◌, ◌+◌, ◌<◌, ◌≤◌, ℕ, zero, suc, List, [], Option, length, slice_index_or, refl, sym, subst, ap, arith, append-nil}
 use Rattle.std.proofs.Math.Logic.{⊎_elim}
 use Rattle.std.proofs.lemmas.Bool.{cases_lt}
 use Rattle.std.specs.Prelude.{All}
@@ -18,6 +18,7 @@ use Rattle.worker_pool.specs.declared.member.Member.{Member}
 use Rattle.worker_pool.proofs.Chains.{keeps_on}
 use Rattle.cold_store.specs.Tidy.{AreSucceeded, IsTidyWall}
 use Rattle.rail_catalogue.specs.Contents.{CatalogueView}
+use Rattle.rail_service.specs.Listeners.{Handing, HandingBy}
 use Rattle.host_words.specs.declared.serve.Serving.{Serving}
 use Rattle.host_serve.specs.declared.member.Post.{Post}
 use Rattle.host_serve.specs.Crews.{OnlyMet, AreReady, IsCrew, HasMetAll, HasRun, Held, of_member, sum_below}
@@ -34,13 +35,13 @@ pub record IsFit (g : Layout) : Type 0 where
   pub rows : g.rows ≤ most_rows
 
 -- Each desk has what it did from a time between two calls of the service, so the wall is free for an export.
-pub served_wall : (cat : CatalogueView) (said : Serving) (clocks : List Readings) (asks : ℕ → ℕ → Type 0) (total : ℕ) (books : BooksView) (desk : DeskView)
+pub served_wall : (cat : CatalogueView) (said : Serving) (clocks : List Readings) (asks : ℕ → ℕ → Type 0) (hands : Handing) (total : ℕ) (books : BooksView) (desk : DeskView)
     (wall : WallView)
     → IsOf books desk → IsTidy desk → AreSucceeded books.layout.opening → wall.layout ≡ books.layout → IsFit wall.layout
     → Finishes books.layout desk wall.words wall.history → IsWhole desk.number desk.parted desk.joined → desk.parted ≡ said.workers + 1 → OnlyMet desk.seen
-    → AllWorked cat books said clocks asks total desk.seen
-    → ((n : ℕ) → 1 ≤ n → n ≤ said.workers + 1 → IsRested books.layout desk.seen n) → IsServedWall cat books.layout said clocks asks total wall
-served_wall cat said clocks asks total books desk wall of tidy succeeded same fit ends whole made meets worked rests =
+    → AllWorked cat books said clocks asks hands total desk.seen
+    → ((n : ℕ) → 1 ≤ n → n ≤ said.workers + 1 → IsRested books.layout desk.seen n) → IsServedWall cat books.layout said clocks asks hands total wall
+served_wall cat said clocks asks hands total books desk wall of tidy succeeded same fit ends whole made meets worked rests =
     let seen : desk.seen ≡ wall.history = sym (ends.whole whole) in
     record {
       books = books;
@@ -55,7 +56,7 @@ served_wall cat said clocks asks total books desk wall of tidy succeeded same fi
       tidy = subst (λ (l : Layout). IsTidyWall (record { layout = l; words = wall.words; history = wall.history })) (sym same)
           (tidy_wall books.layout wall.history ends.legal all wall.words succeeded (subst (λ (l : Layout). l.rows ≤ most_rows) same fit.rows));
       first = subst (λ (h : List Entry). OnlyMet h) seen meets;
-      worked = subst (λ (h : List Entry). AllWorked cat books said clocks asks total h) seen worked;
+      worked = subst (λ (h : List Entry). AllWorked cat books said clocks asks hands total h) seen worked;
       no_others = λ n beyond. ends.no_others whole.0 n (omega (arith, made, beyond));
     }
   where
@@ -76,7 +77,7 @@ served_wall cat said clocks asks total books desk wall of tidy succeeded same fi
     all zero = first
     all (suc n) = some (suc n) (omega arith)
 
--- a member has worked, from the desk that it stood at to the one that was taken in
+-- a member has worked, from the desk that it stood at to the one that was joined
 pub has_worked : (Does : OneTurn) (books : BooksView) (n : ℕ) (clock : Readings) (count : ℕ) (old new : Stand) (history : List Entry) → IsOf books old.desk
     → IsOf books new.desk → old.desk.number ≡ n → old.clock ≡ clock → own old.desk.seen n ≡ [] → KeepsDesk old.desk new.desk
     → Chain Does count old new → own history n ≡ own new.desk.seen n → IsPrefix new.desk.seen history → HasWorked Does books history n clock count
@@ -95,16 +96,17 @@ has_worked Does books n clock count old new history began_of ended_of number sta
   entries = entries;
 }
 
-module _ {S T C : Type 0} (handed : S → ℕ) (told : C → Readings) (ticked : T → ℕ → T → Type 0) (cat : CatalogueView) (said : Serving) (ticker : T)
+module _ {S T C : Type 0} (handed : S → ℕ) (gives : HandingBy S) (hands : Handing)
+    (only : (s : S) (stream sent : Option (List ℕ)) (t : S) → gives s stream sent t → hands stream sent) (told : C → Readings) (ticked : T → ℕ → T → Type 0) (cat : CatalogueView) (said : Serving) (ticker : T)
     (clocks : List Readings) (books : BooksView) (old : List (Member (Post S T C))) (before after : Held) (first : DeskView) (member : Member (Post S T C))
     (crew : IsCrew FitsBooks books old) (ready : AreReady old handed told cat said ticker clocks) (count : length old ≡ said.workers + 1) (some : 1 ≤ said.workers)
-    (run : HasRun FitsBooks (DoesTurn told handed ticked) HasEnded part_of (λ w. handed_of w handed) books old before after first member) where
+    (run : HasRun FitsBooks (DoesTurn told handed gives ticked) HasEnded part_of (λ w. handed_of w handed) books old before after first member) where
   behind : (i : ℕ) → i < length old → i < length run.crew
   behind i lt = omega (arith, lt, run.count)
 
-  chain : (i : ℕ) → i < length old → HasChain told handed ticked (slice_index_or old i member).worker (slice_index_or old i member).desk
+  chain : (i : ℕ) → i < length old → HasChain told handed hands ticked (slice_index_or old i member).worker (slice_index_or old i member).desk
       (slice_index_or run.crew i member).worker (slice_index_or run.crew i member).desk
-  chain i lt = all_turns told handed ticked (slice_index_or old i member).worker (slice_index_or old i member).desk (slice_index_or run.crew i member).worker
+  chain i lt = all_turns told handed hands ticked gives only (slice_index_or old i member).worker (slice_index_or old i member).desk (slice_index_or run.crew i member).worker
       (slice_index_or run.crew i member).desk (run.turns i member lt)
 
   last : said.workers < length old
@@ -118,17 +120,17 @@ module _ {S T C : Type 0} (handed : S → ℕ) (told : C → Readings) (ticked :
       let i : ℕ = said.workers in
       let w = slice_index_or old i member in
       let v = slice_index_or run.crew i member in
-      sweeping_chain told handed ticked cat said ticker i w.worker w.desk v.worker v.desk refl (ready i member last).post (chain i last)
+      sweeping_chain told handed hands ticked cat said ticker i w.worker w.desk v.worker v.desk refl (ready i member last).post (chain i last)
 
   serves : (i : ℕ) → i < said.workers → (part_of (slice_index_or run.crew i member).worker ≡ 1)
-      × Chain (Connection cat) (handed_of (slice_index_or run.crew i member).worker handed)
+      × Chain (Connection hands cat) (handed_of (slice_index_or run.crew i member).worker handed)
       (stand_of told (slice_index_or old i member).worker (slice_index_or old i member).desk)
       (stand_of told (slice_index_or run.crew i member).worker (slice_index_or run.crew i member).desk)
   serves i less =
       let lt : i < length old = omega (arith, count, less) in
       let w = slice_index_or old i member in
       let v = slice_index_or run.crew i member in
-      serving_chain told handed ticked cat said ticker i w.worker w.desk v.worker v.desk less (ready i member lt).post (ready i member lt).unserved (chain i lt)
+      serving_chain told handed hands ticked cat said ticker i w.worker w.desk v.worker v.desk less (ready i member lt).post (ready i member lt).unserved (chain i lt)
 
   -- the parts and the streams of all members
   parts_sum : sum_below (of_member part_of run.crew member) (length run.crew) ≡ said.workers
@@ -175,12 +177,12 @@ module _ {S T C : Type 0} (handed : S → ℕ) (told : C → Readings) (ticked :
         → (own new.seen (i + 1) ≡ own (slice_index_or run.crew i member).desk.seen (i + 1)) × IsPrefix (slice_index_or run.crew i member).desk.seen new.seen
     entries met i low lt = has_in books run.crew first other new run.met met i member low (behind i lt)
 
-    -- All that the members of a crew did stands in what the first desk has seen. The first member's desk served on, and was taken in last. All
+    -- All that the members of a crew did stands in what the first desk has seen. The first member's desk served on, and was joined last. All
     -- the streams together are as many as the holder of all shares had counted, and those that were served on.
     pub all_worked : (more amount total : ℕ) → before.amount ≡ 0 → amount ≡ after.amount + handed_of member.worker handed → total ≡ amount + more
         → clock ≡ told (clock_of member.worker) → KeepsDesk member.desk other
-        → Chain (Connection cat) more (record { desk = member.desk; clock = clock }) (record { desk = other; clock = later })
-        → IsOf books other → HasMet first other new → AllWorked cat books said clocks (Asks ticked ticker) total new.seen
+        → Chain (Connection hands cat) more (record { desk = member.desk; clock = clock }) (record { desk = other; clock = later })
+        → IsOf books other → HasMet first other new → AllWorked cat books said clocks (Asks ticked ticker) hands total new.seen
     all_worked more amount total began has sums read kept left of met = record {
       served = served_by more;
       serving = serving;
@@ -211,38 +213,38 @@ module _ {S T C : Type 0} (handed : S → ℕ) (told : C → Readings) (ticked :
             (ready i member last).none (run.keeps i member last) swept.4 (entries met i some last).0 (entries met i some last).1
 
         later_one : (i : ℕ) → 1 ≤ i → i < said.workers
-            → HasWorked (Connection cat) books new.seen (i + 1) (clock_for clocks i) (handed_of (slice_index_or run.crew i member).worker handed)
+            → HasWorked (Connection hands cat) books new.seen (i + 1) (clock_for clocks i) (handed_of (slice_index_or run.crew i member).worker handed)
         later_one i low less =
             let lt : i < length old = omega (arith, count, less) in
             let w = slice_index_or old i member in
             let v = slice_index_or run.crew i member in
-            has_worked (Connection cat) books (i + 1) (clock_for clocks i) (handed_of v.worker handed) (stand_of told w.worker w.desk) (stand_of told v.worker v.desk) new.seen
+            has_worked (Connection hands cat) books (i + 1) (clock_for clocks i) (handed_of v.worker handed) (stand_of told w.worker w.desk) (stand_of told v.worker v.desk) new.seen
             (crew i member lt).desk.own (run.are i member (behind i lt)).desk.own (crew i member lt).desk.number (ready i member lt).clock
             (ready i member lt).none (run.keeps i member lt) (serves i less).1 (entries met i low lt).0 (entries met i low lt).1
 
-        first_one : HasWorked (Connection cat) books new.seen (0 + 1) (clock_for clocks 0) (handed_of member.worker handed + more)
+        first_one : HasWorked (Connection hands cat) books new.seen (0 + 1) (clock_for clocks 0) (handed_of member.worker handed + more)
         first_one =
             let lt : 0 < length old = omega (arith, count) in
             let w = slice_index_or old 0 member in
             let left_is : slice_index_or run.crew 0 member ≡ member = sym (run.left member) in
             let keeps : KeepsDesk w.desk member.desk = subst (λ (m : Member (Post S T C)). KeepsDesk w.desk m.desk) left_is (run.keeps 0 member lt) in
-            let before_it = subst (λ (m : Member (Post S T C)). Chain (Connection cat) (handed_of m.worker handed) (stand_of told w.worker w.desk) (stand_of told m.worker m.desk))
+            let before_it = subst (λ (m : Member (Post S T C)). Chain (Connection hands cat) (handed_of m.worker handed) (stand_of told w.worker w.desk) (stand_of told m.worker m.desk))
             left_is (serves 0 some).1 in
-            let behind_it = subst (λ (r : Readings). Chain (Connection cat) more (record { desk = member.desk; clock = r }) (record { desk = other; clock = later })) read left in
+            let behind_it = subst (λ (r : Readings). Chain (Connection hands cat) more (record { desk = member.desk; clock = r }) (record { desk = other; clock = later })) read left in
             let number : other.number ≡ 1 = kept.number ∙ run.is.desk.number in
-            has_worked (Connection cat) books (0 + 1) (clock_for clocks 0) (handed_of member.worker handed + more) (stand_of told w.worker w.desk)
+            has_worked (Connection hands cat) books (0 + 1) (clock_for clocks 0) (handed_of member.worker handed + more) (stand_of told w.worker w.desk)
             (record { desk = other; clock = later }) new.seen
             (crew 0 member lt).desk.own of (crew 0 member lt).desk.number (ready 0 member lt).clock (ready 0 member lt).none
             (keeps_on w.desk member.desk other keeps kept)
-            (chain_on (Connection cat) (handed_of member.worker handed) more (stand_of told w.worker w.desk) (stand_of told member.worker member.desk)
+            (chain_on (Connection hands cat) (handed_of member.worker handed) more (stand_of told w.worker w.desk) (stand_of told member.worker member.desk)
             (record { desk = other; clock = later }) before_it behind_it)
             (subst (λ (k : ℕ). own new.seen k ≡ own other.seen k) number met.theirs.0) met.other_front
 
-        serving : (i : ℕ) → i < said.workers → HasWorked (Connection cat) books new.seen (i + 1) (clock_for clocks i) (served_by more i)
+        serving : (i : ℕ) → i < said.workers → HasWorked (Connection hands cat) books new.seen (i + 1) (clock_for clocks i) (served_by more i)
         serving zero less = first_one
         serving (suc i) less = later_one (suc i) (omega arith) less
 
--- The members' desks are tidy, and the first desk has taken in what each did. The first member's is another one by then, and was taken in last.
+-- The members' desks are tidy, and the first desk has joined them, with what each did. The first member's is another one by then, and was joined last.
 pub all_rested : {W : Type 0} (Fits : W → BooksView → Type 0) (books : BooksView) (crew : List (Member W)) (none : Member W) (first other new : DeskView)
     → IsCrew Fits books crew → HasMetAll books crew 1 first → IsOf books other → IsTidy other → other.number ≡ 1 → HasMet first other new
     → (n : ℕ) → 1 ≤ n → n ≤ length crew → IsRested books.layout new.seen n

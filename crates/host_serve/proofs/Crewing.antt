@@ -106,7 +106,7 @@ module _ {W : Type 0} (Fits : W → BooksView → Type 0) (books : BooksView) wh
   pub front_of : (all crew : List (Member W)) (m : Member W) → IsPrefix (crew ++ m ∷ []) all → IsPrefix crew all
   front_of all crew m front = (m ∷ front.0, sym (append_assoc crew (m ∷ []) front.0) ∙ front.1)
 
--- no desk was taken in yet
+-- no desk was joined yet
 pub none_met : {W : Type 0} (books : BooksView) (crew : List (Member W)) (desk : DeskView) → IsFirst books (length crew) desk → HasMetAll books crew (length crew) desk
 none_met books crew desk first = record {
   own = first.own;
@@ -117,7 +117,7 @@ none_met books crew desk first = record {
   met = λ i none low high. absurd (omega (arith, low, high));
 }
 
--- one desk more is taken in
+-- one desk more is joined
 pub met_one : {W : Type 0} (Fits : W → BooksView → Type 0) (books : BooksView) (all crew : List (Member W)) (m : Member W) (old new : DeskView)
     → IsPrefix (crew ++ m ∷ []) all → IsMember Fits books (length crew + 1) m → HasMetAll books all (length crew + 1) old
     → HasMet old m.desk new → IsOf books new → IsTidy new → HasMetAll books all (length crew) new
@@ -241,7 +241,7 @@ after_run Fits books old crew is count fits of tidy keeps i none lt =
       };
     }
 
--- The first desk has taken in all others once it has met the first member's
+-- The first desk has joined all others once it has met the first member's
 pub complete : {W : Type 0} (books : BooksView) (crew : List (Member W)) (none : Member W) (first other new : DeskView) → HasMetAll books crew 1 first
     → HasMet first other new → other.number ≡ 1 → IsWhole new.number new.parted new.joined × (new.parted ≡ length crew)
 complete {W} books crew none first other new all met number =

@@ -7,3 +7,4 @@ pub mod Ending
 pub mod BooksEnded
 pub mod Tidying
 pub mod Telling
+pub mod Worded

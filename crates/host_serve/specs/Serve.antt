@@ -12,7 +12,7 @@ use Rattle.claim_rule.specs.Walls.{WallView, Finishes}
 use Rattle.cold_store.specs.Exports.{IsClosed}
 use Rattle.cold_store.specs.Tidy.{IsTidyWall}
 use Rattle.rail_catalogue.specs.Contents.{CatalogueView, legs_in}
-use Rattle.rail_service.specs.Listeners.{ListenerView}
+use Rattle.rail_service.specs.Listeners.{Handing, ListenerView}
 use Rattle.host_words.specs.Serve.{ServeView, serve_words}
 use Rattle.host_words.specs.declared.serve.Serving.{Serving}
 use Rattle.host_catalogue.specs.Files.{Files, HasCause}
@@ -62,10 +62,10 @@ pub record HasWorked (Does : OneTurn) (books : BooksView) (history : List Entry)
 
 -- In the history the desks 1 to the number of workers served connections, so many all together, and the one behind them swept, each by its
 -- own of the clocks. For each sweep the ticker was asked once at least for a tick, and each time after the words' seconds.
-pub record AllWorked (cat : CatalogueView) (books : BooksView) (said : Serving) (clocks : List Readings) (asks : ℕ → ℕ → Type 0) (total : ℕ)
+pub record AllWorked (cat : CatalogueView) (books : BooksView) (said : Serving) (clocks : List Readings) (asks : ℕ → ℕ → Type 0) (hands : Handing) (total : ℕ)
     (history : List Entry) : Type 0 where
   pub served : ℕ → ℕ
-  pub serving : (i : ℕ) → i < said.workers → HasWorked (Connection cat) books history (i + 1) (clock_for clocks i) (served i)
+  pub serving : (i : ℕ) → i < said.workers → HasWorked (Connection hands cat) books history (i + 1) (clock_for clocks i) (served i)
   pub together : sum_below served said.workers ≡ total
   pub sweeps : ℕ
   pub sweeping : HasWorked Sweep books history (said.workers + 1) (clock_for clocks said.workers) sweeps
@@ -87,14 +87,14 @@ pub record IsWallOf (books : BooksView) (others : ℕ) (wall : WallView) : Type 
 -- The wall is that of the books at which the members served, and these have this layout. Its words are those of its history, which is legal,
 -- and it is free for an export. In the history the first desk only met others, and the members' entries are those of all their turns at these
 -- books: so many connections all together, and the sweeps. No desk beyond these has any.
-pub record IsServedWall (cat : CatalogueView) (plan : Layout) (said : Serving) (clocks : List Readings) (asks : ℕ → ℕ → Type 0) (total : ℕ) (wall : WallView) : Type 0 where
+pub record IsServedWall (cat : CatalogueView) (plan : Layout) (said : Serving) (clocks : List Readings) (asks : ℕ → ℕ → Type 0) (hands : Handing) (total : ℕ) (wall : WallView) : Type 0 where
   pub books : BooksView
   pub layout : books.layout ≡ plan
   pub of : IsWallOf books (said.workers + 1) wall
   pub closed : IsClosed wall
   pub tidy : IsTidyWall wall
   pub first : OnlyMet wall.history
-  pub worked : AllWorked cat books said clocks asks total wall.history
+  pub worked : AllWorked cat books said clocks asks hands total wall.history
   pub no_others : (n : ℕ) → said.workers + 1 < n → own wall.history n ≡ []
 
 -- what the listener told and how often it had failed, before and after; what the clocks told, and whether the ticker was asked for a tick
@@ -104,6 +104,7 @@ pub record Left : Type 1 where
   pub before : ListenerView
   pub clocks : List Readings
   pub asks : ℕ → ℕ → Type 0
+  pub hands : Handing
   pub faults_after : ℕ
   pub after : ListenerView
   pub wall : Option WallView
@@ -114,7 +115,7 @@ pub record HasWall (files : Files) (said : ServeView) (left : Left) : Type 0 whe
   pub cat : CatalogueView
   pub kept : List KeptBooking
   pub books : HasBooks files said.catalogue said.from cat kept
-  pub closed : IsSomeAnd left.wall (IsServedWall cat (layout_with (legs_in cat) cat.rows kept) said.numbers left.clocks left.asks left.after.handed)
+  pub closed : IsSomeAnd left.wall (IsServedWall cat (layout_with (legs_in cat) cat.rows kept) said.numbers left.clocks left.asks left.hands left.after.handed)
 
 -- There are books that the words ask for: the catalogue is there, and the export, if one is named.
 pub record HasOpened (files : Files) (said : ServeView) : Type 0 where
@@ -157,17 +158,17 @@ Ends files said left end.Refused = ⊥
 
 -- books with this layout were served and closed so, by these clocks and this ticker, from a count of faults of the listener to one with what
 -- it then told
-abbrev pub BooksEnd : CatalogueView → Layout → Serving → List Readings → (ℕ → ℕ → Type 0) → ℕ → ℕ → ListenerView → Option WallView → ServeOutcome → Type 0
-BooksEnd cat plan said clocks asks before after view wall end.Served =
-    IsSpent said before after view × IsSomeAnd wall (IsServedWall cat plan said clocks asks view.handed)
-BooksEnd cat plan said clocks asks before after view wall end.AcceptFailed =
-    HasFailed said before after view × IsSomeAnd wall (IsServedWall cat plan said clocks asks view.handed)
-BooksEnd cat plan said clocks asks before after view wall end.Unwritten = ⊥
-BooksEnd cat plan said clocks asks before after view wall end.NoText = ⊥
-BooksEnd cat plan said clocks asks before after view wall end.NotBound = ⊥
-BooksEnd cat plan said clocks asks before after view wall end.NoMemory = (wall ≡ None) × (view.handed ≡ 0) × (after ≡ before)
-BooksEnd cat plan said clocks asks before after view wall (end.NotLoaded fault) = ⊥
-BooksEnd cat plan said clocks asks before after view wall end.Refused = ⊥
+abbrev pub BooksEnd : CatalogueView → Layout → Serving → List Readings → (ℕ → ℕ → Type 0) → Handing → ℕ → ℕ → ListenerView → Option WallView → ServeOutcome → Type 0
+BooksEnd cat plan said clocks asks hands before after view wall end.Served =
+    IsSpent said before after view × IsSomeAnd wall (IsServedWall cat plan said clocks asks hands view.handed)
+BooksEnd cat plan said clocks asks hands before after view wall end.AcceptFailed =
+    HasFailed said before after view × IsSomeAnd wall (IsServedWall cat plan said clocks asks hands view.handed)
+BooksEnd cat plan said clocks asks hands before after view wall end.Unwritten = ⊥
+BooksEnd cat plan said clocks asks hands before after view wall end.NoText = ⊥
+BooksEnd cat plan said clocks asks hands before after view wall end.NotBound = ⊥
+BooksEnd cat plan said clocks asks hands before after view wall end.NoMemory = (wall ≡ None) × (view.handed ≡ 0) × (after ≡ before)
+BooksEnd cat plan said clocks asks hands before after view wall (end.NotLoaded fault) = ⊥
+BooksEnd cat plan said clocks asks hands before after view wall end.Refused = ⊥
 
 -- The command ran so. Words that are refused leave all as it was.
 abbrev pub Runs : List (List ℕ) → Files → Left → ServeOutcome → Type 0

@@ -9,6 +9,7 @@ use Rattle.rail_catalogue.specs.Contents.{CatalogueView, legs_in}
 use Rattle.expiry_sweeper.specs.AllRows.{Sweeps}
 use Rattle.booking_rows.specs.declared.swept.Swept.{Swept}
 use Rattle.rail_service.specs.Connections.{IsReading, HasServed}
+use Rattle.rail_service.specs.Listeners.{Handing, HandingBy, HandsOn, IsGiven}
 use Rattle.host_words.specs.declared.serve.Serving.{Serving as Numbers}
 use Rattle.host_serve.specs.declared.member.Post.{Post}
 use Rattle.host_serve.specs.declared.member.Post.TheVariants.{Serving, Sweeping}
@@ -47,10 +48,14 @@ pub record ServesStream (cat : CatalogueView) (stream sent : Option (List ℕ)) 
   pub end : ConnEnd
   pub served : HasServed cat (record { desk = old; first = None; clock = clock }) (record { desk = new; first = first; clock = later }) taken left written end
 
--- one stream was served
-abbrev pub ServesOne : CatalogueView → Readings → DeskView → Readings → DeskView → Type 0
-ServesOne cat clock old later new =
-    (stream : Option (List ℕ)) × (sent : Option (List ℕ)) × ServesStream cat stream sent clock old later new
+-- behind some calls of this listener, an accept of it handed out the stream
+abbrev pub HandedBy : {L : Type 0} → (L → L → Type 0) → HandingBy L → L → Handing
+HandedBy becomes hands listener = IsGiven (HandsOn becomes hands listener)
+
+-- one stream was served, which was handed out so
+abbrev pub ServesOne : Handing → CatalogueView → Readings → DeskView → Readings → DeskView → Type 0
+ServesOne hands cat clock old later new =
+    (stream : Option (List ℕ)) × (sent : Option (List ℕ)) × hands stream sent × ServesStream cat stream sent clock old later new
 
 -- All rows were swept once, at the clock's next reading.
 pub record SweepsOnce (clock : Readings) (old : DeskView) (later : Readings) (new : DeskView) : Type 0 where
@@ -73,9 +78,9 @@ pub record Stand : Type 0 where
 abbrev pub OneTurn : Type 1
 OneTurn = Stand → Stand → Type 0
 
--- one connection of the catalogue; one sweep
-abbrev pub Connection : CatalogueView → OneTurn
-Connection cat old new = ServesOne cat old.clock old.desk new.clock new.desk
+-- one connection of the catalogue, by a stream handed out so; one sweep
+abbrev pub Connection : Handing → CatalogueView → OneTurn
+Connection hands cat old new = ServesOne hands cat old.clock old.desk new.clock new.desk
 
 abbrev pub Sweep : OneTurn
 Sweep old new = SweepsOnce old.clock old.desk new.clock new.desk
@@ -91,10 +96,10 @@ pub record Chain (Does : OneTurn) (n : ℕ) (old new : Stand) : Type 0 where
   pub count : length stands ≡ n
   pub leads : Leads Does old stands new
 
--- a serving member's turn: one connection, or nothing, where it has then ended
-abbrev pub ServesTurn : CatalogueView → Readings → DeskView → Readings → DeskView → Bool → Type 0
-ServesTurn cat clock old later new true = Rests clock old later new
-ServesTurn cat clock old later new false = ServesOne cat clock old later new
+-- a serving member's turn: one connection, by a stream handed out so, or nothing, where it has then ended
+abbrev pub ServesTurn : Handing → CatalogueView → Readings → DeskView → Readings → DeskView → Bool → Type 0
+ServesTurn hands cat clock old later new true = Rests clock old later new
+ServesTurn hands cat clock old later new false = ServesOne hands cat clock old later new
 
 -- a stream more was handed out, but where the member has ended
 abbrev pub Counts : Bool → ℕ → ℕ → Type 0
@@ -133,27 +138,28 @@ module _ {S T C : Type 0} where
   abbrev pub stand_of : (C → Readings) → Post S T C → DeskView → Stand
   stand_of told w d = record { desk = d; clock = told (clock_of w) }
 
-  -- A member stays at its post, a serving one with its catalogue, and is handed out the stream that it serves. A sweeping one asks its ticker once for a tick, after its seconds.
-  abbrev pub DoesTurn : (C → Readings) → (S → ℕ) → (T → ℕ → T → Type 0) → Post S T C → DeskView → Post S T C → DeskView → Type 0
-  DoesTurn told handed ticked (Serving w) old (Serving v) new =
+  -- A member stays at its post, a serving one with its catalogue, and serves the stream that it is handed out in this turn. A sweeping one asks
+  -- its ticker once for a tick, after its seconds.
+  abbrev pub DoesTurn : (C → Readings) → (S → ℕ) → HandingBy S → (T → ℕ → T → Type 0) → Post S T C → DeskView → Post S T C → DeskView → Type 0
+  DoesTurn told handed hands ticked (Serving w) old (Serving v) new =
       (v.common.cat.now ≡ w.common.cat.now) × Counts v.ended (handed w.streams) (handed v.streams)
-      × ServesTurn w.common.cat.now (told w.clock) old (told v.clock) new v.ended
-  DoesTurn told handed ticked (Sweeping w) old (Sweeping v) new =
+      × ServesTurn (λ stream sent. hands w.streams stream sent v.streams) w.common.cat.now (told w.clock) old (told v.clock) new v.ended
+  DoesTurn told handed hands ticked (Sweeping w) old (Sweeping v) new =
       (v.seconds ≡ w.seconds) × ticked w.ticker w.seconds v.ticker × SweepsTurn (told w.clock) old (told v.clock) new v.ended
-  DoesTurn told handed ticked (Serving w) old (Sweeping v) new = ⊥
-  DoesTurn told handed ticked (Sweeping w) old (Serving v) new = ⊥
+  DoesTurn told handed hands ticked (Serving w) old (Sweeping v) new = ⊥
+  DoesTurn told handed hands ticked (Sweeping w) old (Serving v) new = ⊥
 
-  -- All turns of a member up to its end are a chain: of as many connections of its catalogue as it was handed out streams, or of sweeps, with a
-  -- tick for each at least.
-  abbrev pub HasChain : (C → Readings) → (S → ℕ) → (T → ℕ → T → Type 0) → Post S T C → DeskView → Post S T C → DeskView → Type 0
-  HasChain told handed ticked (Serving w) old (Serving v) new =
+  -- All turns of a member up to its end are a chain: of as many connections of its catalogue as it was handed out streams, which were handed out
+  -- so, or of sweeps, with a tick for each at least.
+  abbrev pub HasChain : (C → Readings) → (S → ℕ) → Handing → (T → ℕ → T → Type 0) → Post S T C → DeskView → Post S T C → DeskView → Type 0
+  HasChain told handed hands ticked (Serving w) old (Serving v) new =
       (v.common.cat.now ≡ w.common.cat.now) × (served : ℕ) × (handed v.streams ≡ handed w.streams + served)
-      × Chain (Connection w.common.cat.now) served (stand_of told (Serving w) old) (stand_of told (Serving v) new)
-  HasChain told handed ticked (Sweeping w) old (Sweeping v) new =
+      × Chain (Connection hands w.common.cat.now) served (stand_of told (Serving w) old) (stand_of told (Serving v) new)
+  HasChain told handed hands ticked (Sweeping w) old (Sweeping v) new =
       (v.seconds ≡ w.seconds) × (sweeps ticks : ℕ) × (sweeps ≤ ticks) × Ticks ticked w.seconds ticks w.ticker v.ticker
       × Chain Sweep sweeps (stand_of told (Sweeping w) old) (stand_of told (Sweeping v) new)
-  HasChain told handed ticked (Serving w) old (Sweeping v) new = ⊥
-  HasChain told handed ticked (Sweeping w) old (Serving v) new = ⊥
+  HasChain told handed hands ticked (Serving w) old (Sweeping v) new = ⊥
+  HasChain told handed hands ticked (Sweeping w) old (Serving v) new = ⊥
 
   -- The post of member i, from 0: as many as the words say serve the catalogue, and a last one asks this ticker for a tick each so many
   -- seconds.

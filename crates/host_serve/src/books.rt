@@ -1,6 +1,7 @@
 // The books of a catalogue, served by the members.
 ghost use Rattle.std.specs.Prelude.{◌≡◌, ◌≢◌, ◌≤◌, ◌<◌, ◌+◌, ℕ, All, true, false, length, map};
 ghost use Rattle.rail_io.specs.Faults.{Rose};
+ghost use Rattle.rail_service.specs.Listeners.{GivesOnly, IsGiven};
 ghost use Rattle.leg_masks.specs.Interval.{most_places};
 ghost use Rattle.history_model.specs.Booking.{most_rows};
 ghost use Rattle.claim_rule.specs.Rule.{most_place_legs};
@@ -40,7 +41,8 @@ pub struct ServeRun<L> {
     pub wall: Option<Wall>,
 }
 
-/// Runs a crew until its members have ended, takes in the desks of all but the first, with what those had counted, and hands that one back.
+/// Runs a crew until its members have ended, joins the desks of all but the first, with what those had counted, and hands
+/// that one back.
 fn run_crew<R: Threads + Wait + Sync, N: Ledger, W: Gives<N> + Send + Drop>(
     rt: &R,
     books: &Books,
@@ -76,6 +78,7 @@ fn finish_listener<N: Named, L: Listener + Drop, C: Clock>(
     requires port { (L.told listener.old).port ≡ N.port }
     requires limit { ((L.told listener.old).limit ≡ N.limit) × (N.limit ≡ limit) }
     requires within { (L.told listener.old).handed ≤ N.limit }
+    requires gives { GivesOnly L.becomes L.hands listener.old N.gives }
     requires faults { N.faults ≤ L.faults listener.old }
     requires steady { end ≢ ended.Failed → L.faults listener.old ≡ N.faults }
     requires rose { end ≡ ended.Failed → Rose N.faults (L.faults listener.old) }
@@ -85,7 +88,8 @@ fn finish_listener<N: Named, L: Listener + Drop, C: Clock>(
     ensures tidy { IsTidy desk.new }
     ensures keeps { KeepsDesk desk.old desk.new }
     ensures turns { (n : ℕ) × ((L.told listener.new).handed ≡ (L.told listener.old).handed + n)
-        × Chain (Connection common.entry.cat.now) n (record { desk = desk.old; clock = C.told clock.old })
+        × Chain (Connection (IsGiven N.gives) common.entry.cat.now) n
+        (record { desk = desk.old; clock = C.told clock.old })
         (record { desk = desk.new; clock = C.told clock.new }) }
     ensures never_falls { L.faults listener.old ≤ L.faults listener.new }
     ensures steady { result ≡ true → L.faults listener.new ≡ N.faults }
@@ -97,7 +101,7 @@ fn finish_listener<N: Named, L: Listener + Drop, C: Clock>(
     match end {
         ListenerEnd::Closed => true,
         ListenerEnd::Failed => false,
-        ListenerEnd::Open => drain_listener(common, books, desk, listener, limit, clock),
+        ListenerEnd::Open => drain_listener::<N, L, C>(common, books, desk, listener, limit, clock),
     }
 }
 
@@ -149,10 +153,12 @@ where
     requires view { L.told listener ≡ record { port = N.port; limit = N.limit; handed = 0 } }
     requires port { N.port ≡ said.port }
     requires limit { N.limit ≡ said.connections }
+    requires gives { GivesOnly L.becomes L.hands listener N.gives }
     requires workers { 1 ≤ said.workers }
     ensures never_falls { L.faults listener ≤ L.faults result.listener }
     ensures ends { BooksEnd cat.now books.layout said (map C.told clocks.items) (Asks T.ticked ticker)
-        (L.faults listener) (L.faults result.listener) (L.told result.listener) result.wall result.outcome }
+        (IsGiven N.gives) (L.faults listener) (L.faults result.listener) (L.told result.listener)
+        result.wall result.outcome }
 {
     let Ok(crew) = Vec::with_capacity(alloc, said.workers as usize + 1) else {
         return ServeRun {

@@ -1,12 +1,14 @@
 // A listener's streams, served by one.
 ghost use Rattle.std.specs.Prelude.{◌≡◌, ◌≤◌, ◌<◌, ◌+◌, ℕ, true, false};
 ghost use Rattle.rail_io.specs.Faults.{Rose};
+ghost use Rattle.rail_service.specs.Listeners.{GivesOnly, IsGiven};
 ghost use Rattle.claim_rule.specs.Desks.{IsOf};
 ghost use Rattle.claim_rule.specs.Out.{IsTidy};
 ghost use Rattle.worker_pool.specs.Turns.{KeepsDesk};
 ghost use Rattle.host_serve.specs.Turns.{HasCatalogue, Chain, Connection};
 
 use crate::member::Common;
+use crate::shared_listener::Named;
 use crate::stream::serve_stream;
 use claim_rule::{Books, Desk};
 use rail_io::Clock;
@@ -14,7 +16,7 @@ use rail_service::{Accepted, Listener};
 
 /// Serves a listener's streams one after the other, until as many as its limit were handed out, and answers true, or until an accept
 /// failed, and answers false.
-pub fn drain_listener<L: Listener + Drop, C: Clock>(
+pub fn drain_listener<N: Named, L: Listener + Drop, C: Clock>(
     common: Common<'_>,
     books: &Books,
     desk: &mut Desk,
@@ -27,11 +29,13 @@ pub fn drain_listener<L: Listener + Drop, C: Clock>(
     requires tidy { IsTidy desk.old }
     requires limit { (L.told listener.old).limit ≡ limit }
     requires within { (L.told listener.old).handed ≤ limit }
+    requires gives { GivesOnly L.becomes L.hands listener.old N.gives }
     ensures own { IsOf books.now desk.new }
     ensures tidy { IsTidy desk.new }
     ensures keeps { KeepsDesk desk.old desk.new }
     ensures turns { (n : ℕ) × ((L.told listener.new).handed ≡ (L.told listener.old).handed + n)
-        × Chain (Connection common.entry.cat.now) n (record { desk = desk.old; clock = C.told clock.old })
+        × Chain (Connection (IsGiven N.gives) common.entry.cat.now) n
+        (record { desk = desk.old; clock = C.told clock.old })
         (record { desk = desk.new; clock = C.told clock.new }) }
     ensures port { (L.told listener.new).port ≡ (L.told listener.old).port }
     ensures limit { (L.told listener.new).limit ≡ limit }

@@ -17,7 +17,7 @@ ghost use Rattle.host_serve.specs.Ends.{status_of_serve};
 ghost use Rattle.host_serve.specs.Serve.{Ends, HasShelfCause, IsExporting, IsNoServe, IsOfRefusedText, IsOnlyLimited, IsServe};
 ghost use Rattle.host_serve.specs.Serve.{IsWithoutBooks, Runs};
 ghost use Rattle.host_serve.specs.Telling.{IsBefore, IsTold, Tells};
-ghost use Rattle.host_serve.specs.Turns.{Asks, HasCatalogue};
+ghost use Rattle.host_serve.specs.Turns.{Asks, HandedBy, HasCatalogue};
 ghost use Rattle.host_serve.specs.declared.end.ServeOutcome.{ServeOutcome};
 ghost use Rattle.host_serve.specs.declared.end.ServeOutcome.TheVariants as outcome;
 
@@ -100,6 +100,7 @@ where
           before = L.told listener;
           clocks = map C.told clocks.items;
           asks = Asks T.ticked ticker;
+          hands = HandedBy L.becomes L.hands listener;
           faults_after = L.faults result.listener;
           after = L.told result.listener;
           wall = result.wall;
@@ -174,6 +175,7 @@ where
           before = L.told listener;
           clocks = map C.told clocks.items;
           asks = Asks T.ticked ticker;
+          hands = HandedBy L.becomes L.hands listener;
           faults_after = L.faults result.listener;
           after = L.told result.listener;
           wall = result.wall;
@@ -237,8 +239,9 @@ where
 /// entries are those of the connections that it served, and the last member's those of its sweeps; no other desk has any. Each desk is between
 /// two calls of the service, so that the wall has an export. All these desks are of one set of books, which the first finished: the wall is
 /// theirs, and so is the export. The members served as many connections together as the listener has handed out streams: at status 0 as many
-/// as the words say. Which streams these came by, and how many of them had a request, is said by no clause, since a listener tells no more of
-/// its streams than their count.
+/// as the words say. Each of these came by a stream that this very listener has handed out, after some calls of it. Which one, and how many of
+/// them had a request, is said by no clause. A connection for which there was no memory has taken, written and done nothing: so that each
+/// stream was served is said by its type, which lets it be spent by serving alone, and by no clause.
 pub fn run_serve<
     R: Threads + Wait + Sync,
     F: Shelf,
@@ -277,6 +280,7 @@ where
           before = L.told listener;
           clocks = map C.told clocks.items;
           asks = Asks T.ticked ticker;
+          hands = HandedBy L.becomes L.hands listener;
           faults_after = L.faults result.listener;
           after = L.told result.listener;
           wall = result.wall;

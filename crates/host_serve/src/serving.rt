@@ -25,7 +25,7 @@ pub struct Server<'s, S, C> {
 }
 
 impl<S: Streams, C: Clock> Server<'_, S, C> {
-    /// Serves the next stream to its connection's end; or ends, and sets the mark, where there is none.
+    /// Serves the stream that it is handed next to its connection's end; or ends, and sets the mark, where there is none.
     pub fn take_turn(&mut self, books: &Books, desk: &mut Desk) -> TurnEnd
         requires has { HasCatalogue books.now self.old.common.cat.now }
         requires own { IsOf books.now desk.old }
@@ -34,7 +34,8 @@ impl<S: Streams, C: Clock> Server<'_, S, C> {
         ensures tidy { IsTidy desk.new }
         ensures keeps { KeepsDesk desk.old desk.new }
         ensures cat { self.new.common.cat.now ≡ self.old.common.cat.now }
-        ensures turn { ServesTurn self.old.common.cat.now (C.told self.old.clock) desk.old
+        ensures turn { ServesTurn (λ stream sent. S.hands self.old.streams stream sent self.new.streams)
+            self.old.common.cat.now (C.told self.old.clock) desk.old
             (C.told self.new.clock) desk.new self.new.ended }
         ensures counts { Counts self.new.ended (S.handed self.old.streams) (S.handed self.new.streams) }
         ensures end { (result ≡ End) ↔ (self.new.ended ≡ true) }

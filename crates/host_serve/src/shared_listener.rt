@@ -1,6 +1,7 @@
 // A listener that members take turns at.
 ghost use Rattle.std.specs.Prelude.{◌≡◌, ◌≢◌, true, ◌<◌, ◌≤◌, ◌+◌, ℕ, IfSome, IfNone};
 ghost use Rattle.rail_io.specs.Faults.{Rose};
+ghost use Rattle.rail_service.specs.Listeners.{GivesOnly, Handing, IsGiven};
 ghost use Rattle.host_serve.specs.Risen.{has_risen};
 ghost use Rattle.host_serve.specs.declared.shared_listener.ListenerEnd.TheVariants.{Open, Closed, Failed};
 
@@ -8,14 +9,16 @@ use rail_service::{Accepted, Listener, Waiting};
 use std::marker::Brand;
 use std::sync::ledger::{Book, Ledger, Share};
 
-/// What is named of a listener while it stands behind a lock: its count of faults when it was handed in, its port and its limit; and the
-/// ledger in which those who take its streams count them.
+/// What is named of a listener while it stands behind a lock: its count of faults when it was handed in, its port and its limit, what its
+/// streams and their sinks may tell; and the ledger in which those who take its streams count them.
 pub trait Named: Ledger {
     ghost faults: { ℕ };
 
     ghost port: { ℕ };
 
     ghost limit: { ℕ };
+
+    ghost gives: { Handing };
 }
 
 impl Named for Brand {
@@ -24,6 +27,8 @@ impl Named for Brand {
     ghost port = { 0 };
 
     ghost limit = { 0 };
+
+    ghost gives = { λ _ _. ⊥ };
 }
 
 /// How a shared listener ended.
@@ -47,6 +52,7 @@ pub struct SharedListener<L: Listener + Drop, N: Named> {
     ghost counted: { book.total ≡ (L.told listener).handed },
     ghost port: { (L.told listener).port ≡ N.port },
     ghost limit: { (L.told listener).limit ≡ N.limit },
+    ghost gives: { GivesOnly L.becomes L.hands listener N.gives },
     ghost within: { (L.told listener).handed ≤ N.limit },
     ghost never_falls: { N.faults ≤ L.faults listener },
     ghost steady: { end ≢ Failed → L.faults listener ≡ N.faults },
@@ -61,6 +67,7 @@ impl<L: Listener + Drop, N: Named> SharedListener<L, N> {
         requires counted { book.total ≡ (L.told listener).handed }
         requires port { (L.told listener).port ≡ N.port }
         requires limit { (L.told listener).limit ≡ N.limit }
+        requires gives { GivesOnly L.becomes L.hands listener N.gives }
         requires within { (L.told listener).handed ≤ N.limit }
         requires faults { L.faults listener ≡ N.faults }
         ensures listener { result.listener ≡ listener }
@@ -78,6 +85,7 @@ impl<L: Listener + Drop, N: Named> SharedListener<L, N> {
         requires part { 0 < share.old.parts }
         ensures some { IfSome result (λ _. (self.new.end ≡ Open) × (share.new.amount ≡ share.old.amount + 1)
             × ((L.told self.new.listener).handed ≡ (L.told self.old.listener).handed + 1)) }
+        ensures gives { IfSome result (λ w. IsGiven N.gives (L.Input.told w.input) (L.Output.told w.output)) }
         ensures none { IfNone result ((self.new.end ≢ Open) × (share.new.amount ≡ share.old.amount)) }
         ensures parts { share.new.parts ≡ share.old.parts }
         ensures ended { self.old.end ≢ Open → self.new ≡ self.old }
@@ -109,6 +117,7 @@ impl<L: Listener + Drop, N: Named> SharedListener<L, N> {
         ensures counted { (L.told result.0).handed ≡ all.old.amount }
         ensures port { (L.told result.0).port ≡ N.port }
         ensures limit { (L.told result.0).limit ≡ N.limit }
+        ensures gives { GivesOnly L.becomes L.hands result.0 N.gives }
         ensures within { (L.told result.0).handed ≤ N.limit }
         ensures never_falls { N.faults ≤ L.faults result.0 }
         ensures steady { result.1 ≢ Failed → L.faults result.0 ≡ N.faults }

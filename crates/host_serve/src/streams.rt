@@ -1,5 +1,6 @@
 // Where serving members take their streams.
 ghost use Rattle.std.specs.Prelude.{◌≡◌, ◌+◌, ℕ, IfSome, IfNone};
+ghost use Rattle.rail_service.specs.Listeners.{HandingBy, IsGiven};
 
 use crate::shared_listener::{Named, SharedListener};
 use rail_io::{Sink, Source};
@@ -18,9 +19,15 @@ pub trait Streams {
     /// How many it has handed out.
     ghost handed: { Self → ℕ };
 
+    /// That a call handed out a stream: these streams before it, what the stream's source and its sink told, and these streams behind it.
+    /// Who knows nothing of them but this trait can show that only by a call that gave such a stream.
+    ghost hands: { HandingBy Self };
+
     /// The next stream, for which it may wait, or none, where there will be no more.
     fn next_stream(&mut self) -> Option<Waiting<Self::Input, Self::Output>>
         ensures some { IfSome result (λ _. handed self.new ≡ handed self.old + 1) }
+        ensures hands { IfSome result (λ w.
+            hands self.old (Self.Input.told w.input) (Self.Output.told w.output) self.new) }
         ensures none { IfNone result (handed self.new ≡ handed self.old) };
 }
 
@@ -39,6 +46,8 @@ impl<R: Wait, L: Listener + Drop, N: Named> Streams for LockedStreams<'_, R, L, 
     type Output = L::Output;
 
     ghost handed = { λ s. s.share.amount };
+
+    ghost hands = { λ _ stream sent _. IsGiven N.gives stream sent };
 
     fn next_stream(&mut self) -> Option<Waiting<L::Input, L::Output>> {
         self.shared.lock(self.rt).next(&mut self.share)

@@ -214,7 +214,7 @@ fn members_end_at_different_turns(rt: HostRuntime) -> Result<(), Fail> {
     Ok(())
 }
 
-/// One member alone, whose desk is then taken in, and no member at all.
+/// One member alone, whose desk is then joined, and no member at all.
 #[test]
 fn one_member_and_none(rt: HostRuntime) -> Result<(), Fail> {
     let (books, mut desk) = start_books(rt.alloc(), &[1], 1)?;

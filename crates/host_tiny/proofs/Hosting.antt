@@ -14,18 +14,18 @@ use Rattle.host_tiny.specs.Run.{RunView}
 use Rattle.host_tiny.specs.declared.responder.Tiny.{Tiny}
 use Rattle.host_tiny.specs.Host.{IsHostEnd}
 use Rattle.host_tiny.specs.Responding.{Responds, Declines}
-use Rattle.host_tiny.specs.Tiny.{Answers, Refuses, IsOneThread, IsOneThreadCut}
+use Rattle.host_tiny.specs.Tiny.{AnswersTiny, Refuses, IsOneThread, IsOneThreadCut}
 
 -- the run stays the one with these legs and places
 abbrev HasSize : ℕ → ℕ → Tiny → Type 0
 HasSize legs places tiny = (tiny.run.legs ≡ legs) × (tiny.run.places ≡ places)
 
 answer_seen : (legs places : ℕ) (before : Tiny) (request : RequestText) (text : List ℕ) (after : Tiny) → HasSize legs places before
-    → Responds before request text after → HasSize legs places after × Answers legs places before.run.held request text after.run.held
+    → Responds before request text after → HasSize legs places after × AnswersTiny legs places before.run.held request text after.run.held
 answer_seen legs places before request text after (l, p) is = (
   (is.legs ∙ l, is.places ∙ p),
-  subst (λ (n : ℕ). Answers n places before.run.held request text after.run.held) l
-      (subst (λ (n : ℕ). Answers before.run.legs n before.run.held request text after.run.held) p is.answer),
+  subst (λ (n : ℕ). AnswersTiny n places before.run.held request text after.run.held) l
+      (subst (λ (n : ℕ). AnswersTiny before.run.legs n before.run.held request text after.run.held) p is.answer),
 )
 
 -- An end of a session of the run with nothing reserved is one of the host.
@@ -34,8 +34,8 @@ pub end_of_run : (legs places : ℕ) (start after : Tiny) (taken : List ℕ) (le
     → IsHostEnd legs places taken left written end
 end_of_run legs places start after taken left written end fresh is = inr (
   after.run.held,
-  subst (λ (held : List Held). IsEnd (Answers legs places) Refuses held after.run.held taken left written end) (ap (λ (r : RunView). r.held) fresh)
-      (end_seen Responds Declines (Answers legs places) Refuses (λ (t : Tiny). t.run.held) (HasSize legs places)
+  subst (λ (held : List Held). IsEnd (AnswersTiny legs places) Refuses held after.run.held taken left written end) (ap (λ (r : RunView). r.held) fresh)
+      (end_seen Responds Declines (AnswersTiny legs places) Refuses (λ (t : Tiny). t.run.held) (HasSize legs places)
       (answer_seen legs places) (λ now fault text run e. e) start after taken left written end (ap (λ (r : RunView). r.legs) fresh, ap (λ (r : RunView). r.places) fresh) is),
 )
 
@@ -44,14 +44,14 @@ module _ (legs places : ℕ) (taken stream written : List ℕ) (left : Option (L
   pub served_from : status_of_end end ≡ 0 → IsOneThread legs places stream empty written ⊎ IsOneThread legs places stream closed written
   served_from zero = elim is [
     | inl none ↦ absurd (omega (arith, ap status_of_end none.0, zero))
-    | inr t ↦ elim (done_from (Answers legs places) Refuses [] t.0 taken stream written left end told t.1 zero) [ inl a ↦ inl (t.0, a) | inr a ↦ inr (t.0, a) ]
+    | inr t ↦ elim (done_from (AnswersTiny legs places) Refuses [] t.0 taken stream written left end told t.1 zero) [ inl a ↦ inl (t.0, a) | inr a ↦ inr (t.0, a) ]
   ]
 
   pub cut_from : status_of_end end ≡ 6
       → IsOneThread legs places stream unfinished written ⊎ ((fault : WireFault) × IsOneThread legs places stream (refused fault) written)
   cut_from six = elim is [
     | inl none ↦ absurd (omega (arith, ap status_of_end none.0, six))
-    | inr t ↦ elim (cut_stream (Answers legs places) Refuses [] t.0 taken stream written left end told t.1 six) [ inl a ↦ inl (t.0, a) | inr a ↦ inr (a.0, (t.0, a.1)) ]
+    | inr t ↦ elim (cut_stream (AnswersTiny legs places) Refuses [] t.0 taken stream written left end told t.1 six) [ inl a ↦ inl (t.0, a) | inr a ↦ inr (a.0, (t.0, a.1)) ]
   ]
 
   -- at a read fault: the bytes left, and the answers of those taken
@@ -64,7 +64,7 @@ module _ (legs places : ℕ) (taken stream written : List ℕ) (left : Option (L
           s.0,
           s.1,
           s.2,
-          elim (read_stream (Answers legs places) Refuses [] t.0 taken written left end t.1 three) [ inl a ↦ inl (t.0, a) | inr a ↦ inr (t.0, a) ],
+          elim (read_stream (AnswersTiny legs places) Refuses [] t.0 taken written left end t.1 three) [ inl a ↦ inl (t.0, a) | inr a ↦ inr (t.0, a) ],
         )
   ]
 
@@ -74,5 +74,5 @@ module _ (legs places : ℕ) (taken stream written : List ℕ) (left : Option (L
     | inl none ↦ absurd (omega (arith, ap status_of_end none.0, four))
     | inr t ↦
         let s = stream_is left taken stream told in
-        (s.0, s.1, s.2, (t.0, write_stream (Answers legs places) Refuses [] t.0 taken written left end t.1 four))
+        (s.0, s.1, s.2, (t.0, write_stream (AnswersTiny legs places) Refuses [] t.0 taken written left end t.1 four))
   ]

@@ -7,7 +7,7 @@ use Rattle.session_loop.specs.declared.end.ConnEnd.{ConnEnd}
 use Rattle.session_loop.specs.declared.end.ConnEnd.TheVariants.{NoMemory}
 use Rattle.session_loop.specs.Session.{IsEnd}
 use Rattle.host_tiny.specs.Reservations.{Held}
-use Rattle.host_tiny.specs.Tiny.{Answers, Refuses, IsOneThread, IsOneThreadCut}
+use Rattle.host_tiny.specs.Tiny.{AnswersTiny, Refuses, IsOneThread, IsOneThreadCut}
 use Rattle.host_words.specs.Tiny.{IsTiny}
 
 -- A connection with nothing reserved ended so after these bytes were taken, with those left, and what
@@ -15,7 +15,7 @@ use Rattle.host_words.specs.Tiny.{IsTiny}
 abbrev pub IsHostEnd : ℕ → ℕ → List ℕ → Option (List ℕ) → List ℕ → ConnEnd → Type 0
 IsHostEnd legs places taken left written end =
     ((end ≡ NoMemory) × (taken ≡ []) × (written ≡ []))
-    ⊎ ((after : List Held) × IsEnd (Answers legs places) Refuses [] after taken left written end)
+    ⊎ ((after : List Held) × IsEnd (AnswersTiny legs places) Refuses [] after taken left written end)
 
 -- `tiny` ran so: what was taken of the input and written to the output, and how the connection ended
 pub record IsTinyRun (words : List (List ℕ)) (input left output sent : Option (List ℕ)) (end : ConnEnd) : Type 0 where
@@ -29,7 +29,7 @@ pub record IsTinyRun (words : List (List ℕ)) (input left output sent : Option 
   pub ends : IsHostEnd legs places taken left written end
 
 -- The bytes written are the answers of the bytes to come, to their end or to a last request.
-pub record IsServed (words : List (List ℕ)) (stream written : List ℕ) : Type 0 where
+pub record ServesAll (words : List (List ℕ)) (stream written : List ℕ) : Type 0 where
   pub legs : ℕ
   pub places : ℕ
   pub words_are : IsTiny words legs places

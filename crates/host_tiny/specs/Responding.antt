@@ -3,11 +3,11 @@ use Rattle.std.specs.Prelude.{◌≡◌, ℕ, List}
 use Rattle.http_wire.specs.declared.request.WireFault.{WireFault}
 use Rattle.http_wire.specs.Requests.{RequestText}
 use Rattle.host_tiny.specs.declared.responder.Tiny.{Tiny}
-use Rattle.host_tiny.specs.Tiny.{Answers, Refuses}
+use Rattle.host_tiny.specs.Tiny.{AnswersTiny, Refuses}
 
 -- a request is answered so, and the run stays the same
 pub record Responds (before : Tiny) (request : RequestText) (text : List ℕ) (after : Tiny) : Type 0 where
-  pub answer : Answers before.run.legs before.run.places before.run.held request text after.run.held
+  pub answer : AnswersTiny before.run.legs before.run.places before.run.held request text after.run.held
   pub legs : after.run.legs ≡ before.run.legs
   pub places : after.run.places ≡ before.run.places
 

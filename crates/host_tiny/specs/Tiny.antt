@@ -44,8 +44,8 @@ IsReply legs places held method path body NoPlace after =
 IsReply legs places held method path body NoMemory after = IsReservation method path × (after ≡ held)
 
 -- a request is answered so, by a run with these legs and places
-abbrev pub Answers : ℕ → ℕ → Answering (List Held)
-Answers legs places held request text after =
+abbrev pub AnswersTiny : ℕ → ℕ → Answering (List Held)
+AnswersTiny legs places held request text after =
     (reply : Reply) × IsReply legs places held request.method request.path request.body reply after
     × (text ≡ answer_text reply request.last)
 
@@ -56,9 +56,9 @@ Refuses held fault text = text ≡ fault_text fault
 -- The bytes written are the host's answers to the stream, which ends so.
 abbrev pub IsOneThread : ℕ → ℕ → List ℕ → Rest → List ℕ → Type 0
 IsOneThread legs places stream rest written =
-    (after : List Held) × IsAnswered (Answers legs places) Refuses [] after stream rest written
+    (after : List Held) × IsAnswered (AnswersTiny legs places) Refuses [] after stream rest written
 
 -- The bytes written are a beginning of the host's answers to the stream.
 abbrev pub IsOneThreadCut : ℕ → ℕ → List ℕ → List ℕ → Type 0
 IsOneThreadCut legs places stream written =
-    (after : List Held) × IsCutShort (Answers legs places) Refuses [] after stream written
+    (after : List Held) × IsCutShort (AnswersTiny legs places) Refuses [] after stream written

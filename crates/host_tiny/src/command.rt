@@ -10,7 +10,7 @@ ghost use Rattle.host_words.specs.Tiny.{IsNoTiny};
 ghost use Rattle.host_notes.specs.Ends.{end_of, note_of, status_of};
 ghost use Rattle.host_notes.specs.Noted.{TakesNote};
 ghost use Rattle.host_notes.specs.declared.ending.CommandEnd.TheVariants.{WordsRefused};
-ghost use Rattle.host_tiny.specs.Host.{IsTinyRun, IsHostEnd, IsServed, IsCutOrRefused, IsReadFault, IsWriteFault};
+ghost use Rattle.host_tiny.specs.Host.{IsTinyRun, IsHostEnd, ServesAll, IsCutOrRefused, IsReadFault, IsWriteFault};
 
 use crate::responder::Tiny;
 use host_notes::{CommandEnd, end_command};
@@ -82,7 +82,7 @@ pub fn run_tiny<S: Source, K: Sink, E: Sink>(
 
     // Where the input and the output tell their bytes, those written are the host's answers of those to come.
     ensures served { WritesWhere (result ≡ 0) (S.told input.old) (K.told output.old) (K.told output.new)
-        (IsServed (words_texts words.now)) }
+        (ServesAll (words_texts words.now)) }
     ensures cut { WritesWhere (result ≡ 6) (S.told input.old) (K.told output.old) (K.told output.new)
         (IsCutOrRefused (words_texts words.now)) }
     ensures read_fault { WritesWhere (result ≡ 3) (S.told input.old) (K.told output.old) (K.told output.new)

@@ -7,7 +7,7 @@ use Rattle.clap.specs.Words.{Row, Text}
 use Rattle.clap.specs.ValueTests.{is_unsigned_in}
 use Rattle.clap.specs.declared.builder.value_parser.ValueParser.TheVariants.{Unsigned}
 use Rattle.clap.proofs.ValueTestLemmas.{accepts-Accepts}
-use Rattle.host_words.specs.Options.{number_in, number_of, taken}
+use Rattle.host_words.specs.Options.{number_in, number_of, matched}
 use Rattle.host_words.specs.Drill.{drill_app, drill_of, drill_words}
 
 abbrev value_or : ℕ → Option ℕ → ℕ
@@ -32,7 +32,7 @@ pub found_within : (least most v : ℕ) (o : Option Text) → Some v ≡ option_
 found_within least most v (Some t) is = within_read least most v t (sym is)
 found_within least most v None is = absurd (none-some v (sym is))
 
-module _ (words : List Text) (rows : List Row) (rows_are : taken drill_app words ≡ Some rows) where
+module _ (words : List Text) (rows : List Row) (rows_are : matched drill_app words ≡ Some rows) where
   pub no_seed : number_of 0 65535 (codes "seed") rows ≡ None → drill_words words ≡ None
   no_seed none = ap (option_and_then drill_of) rows_are ∙ rw none refl
 

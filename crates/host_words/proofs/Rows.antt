@@ -5,7 +5,7 @@ use Rattle.clap.specs.Words.{App, Row, Text, first_of, first_value, one_text, ro
 use Rattle.clap.specs.declared.parser.matches.Found.{Found}
 use Rattle.clap.proofs.WalkLemmas.{first_value-rows, one_text-rows}
 use Rattle.rail_time.specs.Moments.{moment_of}
-use Rattle.host_words.specs.Options.{number_in, number_of, taken}
+use Rattle.host_words.specs.Options.{number_in, number_of, matched}
 use Rattle.host_words.specs.Replay.{found_moment, input_app, input_words, replay_of}
 
 -- the text that a getter gave
@@ -17,10 +17,10 @@ pub number_given : (f : Found) (id : Text) (least most : ℕ) (o : Option ℕ) �
 number_given f id least most o is = sym (is ∙ ap (option_and_then (number_in least most)) (one_text-rows f id))
 
 -- the rows that the words give
-pub rows_given : (app same : App) (words : List Text) (o : Option (List Row)) → app ≡ same → taken app words ≡ o → taken same words ≡ o
+pub rows_given : (app same : App) (words : List Text) (o : Option (List Row)) → app ≡ same → matched app words ≡ o → matched same words ≡ o
 rows_given app same words o is given = rw (← is) given
 
-module _ (command : Text) (words : List Text) (rows : List Row) (rows_are : taken (input_app command) words ≡ Some rows) where
+module _ (command : Text) (words : List Text) (rows : List Row) (rows_are : matched (input_app command) words ≡ Some rows) where
   pub no_catalogue : first_of (codes "catalogue") rows ≡ None → input_words command words ≡ None
   no_catalogue none = ap (option_and_then replay_of) rows_are ∙ rw none refl
 

@@ -3,7 +3,7 @@ use Rattle.std.proofs.Common.{◌≡◌, ◌∙◌, ℕ, Bool, List, Option, Som
 use Rattle.std.specs.Prelude.{option_and_then}
 use Rattle.clap.specs.Words.{Row, Text, first_of}
 use Rattle.host_words.specs.declared.serve.Serving.{Serving}
-use Rattle.host_words.specs.Options.{is_set, number_of, taken}
+use Rattle.host_words.specs.Options.{is_set, number_of, matched}
 use Rattle.host_words.specs.Serve.{numbers_of, serve_app, serve_of, serve_words}
 
 module _ (rows : List Row) where
@@ -26,7 +26,7 @@ module _ (rows : List Row) where
       → numbers_of rows ≡ Some (record { port = port; workers = workers; connections = connections; sweep = sweep })
   all_numbers port workers connections sweep p w c s = rw (p, w, c, s) refl
 
-module _ (words : List Text) (rows : List Row) (rows_are : taken serve_app words ≡ Some rows) where
+module _ (words : List Text) (rows : List Row) (rows_are : matched serve_app words ≡ Some rows) where
   pub no_catalogue : first_of (codes "catalogue") rows ≡ None → serve_words words ≡ None
   no_catalogue none = ap (option_and_then serve_of) rows_are ∙ rw none refl
 

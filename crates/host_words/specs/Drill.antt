@@ -2,7 +2,7 @@
 use Rattle.std.specs.Prelude.{List, Option, Some, codes, option_and_then, option_map}
 use Rattle.clap.specs.Words.{App, Row, Rule, Text, new_app, with_rule}
 use Rattle.clap.specs.declared.builder.value_parser.ValueParser.{ValueParser}
-use Rattle.host_words.specs.Options.{option_rule, numbered, required, number_of, taken}
+use Rattle.host_words.specs.Options.{option_rule, numbered, required, number_of, matched}
 use Rattle.host_words.specs.declared.drill.DrillWords.{DrillWords}
 
 -- the values are those that the parser takes
@@ -30,4 +30,4 @@ drill_of rows =
 
 -- what the words say, and nothing where they are refused: by `clap`, or by a value out of its range
 abbrev pub drill_words : List Text → Option DrillWords
-drill_words words = option_and_then drill_of (taken drill_app words)
+drill_words words = option_and_then drill_of (matched drill_app words)

@@ -45,5 +45,5 @@ abbrev pub number_of : ℕ → ℕ → Text → List Row → Option ℕ
 number_of least most name rows = option_and_then (number_in least most) (one_of name rows)
 
 -- the values of the words, which begin with the command's name, where `clap` takes them
-abbrev pub taken : App → List Text → Option (List Row)
-taken app words = if is_empty (fault_of app words) then Some (matches_of app words) else None
+abbrev pub matched : App → List Text → Option (List Row)
+matched app words = if is_empty (fault_of app words) then Some (matches_of app words) else None

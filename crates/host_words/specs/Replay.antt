@@ -3,7 +3,7 @@ use Rattle.std.specs.Prelude.{ℕ, List, Option, Some, None, Ok, Err, Result, co
 use Rattle.clap.specs.Words.{App, Row, Text, new_app, new_rule, with_rule, first_of}
 use Rattle.rail_time.specs.Moments.{moment_of}
 use Rattle.rail_time.specs.declared.moment.MomentFault.{MomentFault}
-use Rattle.host_words.specs.Options.{option_rule, numbered, required, with_default, number_of, taken}
+use Rattle.host_words.specs.Options.{option_rule, numbered, required, with_default, number_of, matched}
 
 -- `NAME CATALOGUE --start MOMENT --tick N --from EXPORT`
 abbrev pub input_app : Text → App
@@ -43,7 +43,7 @@ replay_of rows =
 -- what the words of a command of this name say, and nothing where they are refused: by `clap`, by a value out of its
 -- range, or by a text that is no moment
 abbrev pub input_words : Text → List Text → Option ReplayView
-input_words name words = option_and_then replay_of (taken (input_app name) words)
+input_words name words = option_and_then replay_of (matched (input_app name) words)
 
 abbrev pub replay_words : List Text → Option ReplayView
 replay_words words = input_words (codes "replay") words

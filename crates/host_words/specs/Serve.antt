@@ -2,7 +2,7 @@
 use Rattle.std.specs.Prelude.{◌≤◌, Bool, List, Option, codes, option_and_then, option_map}
 use Rattle.clap.specs.Words.{App, Row, Text, new_app, new_rule, with_rule, first_of}
 use Rattle.host_words.specs.declared.serve.Serving.{Serving}
-use Rattle.host_words.specs.Options.{flag_rule, is_set, option_rule, numbered, required, with_default, number_of, taken}
+use Rattle.host_words.specs.Options.{flag_rule, is_set, option_rule, numbered, required, with_default, number_of, matched}
 
 -- `serve CATALOGUE --port N --workers N --connections N --sweep N --from EXPORT --export`
 abbrev pub serve_app : App
@@ -56,4 +56,4 @@ serve_of rows =
 
 -- what the words say, and nothing where they are refused: by `clap`, or by a number out of its range
 abbrev pub serve_words : List Text → Option ServeView
-serve_words words = option_and_then serve_of (taken serve_app words)
+serve_words words = option_and_then serve_of (matched serve_app words)

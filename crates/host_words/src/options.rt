@@ -1,7 +1,7 @@
 // A command's words by `clap`.
 ghost use Rattle.std.specs.Prelude.{◌≡◌, ◌<◌, Some, None, true, false, codes, IfOk, IfErr, option_and_then};
 ghost use Rattle.clap.specs.Words.{app_of, found_of, is_simple_and_free, one_text, rows_of, rule_of};
-ghost use Rattle.host_words.specs.Options.{number_in, option_rule, taken, words_texts};
+ghost use Rattle.host_words.specs.Options.{number_in, option_rule, matched, words_texts};
 
 use crate::fault::WordsFault;
 use clap::error::ErrorKind;
@@ -22,9 +22,10 @@ pub fn matches_of<'a>(
     words: &'a [String],
 ) -> Result<ArgMatches<'a>, WordsFault>
     requires { is_simple_and_free (app_of command) ≡ true }
-    ensures ok { IfOk result (λ m. taken (app_of command.entry) (words_texts words.now) ≡ Some (rows_of (found_of m))) }
+    ensures ok { IfOk result (λ m. matched (app_of command.entry) (words_texts words.now)
+        ≡ Some (rows_of (found_of m))) }
     ensures refused { IfErr result (λ e. e ≡ WordsFault.Refused
-        → taken (app_of command.entry) (words_texts words.now) ≡ None) }
+        → matched (app_of command.entry) (words_texts words.now) ≡ None) }
 {
     match command.try_get_matches_from(words) {
         Ok(matches) => Ok(matches),

@@ -1,5 +1,5 @@
 -- Where a search stands, byte by byte and piece by piece.
-use Rattle.std.proofs.Common.{◌≡◌, ◌≢◌, ℕ, ◌+◌, ◌-◌, ◌^◌, ◌<◌, ◌≤◌, Bool, true, false, not, ◌&&◌, cond, List, [], ◌∷◌, ◌++◌, length, take, drop, get_or, Option, Some, None, refl, sym, ◌∙◌, ap, subst, arith, inl, inr, append_assoc, append-nil}
+use Rattle.std.proofs.Common.{◌≡◌, ◌≢◌, ℕ, zero, suc, ◌+◌, ◌-◌, ◌^◌, ◌<◌, ◌≤◌, Bool, true, false, not, ◌&&◌, cond, List, [], ◌∷◌, ◌++◌, length, take, drop, get_or, Option, Some, None, refl, sym, ◌∙◌, ap, subst, arith, inl, inr, append_assoc, append-nil}
 use Rattle.std.specs.Prelude.{◌⊎◌, ◌==◌, slice_range, min, IfNone}
 use Rattle.std.specs.List.{flat_map, AllByRecursion}
 use Rattle.std.proofs.Math.Seq.{get_or-append_seam}
@@ -10,7 +10,7 @@ use Rattle.httparse.specs.Grammar.{LineEnd, crlf, lf, print_blank, print_end}
 use Rattle.http_wire.specs.declared.scan.HeadScan.{HeadScan}
 use Rattle.http_wire.specs.Heads.{HasNoFeed, IsLine, print_line, print_lines, IsHeadOfLines, HasLines}
 use Rattle.http_wire.specs.Requests.{HeadAt, IsBlank}
-use Rattle.http_wire.specs.Scan.{IsLineEmpty, IsCarriageLast, HasBegun, IsOpenWith, IsOpen, StandsWith, StandsFor, is_blank}
+use Rattle.http_wire.specs.Scan.{IsLineEmpty, IsCarriageLast, HasBegun, IsOpenWith, IsOpen, StandsWith, StandsFor, is_blank, with_plain}
 use Rattle.http_wire.specs.Stages.{IsSearched, IsSearchOver}
 use Rattle.http_wire.proofs.Search.{Nothing, search_head, only_ends}
 use Rattle.http_wire.proofs.Fronts.{not_blank}
@@ -403,3 +403,37 @@ open_not_blank scan bytes (blank, lines, part, o) e =
     (ap (only_ends false) (o.is ∙ append_assoc (print_blank blank) (flat_map print_line lines) part)
     ∙ ends_past blank (flat_map print_line lines ++ part)
     ∙ ends_open lines part scan.line_empty scan.begun scan.carriage e o.begun (kind_of scan bytes blank lines part o) o.each o.one)
+
+-- ---- bytes that tell no lines apart
+
+-- no line is empty behind a byte that is no CR
+no_longer_empty : (empty carriage : Bool) → false ≡ (empty && not carriage && false)
+no_longer_empty true true = refl
+no_longer_empty true false = refl
+no_longer_empty false carriage = refl
+
+plain_byte : (scan next : HeadScan) (bytes : List ℕ) (b : ℕ) → 13 < b → scan.ended ≡ None → next.ended ≡ None → next.lines ≡ scan.lines
+    → next.begun ≡ scan.begun → next.at ≡ scan.at + 1 → next.line_empty ≡ false → next.carriage ≡ false
+    → StandsFor scan bytes → StandsFor next (bytes ++ b ∷ [])
+plain_byte scan next bytes b more live still count begun at empty carriage s =
+    let other : (b == 10) ≡ false = not_feed b (λ e. omega (arith, e, more)) in
+    let none : (b == 13) ≡ false = not_carriage b (λ e. omega (arith, e, more)) in
+    stands_open next (bytes ++ b ∷ []) still
+    (open_byte scan next bytes b other count begun at
+    (empty ∙ no_longer_empty scan.line_empty scan.carriage ∙ ap (λ (t : Bool). scan.line_empty && not scan.carriage && t) (sym none))
+    (carriage ∙ sym none) (open_of scan bytes live s))
+
+pub plain_more : (scan : HeadScan) (n : ℕ) (bytes : List ℕ) (b : ℕ) → scan.ended ≡ None → 13 < b → StandsFor (with_plain scan n) bytes
+    → StandsFor (with_plain scan (suc n)) (bytes ++ b ∷ [])
+plain_more scan zero bytes b live more s =
+    plain_byte scan (with_plain scan (suc zero)) bytes b more live live refl refl refl refl refl s
+plain_more scan (suc n) bytes b live more s =
+    plain_byte (with_plain scan (suc n)) (with_plain scan (suc (suc n))) bytes b more live live refl refl (omega arith) refl refl s
+
+pub plain_ended : (scan : HeadScan) (n : ℕ) → (with_plain scan n).ended ≡ scan.ended
+plain_ended scan zero = refl
+plain_ended scan (suc n) = refl
+
+pub plain_at : (scan : HeadScan) (n : ℕ) → (with_plain scan n).at ≡ scan.at + n
+plain_at scan zero = omega arith
+plain_at scan (suc n) = refl

@@ -1,6 +1,6 @@
 // The search for the end of a head, which goes on from where it stood.
 ghost use Rattle.std.specs.Prelude.{◌≡◌, ◌<◌, ◌≤◌, ◌+◌, ◌-◌, ◌^◌, ℕ, List, [], ◌∷◌, ◌++◌, length, min, None, not, ◌&&◌, if◌then◌else◌};
-ghost use Rattle.http_wire.specs.Scan.{StandsFor, is_blank};
+ghost use Rattle.http_wire.specs.Scan.{StandsFor, is_blank, with_plain as with_plain_bytes};
 
 use std::sync::ledger::Ledger;
 use step_count::Steps;
@@ -91,24 +91,29 @@ impl HeadScan {
         }
     }
 
-    /// The search with one more byte, which is looked at here alone.
-    fn with_byte<L: Ledger>(self, byte: u8, steps: &mut Steps<L>) -> HeadScan
+    /// The search with so many bytes more, none of which tells lines apart.
+    fn with_plain(self, count: u32) -> HeadScan
+        requires small { self.at + count < 2 ^ 32 }
+        ensures { result ≡ with_plain_bytes self count }
+    {
+        if count == 0 {
+            return self;
+        }
+        HeadScan {
+            at: self.at + count,
+            line_empty: false,
+            carriage: false,
+            ..self
+        }
+    }
+
+    /// The search with one more byte.
+    fn with_byte(self, byte: u8) -> HeadScan
         requires open { self.ended ≡ None }
         requires small { self.at < 2 ^ 32 - 1 }
         ensures stands { (bytes : List ℕ) → StandsFor self bytes → StandsFor result (bytes ++ byte ∷ []) }
         ensures at { result.at ≡ self.at + 1 }
-        ensures step { steps.new ≡ steps.old + 1 }
     {
-        steps.tick();
-        // Most bytes: neither of the two that tell lines apart.
-        if byte > b'\r' {
-            return HeadScan {
-                at: self.at + 1,
-                line_empty: false,
-                carriage: false,
-                ..self
-            };
-        }
         if byte == b'\n' {
             return self.with_feed();
         }
@@ -130,13 +135,24 @@ impl HeadScan {
         ensures each_once { steps.new + self.at ≡ steps.old + result.at }
     {
         let mut scan = self;
-        for byte in piece {
-            if scan.ended.is_some() {
-                return scan;
-            }
-            scan = scan.with_byte(*byte, steps);
+        if scan.ended.is_some() {
+            return scan;
         }
-        scan
+        // Most bytes are neither of the two that tell lines apart, and are only counted.
+        let mut plain = 0u32;
+        for byte in piece {
+            steps.tick();
+            if *byte > b'\r' {
+                plain += 1;
+            } else {
+                scan = scan.with_plain(plain).with_byte(*byte);
+                plain = 0;
+                if scan.ended.is_some() {
+                    return scan;
+                }
+            }
+        }
+        scan.with_plain(plain)
     }
 
     /// Whether all bytes searched are empty lines.

@@ -4,6 +4,8 @@
 //! maps: the members of an object lie in one list in the order of the text, and of a name that comes twice the last is
 //! found. Texts without escapes are not copied, and those with some lie in the `Scratch` that is lent to the reading,
 //! which can be kept from one reading to the next.
+//!
+//! It is a room of its own since catalogues and the bodies of requests are read by it alike.
 #![tactic(auto)]
 
 mod fault;

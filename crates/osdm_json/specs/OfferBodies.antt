@@ -23,11 +23,11 @@ party_of d =
     if is_party adults children then Ok (record { adults = adults; children = children }) else Err (Field Adults)))
 
 -- two texts that differ
-pub record Ends : Type 0 where
+pub record TripEnds : Type 0 where
   pub origin : List ℕ
   pub destination : List ℕ
 
-abbrev pub ends_of : Data → Result Ends BodyFault
+abbrev pub ends_of : Data → Result TripEnds BodyFault
 ends_of d =
     need Origin (text_of (get (codes "origin") d)) (λ origin.
     need Destination (option_and_then (unlike origin) (text_of (get (codes "destination") d))) (λ destination.
@@ -40,7 +40,7 @@ window_of d =
     Ok (record { earliest = earliest; latest = latest })))
 
 -- stations are looked up after all fields
-abbrev pub trip_of : CatalogueView → Ends → Window → Result TripWish BodyFault
+abbrev pub trip_of : CatalogueView → TripEnds → Window → Result TripWish BodyFault
 trip_of cat ends window =
     known Origin (station_with ends.origin cat.runs.stations) (λ origin.
     known Destination (station_with ends.destination cat.runs.stations) (λ destination.

@@ -2,13 +2,14 @@
 ghost use Rattle.std.specs.Prelude.{◌≡◌, ◌≤◌, ◌+◌, Some, None, IfOk, IfErr, IfSome, map, option_map};
 ghost use Rattle.json_text.specs.View.{view};
 ghost use Rattle.rail_time.specs.Moments.{last_second};
-ghost use Rattle.rail_catalogue.specs.Json.{json_of, whole_in as whole_of, whole_or as whole_or_of, list_of as list_of_member, text_of};
+ghost use Rattle.rail_catalogue.specs.Json.{json_of, text_of};
 ghost use Rattle.rail_catalogue.specs.Coaches.{class_named as class_named_of, trait_named};
 ghost use Rattle.osdm_json.specs.Members.{class_in as class_of, flag_in as flag_of, traits_in as traits_of, traits_from, moment_in as moment_of_member, latest_in as latest_of};
 
 use crate::fault::BodyFault;
 use json_text::{ReadFault, Scratch, Value};
 use place_map::Class;
+use rail_catalogue::list_of;
 use rail_time::{Moment, read_moment};
 use std::alloc::Global;
 
@@ -29,39 +30,6 @@ pub(crate) fn read_value<'a>(
         Ok(value) => Ok(value),
         Err(ReadFault::NoMemory) => Err(BodyFault::NoMemory),
         Err(ReadFault::NotJson) => Err(BodyFault::NotJson),
-    }
-}
-
-/// A whole number in this range.
-pub(crate) fn whole_in(value: Option<&Value<'_>>, least: u32, most: u32) -> Option<u32>
-    ensures value { result ≡ whole_of least most (option_map (λ v. view v.now) value.entry) }
-    ensures least { IfSome result (λ n. least ≤ n) }
-    ensures most { IfSome result (λ n. n ≤ most) }
-{
-    let number = value.and_then(Value::as_u64)?;
-    if u64::from(least) <= number && number <= u64::from(most) {
-        Some(number as u32)
-    } else {
-        None
-    }
-}
-
-/// The same, where the member may be missing.
-pub(crate) fn whole_or(
-    value: Option<&Value<'_>>,
-    default: u32,
-    least: u32,
-    most: u32,
-) -> Option<u32>
-    requires low { least ≤ default }
-    requires high { default ≤ most }
-    ensures value { result ≡ whole_or_of default least most (option_map (λ v. view v.now) value.entry) }
-    ensures least { IfSome result (λ n. least ≤ n) }
-    ensures most { IfSome result (λ n. n ≤ most) }
-{
-    match value {
-        None => Some(default),
-        Some(value) => whole_in(Some(value), least, most),
     }
 }
 
@@ -112,14 +80,8 @@ pub(crate) fn traits_in(value: Option<&Value<'_>>) -> Option<u8>
 {
     match value {
         None => Some(0),
-        Some(value) => sum_of_traits(items_of(value)?),
+        Some(value) => sum_of_traits(list_of(Some(value))?),
     }
-}
-
-fn items_of<'v, 'a>(value: &'v Value<'a>) -> Option<&'v [Value<'a>]>
-    ensures { option_map (λ v. map view v.now) result ≡ list_of_member (Some (view value.now)) }
-{
-    value.as_array()
 }
 
 fn sum_of_traits(items: &[Value<'_>]) -> Option<u8>

@@ -10,10 +10,10 @@ ghost use Rattle.osdm_json.specs.Readable.{IsReadable, IsTripWish};
 
 use crate::command::Command;
 use crate::fault::BodyFault;
-use crate::members::{class_in, latest_in, moment_in, text_in, traits_in, whole_in, whole_or};
+use crate::members::{class_in, latest_in, moment_in, text_in, traits_in};
 use json_text::Value;
 use osdm_texts::FieldName;
-use rail_catalogue::Catalogue;
+use rail_catalogue::{Catalogue, whole_in, whole_or};
 use rail_time::Moment;
 use std::alloc::Global;
 use trip_builder::TripWish;
@@ -27,7 +27,7 @@ struct Party {
 
 // From where to where, as codes of stations.
 #[derive(Clone, Copy)]
-struct Ends<'a> {
+struct TripEnds<'a> {
     origin: &'a str,
     destination: &'a str,
 }
@@ -104,7 +104,7 @@ fn is_party(adults: u32, children: u32) -> bool
     1 <= adults + children && adults + children <= 8
 }
 
-fn read_ends<'a>(body: &Value<'a>) -> Result<Ends<'a>, BodyFault>
+fn read_ends<'a>(body: &Value<'a>) -> Result<TripEnds<'a>, BodyFault>
     ensures ok { IfOk result (λ e. ends_of (view body.now) ≡ Ok (ends_view e)) }
     ensures differ { IfOk result (λ e. (ends_view e).destination ≢ (ends_view e).origin) }
     ensures err { IfErr result (λ e. ends_of (view body.now) ≡ Err e) }
@@ -115,7 +115,7 @@ fn read_ends<'a>(body: &Value<'a>) -> Result<Ends<'a>, BodyFault>
         });
     };
     match text_in(body.get("destination")) {
-        Some(destination) if destination != origin => Ok(Ends {
+        Some(destination) if destination != origin => Ok(TripEnds {
             origin,
             destination,
         }),
@@ -144,7 +144,7 @@ fn read_window(alloc: Global, body: &Value<'_>) -> Result<Window, BodyFault>
 }
 
 // The wish between two stations, which are looked up here.
-fn find_trip(cat: &Catalogue, ends: &Ends<'_>, window: Window) -> Result<TripWish, BodyFault>
+fn find_trip(cat: &Catalogue, ends: &TripEnds<'_>, window: Window) -> Result<TripWish, BodyFault>
     requires differ { (ends_view ends.now).destination ≢ (ends_view ends.now).origin }
     requires window { window.earliest ≤ window.latest }
     requires in_years { window.latest ≤ last_second }

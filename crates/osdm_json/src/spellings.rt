@@ -49,7 +49,7 @@ pub(crate) fn run_of(runs: &Runs, text: &[u8]) -> Option<RunNo>
     ensures known { IfSome result (λ run. run.0 < length runs.now.runs) }
 {
     let count = u64::from(runs.count());
-    let number = parse(text)?;
+    let number = value_of_digits(text)?;
     if number < count && Buffer::new().format(number).as_bytes() == text {
         Some(RunNo(number as u32))
     } else {
@@ -58,7 +58,7 @@ pub(crate) fn run_of(runs: &Runs, text: &[u8]) -> Option<RunNo>
 }
 
 // The number of digits. A text that is no number may give one too.
-fn parse(digits: &[u8]) -> Option<u64>
+fn value_of_digits(digits: &[u8]) -> Option<u64>
     ensures { (k n : ℕ) → n < 2 ^ 64 → digits.now ≡ replicate k 48 ++ decimal n → result ≡ Some n }
 {
     match str::from_utf8(digits) {

@@ -8,12 +8,12 @@ ghost use Rattle.osdm_json.specs.Readable.{IsReadable, IsWithinRun};
 
 use crate::command::Command;
 use crate::fault::BodyFault;
-use crate::members::{class_in, flag_in, text_in, traits_in, whole_in, whole_or};
+use crate::members::{class_in, flag_in, text_in, traits_in};
 use crate::spellings::run_of;
 use json_text::Value;
 use offer_codes::Segment;
 use osdm_texts::FieldName;
-use rail_catalogue::Catalogue;
+use rail_catalogue::{Catalogue, whole_in, whole_or};
 use rail_ids::RunNo;
 
 /// What the body reserves.

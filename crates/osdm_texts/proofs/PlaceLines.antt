@@ -65,9 +65,10 @@ framed_line later p free = sym (place_line later p free ∙ framed)
     framed = simp append_assoc
 
 -- likewise where the front is given by other terms
-pub framed_is : (is_later : Bool) (class : Class) (coach : ℕ) (later : Bool) (p : Place) (free : Bool) → is_later ≡ later → class ≡ p.class → coach ≡ p.coach
-    → front_line is_later class coach free ++ (decimal p.number ++ traits_text p.traits) ≡ comma_if later ++ compact_text (place_tree p free)
-framed_is is_later class coach later p free same_later same_class same_coach = rw (same_later, same_class, same_coach) (framed_line later p free)
+pub framed_is : (is_later : Bool) (class : Class) (coach : ℕ) (end : List ℕ) (later : Bool) (p : Place) (free : Bool) → is_later ≡ later → class ≡ p.class → coach ≡ p.coach
+    → end ≡ traits_text p.traits → front_line is_later class coach free ++ (decimal p.number ++ end) ≡ comma_if later ++ compact_text (place_tree p free)
+framed_is is_later class coach end later p free same_later same_class same_coach same_end =
+    rw (same_later, same_class, same_coach, same_end) (framed_line later p free)
 
 pub put_traits : (traits : ℕ) (t0 t1 t2 : List ℕ) (later : Bool) → later ≡ ((has_trait traits 1 || has_trait traits 2) || has_trait traits 4)
     → t1 ≡ t0 ++ first_line (has_trait traits 1) (has_trait traits 2) (has_trait traits 4) → t2 ≡ t1 ++ last_line later (has_trait traits 8) (has_trait traits 16) → t2 ≡ t0 ++ traits_text traits

@@ -24,9 +24,13 @@ pub(crate) fn places_text(
     let mut text = Vec::with_capacity(alloc, room.saturating_add(16))?;
     put(&mut text, b"{\"places\":[")?;
     let mut front = Front::new(alloc, false, Class::First, 0)?;
+    let mut end = line_behind(alloc, 0)?;
+    let mut traits = 0;
     for (n, place) in places.iter().enumerate() {
-        front = renewed(alloc, front, n > 0, place)?;
-        put_place(&mut text, &front, place, free[n])?;
+        renew(alloc, &mut front, n > 0, place)?;
+        renew_end(&mut end, traits, place.traits)?;
+        traits = place.traits;
+        put_place(&mut text, &front, end.as_slice(), place, free[n])?;
     }
     put(&mut text, b"]}")?;
     Ok(text)
@@ -85,22 +89,50 @@ fn line_before(
     Ok(text)
 }
 
-// The front, where it is that of the place, and else a new one.
-fn renewed(alloc: Global, front: Front, is_later: bool, place: &Place) -> Result<Front, AllocError>
-    ensures { IfOk result (λ f. (f.is_later ≡ is_later) × (f.class ≡ place.now.class)
-        × (f.coach ≡ place.now.coach)) }
+// What stands behind the number of a place.
+fn line_behind(alloc: Global, traits: u8) -> Result<Vec<u8>, AllocError>
+    ensures { IfOk result (λ text. text.items ≡ traits_text traits) }
 {
-    if front.fits(is_later, place) {
-        return Ok(front);
-    }
-    Front::new(alloc, is_later, place.class, place.coach)
+    let mut text = Vec::new(alloc);
+    put_traits(&mut text, traits)?;
+    Ok(text)
 }
 
-// The text of a place with this front.
-fn put_place(text: &mut Vec<u8>, front: &Front, place: &Place, free: bool) -> Result<(), AllocError>
+// Makes the front that of the place, where it isn't.
+fn renew(alloc: Global, front: &mut Front, is_later: bool, place: &Place) -> Result<(), AllocError>
+    ensures { OnOk result ((front.new.is_later ≡ is_later) × (front.new.class ≡ place.now.class)
+        × (front.new.coach ≡ place.now.coach)) }
+{
+    if front.fits(is_later, place) {
+        return Ok(());
+    }
+    *front = Front::new(alloc, is_later, place.class, place.coach)?;
+    Ok(())
+}
+
+// Makes what stands behind the number of a place with the traits before that of one with these, where it isn't.
+fn renew_end(end: &mut Vec<u8>, before: u8, traits: u8) -> Result<(), AllocError>
+    requires before { end.old.items ≡ traits_text before }
+    ensures { OnOk result (end.new.items ≡ traits_text traits) }
+{
+    if before == traits {
+        return Ok(());
+    }
+    end.clear();
+    put_traits(end, traits)
+}
+
+// The text of a place with this front and this end.
+fn put_place(
+    text: &mut Vec<u8>,
+    front: &Front,
+    end: &[u8],
+    place: &Place,
+    free: bool,
+) -> Result<(), AllocError>
     ensures { OnOk result (text.new.items ≡ text.old.items
         ++ (front_line front.now.is_later front.now.class front.now.coach free
-        ++ (decimal place.now.number ++ traits_text place.now.traits))) }
+        ++ (decimal place.now.number ++ end.now))) }
 {
     let line = if free {
         front.free.as_slice()
@@ -109,7 +141,7 @@ fn put_place(text: &mut Vec<u8>, front: &Front, place: &Place, free: bool) -> Re
     };
     put(text, line)?;
     put_number(text, place.number)?;
-    put_traits(text, place.traits)
+    put(text, end)
 }
 
 // The beginning of a place's text, up to the number of its coach.

@@ -221,10 +221,10 @@ fn with_traits(
     requires { All (λ n. n.0 < length places.now) numbers.now }
     ensures { IfOk result (λ v. v.items ≡ filter (has_traits wanted places.now) numbers.now) }
 {
-    let mut found = Vec::new(alloc);
+    let mut found = Vec::with_capacity(alloc, numbers.len())?;
     for number in numbers {
         if places[number.0 as usize].traits & wanted == wanted {
-            found.push(*number)?;
+            found.push_reserved(*number);
         }
     }
     Ok(found)

@@ -19,7 +19,7 @@ use Rattle.osdm_texts.specs.declared.problem.Problem.TheVariants.{WrongState, Qu
 use Rattle.osdm_texts.specs.Answers.{Reply, problem}
 use Rattle.trade_service.specs.Exchanges.{ExchangesIt}
 use Rattle.service_rules.specs.Ordered as order
-use Rattle.service_rules.specs.Orders.{IsSound}
+use Rattle.service_rules.specs.Orders.{IsSoundOrder}
 use Rattle.plain_host.specs.Plain.{Plain, Outcome}
 use Rattle.plain_host.specs.Outcomes.{refusing, wrong, with_places_for, exchanged_for, exchanged_by, is_same, exchanged_with, on_view, on_own}
 use Rattle.plain_host.specs.PlainOf.{view_of, plain_in, plain_of}
@@ -112,7 +112,7 @@ offer_of x is =
     (and_parts (nat_le x.made 4_102_444_799) (nat_le (magnitude x.difference) 99_999_999_999 && is_offer x.offer)
     (and_parts (is_row x.row) (nat_le x.made 4_102_444_799 && (nat_le (magnitude x.difference) 99_999_999_999 && is_offer x.offer)) is).1).1).1
 
-pub accept_exchange_plain : (cat : CatalogueView) (retailer now : ℕ) (code : ExchangeCode) → IsSound cat now (order.accept_exchange code)
+pub accept_exchange_plain : (cat : CatalogueView) (retailer now : ℕ) (code : ExchangeCode) → IsSoundOrder cat now (order.accept_exchange code)
     → AnswersPlainly cat retailer now (Ok (order.accept_exchange code))
 accept_exchange_plain cat retailer now code sound = λ old new reply lone did.
     let x = exchange_view code in

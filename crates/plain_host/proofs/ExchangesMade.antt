@@ -15,6 +15,7 @@ use Rattle.history_model.specs.Phase.{is_sealed, is_ended, row_word_of}
 use Rattle.history_model.specs.Apply.{apply_step, in_phase}
 use Rattle.history_model.specs.Booking.{Booking, Layout, State, key_of, next_in, next_generation, stands_as, change, present}
 use Rattle.history_model.specs.Laws.{IsWellFormed, is_owners}
+use Rattle.history_model.specs.WholeEnds.{end_turn}
 use Rattle.history_model.proofs.ListLemmas.{All-left, All-right}
 use Rattle.history_model.proofs.Generations.{present_latest, unended_present, stands_there}
 use Rattle.claim_rule.specs.Rule.{DeskView, state_seen}
@@ -22,7 +23,6 @@ use Rattle.claim_rule.specs.Holds.{held}
 use Rattle.claim_rule.specs.Endings.{items_read}
 use Rattle.claim_rule.specs.EndSteps.{ending_steps}
 use Rattle.claim_rule.proofs.Moves.{is_sound}
-use Rattle.booking_rows.specs.Aims.{end_turn}
 use Rattle.booking_rows.specs.Notes.{detail_notes}
 use Rattle.booking_rows.specs.Views.{RowSeen}
 use Rattle.rail_catalogue.specs.Contents.{CatalogueView}

@@ -27,7 +27,7 @@ use Rattle.reservation_service.specs.declared.booking.Reservation.{Reservation}
 use Rattle.reservation_service.specs.Reserving.{reserved}
 use Rattle.search_service.specs.Searching.{numbers_on}
 use Rattle.service_rules.specs.Ordered as order
-use Rattle.service_rules.specs.Orders.{IsSound}
+use Rattle.service_rules.specs.Orders.{IsSoundOrder}
 use Rattle.plain_host.specs.Plain.{choice_for}
 use Rattle.plain_host.specs.PlainOf.{plain_in, plain_of}
 use Rattle.plain_host.specs.Settled.{IsSettled}
@@ -98,13 +98,13 @@ row_started cat old new None lone did =
     let none = none_begun old new lone.alone lone.settled (is_sound old.layout old.seen lone.legal) did in
     (subst (λ (n : ℕ). choice_for n (plain_of old) ≡ None) lone.rows none.0, ap plain_in none.1)
 
-pub book_plain : (cat : CatalogueView) (retailer now : ℕ) (code : OfferCode) (together : Bool) → IsSound cat now (order.book code together)
+pub book_plain : (cat : CatalogueView) (retailer now : ℕ) (code : OfferCode) (together : Bool) → IsSoundOrder cat now (order.book code together)
     → AnswersPlainly cat retailer now (Ok (order.book code together))
 book_plain cat retailer now code together sound = λ old new reply lone did.
     let o = offer_view code in
     reserves_plainly cat retailer now o together old new reply lone (offer_fits cat o sound.0) (offered_differ cat o sound.1) did
 
-pub reserve_plain : (cat : CatalogueView) (retailer now : ℕ) (r : Reservation) → IsSound cat now (order.reserve r) → AnswersPlainly cat retailer now (Ok (order.reserve r))
+pub reserve_plain : (cat : CatalogueView) (retailer now : ℕ) (r : Reservation) → IsSoundOrder cat now (order.reserve r) → AnswersPlainly cat retailer now (Ok (order.reserve r))
 reserve_plain cat retailer now r sound = λ old new reply lone did.
     let o = reserved r.segment r.class r.count r.traits now in
     reserves_plainly cat retailer now o r.together old new reply lone (reserved_fit cat old o r.segment lone sound.0, tt) (tt, tt) did
@@ -129,7 +129,7 @@ offers_plain cat retailer now w old new reply lone (inr ((es, did, shape), none)
     let same = begun_seen cat w (trips_of cat.runs (raised w.trip now)) old new lone (es, did, shape) in
     (inr (none, ap plain_in same), stays_as cat old new lone (stays_by old new es lone.alone shape) same)
 
-pub places_plain : (cat : CatalogueView) (retailer now : ℕ) (segment : Segment) → IsSound cat now (order.places segment) → AnswersPlainly cat retailer now (Ok (order.places segment))
+pub places_plain : (cat : CatalogueView) (retailer now : ℕ) (segment : Segment) → IsSoundOrder cat now (order.places segment) → AnswersPlainly cat retailer now (Ok (order.places segment))
 places_plain cat retailer now segment within old new reply lone (inl (free, (es, did, shape), told)) =
     let seen = places_seen cat (numbers_on cat segment.run.0) segment.span free old new lone (listed_fit cat old segment lone within) (es, did, shape) in (
       answered told (ap (place_list segment.run.0) seen.0) (ap plain_in seen.1),

@@ -4,8 +4,8 @@ use Rattle.leg_masks.specs.Interval.{Interval, PlacedSpan as Item}
 use Rattle.rail_ids.specs.declared.RowNo.{RowNo}
 use Rattle.history_model.specs.declared.phase.Phase.TheVariants as phase
 use Rattle.history_model.specs.declared.phase.EndKind.TheVariants as kind
+use Rattle.history_model.specs.WholeEnds.{end_at}
 use Rattle.booking_rows.specs.Views.{RowSeen}
-use Rattle.booking_rows.specs.Aims.{end_at}
 use Rattle.place_map.specs.declared.coach.Class.{Class}
 use Rattle.place_map.specs.declared.coach.Class.TheVariants.{First, Second}
 use Rattle.place_map.specs.declared.coach.Place.{Place}

@@ -6,8 +6,9 @@ use Rattle.rail_ids.specs.declared.RowNo.{RowNo}
 use Rattle.history_model.specs.Booking.{successor_word}
 use Rattle.history_model.specs.declared.phase.Phase.TheVariants as phase
 use Rattle.history_model.specs.declared.phase.EndKind.TheVariants as kind
+use Rattle.history_model.specs.WholeEnds.{end_at}
 use Rattle.booking_rows.specs.Views.{RowSeen}
-use Rattle.booking_rows.specs.Aims.{end_of, end_at}
+use Rattle.booking_rows.specs.Aims.{end_of}
 use Rattle.booking_rows.specs.declared.turns.Aim.TheVariants as aim
 use Rattle.offer_codes.specs.declared.code.Segment.{Segment}
 use Rattle.offer_codes.specs.declared.code.OfferCode.{OfferCode}

@@ -23,10 +23,11 @@ ghost use Rattle.offer_codes.specs.declared.code.OfferCode.{OfferCode};
 ghost use Rattle.offer_codes.specs.declared.code.ExchangeCode.{ExchangeCode};
 ghost use Rattle.rail_catalogue.specs.Contents.{CatalogueView};
 ghost use Rattle.osdm_json.specs.declared.command.Command.{Command};
+ghost use Rattle.osdm_json.specs.declared.command.Command.TheVariants.{Book, AcceptExchange};
 ghost use Rattle.osdm_json.specs.Readable.{IsReadable};
-ghost use Rattle.service_rules.specs.Ordered.{offers, book, reserve, places, accept_exchange};
+ghost use Rattle.service_rules.specs.Ordered.{offers, reserve, places};
 ghost use Rattle.service_rules.specs.Checks.{ordered};
-ghost use Rattle.service_rules.specs.Orders.{IsSound};
+ghost use Rattle.service_rules.specs.Orders.{IsSoundOrder};
 ghost use Rattle.plain_host.specs.Plain.{is_free};
 ghost use Rattle.plain_host.specs.PlainOf.{plain_of};
 ghost use Rattle.plain_host.specs.Found.{FindsFree, SeatsFree, ChoosesRow};
@@ -57,17 +58,22 @@ pub fn places_are_found()
 
 /// The laws of a lone desk's orders on places: each is answered as by a host of one thread. All but the search for
 /// offers are sound with this catalogue.
+///
+/// Those of booking an offer and of an exchange are on the command: one by an offer or a quote that is unknown or too
+/// old orders none, and is refused for that.
 pub fn places_are_plain()
-    ensures book { (cat : CatalogueView) (retailer now : ℕ) (offer : OfferCode) (together : Bool)
-        → IsSound cat now (book offer together) → AnswersPlainly cat retailer now (Ok (book offer together)) }
+    ensures book { (cat : CatalogueView) (retailer now : ℕ) (offer : Option OfferCode) (together : Bool)
+        → IsReadable cat (Book offer together)
+        → AnswersPlainly cat retailer now (ordered cat now (Book offer together)) }
     ensures reserve { (cat : CatalogueView) (retailer now : ℕ) (r : Reservation)
-        → IsSound cat now (reserve r) → AnswersPlainly cat retailer now (Ok (reserve r)) }
+        → IsSoundOrder cat now (reserve r) → AnswersPlainly cat retailer now (Ok (reserve r)) }
     ensures offers { (cat : CatalogueView) (retailer now : ℕ) (wish : OfferWish)
         → AnswersPlainly cat retailer now (Ok (offers wish)) }
     ensures places { (cat : CatalogueView) (retailer now : ℕ) (segment : Segment)
-        → IsSound cat now (places segment) → AnswersPlainly cat retailer now (Ok (places segment)) }
-    ensures exchange { (cat : CatalogueView) (retailer now : ℕ) (code : ExchangeCode)
-        → IsSound cat now (accept_exchange code) → AnswersPlainly cat retailer now (Ok (accept_exchange code)) }
+        → IsSoundOrder cat now (places segment) → AnswersPlainly cat retailer now (Ok (places segment)) }
+    ensures exchange { (cat : CatalogueView) (retailer now : ℕ) (row : Option RowNo) (code : Option ExchangeCode)
+        → IsReadable cat (AcceptExchange row code)
+        → AnswersPlainly cat retailer now (ordered cat now (AcceptExchange row code)) }
 {}
 
 /// The law of all commands: what a lone desk answers to a command that can be read, by what it orders or is refused for,

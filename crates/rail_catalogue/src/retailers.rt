@@ -28,7 +28,7 @@ impl Model for Retailer {
     ghost view = { λ r. record { number = r.number; key = r.key.items } };
 }
 
-// The retailers in the file's order, with what finds one by its key or its number.
+/// The retailers in the file's order, with what finds one by its key or its number.
 #[derive(Debug, Drop)]
 pub struct Retailers {
     list: Vec<Retailer>,

@@ -20,7 +20,7 @@ use std::alloc::Global;
 use tariff::Fare;
 use train_runs::{Run, RunFault, Runs};
 
-// Runs with their fares and places, as far as they are read.
+/// Runs with their fares and places, as far as they are read.
 #[derive(Drop)]
 pub struct Network {
     pub runs: Runs,

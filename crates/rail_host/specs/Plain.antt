@@ -6,7 +6,7 @@ use Rattle.host_words.specs.Commands.{IsFor}
 use Rattle.host_words.specs.Settle.{IsNoSettle}
 use Rattle.host_words.specs.Tiny.{IsNoTiny}
 use Rattle.host_words.specs.declared.command.CommandName.TheVariants.{Replay, Export, Settle}
-use Rattle.host_tiny.specs.Host.{IsServed, IsCutOrRefused, IsReadFault, IsWriteFault}
+use Rattle.host_tiny.specs.Host.{ServesAll, IsCutOrRefused, IsReadFault, IsWriteFault}
 use Rattle.host_replay.specs.Input.{IsOfRefusedText, IsWithoutBooks}
 use Rattle.host_replay.specs.Replay.{IsForReplay, IsNoReplay, IsReplay, RepliesAll, RepliesCut, RepliesPart, RepliesTaken}
 use Rattle.host_replay.specs.Export.{EndsCut, ExportsAll, IsExport, IsForExport, IsNoExport}
@@ -44,7 +44,7 @@ HasRefusedText words files = IsOfRefusedText Replay words files ⊎ IsOfRefusedT
 -- are the settlement table
 abbrev pub AnswersAll : List (List ℕ) → Files → List ℕ → List ℕ → Type 0
 AnswersAll words files stream written =
-    IsServed words stream written ⊎ RepliesAll words files stream written ⊎ ExportsAll words files stream written
+    ServesAll words stream written ⊎ RepliesAll words files stream written ⊎ ExportsAll words files stream written
     ⊎ IsTableFor words files written
 
 -- there is no export, since the bytes to come end inside a request or in a refusal

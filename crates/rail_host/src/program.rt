@@ -1,9 +1,14 @@
 // The command of the first word.
-ghost use Rattle.std.specs.Prelude.{◌≡◌, ◌⊎◌, None, replicate};
+ghost use Rattle.std.specs.Prelude.{◌≡◌, ◌⊎◌, ℕ, List, Option, None, Some, replicate};
+ghost use Rattle.rail_io.specs.Faults.{Rose};
 ghost use Rattle.host_words.specs.Options.{words_texts};
-ghost use Rattle.host_serve.specs.Serve.{IsForServe};
-ghost use Rattle.host_serve.specs.Turns.{Asks};
-ghost use Rattle.rail_host.specs.Commands.{EndsSo, IsNoCommand};
+ghost use Rattle.host_words.specs.Serve.{ServeView};
+ghost use Rattle.host_catalogue.specs.Opening.{HasNoBooks};
+ghost use Rattle.host_replay.specs.Export.{IsForExport};
+ghost use Rattle.host_serve.specs.Serve.{IsExporting, IsForServe, IsServe};
+ghost use Rattle.host_serve.specs.Turns.{Asks, HandedBy};
+ghost use Rattle.rail_host.specs.Commands.{EndsSo, IsNoCommand, ReadsNothing};
+ghost use Rattle.rail_host.specs.Plain.{AsksForFiles};
 
 use crate::host::run_plain;
 use crate::serve::serve_port;
@@ -50,33 +55,68 @@ where
     ensures nothing_read { result.status ≡ 2 → input.new ≡ input.old }
     ensures nothing_written { result.status ≡ 2 → output.new ≡ output.old }
     ensures nothing_fetched { result.status ≡ 2 → shelf.new ≡ shelf.old }
+    ensures nothing_heard { result.status ≡ 2 → result.listener ≡ listener }
 
-    // The status and the note are those of one end. Of `serve`, and of no other command, the notes took the export before the note, if it
-    // was asked for. No other command hears of the listener.
-    ensures ended { EndsSo (words_texts words.now) (F.told shelf.old)
+    // The command of the words ran so on the devices handed in: from this input, to this output, on this shelf's files. The
+    // status and the note are those of its end. Of `serve`, and of no other command, the notes took the export before the
+    // note, if it was asked for.
+    ensures ended { EndsSo (words_texts words.now)
         (record {
           faults_before = L.faults listener;
           before = L.told listener;
           clocks = replicate 17 None;
           asks = Asks T.ticked ticker;
+          hands = HandedBy L.becomes L.hands listener;
           faults_after = L.faults result.listener;
           after = L.told result.listener;
           wall = result.wall;
         })
         result.status
         (record {
-          failed = F.faults shelf.old;
-          fails = F.faults shelf.new;
-          missed = F.misses shelf.old;
-          misses = F.misses shelf.new;
-        })
-        (record {
-          before = E.told notes.old;
-          failed = E.faults notes.old;
-          after = E.told notes.new;
-          fails = E.faults notes.new;
+          files = F.told shelf.old;
+          shelf = record {
+            failed = F.faults shelf.old;
+            fails = F.faults shelf.new;
+            missed = F.misses shelf.old;
+            misses = F.misses shelf.new;
+          };
+          input = S.told input.old;
+          left = S.told input.new;
+          output = K.told output.old;
+          sent = K.told output.new;
+          notes = record {
+            before = E.told notes.old;
+            failed = E.faults notes.old;
+            after = E.told notes.new;
+            fails = E.faults notes.new;
+          };
         }) }
+
+    // What a command has no use for is left as it was: only `serve` hears of the listener, and neither it nor `drill` or
+    // `settle` reads the input. A failure of the input or the output is answered where its count of faults rose in this call,
+    // and at every other status that count is as it was; but at status 5 of `export` the input may have failed behind an
+    // answer for want of memory.
     ensures unheard { (IsForServe (words_texts words.now) → ⊥) → result.listener ≡ listener }
+    ensures unread { ReadsNothing (words_texts words.now) → input.new ≡ input.old }
+    ensures unwritten { IsForServe (words_texts words.now) → output.new ≡ output.old }
+    ensures unfetched { AsksForFiles (words_texts words.now) ⊎ IsForServe (words_texts words.now)
+        ⊎ (shelf.new ≡ shelf.old) }
+    ensures read_cause { (IsForServe (words_texts words.now) → ⊥) → result.status ≡ 3
+        → Rose (S.faults input.old) (S.faults input.new)
+        ⊎ (AsksForFiles (words_texts words.now) × Rose (F.faults shelf.old) (F.faults shelf.new)) }
+    ensures write_cause { result.status ≡ 4 → Rose (K.faults output.old) (K.faults output.new)
+        ⊎ (IsExporting (words_texts words.now) × Rose (E.faults notes.old) (E.faults notes.new)) }
+    ensures write_steady { (result.status ≡ 4 → ⊥) → K.faults output.new ≡ K.faults output.old }
+    ensures read_steady { (result.status ≡ 3 → ⊥) → (IsForExport (words_texts words.now) → result.status ≡ 5 → ⊥)
+        → S.faults input.new ≡ S.faults input.old }
+
+    // Where the words are those of `serve` and the shelf, which tells so, has no books of theirs, no other status comes but for its failure
+    // and for want of memory.
+    ensures no_books { (files : List ℕ → Option (List ℕ)) → F.told shelf.old ≡ Some files → (said : ServeView)
+        → IsServe (words_texts words.now) said → HasNoBooks files said.catalogue said.from
+        → (result.status ≡ 1)
+        ⊎ ((result.status ≡ 3) × Rose (F.faults shelf.old) (F.faults shelf.new))
+        ⊎ (result.status ≡ 5) }
 {
     if is_for(words, CommandName::Serve) {
         serve_port(rt, alloc, words, shelf, listener, ticker, notes)

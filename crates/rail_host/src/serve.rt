@@ -1,9 +1,11 @@
 // `serve` over a listener and a ticker, by the system's clock.
-ghost use Rattle.std.specs.Prelude.{◌≡◌, ◌⊎◌, ◌≤◌, None, IfOk, length, replicate};
+ghost use Rattle.std.specs.Prelude.{◌≡◌, ◌⊎◌, ◌≤◌, ℕ, List, Option, None, Some, IfOk, length, replicate};
 ghost use Rattle.rail_io.specs.Faults.{Rose};
 ghost use Rattle.host_words.specs.Options.{words_texts};
-ghost use Rattle.host_serve.specs.Serve.{IsExporting, IsNoServe, IsOfRefusedText, IsWithoutBooks};
-ghost use Rattle.host_serve.specs.Turns.{Asks};
+ghost use Rattle.host_words.specs.Serve.{ServeView};
+ghost use Rattle.host_catalogue.specs.Opening.{HasNoBooks};
+ghost use Rattle.host_serve.specs.Serve.{IsExporting, IsNoServe, IsOfRefusedText, IsServe, IsWithoutBooks};
+ghost use Rattle.host_serve.specs.Turns.{Asks, HandedBy};
 ghost use Rattle.rail_host.specs.Commands.{ServesPort};
 
 use host_notes::{CommandEnd, end_command};
@@ -57,10 +59,11 @@ where
     L::Output: Send,
     requires fresh { (L.told listener).handed ≡ 0 }
 
-    // Status 2 comes exactly where the words are refused, but for want of memory. Nothing is then fetched.
+    // Status 2 comes exactly where the words are refused, but for want of memory. Nothing is then fetched, and the listener isn't called.
     ensures words { result.status ≡ 2 → IsNoServe (words_texts words.now) }
     ensures refused_words { IsNoServe (words_texts words.now) → (result.status ≡ 2) ⊎ (result.status ≡ 5) }
     ensures nothing_fetched { result.status ≡ 2 → shelf.new ≡ shelf.old }
+    ensures nothing_heard { result.status ≡ 2 → result.listener ≡ listener }
 
     // The status is that of the end, and the command ran so, over this listener, by this ticker and clocks that tell nothing. The notes took
     // the export of the wall that is handed back, if it was asked for and there is one, and the note of the end.
@@ -70,6 +73,7 @@ where
           before = L.told listener;
           clocks = replicate 17 None;
           asks = Asks T.ticked ticker;
+          hands = HandedBy L.becomes L.hands listener;
           faults_after = L.faults result.listener;
           after = L.told result.listener;
           wall = result.wall;
@@ -90,6 +94,11 @@ where
     ensures write_cause { result.status ≡ 4 → IsExporting (words_texts words.now)
         × Rose (E.faults notes.old) (E.faults notes.new) }
     ensures without { result.status ≡ 1 → IsWithoutBooks (words_texts words.now) (F.told shelf.old) }
+    ensures no_books { (files : List ℕ → Option (List ℕ)) → F.told shelf.old ≡ Some files → (said : ServeView)
+        → IsServe (words_texts words.now) said → HasNoBooks files said.catalogue said.from
+        → (result.status ≡ 1)
+        ⊎ ((result.status ≡ 3) × Rose (F.faults shelf.old) (F.faults shelf.new))
+        ⊎ (result.status ≡ 5) }
     ensures missed { result.status ≡ 1 → Rose (F.misses shelf.old) (F.misses shelf.new)
         ⊎ IsOfRefusedText (words_texts words.now) (F.told shelf.old) }
     ensures never_falls { L.faults listener ≤ L.faults result.listener }

@@ -1,6 +1,8 @@
 -- What the memory forms hold, and how often the adapters failed.
-use Rattle.std.specs.Prelude.{◌≡◌, ℕ, List, drop, ◌+◌, ◌-◌, ◌^◌, min, Option, option_map}
+use Rattle.std.specs.Prelude.{◌≡◌, ◌⊎◌, ℕ, List, [], ◌∷◌, length, drop, ◌+◌, ◌-◌, ◌^◌, min, Contains, Option, option_map}
 use Rattle.std.specs.BTreeMap.{get_by_text}
+use Rattle.rail_io.specs.declared.sink.PushedBoth.{PushedBoth}
+use Rattle.rail_io.specs.declared.sink.PushedBoth.TheVariants.{Took, Failed}
 use Rattle.rail_io.specs.declared.memory_source.BytesSource.{BytesSource}
 use Rattle.rail_io.specs.declared.memory_sink.VecSink.{VecSink}
 use Rattle.rail_io.specs.declared.memory_shelf.MapShelf.{MapShelf}
@@ -9,9 +11,13 @@ use Rattle.rail_io.specs.declared.standard.ReaderSource.{ReaderSource}
 use Rattle.rail_io.specs.declared.standard.WriterSink.{WriterSink}
 use Rattle.rail_io.specs.declared.system_clock.SystemClock.{SystemClock}
 
--- one call more, of a count that stands still at its last value
+-- the number of the call behind so many, of a count that stands still at its last value
+abbrev pub call_after : ℕ → ℕ
+call_after calls = min (calls + 1) (2 ^ 64 - 1)
+
+-- one call more
 abbrev pub IsOneCallMore : ℕ → ℕ → Type 0
-IsOneCallMore old new = new ≡ min (old + 1) (2 ^ 64 - 1)
+IsOneCallMore old new = new ≡ call_after old
 
 -- the bytes still to come
 abbrev pub source_left : BytesSource → List ℕ
@@ -42,6 +48,21 @@ sink_calls s = s.calls
 -- the numbers of the writes that fail
 abbrev pub sink_fails : VecSink → List ℕ
 sink_fails s = s.fails.items
+
+-- What a write of two pieces came to, whose sink writes the first by its next call, and the second, if it has bytes, by
+-- the call behind that, unless the first failed: by which calls, and which of them failed. A listed call fails.
+abbrev pub WritesInTurn : List ℕ → ℕ → ℕ → List ℕ → List ℕ → PushedBoth → Type 0
+WritesInTurn fails old new first [] (Took n) =
+    (new ≡ call_after old) × (Contains fails (call_after old) → ⊥) × (n ≡ length first)
+WritesInTurn fails old new first (byte ∷ rest) (Took n) =
+    (new ≡ call_after (call_after old))
+    × (Contains fails (call_after old) → ⊥)
+    × (Contains fails (call_after (call_after old)) → ⊥)
+    × (n ≡ length first + length (byte ∷ rest))
+WritesInTurn fails old new first [] (Failed n) = (new ≡ call_after old) × (n ≡ 0)
+WritesInTurn fails old new first (byte ∷ rest) (Failed n) =
+    ((new ≡ call_after old) × (n ≡ 0))
+    ⊎ ((new ≡ call_after (call_after old)) × (Contains fails (call_after old) → ⊥) × (n ≡ length first))
 
 -- the content of the file with the name
 abbrev pub shelf_file : MapShelf → List ℕ → Option (List ℕ)

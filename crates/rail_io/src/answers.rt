@@ -18,7 +18,7 @@ pub(crate) fn pulled_of(answer: io::Result<usize>) -> Pulled
 }
 
 /// What a write means: so many bytes were taken. One that takes none counts as failed.
-pub(crate) fn pushed_of(answer: io::Result<usize>) -> Pushed
+pub fn pushed_of(answer: io::Result<usize>) -> Pushed
     ensures { result ≡ pushed_by answer }
 {
     match answer {

@@ -25,6 +25,7 @@ mod standard;
 mod system_clock;
 mod ticker;
 
+pub use answers::pushed_of;
 pub use clock::Clock;
 pub use file_shelf::FileShelf;
 pub use memory_clock::{ListClock, ScriptClock};
@@ -34,6 +35,6 @@ pub use memory_source::BytesSource;
 pub use shelf::{Fetched, Shelf};
 pub use sink::{Pushed, PushedBoth, Sink};
 pub use source::{Pulled, Source};
-pub use standard::{ReaderSource, WriterSink};
+pub use standard::{RETRIES, ReaderSource, WriterSink};
 pub use system_clock::SystemClock;
 pub use ticker::{CountTicker, Ticker};

@@ -1,7 +1,7 @@
 // A sink over memory.
 ghost use Rattle.std.specs.Prelude.{◌≡◌, [], Some};
 
-use crate::{Pushed, Sink};
+use crate::{Pushed, PushedBoth, Sink};
 use std::alloc::Global;
 
 /// Keeps the bytes that it takes. `fails` lists the writes that are to fail, counted from 1. Where
@@ -41,11 +41,11 @@ impl VecSink {
 }
 
 impl Sink for VecSink {
-    ghost use Rattle.std.specs.Prelude.{◌≤◌, ◌<◌, length, Contains};
+    ghost use Rattle.std.specs.Prelude.{◌≤◌, ◌<◌, ◌++◌, length, Contains};
     ghost use Rattle.rail_io.specs.declared.sink.Pushed.TheVariants.{Took, Failed};
     ghost use Rattle.rail_io.specs.Faults.{Rose};
-    ghost use Rattle.rail_io.specs.Told.{Pushes};
-    ghost use Rattle.rail_io.specs.Memory.{sink_taken, sink_faults, sink_calls, sink_fails, IsOneCallMore};
+    ghost use Rattle.rail_io.specs.Told.{Pushes, PushesBoth, HasFailed};
+    ghost use Rattle.rail_io.specs.Memory.{sink_taken, sink_faults, sink_calls, sink_fails, IsOneCallMore, WritesInTurn};
 
     ghost told = { λ s. Some s.bytes.items };
 
@@ -68,5 +68,28 @@ impl Sink for VecSink {
         }
         self.faults = self.faults.saturating_add(1);
         Pushed::Failed
+    }
+
+    fn write_both(&mut self, first: &[u8], second: &[u8]) -> PushedBoth
+        requires { 0 < length first.now }
+        ensures pushes { PushesBoth (Some (sink_taken self.old)) (Some (sink_taken self.new))
+            (first.now ++ second.now) result }
+        ensures never_falls { sink_faults self.old ≤ sink_faults self.new }
+        ensures cause { HasFailed result → Rose (sink_faults self.old) (sink_faults self.new) }
+        ensures steady { (HasFailed result → ⊥) → sink_faults self.new ≡ sink_faults self.old }
+        ensures in_turn { WritesInTurn (sink_fails self.old) (sink_calls self.old) (sink_calls self.new)
+            first.now second.now result }
+        ensures fails { sink_fails self.new ≡ sink_fails self.old }
+    {
+        let Pushed::Took(count) = self.write(first) else {
+            return PushedBoth::Failed(0);
+        };
+        if second.is_empty() {
+            return PushedBoth::Took(count);
+        }
+        match self.write(second) {
+            Pushed::Took(more) => PushedBoth::Took(count + more),
+            Pushed::Failed => PushedBoth::Failed(count),
+        }
     }
 }

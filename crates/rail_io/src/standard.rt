@@ -1,13 +1,14 @@
 // A reader and a writer of std as source and sink. They tell no content.
-ghost use Rattle.std.specs.Prelude.{None, IfOk, ◌≤◌, length};
+ghost use Rattle.std.specs.Prelude.{◌≡◌, None, IfOk, ◌≤◌, ◌+◌, ◌++◌, length};
 
 use crate::answers::{pulled_of, pushed_of};
 use crate::{Pulled, Pushed, PushedBoth, Sink, Source};
+use arrayvec::ArrayVec;
 use std::io;
 use std::io::{ErrorKind, Read, Write};
 
-/// How often an interrupted call is made once more before it counts as failed.
-const RETRIES: u32 = 1_000;
+/// How often a call of the system that was interrupted is made once more before it counts as failed.
+pub const RETRIES: u32 = 1_000;
 
 /// The most bytes of two pieces that one call of the writer gets together.
 const JOINED: usize = 512;
@@ -32,7 +33,6 @@ fn read_some<R: Read>(reader: &mut R, room: &mut [u8]) -> io::Result<usize>
 }
 
 impl<R: Read> ReaderSource<R> {
-    ghost use Rattle.std.specs.Prelude.{◌≡◌};
     ghost use Rattle.rail_io.specs.Memory.{reader_faults};
 
     /// A source of what the reader reads, which hasn't failed.
@@ -76,8 +76,18 @@ fn write_some<W: Write>(writer: &mut W, piece: &[u8]) -> io::Result<usize>
     writer.write(piece)
 }
 
+// Both pieces, one behind the other.
+fn joined(first: &[u8], second: &[u8]) -> ArrayVec<u8, JOINED>
+    requires fit { length first.now + length second.now ≤ 512 }
+    ensures both { result.items ≡ first.now ++ second.now }
+{
+    let mut both = ArrayVec::new();
+    both.try_extend_from_slice(first).unwrap();
+    both.try_extend_from_slice(second).unwrap();
+    both
+}
+
 impl<W: Write> WriterSink<W> {
-    ghost use Rattle.std.specs.Prelude.{◌≡◌};
     ghost use Rattle.rail_io.specs.Memory.{writer_faults};
 
     /// A sink that writes to the writer, and that hasn't failed.
@@ -104,11 +114,8 @@ impl<W: Write> Sink for WriterSink<W> {
     // Two short pieces go by one call of the writer, which costs more than to copy them.
     fn write_both(&mut self, first: &[u8], second: &[u8]) -> PushedBoth {
         if first.len() <= JOINED && second.len() <= JOINED - first.len() {
-            let mut both = [0; JOINED];
-            let end = first.len() + second.len();
-            both[..first.len()].copy_from_slice(first);
-            both[first.len()..end].copy_from_slice(second);
-            return match self.write(&both[..end]) {
+            let both = joined(first, second);
+            return match self.write(both.as_slice()) {
                 Pushed::Took(count) => PushedBoth::Took(count),
                 Pushed::Failed => PushedBoth::Failed(0),
             };

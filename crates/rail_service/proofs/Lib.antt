@@ -9,3 +9,4 @@ pub mod Going
 pub mod Sparing
 pub mod Walking
 pub mod Pathways
+pub mod Handing

@@ -20,8 +20,8 @@ abbrev Finds : Rows → List ℕ → Resource → Type 0
 Finds rows path r = (route : RouteOf Resource) × (first rows path ≡ Some route) × (route.value ≡ r)
 
 -- the route that ends here is one of this resource
-abbrev Ends : Rows → Resource → Type 0
-Ends rows r = (route : RouteOf Resource) × (own rows ≡ Some route) × (route.value ≡ r)
+abbrev HasOwnRoute : Rows → Resource → Type 0
+HasOwnRoute rows r = (route : RouteOf Resource) × (own rows ≡ Some route) × (route.value ≡ r)
 
 named : (path : List ℕ) (r : Resource) → IsUtf8 path → Finds all_rows path r → resource_at path ≡ Some r
 named path r text found = names path (Some found.0) text found.1 ∙ ap Some found.2
@@ -34,7 +34,7 @@ behind : (front rest : List ℕ) (rows : Rows) (r : Resource)
     → Finds (along rows front) rest r → Finds rows (front ++ rest) r
 behind front rest rows r found = (found.0, found_behind front rest rows found.0 found.1, found.2)
 
-whole : (path : List ℕ) (rows : Rows) (r : Resource) → Ends (along rows path) r → Finds rows path r
+whole : (path : List ℕ) (rows : Rows) (r : Resource) → HasOwnRoute (along rows path) r → Finds rows path r
 whole path rows r ends = (ends.0, found_whole path rows ends.0 ends.1, ends.2)
 
 -- a parameter, and what is behind it
@@ -45,13 +45,13 @@ between rows text tail r is longest found = (found.0, found_between rows text ta
 
 last : (rows : Rows) (text : List ℕ) (r : Resource) → IsParameter text
     → ((seg : List ℕ) → cuts seg one_slash ≡ false → longest_suffix seg rows ≡ [])
-    → Ends rows r → Finds (behind_param rows) text r
+    → HasOwnRoute rows r → Finds (behind_param rows) text r
 last rows text r is longest ends = (ends.0, found_last rows text ends.0 is longest ends.1, ends.2)
 
 -- bytes and then a parameter: the last of the path, or with a slash behind it
 by_last : (front text : List ℕ) (rows on : Rows) (r : Resource) → along rows front ≡ behind_param on → IsParameter text
     → ((seg : List ℕ) → cuts seg one_slash ≡ false → longest_suffix seg on ≡ [])
-    → Ends on r → Finds rows (front ++ text) r
+    → HasOwnRoute on r → Finds rows (front ++ text) r
 by_last front text rows on r leads is longest ends =
     behind front text rows r (moved (along rows front) (behind_param on) text r leads (last on text r is longest ends))
 
@@ -69,7 +69,7 @@ text front is = IsUtf8-from_is_utf8 front is
 
 -- a path without parameters
 plainly : (path : List ℕ) (r : Resource)
-    → is_utf8 path ≡ true → Ends (along all_rows path) r → resource_at path ≡ Some r
+    → is_utf8 path ≡ true → HasOwnRoute (along all_rows path) r → resource_at path ≡ Some r
 plainly path r is ends = named path r (text path is) (whole path all_rows r ends)
 
 pub Offers-named : resource_at (codes "/offers") ≡ Some Offers

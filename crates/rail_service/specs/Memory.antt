@@ -1,5 +1,5 @@
 -- What the memory forms hold.
-use Rattle.std.specs.Prelude.{◌≡◌, ℕ, List, [], ◌∷◌, map}
+use Rattle.std.specs.Prelude.{◌≡◌, ℕ, List, [], ◌∷◌, ◌++◌, map, Option, Some}
 use Rattle.rail_io.specs.declared.memory_source.BytesSource.{BytesSource}
 use Rattle.rail_io.specs.declared.memory_sink.VecSink.{VecSink}
 use Rattle.rail_io.specs.Memory.{source_left, source_calls, source_faults, source_fails, sink_taken, sink_calls, sink_faults, sink_fails}
@@ -39,3 +39,12 @@ HandsOut old new (Stream waiting) =
     (old ≡ source_left waiting.input ∷ new) × (sink_taken waiting.output ≡ []) × IsNewSource waiting.input × IsNewSink waiting.output
 HandsOut old new Failed = new ≡ old
 HandsOut old new Closed = new ≡ old
+
+-- the streams to come of the later one are the last of those of the first
+abbrev pub IsLaterOf : ListListener → ListListener → Type 0
+IsLaterOf first later = (front : List (List ℕ)) × (list_streams first ≡ front ++ list_streams later)
+
+-- the first of the streams to come was handed out, with a sink that has taken nothing
+abbrev pub HandsListed : ListListener → Option (List ℕ) → Option (List ℕ) → ListListener → Type 0
+HandsListed old stream sent new =
+    (bytes : List ℕ) × (list_streams old ≡ bytes ∷ list_streams new) × (stream ≡ Some bytes) × (sent ≡ Some [])

@@ -1,7 +1,7 @@
 // Where connections come from.
 ghost use Rattle.std.specs.Prelude.{◌≡◌, ◌≤◌, ℕ};
 ghost use Rattle.rail_io.specs.Faults.{Rose};
-ghost use Rattle.rail_service.specs.Listeners.{ListenerView, Binds, Accepts, HasFailed};
+ghost use Rattle.rail_service.specs.Listeners.{HandingBy, ListenerView, Binds, Accepts, HasFailed, OfStream};
 ghost use Rattle.rail_service.specs.declared.listener.Bound.TheVariants.{Failed};
 
 use crate::waiting::Waiting;
@@ -40,9 +40,18 @@ pub trait Listener {
     /// How often it has failed. The count stands still at the last value of 64 bits, and at every call that doesn't fail.
     ghost faults: { Self → ℕ };
 
+    /// That one call made the second listener of the first. Who knows nothing of a listener but this trait can show that of it only by a
+    /// call.
+    ghost becomes: { Self → Self → Type 0 };
+
+    /// That an accept handed out a stream: the listener before it, what the stream's source and its sink told, and the listener behind it.
+    /// Who knows nothing of a listener but this trait can show that of it only by an accept that gave such a stream.
+    ghost hands: { HandingBy Self };
+
     /// Listens at a port, from 1 to 65,535, from now on. Ready sets the port alone.
     fn bind(&mut self, port: u16) -> Bound
         ensures binds { Binds (told self.old) port (told self.new) result }
+        ensures becomes { becomes self.old self.new }
         ensures never_falls { faults self.old ≤ faults self.new }
         ensures cause { result ≡ Failed → Rose (faults self.old) (faults self.new) }
         ensures steady { (result ≡ Failed → ⊥) → faults self.new ≡ faults self.old };
@@ -50,6 +59,9 @@ pub trait Listener {
     /// Hands out the next stream, for which it may wait. `Closed` comes exactly where the limit is reached.
     fn accept(&mut self) -> Accepted<Self::Input, Self::Output>
         ensures accepts { Accepts (told self.old) (told self.new) result }
+        ensures becomes { becomes self.old self.new }
+        ensures gives { OfStream result (λ waiting.
+            hands self.old (Self.Input.told waiting.input) (Self.Output.told waiting.output) self.new) }
         ensures never_falls { faults self.old ≤ faults self.new }
         ensures cause { HasFailed result → Rose (faults self.old) (faults self.new) }
         ensures steady { (HasFailed result → ⊥) → faults self.new ≡ faults self.old };
@@ -57,5 +69,6 @@ pub trait Listener {
     /// Sets the limit alone.
     fn set_limit(&mut self, connections: u32)
         ensures limit { told self.new ≡ record (told self.old) { limit = connections } }
+        ensures becomes { becomes self.old self.new }
         ensures faults { faults self.new ≡ faults self.old };
 }

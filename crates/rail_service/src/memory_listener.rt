@@ -59,12 +59,12 @@ impl ListListener {
 }
 
 impl Listener for ListListener {
-    ghost use Rattle.std.specs.Prelude.{◌↔◌, ◌⊎◌, ◌<◌, [], Contains};
+    ghost use Rattle.std.specs.Prelude.{◌↔◌, ◌⊎◌, ◌<◌, [], Contains, Some};
     ghost use Rattle.rail_service.specs.declared.listener.Bound.TheVariants.{Failed};
     ghost use Rattle.rail_io.specs.Faults.{Rose};
-    ghost use Rattle.rail_io.specs.Memory.{IsOneCallMore};
-    ghost use Rattle.rail_service.specs.Listeners.{Binds, Accepts, HasFailed};
-    ghost use Rattle.rail_service.specs.Memory.{list_view, list_streams, list_faults, list_calls, list_fails, HandsOut};
+    ghost use Rattle.rail_io.specs.Memory.{IsOneCallMore, source_left, sink_taken};
+    ghost use Rattle.rail_service.specs.Listeners.{Binds, Accepts, HasFailed, OfStream};
+    ghost use Rattle.rail_service.specs.Memory.{list_view, list_streams, list_faults, list_calls, list_fails, HandsOut, IsLaterOf, HandsListed};
 
     type Input = BytesSource;
 
@@ -74,11 +74,16 @@ impl Listener for ListListener {
 
     ghost faults = { list_faults };
 
+    ghost becomes = { IsLaterOf };
+
+    ghost hands = { HandsListed };
+
     fn bind(&mut self, port: u16) -> Bound
         ensures binds { Binds (list_view self.old) port (list_view self.new) result }
         ensures never_falls { list_faults self.old ≤ list_faults self.new }
         ensures cause { result ≡ Failed → Rose (list_faults self.old) (list_faults self.new) }
         ensures steady { (result ≡ Failed → ⊥) → list_faults self.new ≡ list_faults self.old }
+        ensures becomes { IsLaterOf self.old self.new }
         ensures calls { IsOneCallMore (list_calls self.old) (list_calls self.new) }
         ensures listed { (result ≡ Failed) ↔ Contains (list_fails self.old) (list_calls self.new) }
         ensures fails { list_fails self.new ≡ list_fails self.old }
@@ -98,12 +103,15 @@ impl Listener for ListListener {
         ensures never_falls { list_faults self.old ≤ list_faults self.new }
         ensures cause { HasFailed result → Rose (list_faults self.old) (list_faults self.new) }
         ensures steady { (HasFailed result → ⊥) → list_faults self.new ≡ list_faults self.old }
+        ensures becomes { IsLaterOf self.old self.new }
         ensures calls { IsOneCallMore (list_calls self.old) (list_calls self.new) }
         ensures listed { (list_view self.old).handed < (list_view self.old).limit
             → (HasFailed result
             ↔ (Contains (list_fails self.old) (list_calls self.new) ⊎ (list_streams self.old ≡ []))) }
         ensures fails { list_fails self.new ≡ list_fails self.old }
         ensures hands { HandsOut (list_streams self.old) (list_streams self.new) result }
+        ensures gives { OfStream result (λ waiting. HandsListed self.old (Some (source_left waiting.input))
+            (Some (sink_taken waiting.output)) self.new) }
     {
         self.calls = self.calls.saturating_add(1);
         if self.handed >= self.limit {
@@ -130,6 +138,7 @@ impl Listener for ListListener {
     fn set_limit(&mut self, connections: u32)
         ensures limit { list_view self.new ≡ record (list_view self.old) { limit = connections } }
         ensures faults { list_faults self.new ≡ list_faults self.old }
+        ensures becomes { IsLaterOf self.old self.new }
         ensures calls { list_calls self.new ≡ list_calls self.old }
         ensures fails { list_fails self.new ≡ list_fails self.old }
         ensures streams { list_streams self.new ≡ list_streams self.old }

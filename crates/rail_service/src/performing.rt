@@ -7,7 +7,7 @@ ghost use Rattle.claim_rule.specs.Out.{IsIdle, IsTidy, MakesEmpty};
 ghost use Rattle.osdm_texts.specs.Answers.{Reply, told_of};
 ghost use Rattle.osdm_json.specs.Readable.{IsReadable};
 ghost use Rattle.service_rules.specs.Checks.{ordered};
-ghost use Rattle.service_rules.specs.Orders.{order_view, IsSound};
+ghost use Rattle.service_rules.specs.Orders.{order_view, IsSoundOrder};
 ghost use Rattle.service_rules.specs.Answering.{Answers, BooksAllOrNone};
 ghost use Rattle.rail_service.specs.Bytes.{reply_bytes};
 ghost use Rattle.rail_service.specs.Commands.{Says, GoesOn};
@@ -109,7 +109,7 @@ fn carry_out(
     requires legs { shop.now.books.now.layout.legs ≡ legs_in shop.now.cat.now }
     requires rows { shop.now.books.now.layout.rows ≡ shop.now.cat.now.rows }
     requires idle { IsIdle desk.old }
-    requires sound { IsSound shop.now.cat.now asker.moment (order_view order.now) }
+    requires sound { IsSoundOrder shop.now.cat.now asker.moment (order_view order.now) }
     ensures own { IsOf shop.now.books.now desk.new }
     ensures idle { IsIdle desk.new }
     ensures tidy { IsTidy desk.old → IsTidy desk.new }

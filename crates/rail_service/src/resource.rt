@@ -1,5 +1,5 @@
 //! The paths that are served.
-ghost use Rattle.std.specs.Prelude.{◌≡◌, ◌++◌, ℕ, List, Some, IfOk, OnOk, codes};
+ghost use Rattle.std.specs.Prelude.{◌≡◌, ◌++◌, ℕ, List, Some, IfOk, IfSome, OnOk, codes, true};
 ghost use Rattle.rail_service.specs.declared.resource.Resource.TheVariants as names;
 ghost use Rattle.rail_service.specs.Paths.{with_path, all_rows, resource_at as resource_named, IsParameter};
 
@@ -61,11 +61,36 @@ pub fn start_router(alloc: Global) -> Result<Router<Resource>, AllocError>
     Ok(router)
 }
 
+fn is_path(path: &[u8], name: &[u8]) -> bool
+    ensures { result ≡ true → path.now ≡ name.now }
+{
+    path == name
+}
+
+// What a path without parameters names, where it is one of those that most requests have: no router is asked for them.
+fn common_resource(path: &[u8]) -> Option<Resource>
+    ensures { IfSome result (λ r. resource_named path.now ≡ Some r) }
+{
+    if is_path(path, b"/reservations") {
+        return Some(Resource::Reservations);
+    }
+    if is_path(path, b"/bookings") {
+        return Some(Resource::Bookings);
+    }
+    if is_path(path, b"/offers") {
+        return Some(Resource::Offers);
+    }
+    None
+}
+
 /// What the path names. No memory is taken.
 pub fn resource_at(router: &Router<Resource>, path: &[u8]) -> Option<Resource>
     requires rows { router.now ≡ all_rows }
     ensures found { result ≡ resource_named path.now }
 {
+    if let Some(resource) = common_resource(path) {
+        return Some(resource);
+    }
     let Ok(text) = str::from_utf8(path) else {
         return None;
     };

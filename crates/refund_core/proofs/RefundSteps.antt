@@ -9,6 +9,7 @@ use Rattle.history_model.specs.declared.phase.Phase.TheVariants.{Free, Ending}
 use Rattle.history_model.specs.declared.phase.EndKind.TheVariants.{Refund}
 use Rattle.history_model.specs.declared.entry.Step.{Step}
 use Rattle.history_model.specs.Phase.{is_turn}
+use Rattle.history_model.specs.WholeEnds.{end_at}
 use Rattle.claim_rule.specs.Rule.{DeskView}
 use Rattle.claim_rule.specs.Desks.{AddsAtMost, CanTurn}
 use Rattle.claim_rule.specs.Calls.{ShapeBy}
@@ -32,9 +33,9 @@ named_turns : (f : Bool) → is_turn (phase_named f) (Ending Refund) ≡ true
 named_turns true = refl
 named_turns false = refl
 
-pub may_refund : (lay : Layout) (desk : DeskView) (row : RowNo) (from : Phase) (f : Bool) (now amount : ℕ) → from ≡ phase_named f → desk.layout ≡ lay → row.row < lay.rows → now ≤ 4102444799 → amount ≤ 99999999999 → IsSealedRow desk row → CanTurn lay desk.seen desk.number row from (Ending Refund) now (pos amount) 0
+pub may_refund : (lay : Layout) (desk : DeskView) (row : RowNo) (from : Phase) (f : Bool) (now amount : ℕ) → from ≡ phase_named f → desk.layout ≡ lay → row.row < lay.rows → now ≤ 4102444799 → amount ≤ 99999999999 → IsSealedRow desk row → CanTurn lay desk.seen desk.number row from (Ending Refund) (end_at now (pos amount) 0)
 may_refund lay desk row from f now amount is same here years most sealed =
-    can_turn lay desk row from (Ending Refund) now (pos amount) 0 same here (subst (λ (p : Phase). is_turn p (Ending Refund) ≡ true) (sym is) (named_turns f)) years (λ limit. ((least amount, most_amount amount most), refl)) sealed
+    can_turn lay desk row from (Ending Refund) (end_at now (pos amount) 0) same here (subst (λ (p : Phase). is_turn p (Ending Refund) ≡ true) (sym is) (named_turns f)) years (λ limit. ((least amount, most_amount amount most), refl)) sealed
   where
     least : (n : ℕ) → pos 0 ≤ℤ pos n
     least n = omega (arith, ints)

@@ -1,5 +1,5 @@
 -- A sealed row may be turned.
-use Rattle.std.proofs.Common.{◌≡◌, ◌≢◌, inl, inr, ℕ, ◌+◌, ◌<◌, ◌≤◌, ℤ, true, false, List, [], ◌∷◌, length, Option, IsSomeAnd, refl, sym, ap, subst, arith, length-append}
+use Rattle.std.proofs.Common.{◌≡◌, ◌≢◌, inl, inr, ℕ, ◌+◌, ◌<◌, ◌≤◌, true, false, List, [], ◌∷◌, length, Option, IsSomeAnd, refl, sym, ap, subst, arith, length-append}
 use Rattle.history_model.specs.declared.entry.Step.{Step}
 use Rattle.history_model.specs.declared.entry.Step.TheVariants.{SawRow}
 use Rattle.history_model.specs.declared.phase.Phase.{Phase}
@@ -9,6 +9,7 @@ use Rattle.history_model.specs.declared.phase.Phase.TheVariants.{Free}
 use Rattle.history_model.specs.Booking.{Booking, Layout, booking_at, limit_of}
 use Rattle.history_model.specs.Allowed.{TurnsWith}
 use Rattle.history_model.specs.History.{IsLegal, state_of}
+use Rattle.history_model.specs.declared.booking.End.{End}
 use Rattle.history_model.proofs.Keeping.{found}
 use Rattle.claim_rule.specs.Rule.{DeskView, OnBooking}
 use Rattle.claim_rule.specs.Desks.{Shape, CanTurn, AddsAtMost}
@@ -19,22 +20,22 @@ use Rattle.booking_rows.specs.Views.{saw_phase}
 use Rattle.row_decisions.specs.Looks.{HasLimit, IsUnknown, IsWrong, LosesRow, SawPhase, saw_owner, saw_terms}
 
 -- a turn that asks nothing of the limit
-pub can_turn : (lay : Layout) (desk : DeskView) (row : RowNo) (from to : Phase) (m : ℕ) (x : ℤ) (q : ℕ) → desk.layout ≡ lay → row.row < lay.rows → is_turn from to ≡ true → m ≤ 4102444799 → ((limit : ℕ) → TurnsWith (state_of lay desk.seen) desk.number limit to m x q) → IsSealedRow desk row → CanTurn lay desk.seen desk.number row from to m x q
-can_turn lay desk row from to m x q same here is years with sealed =
+pub can_turn : (lay : Layout) (desk : DeskView) (row : RowNo) (from to : Phase) (end : End) → desk.layout ≡ lay → row.row < lay.rows → is_turn from to ≡ true → end.moment ≤ 4102444799 → ((limit : ℕ) → TurnsWith (state_of lay desk.seen) desk.number limit to end) → IsSealedRow desk row → CanTurn lay desk.seen desk.number row from to end
+can_turn lay desk row from to end same here is years with sealed =
     let on = subst (λ (g : Layout). OnBooking (state_of g desk.seen) row (λ b. is_sealed b.phase ≡ true)) same sealed in
     let b = found (booking_at (state_of lay desk.seen) row.row row.generation) (λ b. is_sealed b.phase ≡ true) on in
-    (here, is, years, subst (λ (o : Option Booking). IsSomeAnd o (λ y. (is_sealed y.phase ≡ true) × TurnsWith (state_of lay desk.seen) desk.number (limit_of y) to m x q)) (sym b.1) (b.2, with (limit_of b.0)))
+    (here, is, years, subst (λ (o : Option Booking). IsSomeAnd o (λ y. (is_sealed y.phase ≡ true) × TurnsWith (state_of lay desk.seen) desk.number (limit_of y) to end)) (sym b.1) (b.2, with (limit_of b.0)))
 
 -- and one at a limit that was seen
-pub can_turn_by : (lay : Layout) (desk : DeskView) (row : RowNo) (limit : ℕ) (from to : Phase) (m : ℕ) (x : ℤ) (q : ℕ) → desk.layout ≡ lay → row.row < lay.rows → is_turn from to ≡ true → m ≤ 4102444799 → TurnsWith (state_of lay desk.seen) desk.number limit to m x q → HasLimit desk row limit → CanTurn lay desk.seen desk.number row from to m x q
-can_turn_by lay desk row limit from to m x q same here is years with has =
+pub can_turn_by : (lay : Layout) (desk : DeskView) (row : RowNo) (limit : ℕ) (from to : Phase) (end : End) → desk.layout ≡ lay → row.row < lay.rows → is_turn from to ≡ true → end.moment ≤ 4102444799 → TurnsWith (state_of lay desk.seen) desk.number limit to end → HasLimit desk row limit → CanTurn lay desk.seen desk.number row from to end
+can_turn_by lay desk row limit from to end same here is years with has =
     let on = subst (λ (g : Layout). OnBooking (state_of g desk.seen) row (λ b. (is_sealed b.phase ≡ true) × (limit_of b ≡ limit))) same has in
     let b = found (booking_at (state_of lay desk.seen) row.row row.generation) (λ b. (is_sealed b.phase ≡ true) × (limit_of b ≡ limit)) on in (
       here,
       is,
       years,
-      subst (λ (o : Option Booking). IsSomeAnd o (λ y. (is_sealed y.phase ≡ true) × TurnsWith (state_of lay desk.seen) desk.number (limit_of y) to m x q)) (sym b.1)
-          (b.2.0, subst (λ (l : ℕ). TurnsWith (state_of lay desk.seen) desk.number l to m x q) (sym b.2.1) with),
+      subst (λ (o : Option Booking). IsSomeAnd o (λ y. (is_sealed y.phase ≡ true) × TurnsWith (state_of lay desk.seen) desk.number (limit_of y) to end)) (sym b.1)
+          (b.2.0, subst (λ (l : ℕ). TurnsWith (state_of lay desk.seen) desk.number l to end) (sym b.2.1) with),
     )
 
 -- at most so many entries, by the steps that a call may have

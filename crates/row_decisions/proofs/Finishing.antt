@@ -9,6 +9,7 @@ use Rattle.history_model.specs.declared.phase.Phase.{Phase}
 use Rattle.history_model.specs.declared.phase.Phase.TheVariants.{Ending}
 use Rattle.history_model.specs.Booking.{most_items}
 use Rattle.history_model.specs.History.{IsLegal}
+use Rattle.history_model.specs.WholeEnds.{end_turn}
 use Rattle.claim_rule.specs.Rule.{DeskView}
 use Rattle.claim_rule.specs.Desks.{Shape}
 use Rattle.claim_rule.specs.Calls.{ShapeBy}
@@ -21,7 +22,7 @@ use Rattle.claim_rule.proofs.Shapes.{shape_then}
 use Rattle.rail_ids.specs.declared.RowNo.{RowNo}
 use Rattle.booking_rows.specs.declared.turns.Aim.{Aim}
 use Rattle.booking_rows.specs.declared.turns.Turned.TheVariants as turned
-use Rattle.booking_rows.specs.Aims.{aimed, end_of, turn_of, end_turn, fresh_ending, Turns}
+use Rattle.booking_rows.specs.Aims.{aimed, end_of, turn_of, fresh_ending, Turns}
 use Rattle.booking_rows.specs.Ends.{IsEndedAs}
 use Rattle.row_decisions.specs.Ends.{ends_as}
 

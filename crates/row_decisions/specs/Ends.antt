@@ -7,11 +7,12 @@ use Rattle.history_model.specs.declared.phase.EndKind.{EndKind}
 use Rattle.history_model.specs.declared.phase.Phase.{Phase}
 use Rattle.history_model.specs.declared.phase.Phase.TheVariants.{Ending}
 use Rattle.history_model.specs.Booking.{most_items}
+use Rattle.history_model.specs.WholeEnds.{end_turn}
 use Rattle.claim_rule.specs.Endings.{items_read}
 use Rattle.claim_rule.specs.EndSteps.{ending_steps}
 use Rattle.rail_ids.specs.declared.RowNo.{RowNo}
 use Rattle.booking_rows.specs.declared.turns.Aim.{Aim}
-use Rattle.booking_rows.specs.Aims.{end_turn, end_of, LosesTurn}
+use Rattle.booking_rows.specs.Aims.{end_of, LosesTurn}
 
 -- the turn; the items are read and given back; the end is noted, and the row closed
 abbrev pub ends_as : ℕ → Phase → EndKind → End → List Item → List Step

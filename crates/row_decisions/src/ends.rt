@@ -2,7 +2,7 @@
 ghost use Rattle.std.specs.Prelude.{◌≡◌, true, IfNone};
 ghost use Rattle.history_model.specs.Booking.{most_items};
 ghost use Rattle.history_model.specs.declared.phase.EndKind.{EndKind};
-ghost use Rattle.history_model.specs.declared.phase.Phase.TheVariants.{Ending as IsEndingPhase};
+ghost use Rattle.history_model.specs.declared.phase.Phase.TheVariants as phase;
 ghost use Rattle.claim_rule.specs.Desks.{IsOf, Shape};
 ghost use Rattle.claim_rule.specs.Calls.{ShapeBy};
 ghost use Rattle.claim_rule.specs.EndSteps.{ending_steps};
@@ -39,7 +39,7 @@ pub fn end_row(books: &Books, desk: &mut Desk, row: RowNo, from: Phase, to: Aim)
     requires own { IsOf books.now desk.old }
     requires turn { MayAim books.now.layout desk.old row from to }
     requires generation { HasGeneration to }
-    requires ends { (kind : EndKind) × (aimed to ≡ IsEndingPhase kind) }
+    requires ends { (kind : EndKind) × (aimed to ≡ phase.Ending kind) }
     requires none { EndsNone desk.old }
     ensures own { IsOf books.now desk.new }
     ensures entries { OfEnding to (λ kind. ShapeBy (EndsBooking row from kind to result) desk.old desk.new) }

@@ -339,6 +339,8 @@ struct GateListener<'a> {
 }
 
 impl<'a> Listener for GateListener<'a> {
+    ghost use Rattle.std.specs.Prelude.{◌≤◌, ◌+◌};
+
     type Input = GateSource<'a>;
 
     type Output = GateSink<'a>;
@@ -346,6 +348,10 @@ impl<'a> Listener for GateListener<'a> {
     ghost told = { λ l. record { port = l.port; limit = l.limit; handed = l.handed } };
 
     ghost faults = { λ l. l.faults };
+
+    ghost becomes = { λ l m. l.handed ≤ m.handed };
+
+    ghost hands = { λ l stream sent m. (m.handed ≡ l.handed + 1) × (stream ≡ None) × (sent ≡ None) };
 
     fn bind(&mut self, port: u16) -> Bound {
         self.port = port;
@@ -501,6 +507,7 @@ struct OneStream {
 }
 
 impl Streams for OneStream {
+    ghost use Rattle.std.specs.Prelude.{◌≡◌, [], Some};
     ghost use Rattle.serve_tests.specs.One.{gone};
 
     type Input = BytesSource;
@@ -508,6 +515,8 @@ impl Streams for OneStream {
     type Output = VecSink;
 
     ghost handed = { λ s. gone s.bytes };
+
+    ghost hands = { λ _ _ sent _. sent ≡ Some [] };
 
     fn next_stream(&mut self) -> Option<Waiting<BytesSource, VecSink>> {
         let bytes = self.bytes.take()?;

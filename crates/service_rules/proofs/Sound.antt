@@ -14,7 +14,7 @@ use Rattle.osdm_json.specs.declared.command.Command.TheVariants as command
 use Rattle.osdm_json.specs.Readable.{IsReadable}
 use Rattle.service_rules.specs.Ordered as order
 use Rattle.service_rules.specs.Checks.{aged, checked, offer_checked, row_checked, is_of_row, refund_checked, is_quoted, exchange_checked, by, ordered}
-use Rattle.service_rules.specs.Orders.{IsFresh, IsSound}
+use Rattle.service_rules.specs.Orders.{IsFresh, IsSoundOrder}
 
 abbrev Checked : Type 0 → Type 0
 Checked A = Result A Problem
@@ -52,18 +52,18 @@ by_ok (Err p) next o is = absurd (no_problem p o is)
 by_ok (Ok a) next o is = (a, refl, is)
 
 -- an order by an id asks nothing
-by_row : (cat : CatalogueView) (now : ℕ) (row : Option RowNo) (orders : RowNo → order.Ordered) (o : order.Ordered) → ((r : RowNo) → IsSound cat now (orders r))
-    → by (row_checked row) (λ r. Ok (orders r)) ≡ Ok o → IsSound cat now o
+by_row : (cat : CatalogueView) (now : ℕ) (row : Option RowNo) (orders : RowNo → order.Ordered) (o : order.Ordered) → ((r : RowNo) → IsSoundOrder cat now (orders r))
+    → by (row_checked row) (λ r. Ok (orders r)) ≡ Ok o → IsSoundOrder cat now o
 by_row cat now row orders o sound is =
     let (r, checked_row, made) = by_ok (row_checked row) (λ r. Ok (orders r)) o is in
-    subst (IsSound cat now) (ok_is (orders r) o made) (sound r)
+    subst (IsSoundOrder cat now) (ok_is (orders r) o made) (sound r)
 
-pub sound_order : (cat : CatalogueView) (now : ℕ) (c : Command) (o : order.Ordered) → IsReadable cat c → ordered cat now c ≡ Ok o → IsSound cat now o
-sound_order cat now (command.Offers trip adults children class wanted) o readable is = subst (IsSound cat now) (ok_is _ o is) (readable.1, readable.2)
+pub sound_order : (cat : CatalogueView) (now : ℕ) (c : Command) (o : order.Ordered) → IsReadable cat c → ordered cat now c ≡ Ok o → IsSoundOrder cat now o
+sound_order cat now (command.Offers trip adults children class wanted) o readable is = subst (IsSoundOrder cat now) (ok_is _ o is) (readable.1, readable.2)
 sound_order cat now (command.Book offer together) o readable is =
     let (c, passed, made) = by_ok (offer_checked cat now offer) (λ c. Ok (order.book c together)) o is in
-    subst (IsSound cat now) (ok_is (order.book c together) o made) (offer_sound cat now offer c readable passed)
-sound_order cat now (command.Reserve segment class count wanted together) o readable is = subst (IsSound cat now) (ok_is _ o is) readable
+    subst (IsSoundOrder cat now) (ok_is (order.book c together) o made) (offer_sound cat now offer c readable passed)
+sound_order cat now (command.Reserve segment class count wanted together) o readable is = subst (IsSoundOrder cat now) (ok_is _ o is) readable
 sound_order cat now (command.Show row) o readable is = by_row cat now row (λ r. order.show r) o (λ r. tt) is
 sound_order cat now (command.Release row) o readable is = by_row cat now row (λ r. order.release r) o (λ r. tt) is
 sound_order cat now (command.Confirm row) o readable is = by_row cat now row (λ r. order.confirm r) o (λ r. tt) is
@@ -73,7 +73,7 @@ sound_order cat now (command.AcceptRefund row None) o readable is = absurd (no_p
 sound_order cat now (command.AcceptRefund row (Some code)) o readable is =
     let (c, passed, made) = by_ok (refund_checked now row (Some code)) (λ c. Ok (order.accept_refund c)) o is in
     let (known, same, fresh) = checked_is (is_of_row row code.row) code.made now code c passed in
-    subst (IsSound cat now) (ok_is (order.accept_refund c) o made) (subst (λ x. IsSound cat now (order.accept_refund x)) same (readable, fresh))
+    subst (IsSoundOrder cat now) (ok_is (order.accept_refund c) o made) (subst (λ x. IsSoundOrder cat now (order.accept_refund x)) same (readable, fresh))
 sound_order cat now (command.QuoteExchange row offer) o readable is =
     let (c, passed, next) = by_ok (offer_checked cat now offer) (λ c. by (row_checked row) (λ r. Ok (order.quote_exchange r c))) o is in
     by_row cat now row (λ r. order.quote_exchange r c) o (λ r. offer_sound cat now offer c readable passed) next
@@ -83,6 +83,6 @@ sound_order cat now (command.AcceptExchange row (Some code)) o readable is =
     let (known, same, fresh) = checked_is (is_of_row row code.row && is_quoted cat code) code.made now code c passed in
     let quoted = (and_parts (is_of_row row code.row) (is_quoted cat code) known).1 in
     let offered = (and_parts (is_offered cat (offer_view code.offer)) (nat_le code.offer.made code.made && nat_le code.made (code.offer.made + valid_seconds)) quoted).0 in
-    subst (IsSound cat now) (ok_is (order.accept_exchange c) o made) (subst (λ x. IsSound cat now (order.accept_exchange x)) same (readable, offered, fresh))
-sound_order cat now (command.Places segment) o readable is = subst (IsSound cat now) (ok_is _ o is) readable
-sound_order cat now command.Sweep o readable is = subst (IsSound cat now) (ok_is order.sweep o is) tt
+    subst (IsSoundOrder cat now) (ok_is (order.accept_exchange c) o made) (subst (λ x. IsSoundOrder cat now (order.accept_exchange x)) same (readable, offered, fresh))
+sound_order cat now (command.Places segment) o readable is = subst (IsSoundOrder cat now) (ok_is _ o is) readable
+sound_order cat now command.Sweep o readable is = subst (IsSoundOrder cat now) (ok_is order.sweep o is) tt

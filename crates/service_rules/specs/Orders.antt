@@ -36,15 +36,15 @@ abbrev pub IsFresh : ℕ → ℕ → Type 0
 IsFresh made now = (made ≤ now) × (now ≤ made + valid_seconds)
 
 -- its numbers are in their ranges, what it names of the catalogue is there, and its code is fresh
-abbrev pub IsSound : CatalogueView → ℕ → order.Ordered → Type 0
-IsSound cat now (order.offers w) = (is_party w.adults w.children ≡ true) × (w.wanted ≤ 31)
-IsSound cat now (order.book c together) =
+abbrev pub IsSoundOrder : CatalogueView → ℕ → order.Ordered → Type 0
+IsSoundOrder cat now (order.offers w) = (is_party w.adults w.children ≡ true) × (w.wanted ≤ 31)
+IsSoundOrder cat now (order.book c together) =
     (is_offer (offer_view c) ≡ true) × (is_offered cat (offer_view c) ≡ true) × IsFresh c.made now
-IsSound cat now (order.reserve r) = IsWithinRun cat r.segment × (1 ≤ r.count) × (r.count ≤ 8) × (r.traits ≤ 31)
-IsSound cat now (order.accept_refund c) = (is_refund c ≡ true) × IsFresh c.made now
-IsSound cat now (order.quote_exchange row c) =
+IsSoundOrder cat now (order.reserve r) = IsWithinRun cat r.segment × (1 ≤ r.count) × (r.count ≤ 8) × (r.traits ≤ 31)
+IsSoundOrder cat now (order.accept_refund c) = (is_refund c ≡ true) × IsFresh c.made now
+IsSoundOrder cat now (order.quote_exchange row c) =
     (is_offer (offer_view c) ≡ true) × (is_offered cat (offer_view c) ≡ true) × IsFresh c.made now
-IsSound cat now (order.accept_exchange c) =
+IsSoundOrder cat now (order.accept_exchange c) =
     (is_exchange (exchange_view c) ≡ true) × (is_offered cat (offer_view c.offer) ≡ true) × IsFresh c.made now
-IsSound cat now (order.places s) = IsWithinRun cat s
-IsSound cat now o = Unit {0}
+IsSoundOrder cat now (order.places s) = IsWithinRun cat s
+IsSoundOrder cat now o = Unit {0}

@@ -2,7 +2,7 @@
 ghost use Rattle.std.specs.Prelude.{◌≡◌, Ok, Err, IfOk, IfErr};
 ghost use Rattle.osdm_json.specs.Readable.{IsReadable};
 ghost use Rattle.service_rules.specs.Checks.{aged, checked, offer_checked, row_checked, is_of_row as is_row_of, refund_checked, is_quoted as is_quote, exchange_checked, ordered};
-ghost use Rattle.service_rules.specs.Orders.{order_view, IsOrder, IsSound};
+ghost use Rattle.service_rules.specs.Orders.{order_view, IsOrder, IsSoundOrder};
 
 use crate::order::Order;
 use offer_codes::{ExchangeCode, OfferCode, RefundCode, VALID_SECONDS};
@@ -24,7 +24,7 @@ pub fn order_of<'c>(
     now: Moment,
 ) -> Result<Order<'c>, Problem>
     ensures exact { IsOrder result (ordered cat.now now command.now) }
-    ensures sound { IsReadable cat.now command.now → IfOk result (λ o. IsSound cat.now now (order_view o)) }
+    ensures sound { IsReadable cat.now command.now → IfOk result (λ o. IsSoundOrder cat.now now (order_view o)) }
 {
     Ok(match command {
         Command::Offers {

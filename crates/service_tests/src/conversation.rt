@@ -5,25 +5,88 @@ ghost use Rattle.claim_rule.specs.Out.{IsIdle};
 
 use claim_rule::{Books, Desk};
 use rail_catalogue::Catalogue;
-use rail_io::{BytesSource, ListClock, VecSink};
+use rail_io::{BytesSource, ListClock, Sink, Source, VecSink};
 use rail_service::serve_connection;
-use sample_shop::{Asked, Wanted, after_six, conversation, open_books, sample_with_rows};
+use sample_shop::{Asked, Wanted, after_six, answer_text, open_books, request_text};
 use session_loop::ConnEnd;
+use std::alloc::{AllocError, Global};
 use std::process::Abort;
 use std::test::Fail;
 
-/// One connection at the desk: its input, the read and the write that fail, its end and its output. The clock's readings are so many
-/// seconds after 06:00, the last of them for good.
+/// A connection: when its requests come, in seconds after 06:00, what comes, what is answered, and how it ends.
+#[derive(Drop)]
+pub struct Turns {
+    pub seconds: Vec<u32>,
+    pub input: Vec<u8>,
+    pub output: String,
+    pub end: ConnEnd,
+}
+
+/// A connection of no request yet.
+pub fn no_turns(alloc: Global) -> Turns {
+    Turns {
+        seconds: Vec::new(alloc),
+        input: Vec::new(alloc),
+        output: String::new(alloc),
+        end: ConnEnd::Done,
+    }
+}
+
+/// One request more, with its answer.
+pub fn add_turn(
+    alloc: Global,
+    turns: &mut Turns,
+    second: u32,
+    asked: Asked,
+    wanted: Wanted,
+) -> Result<(), AllocError> {
+    turns.seconds.push(second)?;
+    turns
+        .input
+        .extend_from_slice(request_text(alloc, asked)?.as_bytes())?;
+    turns
+        .output
+        .push_str(answer_text(alloc, wanted, "")?.as_str())
+}
+
+/// A clock whose readings are so many seconds after 06:00, the last of them for good.
+pub fn clock_of(rt: &(impl Abort + AllocGlobal), seconds: &[u32]) -> ListClock {
+    let mut readings = Vec::new(rt.alloc());
+    for second in seconds {
+        readings.push(after_six(*second)).expect(rt, "memory");
+    }
+    let some = readings.len() >= 1;
+    assert!(rt; some);
+    ListClock::new(readings)
+}
+
+/// `serve_connection` at a desk, of which the end is all that is said here.
+pub fn serve<S: Source, K: Sink>(
+    alloc: Global,
+    cat: &Catalogue,
+    books: &Books,
+    desk: &mut Desk,
+    source: &mut S,
+    sink: &mut K,
+    clock: &mut ListClock,
+) -> ConnEnd
+    requires own { IsOf books.now desk.old }
+    requires idle { IsIdle desk.old }
+    requires legs { books.now.layout.legs ≡ legs_in cat.now }
+    requires rows { books.now.layout.rows ≡ cat.now.rows }
+    ensures own { IsOf books.now desk.new }
+    ensures idle { IsIdle desk.new }
+{
+    serve_connection(alloc, cat, books, desk, source, sink, clock)
+}
+
+/// One connection at the desk.
 pub fn check(
     rt: &(impl Abort + AllocGlobal),
     cat: &Catalogue,
     books: &Books,
     desk: &mut Desk,
-    seconds: &[u32],
-    input: &[u8],
-    fails: (u64, u64),
-    end: ConnEnd,
-    output: &str,
+    turns: Turns,
 ) -> Result<(), Fail>
     requires own { IsOf books.now desk.old }
     requires idle { IsIdle desk.old }
@@ -33,83 +96,27 @@ pub fn check(
     ensures idle { IsIdle desk.new }
 {
     let alloc = rt.alloc();
-    let mut source = BytesSource::new(input.to_vec(alloc)?, vec![in alloc; fails.0]?);
-    let mut sink = VecSink::new(alloc, vec![in alloc; fails.1]?);
-    let mut readings = Vec::new(alloc);
-    for second in seconds {
-        readings.push(after_six(*second))?;
-    }
-    let some = readings.len() >= 1;
-    assert!(rt; some);
-    let mut clock = ListClock::new(readings);
-    let ended = serve_connection(alloc, cat, books, desk, &mut source, &mut sink, &mut clock);
-    assert_eq!(rt; ended, end, "{output:?}");
-    assert_eq!(rt; sink.taken(), output.as_bytes());
+    let Turns {
+        seconds,
+        input,
+        output,
+        end,
+    } = turns;
+    let mut source = BytesSource::new(input, Vec::new(alloc));
+    let mut sink = VecSink::new(alloc, Vec::new(alloc));
+    let mut clock = clock_of(rt, seconds.as_slice());
+    let ended = serve(alloc, cat, books, desk, &mut source, &mut sink, &mut clock);
+    assert!(rt; ended == end);
+    assert!(rt; sink.taken() == output.as_bytes());
     Ok(())
 }
 
-/// The same with nothing booked, all at 06:00.
+/// The same at new books.
 pub fn check_alone(
     rt: &(impl Abort + AllocGlobal),
-    input: &[u8],
-    fails: (u64, u64),
-    end: ConnEnd,
-    output: &str,
-) -> Result<(), Fail> {
-    let cat = sample_with_rows(rt.alloc(), 64).expect(rt, "a catalogue");
-    let (books, mut desk) = open_books(rt.alloc(), &cat).expect(rt, "memory");
-    let seconds = [0];
-    check(
-        rt,
-        &cat,
-        &books,
-        &mut desk,
-        seconds.as_slice(),
-        input,
-        fails,
-        end,
-        output,
-    )
-}
-
-/// A connection of these requests, each with its answer, that ends behind them.
-pub fn converse(
-    rt: &(impl Abort + AllocGlobal),
     cat: &Catalogue,
-    books: &Books,
-    desk: &mut Desk,
-    seconds: &[u32],
-    turns: &[(Asked, Wanted)],
-) -> Result<(), Fail>
-    requires own { IsOf books.now desk.old }
-    requires idle { IsIdle desk.old }
-    requires legs { books.now.layout.legs ≡ legs_in cat.now }
-    requires rows { books.now.layout.rows ≡ cat.now.rows }
-    ensures own { IsOf books.now desk.new }
-    ensures idle { IsIdle desk.new }
-{
-    let (input, output) = conversation(rt.alloc(), turns)?;
-    check(
-        rt,
-        cat,
-        books,
-        desk,
-        seconds,
-        input.as_bytes(),
-        (0, 0),
-        ConnEnd::Done,
-        output.as_str(),
-    )
-}
-
-/// The same with nothing booked, in a catalogue of so many booking rows.
-pub fn converse_alone(
-    rt: &(impl Abort + AllocGlobal),
-    rows: u32,
-    seconds: &[u32],
-    turns: &[(Asked, Wanted)],
+    turns: Turns,
 ) -> Result<(), Fail> {
-    let cat = sample_with_rows(rt.alloc(), rows).expect(rt, "a catalogue");
-    let (books, mut desk) = open_books(rt.alloc(), &cat).expect(rt, "memory");
-    converse(rt, &cat, &books, &mut desk, seconds, turns)
+    let (books, mut desk) = open_books(rt.alloc(), cat).expect(rt, "memory");
+    check(rt, cat, &books, &mut desk, turns)
 }

@@ -1,14 +1,11 @@
-// The usual life over devices that are slow, or fail at one call, and an answer longer than one write.
-use crate::conversation::check;
-use crate::lives::{USUAL_SECONDS, usual_turns};
+// The usual life over devices that are slow, or fail at one call.
+use crate::conversation::{clock_of, serve};
+use crate::usual::{USUAL_SECONDS, USUAL_TURNS};
 use claim_rule::Wall;
-use rail_catalogue::{Catalogue, read_catalogue};
+use rail_catalogue::Catalogue;
 use rail_ids::PlaceNo;
-use rail_io::ListClock;
-use rail_service::serve_connection;
 use sample_shop::{
-    Asked, CATALOGUE, Wanted, after_six, answer_text, ask, conversation, open_books, request_text,
-    sample_with_rows,
+    Asked, Wanted, answer_text, conversation, open_books, request_text, sample_with_rows,
 };
 use session_loop::ConnEnd;
 use slow_streams::{SlowSink, SlowSource};
@@ -20,10 +17,11 @@ use std::test::Fail;
 const ALL: usize = 1_000_000;
 
 /// More calls than any device here gets.
-const CALLS: u64 = 1_000;
+const CALLS: u16 = 1_000;
 
-/// The phase of the first row after none, one, two and three of the usual life's requests and one more: free, prebooked, confirmed, collected.
-const PHASES: [u64; 4] = [0, 2, 3, 4];
+/// The phase of the first row after none, one, two and three of the usual life's requests and one more, and after
+/// all: free, prebooked, confirmed, collected.
+const PHASES: [u64; 5] = [0, 2, 3, 4, 4];
 
 /// The usual life at new books: its end, and the words at the end.
 fn live(
@@ -34,15 +32,23 @@ fn live(
 ) -> (ConnEnd, Wall) {
     let alloc = rt.alloc();
     let (books, mut desk) = open_books(alloc, cat).expect(rt, "memory");
-    let mut readings = Vec::new(alloc);
-    for second in USUAL_SECONDS {
-        readings.push(after_six(second)).expect(rt, "memory");
-    }
-    let some = readings.len() >= 1;
-    assert!(rt; some);
-    let mut clock = ListClock::new(readings);
-    let end = serve_connection(alloc, cat, &books, &mut desk, source, sink, &mut clock);
+    let mut clock = clock_of(rt, USUAL_SECONDS.as_slice());
+    let end = serve(alloc, cat, &books, &mut desk, source, sink, &mut clock);
     (end, books.finish(desk))
+}
+
+/// The first words of the places at the end of the usual life: 11 to 13 of the first run are taken from stop 0 to
+/// stop 2, and 11 to 13 of the second from stop 0 to stop 1.
+const WORDS: [u64; 18] = [0, 0, 0, 0, 3, 3, 3, 0, 0, 0, 0, 0, 1, 1, 1, 0, 0, 0];
+
+/// The words of the usual life where so many of its answers are whole: the request behind them is done.
+fn check_words(rt: &impl Abort, wall: &Wall, whole: usize) {
+    assert!(rt; wall.row_word(0, 0) == PHASES.get(whole).copied());
+    for (place, word) in (0..18).zip(WORDS) {
+        let taken = if whole > 0 { word } else { 0 };
+        assert!(rt; wall.place_word(PlaceNo(place), 0) == Some(taken));
+        assert!(rt; wall.place_word(PlaceNo(place), 1) == Some(0));
+    }
 }
 
 /// The answers to the requests that are whole in so many bytes of the connection.
@@ -78,130 +84,106 @@ fn whole_answers(
     Ok(turns.len())
 }
 
-#[test]
-fn life_in_pieces(rt: HostRuntime) -> Result<(), Fail> {
-    let alloc = rt.alloc();
-    let cat = sample_with_rows(alloc, 64).expect(&rt, "a catalogue");
-    let (input, output) = conversation(alloc, usual_turns().as_slice())?;
-    for size in [1, 2, 3, 7, ALL] {
-        let mut source = SlowSource::new(input.as_bytes(), size, 0);
-        let mut sink = SlowSink::new(alloc, 1, 0);
-        let (end, wall) = live(&rt, &cat, &mut source, &mut sink);
-        assert_eq!(rt; end, ConnEnd::Done, "by {size}");
-        assert_eq!(rt; sink.taken(), output.as_bytes(), "by {size}");
-        assert_eq!(rt; wall.row_word(0, 0), Some(4), "by {size}");
-    }
-    Ok(())
+// The usual life in pieces of a size, into a sink that takes a byte a call.
+fn check_pieces(
+    rt: &(impl Abort + AllocGlobal),
+    cat: &Catalogue,
+    input: &str,
+    output: &str,
+    size: usize,
+) {
+    let mut source = SlowSource::new(input.as_bytes(), size, 0);
+    let mut sink = SlowSink::new(rt.alloc(), 1, 0);
+    let (end, wall) = live(rt, cat, &mut source, &mut sink);
+    assert!(rt; end == ConnEnd::Done, "by {size}");
+    assert!(rt; sink.taken() == output.as_bytes(), "by {size}");
+    check_words(rt, &wall, 4);
 }
 
-// Each read of 64 bytes fails in turn: what is whole in the bytes before it is answered.
-#[test]
-fn reads_fail(rt: HostRuntime) -> Result<(), Fail> {
+// The usual life by reads of 64 bytes, of which one fails behind so many: what is whole in the bytes before it is
+// answered.
+fn end_of_reads(
+    rt: &(impl Abort + AllocGlobal),
+    cat: &Catalogue,
+    input: &str,
+    calls: u16,
+) -> Result<ConnEnd, Fail> {
     let alloc = rt.alloc();
-    let cat = sample_with_rows(alloc, 64).expect(&rt, "a catalogue");
-    let turns = usual_turns();
-    let (input, output) = conversation(alloc, turns.as_slice())?;
+    let mut source = SlowSource::new(input.as_bytes(), 64, u64::from(calls) + 1);
+    let mut sink = SlowSink::new(alloc, ALL, 0);
+    let (end, _wall) = live(rt, cat, &mut source, &mut sink);
+    let answered = answers_in(alloc, USUAL_TURNS.as_slice(), usize::from(calls) * 64)?;
+    assert!(rt; sink.taken() == answered.as_bytes(), "after {calls} reads");
+    Ok(end)
+}
+
+// Each read fails in turn, until there is no such read any more.
+fn check_reads(rt: &(impl Abort + AllocGlobal), cat: &Catalogue, input: &str) -> Result<(), Fail> {
     for calls in 0..CALLS {
-        let mut source = SlowSource::new(input.as_bytes(), 64, calls + 1);
-        let mut sink = SlowSink::new(alloc, ALL, 0);
-        let (end, _wall) = live(&rt, &cat, &mut source, &mut sink);
-        if end == ConnEnd::Done {
+        let end = end_of_reads(rt, cat, input, calls)?;
+        if end != ConnEnd::ReadFault {
+            assert!(rt; end == ConnEnd::Done);
             assert!(rt; calls > 2);
-            assert_eq!(rt; sink.taken(), output.as_bytes());
             return Ok(());
         }
-        assert_eq!(rt; end, ConnEnd::ReadFault, "after {calls} reads");
-        let answered = answers_in(alloc, turns.as_slice(), calls as usize * 64)?;
-        assert_eq!(rt; sink.taken(), answered.as_bytes(), "after {calls} reads");
     }
     panic!(rt; "no end");
 }
 
-// Each write of 100 bytes fails in turn: a front of the answers is written, and the request of the answer that breaks off is done.
-#[test]
-fn writes_fail(rt: HostRuntime) -> Result<(), Fail> {
-    let alloc = rt.alloc();
-    let cat = sample_with_rows(alloc, 64).expect(&rt, "a catalogue");
-    let turns = usual_turns();
-    let (input, output) = conversation(alloc, turns.as_slice())?;
+// The usual life by writes of 100 bytes, of which one fails behind so many: a front of the answers is written. With
+// how many are whole.
+fn end_of_writes(
+    rt: &(impl Abort + AllocGlobal),
+    cat: &Catalogue,
+    input: &str,
+    output: &str,
+    calls: u16,
+) -> Result<(ConnEnd, usize), Fail> {
+    let mut source = SlowSource::new(input.as_bytes(), ALL, 0);
+    let mut sink = SlowSink::new(rt.alloc(), 100, u64::from(calls) + 1);
+    let (end, wall) = live(rt, cat, &mut source, &mut sink);
+    let is_front = output.as_bytes().starts_with(sink.taken());
+    assert!(rt; is_front, "after {calls} writes");
+    let whole = whole_answers(rt.alloc(), USUAL_TURNS.as_slice(), sink.taken().len())?;
+    check_words(rt, &wall, whole);
+    Ok((end, whole))
+}
+
+// Each write fails in turn, until there is no such write any more.
+fn check_writes(
+    rt: &(impl Abort + AllocGlobal),
+    cat: &Catalogue,
+    input: &str,
+    output: &str,
+) -> Result<(), Fail> {
     for calls in 0..CALLS {
-        let mut source = SlowSource::new(input.as_bytes(), ALL, 0);
-        let mut sink = SlowSink::new(alloc, 100, calls + 1);
-        let (end, wall) = live(&rt, &cat, &mut source, &mut sink);
-        if end == ConnEnd::Done {
+        let (end, whole) = end_of_writes(rt, cat, input, output, calls)?;
+        if end != ConnEnd::WriteFault {
+            assert!(rt; end == ConnEnd::Done);
+            assert!(rt; whole == 4);
             assert!(rt; calls > 8);
-            assert_eq!(rt; sink.taken(), output.as_bytes());
             return Ok(());
         }
-        assert_eq!(rt; end, ConnEnd::WriteFault, "after {calls} writes");
-        assert!(rt;
-            output.as_bytes().starts_with(sink.taken()),
-            "after {calls} writes"
-        );
-        let before = whole_answers(alloc, turns.as_slice(), sink.taken().len())?;
-        let phase = PHASES.get(before).copied();
-        assert_eq!(rt; wall.row_word(0, 0), phase, "after {calls} writes");
-        let taken = if before > 0 { 3 } else { 0 };
-        assert_eq!(rt;
-            wall.place_word(PlaceNo(4), 0),
-            Some(taken),
-            "after {calls} writes"
-        );
     }
     panic!(rt; "no end");
 }
 
-/// So many free places of a coach, in rising number, behind others.
-fn push_places(
-    alloc: Global,
-    text: &mut String,
-    coach: &str,
-    numbers: (u32, u32),
-    traits: &str,
-) -> Result<(), AllocError> {
-    for place in numbers.0..numbers.1 {
-        let comma = if text.is_empty() { "" } else { "," };
-        let place = format!(in alloc;
-            "{comma}{{{coach},\"free\":true,\"place\":{place},\"traits\":[{traits}]}}"
-        )?;
-        text.push_str(place.as_str())?;
+// Pieces of every size.
+fn check_sizes(rt: &(impl Abort + AllocGlobal), cat: &Catalogue, input: &str, output: &str) {
+    for size in [1, 2, 3, 7, ALL] {
+        check_pieces(rt, cat, input, output, size);
     }
-    Ok(())
 }
 
-const FIRST: &str = r#""class":"FIRST","coach":1"#;
+fn check_life(rt: &(impl Abort + AllocGlobal), cat: &Catalogue) -> Result<(), Fail> {
+    let (input, output) = conversation(rt.alloc(), USUAL_TURNS.as_slice())?;
+    check_sizes(rt, cat, input.as_str(), output.as_str());
+    check_reads(rt, cat, input.as_str())?;
+    check_writes(rt, cat, input.as_str(), output.as_str())
+}
 
-const SECOND: &str = r#""class":"SECOND","coach":2"#;
-
-// The sample's first run with 40 places: an answer of more than 1,000 bytes.
 #[test]
-fn forty_places(rt: HostRuntime) -> Result<(), Fail> {
-    let alloc = rt.alloc();
-    let (front, back) = CATALOGUE.split_once("\"last\":18").expect(&rt, "a place");
-    let text = format!(in alloc; "{front}\"last\":46{back}")?;
-    let cat = read_catalogue(alloc, text.as_bytes())
-        .ok()
-        .expect(&rt, "a catalogue");
-    let (books, mut desk) = open_books(alloc, &cat).expect(&rt, "memory");
-    let mut places = String::new(alloc);
-    push_places(alloc, &mut places, FIRST, (1, 5), "")?;
-    push_places(alloc, &mut places, SECOND, (11, 15), "\"WINDOW\"")?;
-    push_places(alloc, &mut places, SECOND, (15, 47), "\"AISLE\"")?;
-    let length = places.len() + "{\"places\":[]}".len();
-    assert!(rt; length > 1_000);
-    let output = format!(in alloc;
-        "HTTP/1.1 200 OK\r\nContent-Type: application/json\r\nContent-Length: {length}\r\n\r\n{{\"places\":[{places}]}}"
-    )?;
-    let input = request_text(alloc, ask("north", "GET /runs/0/places/BASEL/BERN", ""))?;
-    check(
-        &rt,
-        &cat,
-        &books,
-        &mut desk,
-        [0].as_slice(),
-        input.as_bytes(),
-        (0, 0),
-        ConnEnd::Done,
-        output.as_str(),
-    )
+fn life_over_devices(rt: HostRuntime) -> Result<(), Fail> {
+    let cat = sample_with_rows(rt.alloc(), 64).expect(&rt, "a catalogue");
+    check_life(&rt, &cat)
 }

@@ -1,23 +1,24 @@
-//! Tests of the services over the sample catalogue: what a connection is answered, byte by byte, and what commands are read and refused for.
-//! A room of its own, so that the crates that it tests are proved once, without tests.
+//! Tests of `serve_connection` and of the listener in memory, over the sample catalogue: the worked cases at given
+//! moments, and what only a caller inside can see. A room of its own, so that the crates that it tests
+//! are proved once, without tests.
 //!
-//! Expected bytes are those of the interface's description and of its worked cases. What each file is for:
-//! - `lives`: a booking's usual life; the limit and one second later; sweeps at the limit and after; release; one row only; rollback of the
-//!   second train; offers by their ids. Also every writer of texts once with ample memory: offers, bookings, places of both runs, sweeps.
-//! - `trades`: refunds with a ticket collected in between, and by quotes with another amount, under another id, and past their last second;
-//!   exchanges without places and with them; exchanges refused by their quotes, and without a row of their own.
-//! - `refusals`: paths and methods; refusals in their order; a cut in a body; other retailers; wishes that get no offer; which requests are the
-//!   last of their connection.
-//! - `hostile`: one table of what is refused in a request's place, each fault of the wire among it, and one of odd requests that are answered.
-//! - `devices`: the usual life in pieces of every size into a sink that takes a byte a call; each read and each write of it failing in turn,
-//!   with what is answered and what then stands in the words; an answer of more than 1,000 bytes.
-//! - `rules`: what a command is refused for by its ids, its codes and the moment alone.
-//! - `commands`: what each route's body is read as, field by field.
-//! - `listeners`: the listener in memory hands out its streams in order, fails as listed, and `serve_waiting` serves them.
+//! What other requests are answered is shown by runs of the built program (`tests/cases`, which the model beside the
+//! proofs meets too). Expected bytes are those of the interface's description and of its worked cases. What each file
+//! is for:
+//! - `worked`: a table for each worked case at given moments; `usual` has that of the usual life.
+//! - `retailers`: a retailer on a connection of its own sees no other's booking.
+//! - `lists`: a list of forty places, which is an answer of more than 1,000 bytes, for its case.
+//! - `calls`: a command that is read with memory of its own, as the program never reads one.
+//! - `devices`: the usual life in pieces of every size into a sink that takes a byte a call, with the words behind it;
+//!   each read and each write of it failing in turn, with what is answered and what then stands in the words.
+//! - `hostile`: one table of what ends a connection, each fault of the wire among it, and one of odd requests behind
+//!   which it goes on.
+//! - `listeners`: the listener in memory hands out its streams in order, fails as listed, and `serve_waiting` serves
+//!   them.
 #![tactic(auto)]
 
 #[cfg(test)]
-mod commands;
+mod calls;
 #[cfg(test)]
 mod conversation;
 #[cfg(test)]
@@ -27,10 +28,10 @@ mod hostile;
 #[cfg(test)]
 mod listeners;
 #[cfg(test)]
-mod lives;
+mod lists;
 #[cfg(test)]
-mod refusals;
+mod retailers;
 #[cfg(test)]
-mod rules;
+mod usual;
 #[cfg(test)]
-mod trades;
+mod worked;

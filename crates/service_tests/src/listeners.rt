@@ -1,19 +1,14 @@
-ghost use Rattle.std.specs.Prelude.{◌≡◌};
-ghost use Rattle.rail_catalogue.specs.Contents.{legs_in};
-ghost use Rattle.claim_rule.specs.Desks.{IsOf};
-ghost use Rattle.claim_rule.specs.Out.{IsIdle};
-
-use claim_rule::{Books, Desk};
+use crate::conversation::clock_of;
 use rail_catalogue::Catalogue;
-use rail_io::{ListClock, VecSink};
+use rail_io::VecSink;
 use rail_service::{Accepted, Bound, ListListener, Listener, serve_waiting};
-use sample_shop::{after_six, answer_text, ask, open_books, refused, request_text, sample};
+use sample_shop::{answer_text, ask, open_books, refused, request_text, sample_with_rows};
 use std::alloc::Global;
 use std::process::Abort;
 use std::test::Fail;
 
 /// What an accept answered, with what its stream was answered.
-#[derive(Debug, Drop, PartialEq, Eq)]
+#[derive(Clone, Copy, PartialEq, Eq)]
 enum Told {
     Unknown,
     NoRoute,
@@ -42,13 +37,12 @@ fn told_by(rt: &impl Abort, alloc: Global, sink: &VecSink) -> Told {
 }
 
 // Serves what an accept answered.
-fn next_of(rt: &impl Abort, alloc: Global, cat: &Catalogue, listener: &mut ListListener) -> Told {
+fn next_of(rt: &(impl Abort + AllocGlobal), cat: &Catalogue, listener: &mut ListListener) -> Told {
+    let alloc = rt.alloc();
     let (books, mut desk) = open_books(alloc, cat).expect(rt, "memory");
     match listener.accept() {
         Accepted::Stream(waiting) => {
-            let mut readings = Vec::new(alloc);
-            readings.push(after_six(0)).expect(rt, "memory");
-            let mut clock = ListClock::new(readings);
+            let mut clock = clock_of(rt, [0].as_slice());
             let finished = serve_waiting(alloc, cat, &books, &mut desk, waiting, &mut clock);
             told_by(rt, alloc, &finished.output)
         }
@@ -67,29 +61,40 @@ fn three_streams(alloc: Global, fails: Vec<u64>) -> Result<ListListener, Fail> {
     Ok(ListListener::new(alloc, streams, fails))
 }
 
+// What the next accepts answer.
+fn check_next(
+    rt: &(impl Abort + AllocGlobal),
+    cat: &Catalogue,
+    listener: &mut ListListener,
+    wanted: &[Told],
+) {
+    for want in wanted {
+        let found = next_of(rt, cat, listener);
+        assert!(rt; found == *want);
+    }
+}
+
+const UP_TO_TWO: [Told; 5] = [
+    Told::Unknown,
+    Told::Failed,
+    Told::NoRoute,
+    Told::Closed,
+    Told::Closed,
+];
+
+const THEN_UP_TO_FOUR: [Told; 3] = [Told::Unknown, Told::Failed, Told::Failed];
+
 /// Calls 1 and 4, a bind and an accept, are to fail. Streams come in their order, up to the limit.
 #[test]
 fn list_listener_hands_out_and_fails_as_listed(rt: HostRuntime) -> Result<(), Fail> {
     let alloc = rt.alloc();
-    let cat = sample(alloc).expect(&rt, "a catalogue");
+    let cat = sample_with_rows(alloc, 64).expect(&rt, "a catalogue");
     let mut listener = three_streams(alloc, vec![in alloc; 1, 4]?)?;
-    assert_eq!(rt; listener.bind(80), Bound::Failed);
-    assert_eq!(rt; listener.bind(80), Bound::Ready);
+    assert!(rt; listener.bind(80) == Bound::Failed);
+    assert!(rt; listener.bind(80) == Bound::Ready);
     listener.set_limit(2);
-    for want in [
-        Told::Unknown,
-        Told::Failed,
-        Told::NoRoute,
-        Told::Closed,
-        Told::Closed,
-    ] {
-        let found = next_of(&rt, alloc, &cat, &mut listener);
-        assert_eq!(rt; found, want);
-    }
+    check_next(&rt, &cat, &mut listener, UP_TO_TWO.as_slice());
     listener.set_limit(4);
-    for want in [Told::Unknown, Told::Failed, Told::Failed] {
-        let found = next_of(&rt, alloc, &cat, &mut listener);
-        assert_eq!(rt; found, want);
-    }
+    check_next(&rt, &cat, &mut listener, THEN_UP_TO_FOUR.as_slice());
     Ok(())
 }

@@ -17,7 +17,7 @@ use Rattle.trip_builder.specs.Order.{last_arrival}
 use Rattle.trip_builder.specs.Trips.{change_at, longest_wait, leaves, connects, uses_run, follows, is_chain, arrives, sets_out}
 use Rattle.trip_builder.specs.Best.{IsTrip, IsDecided}
 use Rattle.trip_builder.specs.Search.{leaves_after, IsWindowOf, AreLeaving, AllArriveBefore, AreDecided, AreDecidedFrom}
-use Rattle.trip_builder.specs.Bounds.{never, end_of_windows, goes_to, LeadsTo, end_of, arrival_of, IsBound, HasPosted, IsNoted, IsPosted, BoundsWindow, bound_in, IsBoardOf, AreRides, AreExits, AreUnknown, IsPut, IsFolded, ReachView, IsReach, AreBounds, BoundsRide, BoundsLeaving, BoundsStop}
+use Rattle.trip_builder.specs.Bounds.{never, end_of_windows, goes_to, LeadsTo, end_of, arrival_of, IsBound, HasPosted, IsNoted, IsPosted, BoundsWindow, NarrowsWindow, bound_in, IsBoardOf, AreRides, AreExits, AreUnknown, IsPut, IsFolded, ReachView, IsReach, AreBounds, BoundsRide, BoundsLeaving, NarrowsLeaving, BoundsStop}
 use Rattle.trip_builder.proofs.Ways.{both_true, last_is, known_after, next_goes_on, trip_goes_on}
 use Rattle.trip_builder.proofs.Leaving.{is_station, leaves_there}
 use Rattle.trip_builder.proofs.Deciding.{behind_decided}
@@ -64,6 +64,25 @@ leaving_found r w changes reach boards station from to bound board are same smal
     let ends = leads.known.0.ends in
     window first.depart (arrival_of r s rest)
     (it s.run.0 s.span.from (omega (arith, up, ends)) (eqb-true first.station.0 station.0 parts.0) (omega (arith, high, end)) (arrival_of r s rest) (ride_bounded r w changes reach.rides are.rides s rest count leads)) low high
+
+pub narrowing_found : (r : RunsView) (w : TripWish) (changes : ℕ) (reach : ReachView) (boards : List (List Useful)) (station : StationNo) (from to first last : ℕ) (board : List Useful) → IsReach r w changes reach
+    → boards ≡ reach.boards → true ≡ ltb station.0 (length boards) → board ≡ get_or boards station.0 board → to < end_of_windows → NarrowsWindow board from to first last
+    → NarrowsLeaving r w changes station from to first last
+narrowing_found r w changes reach boards station from to first last board are same small is end narrows s rest count leads says =
+    let size : length boards ≡ length reach.boards = ap (λ (l : List (List Useful)). length l) same in
+    let inside = ltb-true station.0 (length boards) (sym small) in
+    let it = subst (IsBoardOf r reach.rides station.0) (sym (is ∙ ap (λ (l : List (List Useful)). get_or l station.0 board) same)) (are.boards station.0 board (omega (arith, inside, size))) in
+    let start = first_stop r s in
+    let parts = both_true (start.station.0 == station.0) (nat_le from start.depart && nat_le start.depart to) says in
+    let times = both_true (nat_le from start.depart) (nat_le start.depart to) parts.1 in
+    let low : from ≤ start.depart = let t = times.0 in grind (arith, nat_tests) in
+    let high : start.depart ≤ to = let t = times.1 in grind (arith, nat_tests) in
+    let up = leads.known.0.rises in
+    let ends = leads.known.0.ends in
+    let here = eqb-true start.station.0 station.0 parts.0 in
+    let part = narrows.each start.depart (arrival_of r s rest)
+    (it s.run.0 s.span.from (omega (arith, up, ends)) here (omega (arith, high, end)) (arrival_of r s rest) (ride_bounded r w changes reach.rides are.rides s rest count leads)) low high in
+    leaves_there station first last start (is_station start.station station here) part.0 part.1
 
 pub stop_bounded : (r : RunsView) (w : TripWish) (changes : ℕ) (stop : Stop) (station : StationNo) (from to bound : ℕ) → 0 < changes → station ≡ stop.station → from ≡ stop.arrive + change_at r stop.station → to ≡ stop.arrive + longest_wait
     → BoundsLeaving r w (changes - 1) station from to bound → BoundsStop r w changes stop bound

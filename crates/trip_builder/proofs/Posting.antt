@@ -5,7 +5,7 @@ use Rattle.std.proofs.lemmas.Bool.{cases_lt}
 use Rattle.std.proofs.lemmas.List.{get_or_default, get_or_append_left, get_or-set_same, get_or-set_other}
 use Rattle.std.proofs.Math.Seq.{get_or-append_seam}
 use Rattle.trip_builder.specs.declared.board.Useful.{Useful}
-use Rattle.trip_builder.specs.Bounds.{IsBound, IsNoted, IsPosted, Rises, Follows, BoundsWindow}
+use Rattle.trip_builder.specs.Bounds.{IsBound, IsNoted, IsPosted, Rises, Follows, BoundsWindow, NarrowsWindow}
 
 at_end : (board : List Useful) (e : Useful) (k : ℕ) (none : Useful) → k ≡ length board → get_or (board ++ e ∷ []) k none ≡ e
 at_end board e k none is = ap (λ n. get_or (board ++ e ∷ []) n none) is ∙ get_or-append_seam board e [] none
@@ -254,6 +254,34 @@ pub none_found : (board : List Useful) (from to first count bound : ℕ) → All
 none_found board from to first count bound earlier later none depart arrival posted low high =
     let place = place_between board from to first count depart arrival earlier later posted low high in
     absurd (omega (arith, place.0, place.1, none))
+
+pub none_narrowed : (board : List Useful) (from to first count : ℕ) → AllWithin (λ (u : Useful). u.moment < from) board 0 first
+    → AllWithin (λ (u : Useful). to + 1 ≤ u.moment) board count (length board) → count ≤ first → NarrowsWindow board from to from 0
+none_narrowed board from to first count earlier later none = record {
+  starts = omega arith;
+  ends = omega arith;
+  each = λ depart arrival posted low high. (let place = place_between board from to first count depart arrival earlier later posted low high in absurd (omega (arith, place.0, place.1, none)));
+}
+
+pub some_narrowed : (board : List Useful) (from to first count : ℕ) (a z : Useful) → Rises board → count ≤ length board → AllWithin (λ (u : Useful). u.moment < from) board 0 first
+    → AllWithin (λ (u : Useful). from ≤ u.moment) board first (length board) → AllWithin (λ (u : Useful). u.moment < to + 1) board 0 count
+    → AllWithin (λ (u : Useful). to + 1 ≤ u.moment) board count (length board) → first < count → a ≡ get_or board first a → z ≡ get_or board (count - 1) z → NarrowsWindow board from to a.moment z.moment
+some_narrowed board from to first count a z rises inside before from_first by_count behind some is_a is_z = record {
+  starts = let low = from_first first a (omega arith) (omega (arith, some, inside)) in omega (arith, low, at_a);
+  ends = let high = by_count (count - 1) a (omega arith) (omega (arith, some)) in omega (arith, high, at_z);
+  each = λ depart arrival posted low high. (let place = place_between board from to first count depart arrival before behind posted low high in
+      let at = posted.moment a in
+      let before_count = place.1 in
+      let up = (rises first posted.place a place.0 posted.within).0 in
+      let down = (rises posted.place (count - 1) a (omega (arith, before_count)) (omega (arith, some, inside))).0 in
+      (omega (arith, at, up, at_a), omega (arith, at, down, at_z)));
+}
+  where
+    at_a : a.moment ≡ (get_or board first a).moment
+    at_a = ap (λ (u : Useful). u.moment) is_a
+
+    at_z : z.moment ≡ (get_or board (count - 1) a).moment
+    at_z = ap (λ (u : Useful). u.moment) (is_z ∙ get_or_default board (count - 1) z a (omega (arith, some, inside)))
 
 -- where the first and the last within the window are of one block
 pub one_block : (board : List Useful) (from to first count : ℕ) (a z : Useful) → Rises board → count ≤ length board → AllWithin (λ (u : Useful). u.moment < from) board 0 first

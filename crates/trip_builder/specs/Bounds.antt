@@ -91,6 +91,12 @@ pub record IsPosted (board : List Useful) (depart arrival : ℕ) : Type 0 where
 abbrev pub BoundsWindow : List Useful → ℕ → ℕ → ℕ → Type 0
 BoundsWindow board from to bound = (depart arrival : ℕ) → IsPosted board depart arrival → from ≤ depart → depart ≤ to → IsBound bound arrival
 
+-- it leaves from the first moment to the last, which is a part of the window
+pub record NarrowsWindow (board : List Useful) (from to first last : ℕ) : Type 0 where
+  pub starts : from ≤ first
+  pub ends : last ≤ to
+  pub each : (depart arrival : ℕ) → IsPosted board depart arrival → from ≤ depart → depart ≤ to → (first ≤ depart) × (depart ≤ last)
+
 -- ---- the bounds of rides and stations
 
 -- for each run and each of its stops a bound of what leaves there: 0 where nothing is known
@@ -152,6 +158,11 @@ BoundsRide r w changes run stop bound = (s : Segment) (rest : List Segment) → 
 abbrev pub BoundsLeaving : RunsView → TripWish → ℕ → StationNo → ℕ → ℕ → ℕ → Type 0
 BoundsLeaving r w changes station from to bound = (s : Segment) (rest : List Segment) → length rest ≡ changes → LeadsTo r w s rest
     → leaves station from to (first_stop r s) ≡ true → IsBound bound (arrival_of r s rest)
+
+-- it leaves from the first moment to the last
+abbrev pub NarrowsLeaving : RunsView → TripWish → ℕ → StationNo → ℕ → ℕ → ℕ → ℕ → Type 0
+NarrowsLeaving r w changes station from to first last = (s : Segment) (rest : List Segment) → length rest ≡ changes → LeadsTo r w s rest
+    → leaves station from to (first_stop r s) ≡ true → leaves station first last (first_stop r s) ≡ true
 
 -- likewise what gets off at the stop
 abbrev pub BoundsStop : RunsView → TripWish → ℕ → Stop → ℕ → Type 0

@@ -200,7 +200,8 @@ fn reach(
     if bound > found.ceiling || is_hopeless(runs, found, bound, way, trains) {
         return Ok(());
     }
-    change(runs, wish, way, trains, leaving(runs, window), found)?;
+    let part = found.bounds.narrowed(trains - 1, &window);
+    change(runs, wish, way, trains, leaving(runs, part), found)?;
     Ok(())
 }
 

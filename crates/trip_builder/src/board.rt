@@ -1,6 +1,6 @@
 ghost use Rattle.std.specs.Prelude.{◌≡◌, ◌≤◌, ◌<◌, ◌+◌, ◌^◌, ℕ, true, [], length, All, OnOk};
 ghost use Rattle.std.specs.List.{AllWithin};
-ghost use Rattle.trip_builder.specs.Bounds.{IsBound, Rises, HasPosted, Follows, IsNoted, IsPosted, BoundsWindow, never};
+ghost use Rattle.trip_builder.specs.Bounds.{IsBound, Rises, HasPosted, Follows, IsNoted, IsPosted, BoundsWindow, NarrowsWindow, never};
 
 use std::alloc::{AllocError, Global};
 use std::marker::Model;
@@ -16,6 +16,13 @@ pub(crate) struct Useful {
     block: u64,
     onward: u64,
     so_far: u64,
+}
+
+/// From when to when something leaves, both included.
+#[derive(Clone, Copy)]
+pub(crate) struct Part {
+    pub from: u64,
+    pub to: u64,
 }
 
 /// The departures of a station that lead to the destination, the earlier ones first, cut into blocks of time.
@@ -91,6 +98,25 @@ impl Board {
         let alloc = *self.useful.allocator();
         self.hints = Hints::of(alloc, self.useful.as_slice())?;
         Ok(())
+    }
+
+    /// From when to when the board's departures leave of those from the one second to the other, both included.
+    pub(crate) fn narrowed(&self, from: u64, to: u64) -> Part
+        requires end { to < 2 ^ 63 }
+        ensures { NarrowsWindow self.now from to result.from result.to }
+    {
+        let useful = self.useful.as_slice();
+        let first = self.hints.count_before(useful, from);
+        let past = self.hints.count_before(useful, to + 1);
+        if past <= first {
+            return Part { from, to: 0 };
+        }
+        let earliest = useful[first];
+        let latest = useful[past - 1];
+        Part {
+            from: earliest.moment,
+            to: latest.moment,
+        }
     }
 
     /// A bound of the arrivals of what leaves from the one second to the other, both included: the earliest of them,

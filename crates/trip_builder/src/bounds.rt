@@ -2,7 +2,7 @@ ghost use Rattle.std.specs.Prelude.{◌≡◌, ◌<◌, ◌≤◌, ◌^◌, [], 
 ghost use Rattle.trip_builder.specs.Segments.{stops_of as stops_of_run};
 ghost use Rattle.train_runs.specs.Runs.{RunsView};
 ghost use Rattle.trip_builder.specs.declared.trip.TripWish.{TripWish};
-ghost use Rattle.trip_builder.specs.Bounds.{AreRides, AreExits, AreUnknown, IsPut, IsFolded, IsBoardOf, AreBoards, AreBounds, BoundsRide, BoundsLeaving, BoundsStop, bound_in};
+ghost use Rattle.trip_builder.specs.Bounds.{AreRides, AreExits, AreUnknown, IsPut, IsFolded, IsBoardOf, AreBoards, AreBounds, BoundsRide, BoundsLeaving, NarrowsLeaving, BoundsStop, bound_in};
 
 use crate::board::{Board, NEVER};
 use crate::departures::{Window, admits, leaving, stop_of, stops_of, window_at};
@@ -150,6 +150,29 @@ impl Bounds {
             None => 0,
         }
     }
+
+    /// The part of the window in which what leads to the destination with so many changes leaves.
+    pub(crate) fn narrowed(&self, changes: usize, window: &Window) -> Window
+        requires end { window.now.to < 2 ^ 63 }
+        ensures station { result.station ≡ window.now.station }
+        ensures from { window.now.from ≤ result.from }
+        ensures to { result.to ≤ window.now.to }
+        ensures leading { (r : RunsView) (w : TripWish) → AreBounds r w self.now
+            → NarrowsLeaving r w changes window.now.station window.now.from window.now.to result.from result.to }
+    {
+        let Some(reach) = self.levels.get(changes) else {
+            return *window;
+        };
+        let Some(board) = reach.boards.get(window.station.0 as usize) else {
+            return *window;
+        };
+        let part = board.narrowed(window.from, window.to);
+        Window {
+            station: window.station,
+            from: part.from,
+            to: part.to,
+        }
+    }
 }
 
 // The bound of the run at the stop.
@@ -196,8 +219,8 @@ fn row_of(alloc: Global, runs: &Runs, exits: &[Row], run: RunNo) -> Result<Row, 
     Ok(Row { least: row })
 }
 
-// The bounds of what gets off at each stop with one change more. Those without a change, and the last stops, are made
-// run by run, the others station by station, so that its departures are at hand.
+// The bounds of what gets off at each stop with one change more. They are made run by run, since a run's stops stand
+// together; what is asked of a station's board is few numbers.
 fn exits_of(
     alloc: Global,
     runs: &Runs,
@@ -210,9 +233,6 @@ fn exits_of(
     let mut exits = unknown_rows(alloc, runs, wish, bounds)?;
     for run in 0..runs.count() {
         bound_run(runs, wish, bounds, RunNo(run), exits.as_mut_slice());
-    }
-    if !bounds.are_unknown() {
-        bound_stations(runs, wish, bounds, exits.as_mut_slice());
     }
     Ok(exits)
 }
@@ -256,48 +276,15 @@ fn sets_out(wish: &TripWish, stops: &[Stop]) -> bool {
     false
 }
 
-// Bounds what gets off at the run's last stop, without a change at each.
+// Bounds what gets off at each stop of the run.
 fn bound_run(runs: &Runs, wish: &TripWish, bounds: &Bounds, run: RunNo, exits: &mut [Row])
     requires bounds { AreBounds runs.now wish.now bounds.now }
     requires exits { AreExits runs.now wish.now (length bounds.now) exits.old }
     ensures { AreExits runs.now wish.now (length bounds.now) exits.new }
 {
     let count = stops_of(runs, run).len();
-    let first = if bounds.are_unknown() {
-        0
-    } else {
-        count.saturating_sub(1)
-    };
-    for stop in first..count {
+    for stop in 0..count {
         bound_stop(runs, wish, bounds, run, stop as u8, exits);
-    }
-}
-
-// Bounds what gets off at all stops but the runs' last.
-fn bound_stations(runs: &Runs, wish: &TripWish, bounds: &Bounds, exits: &mut [Row])
-    requires bounds { AreBounds runs.now wish.now bounds.now }
-    requires exits { AreExits runs.now wish.now (length bounds.now) exits.old }
-    ensures { AreExits runs.now wish.now (length bounds.now) exits.new }
-{
-    for station in 0..runs.station_count() {
-        bound_station(runs, wish, bounds, StationNo(station), exits);
-    }
-}
-
-// Bounds what gets off at the station, where the run goes on.
-fn bound_station(
-    runs: &Runs,
-    wish: &TripWish,
-    bounds: &Bounds,
-    station: StationNo,
-    exits: &mut [Row],
-)
-    requires bounds { AreBounds runs.now wish.now bounds.now }
-    requires exits { AreExits runs.now wish.now (length bounds.now) exits.old }
-    ensures { AreExits runs.now wish.now (length bounds.now) exits.new }
-{
-    for departure in leaving(runs, always(station)) {
-        bound_stop(runs, wish, bounds, departure.run, departure.stop, exits);
     }
 }
 

@@ -12,6 +12,7 @@ use crate::bounds::Bounds;
 use crate::chain::has_run;
 use crate::departures::stops_of;
 use crate::ends::{End, Ends};
+use crate::soles::Soles;
 use crate::trip::TripWish;
 use arrayvec::ArrayVec;
 use leg_masks::Span;
@@ -19,13 +20,15 @@ use offer_codes::Segment;
 use std::alloc::AllocError;
 use train_runs::{Departure, Runs};
 
-/// What a search has so far: the best trips, where runs come to the destination, the bounds from behind once they are made, how
-/// many tries come before that, and by when what is looked at ahead arrives.
+/// What a search has so far: the best trips, where runs come to the destination, the bounds from behind once they are made,
+/// which trains alone lead on once that is known, how many tries come before the next of these, and by when what is looked
+/// at ahead arrives.
 #[derive(Drop)]
 pub(crate) struct Found {
     pub best: Best,
     pub ends: Ends,
     pub bounds: Bounds,
+    pub soles: Soles,
     pub left: u32,
     pub ceiling: u64,
 }
@@ -50,6 +53,9 @@ pub(crate) fn may_lead(
     }
     let bound = found.bounds.of_ride(changes, departure);
     if bound == NEVER {
+        return false;
+    }
+    if changes == 1 && found.soles.leads_back(way, departure) {
         return false;
     }
     if !found.best.are_all_by(bound) {

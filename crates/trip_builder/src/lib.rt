@@ -16,6 +16,7 @@ mod ends;
 mod found;
 mod order;
 mod search;
+mod soles;
 mod trip;
 
 pub use chain::are_connected;

@@ -6,14 +6,13 @@ use Rattle.booking_rows.specs.Aims.{aimed, end_of, turn_of}
 use Rattle.history_model.specs.declared.phase.Phase.TheVariants as phase
 use Rattle.claim_rule.specs.Endings.{EndingView, items_read}
 use Rattle.booking_rows.proofs.Ended.{ending_present}
-use Rattle.booking_rows.proofs.TurnLemmas.{turn_in_range, turned_as, turn_holds, turn_endings, lost_entries, lost_holds, lost_endings, turned_ending, ending_shape, items_bound, amount_fits}
+use Rattle.booking_rows.proofs.TurnLemmas.{turn_in_range, turned_as, turn_holds, turn_endings, lost_entries, lost_holds, lost_endings, turned_ending, ending_shape, items_bound}
 use Rattle.booking_rows.proofs.turns.turn.Goals as goal
 
-pub successor-successor-requires : goal.successor-successor-requires
-successor-successor-requires c = record { generation = c.requires.generation }
-
-pub amount-amount-requires : goal.amount-amount-requires
-amount-amount-requires c = record { amount = (turn_in_range c.args.books.now c.args.desk.now c.args.row c.args.from c.args.to c.requires.own c.requires.turn).1 }
+pub end-end-requires : goal.end-end-requires
+end-end-requires c =
+    let within = turn_in_range c.args.books.now c.args.desk.now c.args.row c.args.from c.args.to c.requires.own c.requires.turn in
+    record { least = within.0; amount = within.1; generation = c.requires.generation }
 
 pub with_items-requires-clause-ending : goal.with_items-requires-clause-ending
 with_items-requires-clause-ending c =
@@ -21,7 +20,7 @@ with_items-requires-clause-ending c =
     let mid = c.step_turn.new.desk in
     let e = c.in-Ending.ending in
     turned_ending a.row a.from a.to e a.desk.now mid c.requires.none
-    (turned_as a.row a.from c.phase.result c.moment-moment.result _ c.successor-successor.result a.to a.desk.now mid (answer.Ending e) c.phase.ensures.phase c.moment-moment.ensures.moment (amount_fits a.books.now a.desk.now a.row a.from a.to c.amount-amount.result c.requires.own c.requires.turn c.amount-amount.ensures.amount) c.successor-successor.ensures.successor c.in-Ending.ensures.turned)
+    (turned_as a.books.now a.row a.from c.phase.result c.end-end.result a.to a.desk.now mid (answer.Ending e) c.requires.own c.requires.turn c.phase.ensures.phase c.end-end.ensures.end c.in-Ending.ensures.turned)
 
 pub step_turn-requires-clause-none : goal.step_turn-requires-clause-none
 step_turn-requires-clause-none c = λ kind is. c.requires.none kind (sym c.phase.ensures.phase ∙ is)
@@ -30,13 +29,13 @@ pub returns-in-Won-clause-entries : goal.returns-in-Won-clause-entries
 returns-in-Won-clause-entries c =
     let a = c.args in
     let new = c.step_turn.new.desk in
-    let t = turned_as a.row a.from c.phase.result c.moment-moment.result _ c.successor-successor.result a.to a.desk.now new answer.Won c.phase.ensures.phase c.moment-moment.ensures.moment (amount_fits a.books.now a.desk.now a.row a.from a.to c.amount-amount.result c.requires.own c.requires.turn c.amount-amount.ensures.amount) c.successor-successor.ensures.successor c.in-Won.ensures.turned in
+    let t = turned_as a.books.now a.row a.from c.phase.result c.end-end.result a.to a.desk.now new answer.Won c.requires.own c.requires.turn c.phase.ensures.phase c.end-end.ensures.end c.in-Won.ensures.turned in
     (turn_of a.row.row a.from a.to ∷ [], refl, step_shape (turn_of a.row.row a.from a.to) a.desk.now new t.0.0)
 
 pub returns-in-Won-clause-turned : goal.returns-in-Won-clause-turned
 returns-in-Won-clause-turned c =
     let a = c.args in
-    let t = turned_as a.row a.from c.phase.result c.moment-moment.result _ c.successor-successor.result a.to a.desk.now c.step_turn.new.desk answer.Won c.phase.ensures.phase c.moment-moment.ensures.moment (amount_fits a.books.now a.desk.now a.row a.from a.to c.amount-amount.result c.requires.own c.requires.turn c.amount-amount.ensures.amount) c.successor-successor.ensures.successor c.in-Won.ensures.turned in
+    let t = turned_as a.books.now a.row a.from c.phase.result c.end-end.result a.to a.desk.now c.step_turn.new.desk answer.Won c.requires.own c.requires.turn c.phase.ensures.phase c.end-end.ensures.end c.in-Won.ensures.turned in
     t.0.1
 
 pub returns-in-Won-clause-leaves : goal.returns-in-Won-clause-leaves
@@ -44,16 +43,16 @@ returns-in-Won-clause-leaves c =
     let a = c.args in
     let new = c.step_turn.new.desk in
     let e = end_of a.to in
-    let t = turned_as a.row a.from c.phase.result c.moment-moment.result _ c.successor-successor.result a.to a.desk.now new answer.Won c.phase.ensures.phase c.moment-moment.ensures.moment (amount_fits a.books.now a.desk.now a.row a.from a.to c.amount-amount.result c.requires.own c.requires.turn c.amount-amount.ensures.amount) c.successor-successor.ensures.successor c.in-Won.ensures.turned in
-    (t.1, turn_endings a.row.row a.from (aimed a.to) e.moment e.amount e.successor a.desk.now new t.1 t.0.0)
+    let t = turned_as a.books.now a.row a.from c.phase.result c.end-end.result a.to a.desk.now new answer.Won c.requires.own c.requires.turn c.phase.ensures.phase c.end-end.ensures.end c.in-Won.ensures.turned in
+    (t.1, turn_endings a.row.row a.from (aimed a.to) e a.desk.now new t.1 t.0.0)
 
 pub returns-in-Won-clause-holds : goal.returns-in-Won-clause-holds
 returns-in-Won-clause-holds c =
     let a = c.args in
     let new = c.step_turn.new.desk in
     let e = end_of a.to in
-    let t = turned_as a.row a.from c.phase.result c.moment-moment.result _ c.successor-successor.result a.to a.desk.now new answer.Won c.phase.ensures.phase c.moment-moment.ensures.moment (amount_fits a.books.now a.desk.now a.row a.from a.to c.amount-amount.result c.requires.own c.requires.turn c.amount-amount.ensures.amount) c.successor-successor.ensures.successor c.in-Won.ensures.turned in
-    turn_holds a.books.now a.desk.now new a.row a.from (aimed a.to) e.moment e.amount e.successor c.requires.own c.requires.turn t.0
+    let t = turned_as a.books.now a.row a.from c.phase.result c.end-end.result a.to a.desk.now new answer.Won c.requires.own c.requires.turn c.phase.ensures.phase c.end-end.ensures.end c.in-Won.ensures.turned in
+    turn_holds a.books.now a.desk.now new a.row a.from (aimed a.to) e c.requires.own c.requires.turn t.0
 
 pub returns-in-Missed-clause-entries : goal.returns-in-Missed-clause-entries
 returns-in-Missed-clause-entries c =
@@ -73,7 +72,7 @@ returns-in-Ending-clause-entries c =
     let mid = c.step_turn.new.desk in
     let w = c.with_items in
     let e = c.in-Ending.ending in
-    let t = turned_as a.row a.from c.phase.result c.moment-moment.result _ c.successor-successor.result a.to a.desk.now mid (answer.Ending e) c.phase.ensures.phase c.moment-moment.ensures.moment (amount_fits a.books.now a.desk.now a.row a.from a.to c.amount-amount.result c.requires.own c.requires.turn c.amount-amount.ensures.amount) c.successor-successor.ensures.successor c.in-Ending.ensures.turned in
+    let t = turned_as a.books.now a.row a.from c.phase.result c.end-end.result a.to a.desk.now mid (answer.Ending e) c.requires.own c.requires.turn c.phase.ensures.phase c.end-end.ensures.end c.in-Ending.ensures.turned in
     (turn_of a.row.row a.from a.to ∷ items_read a.row.row w.result.items, refl, ending_shape a.row a.from a.to e w.result a.desk.now mid w.new.desk t w.ensures.entries)
 
 pub returns-in-Ending-clause-turned : goal.returns-in-Ending-clause-turned
@@ -81,7 +80,7 @@ returns-in-Ending-clause-turned c =
     let a = c.args in
     let w = c.with_items in
     let e = c.in-Ending.ending in
-    let t = turned_as a.row a.from c.phase.result c.moment-moment.result _ c.successor-successor.result a.to a.desk.now c.step_turn.new.desk (answer.Ending e) c.phase.ensures.phase c.moment-moment.ensures.moment (amount_fits a.books.now a.desk.now a.row a.from a.to c.amount-amount.result c.requires.own c.requires.turn c.amount-amount.ensures.amount) c.successor-successor.ensures.successor c.in-Ending.ensures.turned in
+    let t = turned_as a.books.now a.row a.from c.phase.result c.end-end.result a.to a.desk.now c.step_turn.new.desk (answer.Ending e) c.requires.own c.requires.turn c.phase.ensures.phase c.end-end.ensures.end c.in-Ending.ensures.turned in
     ending_present w.new.desk a.row (aimed a.to) w.result (ap (λ (y : EndingView). y.row) w.ensures.read ∙ ap (λ (y : EndingView). y.row) t.3) (t.2 ∙ sym (ap (λ (y : EndingView). phase.Ending y.kind) w.ensures.read)) w.ensures.ending.of
 
 pub returns-in-Ending-clause-holds : goal.returns-in-Ending-clause-holds
@@ -90,8 +89,8 @@ returns-in-Ending-clause-holds c =
     let mid = c.step_turn.new.desk in
     let e = c.in-Ending.ending in
     let n = end_of a.to in
-    let t = turned_as a.row a.from c.phase.result c.moment-moment.result _ c.successor-successor.result a.to a.desk.now mid (answer.Ending e) c.phase.ensures.phase c.moment-moment.ensures.moment (amount_fits a.books.now a.desk.now a.row a.from a.to c.amount-amount.result c.requires.own c.requires.turn c.amount-amount.ensures.amount) c.successor-successor.ensures.successor c.in-Ending.ensures.turned in
-    holds_then a.desk.now mid c.with_items.new.desk (turn_holds a.books.now a.desk.now mid a.row a.from (aimed a.to) n.moment n.amount n.successor c.requires.own c.requires.turn t.0) c.with_items.ensures.holds
+    let t = turned_as a.books.now a.row a.from c.phase.result c.end-end.result a.to a.desk.now mid (answer.Ending e) c.requires.own c.requires.turn c.phase.ensures.phase c.end-end.ensures.end c.in-Ending.ensures.turned in
+    holds_then a.desk.now mid c.with_items.new.desk (turn_holds a.books.now a.desk.now mid a.row a.from (aimed a.to) n c.requires.own c.requires.turn t.0) c.with_items.ensures.holds
 
 pub returns-in-Ending-clause-bound : goal.returns-in-Ending-clause-bound
 returns-in-Ending-clause-bound c =
@@ -99,5 +98,5 @@ returns-in-Ending-clause-bound c =
     let mid = c.step_turn.new.desk in
     let w = c.with_items in
     let e = c.in-Ending.ending in
-    let t = turned_as a.row a.from c.phase.result c.moment-moment.result _ c.successor-successor.result a.to a.desk.now mid (answer.Ending e) c.phase.ensures.phase c.moment-moment.ensures.moment (amount_fits a.books.now a.desk.now a.row a.from a.to c.amount-amount.result c.requires.own c.requires.turn c.amount-amount.ensures.amount) c.successor-successor.ensures.successor c.in-Ending.ensures.turned in
+    let t = turned_as a.books.now a.row a.from c.phase.result c.end-end.result a.to a.desk.now mid (answer.Ending e) c.requires.own c.requires.turn c.phase.ensures.phase c.end-end.ensures.end c.in-Ending.ensures.turned in
     items_bound a.desk.now w.new.desk (turn_of a.row.row a.from a.to) a.row.row w.result.items (ending_shape a.row a.from a.to e w.result a.desk.now mid w.new.desk t w.ensures.entries) w.ensures.few

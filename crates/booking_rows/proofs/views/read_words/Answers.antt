@@ -6,27 +6,27 @@ use Rattle.booking_rows.specs.Views.{word_looks}
 use Rattle.booking_rows.proofs.ViewLemmas.{reads, four_looks, since_on, sealed_of, still_before}
 use Rattle.booking_rows.proofs.views.read_words.Goals as goal
 
-pub read_items-items-requires-clause-sealed : goal.read_items-items-requires-clause-sealed
-read_items-items-requires-clause-sealed c =
+pub read_item_words-items-requires-clause-sealed : goal.read_item_words-items-requires-clause-sealed
+read_item_words-items-requires-clause-sealed c =
     sealed_of c.step_read-count.new.desk c.args.row c.args.phase
     (reads c.args.row c.args.phase c.args.desk.now c.step_read-retailer.new.desk c.step_read-limit.new.desk c.step_read-total.new.desk c.step_read-count.new.desk c.step_read-retailer.result c.step_read-limit.result c.step_read-total.result c.step_read-count.result
     c.requires.sealed c.step_read-retailer.ensures.look c.step_read-limit.ensures.look c.step_read-total.ensures.look c.step_read-count.ensures.look).since
 
-pub read_items-items-requires-clause-count : goal.read_items-items-requires-clause-count
-read_items-items-requires-clause-count c = λ now.
+pub read_item_words-items-requires-clause-count : goal.read_item_words-items-requires-clause-count
+read_item_words-items-requires-clause-count c = λ now.
     ((reads c.args.row c.args.phase c.args.desk.now c.step_read-retailer.new.desk c.step_read-limit.new.desk c.step_read-total.new.desk c.step_read-count.new.desk c.step_read-retailer.result c.step_read-limit.result c.step_read-total.result c.step_read-count.result
     c.requires.sealed c.step_read-retailer.ensures.look c.step_read-limit.ensures.look c.step_read-total.ensures.look c.step_read-count.ensures.look).before now).4
 
 pub read_end-end-requires-clause-sealed : goal.read_end-end-requires-clause-sealed
 read_end-end-requires-clause-sealed c =
-    let i = c.read_items-items in
+    let i = c.read_item_words-items in
     since_on c.step_read-count.new.desk i.new.desk (word_looks c.args.row.row 8 i.result.items) c.args.row c.args.phase i.ensures.entries
     (reads c.args.row c.args.phase c.args.desk.now c.step_read-retailer.new.desk c.step_read-limit.new.desk c.step_read-total.new.desk c.step_read-count.new.desk c.step_read-retailer.result c.step_read-limit.result c.step_read-total.result c.step_read-count.result
     c.requires.sealed c.step_read-retailer.ensures.look c.step_read-limit.ensures.look c.step_read-total.ensures.look c.step_read-count.ensures.look).since
 
 pub returns-clause-sealed : goal.returns-clause-sealed
 returns-clause-sealed c =
-    let i = c.read_items-items in
+    let i = c.read_item_words-items in
     let e = c.read_end-end in
     let so = reads c.args.row c.args.phase c.args.desk.now c.step_read-retailer.new.desk c.step_read-limit.new.desk c.step_read-total.new.desk c.step_read-count.new.desk c.step_read-retailer.result c.step_read-limit.result c.step_read-total.result c.step_read-count.result
     c.requires.sealed c.step_read-retailer.ensures.look c.step_read-limit.ensures.look c.step_read-total.ensures.look c.step_read-count.ensures.look in
@@ -34,12 +34,12 @@ returns-clause-sealed c =
     (since_on c.step_read-count.new.desk i.new.desk (word_looks c.args.row.row 8 i.result.items) c.args.row c.args.phase i.ensures.entries so.since)
 
 pub returns-clause-read : goal.returns-clause-read
-returns-clause-read c = record { sealed = c.requires.phase; items = c.read_items-items.ensures.many; end = c.read_end-end.ensures.many }
+returns-clause-read c = record { sealed = c.requires.phase; items = c.read_item_words-items.ensures.many; end = c.read_end-end.ensures.many }
 
 pub returns-clause-entries : goal.returns-clause-entries
 returns-clause-entries c =
     let row = c.args.row.row in
-    let i = c.read_items-items in
+    let i = c.read_item_words-items in
     let e = c.read_end-end in
     shape_then c.args.desk.now c.step_read-count.new.desk e.new.desk
     (SawRow row 1 c.step_read-retailer.result ∷ SawRow row 2 c.step_read-limit.result ∷ SawRow row 3 c.step_read-total.result ∷ SawRow row 4 c.step_read-count.result ∷ [])
@@ -56,7 +56,7 @@ pub returns-clause-fit : goal.returns-clause-fit
 returns-clause-fit c = λ now.
     let row = c.args.row in
     let ph = c.args.phase in
-    let i = c.read_items-items in
+    let i = c.read_item_words-items in
     let e = c.read_end-end in
     let so = reads row ph c.args.desk.now c.step_read-retailer.new.desk c.step_read-limit.new.desk c.step_read-total.new.desk c.step_read-count.new.desk c.step_read-retailer.result c.step_read-limit.result c.step_read-total.result c.step_read-count.result
     c.requires.sealed c.step_read-retailer.ensures.look c.step_read-limit.ensures.look c.step_read-total.ensures.look c.step_read-count.ensures.look in

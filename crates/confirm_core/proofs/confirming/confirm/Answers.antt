@@ -1,5 +1,6 @@
 use Rattle.std.proofs.Common.{◌≡◌, ℕ, ◌<◌, ◌≤◌, refl, subst, arith, pos}
 use Rattle.history_model.specs.declared.phase.Phase.TheVariants.{Prebooked, Confirmed as IsConfirmed}
+use Rattle.history_model.specs.WholeEnds.{end_at}
 use Rattle.claim_rule.proofs.Out.{holds_then, endings_then}
 use Rattle.row_decisions.proofs.Deciding.{by_length, can_turn_by}
 use Rattle.confirm_core.specs.Confirming.{Confirms}
@@ -14,7 +15,7 @@ pub turn-requires-clause-turn : goal.turn-requires-clause-turn
 turn-requires-clause-turn c =
     let f = c.find_terms in
     let t = c.in-Some.terms in
-    can_turn_by c.args.books.now.layout f.new.desk c.args.row t.limit Prebooked IsConfirmed c.args.now (pos 0) 0 f.ensures.own.layout c.in-Some.ensures.entries.1.0 refl
+    can_turn_by c.args.books.now.layout f.new.desk c.args.row t.limit Prebooked IsConfirmed (end_at c.args.now (pos 0) 0) f.ensures.own.layout c.in-Some.ensures.entries.1.0 refl
     (subst (λ (n : ℕ). n ≤ 4102444799) c.seconds-2.ensures.value c.seconds-2.ensures.in_years)
     (early t.limit c.args.now c.seconds.result c.seconds-2.result c.seconds.ensures.value c.seconds-2.ensures.value c.if-seconds.false, refl, refl)
     c.in-Some.ensures.limit

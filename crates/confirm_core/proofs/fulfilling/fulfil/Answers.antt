@@ -1,5 +1,6 @@
 use Rattle.std.proofs.Common.{refl, arith, pos}
 use Rattle.history_model.specs.declared.phase.Phase.TheVariants.{Fulfilled, Confirmed as IsConfirmed}
+use Rattle.history_model.specs.WholeEnds.{end_at}
 use Rattle.claim_rule.proofs.Out.{holds_then, endings_then}
 use Rattle.row_decisions.proofs.Deciding.{by_length, can_turn}
 use Rattle.confirm_core.specs.Fulfilling.{Fulfils}
@@ -10,7 +11,7 @@ use Rattle.confirm_core.proofs.fulfilling.fulfil.Goals as goal
 pub turn-requires-clause-turn : goal.turn-requires-clause-turn
 turn-requires-clause-turn c =
     let f = c.find_owned in
-    can_turn c.args.books.now.layout f.new.desk c.args.row IsConfirmed Fulfilled 0 (pos 0) 0 f.ensures.own.layout c.in-Some.ensures.entries.1.0 refl (omega arith) (λ limit. (refl, refl, refl)) c.in-Some.ensures.sealed
+    can_turn c.args.books.now.layout f.new.desk c.args.row IsConfirmed Fulfilled (end_at 0 (pos 0) 0) f.ensures.own.layout c.in-Some.ensures.entries.1.0 refl (omega arith) (λ limit. (refl, refl, refl)) c.in-Some.ensures.sealed
 
 pub returns-in-Won-clause-entries : goal.returns-in-Won-clause-entries
 returns-in-Won-clause-entries c =

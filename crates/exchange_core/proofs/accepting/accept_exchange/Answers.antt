@@ -1,10 +1,11 @@
 use Rattle.std.proofs.Common.{rules, ◌≡◌, ◌<◌, ◌≤◌, ℤ, refl, sym, ap, ◌∙◌, subst, to_z, of_z, w64}
 use Rattle.history_model.specs.declared.booking.End.{End}
-use Rattle.history_model.specs.declared.phase.Phase.TheVariants.{Ending as IsEndingPhase}
+use Rattle.history_model.specs.declared.phase.Phase.TheVariants as phase
 use Rattle.history_model.specs.declared.phase.EndKind.{EndKind}
-use Rattle.history_model.specs.declared.phase.EndKind.TheVariants.{Exchange as IsExchange}
+use Rattle.history_model.specs.declared.phase.EndKind.TheVariants as kind
 use Rattle.booking_rows.specs.Ends.{IsEndedAs}
 use Rattle.history_model.specs.Booking.{successor_rows, successor_word}
+use Rattle.history_model.specs.WholeEnds.{end_at}
 use Rattle.rail_ids.specs.declared.RowNo.{RowNo}
 use Rattle.rail_ids.specs.Spelling.{last_generation}
 use Rattle.booking_rows.proofs.ViewLemmas.{generation_of_hold}
@@ -26,7 +27,7 @@ turn-requires-clause-turn c =
     let r : ReadyView = record { code = exchange_view i.code; retailer = i.retailer.0; moment = i.moment } in
     let amount : to_z w64 (of_z w64 i.code.difference) ≡ i.code.difference = search rules in
     let years : i.moment ≤ 4102444799 = search rules in
-    subst (λ (x : ℤ). CanTurn c.args.books.now.layout c.args.desk.now.seen c.args.desk.now.number i.code.row c.phase_named-from.result (IsEndingPhase IsExchange) i.moment x (successor_word c.row.result.row c.row.result.generation)) (sym amount)
+    subst (λ (x : ℤ). CanTurn c.args.books.now.layout c.args.desk.now.seen c.args.desk.now.number i.code.row c.phase_named-from.result (phase.Ending kind.Exchange) (end_at i.moment x (successor_word c.row.result.row c.row.result.generation))) (sym amount)
     (may_turn c.args.books.now.layout c.args.desk.now r c.args.hold c.phase_named-from.result c.row.result c.phase_named-from.ensures.phase c.row.ensures c.requires.own.layout years (subst (IsReadyFor c.args.desk.now) (sym c.ready.view_is) c.requires.ready) c.requires.hold)
 
 pub turn-requires-clause-generation : goal.turn-requires-clause-generation

@@ -2,6 +2,7 @@ use Rattle.std.proofs.Common.{◌≡◌, ℕ, ◌<◌, ◌≤◌, refl, sym, ◌
 use Rattle.rail_ids.specs.declared.RowNo.{RowNo}
 use Rattle.history_model.specs.declared.phase.Phase.TheVariants.{Prebooked, Ending}
 use Rattle.history_model.specs.declared.phase.EndKind.TheVariants.{Expire}
+use Rattle.history_model.specs.WholeEnds.{end_at}
 use Rattle.claim_rule.proofs.Out.{holds_then}
 use Rattle.booking_rows.proofs.ViewLemmas.{sealed_of}
 use Rattle.row_decisions.proofs.Deciding.{can_turn_by, last_look}
@@ -109,7 +110,7 @@ end_row-requires c =
     let has = limit_kept row l.result l.new.desk e.new.desk e.ensures.entries.0 l.ensures.own.legal e.ensures.entries.2 (sealed_of l.new.desk row Prebooked (l.ensures.sealed Prebooked f.0)) l.ensures.word (e.ensures.present c.in_default-last.not-Free) in
     record {
       own = e.ensures.own;
-      turn = can_turn_by c.args.books.now.layout e.new.desk row l.result Prebooked (Ending Expire) c.args.now (pos 0) 0 e.ensures.own.layout c.requires.row refl
+      turn = can_turn_by c.args.books.now.layout e.new.desk row l.result Prebooked (Ending Expire) (end_at c.args.now (pos 0) 0) e.ensures.own.layout c.requires.row refl
           (subst (λ (n : ℕ). n ≤ 4102444799) c.seconds.ensures.value c.seconds.ensures.in_years) (late c.args.now l.result c.seconds.result c.seconds.ensures.value c.if-seconds-limit.false, refl, refl) has.1;
       generation = tt;
       ends = (Expire, refl);

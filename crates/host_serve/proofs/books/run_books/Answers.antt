@@ -1,5 +1,6 @@
 use Rattle.std.proofs.Common.{◌≡◌, ◌∙◌, ◌+◌, ◌<◌, ℕ, length, map, Some, sym, subst, ap, arith}
 use Rattle.rail_io.specs.Faults.{Rose}
+use Rattle.rail_service.specs.Listeners.{Handing, IsGiven}
 use Rattle.host_serve.specs.declared.end.ServeOutcome.{ServeOutcome}
 use Rattle.host_serve.specs.Serve.{BooksEnd}
 use Rattle.host_serve.proofs.Crewing.{complete, one_more}
@@ -18,8 +19,9 @@ returns g c =
     let members = c.crew_of-crew.ensures in
     let clocks = map g.C.Clock.told c.args.clocks.items in
     let asks = Asks g.T.Ticker.ticked c.args.ticker in
+    let hands : Handing = IsGiven g.N.Named.gives in
     let view = g.L.Listener.told c.finish_listener-all.new.listener in
-    let worked = all_worked _ g.C.Clock.told g.T.Ticker.ticked c.args.cat.now said c.args.ticker clocks c.args.books c.crew_of-crew.result.items _ _
+    let worked = all_worked _ (λ s stream sent t. hands stream sent) hands (λ s stream sent t given. given) g.C.Clock.told g.T.Ticker.ticked c.args.cat.now said c.args.ticker clocks c.args.books c.crew_of-crew.result.items _ _
     c.run_crew-desk.new.first c.run_crew-desk.result members.crew members.ready members.count c.requires.workers run
     c.finish_listener-all.new.desk c.meet.new.desk (g.C.Clock.told c.into_clock-clock.result) (g.C.Clock.told c.finish_listener-all.new.clock)
     left.turns.0 c.into_clock-clock.new.all.amount view.handed members.nothing c.into_clock-clock.ensures.amount
@@ -30,7 +32,7 @@ returns g c =
     run.are run.met left.own left.tidy (left.keeps.number ∙ run.is.desk.number) c.meet.ensures.met in
     let count : length run.crew ≡ said.workers + 1 = run.count ∙ members.count in
     let closed = c.close.ensures in
-    let wall = served_wall c.args.cat.now said clocks asks view.handed books c.meet.new.desk c.close.result c.meet.ensures.own (c.meet.ensures.tidy run.met.tidy) c.requires.opening
+    let wall = served_wall c.args.cat.now said clocks asks hands view.handed books c.meet.new.desk c.close.result c.meet.ensures.own (c.meet.ensures.tidy run.met.tidy) c.requires.opening
     closed.layout (record { places = closed.places; legs = closed.legs; rows = closed.rows }) closed.history
     whole.0 (whole.1 ∙ count) (one_more c.run_crew-desk.new.first.number c.run_crew-desk.new.first.seen c.meet.new.desk.seen run.met.number c.meet.ensures.met.mine run.met.meets)
     worked (λ n low high. rests n low (omega (arith, high, count))) in
@@ -38,7 +40,7 @@ returns g c =
     record {
       never_falls = omega (arith, c.requires.faults, c.into_listener-listener.ensures.never_falls, left.never_falls);
       ends = elim c.if-all.branch [
-        | then-all w ↦ subst (λ (o : ServeOutcome). BooksEnd c.args.cat.now c.args.books.layout said clocks asks (g.L.Listener.faults c.args.listener) faults view (Some c.close.result) o) (sym w.result-is) (
+        | then-all w ↦ subst (λ (o : ServeOutcome). BooksEnd c.args.cat.now c.args.books.layout said clocks asks hands (g.L.Listener.faults c.args.listener) faults view (Some c.close.result) o) (sym w.result-is) (
           record {
             handed = left.spent w.if-all.true
                 ∙ (ap (λ (n : ℕ). record { port = n; limit = g.N.Named.limit; handed = g.N.Named.limit }) c.requires.port
@@ -47,7 +49,7 @@ returns g c =
           },
           wall,
         )
-        | else-all w ↦ subst (λ (o : ServeOutcome). BooksEnd c.args.cat.now c.args.books.layout said clocks asks (g.L.Listener.faults c.args.listener) faults view (Some c.close.result) o) (sym w.result-is) (
+        | else-all w ↦ subst (λ (o : ServeOutcome). BooksEnd c.args.cat.now c.args.books.layout said clocks asks hands (g.L.Listener.faults c.args.listener) faults view (Some c.close.result) o) (sym w.result-is) (
           record {
             rose = subst (λ (n : ℕ). Rose n faults) c.requires.faults (left.failed w.if-all.false).0;
             port = left.port ∙ c.requires.port;
@@ -64,7 +66,8 @@ pub into_listener-listener-requires : goal.into_listener-listener-requires
 into_listener-listener-requires g c =
     let said = c.args.said in
     let members = c.crew_of-crew.ensures in
-    let parts = all_parts _ g.C.Clock.told g.T.Ticker.ticked c.args.cat.now said c.args.ticker (map g.C.Clock.told c.args.clocks.items) c.args.books c.crew_of-crew.result.items _ _
+    let hands : Handing = IsGiven g.N.Named.gives in
+    let parts = all_parts _ (λ s stream sent t. hands stream sent) hands (λ s stream sent t given. given) g.C.Clock.told g.T.Ticker.ticked c.args.cat.now said c.args.ticker (map g.C.Clock.told c.args.clocks.items) c.args.books c.crew_of-crew.result.items _ _
     c.run_crew-desk.new.first c.run_crew-desk.result members.crew members.ready members.count c.requires.workers c.run_crew-desk.ensures.run
     c.into_clock-clock.new.all.parts members.parts c.into_clock-clock.ensures.parts in
     record { whole = omega (arith, parts, c.requires.parts, c.requires.one_each) }

@@ -1,6 +1,8 @@
 use Rattle.std.proofs.Common.{◌≡◌, ◌+◌, rules, arith}
 use Rattle.worker_pool.proofs.Chains.{keeps_on}
-use Rattle.host_serve.specs.Turns.{Stand, Connection}
+use Rattle.rail_service.specs.Listeners.{IsGiven}
+use Rattle.rail_service.proofs.Handing.{gives_at_once, gives_on}
+use Rattle.host_serve.specs.Turns.{Stand, OneTurn, Connection}
 use Rattle.host_serve.proofs.Chaining.{chain_on, one}
 use Rattle.host_serve.proofs.draining.drain_listener.Goals as goal
 
@@ -15,6 +17,8 @@ loop-served-preserved g c =
     let more : (g.L.Listener.told c.accept.new.self).handed ≡ (g.L.Listener.told c.args.listener.now).handed + (inv.turns.0 + 1) =
     (let so = inv.turns.1 in let one_more : (g.L.Listener.told c.accept.new.self).handed ≡ (g.L.Listener.told c.loop-served.listener).handed + 1 = search (rules, arith) in
     omega (arith, so, one_more)) in
+    let Does : OneTurn = Connection (IsGiven g.N.Named.gives) cat in
+    let given = gives_at_once g.L.Listener.becomes g.L.Listener.hands g.N.Named.gives _ _ _ _ inv.gives c.in-Stream.ensures.gives in
     let new : Stand = record { desk = c.serve_stream.new.desk; clock = told c.serve_stream.new.clock } in
     record {
       own = did.own;
@@ -23,8 +27,9 @@ loop-served-preserved g c =
       turns = (
         inv.turns.0 + 1,
         more,
-        chain_on (Connection cat) inv.turns.0 1 old at new inv.turns.2 (one (Connection cat) at new (_, _, did.one)),
+        chain_on Does inv.turns.0 1 old at new inv.turns.2 (one Does at new (_, _, given, did.one)),
       );
+      gives = gives_on g.L.Listener.becomes g.L.Listener.hands g.N.Named.gives _ _ c.accept.ensures.becomes inv.gives;
       port = search (rules, arith);
       limit = search (rules, arith);
       within = search (rules, arith);

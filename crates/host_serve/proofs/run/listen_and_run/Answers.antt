@@ -1,8 +1,11 @@
-use Rattle.std.proofs.Common.{◌≡◌, ℕ, ◌∙◌, map, subst}
+use Rattle.std.proofs.Common.{◌≡◌, ℕ, ◌∙◌, List, Option, map, subst}
+use mathlib.Core.Logic.{∥∥₁_map}
+use Rattle.rail_service.proofs.Handing.{behind_a_call}
 use Rattle.host_words.specs.Said.{said_in}
 use Rattle.host_serve.specs.Serve.{BooksEnd, Left}
-use Rattle.host_serve.specs.Turns.{Asks}
+use Rattle.host_serve.specs.Turns.{Asks, HandedBy}
 use Rattle.host_serve.proofs.BooksEnded.{books_ended}
+use Rattle.host_serve.proofs.Worded.{books_end}
 use Rattle.host_serve.proofs.run.listen_and_run.Goals as goal
 
 pub returns-clause-ends : goal.returns-clause-ends
@@ -12,17 +15,24 @@ returns-clause-ends g c =
       before = g.L.Listener.told c.args.listener;
       clocks = map g.C.Clock.told c.args.clocks.items;
       asks = Asks g.T.Ticker.ticked c.args.ticker;
+      hands = HandedBy g.L.Listener.becomes g.L.Listener.hands c.args.listener;
       faults_after = g.L.Listener.faults c.run_books.result.listener;
       after = g.L.Listener.told c.run_books.result.listener;
       wall = c.run_books.result.wall;
     } in
+    let becomes = g.L.Listener.becomes in
+    let hands = g.L.Listener.hands in
+    let goes : (stream sent : Option (List ℕ)) → HandedBy becomes hands c.bind.new.self stream sent → HandedBy becomes hands c.args.listener stream sent =
+    λ stream sent given. ∥∥₁_map given (λ on. behind_a_call becomes hands c.args.listener c.set_limit.new.self c.set_limit.ensures.becomes stream sent
+    (behind_a_call becomes hands c.set_limit.new.self c.bind.new.self c.bind.ensures.becomes stream sent on)) in
     let steady : g.L.Listener.faults c.bind.new.self ≡ g.L.Listener.faults c.args.listener =
     c.bind.ensures.steady c.in_default.not-Failed ∙ c.set_limit.ensures.faults in
     let books = c.in-Ok.ensures.books in
     (books_ended c.in-Ok.opened.0 books.0 c.in-Ok.opened.1.layout (g.F.Shelf.told c.args.shelf.now) (said_in c.args.said.now) left books.1 books.2
     c.run_books.result.outcome
-    (subst (λ (n : ℕ). BooksEnd c.in-Ok.opened.0 c.in-Ok.opened.1.layout c.args.said.now.numbers left.clocks left.asks n left.faults_after left.after left.wall c.run_books.result.outcome)
-    steady c.run_books.ensures.ends)).0
+    (subst (λ (n : ℕ). BooksEnd c.in-Ok.opened.0 c.in-Ok.opened.1.layout c.args.said.now.numbers left.clocks left.asks left.hands n left.faults_after left.after left.wall c.run_books.result.outcome)
+    steady (books_end (HandedBy becomes hands c.bind.new.self) left.hands goes c.in-Ok.opened.0 c.in-Ok.opened.1.layout c.args.said.now.numbers left.clocks left.asks _ _ _ _
+    c.run_books.result.outcome c.run_books.ensures.ends))).0
 
 pub returns-clause-before : goal.returns-clause-before
 returns-clause-before g c =
@@ -31,6 +41,7 @@ returns-clause-before g c =
       before = g.L.Listener.told c.args.listener;
       clocks = map g.C.Clock.told c.args.clocks.items;
       asks = Asks g.T.Ticker.ticked c.args.ticker;
+      hands = HandedBy g.L.Listener.becomes g.L.Listener.hands c.bind.new.self;
       faults_after = g.L.Listener.faults c.run_books.result.listener;
       after = g.L.Listener.told c.run_books.result.listener;
       wall = c.run_books.result.wall;

@@ -3,7 +3,7 @@ use Rattle.host_words.specs.Options.{words_texts}
 use Rattle.host_words.specs.Said.{said_in}
 use Rattle.host_serve.specs.Serve.{Left}
 use Rattle.host_serve.specs.Telling.{Noting}
-use Rattle.host_serve.specs.Turns.{Asks}
+use Rattle.host_serve.specs.Turns.{Asks, HandedBy}
 use Rattle.host_serve.proofs.Ending.{refused_runs}
 use Rattle.host_serve.proofs.Telling.{exported, runs_so, wall_closed, wall_tidy}
 use Rattle.host_serve.proofs.run.run_by_words.Goals as goal
@@ -36,6 +36,7 @@ returns-clause-runs g c =
       before = g.L.Listener.told c.args.listener;
       clocks = map g.C.Clock.told c.args.clocks.items;
       asks = Asks g.T.Ticker.ticked c.args.ticker;
+      hands = HandedBy g.L.Listener.becomes g.L.Listener.hands c.args.listener;
       faults_after = g.L.Listener.faults run.result.listener;
       after = g.L.Listener.told run.result.listener;
       wall = run.result.wall;
@@ -64,6 +65,7 @@ returns-clause-tells g c =
       before = g.L.Listener.told c.args.listener;
       clocks = map g.C.Clock.told c.args.clocks.items;
       asks = Asks g.T.Ticker.ticked c.args.ticker;
+      hands = HandedBy g.L.Listener.becomes g.L.Listener.hands c.args.listener;
       faults_after = g.L.Listener.faults run.result.listener;
       after = g.L.Listener.told run.result.listener;
       wall = run.result.wall;
@@ -91,6 +93,7 @@ returns-clause-cause g c =
       before = g.L.Listener.told c.args.listener;
       clocks = map g.C.Clock.told c.args.clocks.items;
       asks = Asks g.T.Ticker.ticked c.args.ticker;
+      hands = HandedBy g.L.Listener.becomes g.L.Listener.hands c.args.listener;
       faults_after = g.L.Listener.faults run.result.listener;
       after = g.L.Listener.told run.result.listener;
       wall = run.result.wall;

@@ -1,10 +1,10 @@
 use Rattle.std.proofs.Common.{◌≡◌, [], List, Some, ap, sym}
 use Rattle.clap.specs.Words.{App, Row, Text, app_of, fault_of, matches_of}
 use Rattle.clap.proofs.WalkLemmas.{both}
-use Rattle.host_words.specs.Options.{taken, words_texts}
+use Rattle.host_words.specs.Options.{matched, words_texts}
 use Rattle.host_words.proofs.options.matches_of.Goals as goal
 
-is_taken : (app : App) (words : List Text) (rows : List Row) → fault_of app words ≡ [] → rows ≡ matches_of app words → taken app words ≡ Some rows
+is_taken : (app : App) (words : List Text) (rows : List Row) → fault_of app words ≡ [] → rows ≡ matches_of app words → matched app words ≡ Some rows
 is_taken app words rows none is = rw none (ap Some (sym is))
 
 pub returns-in-Ok-clause-ok : goal.returns-in-Ok-clause-ok

@@ -15,6 +15,6 @@ returns c =
       | then-free w ↦ rw w.line-is (w.as_slice-line.ensures.value ∙ (front.lines.0 ∙ ap line (sym w.if-free.true)))
       | else-free w ↦ rw w.line-is (w.as_slice-line-else-free.ensures.value ∙ (front.lines.1 ∙ ap line (sym w.if-free.false)))
     ] in
-    on_ok_weaker c.put_traits.result
+    on_ok_weaker c.put-2.result
     (put_three old _ _ _ _ _ _ (c.in_ok-put.ensures ∙ ap (λ (l : List ℕ). old ++ l) before) c.in_ok-put_number.ensures)
-    c.put_traits.ensures
+    c.put-2.ensures

@@ -1,6 +1,7 @@
 use Rattle.plain_host.proofs.Commands.{show_plain, confirm_plain, fulfil_plain, release_plain}
-use Rattle.plain_host.proofs.Trades.{quote_refund_plain, accept_refund_plain, quote_exchange_plain}
+use Rattle.plain_host.proofs.Trades.{quote_refund_plain, quote_exchange_plain}
 use Rattle.plain_host.proofs.Sweeps.{sweep_plain, refused_plain}
+use Rattle.plain_host.proofs.AllLaws.{refund_command_plain}
 use Rattle.plain_host.proofs.bookings.decisions_are_plain.Goals as goal
 
 pub returns : goal.returns
@@ -11,7 +12,7 @@ returns c = record {
   release = release_plain;
   sweep = sweep_plain;
   quote_refund = quote_refund_plain;
-  accept_refund = accept_refund_plain;
+  accept_refund = refund_command_plain;
   quote_exchange = quote_exchange_plain;
   refused = refused_plain;
 }

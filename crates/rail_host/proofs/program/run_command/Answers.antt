@@ -1,11 +1,7 @@
-use Rattle.std.proofs.Common.{inl, inr, refl}
+use Rattle.std.proofs.Common.{ap, inl, inr, refl}
+use Rattle.std.specs.Prelude.{option_map}
 use Rattle.host_words.specs.Options.{words_texts}
 use Rattle.host_words.specs.declared.command.CommandName.TheVariants.{Replay, Export, Drill, Serve}
-use Rattle.host_notes.specs.Ends.{end_of}
-use Rattle.host_notes.specs.declared.ending.CommandEnd.TheVariants.{WordsRefused}
-use Rattle.host_drill.specs.Ends.{end_of_drill}
-use Rattle.host_replay.specs.Input.{end_of_replay}
-use Rattle.host_settle.specs.Settle.{end_of_settle}
 use Rattle.rail_host.proofs.Naming.{one_name, no_tiny, no_settle, serve_tiny, serve_replay, serve_export, serve_settle, serve_drill, drill_tiny, drill_replay, drill_export, drill_settle}
 use Rattle.rail_host.proofs.program.run_command.Goals as goal
 
@@ -45,28 +41,63 @@ returns-clause-words g c two = record {
   serve = λ said is. c.if-is_for.ensures.no refl is.command;
 }
 
+-- the words are for another command
+pub returns-then-is_for-2-clause-no_books : goal.returns-then-is_for-2-clause-no_books
+returns-then-is_for-2-clause-no_books g c files told said is none = absurd (c.if-is_for.ensures.no refl is.command)
+
+pub returns-clause-no_books : goal.returns-clause-no_books
+returns-clause-no_books g c files told said is none = absurd (c.if-is_for.ensures.no refl is.command)
+
 pub returns-then-is_for-clause-ended : goal.returns-then-is_for-clause-ended
-returns-then-is_for-clause-ended g c = inr (c.if-is_for.ensures.yes refl, c.serve_port.ensures.ended)
+returns-then-is_for-clause-ended g c = inr (inr (c.if-is_for.ensures.yes refl, c.serve_port.ensures.ended))
 
 pub returns-then-is_for-2-clause-ended : goal.returns-then-is_for-2-clause-ended
 returns-then-is_for-2-clause-ended g c =
     let ends = c.run_drill.ensures.ends in inl (record {
-      other = c.if-is_for.ensures.no refl;
-      end = end_of_drill ends.0;
-      is = ends.1;
-      note = ends.3;
+      command = c.if-is_for-2.ensures.yes refl;
+      cause = ends.0;
+      wall = option_map (λ w. w) c.run_drill.result.wall;
+      leaves = ends.2;
+      ends = record { is = ends.1; note = ends.3 };
     })
 
+-- words of no plain command, which are refused
 pub returns-clause-ended : goal.returns-clause-ended
 returns-clause-ended g c =
-    let other = c.if-is_for.ensures.no refl in
     elim c.run_plain.ensures.run [
-      | inl two ↦ inl (record { other = other; end = WordsRefused; is = two; note = c.run_plain.ensures.refused two })
+      | inl two ↦ inr (inl (inl (record {
+        none = returns-clause-words g c two;
+        no_read = ap g.S.Source.told (c.run_plain.ensures.nothing_read two);
+        no_write = ap g.K.Sink.told (c.run_plain.ensures.nothing_written two);
+        ends = record { is = two; note = c.run_plain.ensures.refused two };
+      })))
       | inr more ↦ elim more [
-        | inl tiny ↦ inl (record { other = other; end = end_of tiny.0; is = tiny.1; note = tiny.3 })
+        | inl tiny ↦ inr (inl (inr (inl (record {
+          end = tiny.0;
+          ran = tiny.2;
+          ends = record { is = tiny.1; note = tiny.3 };
+        }))))
         | inr files ↦ elim files [
-          | inl replay ↦ inl (record { other = other; end = end_of_replay replay.0; is = replay.1; note = replay.3 })
-          | inr settle ↦ inl (record { other = other; end = end_of_settle settle.0; is = settle.1; note = settle.3 })
+          | inl input ↦ elim input.2 [
+            | inl replay ↦ inr (inl (inr (inr (inl (record {
+              end = input.0;
+              ran = replay;
+              ends = record { is = input.1; note = input.3 };
+              cause = input.4;
+            })))))
+            | inr export ↦ inr (inl (inr (inr (inr (inl (record {
+              end = input.0;
+              ran = export;
+              ends = record { is = input.1; note = input.3 };
+              cause = input.4;
+            }))))))
+          ]
+          | inr settle ↦ inr (inl (inr (inr (inr (inr (record {
+            end = settle.0;
+            ran = settle.2;
+            ends = record { is = settle.1; note = settle.3 };
+            cause = settle.4;
+          }))))))
         ]
       ]
     ]

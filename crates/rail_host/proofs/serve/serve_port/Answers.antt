@@ -1,7 +1,7 @@
 use Rattle.std.proofs.Common.{List, None, refl, subst, arith}
 use Rattle.host_words.specs.Options.{words_texts}
 use Rattle.host_serve.specs.Serve.{Runs}
-use Rattle.host_serve.specs.Turns.{Asks, Readings}
+use Rattle.host_serve.specs.Turns.{Asks, HandedBy, Readings}
 use Rattle.host_serve.specs.declared.end.ServeOutcome.TheVariants.{NoMemory}
 use Rattle.rail_host.proofs.Untold.{untold}
 use Rattle.rail_host.proofs.serve.serve_port.Goals as goal
@@ -34,6 +34,7 @@ returns-clause-ended g c =
             before = g.L.Listener.told c.args.listener;
             clocks = clocks;
             asks = Asks g.T.Ticker.ticked c.args.ticker;
+            hands = HandedBy g.L.Listener.becomes g.L.Listener.hands c.args.listener;
             faults_after = g.L.Listener.faults c.run_serve.result.listener;
             after = g.L.Listener.told c.run_serve.result.listener;
             wall = c.run_serve.result.wall;

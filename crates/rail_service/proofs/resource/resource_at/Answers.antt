@@ -4,8 +4,8 @@ use Rattle.rail_service.specs.Paths.{Rows}
 use Rattle.rail_service.proofs.Naming.{names_none, names}
 use Rattle.rail_service.proofs.resource.resource_at.Goals as goal
 
-pub returns-in_default : goal.returns-in_default
-returns-in_default c = record { found = sym (names_none c.args.path.now c.in_default.ensures.cases.0) }
+pub returns-in_default-from_utf8 : goal.returns-in_default-from_utf8
+returns-in_default-from_utf8 c = record { found = sym (names_none c.args.path.now c.in_default-from_utf8.ensures.cases.0) }
 
 pub returns-in-Ok-at : goal.returns-in-Ok-at
 returns-in-Ok-at c =

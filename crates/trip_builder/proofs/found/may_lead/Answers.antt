@@ -5,6 +5,7 @@ use Rattle.trip_builder.specs.Keeping.{IsOutdone}
 use Rattle.trip_builder.proofs.Boarding.{used_up}
 use Rattle.trip_builder.proofs.Bounding.{ride_hopeless}
 use Rattle.trip_builder.proofs.Outdoing.{ride_outdone}
+use Rattle.trip_builder.proofs.Leading.{back_decided}
 use Rattle.trip_builder.proofs.found.may_lead.Goals as goal
 
 turned : (b : Bool) → not b ≡ false → b ≡ true
@@ -31,3 +32,8 @@ returns-in-Some-clause-decided c =
     let begun = c.as_slice.ensures.value ∙ c.in-Some.ensures in
     let outdone = subst (λ (t : List Segment). IsOutdone r best c.of_ride-bound.result t c.args.changes) begun (c.outdo.ensures w c.requires.search.kept (turned c.outdo.result e)) in
     ride_outdone r w best way c.args.changes c.of_ride-bound.result d c.requires.search.kept.are.order (c.of_ride-bound.ensures r w c.requires.search.bounds) outdone)
+
+pub returns-then-leads_back-clause-decided : goal.returns-then-leads_back-clause-decided
+returns-then-leads_back-clause-decided c =
+    λ e. back_decided c.args.runs.now c.args.wish.now c.args.found.now.best.trips.items c.args.way.now c.args.changes c.args.departure.now c.if-changes-eq1.true
+    (c.leads_back.ensures c.args.runs.now c.args.wish.now c.requires.search.soles c.if-leads_back.true)

@@ -43,8 +43,11 @@ go_on-returns-then-are_all_by-clause-decided t c =
     let i = c.loop-departure.departure-index in
     let by = c.are_all_by.ensures r w c.loop-departure.invariant.search.kept c.if-are_all_by.true in
     let at : c.seconds.result ≡ (get_or ds i d).moment = c.seconds.ensures.value ∙ ap (λ (x : Departure). x.moment) c.departure-item.is in
-    all_covered r w best way c.args.changes win.station win.from win.to ds d c.leaving-departure-items.ensures.leaving c.window_of-window.ensures.window
-    (late_covered r w best way c.args.changes win.station win.from win.to ds d i c.seconds.result c.leaving-departure-items.ensures.leaving c.leaving-departure-items.ensures.rise by
+    let part = c.narrowed-part.result in
+    let narrowed = c.narrowed-part.ensures in
+    all_covered r w best way c.args.changes win.station part.station win.from win.to part.from part.to ds d c.leaving-departure-items.ensures.leaving narrowed.station
+    (narrowed.leading r w c.in_ok-bound_long_search.ensures.search.bounds) c.window_of-window.ensures.window
+    (late_covered r w best way c.args.changes part.station part.from part.to ds d i c.seconds.result c.leaving-departure-items.ensures.leaving c.leaving-departure-items.ensures.rise by
     (omega (arith, at)) c.loop-departure.invariant.tried)
 
 pub go_on-loop-departure-preserved : goal.go_on-loop-departure-preserved
@@ -89,7 +92,10 @@ go_on-returns-clause-decided t c =
     let ds = c.leaving-departure-items.result.now in
     let ended = c.loop-departure-test.false in
     let none : Departure = record { moment = 0; run = record { 0 = 0 }; stop = 0 } in
-    all_covered r w c.loop-departure.found.best.trips.items c.args.way.now c.args.changes win.station win.from win.to ds none c.leaving-departure-items.ensures.leaving c.window_of-window.ensures.window
+    let part = c.narrowed-part.result in
+    let narrowed = c.narrowed-part.ensures in
+    all_covered r w c.loop-departure.found.best.trips.items c.args.way.now c.args.changes win.station part.station win.from win.to part.from part.to ds none c.leaving-departure-items.ensures.leaving narrowed.station
+    (narrowed.leading r w c.in_ok-bound_long_search.ensures.search.bounds) c.window_of-window.ensures.window
     (λ k h to. c.loop-departure.invariant.tried k (omega (arith, h, ended)) none to)
 
 pub ride-go_on-requires : goal.ride-go_on-requires

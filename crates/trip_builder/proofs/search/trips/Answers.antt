@@ -1,5 +1,6 @@
 use Rattle.std.proofs.Common.{◌∙◌, sym, subst, arith}
 use Rattle.trip_builder.specs.Bounds.{AreBounds}
+use Rattle.trip_builder.specs.Soles.{AreSoles}
 use Rattle.trip_builder.proofs.Deciding.{best_of_all}
 use Rattle.trip_builder.proofs.search.trips.Goals as goal
 
@@ -12,6 +13,7 @@ loop-changes-init c =
         kept = c.none.ensures r w;
         ends = c.in_ok-unknown.ensures r w;
         bounds = subst (AreBounds r w) (sym c.unknown-2.ensures) (λ n none h. absurd (omega (arith, h)));
+        soles = subst (AreSoles r w) (sym c.unknown-3.ensures) (λ n none h. absurd (omega (arith, h)));
       };
       decided = λ n h. absurd (omega (arith, h));
     }

@@ -1,0 +1,79 @@
+-- What holds of each stream that was served, in other words.
+use Rattle.std.proofs.Common.{ℕ, List, [], ◌∷◌, Option, Some, None}
+use Rattle.std.specs.Prelude.{IsSomeAnd}
+use Rattle.history_model.specs.declared.entry.Entry.{Entry}
+use Rattle.history_model.specs.Booking.{Layout}
+use Rattle.claim_rule.specs.Rule.{BooksView}
+use Rattle.claim_rule.specs.Walls.{WallView}
+use Rattle.rail_catalogue.specs.Contents.{CatalogueView}
+use Rattle.rail_service.specs.Listeners.{Handing, ListenerView}
+use Rattle.host_words.specs.declared.serve.Serving.{Serving}
+use Rattle.host_serve.specs.Turns.{Readings, Stand, Leads, Chain, Connection}
+use Rattle.host_serve.specs.Serve.{AllWorked, BooksEnd, HasWorked, IsServedWall}
+use Rattle.host_serve.specs.declared.end.ServeOutcome.{ServeOutcome}
+use Rattle.host_serve.specs.declared.end.ServeOutcome.TheVariants as end
+use Rattle.host_serve.proofs.Chaining.{one_so}
+
+module _ (here there : Handing) (goes : (stream sent : Option (List ℕ)) → here stream sent → there stream sent) (cat : CatalogueView) where
+  led : (old : Stand) (stands : List Stand) (new : Stand) → Leads (Connection here cat) old stands new → Leads (Connection there cat) old stands new
+  led old [] new same = same
+  led old (next ∷ later) new step = (one_so here there goes cat old.clock old.desk next.clock next.desk step.0, led next later new step.1)
+
+  chained : (n : ℕ) (old new : Stand) → Chain (Connection here cat) n old new → Chain (Connection there cat) n old new
+  chained n old new c = record { stands = c.stands; count = c.count; leads = led old c.stands new c.leads }
+
+  worked : (books : BooksView) (history : List Entry) (n : ℕ) (clock : Readings) (count : ℕ)
+      → HasWorked (Connection here cat) books history n clock count → HasWorked (Connection there cat) books history n clock count
+  worked books history n clock count w = record {
+    began = w.began;
+    began_clock = w.began_clock;
+    began_of = w.began_of;
+    number = w.number;
+    none = w.none;
+    began_front = w.began_front;
+    ended = w.ended;
+    ended_of = w.ended_of;
+    ended_number = w.ended_number;
+    ended_front = w.ended_front;
+    turns = chained count w.began w.ended w.turns;
+    entries = w.entries;
+  }
+
+  all_worked : (books : BooksView) (said : Serving) (clocks : List Readings) (asks : ℕ → ℕ → Type 0) (total : ℕ) (history : List Entry)
+      → AllWorked cat books said clocks asks here total history → AllWorked cat books said clocks asks there total history
+  all_worked books said clocks asks total history all = record {
+    served = all.served;
+    serving = λ i less. worked books history _ _ _ (all.serving i less);
+    together = all.together;
+    sweeps = all.sweeps;
+    sweeping = all.sweeping;
+    ticks = all.ticks;
+    enough = all.enough;
+    asked = all.asked;
+  }
+
+  served_wall : (plan : Layout) (said : Serving) (clocks : List Readings) (asks : ℕ → ℕ → Type 0) (total : ℕ) (wall : Option WallView)
+      → IsSomeAnd wall (IsServedWall cat plan said clocks asks here total) → IsSomeAnd wall (IsServedWall cat plan said clocks asks there total)
+  served_wall plan said clocks asks total None is = is
+  served_wall plan said clocks asks total (Some wall) is = record {
+    books = is.books;
+    layout = is.layout;
+    of = is.of;
+    closed = is.closed;
+    tidy = is.tidy;
+    first = is.first;
+    worked = all_worked is.books said clocks asks total wall.history is.worked;
+    no_others = is.no_others;
+  }
+
+  pub books_end : (plan : Layout) (said : Serving) (clocks : List Readings) (asks : ℕ → ℕ → Type 0) (before after : ℕ) (view : ListenerView)
+      (wall : Option WallView) (o : ServeOutcome) → BooksEnd cat plan said clocks asks here before after view wall o
+      → BooksEnd cat plan said clocks asks there before after view wall o
+  books_end plan said clocks asks before after view wall end.Served ends = (ends.0, served_wall plan said clocks asks view.handed wall ends.1)
+  books_end plan said clocks asks before after view wall end.AcceptFailed ends = (ends.0, served_wall plan said clocks asks view.handed wall ends.1)
+  books_end plan said clocks asks before after view wall end.Unwritten ends = absurd ends
+  books_end plan said clocks asks before after view wall end.NoText ends = absurd ends
+  books_end plan said clocks asks before after view wall end.NotBound ends = absurd ends
+  books_end plan said clocks asks before after view wall end.NoMemory ends = ends
+  books_end plan said clocks asks before after view wall (end.NotLoaded fault) ends = absurd ends
+  books_end plan said clocks asks before after view wall end.Refused ends = absurd ends
