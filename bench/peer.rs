@@ -1,4 +1,4 @@
-//! A plain host for the four mixes of the benchmarks, as one would write it in a day: no proof, no history, a mask for each place and a lock
+//! A plain program for the four mixes of the benchmarks, as one would write it in a day: no proof, no history, a mask for each place and a lock
 //! for each booking. It gives the same bytes as the proved host to the requests of those mixes; for any other it isn't meant.
 //!
 //!     rustc -O -o peer bench/peer.rs

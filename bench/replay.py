@@ -4,7 +4,7 @@
   bench/replay.py [--requests N] [--program PATH]
 
 The program is the built one: `rt run` in crates/rail_host builds it. Each mix is one input of N requests (50,000). Beside it, in the same
-run, stand the peer (peer.rs, a plain host that gives the same bytes, built by rustc), and a program in Python that only reads the same input
+run, stand the peer (peer.rs, a plain program that gives the same bytes, built by rustc), and a program in Python that only reads the same input
 and writes the same output. What a program takes without requests is taken off its time.
 """
 import argparse

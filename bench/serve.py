@@ -5,7 +5,7 @@
 
 Each connection sends its requests one after another, each after the answer of the one before, and at last with 16 of them in flight:
 N of them (20,000), for at most so many seconds (10). There is a worker for each connection. load.c sends and measures, for all servers
-alike. The peer (peer.rs) is a plain host of the same job; fixed.c answers every request with the first answer that the host gave in that
+alike. The peer (peer.rs) is a plain program of the same job; fixed.c answers every request with the first answer that the host gave in that
 mix, so as many bytes over the same sockets.
 """
 import argparse

@@ -209,6 +209,18 @@ def overtaken(count, stations):
     return network(stations, runs)
 
 
+def behind(count, stations):
+    """The same with a run more, which comes behind the first one: each of the others meets both at each station."""
+    first = [stop(n, 9000 * n, 9000 * n + (0 if n in (0, stations - 1) else 4300)) for n in range(stations)]
+    times = [9000 * n + 4301 for n in range(1, stations)]
+    runs = [long_run(first)]
+    runs.append(long_run([stop(n + 1, at, at + (0 if n in (0, stations - 2) else 1)) for n, at in enumerate(times)]))
+    for run in range(2, count):
+        times = [100 + run + 9000 * n for n in range(1, stations - 1)]
+        runs.append(long_run([stop(n + 1, at, at) for n, at in enumerate(times)]))
+    return network(stations, runs)
+
+
 ARRIVE = {
     "in one second": lambda count, run: 2000,
     "in turn": lambda count, run: 2000 + run,
@@ -233,6 +245,7 @@ def worst():
     yield "along one line, a long wait", along(4_096, 127, 4_300)
     yield "one train, overtaken by 40 others", overtaken(41, 127)
     yield "one train, overtaken by 4,095 others", overtaken(4_096, 127)
+    yield "two trains, one behind the other, and 4,094 others beside", behind(4_096, 127)
 
 
 def search_worst(folder, program):

@@ -86,7 +86,8 @@ def executable(path, text):
 
 def with_trial(commands):
     """The commands of docs/retailers.md with the host that `rt try` starts in the place of the proved one."""
-    trial = re.search(r"^    (\(cd crates/rail_host && rt try .*\) &)$", (ROOT / "docs" / "retailers.md").read_text(), re.MULTILINE).group(1)
+    page = (ROOT / "docs" / "retailers.md").read_text()
+    trial = re.search(r"^    (\(cd crates/rail_host && rt try .*?\) &)$", page, re.MULTILINE | re.DOTALL).group(1)
     proved = re.search(r"^%s serve .* &$" % re.escape(BUILT), commands, re.MULTILINE).group(0)
     return commands.replace(proved, trial)
 

@@ -1,8 +1,9 @@
 -- What is held back, after a sink got some of it, or some of what stands behind it.
-use Rattle.std.proofs.Common.{◌≡◌, ℕ, zero, suc, List, [], ◌∷◌, ◌++◌, ◌+◌, ◌-◌, length, take, drop, Option, Some, None, refl, sym, ◌∙◌, ap, arith, append_assoc, append-nil, take-append-drop}
+use Rattle.std.proofs.Common.{◌≡◌, ℕ, zero, suc, List, [], ◌∷◌, ◌++◌, ◌+◌, ◌-◌, length, take, drop, Option, Some, None, refl, sym, ◌∙◌, ap, subst, arith, append_assoc, append-nil, take-append-drop}
 use Rattle.std.proofs.Math.Seq.{drop-nil, take-append-add}
-use Rattle.std.proofs.lemmas.List.{drop-drop, take_all}
+use Rattle.std.proofs.lemmas.List.{drop-drop, length-drop, take_all}
 use Rattle.rail_io.specs.Told.{with_end}
+use Rattle.host_io.specs.Outbox.{IsInRoom, Lies, OutboxView}
 
 pub end_more : (told : Option (List ℕ)) (a b : List ℕ) → with_end (with_end told a) b ≡ with_end told (a ++ b)
 end_more None a b = refl
@@ -47,3 +48,17 @@ both_more told later first second count more e whole =
     (ap (λ (l : List ℕ). l ++ take more second) (ap (λ (n : ℕ). take n first) whole ∙ take_all (length first) first (omega arith))
     ∙ sym (take-append-add first second more)
     ∙ ap (λ (n : ℕ). take (n + more) (first ++ second)) (sym whole))
+
+-- an outbox whose bytes lie so is no fuller than its room
+pub lies_in_room : (items : List ℕ) (sent taken memory : ℕ) → length items ≡ taken → Lies sent taken memory
+    → IsInRoom (record { held = drop sent items; used = taken })
+lies_in_room items sent taken memory many lies = (
+  lies.1,
+  λ none.
+      let left : length items - sent ≡ 0 = sym (length-drop sent items) ∙ ap (λ (l : List ℕ). length l) none in
+      lies.3 (omega (arith, left, many, lies.0)),
+)
+
+pub in_room : (o : OutboxView) (items : List ℕ) (sent taken memory : ℕ) → length items ≡ taken → Lies sent taken memory
+    → record { held = drop sent items; used = taken } ≡ o → IsInRoom o
+in_room o items sent taken memory many lies is = subst IsInRoom is (lies_in_room items sent taken memory many lies)

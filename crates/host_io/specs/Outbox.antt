@@ -1,5 +1,5 @@
 -- What contracts see of an outbox.
-use Rattle.std.specs.Prelude.{ℕ, List, ◌≡◌, ◌+◌, ◌≤◌, ◌<◌, ◌++◌, length, take, Option}
+use Rattle.std.specs.Prelude.{ℕ, List, [], ◌≡◌, ◌+◌, ◌≤◌, ◌<◌, ◌++◌, length, take, Option}
 use Rattle.rail_io.specs.Told.{with_end}
 use Rattle.rail_io.specs.declared.sink.PushedBoth.{PushedBoth}
 use Rattle.rail_io.specs.declared.sink.PushedBoth.TheVariants.{Took, Failed}
@@ -10,9 +10,22 @@ pub record OutboxView : Type 0 where
   -- how many were taken since none was last held
   pub used : ℕ
 
+-- the most bytes that it has room for
+abbrev pub most_held : ℕ
+most_held = 65536
+
 -- there is room for the piece
 abbrev pub Fits : OutboxView → List ℕ → Type 0
-Fits o piece = o.used + length piece ≤ 65536
+Fits o piece = o.used + length piece ≤ most_held
+
+-- no more were taken than there is room for, and all the room is free again where none is held
+abbrev pub IsInRoom : OutboxView → Type 0
+IsInRoom o = (o.used ≤ most_held) × (o.held ≡ [] → o.used ≡ 0)
+
+-- So many bytes lie in memory for so many, and so many of them went out: the memory is that of its making, and no byte that went out is
+-- kept where no other is.
+abbrev pub Lies : ℕ → ℕ → ℕ → Type 0
+Lies sent taken memory = (sent ≤ taken) × (taken ≤ most_held) × (most_held ≤ memory) × (sent ≡ taken → taken ≡ 0)
 
 -- it holds the piece too, behind all else
 abbrev pub with_piece : OutboxView → List ℕ → OutboxView

@@ -1,10 +1,10 @@
 // Bytes for a sink that are held back, to be sent together.
-ghost use Rattle.std.specs.Prelude.{◌≡◌, ◌≤◌, ◌<◌, ◌-◌, ◌++◌, [], IfOk, length, drop, true, false};
+ghost use Rattle.std.specs.Prelude.{◌≡◌, ◌↔◌, ◌≤◌, ◌<◌, ◌-◌, ◌++◌, [], IfOk, length, drop, true, false};
 ghost use Rattle.rail_io.specs.Faults.{Rose};
 ghost use Rattle.rail_io.specs.Told.{Pushes, PushesBoth, HasFailed, with_end};
 ghost use Rattle.rail_io.specs.declared.sink.Pushed.TheVariants.{Failed, Took};
 ghost use Rattle.rail_io.specs.declared.sink.PushedBoth.TheVariants.{Took as TookBoth};
-ghost use Rattle.host_io.specs.Outbox.{Fits, TakesSome, with_piece};
+ghost use Rattle.host_io.specs.Outbox.{Fits, IsInRoom, TakesSome, with_piece};
 
 use rail_io::{Pushed, PushedBoth, Sink};
 use std::alloc::{AllocError, Global};
@@ -36,14 +36,14 @@ pub struct Outbox {
 }
 
 impl Model for Outbox {
-    ghost use Rattle.std.specs.Prelude.{◌≤◌, drop, vec_len, vec_capacity};
-    ghost use Rattle.host_io.specs.Outbox.{OutboxView};
+    ghost use Rattle.std.specs.Prelude.{drop, vec_len, vec_capacity};
+    ghost use Rattle.host_io.specs.Outbox.{Lies, OutboxView};
 
     ghost Value = { OutboxView };
 
     ghost view = { λ o. record { held = drop o.sent o.bytes.items; used = vec_len o.bytes } };
 
-    ghost invariant = { λ o. (o.sent ≤ vec_len o.bytes) × (65536 ≤ vec_capacity o.bytes) };
+    ghost invariant = { λ o. Lies o.sent (vec_len o.bytes) (vec_capacity o.bytes) };
 }
 
 impl Outbox {
@@ -66,6 +66,7 @@ impl Outbox {
         ensures cause { result ≡ false → Rose (K.faults sink.old) (K.faults sink.new) }
         ensures steady { result ≡ true → K.faults sink.new ≡ K.faults sink.old }
         ensures unused { result ≡ true → self.new.used ≡ 0 }
+        ensures room { IsInRoom self.new }
     {
         while self.sent < self.bytes.len() {
             match sink.write(&self.bytes[self.sent..]) {
@@ -78,11 +79,12 @@ impl Outbox {
         true
     }
 
-    /// Holds the piece back, where there is room for it.
+    /// Holds the piece back, exactly where there is room for it.
     fn hold(&mut self, piece: &[u8]) -> bool
         ensures held { result ≡ true → self.new ≡ with_piece self.old piece.now }
         ensures full { result ≡ false → self.new ≡ self.old }
-        ensures fits { Fits self.old piece.now → result ≡ true }
+        ensures fits { (result ≡ true) ↔ Fits self.old piece.now }
+        ensures room { IsInRoom self.new }
     {
         piece.len() <= HELD_ROOM
             && self.bytes.len() <= HELD_ROOM - piece.len()
@@ -99,6 +101,7 @@ impl Outbox {
         ensures never_falls { K.faults sink.old ≤ K.faults sink.new }
         ensures cause { result ≡ Failed → Rose (K.faults sink.old) (K.faults sink.new) }
         ensures steady { (result ≡ Failed → ⊥) → K.faults sink.new ≡ K.faults sink.old }
+        ensures room { IsInRoom self.new }
     {
         if self.hold(piece) {
             return Pushed::Took(piece.len());
@@ -117,6 +120,7 @@ impl Outbox {
     fn let_go(&mut self, count: usize) -> usize
         ensures held { self.new.held ≡ drop count self.old.held }
         ensures behind { result ≡ count - length self.old.held }
+        ensures room { IsInRoom self.new }
     {
         let held = self.bytes.len() - self.sent;
         if count < held {
@@ -137,6 +141,7 @@ impl Outbox {
         ensures never_falls { K.faults sink.old ≤ K.faults sink.new }
         ensures cause { HasFailed result → Rose (K.faults sink.old) (K.faults sink.new) }
         ensures steady { (HasFailed result → ⊥) → K.faults sink.new ≡ K.faults sink.old }
+        ensures room { IsInRoom self.new }
     {
         match write_behind(sink, &self.bytes[self.sent..], piece) {
             PushedBoth::Took(count) => PushedBoth::Took(self.let_go(count)),
@@ -156,6 +161,7 @@ impl Outbox {
         ensures never_falls { K.faults sink.old ≤ K.faults sink.new }
         ensures cause { HasFailed result → Rose (K.faults sink.old) (K.faults sink.new) }
         ensures steady { (HasFailed result → ⊥) → K.faults sink.new ≡ K.faults sink.old }
+        ensures room { IsInRoom self.new }
     {
         let Pushed::Took(count) = self.write(sink, first) else {
             return PushedBoth::Failed(0);

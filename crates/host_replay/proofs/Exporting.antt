@@ -26,7 +26,7 @@ use Rattle.host_words.specs.declared.command.CommandName.TheVariants as command
 use Rattle.host_notes.specs.Ends.{status_of_end}
 use Rattle.host_notes.proofs.Streams.{done_from, cut_from}
 use Rattle.host_replay.specs.Input.{IsAsked, IsFirstDesk, IsUntouched, opening, plain_opening, status_of_replay, HasShelfCause, IsOfRefusedText, IsWithoutBooks}
-use Rattle.host_replay.specs.Export.{EndsExport, EndsCut, Exports, ExportsAll, HasNoText, IsCutOf, IsExport, IsSurelyReplayed, IsExportOf, IsInputRun, IsTextRun, ServedSo}
+use Rattle.host_replay.specs.Export.{RanExport, EndsCut, Exports, ExportsAll, HasNoText, IsCutOf, IsExport, IsSurelyReplayed, IsExportOf, IsInputRun, IsTextRun, ServedSo}
 use Rattle.host_replay.specs.Export.{StandsIn, no_memory_line, sure_answers_of}
 use Rattle.host_replay.specs.declared.end.ReplayEnd.{ReplayEnd}
 use Rattle.host_replay.specs.declared.end.ReplayEnd.TheVariants as end
@@ -123,12 +123,12 @@ module _ (words : List (List ℕ)) (files : Files) (said : ReplayView) (asked : 
     )
 
 -- a run that has books
-pub export_given : (files : Files) (input left output sent : Option (List ℕ)) (said : ReplayView) (c : ConnEnd) → EndsExport said files input left output sent (end.Served c) → Given said files
+pub export_given : (files : Files) (input left output sent : Option (List ℕ)) (said : ReplayView) (c : ConnEnd) → RanExport said files input left output sent (end.Served c) → Given said files
 export_given files input left output sent said conn.Done did = (did.1.cat, did.1.kept, did.1.books)
 export_given files input left output sent said conn.WriteFault did = (did.2.cat, did.2.kept, did.2.books)
 export_given files input left output sent said c did = (did.0.cat, did.0.kept, did.0.books)
 
-pub export_fails : (files : Files) (input left output sent : Option (List ℕ)) (said : ReplayView) (fault : _) → EndsExport said files input left output sent (end.NotLoaded fault) → Fails files said.catalogue said.from fault × IsUntouched input left output sent
+pub export_fails : (files : Files) (input left output sent : Option (List ℕ)) (said : ReplayView) (fault : _) → RanExport said files input left output sent (end.NotLoaded fault) → Fails files said.catalogue said.from fault × IsUntouched input left output sent
 export_fails files input left output sent said fault ends = ends
 
 module _ (words : List (List ℕ)) (files : Files) (input left output sent : Option (List ℕ)) where
@@ -136,7 +136,7 @@ module _ (words : List (List ℕ)) (files : Files) (input left output sent : Opt
   Ran e = Exports words files input left output sent e
 
   abbrev Made : ReplayView → ReplayEnd → Type 0
-  Made said e = EndsExport said files input left output sent e
+  Made said e = RanExport said files input left output sent e
 
   pub export_without : (e : ReplayEnd) → Ran e → status_of_replay e ≡ 1 → IsWithoutBooks command.Export words files
   export_without e ran one = without command.Export words files input left output sent Made (export_fails files input left output sent) (export_given files input left output sent) e ran one

@@ -28,7 +28,7 @@ use Rattle.host_words.specs.declared.command.CommandName.TheVariants as command
 use Rattle.host_notes.specs.Ends.{status_of_end}
 use Rattle.host_replay.specs.Input.{HasShelfCause, IsAsked, IsFirstDesk, IsInputOf, IsOfRefusedText, IsTaken, IsUnread, IsUntouched, IsWithoutBooks}
 use Rattle.host_replay.specs.Input.{opening, plain_opening, status_of_replay}
-use Rattle.host_replay.specs.Replay.{EndsReplay, IsReplay, IsReplayRun, IsReplayed, IsReplayCut, Replays}
+use Rattle.host_replay.specs.Replay.{RanReplay, IsReplay, IsReplayRun, IsReplayed, IsReplayCut, Replays}
 use Rattle.host_replay.specs.declared.end.ReplayEnd.{ReplayEnd}
 use Rattle.host_replay.specs.declared.end.ReplayEnd.TheVariants as end
 use Rattle.host_notes.proofs.Streams.{stream_is, done_from, cut_from, read_from, write_from}
@@ -130,15 +130,15 @@ module _ (name : CommandName) (words : List (List ℕ)) (files : Files) (input l
       absurd (never_opened told said.catalogue said.from has.0 has.1 (subst (λ (v : ReplayView). HasNoBooks told v.catalogue v.from) same none) has.2)
 
 -- what a replay had
-pub replay_fails : (files : Files) (input left output sent : Option (List ℕ)) (said : ReplayView) (fault : _) → EndsReplay said files input left output sent (end.NotLoaded fault) → Fails files said.catalogue said.from fault × IsUntouched input left output sent
+pub replay_fails : (files : Files) (input left output sent : Option (List ℕ)) (said : ReplayView) (fault : _) → RanReplay said files input left output sent (end.NotLoaded fault) → Fails files said.catalogue said.from fault × IsUntouched input left output sent
 replay_fails files input left output sent said fault ends = ends
 
-pub replay_given : (files : Files) (input left output sent : Option (List ℕ)) (said : ReplayView) (c : ConnEnd) → EndsReplay said files input left output sent (end.Served c) → Given said files
+pub replay_given : (files : Files) (input left output sent : Option (List ℕ)) (said : ReplayView) (c : ConnEnd) → RanReplay said files input left output sent (end.Served c) → Given said files
 replay_given files input left output sent said c run = (run.cat, run.kept, run.books)
 
 module _ (words : List (List ℕ)) (files : Files) (input left output sent : Option (List ℕ)) where
   abbrev Made : ReplayView → ReplayEnd → Type 0
-  Made said e = EndsReplay said files input left output sent e
+  Made said e = RanReplay said files input left output sent e
 
   pub replay_without : (e : ReplayEnd) → Replays words files input left output sent e → status_of_replay e ≡ 1 → IsWithoutBooks command.Replay words files
   replay_without e ran one = without command.Replay words files input left output sent Made (replay_fails files input left output sent) (replay_given files input left output sent) e ran one

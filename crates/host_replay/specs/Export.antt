@@ -108,19 +108,19 @@ ServedSo said files input left output sent conn.WriteFault =
 ServedSo said files input left output sent e =
     IsInputRun said files input left (λ cat desk taken. HasNoText cat desk said taken left e) × (sent ≡ output)
 
-abbrev pub EndsExport : ReplayView → Files → Option (List ℕ) → Option (List ℕ) → Option (List ℕ) → Option (List ℕ) → ReplayEnd
+abbrev pub RanExport : ReplayView → Files → Option (List ℕ) → Option (List ℕ) → Option (List ℕ) → Option (List ℕ) → ReplayEnd
     → Type 0
-EndsExport said files input left output sent end.NoMemory = IsUntouched input left output sent
-EndsExport said files input left output sent (end.NotLoaded fault) =
+RanExport said files input left output sent end.NoMemory = IsUntouched input left output sent
+RanExport said files input left output sent (end.NotLoaded fault) =
     Fails files said.catalogue said.from fault × IsUntouched input left output sent
-EndsExport said files input left output sent (end.Served e) = ServedSo said files input left output sent e
+RanExport said files input left output sent (end.Served e) = ServedSo said files input left output sent e
 
 -- `export` ran so
 abbrev pub Exports : List (List ℕ) → Files → Option (List ℕ) → Option (List ℕ) → Option (List ℕ) → Option (List ℕ)
     → ReplayEnd → Type 0
 Exports words files input left output sent e =
     IsUnread command.Export words input left output sent e
-    ⊎ ((said : ReplayView) × IsExport words said × EndsExport said files input left output sent e)
+    ⊎ ((said : ReplayView) × IsExport words said × RanExport said files input left output sent e)
 
 -- A request is answered by a host of one thread, and not for want of memory: so by the outcome of what it asks.
 pub record IsSureAnswer (cat : CatalogueView) (before : PlainView) (request : RequestText) (written : List ℕ)

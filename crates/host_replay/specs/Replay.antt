@@ -47,19 +47,19 @@ pub record IsReplayRun (said : ReplayView) (files : Files) (input left output se
   pub ends : IsInputEnd cat desk said taken left written e
 
 -- what the words ask for ended so
-abbrev pub EndsReplay : ReplayView → Files → Option (List ℕ) → Option (List ℕ) → Option (List ℕ) → Option (List ℕ) → ReplayEnd
+abbrev pub RanReplay : ReplayView → Files → Option (List ℕ) → Option (List ℕ) → Option (List ℕ) → Option (List ℕ) → ReplayEnd
     → Type 0
-EndsReplay said files input left output sent end.NoMemory = IsUntouched input left output sent
-EndsReplay said files input left output sent (end.NotLoaded fault) =
+RanReplay said files input left output sent end.NoMemory = IsUntouched input left output sent
+RanReplay said files input left output sent (end.NotLoaded fault) =
     Fails files said.catalogue said.from fault × IsUntouched input left output sent
-EndsReplay said files input left output sent (end.Served e) = IsReplayRun said files input left output sent e
+RanReplay said files input left output sent (end.Served e) = IsReplayRun said files input left output sent e
 
 -- `replay` ran so
 abbrev pub Replays : List (List ℕ) → Files → Option (List ℕ) → Option (List ℕ) → Option (List ℕ) → Option (List ℕ)
     → ReplayEnd → Type 0
 Replays words files input left output sent e =
     IsUnread command.Replay words input left output sent e
-    ⊎ ((said : ReplayView) × IsReplay words said × EndsReplay said files input left output sent e)
+    ⊎ ((said : ReplayView) × IsReplay words said × RanReplay said files input left output sent e)
 
 -- The bytes are the defined replies to the stream, which ends so, and those of a host of one thread that begins with
 -- the bookings that the books open with.

@@ -15,7 +15,7 @@ ghost use Rattle.host_notes.specs.Noted.{TakesNote};
 ghost use Rattle.host_notes.specs.declared.ending.CommandEnd.TheVariants.{WordsRefused};
 ghost use Rattle.host_replay.specs.Input.{HasShelfCause, IsInputEnd, IsOfRefusedText, IsUntouched, IsWithoutBooks};
 ghost use Rattle.host_replay.specs.Input.{end_of_replay, status_of_replay};
-ghost use Rattle.host_replay.specs.Replay.{EndsReplay, IsForReplay, IsNoReplay, IsReplay, RepliesAll, RepliesCut, RepliesPart, RepliesTaken};
+ghost use Rattle.host_replay.specs.Replay.{RanReplay, IsForReplay, IsNoReplay, IsReplay, RepliesAll, RepliesCut, RepliesPart, RepliesTaken};
 ghost use Rattle.host_replay.specs.Replay.{Replays};
 ghost use Rattle.host_replay.specs.declared.end.ReplayEnd.{ReplayEnd};
 ghost use Rattle.host_replay.specs.declared.end.ReplayEnd.TheVariants.{Served};
@@ -67,7 +67,7 @@ fn replay<F: Shelf, S: Source, K: Sink>(
     input: &mut S,
     output: &mut K,
 ) -> ReplayEnd
-    ensures ends { EndsReplay (view_of said.now) (F.told shelf.old) (S.told input.old) (S.told input.new)
+    ensures ends { RanReplay (view_of said.now) (F.told shelf.old) (S.told input.old) (S.told input.new)
         (K.told output.old) (K.told output.new) result }
     ensures same { F.told shelf.new ≡ F.told shelf.old }
     ensures read_cause { result ≡ Served ReadFault → Rose (S.faults input.old) (S.faults input.new) }

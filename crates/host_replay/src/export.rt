@@ -20,7 +20,7 @@ ghost use Rattle.host_notes.specs.Ends.{note_of};
 ghost use Rattle.host_notes.specs.Noted.{TakesNote};
 ghost use Rattle.host_notes.specs.declared.ending.CommandEnd.TheVariants.{WordsRefused};
 ghost use Rattle.host_replay.specs.Input.{HasShelfCause, IsOfRefusedText, IsWithoutBooks, end_of_replay, status_of_replay};
-ghost use Rattle.host_replay.specs.Export.{EndsExport, EndsCut, Exports, ExportsAll, HasNoText, IsExport, IsExportOf, IsForExport, IsNoExport, StandsIn};
+ghost use Rattle.host_replay.specs.Export.{RanExport, EndsCut, Exports, ExportsAll, HasNoText, IsExport, IsExportOf, IsForExport, IsNoExport, StandsIn};
 ghost use Rattle.host_replay.specs.Export.{export_with};
 ghost use Rattle.host_replay.specs.declared.end.ReplayEnd.{ReplayEnd};
 ghost use Rattle.host_replay.specs.declared.end.ReplayEnd.TheVariants.{Served};
@@ -122,7 +122,7 @@ fn export<F: Shelf, S: Source, K: Sink>(
     input: &mut S,
     output: &mut K,
 ) -> ReplayEnd
-    ensures ends { EndsExport (view_of said.now) (F.told shelf.old) (S.told input.old) (S.told input.new)
+    ensures ends { RanExport (view_of said.now) (F.told shelf.old) (S.told input.old) (S.told input.new)
         (K.told output.old) (K.told output.new) result }
     ensures nothing_written { (result ≡ Served Done → ⊥) → (result ≡ Served WriteFault → ⊥) → output.new ≡ output.old }
     ensures same { F.told shelf.new ≡ F.told shelf.old }

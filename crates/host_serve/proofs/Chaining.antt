@@ -7,7 +7,7 @@ use Rattle.rail_service.specs.Listeners.{Handing, HandingBy}
 use Rattle.worker_pool.specs.Turns.{RunsToEnd}
 use Rattle.host_words.specs.declared.serve.Serving.{Serving as Numbers}
 use Rattle.worker_pool.proofs.Chains.{whole_run}
-use Rattle.host_serve.specs.Turns.{Readings, ServesOne, ServesTurn, SweepsTurn, Stand, OneTurn, Connection, Sweep, Leads, Chain, Asks, Counts, Ticks, HasEnded, DoesTurn, HasChain, IsPosted, handed_of, part_of, stand_of}
+use Rattle.host_serve.specs.Turns.{Readings, ServesOne, ServesTurn, SweepsTurn, Stand, OneTurn, Connection, Sweep, Leads, Chain, Asks, Counts, Ticks, HasEnded, DoesTurn, HasChain, HandedOut, IsPosted, LettingGo, Passes, Passing, handed_of, part_of, stand_of}
 use Rattle.host_serve.specs.declared.member.Post.{Post}
 use Rattle.host_serve.specs.declared.member.Post.TheVariants.{Serving, Sweeping}
 
@@ -41,10 +41,10 @@ chain_on Does k n a b c p q =
       leads = leads_on Does a p.stands b q.stands c p.leads q.leads;
     }
 
--- what holds of each stream that was handed out so, in other words
-module _ (here there : Handing) (goes : (stream sent : Option (List ℕ)) → here stream sent → there stream sent) (cat : CatalogueView) where
+-- what holds of each stream that was served, in other words
+module _ (here there : Passing) (goes : (stream sent left after : Option (List ℕ)) → here stream sent left after → there stream sent left after) (cat : CatalogueView) where
   pub one_so : (clock : Readings) (old : DeskView) (later : Readings) (new : DeskView) → ServesOne here cat clock old later new → ServesOne there cat clock old later new
-  one_so clock old later new did = (did.0, did.1, goes did.0 did.1 did.2, did.3)
+  one_so clock old later new did = (did.0, did.1, did.2, did.3, goes did.0 did.1 did.2 did.3 did.4, did.5)
 
   turn_so : (clock : Readings) (old : DeskView) (later : Readings) (new : DeskView) (ended : Bool) → ServesTurn here cat clock old later new ended
       → ServesTurn there cat clock old later new ended
@@ -52,7 +52,7 @@ module _ (here there : Handing) (goes : (stream sent : Option (List ℕ)) → he
   turn_so clock old later new false did = one_so clock old later new did
 
 -- a turn is a chain
-serves : (hands : Handing) (cat : CatalogueView) (clock : Readings) (old : DeskView) (later : Readings) (new : DeskView) (ended : Bool) → ServesTurn hands cat clock old later new ended
+serves : (hands : Handing) (cat : CatalogueView) (clock : Readings) (old : DeskView) (later : Readings) (new : DeskView) (ended : Bool) → ServesTurn (HandedOut hands) cat clock old later new ended
     → (before after : ℕ) → Counts ended before after
     → (n : ℕ) × (after ≡ before + n) × Chain (Connection hands cat) n (record { desk = old; clock = clock }) (record { desk = new; clock = later })
 serves hands cat clock old later new true did before after counts =
@@ -102,10 +102,10 @@ module _ {S T C : Type 0} (told : C → Readings) (handed : S → ℕ) (hands : 
   next (Serving a) x (Serving b) y (Sweeping c) z p q = absurd q
   next (Sweeping a) x (Sweeping b) y (Serving c) z p q = absurd q
 
-  module _ (gives : HandingBy S) (only : (s : S) (stream sent : Option (List ℕ)) (t : S) → gives s stream sent t → hands stream sent) where
-    each : (w : Post S T C) (d : DeskView) (v : Post S T C) (e : DeskView) → DoesTurn told handed gives ticked w d v e → HasChain told handed hands ticked w d v e
+  module _ (gives : HandingBy S) (lets_go : LettingGo S) (only : (s : S) (stream sent : Option (List ℕ)) (t : S) → gives s stream sent t → hands stream sent) where
+    each : (w : Post S T C) (d : DeskView) (v : Post S T C) (e : DeskView) → DoesTurn told handed gives lets_go ticked w d v e → HasChain told handed hands ticked w d v e
     each (Serving w) d (Serving v) e did =
-        let did_so = turn_so (λ stream sent. gives w.streams stream sent v.streams) hands (λ stream sent. only w.streams stream sent v.streams) w.common.cat.now
+        let did_so = turn_so (Passes gives lets_go w.streams v.streams) (HandedOut hands) (λ stream sent left after passed. only w.streams stream sent passed.0 passed.1) w.common.cat.now
         (told w.clock) d (told v.clock) e v.ended did.2 in
         let turn = serves hands w.common.cat.now (told w.clock) d (told v.clock) e v.ended did_so (handed w.streams) (handed v.streams) did.1 in
         (did.0, turn.0, turn.1, turn.2)
@@ -117,9 +117,9 @@ module _ {S T C : Type 0} (told : C → Readings) (handed : S → ℕ) (hands : 
 
     -- the turns of a member to its end are a chain
     pub all_turns : (before : Post S T C) (old : DeskView) (after : Post S T C) (new : DeskView)
-        → RunsToEnd (DoesTurn told handed gives ticked) HasEnded before old after new → HasChain told handed hands ticked before old after new
+        → RunsToEnd (DoesTurn told handed gives lets_go ticked) HasEnded before old after new → HasChain told handed hands ticked before old after new
     all_turns before old after new run =
-        whole_run (DoesTurn told handed gives ticked) HasEnded (HasChain told handed hands ticked) still next each before old after new run
+        whole_run (DoesTurn told handed gives lets_go ticked) HasEnded (HasChain told handed hands ticked) still next each before old after new run
 
   -- Of a member that serves, which was handed out no stream before: as many connections as it was handed out. It has one part of the ledger.
   pub serving_chain : (cat : CatalogueView) (said : Numbers) (ticker : T) (i : ℕ) (w : Post S T C) (old : DeskView) (v : Post S T C) (new : DeskView)

@@ -22,7 +22,7 @@ use Rattle.rail_service.specs.Listeners.{Handing, HandingBy}
 use Rattle.host_words.specs.declared.serve.Serving.{Serving}
 use Rattle.host_serve.specs.declared.member.Post.{Post}
 use Rattle.host_serve.specs.Crews.{OnlyMet, AreReady, IsCrew, HasMetAll, HasRun, Held, of_member, sum_below}
-use Rattle.host_serve.specs.Turns.{FitsBooks, HasEnded, DoesTurn, HasChain, Readings, Stand, OneTurn, Asks, Chain, Connection, Sweep, clock_for, clock_of, handed_of, part_of, stand_of}
+use Rattle.host_serve.specs.Turns.{FitsBooks, HasEnded, DoesTurn, HasChain, LettingGo, Readings, Stand, OneTurn, Asks, Chain, Connection, Sweep, clock_for, clock_of, handed_of, part_of, stand_of}
 use Rattle.host_serve.specs.Serve.{AllWorked, HasWorked, IsServedWall}
 use Rattle.host_serve.proofs.Chaining.{all_turns, chain_on, serving_chain, sweeping_chain}
 use Rattle.host_serve.proofs.Crewing.{begins, has_in, sum_more, sum_ones}
@@ -96,17 +96,17 @@ has_worked Does books n clock count old new history began_of ended_of number sta
   entries = entries;
 }
 
-module _ {S T C : Type 0} (handed : S → ℕ) (gives : HandingBy S) (hands : Handing)
+module _ {S T C : Type 0} (handed : S → ℕ) (gives : HandingBy S) (lets_go : LettingGo S) (hands : Handing)
     (only : (s : S) (stream sent : Option (List ℕ)) (t : S) → gives s stream sent t → hands stream sent) (told : C → Readings) (ticked : T → ℕ → T → Type 0) (cat : CatalogueView) (said : Serving) (ticker : T)
     (clocks : List Readings) (books : BooksView) (old : List (Member (Post S T C))) (before after : Held) (first : DeskView) (member : Member (Post S T C))
     (crew : IsCrew FitsBooks books old) (ready : AreReady old handed told cat said ticker clocks) (count : length old ≡ said.workers + 1) (some : 1 ≤ said.workers)
-    (run : HasRun FitsBooks (DoesTurn told handed gives ticked) HasEnded part_of (λ w. handed_of w handed) books old before after first member) where
+    (run : HasRun FitsBooks (DoesTurn told handed gives lets_go ticked) HasEnded part_of (λ w. handed_of w handed) books old before after first member) where
   behind : (i : ℕ) → i < length old → i < length run.crew
   behind i lt = omega (arith, lt, run.count)
 
   chain : (i : ℕ) → i < length old → HasChain told handed hands ticked (slice_index_or old i member).worker (slice_index_or old i member).desk
       (slice_index_or run.crew i member).worker (slice_index_or run.crew i member).desk
-  chain i lt = all_turns told handed hands ticked gives only (slice_index_or old i member).worker (slice_index_or old i member).desk (slice_index_or run.crew i member).worker
+  chain i lt = all_turns told handed hands ticked gives lets_go only (slice_index_or old i member).worker (slice_index_or old i member).desk (slice_index_or run.crew i member).worker
       (slice_index_or run.crew i member).desk (run.turns i member lt)
 
   last : said.workers < length old

@@ -4,8 +4,7 @@ use Rattle.std.proofs.Math.Logic.{⊎_elim}
 use Rattle.std.proofs.lemmas.Bool.{cases_lt}
 use Rattle.std.proofs.lemmas.List.{drop_all, get_or_append_left, length-append, length-map, map-append, take_all}
 use Rattle.std.proofs.Math.Seq.{get_or-append_seam}
-use Rattle.std.specs.List.{All, AllByRecursion}
-use Rattle.std.proofs.lemmas.List.Elements.{All-from_get_or}
+use Rattle.std.specs.List.{AllByRecursion}
 use mathlib.Core.List.{IsPrefix}
 use Rattle.history_model.specs.History.{entry, own}
 use Rattle.history_model.specs.declared.entry.Entry.{Entry}
@@ -77,11 +76,6 @@ module _ {W : Type 0} (Fits : W → BooksView → Type 0) (books : BooksView) wh
   pub joined : (crew : List (Member W)) (m : Member W) → IsCrew Fits books crew → IsMember Fits books (length crew + 1) m → IsCrew Fits books (crew ++ m ∷ [])
   joined crew m is new = joined_each (λ i n. IsMember Fits books (i + 1) n) crew m is new
 
-  -- what holds of each member holds of all
-  pub all_of : (P : Member W → Type 0) (crew : List (Member W)) → ((i : ℕ) (none : Member W) → i < length crew → P (slice_index_or crew i none)) → All P crew
-  all_of P [] each = search
-  all_of P (m ∷ crew) each = All-from_get_or P (m ∷ crew) m (λ i lt. each i m lt)
-
   -- the members before a last one, and it
   pub last_of : (all crew : List (Member W)) (m : Member W) → IsCrew Fits books all → IsPrefix (crew ++ m ∷ []) all → IsMember Fits books (length crew + 1) m × (length crew < length all)
   last_of all crew m is front =
@@ -105,17 +99,6 @@ module _ {W : Type 0} (Fits : W → BooksView → Type 0) (books : BooksView) wh
 
   pub front_of : (all crew : List (Member W)) (m : Member W) → IsPrefix (crew ++ m ∷ []) all → IsPrefix crew all
   front_of all crew m front = (m ∷ front.0, sym (append_assoc crew (m ∷ []) front.0) ∙ front.1)
-
--- no desk was joined yet
-pub none_met : {W : Type 0} (books : BooksView) (crew : List (Member W)) (desk : DeskView) → IsFirst books (length crew) desk → HasMetAll books crew (length crew) desk
-none_met books crew desk first = record {
-  own = first.own;
-  tidy = first.tidy;
-  number = first.number;
-  parted = first.parted;
-  meets = first.meets;
-  met = λ i none low high. absurd (omega (arith, low, high));
-}
 
 -- one desk more is joined
 pub met_one : {W : Type 0} (Fits : W → BooksView → Type 0) (books : BooksView) (all crew : List (Member W)) (m : Member W) (old new : DeskView)
@@ -153,10 +136,6 @@ pub ready_more : {S T C : Type 0} (handed : S → ℕ) (told : C → Readings) (
 ready_more {S} {T} {C} handed told cat said ticker clocks all crew m items are is =
     subst (λ (l : List (Member (Post S T C))). AreReady l handed told cat said ticker clocks) (sym items)
     (joined_each (λ i n. IsReady n handed told cat said ticker clocks i) crew m are is)
-
--- nothing was given yet
-pub none_given : {W : Type 0} (has counts : W → ℕ) (crew : List (Member W)) (held : Held) → HasGiven has counts crew (length crew) held held
-none_given has counts crew held = record { all_parts = λ none. refl; all_counted = λ none. refl }
 
 -- a sum with one number more
 sum_step : (f : ℕ → ℕ) (n : ℕ) → sum_below f (n + 1) ≡ sum_below f n + f n

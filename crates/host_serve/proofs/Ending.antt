@@ -45,6 +45,16 @@ module _ (words : List (List ℕ)) (files : Files) (left : Left) where
   no_words end.NoText r e = absurd (omega (arith, e))
   no_words end.Unwritten r e = absurd (omega (arith, e))
 
+  pub refused_wall : (o : ServeOutcome) → Runs words files left o → status_of_serve o ≡ 2 → left.wall ≡ None
+  refused_wall end.Refused r e = r.3
+  refused_wall end.NoMemory r e = absurd (omega (arith, e))
+  refused_wall (end.NotLoaded fault) r e = absurd (let f = refused_by (end.NotLoaded fault) e in cc)
+  refused_wall end.NotBound r e = absurd (omega (arith, e))
+  refused_wall end.AcceptFailed r e = absurd (omega (arith, e))
+  refused_wall end.Served r e = absurd (omega (arith, e))
+  refused_wall end.NoText r e = absurd (omega (arith, e))
+  refused_wall end.Unwritten r e = absurd (omega (arith, e))
+
   pub when_refused : (o : ServeOutcome) → Runs words files left o → IsNoServe words → (status_of_serve o ≡ 2) ⊎ (status_of_serve o ≡ 5)
   when_refused end.Refused r none = inl refl
   when_refused end.NoMemory r none = inr refl

@@ -1,7 +1,5 @@
-pub mod Risings
 pub mod Chaining
 pub mod Crewing
-pub mod Leaving
 pub mod Closing
 pub mod Ending
 pub mod BooksEnded

@@ -8,20 +8,21 @@ use Rattle.claim_rule.specs.Walls.{WallView}
 use Rattle.rail_catalogue.specs.Contents.{CatalogueView}
 use Rattle.rail_service.specs.Listeners.{Handing, ListenerView}
 use Rattle.host_words.specs.declared.serve.Serving.{Serving}
-use Rattle.host_serve.specs.Turns.{Readings, Stand, Leads, Chain, Connection}
+use Rattle.host_serve.specs.Turns.{Readings, Stand, Leads, Chain, Connection, ConnectionBy, HandedOut, Passing}
 use Rattle.host_serve.specs.Serve.{AllWorked, BooksEnd, HasWorked, IsServedWall}
 use Rattle.host_serve.specs.declared.end.ServeOutcome.{ServeOutcome}
 use Rattle.host_serve.specs.declared.end.ServeOutcome.TheVariants as end
 use Rattle.host_serve.proofs.Chaining.{one_so}
 
-module _ (here there : Handing) (goes : (stream sent : Option (List ℕ)) → here stream sent → there stream sent) (cat : CatalogueView) where
-  led : (old : Stand) (stands : List Stand) (new : Stand) → Leads (Connection here cat) old stands new → Leads (Connection there cat) old stands new
+module _ (here there : Passing) (goes : (stream sent left after : Option (List ℕ)) → here stream sent left after → there stream sent left after) (cat : CatalogueView) where
+  led : (old : Stand) (stands : List Stand) (new : Stand) → Leads (ConnectionBy here cat) old stands new → Leads (ConnectionBy there cat) old stands new
   led old [] new same = same
   led old (next ∷ later) new step = (one_so here there goes cat old.clock old.desk next.clock next.desk step.0, led next later new step.1)
 
-  chained : (n : ℕ) (old new : Stand) → Chain (Connection here cat) n old new → Chain (Connection there cat) n old new
+  pub chained : (n : ℕ) (old new : Stand) → Chain (ConnectionBy here cat) n old new → Chain (ConnectionBy there cat) n old new
   chained n old new c = record { stands = c.stands; count = c.count; leads = led old c.stands new c.leads }
 
+module _ (here there : Handing) (goes : (stream sent : Option (List ℕ)) → here stream sent → there stream sent) (cat : CatalogueView) where
   worked : (books : BooksView) (history : List Entry) (n : ℕ) (clock : Readings) (count : ℕ)
       → HasWorked (Connection here cat) books history n clock count → HasWorked (Connection there cat) books history n clock count
   worked books history n clock count w = record {
@@ -35,7 +36,7 @@ module _ (here there : Handing) (goes : (stream sent : Option (List ℕ)) → he
     ended_of = w.ended_of;
     ended_number = w.ended_number;
     ended_front = w.ended_front;
-    turns = chained count w.began w.ended w.turns;
+    turns = chained (HandedOut here) (HandedOut there) (λ stream sent left after given. goes stream sent given) cat count w.began w.ended w.turns;
     entries = w.entries;
   }
 

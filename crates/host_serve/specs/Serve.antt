@@ -12,7 +12,7 @@ use Rattle.claim_rule.specs.Walls.{WallView, Finishes}
 use Rattle.cold_store.specs.Exports.{IsClosed}
 use Rattle.cold_store.specs.Tidy.{IsTidyWall}
 use Rattle.rail_catalogue.specs.Contents.{CatalogueView, legs_in}
-use Rattle.rail_service.specs.Listeners.{Handing, ListenerView}
+use Rattle.rail_service.specs.Listeners.{Handing, HandingBy, ListenerView}
 use Rattle.host_words.specs.Serve.{ServeView, serve_words}
 use Rattle.host_words.specs.declared.serve.Serving.{Serving}
 use Rattle.host_catalogue.specs.Files.{Files, HasCause}
@@ -20,7 +20,7 @@ use Rattle.host_catalogue.specs.Opening.{Fails, HasBooks, IsRefusedFile, LacksBo
 use Rattle.host_words.specs.Commands.{IsFor}
 use Rattle.host_words.specs.declared.command.CommandName.TheVariants as command
 use Rattle.host_serve.specs.Crews.{OnlyMet, sum_below}
-use Rattle.host_serve.specs.Turns.{Readings, Stand, OneTurn, Chain, Connection, Sweep, clock_for}
+use Rattle.host_serve.specs.Turns.{Readings, Stand, OneTurn, Chain, Connection, HandedBy, Sweep, clock_for}
 use Rattle.host_serve.specs.declared.end.ServeOutcome.{ServeOutcome}
 use Rattle.host_serve.specs.declared.end.ServeOutcome.TheVariants as end
 
@@ -108,6 +108,20 @@ pub record Left : Type 1 where
   pub faults_after : ℕ
   pub after : ListenerView
   pub wall : Option WallView
+
+-- so of a listener that was handed in and the one that was handed back
+abbrev pub left_by : {L : Type 0} → (L → ListenerView) → (L → ℕ) → (L → L → Type 0) → HandingBy L → List Readings → (ℕ → ℕ → Type 0) → L → L
+    → Option WallView → Left
+left_by told faults becomes hands clocks asks first last wall = record {
+  faults_before = faults first;
+  before = told first;
+  clocks = clocks;
+  asks = asks;
+  hands = HandedBy becomes hands first;
+  faults_after = faults last;
+  after = told last;
+  wall = wall;
+}
 
 -- what was served: the books of the words' catalogue, with its places and rows, which opened with no booking or with those of the words'
 -- export, over just as many connections as the listener has handed out

@@ -1,14 +1,12 @@
 -- What the turns of members do.
 use Rattle.std.specs.Prelude.{◌≡◌, ◌<◌, ◌≤◌, ◌+◌, ◌-◌, ℕ, zero, suc, Bool, true, false, List, [], ◌∷◌, Option, None, length, slice_index_or}
-use Rattle.rail_ids.specs.declared.RetailerNo.{RetailerNo}
-use Rattle.rail_io.specs.Told.{with_front, with_end}
 use Rattle.session_loop.specs.declared.end.ConnEnd.{ConnEnd}
 use Rattle.claim_rule.specs.Rule.{BooksView, DeskView}
 use Rattle.claim_rule.specs.Calls.{ShapeBy}
 use Rattle.rail_catalogue.specs.Contents.{CatalogueView, legs_in}
 use Rattle.expiry_sweeper.specs.AllRows.{Sweeps}
 use Rattle.booking_rows.specs.declared.swept.Swept.{Swept}
-use Rattle.rail_service.specs.Connections.{IsReading, HasServed}
+use Rattle.rail_service.specs.Connections.{IsReading, ServesWhole, connection_at}
 use Rattle.rail_service.specs.Listeners.{Handing, HandingBy, HandsOn, IsGiven}
 use Rattle.host_words.specs.declared.serve.Serving.{Serving as Numbers}
 use Rattle.host_serve.specs.declared.member.Post.{Post}
@@ -36,26 +34,43 @@ pub record HasCatalogue (books : BooksView) (cat : CatalogueView) : Type 0 where
   pub legs : books.layout.legs ≡ legs_in cat
   pub rows : books.layout.rows ≡ cat.rows
 
--- This stream's connection was served to its end: by the bytes that its source told, into its sink, by the desk's own entries.
-pub record ServesStream (cat : CatalogueView) (stream sent : Option (List ℕ)) (clock : Readings) (old : DeskView) (later : Readings) (new : DeskView) : Type 0 where
-  pub left : Option (List ℕ)
-  pub taken : List ℕ
-  pub takes : stream ≡ with_front taken left
-  pub written : List ℕ
-  pub after : Option (List ℕ)
-  pub writes : after ≡ with_end sent written
-  pub first : Option RetailerNo
-  pub end : ConnEnd
-  pub served : HasServed cat (record { desk = old; first = None; clock = clock }) (record { desk = new; first = first; clock = later }) taken left written end
+-- This stream's connection was served to its end, by the desk's own entries: from what its source and its sink told to what they tell then,
+-- by the bytes that were taken of it and the bytes that answer them, and not one more.
+abbrev pub ServesStream : CatalogueView → Option (List ℕ) → Option (List ℕ) → Option (List ℕ) → Option (List ℕ) → Readings → DeskView → Readings → DeskView
+    → Type 0
+ServesStream cat stream sent left after clock old later new =
+    (end : ConnEnd) × ServesWhole cat (connection_at old clock stream sent) (connection_at new later left after) end
 
 -- behind some calls of this listener, an accept of it handed out the stream
 abbrev pub HandedBy : {L : Type 0} → (L → L → Type 0) → HandingBy L → L → Handing
 HandedBy becomes hands listener = IsGiven (HandsOn becomes hands listener)
 
--- one stream was served, which was handed out so
-abbrev pub ServesOne : Handing → CatalogueView → Readings → DeskView → Readings → DeskView → Type 0
-ServesOne hands cat clock old later new =
-    (stream : Option (List ℕ)) × (sent : Option (List ℕ)) × hands stream sent × ServesStream cat stream sent clock old later new
+-- what a call shows that lets go of a stream: the one that was called, what the stream's source and its sink told as it was let go, and the one
+-- behind the call
+abbrev pub LettingGo : Type 0 → Type 1
+LettingGo S = S → Option (List ℕ) → Option (List ℕ) → S → Type 0
+
+-- what holds of a stream that is served: of what its source and its sink told as it was handed out, and of what they told at its end
+abbrev pub Passing : Type 1
+Passing = Option (List ℕ) → Option (List ℕ) → Option (List ℕ) → Option (List ℕ) → Type 0
+
+-- it was handed out so, whatever they told at its end
+abbrev pub HandedOut : Handing → Passing
+HandedOut hands stream sent left after = hands stream sent
+
+-- from these streams to those, one call handed it out, and the next one let it go as it was at its end
+abbrev pub Passes : {S : Type 0} → HandingBy S → LettingGo S → S → S → Passing
+Passes {S} hands lets_go old new stream sent left after = (mid : S) × hands old stream sent mid × lets_go mid left after new
+
+-- it was handed out so, and let go so as it was at its end
+abbrev pub HandedAndClosed : Handing → Handing → Passing
+HandedAndClosed hands closes stream sent left after = hands stream sent × closes left after
+
+-- one stream was served, of which this holds
+abbrev pub ServesOne : Passing → CatalogueView → Readings → DeskView → Readings → DeskView → Type 0
+ServesOne passes cat clock old later new =
+    (stream : Option (List ℕ)) × (sent : Option (List ℕ)) × (left : Option (List ℕ)) × (after : Option (List ℕ))
+    × passes stream sent left after × ServesStream cat stream sent left after clock old later new
 
 -- All rows were swept once, at the clock's next reading.
 pub record SweepsOnce (clock : Readings) (old : DeskView) (later : Readings) (new : DeskView) : Type 0 where
@@ -78,9 +93,12 @@ pub record Stand : Type 0 where
 abbrev pub OneTurn : Type 1
 OneTurn = Stand → Stand → Type 0
 
--- one connection of the catalogue, by a stream handed out so; one sweep
+-- one connection of the catalogue, by a stream of which this holds, or by one handed out so; one sweep
+abbrev pub ConnectionBy : Passing → CatalogueView → OneTurn
+ConnectionBy passes cat old new = ServesOne passes cat old.clock old.desk new.clock new.desk
+
 abbrev pub Connection : Handing → CatalogueView → OneTurn
-Connection hands cat old new = ServesOne hands cat old.clock old.desk new.clock new.desk
+Connection hands cat = ConnectionBy (HandedOut hands) cat
 
 abbrev pub Sweep : OneTurn
 Sweep old new = SweepsOnce old.clock old.desk new.clock new.desk
@@ -96,10 +114,10 @@ pub record Chain (Does : OneTurn) (n : ℕ) (old new : Stand) : Type 0 where
   pub count : length stands ≡ n
   pub leads : Leads Does old stands new
 
--- a serving member's turn: one connection, by a stream handed out so, or nothing, where it has then ended
-abbrev pub ServesTurn : Handing → CatalogueView → Readings → DeskView → Readings → DeskView → Bool → Type 0
-ServesTurn hands cat clock old later new true = Rests clock old later new
-ServesTurn hands cat clock old later new false = ServesOne hands cat clock old later new
+-- a serving member's turn: one connection, by a stream of which this holds, or nothing, where it has then ended
+abbrev pub ServesTurn : Passing → CatalogueView → Readings → DeskView → Readings → DeskView → Bool → Type 0
+ServesTurn passes cat clock old later new true = Rests clock old later new
+ServesTurn passes cat clock old later new false = ServesOne passes cat clock old later new
 
 -- a stream more was handed out, but where the member has ended
 abbrev pub Counts : Bool → ℕ → ℕ → Type 0
@@ -138,16 +156,17 @@ module _ {S T C : Type 0} where
   abbrev pub stand_of : (C → Readings) → Post S T C → DeskView → Stand
   stand_of told w d = record { desk = d; clock = told (clock_of w) }
 
-  -- A member stays at its post, a serving one with its catalogue, and serves the stream that it is handed out in this turn. A sweeping one asks
-  -- its ticker once for a tick, after its seconds.
-  abbrev pub DoesTurn : (C → Readings) → (S → ℕ) → HandingBy S → (T → ℕ → T → Type 0) → Post S T C → DeskView → Post S T C → DeskView → Type 0
-  DoesTurn told handed hands ticked (Serving w) old (Serving v) new =
+  -- A member stays at its post, a serving one with its catalogue, and serves the stream that it is handed out in this turn, which it lets go as
+  -- it was when its connection had ended. A sweeping one asks its ticker once for a tick, after its seconds.
+  abbrev pub DoesTurn : (C → Readings) → (S → ℕ) → HandingBy S → LettingGo S → (T → ℕ → T → Type 0) → Post S T C → DeskView → Post S T C → DeskView
+      → Type 0
+  DoesTurn told handed hands lets_go ticked (Serving w) old (Serving v) new =
       (v.common.cat.now ≡ w.common.cat.now) × Counts v.ended (handed w.streams) (handed v.streams)
-      × ServesTurn (λ stream sent. hands w.streams stream sent v.streams) w.common.cat.now (told w.clock) old (told v.clock) new v.ended
-  DoesTurn told handed hands ticked (Sweeping w) old (Sweeping v) new =
+      × ServesTurn (Passes hands lets_go w.streams v.streams) w.common.cat.now (told w.clock) old (told v.clock) new v.ended
+  DoesTurn told handed hands lets_go ticked (Sweeping w) old (Sweeping v) new =
       (v.seconds ≡ w.seconds) × ticked w.ticker w.seconds v.ticker × SweepsTurn (told w.clock) old (told v.clock) new v.ended
-  DoesTurn told handed hands ticked (Serving w) old (Sweeping v) new = ⊥
-  DoesTurn told handed hands ticked (Sweeping w) old (Serving v) new = ⊥
+  DoesTurn told handed hands lets_go ticked (Serving w) old (Sweeping v) new = ⊥
+  DoesTurn told handed hands lets_go ticked (Sweeping w) old (Serving v) new = ⊥
 
   -- All turns of a member up to its end are a chain: of as many connections of its catalogue as it was handed out streams, which were handed out
   -- so, or of sweeps, with a tick for each at least.

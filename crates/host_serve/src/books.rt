@@ -19,6 +19,7 @@ use crate::crew::crew_of;
 use crate::draining::drain_listener;
 use crate::end::ServeOutcome;
 use crate::giving::Gives;
+use crate::letting::Dropping;
 use crate::meeting::meet_others;
 use crate::member::Common;
 use crate::shared_listener::{ListenerEnd, Named, SharedListener};
@@ -101,7 +102,9 @@ fn finish_listener<N: Named, L: Listener + Drop, C: Clock>(
     match end {
         ListenerEnd::Closed => true,
         ListenerEnd::Failed => false,
-        ListenerEnd::Open => drain_listener::<N, L, C>(common, books, desk, listener, limit, clock),
+        ListenerEnd::Open => drain_listener::<N, L, C, Dropping>(
+            common, books, desk, listener, limit, clock,
+        ),
     }
 }
 

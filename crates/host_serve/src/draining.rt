@@ -5,8 +5,9 @@ ghost use Rattle.rail_service.specs.Listeners.{GivesOnly, IsGiven};
 ghost use Rattle.claim_rule.specs.Desks.{IsOf};
 ghost use Rattle.claim_rule.specs.Out.{IsTidy};
 ghost use Rattle.worker_pool.specs.Turns.{KeepsDesk};
-ghost use Rattle.host_serve.specs.Turns.{HasCatalogue, Chain, Connection};
+ghost use Rattle.host_serve.specs.Turns.{HasCatalogue, Chain, ConnectionBy, HandedAndClosed};
 
+use crate::letting::Closing;
 use crate::member::Common;
 use crate::shared_listener::Named;
 use crate::stream::serve_stream;
@@ -14,9 +15,9 @@ use claim_rule::{Books, Desk};
 use rail_io::Clock;
 use rail_service::{Accepted, Listener};
 
-/// Serves a listener's streams one after the other, until as many as its limit were handed out, and answers true, or until an accept
-/// failed, and answers false.
-pub fn drain_listener<N: Named, L: Listener + Drop, C: Clock>(
+/// Serves a listener's streams one after the other, and lets each go as it is when its connection has ended, until as many as its limit were
+/// handed out, and answers true, or until an accept failed, and answers false.
+pub fn drain_listener<N: Named, L: Listener + Drop, C: Clock, D: Closing<L::Input, L::Output>>(
     common: Common<'_>,
     books: &Books,
     desk: &mut Desk,
@@ -34,7 +35,7 @@ pub fn drain_listener<N: Named, L: Listener + Drop, C: Clock>(
     ensures tidy { IsTidy desk.new }
     ensures keeps { KeepsDesk desk.old desk.new }
     ensures turns { (n : ℕ) × ((L.told listener.new).handed ≡ (L.told listener.old).handed + n)
-        × Chain (Connection (IsGiven N.gives) common.entry.cat.now) n
+        × Chain (ConnectionBy (HandedAndClosed (IsGiven N.gives) D.closes) common.entry.cat.now) n
         (record { desk = desk.old; clock = C.told clock.old })
         (record { desk = desk.new; clock = C.told clock.new }) }
     ensures port { (L.told listener.new).port ≡ (L.told listener.old).port }
@@ -48,7 +49,9 @@ pub fn drain_listener<N: Named, L: Listener + Drop, C: Clock>(
 {
     for _served in 0..limit {
         match listener.accept() {
-            Accepted::Stream(waiting) => serve_stream(common, books, desk, waiting, clock),
+            Accepted::Stream(waiting) => {
+                D::close(serve_stream(common, books, desk, waiting, clock));
+            }
             Accepted::Failed => return false,
             Accepted::Closed => return true,
         }

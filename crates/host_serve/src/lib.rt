@@ -15,6 +15,7 @@ mod draining;
 mod end;
 mod export;
 mod giving;
+mod letting;
 mod meeting;
 mod member;
 mod run;

@@ -15,9 +15,9 @@ ghost use Rattle.host_catalogue.specs.Opening.{Fails, HasBooks, HasNoBooks};
 ghost use Rattle.host_serve.specs.Crews.{IsFirst};
 ghost use Rattle.host_serve.specs.Ends.{status_of_serve};
 ghost use Rattle.host_serve.specs.Serve.{Ends, HasShelfCause, IsExporting, IsNoServe, IsOfRefusedText, IsOnlyLimited, IsServe};
-ghost use Rattle.host_serve.specs.Serve.{IsWithoutBooks, Runs};
+ghost use Rattle.host_serve.specs.Serve.{IsWithoutBooks, Runs, left_by};
 ghost use Rattle.host_serve.specs.Telling.{IsBefore, IsTold, Tells};
-ghost use Rattle.host_serve.specs.Turns.{Asks, HandedBy, HasCatalogue};
+ghost use Rattle.host_serve.specs.Turns.{Asks, HasCatalogue};
 ghost use Rattle.host_serve.specs.declared.end.ServeOutcome.{ServeOutcome};
 ghost use Rattle.host_serve.specs.declared.end.ServeOutcome.TheVariants as outcome;
 
@@ -95,16 +95,8 @@ where
     requires ranges { IsInRange said.now.numbers }
     ensures never_falls { L.faults listener ≤ L.faults result.listener }
     ensures ends { Ends (F.told shelf.old) (said_in said.now)
-        (record {
-          faults_before = L.faults listener;
-          before = L.told listener;
-          clocks = map C.told clocks.items;
-          asks = Asks T.ticked ticker;
-          hands = HandedBy L.becomes L.hands listener;
-          faults_after = L.faults result.listener;
-          after = L.told result.listener;
-          wall = result.wall;
-        })
+        (left_by L.told L.faults L.becomes L.hands (map C.told clocks.items) (Asks T.ticked ticker)
+        listener result.listener result.wall)
         result.outcome }
     ensures before { IsBefore result.outcome }
     ensures same { F.told shelf.new ≡ F.told shelf.old }
@@ -170,16 +162,8 @@ where
     requires fresh { (L.told listener).handed ≡ 0 }
     ensures never_falls { L.faults listener ≤ L.faults result.listener }
     ensures runs { Runs (words_texts words.now) (F.told shelf.old)
-        (record {
-          faults_before = L.faults listener;
-          before = L.told listener;
-          clocks = map C.told clocks.items;
-          asks = Asks T.ticked ticker;
-          hands = HandedBy L.becomes L.hands listener;
-          faults_after = L.faults result.listener;
-          after = L.told result.listener;
-          wall = result.wall;
-        })
+        (left_by L.told L.faults L.becomes L.hands (map C.told clocks.items) (Asks T.ticked ticker)
+        listener result.listener result.wall)
         result.outcome }
     ensures tells { Tells (words_texts words.now) result.wall
         (record {
@@ -270,21 +254,14 @@ where
     ensures refused_words { IsNoServe (words_texts words.now) → (result.status ≡ 2) ⊎ (result.status ≡ 5) }
     ensures nothing_fetched { result.status ≡ 2 → shelf.new ≡ shelf.old }
     ensures nothing_heard { result.status ≡ 2 → result.listener ≡ listener }
+    ensures refused_wall { result.status ≡ 2 → result.wall ≡ None }
 
     // The status is that of the end, and the command ran so. The notes took the export, if it was asked for and there are books, and the
     // note of the end.
     ensures run { (outcome : ServeOutcome) × (result.status ≡ status_of_serve outcome)
         × Runs (words_texts words.now) (F.told shelf.old)
-        (record {
-          faults_before = L.faults listener;
-          before = L.told listener;
-          clocks = map C.told clocks.items;
-          asks = Asks T.ticked ticker;
-          hands = HandedBy L.becomes L.hands listener;
-          faults_after = L.faults result.listener;
-          after = L.told result.listener;
-          wall = result.wall;
-        })
+        (left_by L.told L.faults L.becomes L.hands (map C.told clocks.items) (Asks T.ticked ticker)
+        listener result.listener result.wall)
         outcome
         × IsTold (words_texts words.now) result.wall
         (record {

@@ -4,7 +4,7 @@ ghost use Rattle.claim_rule.specs.Desks.{IsOf};
 ghost use Rattle.claim_rule.specs.Out.{IsTidy};
 ghost use Rattle.worker_pool.specs.Turns.{KeepsDesk};
 ghost use Rattle.worker_pool.specs.declared.worker.TurnEnd.TheVariants.{End};
-ghost use Rattle.host_serve.specs.Turns.{Counts, HasCatalogue, ServesTurn};
+ghost use Rattle.host_serve.specs.Turns.{Counts, HasCatalogue, Passes, ServesTurn};
 
 use crate::member::Common;
 use crate::stream::serve_stream;
@@ -25,7 +25,8 @@ pub struct Server<'s, S, C> {
 }
 
 impl<S: Streams, C: Clock> Server<'_, S, C> {
-    /// Serves the stream that it is handed next to its connection's end; or ends, and sets the mark, where there is none.
+    /// Serves the stream that it is handed next to its connection's end, and lets it go as it is then; or ends, and sets the mark, where there
+    /// is none.
     pub fn take_turn(&mut self, books: &Books, desk: &mut Desk) -> TurnEnd
         requires has { HasCatalogue books.now self.old.common.cat.now }
         requires own { IsOf books.now desk.old }
@@ -34,7 +35,7 @@ impl<S: Streams, C: Clock> Server<'_, S, C> {
         ensures tidy { IsTidy desk.new }
         ensures keeps { KeepsDesk desk.old desk.new }
         ensures cat { self.new.common.cat.now ≡ self.old.common.cat.now }
-        ensures turn { ServesTurn (λ stream sent. S.hands self.old.streams stream sent self.new.streams)
+        ensures turn { ServesTurn (Passes S.hands S.lets_go self.old.streams self.new.streams)
             self.old.common.cat.now (C.told self.old.clock) desk.old
             (C.told self.new.clock) desk.new self.new.ended }
         ensures counts { Counts self.new.ended (S.handed self.old.streams) (S.handed self.new.streams) }
@@ -45,7 +46,8 @@ impl<S: Streams, C: Clock> Server<'_, S, C> {
             self.ended = true;
             return TurnEnd::End;
         };
-        serve_stream(self.common, books, desk, waiting, &mut self.clock);
+        let finished = serve_stream(self.common, books, desk, waiting, &mut self.clock);
+        self.streams.let_go(finished);
         self.ended = false;
         TurnEnd::Again
     }

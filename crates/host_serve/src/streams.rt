@@ -1,14 +1,15 @@
 // Where serving members take their streams.
 ghost use Rattle.std.specs.Prelude.{◌≡◌, ◌+◌, ℕ, IfSome, IfNone};
 ghost use Rattle.rail_service.specs.Listeners.{HandingBy, IsGiven};
+ghost use Rattle.host_serve.specs.Turns.{LettingGo};
 
 use crate::shared_listener::{Named, SharedListener};
 use rail_io::{Sink, Source};
-use rail_service::{Listener, Waiting};
+use rail_service::{Finished, Listener, Waiting};
 use std::sync::ledger::Share;
 use std::sync::{Mutex, Wait};
 
-/// Hands out streams one after the other, and none once it has ended.
+/// Hands out streams one after the other, and none once it has ended; and takes each back whose connection has ended, to let it go.
 pub trait Streams {
     /// What comes of a stream.
     type Input: Source + Drop;
@@ -23,12 +24,22 @@ pub trait Streams {
     /// Who knows nothing of them but this trait can show that only by a call that gave such a stream.
     ghost hands: { HandingBy Self };
 
+    /// That a call let go of a stream: these streams before it, what the stream's source and its sink told as it was let go, and these streams
+    /// behind it. Who knows nothing of them but this trait can show that only by a call with the stream as it then was.
+    ghost lets_go: { LettingGo Self };
+
     /// The next stream, for which it may wait, or none, where there will be no more.
     fn next_stream(&mut self) -> Option<Waiting<Self::Input, Self::Output>>
         ensures some { IfSome result (λ _. handed self.new ≡ handed self.old + 1) }
         ensures hands { IfSome result (λ w.
             hands self.old (Self.Input.told w.input) (Self.Output.told w.output) self.new) }
         ensures none { IfNone result (handed self.new ≡ handed self.old) };
+
+    /// Lets go of a stream whose connection has ended, which closes it.
+    fn let_go(&mut self, finished: Finished<Self::Input, Self::Output>)
+        ensures lets_go { lets_go self.old
+            (Self.Input.told finished.input) (Self.Output.told finished.output) self.new }
+        ensures handed { handed self.new ≡ handed self.old };
 }
 
 /// The streams of a listener behind a lock, which is held only while a stream is taken. Those that were taken here are counted in the share.
@@ -49,7 +60,16 @@ impl<R: Wait, L: Listener + Drop, N: Named> Streams for LockedStreams<'_, R, L, 
 
     ghost hands = { λ _ stream sent _. IsGiven N.gives stream sent };
 
+    ghost lets_go = { λ old _ _ new. new ≡ old };
+
     fn next_stream(&mut self) -> Option<Waiting<L::Input, L::Output>> {
         self.shared.lock(self.rt).next(&mut self.share)
+    }
+
+    fn let_go(&mut self, finished: Finished<L::Input, L::Output>)
+        ensures lets_go { self.new ≡ self.old }
+        ensures handed { self.new.share.amount ≡ self.old.share.amount }
+    {
+        let _closed = finished;
     }
 }

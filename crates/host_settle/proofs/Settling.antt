@@ -26,7 +26,7 @@ use Rattle.host_catalogue.specs.Opening.{HasBooks, HasNoBooks, IsOpened, IsRefus
 use Rattle.host_catalogue.specs.declared.file.LoadFault.{LoadFault}
 use Rattle.host_notes.specs.Ends.{status_of_fault}
 use Rattle.host_notes.proofs.Without.{fault_status, lacks_books, missed_file, never_opened}
-use Rattle.host_settle.specs.Settle.{EndsSettle, HasShelfCause, IsFetchedTable, IsTableOf, IsUnused, status_of_settle}
+use Rattle.host_settle.specs.Settle.{RanSettle, HasShelfCause, IsFetchedTable, IsTableOf, IsUnused, status_of_settle}
 use Rattle.host_settle.specs.declared.end.SettleEnd.{SettleEnd}
 use Rattle.host_settle.specs.declared.end.SettleEnd.TheVariants as end
 
@@ -114,35 +114,35 @@ module _ (files : Files) (catalogue export : List ℕ) (output sent : Option (Li
           is = of.2;
         }
 
-    pub wrote : Writes output sent text true → EndsSettle files catalogue export output sent end.Written
+    pub wrote : Writes output sent text true → RanSettle files catalogue export output sent end.Written
     wrote w =
         let same : text ≡ w.written = w.is ∙ ap (λ (l : List ℕ). w.written ++ l) (w.whole refl) ∙ append-nil w.written in
         (text, fetched, w.told ∙ ap (with_end output) (sym same))
 
-    pub broke : Writes output sent text false → EndsSettle files catalogue export output sent end.WriteFault
+    pub broke : Writes output sent text false → RanSettle files catalogue export output sent end.WriteFault
     broke w = (w.written, w.left, subst (λ (t : List ℕ). IsFetchedTable files catalogue export t) w.is fetched, w.told)
 
-  pub whole_table : (e : SettleEnd) → EndsSettle files catalogue export output sent e → status_of_settle e ≡ 0
+  pub whole_table : (e : SettleEnd) → RanSettle files catalogue export output sent e → status_of_settle e ≡ 0
       → (text : List ℕ) × IsFetchedTable files catalogue export text × (sent ≡ with_end output text)
   whole_table end.Written ends zero = ends
   whole_table (end.NotLoaded fault) ends zero = absurd (fault_not_zero fault zero)
   whole_table end.WriteFault ends zero = absurd (omega (arith, zero))
   whole_table end.NoMemory ends zero = absurd (omega (arith, zero))
 
-  pub front_table : (e : SettleEnd) → EndsSettle files catalogue export output sent e → status_of_settle e ≡ 4
+  pub front_table : (e : SettleEnd) → RanSettle files catalogue export output sent e → status_of_settle e ≡ 4
       → (front back : List ℕ) × IsFetchedTable files catalogue export (front ++ back) × (sent ≡ with_end output front)
   front_table end.Written ends four = absurd (omega (arith, four))
   front_table (end.NotLoaded fault) ends four = absurd (fault_not_four fault four)
   front_table end.WriteFault ends four = ends
   front_table end.NoMemory ends four = absurd (omega (arith, four))
 
-  pub without : (e : SettleEnd) → EndsSettle files catalogue export output sent e → status_of_settle e ≡ 1 → LacksBooks files catalogue (Some export)
+  pub without : (e : SettleEnd) → RanSettle files catalogue export output sent e → status_of_settle e ≡ 1 → LacksBooks files catalogue (Some export)
   without end.Written ends one = absurd (omega (arith, one))
   without (end.NotLoaded fault) ends one = lacks_books files catalogue (Some export) fault one ends.0
   without end.WriteFault ends one = absurd (omega (arith, one))
   without end.NoMemory ends one = absurd (omega (arith, one))
 
-  pub missed : (e : SettleEnd) (failed fails before after : ℕ) → EndsSettle files catalogue export output sent e → HasShelfCause e failed fails before after
+  pub missed : (e : SettleEnd) (failed fails before after : ℕ) → RanSettle files catalogue export output sent e → HasShelfCause e failed fails before after
       → status_of_settle e ≡ 1 → Rose before after ⊎ IsRefusedFile files catalogue (Some export)
   missed end.Written failed fails before after ends cause one = absurd (omega (arith, one))
   missed (end.NotLoaded fault) failed fails before after ends cause one =
@@ -155,7 +155,7 @@ module _ (told : List ℕ → Option (List ℕ)) (catalogue export : List ℕ) (
   never : (text : List ℕ) → IsFetchedTable (Some told) catalogue export text → ⊥
   never text table = never_opened told catalogue (Some export) table.cat table.kept none table.books
 
-  pub ends_without : (e : SettleEnd) → EndsSettle (Some told) catalogue export output sent e
+  pub ends_without : (e : SettleEnd) → RanSettle (Some told) catalogue export output sent e
       → (status_of_settle e ≡ 1) ⊎ (status_of_settle e ≡ 3) ⊎ (status_of_settle e ≡ 5)
   ends_without end.Written (text, table, wrote) = absurd (never text table)
   ends_without (end.NotLoaded fault) ends = fault_status fault

@@ -51,14 +51,14 @@ pub record IsFetchedTable (files : Files) (catalogue export text : List ℕ) : T
   pub is : IsSettlement wall text
 
 -- What the words ask for ended so. Nothing is written but the text.
-abbrev pub EndsSettle : Files → List ℕ → List ℕ → Option (List ℕ) → Option (List ℕ) → SettleEnd → Type 0
-EndsSettle files catalogue export output sent end.Written =
+abbrev pub RanSettle : Files → List ℕ → List ℕ → Option (List ℕ) → Option (List ℕ) → SettleEnd → Type 0
+RanSettle files catalogue export output sent end.Written =
     (text : List ℕ) × IsFetchedTable files catalogue export text × (sent ≡ with_end output text)
-EndsSettle files catalogue export output sent end.WriteFault =
+RanSettle files catalogue export output sent end.WriteFault =
     (front back : List ℕ) × IsFetchedTable files catalogue export (front ++ back) × (sent ≡ with_end output front)
-EndsSettle files catalogue export output sent (end.NotLoaded fault) =
+RanSettle files catalogue export output sent (end.NotLoaded fault) =
     Fails files catalogue (Some export) fault × (sent ≡ output)
-EndsSettle files catalogue export output sent end.NoMemory = sent ≡ output
+RanSettle files catalogue export output sent end.NoMemory = sent ≡ output
 
 -- what is so of the names that the words of `settle` say
 pub record IsOfWords (words : List (List ℕ)) (P : List ℕ → List ℕ → Type 0) : Type 0 where
@@ -69,7 +69,7 @@ pub record IsOfWords (words : List (List ℕ)) (P : List ℕ → List ℕ → Ty
 
 -- `settle` ran so
 abbrev pub Settles : List (List ℕ) → Files → Option (List ℕ) → Option (List ℕ) → SettleEnd → Type 0
-Settles words files output sent e = IsOfWords words (λ catalogue export. EndsSettle files catalogue export output sent e)
+Settles words files output sent e = IsOfWords words (λ catalogue export. RanSettle files catalogue export output sent e)
 
 -- the text is the settlement table for the files that the words name
 abbrev pub IsTableFor : List (List ℕ) → Files → List ℕ → Type 0

@@ -10,7 +10,7 @@ ghost use Rattle.host_catalogue.specs.Files.{OfCounts};
 ghost use Rattle.host_notes.specs.Ends.{note_of};
 ghost use Rattle.host_notes.specs.Noted.{TakesNote};
 ghost use Rattle.host_notes.specs.declared.ending.CommandEnd.TheVariants.{WordsRefused};
-ghost use Rattle.host_settle.specs.Settle.{EndsSettle, HasNoneToSettle, HasShelfCause, IsOfRefusedFile, IsTableFor, IsTableOf, Settles};
+ghost use Rattle.host_settle.specs.Settle.{RanSettle, HasNoneToSettle, HasShelfCause, IsOfRefusedFile, IsTableFor, IsTableOf, Settles};
 ghost use Rattle.host_settle.specs.Settle.{end_of_settle, status_of_settle};
 ghost use Rattle.host_settle.specs.declared.end.SettleEnd.{SettleEnd};
 ghost use Rattle.host_settle.specs.declared.end.SettleEnd.TheVariants as end;
@@ -43,7 +43,7 @@ fn settle<F: Shelf, K: Sink>(
     shelf: &mut F,
     output: &mut K,
 ) -> SettleEnd
-    ensures ends { EndsSettle (F.told shelf.old) said.now.catalogue.now said.now.export.now
+    ensures ends { RanSettle (F.told shelf.old) said.now.catalogue.now said.now.export.now
         (K.told output.old) (K.told output.new) result }
     ensures nothing_written { (result ≡ end.Written → ⊥) → (result ≡ end.WriteFault → ⊥) → output.new ≡ output.old }
     ensures same { F.told shelf.new ≡ F.told shelf.old }

@@ -17,7 +17,7 @@ pub(crate) fn text_of(bytes: &[u8]) -> &str
     requires { IsAscii bytes.now }
     ensures { result.now ≡ bytes.now }
 {
-    str::from_utf8(bytes).unwrap()
+    unsafe { str::from_utf8_unchecked(bytes) }
 }
 
 pub(crate) fn time_text(moment: Moment) -> [u8; 20]

@@ -105,11 +105,10 @@ pub record EndsSettle (words : List (List ℕ)) (status : ℕ) (d : Devices) : T
   pub ends : EndsAs (end_of_settle end) status d.notes
   pub cause : HasSettleCause end d.shelf.failed d.shelf.fails d.shelf.missed d.shelf.misses
 
--- `drill` left this output so, with the finished books that its line counts
-pub record EndsDrill (words : List (List ℕ)) (status : ℕ) (d : Devices) : Type 0 where
+-- `drill` left this output so, and this wall, which is that of the finished books that its line counts
+pub record EndsDrill (words : List (List ℕ)) (wall : Option WallView) (status : ℕ) (d : Devices) : Type 0 where
   pub command : IsForDrill words
   pub cause : Cause
-  pub wall : Option WallView
   pub leaves : Leaves words d.output d.sent wall cause
   pub ends : EndsAs (end_of_drill cause) status d.notes
 
@@ -122,5 +121,5 @@ EndsPlainly words status d =
 -- so ends the program: as `drill`, as a plain command, or as `serve` at its port
 abbrev pub EndsSo : List (List ℕ) → Left → ℕ → Devices → Type 0
 EndsSo words left status d =
-    EndsDrill words status d ⊎ EndsPlainly words status d
+    EndsDrill words left.wall status d ⊎ EndsPlainly words status d
     ⊎ (IsForServe words × ServesPort words d.files left status d.shelf d.notes)

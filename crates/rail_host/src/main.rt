@@ -7,12 +7,13 @@
 
 ghost use Rattle.std.specs.Prelude.{◌≡◌, drop};
 
+mod exit;
 mod host;
 mod program;
 mod serve;
 
+use exit::run_host;
 use host_io::{SleepTicker, TcpPort};
-use host_notes::{CommandEnd, end_command};
 use rail_io::{FileShelf, ReaderSource, WriterSink};
 use std::alloc::AllocError;
 use std::env;
@@ -47,26 +48,20 @@ fn given_words(rt: &(impl Env + AllocGlobal)) -> Result<Vec<String>, AllocError>
 
 fn main(rt: HostRuntime) -> ExitCode {
     let alloc = rt.alloc();
+    let words = given_words(&rt);
     let mut shelf = FileShelf::new(&rt);
     let mut input = ReaderSource::new(rt.stdin());
     let mut output = WriterSink::new(rt.stdout());
     let mut notes = WriterSink::new(rt.stderr());
-    let status = match given_words(&rt) {
-        Ok(words) => {
-            let end = program::run_command(
-                &rt,
-                alloc,
-                &words,
-                &mut shelf,
-                &mut input,
-                &mut output,
-                &mut notes,
-                TcpPort::new(&rt, alloc),
-                SleepTicker::new(&rt),
-            );
-            end.status
-        }
-        Err(_) => end_command(&mut notes, &CommandEnd::NoMemory),
-    };
-    ExitCode::from(status)
+    run_host(
+        &rt,
+        alloc,
+        words,
+        &mut shelf,
+        &mut input,
+        &mut output,
+        &mut notes,
+        TcpPort::new(&rt, alloc),
+        SleepTicker::new(&rt),
+    )
 }

@@ -4,15 +4,16 @@ ghost use Rattle.rail_io.specs.Faults.{Rose};
 ghost use Rattle.host_words.specs.Options.{words_texts};
 ghost use Rattle.host_words.specs.Serve.{ServeView};
 ghost use Rattle.host_catalogue.specs.Opening.{HasNoBooks};
+ghost use Rattle.host_drill.specs.Ends.{IsForDrill};
 ghost use Rattle.host_replay.specs.Export.{IsForExport};
-ghost use Rattle.host_serve.specs.Serve.{IsExporting, IsForServe, IsServe};
-ghost use Rattle.host_serve.specs.Turns.{Asks, HandedBy};
+ghost use Rattle.host_serve.specs.Serve.{IsExporting, IsForServe, IsServe, left_by};
+ghost use Rattle.host_serve.specs.Turns.{Asks};
 ghost use Rattle.rail_host.specs.Commands.{EndsSo, IsNoCommand, ReadsNothing};
 ghost use Rattle.rail_host.specs.Plain.{AsksForFiles};
 
 use crate::host::run_plain;
 use crate::serve::serve_port;
-use host_drill::run_drill;
+use host_drill::{DrillEnd, run_drill};
 use host_serve::ServeEnd;
 use host_words::{CommandName, is_for};
 use rail_io::{Shelf, Sink, Source, Ticker};
@@ -23,7 +24,7 @@ use std::thread::Threads;
 use std::time;
 
 /// Runs the command that the first word names, and hands back its status and the listener: `drill`, `serve`, or one of the plain commands, to
-/// which all other words go. `serve` alone hears of the listener and the ticker, and hands back the wall of its books.
+/// which all other words go. `serve` alone hears of the listener. It and `drill` alone have finished books to hand back.
 pub fn run_command<
     R: Threads + Wait + Sync + time::Clock,
     F: Shelf,
@@ -56,21 +57,15 @@ where
     ensures nothing_written { result.status ≡ 2 → output.new ≡ output.old }
     ensures nothing_fetched { result.status ≡ 2 → shelf.new ≡ shelf.old }
     ensures nothing_heard { result.status ≡ 2 → result.listener ≡ listener }
+    ensures refused_wall { result.status ≡ 2 → result.wall ≡ None }
 
     // The command of the words ran so on the devices handed in: from this input, to this output, on this shelf's files. The
     // status and the note are those of its end. Of `serve`, and of no other command, the notes took the export before the
-    // note, if it was asked for.
+    // note, if it was asked for. The wall that is handed back is that of `serve`, or the one that the line of `drill`
+    // counts.
     ensures ended { EndsSo (words_texts words.now)
-        (record {
-          faults_before = L.faults listener;
-          before = L.told listener;
-          clocks = replicate 17 None;
-          asks = Asks T.ticked ticker;
-          hands = HandedBy L.becomes L.hands listener;
-          faults_after = L.faults result.listener;
-          after = L.told result.listener;
-          wall = result.wall;
-        })
+        (left_by L.told L.faults L.becomes L.hands (replicate 17 None) (Asks T.ticked ticker)
+        listener result.listener result.wall)
         result.status
         (record {
           files = F.told shelf.old;
@@ -93,10 +88,12 @@ where
         }) }
 
     // What a command has no use for is left as it was: only `serve` hears of the listener, and neither it nor `drill` or
-    // `settle` reads the input. A failure of the input or the output is answered where its count of faults rose in this call,
-    // and at every other status that count is as it was; but at status 5 of `export` the input may have failed behind an
-    // answer for want of memory.
+    // `settle` reads the input. A command other than `serve` and `drill` hands back no wall. A failure of the input or the
+    // output is answered where its count of faults rose in this call, and at every other status that count is as it was;
+    // but at status 5 of `export` the input may have failed behind an answer for want of memory.
     ensures unheard { (IsForServe (words_texts words.now) → ⊥) → result.listener ≡ listener }
+    ensures no_wall { (IsForServe (words_texts words.now) → ⊥) → (IsForDrill (words_texts words.now) → ⊥)
+        → result.wall ≡ None }
     ensures unread { ReadsNothing (words_texts words.now) → input.new ≡ input.old }
     ensures unwritten { IsForServe (words_texts words.now) → output.new ≡ output.old }
     ensures unfetched { AsksForFiles (words_texts words.now) ⊎ IsForServe (words_texts words.now)
@@ -121,10 +118,11 @@ where
     if is_for(words, CommandName::Serve) {
         serve_port(rt, alloc, words, shelf, listener, ticker, notes)
     } else if is_for(words, CommandName::Drill) {
+        let DrillEnd { status, wall } = run_drill(rt, alloc, words, output, notes);
         ServeEnd {
-            status: run_drill(rt, alloc, words, output, notes).status,
+            status,
             listener,
-            wall: None,
+            wall,
         }
     } else {
         ServeEnd {

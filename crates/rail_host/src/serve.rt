@@ -4,8 +4,8 @@ ghost use Rattle.rail_io.specs.Faults.{Rose};
 ghost use Rattle.host_words.specs.Options.{words_texts};
 ghost use Rattle.host_words.specs.Serve.{ServeView};
 ghost use Rattle.host_catalogue.specs.Opening.{HasNoBooks};
-ghost use Rattle.host_serve.specs.Serve.{IsExporting, IsNoServe, IsOfRefusedText, IsServe, IsWithoutBooks};
-ghost use Rattle.host_serve.specs.Turns.{Asks, HandedBy};
+ghost use Rattle.host_serve.specs.Serve.{IsExporting, IsNoServe, IsOfRefusedText, IsServe, IsWithoutBooks, left_by};
+ghost use Rattle.host_serve.specs.Turns.{Asks};
 ghost use Rattle.rail_host.specs.Commands.{ServesPort};
 
 use host_notes::{CommandEnd, end_command};
@@ -64,20 +64,13 @@ where
     ensures refused_words { IsNoServe (words_texts words.now) → (result.status ≡ 2) ⊎ (result.status ≡ 5) }
     ensures nothing_fetched { result.status ≡ 2 → shelf.new ≡ shelf.old }
     ensures nothing_heard { result.status ≡ 2 → result.listener ≡ listener }
+    ensures refused_wall { result.status ≡ 2 → result.wall ≡ None }
 
     // The status is that of the end, and the command ran so, over this listener, by this ticker and clocks that tell nothing. The notes took
     // the export of the wall that is handed back, if it was asked for and there is one, and the note of the end.
     ensures ended { ServesPort (words_texts words.now) (F.told shelf.old)
-        (record {
-          faults_before = L.faults listener;
-          before = L.told listener;
-          clocks = replicate 17 None;
-          asks = Asks T.ticked ticker;
-          hands = HandedBy L.becomes L.hands listener;
-          faults_after = L.faults result.listener;
-          after = L.told result.listener;
-          wall = result.wall;
-        })
+        (left_by L.told L.faults L.becomes L.hands (replicate 17 None) (Asks T.ticked ticker)
+        listener result.listener result.wall)
         result.status
         (record {
           failed = F.faults shelf.old;

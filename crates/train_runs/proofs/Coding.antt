@@ -27,20 +27,6 @@ text_of_code code h =
     let bytes = both (nat_le (length code) 8) (list_all is_code_byte code) few.1 in
     IsUtf8-from_ascii code (IsAscii-from_all code (λ k d inside. low _ (AllPass-from_list_all is_code_byte code bytes.1 k d inside)))
 
-no_match : (s : StationView) (code : List ℕ) → is_code s.code ≡ true → ¬ IsUtf8 code → bytes_eq s.code code ≡ false
-no_match s code fine un = by_test (bytes_eq s.code code) refl
-  where
-    by_test : (b : Bool) → bytes_eq s.code code ≡ b → b ≡ false
-    by_test true e = absurd (un (subst IsUtf8 ((bytes_eq-Decides s.code code).0 e) (text_of_code s.code fine)))
-    by_test false e = refl
-
--- what is no text is no station's code
-pub foreign : (n : ℕ) (code : List ℕ) (stations : List StationView) → list_all (λ s. is_code s.code) stations ≡ true → ¬ IsUtf8 code → number_from n code stations ≡ None
-foreign n code [] all un = refl
-foreign n code (s ∷ rest) all un =
-    let parts = both (is_code s.code) (list_all (λ (t : StationView). is_code t.code) rest) all in
-    rw (no_match s code parts.0 un) (foreign (n + 1) code rest parts.1 un)
-
 abbrev last_of : ℕ → List ℕ → StationView → Option StationNo
 last_of n code last = if bytes_eq last.code code then Some (record { 0 = n }) else None
 

@@ -1,4 +1,5 @@
 pub mod Stopping
 pub mod Coding
+pub mod Numbers
 pub mod Departing
 pub mod Posting

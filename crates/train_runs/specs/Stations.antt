@@ -1,5 +1,5 @@
 -- Stations, and what adding one answers.
-use Rattle.std.specs.Prelude.{ℕ, ◌+◌, ◌&&◌, ◌||◌, nat_le, Bool, List, [], ◌∷◌, ◌++◌, length, if◌then◌else◌, Option, Some, None, Result, Ok, Err, is_some}
+use Rattle.std.specs.Prelude.{ℕ, ◌+◌, ◌*◌, ◌&&◌, ◌||◌, nat_le, Bool, List, [], ◌∷◌, ◌++◌, length, if◌then◌else◌, Option, Some, None, Result, Ok, Err, is_some}
 use Rattle.std.specs.List.{list_all}
 use Rattle.std.specs.Str.{bytes_eq}
 use Rattle.rail_ids.specs.declared.StationNo.{StationNo}
@@ -22,6 +22,11 @@ most_code_letters = 8
 -- one to eight of them
 abbrev pub is_code : List ℕ → Bool
 is_code code = nat_le 1 (length code) && (nat_le (length code) most_code_letters && list_all is_code_byte code)
+
+-- the number of a code: its letters as digits to the base 256, the first the least
+abbrev pub code_number : List ℕ → ℕ
+code_number [] = 0
+code_number (b ∷ rest) = b + 256 * code_number rest
 
 -- the number of the first station with the code, where the first station has the number n
 abbrev pub number_from : ℕ → List ℕ → List StationView → Option StationNo

@@ -1,5 +1,4 @@
 ghost use Rattle.std.specs.Prelude.{◌^◌, ◌≡◌, ◌<◌, ◌≤◌, ◌+◌, ◌-◌, ◌*◌, ◌++◌, [], ◌∷◌, List, ℕ, length, All, IfOk, IfErr, OnErr, OnOk, Ok, Err, Some, None, true, IfSome, option_map, slice_get};
-ghost use Rattle.std.specs.BTreeMap.{get_by_text};
 ghost use Rattle.train_runs.specs.declared.run.RunFault.TheVariants as run_fault;
 ghost use Rattle.train_runs.specs.Stations.{station_with, is_code as is_code_of, most_stations};
 ghost use Rattle.train_runs.specs.Stops.{IsRun, most_stops};
@@ -10,7 +9,7 @@ ghost use Rattle.std.specs.Int.Digits.{digits_of};
 
 use crate::departure::{Board, Departure};
 use crate::run::{MOST_STOPS, Run, RunFault, Stop, first_repeated, first_unrisen, stop_of};
-use crate::station::{MOST_STATIONS, Station, StationFault, is_code};
+use crate::station::{MOST_STATIONS, Station, StationFault, code_number, is_code};
 use leg_masks::Span;
 use rail_ids::{RunNo, StationNo};
 use rail_time::Moment;
@@ -28,15 +27,17 @@ pub const MOST_RUNS: usize = 4_096;
 #[derive(Drop)]
 pub struct Runs {
     stations: Vec<Station>,
-    numbers: BTreeMap<String, StationNo>,
+    // By the numbers of their codes, which are compared sooner than texts.
+    numbers: BTreeMap<u64, StationNo>,
     runs: Vec<Run>,
     boards: Vec<Board>,
 }
 
 impl Model for Runs {
-    ghost use Rattle.std.specs.Prelude.{◌≡◌, ℕ, List};
-    ghost use Rattle.std.specs.BTreeMap.{get_by_text};
-    ghost use Rattle.train_runs.specs.Stations.{station_with};
+    ghost use Rattle.std.specs.Prelude.{◌≡◌, ℕ, List, true};
+    ghost use Rattle.std.specs.Ordering.{nat_cmp};
+    ghost use Rattle.std.specs.BTreeMap.{get};
+    ghost use Rattle.train_runs.specs.Stations.{station_with, is_code, code_number};
     ghost use Rattle.train_runs.specs.Runs.{RunsView, AreSound};
     ghost use Rattle.train_runs.specs.Boards.{HasBoards};
 
@@ -45,7 +46,8 @@ impl Model for Runs {
     ghost view = { λ r. record { stations = r.stations.items; runs = r.runs.items } };
 
     ghost invariant = { λ r. AreSound (record { stations = r.stations.items; runs = r.runs.items })
-        × ((code : List ℕ) → get_by_text r.numbers code ≡ station_with code r.stations.items)
+        × ((code : List ℕ) → is_code code ≡ true
+        → get nat_cmp r.numbers (code_number code) ≡ station_with code r.stations.items)
         × HasBoards (record { stations = r.stations.items; runs = r.runs.items }) r.boards.items };
 }
 
@@ -76,7 +78,7 @@ impl Runs {
         let Ok(text) = str::from_utf8(code) else {
             return Err(StationFault::BadCode);
         };
-        if self.numbers.get(text).is_some() {
+        if self.numbers.get(&code_number(code)).is_some() {
             return Err(StationFault::DoubleCode);
         }
         if self.stations.len() >= MOST_STATIONS {
@@ -99,7 +101,7 @@ impl Runs {
     {
         let alloc = *self.stations.allocator();
         let number = StationNo(self.stations.len() as u32);
-        let key = String::from_str(alloc, code)?;
+        let key = code_number(code.as_bytes());
         self.stations
             .push(Station::new(String::from_str(alloc, code)?, change))?;
         if let Err(error) = self.boards.push(Board::new(alloc)) {
@@ -155,10 +157,10 @@ impl Runs {
         ensures known { IfSome result (λ n. n.0 < length self.now.stations) }
     {
         let numbers = &self.numbers;
-        let Ok(text) = str::from_utf8(code) else {
+        if !is_code(code) {
             return None;
-        };
-        numbers.get(text).copied()
+        }
+        numbers.get(&code_number(code)).copied()
     }
 
     /// The run with the number.

@@ -1,6 +1,6 @@
-ghost use Rattle.std.specs.Prelude.{◌≡◌, string_bytes};
+ghost use Rattle.std.specs.Prelude.{◌≡◌, ◌≤◌, true, length, string_bytes};
 ghost use Rattle.std.specs.List.{list_all};
-ghost use Rattle.train_runs.specs.Stations.{StationView, is_code as is_code_of, is_code_byte as is_code_byte_of};
+ghost use Rattle.train_runs.specs.Stations.{StationView, is_code as is_code_of, is_code_byte as is_code_byte_of, code_number as code_number_of, most_code_letters};
 
 use std::marker::Model;
 
@@ -75,6 +75,18 @@ fn are_code_bytes(code: &[u8]) -> bool
         }
     }
     true
+}
+
+/// The number of a code: no other code has it.
+pub(crate) fn code_number(code: &[u8]) -> u64
+    requires few { length code.now ≤ most_code_letters }
+    requires letters { list_all is_code_byte_of code.now ≡ true }
+    ensures { result ≡ code_number_of code.now }
+{
+    match code {
+        [] => 0,
+        [first, rest @ ..] => u64::from(*first) + 256 * code_number(rest),
+    }
 }
 
 fn is_code_byte(b: u8) -> bool

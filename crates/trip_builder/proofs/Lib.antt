@@ -14,4 +14,4 @@ pub mod Bounding
 pub mod Keeping
 pub mod Outdoing
 pub mod Calling
-pub mod Leading
+pub mod Ranking

@@ -18,7 +18,7 @@ use Rattle.trip_builder.proofs.StrictOrder.{three_ways, segments_strict, same_se
 use Rattle.trip_builder.proofs.Ways.{both_true, trip_goes_on}
 use Rattle.trip_builder.proofs.Deciding.{earlier_first, behind_decided}
 use Rattle.trip_builder.proofs.Placing.{before_side, all_before}
-use Rattle.trip_builder.proofs.Bounding.{end_is, trip_leads}
+use Rattle.trip_builder.proofs.Bounding.{fresh_end, end_is, trip_leads}
 
 -- ---- by the segments
 
@@ -162,12 +162,12 @@ outdone_later r best bound way more run from to up (inr behind) =
     by_key (inr (f, inr (g, high))) =
         inr (same ∙ f, inr (let a = one in let b = two in omega (arith, a, b, g), exceeds_later way (sixteenth best) run from to up high))
 
-pub ride_outdone : (r : RunsView) (w : TripWish) (best : List (List Segment)) (way : List Segment) (more bound : ℕ) (d : Departure) → AreInOrder r best → BoundsRide r w more d.run.0 d.stop bound
+pub ride_outdone : (r : RunsView) (w : TripWish) (best : List (List Segment)) (way : List Segment) (more bound : ℕ) (d : Departure) → AreInOrder r best → BoundsRide r w more way d.run.0 d.stop bound
     → IsOutdone r best bound (way ++ segment d.run.0 d.stop (d.stop + 1) ∷ []) more → AreDecidedFrom r w best way more d
 ride_outdone r w best way more bound d ordered bounds outdone to rest count trip =
     let s = segment d.run.0 d.stop to in
     let rises = (trip_goes_on r w way s rest trip).known.rises in
-    let is = bounds s rest refl refl count (trip_leads r w way s rest trip) in
+    let is = bounds s rest refl refl count (trip_leads r w way s rest trip) (fresh_end r w way s rest trip) in
     let low = is.0 in
     let whole : (way ++ s ∷ []) ++ rest ≡ way ++ s ∷ rest = append_assoc way (s ∷ []) rest in
     let at : last_arrival r ((way ++ s ∷ []) ++ rest) ≡ arrival_of r s rest = ap (last_arrival r) whole ∙ ap (λ (x : Segment). (last_stop r x).arrive) (end_is way s rest) in
@@ -175,10 +175,10 @@ ride_outdone r w best way more bound d ordered bounds outdone to rest count trip
     (outdone_decided r best bound (way ++ s ∷ []) rest more ordered (outdone_later r best bound way more d.run.0 d.stop to (omega (arith, rises)) outdone) count (omega (arith, low, at)))
 
 pub window_outdone : (r : RunsView) (w : TripWish) (best : List (List Segment)) (way : List Segment) (more : ℕ) (station : StationNo) (from to bound : ℕ) → AreInOrder r best → IsWindowOf r w way station from to
-    → BoundsLeaving r w more station from to bound → IsOutdone r best bound way (more + 1) → AreDecided r w best way more
+    → BoundsLeaving r w more way station from to bound → IsOutdone r best bound way (more + 1) → AreDecided r w best way more
 window_outdone r w best way more station from to bound ordered window bounds outdone s rest count trip =
     let parts = both_true (leaves_after r w way (first_stop r s)) _ (trip_goes_on r w way s rest trip).next in
-    let is = bounds s rest count (trip_leads r w way s rest trip) (window (first_stop r s) ∙ parts.0) in
+    let is = bounds s rest count (trip_leads r w way s rest trip) (window (first_stop r s) ∙ parts.0) (fresh_end r w way s rest trip) in
     let low = is.0 in
     let at : last_arrival r (way ++ s ∷ rest) ≡ arrival_of r s rest = ap (λ (x : Segment). (last_stop r x).arrive) (end_is way s rest) in
     outdone_decided r best bound way (s ∷ rest) (more + 1) ordered outdone (omega (arith, count)) (omega (arith, low, at))

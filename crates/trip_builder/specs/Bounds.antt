@@ -1,16 +1,19 @@
 -- What bounds a search from behind: for each departure the earliest arrival at the destination, with so many changes.
-use Rattle.std.specs.Prelude.{◌≡◌, ◌<◌, ◌≤◌, ◌+◌, ◌-◌, ◌^◌, ◌++◌, ◌==◌, ◌&&◌, ◌⊎◌, ℕ, length, Bool, true, List, [], ◌∷◌, slice_index_or}
+use Rattle.std.specs.Prelude.{◌≡◌, ◌<◌, ◌≤◌, ◌+◌, ◌-◌, ◌^◌, ◌++◌, ◌==◌, ◌&&◌, ◌⊎◌, ℕ, length, Bool, true, false, List, [], ◌∷◌, slice_index_or}
 use Rattle.std.specs.List.{AllByRecursion}
 use Rattle.rail_ids.specs.declared.StationNo.{StationNo}
 use Rattle.offer_codes.specs.declared.code.Segment.{Segment}
-use Rattle.train_runs.specs.declared.run.Stop.{Stop}
 use Rattle.train_runs.specs.Stops.{stop_at}
 use Rattle.train_runs.specs.Runs.{RunsView}
 use Rattle.trip_builder.specs.declared.trip.TripWish.{TripWish}
 use Rattle.trip_builder.specs.declared.board.Useful.{Useful}
+use Rattle.trip_builder.specs.declared.ranks.FirstTwo.{FirstTwo}
+use Rattle.trip_builder.specs.declared.ranks.Arrival.{Arrival}
 use Rattle.trip_builder.specs.Segments.{stops_of, first_stop, last_stop}
 use Rattle.trip_builder.specs.Trips.{connects, leaves}
 use Rattle.trip_builder.specs.Best.{IsKnown}
+use Rattle.trip_builder.specs.Search.{has_run}
+use Rattle.trip_builder.specs.Ends.{IsThere}
 
 -- later than each arrival
 abbrev pub never : ℕ
@@ -45,6 +48,53 @@ arrival_of r s rest = (last_stop r (end_of s rest)).arrive
 abbrev pub IsBound : ℕ → ℕ → Type 0
 IsBound bound arrival = (bound ≤ arrival) × (bound < never)
 
+-- ---- ranks
+
+-- after each rank
+abbrev pub no_rank : ℕ
+no_rank = 65_535
+
+-- the runs that come to the destination, and for each run its place among them
+pub record RanksView : Type 0 where
+  pub order : List Arrival
+  pub ranks : List ℕ
+
+abbrev pub rank_in : RanksView → ℕ → ℕ
+rank_in v run = slice_index_or v.ranks run no_rank
+
+-- the rank of the last of the segments
+abbrev pub rank_of : RanksView → Segment → List Segment → ℕ
+rank_of v s rest = rank_in v (end_of s rest).run.0
+
+-- the run stands at its rank, with the stop, and with an arrival that isn't after its own
+pub record IsPlaced (r : RunsView) (v : RanksView) (run stop : ℕ) : Type 0 where
+  pub within : rank_in v run < length v.order
+  pub few : rank_in v run < no_rank
+  pub run_is : (none : Arrival) → (slice_index_or v.order (rank_in v run) none).run.0 ≡ run
+  pub stop_is : (none : Arrival) → (slice_index_or v.order (rank_in v run) none).stop ≡ stop
+  pub time : (none : Arrival) → IsBound (slice_index_or v.order (rank_in v run) none).arrive (stop_at (stops_of r run) stop).arrive
+
+abbrev pub IsPlacedRun : RunsView → TripWish → RanksView → ℕ → Type 0
+IsPlacedRun r w v run = (stop : ℕ) → stop < length (stops_of r run) → IsThere r w run stop → IsPlaced r v run stop
+
+-- the later ones stand further on
+abbrev pub Ascends : List Arrival → Type 0
+Ascends order = (j k : ℕ) (none : Arrival) → j ≤ k → k < length order → (slice_index_or order j none).arrive ≤ (slice_index_or order k none).arrive
+
+-- all that come to the destination have their places
+pub record AreRanks (r : RunsView) (w : TripWish) (v : RanksView) : Type 0 where
+  pub placed : (run : ℕ) → IsPlacedRun r w v run
+  pub ascends : Ascends v.order
+
+-- no rank is before the first of them, and none but the first's own is before the second
+abbrev pub Precede : FirstTwo → ℕ → Type 0
+Precede two rank = (rank < no_rank) × ((two.first ≤ rank) × ((rank ≡ two.first) ⊎ (two.second ≤ rank)))
+
+-- what leads there with a run that the way doesn't have, and that they precede, arrives no earlier
+abbrev pub BoundsFresh : RunsView → TripWish → RanksView → FirstTwo → List Segment → ℕ → Type 0
+BoundsFresh r w v two way bound = (s : Segment) (rest : List Segment) → LeadsTo r w s rest → Precede two (rank_of v s rest)
+    → has_run way (end_of s rest).run.0 ≡ false → IsBound bound (arrival_of r s rest)
+
 -- ---- the board of a station
 
 -- later departures stand further on, those of a block together
@@ -52,119 +102,124 @@ abbrev pub Rises : List Useful → Type 0
 Rises board = (j k : ℕ) (none : Useful) → j ≤ k → k < length board
     → ((slice_index_or board j none).moment ≤ (slice_index_or board k none).moment) × ((slice_index_or board j none).block ≤ (slice_index_or board k none).block)
 
--- the next departure of a board, from which one arrives no earlier than `least`
-pub record Follows (board : List Useful) (least : ℕ) (u : Useful) : Type 0 where
+-- the next departure of a board, which those of `least` precede
+pub record Follows (board : List Useful) (least : FirstTwo) (u : Useful) : Type 0 where
   pub block : (none : Useful) → 0 < length board → (slice_index_or board (length board - 1) none).block ≤ u.block
-  pub onward : (arrival : ℕ) → IsBound least arrival → IsBound u.onward arrival
-  pub so_far : (arrival : ℕ) → IsBound least arrival → IsBound u.so_far arrival
-  pub same : (none : Useful) (arrival : ℕ) → 0 < length board → (slice_index_or board (length board - 1) none).block ≡ u.block
-      → IsBound (slice_index_or board (length board - 1) none).so_far arrival → IsBound u.so_far arrival
+  pub onward : (rank : ℕ) → Precede least rank → Precede u.onward rank
+  pub so_far : (rank : ℕ) → Precede least rank → Precede u.so_far rank
+  pub same : (none : Useful) (rank : ℕ) → 0 < length board → (slice_index_or board (length board - 1) none).block ≡ u.block
+      → Precede (slice_index_or board (length board - 1) none).so_far rank → Precede u.so_far rank
 
 -- the board with one departure more
-pub record HasPosted (old : List Useful) (moment least : ℕ) (new : List Useful) : Type 0 where
+pub record HasPosted (old : List Useful) (moment : ℕ) (least : FirstTwo) (new : List Useful) : Type 0 where
   pub it : Useful
   pub is : new ≡ old ++ it ∷ []
   pub rises : Rises old
   pub moment_is : it.moment ≡ moment
   pub follows : Follows old least it
 
--- one that arrives then leaves at this moment: it has its place, and those of its block that leave no earlier say no later arrival
-pub record IsNoted (board : List Useful) (depart arrival : ℕ) : Type 0 where
+-- one of that rank leaves at this moment: it has its place, and those of its block that leave no earlier say no later one
+pub record IsNoted (board : List Useful) (depart rank : ℕ) : Type 0 where
   pub place : ℕ
   pub within : place < length board
   pub moment : (none : Useful) → (slice_index_or board place none).moment ≡ depart
-  pub here : (none : Useful) → IsBound (slice_index_or board place none).onward arrival
+  pub here : (none : Useful) → Precede (slice_index_or board place none).onward rank
   pub later : (k : ℕ) (none : Useful) → place ≤ k → k < length board → (slice_index_or board k none).block ≡ (slice_index_or board place none).block
-      → IsBound (slice_index_or board k none).so_far arrival
+      → Precede (slice_index_or board k none).so_far rank
 
 -- likewise those of its block that leave no later
-pub record IsPosted (board : List Useful) (depart arrival : ℕ) : Type 0 where
+pub record IsPosted (board : List Useful) (depart rank : ℕ) : Type 0 where
   pub place : ℕ
   pub within : place < length board
   pub moment : (none : Useful) → (slice_index_or board place none).moment ≡ depart
   pub earlier : (k : ℕ) (none : Useful) → k ≤ place → (slice_index_or board k none).block ≡ (slice_index_or board place none).block
-      → IsBound (slice_index_or board k none).onward arrival
+      → Precede (slice_index_or board k none).onward rank
   pub later : (k : ℕ) (none : Useful) → place ≤ k → k < length board → (slice_index_or board k none).block ≡ (slice_index_or board place none).block
-      → IsBound (slice_index_or board k none).so_far arrival
+      → Precede (slice_index_or board k none).so_far rank
 
--- what leaves from the one moment to the other arrives no earlier
-abbrev pub BoundsWindow : List Useful → ℕ → ℕ → ℕ → Type 0
-BoundsWindow board from to bound = (depart arrival : ℕ) → IsPosted board depart arrival → from ≤ depart → depart ≤ to → IsBound bound arrival
+-- the two precede what leaves from the one moment to the other
+abbrev pub BoundsWindow : List Useful → ℕ → ℕ → FirstTwo → Type 0
+BoundsWindow board from to two = (depart rank : ℕ) → IsPosted board depart rank → from ≤ depart → depart ≤ to → Precede two rank
 
 -- it leaves from the first moment to the last, which is a part of the window
 pub record NarrowsWindow (board : List Useful) (from to first last : ℕ) : Type 0 where
   pub starts : from ≤ first
   pub ends : last ≤ to
-  pub each : (depart arrival : ℕ) → IsPosted board depart arrival → from ≤ depart → depart ≤ to → (first ≤ depart) × (depart ≤ last)
+  pub each : (depart rank : ℕ) → IsPosted board depart rank → from ≤ depart → depart ≤ to → (first ≤ depart) × (depart ≤ last)
 
 -- ---- the bounds of rides and stations
 
--- for each run and each of its stops a bound of what leaves there: 0 where nothing is known
-abbrev pub bound_in : List (List ℕ) → ℕ → ℕ → ℕ
-bound_in rides run stop = slice_index_or (slice_index_or rides run []) stop 0
+abbrev pub unknown : FirstTwo
+unknown = record { first = 0; second = 0 }
 
--- the departures of the station that lead to the destination, by the bounds of their rides
-abbrev pub IsBoardOf : RunsView → List (List ℕ) → ℕ → List Useful → Type 0
+-- for each number of a stop and each run which two come first by what leaves there
+abbrev pub firsts_in : List (List FirstTwo) → ℕ → ℕ → FirstTwo
+firsts_in rides run stop = slice_index_or (slice_index_or rides stop []) run unknown
+
+-- the departures of the station that lead to the destination, by their rides
+abbrev pub IsBoardOf : RunsView → List (List FirstTwo) → ℕ → List Useful → Type 0
 IsBoardOf r rides station board = (run stop : ℕ) → stop + 1 < length (stops_of r run) → (stop_at (stops_of r run) stop).station.0 ≡ station
-    → (stop_at (stops_of r run) stop).depart < end_of_windows → (arrival : ℕ) → IsBound (bound_in rides run stop) arrival
-    → IsPosted board (stop_at (stops_of r run) stop).depart arrival
+    → (stop_at (stops_of r run) stop).depart < end_of_windows → (rank : ℕ) → Precede (firsts_in rides run stop) rank
+    → IsPosted board (stop_at (stops_of r run) stop).depart rank
 
-abbrev pub AreBoards : RunsView → List (List ℕ) → List (List Useful) → Type 0
+abbrev pub AreBoards : RunsView → List (List FirstTwo) → List (List Useful) → Type 0
 AreBoards r rides boards = (n : ℕ) (none : List Useful) → n < length boards → IsBoardOf r rides n (slice_index_or boards n none)
 
--- what leaves with the run and goes on with so many changes to the destination arrives no earlier than the row says of the stop
-abbrev pub IsRow : RunsView → TripWish → ℕ → ℕ → List ℕ → Type 0
-IsRow r w changes run row = (s : Segment) (rest : List Segment) → s.run.0 ≡ run → length rest ≡ changes → LeadsTo r w s rest
-    → IsBound (slice_index_or row s.span.from 0) (arrival_of r s rest)
+-- the two precede what takes the run at the stop, and goes on with so many changes to the destination
+abbrev pub FirstsOfRide : RunsView → TripWish → RanksView → ℕ → ℕ → ℕ → FirstTwo → Type 0
+FirstsOfRide r w v changes run stop two = (s : Segment) (rest : List Segment) → s.run.0 ≡ run → s.span.from ≡ stop → length rest ≡ changes → LeadsTo r w s rest
+    → Precede two (rank_of v s rest)
 
-abbrev pub AreRides : RunsView → TripWish → ℕ → List (List ℕ) → Type 0
-AreRides r w changes rides = (n : ℕ) (none : List ℕ) → n < length rides → IsRow r w changes n (slice_index_or rides n none)
+abbrev pub AreRides : RunsView → TripWish → RanksView → ℕ → List (List FirstTwo) → Type 0
+AreRides r w v changes rides = (run stop : ℕ) → FirstsOfRide r w v changes run stop (firsts_in rides run stop)
 
 -- the bounds with one number of changes: of each ride, and of each station's departures
 pub record ReachView : Type 0 where
-  pub rides : List (List ℕ)
+  pub rides : List (List FirstTwo)
   pub boards : List (List Useful)
 
-pub record IsReach (r : RunsView) (w : TripWish) (changes : ℕ) (reach : ReachView) : Type 0 where
-  pub rides : AreRides r w changes reach.rides
+pub record IsReach (r : RunsView) (w : TripWish) (v : RanksView) (changes : ℕ) (reach : ReachView) : Type 0 where
+  pub ranks : AreRanks r w v
+  pub rides : AreRides r w v changes reach.rides
   pub boards : AreBoards r reach.rides reach.boards
 
 -- those without a change, with one, and so on
-abbrev pub AreBounds : RunsView → TripWish → List ReachView → Type 0
-AreBounds r w levels = (n : ℕ) (none : ReachView) → n < length levels → IsReach r w n (slice_index_or levels n none)
+pub record BoundsView : Type 0 where
+  pub ranks : RanksView
+  pub levels : List ReachView
 
--- what gets off at a stop of a run, and goes on with so many changes to the destination, arrives no earlier than the run's row says there
-abbrev pub AreExits : RunsView → TripWish → ℕ → List (List ℕ) → Type 0
-AreExits r w changes rows = (s : Segment) (rest : List Segment) → length rest ≡ changes → LeadsTo r w s rest → IsBound (bound_in rows s.run.0 s.span.to) (arrival_of r s rest)
+abbrev pub AreBounds : RunsView → TripWish → BoundsView → Type 0
+AreBounds r w b = (n : ℕ) (none : ReachView) → n < length b.levels → IsReach r w b.ranks n (slice_index_or b.levels n none)
 
--- the row with another bound at the stop, where it has that stop
-abbrev pub IsPut : List ℕ → ℕ → ℕ → List ℕ → Type 0
-IsPut old stop bound new = (k : ℕ) → (slice_index_or new k 0 ≡ slice_index_or old k 0) ⊎ ((k ≡ stop) × (slice_index_or new k 0 ≡ bound))
+-- rides of which nothing is known
+abbrev pub AreUnknown : List (List FirstTwo) → Type 0
+AreUnknown rides = (run stop : ℕ) → firsts_in rides run stop ≡ unknown
 
--- rows without a bound
-abbrev pub AreUnknown : List (List ℕ) → Type 0
-AreUnknown rows = (run stop : ℕ) → bound_in rows run stop ≡ 0
+-- the column with other two for the run, where it has that run
+abbrev pub IsPut : List FirstTwo → ℕ → FirstTwo → List FirstTwo → Type 0
+IsPut old run two new = (k : ℕ) → (slice_index_or new k unknown ≡ slice_index_or old k unknown) ⊎ ((k ≡ run) × (slice_index_or new k unknown ≡ two))
 
--- a row of what takes a run of so many stops, by the row of what gets off it
-abbrev pub IsFolded : ℕ → List ℕ → List ℕ → Type 0
-IsFolded stops exits row = (from to arrival : ℕ) → from < to → to < stops → IsBound (slice_index_or exits to 0) arrival → IsBound (slice_index_or row from 0) arrival
-
--- what takes the run at the stop, and goes on with so many changes to the destination, arrives no earlier
-abbrev pub BoundsRide : RunsView → TripWish → ℕ → ℕ → ℕ → ℕ → Type 0
-BoundsRide r w changes run stop bound = (s : Segment) (rest : List Segment) → s.run.0 ≡ run → s.span.from ≡ stop → length rest ≡ changes → LeadsTo r w s rest
-    → IsBound bound (arrival_of r s rest)
+-- what takes the run at the stop after the way, and goes on with so many changes and a last run that the way doesn't have, arrives no earlier
+abbrev pub BoundsRide : RunsView → TripWish → ℕ → List Segment → ℕ → ℕ → ℕ → Type 0
+BoundsRide r w changes way run stop bound = (s : Segment) (rest : List Segment) → s.run.0 ≡ run → s.span.from ≡ stop → length rest ≡ changes → LeadsTo r w s rest
+    → has_run way (end_of s rest).run.0 ≡ false → IsBound bound (arrival_of r s rest)
 
 -- likewise what leaves the station within the window
-abbrev pub BoundsLeaving : RunsView → TripWish → ℕ → StationNo → ℕ → ℕ → ℕ → Type 0
-BoundsLeaving r w changes station from to bound = (s : Segment) (rest : List Segment) → length rest ≡ changes → LeadsTo r w s rest
-    → leaves station from to (first_stop r s) ≡ true → IsBound bound (arrival_of r s rest)
+abbrev pub BoundsLeaving : RunsView → TripWish → ℕ → List Segment → StationNo → ℕ → ℕ → ℕ → Type 0
+BoundsLeaving r w changes way station from to bound = (s : Segment) (rest : List Segment) → length rest ≡ changes → LeadsTo r w s rest
+    → leaves station from to (first_stop r s) ≡ true → has_run way (end_of s rest).run.0 ≡ false → IsBound bound (arrival_of r s rest)
+
+-- the two precede it
+abbrev pub FirstsLeaving : RunsView → TripWish → RanksView → ℕ → StationNo → ℕ → ℕ → FirstTwo → Type 0
+FirstsLeaving r w v changes station from to two = (s : Segment) (rest : List Segment) → length rest ≡ changes → LeadsTo r w s rest
+    → leaves station from to (first_stop r s) ≡ true → Precede two (rank_of v s rest)
 
 -- it leaves from the first moment to the last
 abbrev pub NarrowsLeaving : RunsView → TripWish → ℕ → StationNo → ℕ → ℕ → ℕ → ℕ → Type 0
 NarrowsLeaving r w changes station from to first last = (s : Segment) (rest : List Segment) → length rest ≡ changes → LeadsTo r w s rest
     → leaves station from to (first_stop r s) ≡ true → leaves station first last (first_stop r s) ≡ true
 
--- likewise what gets off at the stop
-abbrev pub BoundsStop : RunsView → TripWish → ℕ → Stop → ℕ → Type 0
-BoundsStop r w changes stop bound = (s : Segment) (rest : List Segment) → last_stop r s ≡ stop → length rest ≡ changes → LeadsTo r w s rest
-    → IsBound bound (arrival_of r s rest)
+-- the two precede what gets off the run at the stop, and goes on with so many changes to the destination
+abbrev pub FirstsOfStop : RunsView → TripWish → RanksView → ℕ → ℕ → ℕ → FirstTwo → Type 0
+FirstsOfStop r w v changes run stop two = (s : Segment) (rest : List Segment) → s.run.0 ≡ run → s.span.to ≡ stop → length rest ≡ changes → LeadsTo r w s rest
+    → Precede two (rank_of v s rest)

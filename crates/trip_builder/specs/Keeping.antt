@@ -11,7 +11,6 @@ use Rattle.trip_builder.specs.Best.{AreBest}
 use Rattle.trip_builder.specs.Search.{AllArriveBefore}
 use Rattle.trip_builder.specs.Bounds.{never, AreBounds}
 use Rattle.trip_builder.specs.Ends.{AreEnds}
-use Rattle.trip_builder.specs.Soles.{AreSoles}
 
 -- the last of sixteen trips
 abbrev pub sixteenth : List (List Segment) → List Segment
@@ -29,7 +28,6 @@ pub record IsSearch (r : RunsView) (w : TripWish) (found : Found) : Type 0 where
   pub kept : IsKept r w found.best
   pub ends : AreEnds r w found.ends
   pub bounds : AreBounds r w found.bounds
-  pub soles : AreSoles r w found.soles
 
 -- ---- what can't come among the best
 

@@ -5,5 +5,4 @@ pub mod Search
 pub mod Best
 pub mod Bounds
 pub mod Ends
-pub mod Soles
 pub mod Keeping

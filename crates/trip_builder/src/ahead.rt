@@ -5,12 +5,12 @@ ghost use Rattle.trip_builder.specs.Search.{IsWay, Grows};
 ghost use Rattle.trip_builder.specs.Keeping.{IsSearch};
 ghost use Rattle.trip_builder.specs.Bounds.{never};
 
-use crate::board::NEVER;
 use crate::bounds::Bounds;
 use crate::chain::{are_connected, has_run};
 use crate::departures::{admits, leaving, stop_of, stops_of, window_of};
 use crate::ends::End;
 use crate::found::{Found, is_hopeless, longer, may_lead};
+use crate::ranks::NEVER;
 use crate::search::MOST_SEGMENTS;
 use crate::trip::TripWish;
 use offer_codes::Segment;
@@ -58,7 +58,7 @@ fn least_of(departures: &[Departure], bounds: &Bounds, changes: usize, seconds: 
 {
     let mut least = NEVER;
     for departure in departures {
-        let bound = bounds.of_ride(changes, departure);
+        let bound = bounds.of_ride(changes, departure, &[]);
         if seconds < bound && bound < least {
             least = bound;
         }
@@ -134,7 +134,7 @@ fn look_with(
     ensures grows { OnOk result (Grows runs.now wish.now found.old.best.trips.items found.new.best.trips.items) }
 {
     for departure in departures {
-        if is_in_time(found, changes, departure)
+        if is_in_time(found, &[], changes, departure)
             && may_lead(runs, wish, &[], departure, changes, found)
         {
             take(runs, wish, &[], departure, changes, found)?;
@@ -144,8 +144,8 @@ fn look_with(
 }
 
 // Whether what takes the train could arrive by the ceiling.
-fn is_in_time(found: &Found, changes: usize, departure: &Departure) -> bool {
-    found.bounds.of_ride(changes, departure) <= found.ceiling
+fn is_in_time(found: &Found, way: &[Segment], changes: usize, departure: &Departure) -> bool {
+    found.bounds.of_ride(changes, departure, way) <= found.ceiling
 }
 
 // Tries what goes on from the way with this train.
@@ -196,7 +196,7 @@ fn reach(
     ensures grows { OnOk result (Grows runs.now wish.now found.old.best.trips.items found.new.best.trips.items) }
 {
     let window = window_of(runs, wish, way);
-    let bound = found.bounds.of_leaving(trains - 1, &window);
+    let bound = found.bounds.of_leaving(trains - 1, &window, way);
     if bound > found.ceiling || is_hopeless(runs, found, bound, way, trains) {
         return Ok(());
     }
@@ -253,7 +253,7 @@ fn next_train(
     for departure in departures {
         if run <= departure.run.0
             && is_lower(departure.run, &next)
-            && is_in_time(found, changes, departure)
+            && is_in_time(found, way, changes, departure)
             && !has_run(way, departure.run)
         {
             next = Some(*departure);

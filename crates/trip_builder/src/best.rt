@@ -8,9 +8,9 @@ ghost use Rattle.trip_builder.specs.Search.{IsWay, Grows, AllArriveBy, AllArrive
 ghost use Rattle.trip_builder.specs.Order.{sorted_in, last_arrival};
 ghost use Rattle.trip_builder.specs.Keeping.{IsKept, IsLimit, IsOutdone, BeginsBehind};
 
-use crate::board::NEVER;
 use crate::departures::{first_stop_of, last_stop_of};
 use crate::order::{exceeds, is_same_trip, place_among};
+use crate::ranks::NEVER;
 use crate::trip::{Trip, TripWish};
 use offer_codes::Segment;
 use std::alloc::{AllocError, Global};

@@ -1,21 +1,20 @@
-ghost use Rattle.std.specs.Prelude.{◌≡◌, ◌≤◌, ◌<◌, ◌+◌, ◌^◌, ℕ, true, [], length, All, OnOk};
+ghost use Rattle.std.specs.Prelude.{◌≡◌, ◌≤◌, ◌<◌, ◌+◌, ◌^◌, ℕ, true, [], length, All, OnOk, slice_index_or};
+ghost use Rattle.trip_builder.specs.declared.board.Useful.{Useful};
 ghost use Rattle.std.specs.List.{AllWithin};
-ghost use Rattle.trip_builder.specs.Bounds.{IsBound, Rises, HasPosted, Follows, IsNoted, IsPosted, BoundsWindow, NarrowsWindow, never};
+ghost use Rattle.trip_builder.specs.Bounds.{Precede, Rises, HasPosted, Follows, IsNoted, IsPosted, BoundsWindow, NarrowsWindow};
 
+use crate::ranks::{FirstTwo, NONE, UNKNOWN, join, later};
 use std::alloc::{AllocError, Global};
 use std::marker::Model;
 
-/// Later than each arrival.
-pub(crate) const NEVER: u64 = u64::MAX;
-
-/// A departure that leads to the destination, and the earliest arrivals of its block: of those that leave no earlier
-/// (`onward`), and of those that leave no later.
+/// A departure that leads to the destination, and the first two that come there from its block: by those that leave no
+/// earlier (`onward`), and by those that leave no later.
 #[derive(Clone, Copy)]
 pub(crate) struct Useful {
-    moment: u64,
-    block: u64,
-    onward: u64,
-    so_far: u64,
+    moment: u32,
+    block: u32,
+    onward: FirstTwo,
+    so_far: FirstTwo,
 }
 
 /// From when to when something leaves, both included.
@@ -62,16 +61,24 @@ impl Board {
         }
     }
 
+    /// Takes the memory for so many departures more. It changes nothing else.
+    pub(crate) fn reserve(&mut self, count: usize) -> Result<(), AllocError>
+        ensures { self.new ≡ self.old }
+    {
+        self.useful.reserve(count)?;
+        Ok(())
+    }
+
     /// Puts a departure behind those that leave no later. What leaves later than it is told to it by `finish`.
-    pub(crate) fn post(&mut self, moment: u64, least: u64) -> Result<(), AllocError>
+    pub(crate) fn post(&mut self, moment: u32, least: FirstTwo) -> Result<(), AllocError>
         requires later { All (λ u. u.moment ≤ moment) self.old }
         ensures { OnOk result (HasPosted self.old moment least self.new) }
     {
-        let opens = moment >= self.end;
+        let opens = u64::from(moment) >= self.end;
         let useful = following(self.useful.as_slice(), opens, moment, least);
         self.useful.push(useful)?;
         self.end = if opens {
-            moment.saturating_add(self.seconds)
+            u64::from(moment).saturating_add(self.seconds)
         } else {
             self.end
         };
@@ -80,7 +87,7 @@ impl Board {
 
     /// Lets each departure know of those of its block that leave no earlier.
     pub(crate) fn finish(&mut self)
-        ensures { (depart arrival : ℕ) → IsNoted self.old depart arrival → IsPosted self.new depart arrival }
+        ensures { (depart rank : ℕ) → IsNoted self.old depart rank → IsPosted self.new depart rank }
     {
         let count = self.useful.len();
         for back in 1..count {
@@ -114,14 +121,14 @@ impl Board {
         let earliest = useful[first];
         let latest = useful[past - 1];
         Part {
-            from: earliest.moment,
-            to: latest.moment,
+            from: u64::from(earliest.moment),
+            to: u64::from(latest.moment),
         }
     }
 
-    /// A bound of the arrivals of what leaves from the one second to the other, both included: the earliest of them,
-    /// where the window is as long as a block.
-    pub(crate) fn least(&self, from: u64, to: u64) -> u64
+    /// The first two by what leaves from the one second to the other, both included, where the window is as long as a
+    /// block; else two that precede them.
+    pub(crate) fn firsts(&self, from: u64, to: u64) -> FirstTwo
         requires end { to < 2 ^ 63 }
         ensures { BoundsWindow self.now from to result }
     {
@@ -129,22 +136,22 @@ impl Board {
         let first = self.hints.count_before(useful, from);
         let count = self.hints.count_before(useful, to + 1);
         if count <= first {
-            return NEVER;
+            return NONE;
         }
         let earliest = useful[first];
         let latest = useful[count - 1];
         if earliest.block == latest.block {
-            return earliest.onward.max(latest.so_far);
+            return later(earliest.onward, latest.so_far);
         }
         if earliest.block.saturating_add(1) == latest.block {
-            return earliest.onward.min(latest.so_far);
+            return join(earliest.onward, latest.so_far);
         }
-        0
+        UNKNOWN
     }
 }
 
 // The departure as the next one of the board: the first of a block, or one more of the last block.
-fn following(board: &[Useful], opens: bool, moment: u64, least: u64) -> Useful
+fn following(board: &[Useful], opens: bool, moment: u32, least: FirstTwo) -> Useful
     ensures moment { result.moment ≡ moment }
     ensures follows { Follows board.now least result }
 {
@@ -156,9 +163,9 @@ fn following(board: &[Useful], opens: bool, moment: u64, least: u64) -> Useful
             so_far: least,
         };
     };
-    let block = last.block.saturating_add(u64::from(opens));
+    let block = last.block.saturating_add(u32::from(opens));
     let so_far = if block == last.block {
-        least.min(last.so_far)
+        join(least, last.so_far)
     } else {
         least
     };
@@ -175,9 +182,9 @@ fn told(here: Useful, next: Useful) -> Useful
     ensures moment { result.moment ≡ here.moment }
     ensures block { result.block ≡ here.block }
     ensures so_far { result.so_far ≡ here.so_far }
-    ensures own { (arrival : ℕ) → IsBound here.onward arrival → IsBound result.onward arrival }
-    ensures told { (arrival : ℕ) → here.block ≡ next.block → IsBound next.onward arrival
-        → IsBound result.onward arrival }
+    ensures own { (rank : ℕ) → Precede here.onward rank → Precede result.onward rank }
+    ensures told { (rank : ℕ) → here.block ≡ next.block → Precede next.onward rank
+        → Precede result.onward rank }
 {
     if here.block != next.block {
         return here;
@@ -185,9 +192,17 @@ fn told(here: Useful, next: Useful) -> Useful
     Useful {
         moment: here.moment,
         block: here.block,
-        onward: here.onward.min(next.onward),
+        onward: join(here.onward, next.onward),
         so_far: here.so_far,
     }
+}
+
+// When the departure at this place leaves.
+fn moment_at(useful: &[Useful], place: usize) -> u64
+    requires { place < length useful.now }
+    ensures { (none : Useful) → result ≡ (slice_index_or useful.now place none).moment }
+{
+    u64::from(useful[place].moment)
 }
 
 // Whether so many of the departures leave before these seconds.
@@ -200,10 +215,10 @@ fn are_before(useful: &[Useful], count: usize, seconds: u64) -> bool
     if count > useful.len() {
         return false;
     }
-    if count > 0 && useful[count - 1].moment >= seconds {
+    if count > 0 && moment_at(useful, count - 1) >= seconds {
         return false;
     }
-    count == useful.len() || seconds <= useful[count].moment
+    count == useful.len() || seconds <= moment_at(useful, count)
 }
 
 // How many of the departures leave before these seconds.
@@ -217,7 +232,7 @@ fn count_before(useful: &[Useful], seconds: u64) -> usize
     let mut size = useful.len();
     'halves: while size > 0 {
         let half = size / 2;
-        if useful[first + half].moment < seconds {
+        if moment_at(useful, first + half) < seconds {
             first += size - half;
         }
         size = half;
@@ -231,7 +246,7 @@ fn count_before(useful: &[Useful], seconds: u64) -> usize
 struct Hints {
     first: u64,
     shift: u32,
-    places: Vec<u32>,
+    places: Vec<u16>,
 }
 
 // How many places a hint is followed by at most.
@@ -247,20 +262,20 @@ impl Hints {
         }
     }
 
-    // About two parts for each departure.
+    // About one part for each departure.
     fn of(alloc: Global, useful: &[Useful]) -> Result<Hints, AllocError> {
         if useful.is_empty() {
             return Ok(Hints::none(alloc));
         }
-        let first = useful[0].moment;
-        let span = useful[useful.len() - 1].moment.saturating_sub(first);
+        let first = moment_at(useful, 0);
+        let span = moment_at(useful, useful.len() - 1).saturating_sub(first);
         let each = span / useful.len() as u64;
-        let shift = 63u32.saturating_sub(each.leading_zeros());
+        let shift = 64u32.saturating_sub(each.leading_zeros()).min(63);
         let parts = (span >> shift) as usize;
         let mut hints = Hints {
             first,
             shift,
-            places: Vec::from_elem(alloc, u32::MAX, parts.saturating_add(1))?,
+            places: Vec::from_elem(alloc, u16::MAX, parts.saturating_add(1))?,
         };
         hints.place_all(useful);
         hints.fill();
@@ -271,16 +286,16 @@ impl Hints {
     fn place_all(&mut self, useful: &[Useful]) {
         for back in 0..useful.len() {
             let place = useful.len() - 1 - back;
-            let part = self.part_of(useful[place].moment);
+            let part = self.part_of(moment_at(useful, place));
             if part < self.places.len() {
-                self.places[part] = (place % 4_294_967_296) as u32;
+                self.places[part] = (place % 65_536) as u16;
             }
         }
     }
 
     // Those of the parts that have none.
     fn fill(&mut self) {
-        let mut next = u32::MAX;
+        let mut next = u16::MAX;
         let count = self.places.len();
         for back in 0..count {
             let part = count - 1 - back;
@@ -315,7 +330,7 @@ impl Hints {
         let hint = *place as usize;
         let end = useful.len().min(hint + MOST_STEPS);
         for place in hint..end {
-            if useful[place].moment >= seconds {
+            if moment_at(useful, place) >= seconds {
                 return place;
             }
         }

@@ -1,16 +1,19 @@
-ghost use Rattle.std.specs.Prelude.{◌≡◌, ◌<◌, ◌≤◌, ◌^◌, [], length, IfOk, slice_index_or};
-ghost use Rattle.trip_builder.specs.Segments.{stops_of as stops_of_run};
+ghost use Rattle.std.specs.Prelude.{◌≡◌, ◌<◌, ◌≤◌, ◌^◌, ℕ, [], length, IfOk, OnOk, slice_index_or};
 ghost use Rattle.train_runs.specs.Runs.{RunsView};
 ghost use Rattle.trip_builder.specs.declared.trip.TripWish.{TripWish};
-ghost use Rattle.trip_builder.specs.Bounds.{AreRides, AreExits, AreUnknown, IsPut, IsFolded, IsBoardOf, AreBoards, AreBounds, BoundsRide, BoundsLeaving, NarrowsLeaving, BoundsStop, bound_in};
+ghost use Rattle.trip_builder.specs.Bounds.{RanksView, AreRanks, AreRides, AreUnknown, IsPut, IsBoardOf, AreBoards, AreBounds, BoundsRide, BoundsLeaving, NarrowsLeaving, FirstsOfRide, FirstsOfStop, FirstsLeaving, firsts_in, unknown};
+ghost use Rattle.trip_builder.specs.Ends.{AreEnds};
 
-use crate::board::{Board, NEVER};
-use crate::departures::{Window, admits, leaving, stop_of, stops_of, window_at};
+use crate::board::Board;
+use crate::departures::{Window, leaving, stop_of, stops_of, window_at, window_of};
+use crate::ends::Ends;
+use crate::ranks::{FirstTwo, NO_RANK, NONE, Ranks, UNKNOWN, join};
 use crate::trip::TripWish;
+use offer_codes::Segment;
 use rail_ids::{RunNo, StationNo};
 use std::alloc::{AllocError, Global};
 use std::marker::Model;
-use train_runs::{Departure, Runs, Stop};
+use train_runs::{Departure, Runs};
 
 /// With fewer changes than this there are bounds.
 const BOUNDED_CHANGES: usize = 3;
@@ -21,41 +24,37 @@ const LAST_SECOND: u64 = 9_223_372_036_854_775_807;
 /// The seconds of a change's window, both ends included, where a change takes no time.
 const LONGEST_WINDOW: u64 = 14_401;
 
-/// For each stop of a run, a bound of the arrivals of what takes it there, or of what gets off there. It is empty where
-/// nothing is known.
+/// For one number of a stop and each run, the first two that come to the destination by what takes the run there.
 #[derive(Drop)]
-struct Row {
-    least: Vec<u64>,
+struct Column {
+    firsts: Vec<FirstTwo>,
 }
 
-impl Model for Row {
-    ghost use Rattle.std.specs.Prelude.{List, ℕ};
+impl Model for Column {
+    ghost use Rattle.std.specs.Prelude.{List};
+    ghost use Rattle.trip_builder.specs.declared.ranks.FirstTwo.{FirstTwo};
 
-    ghost Value = { List ℕ };
+    ghost Value = { List FirstTwo };
 
-    ghost view = { λ r. r.least.items };
+    ghost view = { λ c. c.firsts.items };
 }
 
-impl Row {
-    fn at(&self, stop: u8) -> u64
-        ensures { result ≡ slice_index_or self.now stop 0 }
+impl Column {
+    fn at(&self, run: RunNo) -> FirstTwo
+        ensures { result ≡ slice_index_or self.now run.0 unknown }
     {
-        match self.least.get(usize::from(stop)) {
-            Some(bound) => *bound,
-            None => 0,
+        match self.firsts.get(run.0 as usize) {
+            Some(two) => *two,
+            None => UNKNOWN,
         }
     }
 
-    fn is_empty(&self) -> bool {
-        self.least.is_empty()
-    }
-
-    fn put(&mut self, stop: u8, bound: u64)
-        ensures { IsPut self.old stop bound self.new }
+    fn put(&mut self, run: RunNo, two: FirstTwo)
+        ensures { IsPut self.old run.0 two self.new }
     {
-        let stop = usize::from(stop);
-        if stop < self.least.len() {
-            self.least[stop] = bound;
+        let place = run.0 as usize;
+        if place < self.firsts.len() {
+            self.firsts[place] = two;
         }
     }
 }
@@ -63,7 +62,7 @@ impl Row {
 /// The bounds with one number of changes.
 #[derive(Drop)]
 struct Reach {
-    rides: Vec<Row>,
+    rides: Vec<Column>,
     boards: Vec<Board>,
 }
 
@@ -78,24 +77,25 @@ impl Model for Reach {
 /// When what goes on from a departure arrives at the destination at the earliest: without a change, with one, with two.
 #[derive(Drop)]
 pub(crate) struct Bounds {
+    ranks: Ranks,
     levels: Vec<Reach>,
 }
 
 impl Model for Bounds {
-    ghost use Rattle.std.specs.Prelude.{List};
-    ghost use Rattle.trip_builder.specs.Bounds.{ReachView};
+    ghost use Rattle.trip_builder.specs.Bounds.{BoundsView};
 
-    ghost Value = { List ReachView };
+    ghost Value = { BoundsView };
 
-    ghost view = { λ b. b.levels.items };
+    ghost view = { λ b. record { ranks = b.ranks; levels = b.levels.items } };
 }
 
 impl Bounds {
     /// Nothing is known. Takes no memory.
     pub(crate) fn unknown(alloc: Global) -> Bounds
-        ensures { result ≡ [] }
+        ensures { result.levels ≡ [] }
     {
         Bounds {
+            ranks: Ranks::unknown(alloc),
             levels: Vec::new(alloc),
         }
     }
@@ -107,47 +107,90 @@ impl Bounds {
 
     // How many numbers of changes there are bounds for.
     fn count(&self) -> usize
-        ensures { result ≡ length self.now }
+        ensures { result ≡ length self.now.levels }
     {
         self.levels.len()
     }
 
     /// The bounds of all departures.
-    pub(crate) fn of(alloc: Global, runs: &Runs, wish: &TripWish) -> Result<Bounds, AllocError>
-        ensures { IfOk result (AreBounds runs.now wish.now) }
+    pub(crate) fn of(
+        alloc: Global,
+        runs: &Runs,
+        wish: &TripWish,
+        ends: &mut Ends,
+    ) -> Result<Bounds, AllocError>
+        requires { AreEnds runs.now wish.now ends.old }
+        ensures ends { AreEnds runs.now wish.now ends.new }
+        ensures bounds { IfOk result (AreBounds runs.now wish.now) }
     {
-        let mut bounds = Bounds::unknown(alloc);
-        for changes in 0..BOUNDED_CHANGES {
-            let rides = rides_of(alloc, runs, wish, &bounds)?;
-            let boards = boards_of(alloc, runs, rides.as_slice(), changes)?;
-            bounds.levels.push(Reach { rides, boards })?;
+        let ranks = Ranks::of(alloc, runs, wish, ends)?;
+        let right = ranks.are_right(runs, wish, ends);
+        let mut bounds = Bounds {
+            ranks,
+            levels: Vec::new(alloc),
+        };
+        if right {
+            bounds.add_levels(runs, wish)?;
         }
         Ok(bounds)
     }
 
-    /// A bound of the arrivals of what takes this train and changes so often.
-    pub(crate) fn of_ride(&self, changes: usize, departure: &Departure) -> u64
-        ensures { (r : RunsView) (w : TripWish) → AreBounds r w self.now
-            → BoundsRide r w changes departure.now.run.0 departure.now.stop result }
+    // Adds those with each number of changes.
+    fn add_levels(&mut self, runs: &Runs, wish: &TripWish) -> Result<(), AllocError>
+        requires ranks { AreRanks runs.now wish.now self.old.ranks }
+        requires none { self.old.levels ≡ [] }
+        ensures { OnOk result (AreBounds runs.now wish.now self.new) }
     {
-        match self.levels.get(changes) {
-            Some(reach) => bound_of(reach.rides.as_slice(), departure.run, departure.stop),
-            None => 0,
+        let alloc = *self.levels.allocator();
+        for changes in 0..BOUNDED_CHANGES {
+            let rides = rides_of(alloc, runs, wish, self)?;
+            let boards = boards_of(alloc, runs, rides.as_slice(), changes)?;
+            self.levels.push(Reach { rides, boards })?;
         }
+        Ok(())
     }
 
-    /// A bound of the arrivals of what leaves within the window and changes so often.
-    pub(crate) fn of_leaving(&self, changes: usize, window: &Window) -> u64
+    /// A bound of the arrivals of what takes this train after the way and changes so often.
+    pub(crate) fn of_ride(&self, changes: usize, departure: &Departure, way: &[Segment]) -> u64
+        ensures { (r : RunsView) (w : TripWish) → AreBounds r w self.now
+            → BoundsRide r w changes way.now departure.now.run.0 departure.now.stop result }
+    {
+        let Some(reach) = self.levels.get(changes) else {
+            return 0;
+        };
+        let two = firsts_of(reach.rides.as_slice(), departure.run, departure.stop);
+        self.ranks.arrival(two, way)
+    }
+
+    /// A bound of the arrivals of what leaves within the window after the way and changes so often.
+    pub(crate) fn of_leaving(&self, changes: usize, window: &Window, way: &[Segment]) -> u64
         requires end { window.now.to < 2 ^ 63 }
         ensures { (r : RunsView) (w : TripWish) → AreBounds r w self.now
-            → BoundsLeaving r w changes window.now.station window.now.from window.now.to result }
+            → BoundsLeaving r w changes way.now window.now.station window.now.from window.now.to result }
     {
         let Some(reach) = self.levels.get(changes) else {
             return 0;
         };
         match reach.boards.get(window.station.0 as usize) {
-            Some(board) => board.least(window.from, window.to),
+            Some(board) => self
+                .ranks
+                .arrival(board.firsts(window.from, window.to), way),
             None => 0,
+        }
+    }
+
+    // The first two by what leaves within the window and changes so often.
+    fn firsts_leaving(&self, changes: usize, window: &Window) -> FirstTwo
+        requires end { window.now.to < 2 ^ 63 }
+        ensures { (r : RunsView) (w : TripWish) → AreRanks r w self.now.ranks → AreBounds r w self.now
+            → FirstsLeaving r w self.now.ranks changes window.now.station window.now.from window.now.to result }
+    {
+        let Some(reach) = self.levels.get(changes) else {
+            return UNKNOWN;
+        };
+        match reach.boards.get(window.station.0 as usize) {
+            Some(board) => board.firsts(window.from, window.to),
+            None => UNKNOWN,
         }
     }
 
@@ -175,160 +218,144 @@ impl Bounds {
     }
 }
 
-// The bound of the run at the stop.
-fn bound_of(rides: &[Row], run: RunNo, stop: u8) -> u64
-    ensures { result ≡ bound_in rides.now run.0 stop }
+// The first two of the run at the stop.
+fn firsts_of(rides: &[Column], run: RunNo, stop: u8) -> FirstTwo
+    ensures { result ≡ firsts_in rides.now run.0 stop }
 {
-    match rides.get(run.0 as usize) {
-        Some(row) => row.at(stop),
-        None => 0,
+    match rides.get(usize::from(stop)) {
+        Some(column) => column.at(run),
+        None => UNKNOWN,
     }
 }
 
-// The bounds of all rides with one change more.
+// Those of all rides with one change more: with the most changes, of the runs that leave the origin.
 fn rides_of(
     alloc: Global,
     runs: &Runs,
     wish: &TripWish,
     bounds: &Bounds,
-) -> Result<Vec<Row>, AllocError>
+) -> Result<Vec<Column>, AllocError>
+    requires ranks { AreRanks runs.now wish.now bounds.now.ranks }
     requires bounds { AreBounds runs.now wish.now bounds.now }
-    ensures { IfOk result (λ v. AreRides runs.now wish.now (length bounds.now) v.items) }
+    ensures { IfOk result (λ v. AreRides runs.now wish.now bounds.now.ranks (length bounds.now.levels) v.items) }
 {
-    let exits = exits_of(alloc, runs, wish, bounds)?;
+    if bounds.count() < BOUNDED_CHANGES - 1 {
+        let mut rides = unknown_rides(alloc, runs, most_stops_of(runs))?;
+        bound_all(runs, wish, bounds, rides.as_mut_slice());
+        return Ok(rides);
+    }
+    let firsts = leaving(runs, window_of(runs, wish, &[]));
+    let mut rides = unknown_rides(alloc, runs, past_stops_of(firsts))?;
+    bound_each(runs, wish, bounds, firsts, rides.as_mut_slice());
+    Ok(rides)
+}
+
+// Nothing is known of the rides from the first so many stops of each run.
+fn unknown_rides(alloc: Global, runs: &Runs, stops: usize) -> Result<Vec<Column>, AllocError>
+    ensures { IfOk result (λ v. AreUnknown v.items) }
+{
     let mut rides = Vec::new(alloc);
-    for run in 0..runs.count() {
-        rides.push(row_of(alloc, runs, exits.as_slice(), RunNo(run))?)?;
+    for _ in 0..stops {
+        let firsts = Vec::from_elem(alloc, UNKNOWN, runs.count() as usize)?;
+        rides.push(Column { firsts })?;
     }
     Ok(rides)
 }
 
-// The least bound of the stops further on, for each stop of the run.
-fn row_of(alloc: Global, runs: &Runs, exits: &[Row], run: RunNo) -> Result<Row, AllocError>
-    ensures { IfOk result
-        (IsFolded (length (stops_of_run runs.now run.0)) (slice_index_or exits.now run.0 [])) }
+// How many stops a run has at most.
+fn most_stops_of(runs: &Runs) -> usize {
+    let mut most = 0;
+    for run in 0..runs.count() {
+        most = most.max(stops_of(runs, RunNo(run)).len());
+    }
+    most
+}
+
+// The first number of a stop that comes after those of these departures.
+fn past_stops_of(departures: &[Departure]) -> usize {
+    let mut past = 0;
+    for departure in departures {
+        past = past.max(usize::from(departure.stop) + 1);
+    }
+    past
+}
+
+// Bounds the rides of all runs.
+fn bound_all(runs: &Runs, wish: &TripWish, bounds: &Bounds, rides: &mut [Column])
+    requires ranks { AreRanks runs.now wish.now bounds.now.ranks }
+    requires bounds { AreBounds runs.now wish.now bounds.now }
+    requires rides { AreRides runs.now wish.now bounds.now.ranks (length bounds.now.levels) rides.old }
+    ensures { AreRides runs.now wish.now bounds.now.ranks (length bounds.now.levels) rides.new }
 {
-    let count = stops_of(runs, run).len();
-    let mut row = Vec::from_elem(alloc, NEVER, count)?;
-    let mut least = NEVER;
+    for run in 0..runs.count() {
+        bound_run(runs, wish, bounds, RunNo(run), rides);
+    }
+}
+
+// Bounds the rides of the runs of these departures.
+fn bound_each(
+    runs: &Runs,
+    wish: &TripWish,
+    bounds: &Bounds,
+    departures: &[Departure],
+    rides: &mut [Column],
+)
+    requires ranks { AreRanks runs.now wish.now bounds.now.ranks }
+    requires bounds { AreBounds runs.now wish.now bounds.now }
+    requires rides { AreRides runs.now wish.now bounds.now.ranks (length bounds.now.levels) rides.old }
+    ensures { AreRides runs.now wish.now bounds.now.ranks (length bounds.now.levels) rides.new }
+{
+    for departure in departures {
+        bound_run(runs, wish, bounds, departure.run, rides);
+    }
+}
+
+// For each stop of the run, the first two by what gets off further on. A run's stops stand together, and what is asked
+// of a station's board is few numbers.
+fn bound_run(runs: &Runs, wish: &TripWish, bounds: &Bounds, run: RunNo, rides: &mut [Column])
+    requires ranks { AreRanks runs.now wish.now bounds.now.ranks }
+    requires bounds { AreBounds runs.now wish.now bounds.now }
+    requires rides { AreRides runs.now wish.now bounds.now.ranks (length bounds.now.levels) rides.old }
+    ensures { AreRides runs.now wish.now bounds.now.ranks (length bounds.now.levels) rides.new }
+{
+    let stops = stops_of(runs, run);
+    let count = stops.len();
+    let mut firsts = NONE;
     for back in 0..count {
         let stop = count - 1 - back;
-        row[stop] = least;
-        least = least.min(bound_of(exits, run, stop as u8));
+        put(rides, stop, run, firsts);
+        firsts = join(firsts, firsts_at(runs, wish, bounds, run, stop as u8));
     }
-    Ok(Row { least: row })
 }
 
-// The bounds of what gets off at each stop with one change more. They are made run by run, since a run's stops stand
-// together; what is asked of a station's board is few numbers.
-fn exits_of(
-    alloc: Global,
-    runs: &Runs,
-    wish: &TripWish,
-    bounds: &Bounds,
-) -> Result<Vec<Row>, AllocError>
-    requires bounds { AreBounds runs.now wish.now bounds.now }
-    ensures { IfOk result (λ v. AreExits runs.now wish.now (length bounds.now) v.items) }
+// Notes the first two of the run at the stop.
+fn put(rides: &mut [Column], stop: usize, run: RunNo, firsts: FirstTwo)
+    ensures { (r : RunsView) (w : TripWish) (v : RanksView) (changes : ℕ) → AreRides r w v changes rides.old
+        → FirstsOfRide r w v changes run.0 stop firsts → AreRides r w v changes rides.new }
 {
-    let mut exits = unknown_rows(alloc, runs, wish, bounds)?;
-    for run in 0..runs.count() {
-        bound_run(runs, wish, bounds, RunNo(run), exits.as_mut_slice());
+    if stop < rides.len() {
+        rides[stop].put(run, firsts);
     }
-    Ok(exits)
 }
 
-// Rows without a bound, for the runs that are asked about: with the most changes, those that leave the origin.
-fn unknown_rows(
-    alloc: Global,
-    runs: &Runs,
-    wish: &TripWish,
-    bounds: &Bounds,
-) -> Result<Vec<Row>, AllocError>
-    ensures { IfOk result (λ v. AreUnknown v.items) }
-{
-    let all = bounds.count() < BOUNDED_CHANGES - 1;
-    let mut rows = Vec::new(alloc);
-    for run in 0..runs.count() {
-        let stops = stops_of(runs, RunNo(run));
-        let count = if all || sets_out(wish, stops) {
-            stops.len()
-        } else {
-            0
-        };
-        let least = Vec::from_elem(alloc, 0, count)?;
-        rows.push(Row { least })?;
-    }
-    Ok(rows)
-}
-
-// Whether one of the stops is left within the wish's window.
-fn sets_out(wish: &TripWish, stops: &[Stop]) -> bool {
-    let window = Window {
-        station: wish.origin,
-        from: wish.earliest.seconds(),
-        to: wish.latest.seconds(),
-    };
-    for stop in stops {
-        if admits(window, stop) {
-            return true;
-        }
-    }
-    false
-}
-
-// Bounds what gets off at each stop of the run.
-fn bound_run(runs: &Runs, wish: &TripWish, bounds: &Bounds, run: RunNo, exits: &mut [Row])
+// The first two of what gets off the run at the stop with one change more.
+fn firsts_at(runs: &Runs, wish: &TripWish, bounds: &Bounds, run: RunNo, stop: u8) -> FirstTwo
+    requires ranks { AreRanks runs.now wish.now bounds.now.ranks }
     requires bounds { AreBounds runs.now wish.now bounds.now }
-    requires exits { AreExits runs.now wish.now (length bounds.now) exits.old }
-    ensures { AreExits runs.now wish.now (length bounds.now) exits.new }
-{
-    let count = stops_of(runs, run).len();
-    for stop in 0..count {
-        bound_stop(runs, wish, bounds, run, stop as u8, exits);
-    }
-}
-
-// Bounds what gets off at the stop.
-fn bound_stop(
-    runs: &Runs,
-    wish: &TripWish,
-    bounds: &Bounds,
-    run: RunNo,
-    stop: u8,
-    exits: &mut [Row],
-)
-    requires bounds { AreBounds runs.now wish.now bounds.now }
-    requires exits { AreExits runs.now wish.now (length bounds.now) exits.old }
-    ensures { AreExits runs.now wish.now (length bounds.now) exits.new }
-{
-    let place = run.0 as usize;
-    if place >= exits.len() || exits[place].is_empty() {
-        return;
-    }
-    let bound = bound_at(runs, wish, bounds, &stop_of(runs, run, stop));
-    exits[place].put(stop, bound);
-}
-
-// A bound of the arrivals of what gets off at the stop with one change more.
-fn bound_at(runs: &Runs, wish: &TripWish, bounds: &Bounds, stop: &Stop) -> u64
-    requires bounds { AreBounds runs.now wish.now bounds.now }
-    ensures { BoundsStop runs.now wish.now (length bounds.now) stop.now result }
+    ensures { FirstsOfStop runs.now wish.now bounds.now.ranks (length bounds.now.levels) run.0 stop result }
 {
     let changes = bounds.count();
     if changes > 0 {
-        return bounds.of_leaving(changes - 1, &window_at(runs, stop));
+        return bounds.firsts_leaving(changes - 1, &window_at(runs, &stop_of(runs, run, stop)));
     }
-    if stop.station.0 == wish.destination.0 {
-        return stop.arrive.seconds();
-    }
-    NEVER
+    bounds.ranks.at(run, stop)
 }
 
 // The departures of each station that lead to the destination: none where no further change is bounded by them.
 fn boards_of(
     alloc: Global,
     runs: &Runs,
-    rides: &[Row],
+    rides: &[Column],
     changes: usize,
 ) -> Result<Vec<Board>, AllocError>
     ensures { IfOk result (λ v. AreBoards runs.now rides.now v.items) }
@@ -349,17 +376,19 @@ fn boards_of(
 fn board_of(
     alloc: Global,
     runs: &Runs,
-    rides: &[Row],
+    rides: &[Column],
     station: StationNo,
 ) -> Result<Board, AllocError>
     ensures { IfOk result (IsBoardOf runs.now rides.now station.0) }
 {
     let change = u64::from(runs.change(station).unwrap_or(0));
+    let departures = leaving(runs, always(station));
     let mut board = Board::new(alloc, LONGEST_WINDOW.saturating_sub(change));
-    for departure in leaving(runs, always(station)) {
-        let bound = bound_of(rides, departure.run, departure.stop);
-        if bound < NEVER {
-            board.post(departure.moment.seconds(), bound)?;
+    board.reserve(departures.len())?;
+    for departure in departures {
+        let two = firsts_of(rides, departure.run, departure.stop);
+        if two.first < NO_RANK {
+            board.post(departure.moment.seconds() as u32, two)?;
         }
     }
     board.finish();

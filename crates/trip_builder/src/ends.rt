@@ -64,8 +64,8 @@ impl Ends {
         }
     }
 
-    // What is known of the run.
-    fn known(&self, run: RunNo) -> End
+    /// What is known of the run.
+    pub(crate) fn known(&self, run: RunNo) -> End
         ensures { (r : RunsView) (w : TripWish) → AreEnds r w self.now → IsEndSoFar r w run.0 result }
     {
         match self.ends.get(run.0 as usize) {

@@ -1,5 +1,7 @@
 ghost use Rattle.train_runs.specs.Stops.{most_stops};
-ghost use Rattle.std.specs.Prelude.{◌≡◌, ◌≤◌, ◌<◌, ◌⊎◌, ◌+◌, ◌++◌, ◌∷◌, [], true, false, length, OnOk, IfSome};
+ghost use Rattle.std.specs.Prelude.{◌≡◌, ◌≤◌, ◌<◌, ◌⊎◌, ◌+◌, ◌++◌, ◌∷◌, [], true, false, List, length, OnOk, IfSome};
+ghost use Rattle.train_runs.specs.Runs.{RunsView};
+ghost use Rattle.offer_codes.specs.declared.code.Segment.{Segment};
 ghost use Rattle.trip_builder.specs.declared.trip.TripWish.{TripWish};
 ghost use Rattle.trip_builder.specs.Segments.{segment};
 ghost use Rattle.trip_builder.specs.Search.{IsWay, MayTake, Grows, AreDecidedFrom, has_run as has_run_of};
@@ -7,12 +9,11 @@ ghost use Rattle.trip_builder.specs.Keeping.{IsSearch, IsOutdone};
 ghost use Rattle.trip_builder.specs.Bounds.{never};
 
 use crate::best::Best;
-use crate::board::NEVER;
 use crate::bounds::Bounds;
 use crate::chain::has_run;
 use crate::departures::stops_of;
 use crate::ends::{End, Ends};
-use crate::soles::Soles;
+use crate::ranks::NEVER;
 use crate::trip::TripWish;
 use arrayvec::ArrayVec;
 use leg_masks::Span;
@@ -21,14 +22,12 @@ use std::alloc::AllocError;
 use train_runs::{Departure, Runs};
 
 /// What a search has so far: the best trips, where runs come to the destination, the bounds from behind once they are made,
-/// which trains alone lead on once that is known, how many tries come before the next of these, and by when what is looked
-/// at ahead arrives.
+/// how many tries come before that, and by when what is looked at ahead arrives.
 #[derive(Drop)]
 pub(crate) struct Found {
     pub best: Best,
     pub ends: Ends,
     pub bounds: Bounds,
-    pub soles: Soles,
     pub left: u32,
     pub ceiling: u64,
 }
@@ -48,14 +47,14 @@ pub(crate) fn may_lead(
     ensures decided { result ≡ false
         → AreDecidedFrom runs.now wish.now found.now.best.trips.items way.now changes departure.now }
 {
+    if changes == 0 && misses(found, departure) {
+        return false;
+    }
     if has_run(way, departure.run) {
         return false;
     }
-    let bound = found.bounds.of_ride(changes, departure);
+    let bound = found.bounds.of_ride(changes, departure, way);
     if bound == NEVER {
-        return false;
-    }
-    if changes == 1 && found.soles.leads_back(way, departure) {
         return false;
     }
     if !found.best.are_all_by(bound) {
@@ -64,6 +63,18 @@ pub(crate) fn may_lead(
     match to_next_stop(runs, way, departure) {
         Some(begun) => !found.best.outdo(runs, bound, begun.as_slice(), changes),
         None => true,
+    }
+}
+
+// Whether it is known that the train doesn't come to the destination from there, or too late for the best.
+fn misses(found: &Found, departure: &Departure) -> bool
+    ensures { (r : RunsView) (w : TripWish) (way : List Segment) → IsSearch r w found.now → result ≡ true
+        → AreDecidedFrom r w found.now.best.trips.items way 0 departure.now }
+{
+    match found.ends.known(departure.run) {
+        End::Unknown => false,
+        End::Nowhere => true,
+        End::At(call) => call.stop <= departure.stop || found.best.are_all_before(call.arrive),
     }
 }
 

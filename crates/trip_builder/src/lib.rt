@@ -15,8 +15,8 @@ mod departures;
 mod ends;
 mod found;
 mod order;
+mod ranks;
 mod search;
-mod soles;
 mod trip;
 
 pub use chain::are_connected;

@@ -9,7 +9,6 @@ use crate::bounds::Bounds;
 use crate::departures::{leaving, stops_of, window_of};
 use crate::ends::Ends;
 use crate::found::{Found, get_off, is_hopeless, longer, may_lead};
-use crate::soles::Soles;
 use crate::trip::{Trip, TripWish};
 use offer_codes::Segment;
 use std::alloc::{AllocError, Global};
@@ -18,8 +17,7 @@ use train_runs::{Departure, Runs};
 /// How many segments a trip has at most.
 pub(crate) const MOST_SEGMENTS: usize = 3;
 
-/// How many tries a search has before the bounds are made, which takes memory and a pass over all runs, and then as many
-/// before it is looked which trains alone lead on.
+/// How many tries a search has before the bounds are made, which takes memory and a pass over all runs.
 const SHORT_SEARCH: u32 = 50_000;
 
 /// The first sixteen trips of the wish: by their last arrival, then the later first departure, then fewer segments, then the
@@ -37,7 +35,6 @@ pub fn trips(alloc: Global, runs: &Runs, wish: &TripWish) -> Result<Vec<Trip>, A
         best: Best::none(alloc),
         ends: Ends::unknown(alloc, runs)?,
         bounds: Bounds::unknown(alloc),
-        soles: Soles::unknown(alloc),
         left: SHORT_SEARCH,
         ceiling: 0,
     };
@@ -65,7 +62,7 @@ fn go_on(
 {
     bound_long_search(runs, wish, found)?;
     let window = window_of(runs, wish, way);
-    let bound = found.bounds.of_leaving(changes, &window);
+    let bound = found.bounds.of_leaving(changes, &window, way);
     if is_hopeless(runs, found, bound, way, changes + 1) {
         return Ok(());
     }
@@ -116,8 +113,7 @@ fn ride(
     Ok(())
 }
 
-// Counts a try. Where the search has got long, it makes the bounds, and looks ahead by them; where it has again, it looks
-// which trains alone lead on.
+// Counts a try. Where the search has got long, it makes the bounds, and looks ahead by them.
 fn bound_long_search(runs: &Runs, wish: &TripWish, found: &mut Found) -> Result<(), AllocError>
     requires { IsSearch runs.now wish.now found.old }
     ensures search { OnOk result (IsSearch runs.now wish.now found.new) }
@@ -129,14 +125,9 @@ fn bound_long_search(runs: &Runs, wish: &TripWish, found: &mut Found) -> Result<
     }
     if found.bounds.are_unknown() {
         let alloc = found.best.allocator();
-        found.bounds = Bounds::of(alloc, runs, wish)?;
+        found.bounds = Bounds::of(alloc, runs, wish, &mut found.ends)?;
         found.left = SHORT_SEARCH;
         look_ahead(runs, wish, found)?;
-        return Ok(());
-    }
-    if found.soles.are_unknown() {
-        let alloc = found.best.allocator();
-        found.soles = Soles::of(alloc, runs, &found.bounds)?;
     }
     Ok(())
 }

@@ -1,9 +1,7 @@
-//! Tests of the trips of a wish, by public calls alone: worked examples, and a comparison with a plain filter of all lists of segments.
+//! Tests of the trips of a wish, by public calls alone: a comparison with a plain filter of all lists of segments.
 //! A room of its own, so that `trip_builder` is proved once, without tests.
 #![tactic(auto)]
 
-#[cfg(test)]
-mod examples;
 #[cfg(test)]
 mod filtered;
 #[cfg(test)]

@@ -1,43 +1,81 @@
 // Streams and what they spell, in pieces and whole.
 ghost use Rattle.std.specs.Prelude.{◌≡◌};
 
-use http_wire::{Intake, Next, WireFault, write_head};
+use http_wire::{Intake, Next, WireFault};
 use rail_io::BytesSource;
 use slow_streams::SlowSource;
 use std::alloc::{AllocError, Global};
 use std::process::Abort;
 use std::test::Fail;
 
-/// A stream of a front, a piece so many times, and an end.
-#[derive(Clone, Copy)]
-struct Stream {
-    front: &'static str,
-    piece: &'static str,
-    times: u32,
-    end: &'static str,
-}
+/// Streams: a front, a piece so many times, an end; how many requests are given, and what comes behind them, unless the last of them is the
+/// last of its connection.
+const STREAMS: &str = "||0||0|End~\
+\r\n\n\r\n||0||0|End~\
+|\n|16383||0|End~\
+\r||0||0|Cut~\
+\r\r\n||0||0|Cut~\
+NO HEAD\r\n||0||0|Cut~\
+GET / HTTP/1.1\r\n\r\n||0||1|End~\
+\r\n\nGET / HTTP/1.1\n\n\nGET / HTTP/1.1\n\r\n||0||2|End~\
+GET / HTTP/1.0\r\n\r\nGET / HTTP/1.1\r\n\r\n||0||1|Last~\
+GET / HTTP/1.1\r\nConnection: keep-alive, Close\r\n\r\nGET||0||1|Last~\
+GET / HTTP/1.1\r\nConnection: closed\r\n\r\n||0||1|End~\
+GET / HTTP/1.1\r\nContent-Length: 3\r\ncontent-length: 03\r\n\r\nabcGET||0||1|Cut~\
+GET / HTTP/1.1\r\n|a: b\r\n|64|\r\n|1|End~\
+GET / HTTP/1.1\r\na: |b|16361|\r\n\r\n|1|End~\
+GET / HTTP/1.1\r\na: |b|16364||0|Cut~\
+GET / HTTP/1.1\r\nContent-Length: 262144\r\n\r\n|x|262144||1|End~\
+GET / HTTP/1.1\r\nContent-Length: 262144\r\n\r\n|x|262143||0|Cut~\
+GET / HTTP/1.2\r\n\r\n||0||0|BadHead~\
+GET /\r\n\r\n||0||0|BadHead~\
+GET / HTTP/1.1\r\nno colon\r\n\r\n||0||0|BadHead~\
+|\n|16384||0|HeadTooLarge~\
+GET / HTTP/1.1\r\n|a: b\r\n|65||0|HeadTooLarge~\
+NO HEAD\r\n|no line\r\n|65||0|HeadTooLarge~\
+GET / HTTP/1.1\r\na: |b|16362|\r\n\r\n|0|HeadTooLarge~\
+GET / HTTP/1.1\r\na: |b|16365||0|HeadTooLarge~\
+GET / HTTP/1.1\r\nTransfer-Encoding: chunked\r\nContent-Length: x\r\n\r\n||0||0|Coding~\
+GET / HTTP/1.1\r\nContent-Length: 3\r\nContent-Length: 4\r\n\r\nabcd||0||0|BadLength~\
+GET / HTTP/1.1\r\nContent-Length: 262145\r\nContent-Length: x\r\n\r\n||0||0|BadLength~\
+GET / HTTP/1.1\r\nContent-Length: 00000000003\r\n\r\nabc||0||0|BadLength~\
+GET / HTTP/1.1\r\nContent-Length: +3\r\n\r\nabc||0||0|BadLength~\
+GET / HTTP/1.1\r\nContent-Length:\r\n\r\n||0||0|BadLength~\
+GET / HTTP/1.1\r\nContent-Length: 262145\r\n\r\n||0||0|BodyTooLarge";
 
-impl Stream {
-    fn bytes(self, alloc: Global) -> Result<Vec<u8>, AllocError> {
-        let mut bytes = self.front.as_bytes().to_vec(alloc)?;
-        for _ in 0..self.times {
-            bytes.extend_from_slice(self.piece.as_bytes())?;
+/// The columns of a row.
+fn columns(row: &str) -> [&str; 6] {
+    let mut columns = [""; 6];
+    for (number, column) in row.split('|').enumerate() {
+        if number < 6 {
+            columns[number] = column;
         }
-        bytes.extend_from_slice(self.end.as_bytes())?;
-        Ok(bytes)
     }
+    columns
 }
 
-fn text(front: &'static str) -> Stream {
-    repeated(front, "", 0, "")
+/// The bytes of a row's stream.
+fn bytes_of(alloc: Global, row: &str) -> Result<Vec<u8>, AllocError> {
+    let [front, piece, times, end, ..] = columns(row);
+    let mut bytes = front.as_bytes().to_vec(alloc)?;
+    for _ in 0..times.parse::<u32>().unwrap_or(0) {
+        bytes.extend_from_slice(piece.as_bytes())?;
+    }
+    bytes.extend_from_slice(end.as_bytes())?;
+    Ok(bytes)
 }
 
-fn repeated(front: &'static str, piece: &'static str, times: u32, end: &'static str) -> Stream {
-    Stream {
-        front,
-        piece,
-        times,
-        end,
+/// What comes behind the requests of a row.
+fn after_of(row: &str) -> Option<Next> {
+    match columns(row)[5] {
+        "End" => Some(Next::End),
+        "Cut" => Some(Next::Cut),
+        "BadHead" => Some(Next::Bad(WireFault::BadHead)),
+        "HeadTooLarge" => Some(Next::Bad(WireFault::HeadTooLarge)),
+        "Coding" => Some(Next::Bad(WireFault::Coding)),
+        "BadLength" => Some(Next::Bad(WireFault::BadLength)),
+        "BodyTooLarge" => Some(Next::Bad(WireFault::BodyTooLarge)),
+        _ => None,
     }
 }
 
@@ -59,180 +97,56 @@ fn read_all(intake: &mut Intake, source: &mut SlowSource) -> (u32, Option<Next>)
     (9, None)
 }
 
-fn check<R: AllocGlobal + Abort>(
-    rt: &R,
-    stream: Stream,
-    count: u32,
-    after: Option<Next>,
-) -> Result<(), Fail> {
-    let bytes = stream.bytes(rt.alloc())?;
-    let front = stream.front;
-    for size in [1, 2, 3, 7, 1_000_000] {
-        let mut intake = Intake::start(rt.alloc())?;
-        let mut source = SlowSource::new(bytes.as_slice(), size, 0);
-        let (given, next) = read_all(&mut intake, &mut source);
-        assert_eq!(rt; given, count, "{front:?} by {size}");
-        assert_eq!(rt; next, after, "{front:?} by {size}");
-    }
+// The same in pieces of a size.
+fn check<R: AllocGlobal + Abort>(rt: &R, row: &str, size: usize) -> Result<(), Fail> {
+    let bytes = bytes_of(rt.alloc(), row)?;
+    let mut intake = Intake::start(rt.alloc())?;
+    let mut source = SlowSource::new(bytes.as_slice(), size, 0);
+    let (given, next) = read_all(&mut intake, &mut source);
+    assert!(rt;
+        Ok(given) == columns(row)[4].parse::<u32>(),
+        "{row:?} by {size}"
+    );
+    assert!(rt; next == after_of(row), "{row:?} by {size}");
     Ok(())
 }
 
 #[test]
-fn streams_end_and_are_cut(rt: HostRuntime) -> Result<(), Fail> {
-    let end = Some(Next::End);
-    let cut = Some(Next::Cut);
-    for (stream, count, after) in [
-        (text(""), 0, end),
-        (text("\r\n\n\r\n"), 0, end),
-        (repeated("", "\n", 16_383, ""), 0, end),
-        (text("\r"), 0, cut),
-        (text("\r\r\n"), 0, cut),
-        (text("NO HEAD\r\n"), 0, cut),
-        (text("GET / HTTP/1.1\r\n\r\n"), 1, end),
-        (
-            text("\r\n\nGET / HTTP/1.1\n\n\nGET / HTTP/1.1\n\r\n"),
-            2,
-            end,
-        ),
-        (
-            text("GET / HTTP/1.0\r\n\r\nGET / HTTP/1.1\r\n\r\n"),
-            1,
-            None,
-        ),
-        (
-            text("GET / HTTP/1.1\r\nConnection: keep-alive, Close\r\n\r\nGET"),
-            1,
-            None,
-        ),
-        (text("GET / HTTP/1.1\r\nConnection: closed\r\n\r\n"), 1, end),
-        (
-            text("GET / HTTP/1.1\r\nContent-Length: 3\r\ncontent-length: 03\r\n\r\nabcGET"),
-            1,
-            cut,
-        ),
-        (
-            repeated("GET / HTTP/1.1\r\n", "a: b\r\n", 64, "\r\n"),
-            1,
-            end,
-        ),
-        (
-            repeated("GET / HTTP/1.1\r\na: ", "b", 16_361, "\r\n\r\n"),
-            1,
-            end,
-        ),
-        (repeated("GET / HTTP/1.1\r\na: ", "b", 16_364, ""), 0, cut),
-        (
-            repeated(
-                "GET / HTTP/1.1\r\nContent-Length: 262144\r\n\r\n",
-                "x",
-                262_144,
-                "",
-            ),
-            1,
-            end,
-        ),
-        (
-            repeated(
-                "GET / HTTP/1.1\r\nContent-Length: 262144\r\n\r\n",
-                "x",
-                262_143,
-                "",
-            ),
-            0,
-            cut,
-        ),
-    ] {
-        check(&rt, stream, count, after)?;
+fn streams_in_pieces(rt: HostRuntime) -> Result<(), Fail> {
+    for row in STREAMS.split('~') {
+        for size in [1, 2, 3, 7, 1_000_000] {
+            check(&rt, row, size)?;
+        }
     }
     Ok(())
 }
 
-#[test]
-fn streams_are_refused(rt: HostRuntime) -> Result<(), Fail> {
-    for (stream, fault) in [
-        (text("GET / HTTP/1.2\r\n\r\n"), WireFault::BadHead),
-        (text("GET /\r\n\r\n"), WireFault::BadHead),
-        (
-            text("GET / HTTP/1.1\r\nno colon\r\n\r\n"),
-            WireFault::BadHead,
-        ),
-        (repeated("", "\n", 16_384, ""), WireFault::HeadTooLarge),
-        (
-            repeated("GET / HTTP/1.1\r\n", "a: b\r\n", 65, ""),
-            WireFault::HeadTooLarge,
-        ),
-        (
-            repeated("NO HEAD\r\n", "no line\r\n", 65, ""),
-            WireFault::HeadTooLarge,
-        ),
-        (
-            repeated("GET / HTTP/1.1\r\na: ", "b", 16_362, "\r\n\r\n"),
-            WireFault::HeadTooLarge,
-        ),
-        (
-            repeated("GET / HTTP/1.1\r\na: ", "b", 16_365, ""),
-            WireFault::HeadTooLarge,
-        ),
-        (
-            text("GET / HTTP/1.1\r\nTransfer-Encoding: chunked\r\nContent-Length: x\r\n\r\n"),
-            WireFault::Coding,
-        ),
-        (
-            text("GET / HTTP/1.1\r\nContent-Length: 3\r\nContent-Length: 4\r\n\r\nabcd"),
-            WireFault::BadLength,
-        ),
-        (
-            text("GET / HTTP/1.1\r\nContent-Length: 262145\r\nContent-Length: x\r\n\r\n"),
-            WireFault::BadLength,
-        ),
-        (
-            text("GET / HTTP/1.1\r\nContent-Length: 00000000003\r\n\r\nabc"),
-            WireFault::BadLength,
-        ),
-        (
-            text("GET / HTTP/1.1\r\nContent-Length: +3\r\n\r\nabc"),
-            WireFault::BadLength,
-        ),
-        (
-            text("GET / HTTP/1.1\r\nContent-Length:\r\n\r\n"),
-            WireFault::BadLength,
-        ),
-        (
-            text("GET / HTTP/1.1\r\nContent-Length: 262145\r\n\r\n"),
-            WireFault::BodyTooLarge,
-        ),
-    ] {
-        check(&rt, stream, 0, Some(Next::Bad(fault)))?;
-    }
-    Ok(())
-}
+/// Streams, the most bytes of a read, and how many the source has left behind the last request.
+const LEFT: &str = "GET / HTTP/1.0\r\n\r\nbehind|1|6~\
+GET / HTTP/1.0\r\n\r\nbehind|7|3~\
+GET / HTTP/1.1\r\n\r\nGET / HTTP/1.0\r\n\r\nbehind|1|6~\
+GET / HTTP/1.1\r\n\r\nGET / HTTP/1.0\r\n\r\nbehind|18|6~\
+GET / HTTP/1.1\r\n\r\nGET / HTTP/1.0\r\n\r\nbehind|20|2~\
+GET / HTTP/1.1\r\n\r\nGET / HTTP/1.0\r\n\r\nbehind|36|6~\
+GET / HTTP/1.1\r\n\r\nGET / HTTP/1.0\r\n\r\nbehind|42|0~\
+PUT / HTTP/1.0\r\nContent-Length: 2\r\n\r\nhibehind|1|6~\
+PUT / HTTP/1.0\r\nContent-Length: 2\r\n\r\nhibehind|7|3";
 
 #[test]
 fn reads_no_more_than_it_needs(rt: HostRuntime) -> Result<(), Fail> {
-    let one = "GET / HTTP/1.0\r\n\r\nbehind";
-    let two = "GET / HTTP/1.1\r\n\r\nGET / HTTP/1.0\r\n\r\nbehind";
-    let with_body = "PUT / HTTP/1.0\r\nContent-Length: 2\r\n\r\nhibehind";
-    // What the source has left behind the last request, by the most bytes of a read.
-    for (stream, size, left) in [
-        (one, 1, 6),
-        (one, 7, 3),
-        (two, 1, 6),
-        (two, 18, 6),
-        (two, 20, 2),
-        (two, 36, 6),
-        (two, 42, 0),
-        (with_body, 1, 6),
-        (with_body, 7, 3),
-    ] {
+    for row in LEFT.split('~') {
+        let [stream, size, left, ..] = columns(row);
         let mut intake = Intake::start(rt.alloc())?;
+        let size = size.parse::<usize>().expect(&rt, "a size");
         let mut source = SlowSource::new(stream.as_bytes(), size, 0);
         let (_given, next) = read_all(&mut intake, &mut source);
-        assert_eq!(rt; next, None, "{stream:?} by {size}");
-        assert_eq!(rt; source.left().len(), left, "{stream:?} by {size}");
+        assert!(rt; next.is_none(), "{row:?}");
+        assert!(rt; Ok(source.left().len()) == left.parse::<usize>(), "{row:?}");
     }
     Ok(())
 }
 
+/// A read that fails takes nothing away: the request behind it has its parts, and of two keys the first.
 #[test]
 fn request_has_its_parts(rt: HostRuntime) -> Result<(), Fail> {
     let stream =
@@ -240,49 +154,15 @@ fn request_has_its_parts(rt: HostRuntime) -> Result<(), Fail> {
     let bytes = stream.as_bytes().to_vec(rt.alloc())?;
     let mut intake = Intake::start(rt.alloc())?;
     let mut source = BytesSource::new(bytes, vec![in rt.alloc(); 1]?);
-    let failed = intake.next_request(&mut source);
-    assert_eq!(rt; failed, Next::ReadFault);
+    assert!(rt; intake.next_request(&mut source) == Next::ReadFault);
     let Next::Request(request) = intake.next_request(&mut source) else {
         panic!(rt; "no request");
     };
-    assert_eq!(rt; intake.part(request.method), b"POST".as_slice());
-    assert_eq!(rt; intake.part(request.path), b"/a/b".as_slice());
-    assert_eq!(rt; intake.part(request.body), b"hi".as_slice());
-    let Some(key) = request.key else {
-        panic!(rt; "no key");
-    };
-    assert_eq!(rt; intake.part(key), b"north".as_slice());
+    assert!(rt; intake.part(request.method) == b"POST".as_slice());
+    assert!(rt; intake.part(request.path) == b"/a/b".as_slice());
+    assert!(rt; intake.part(request.body) == b"hi".as_slice());
+    let key = request.key.expect(&rt, "a key");
+    assert!(rt; intake.part(key) == b"north".as_slice());
     assert!(rt; !request.last);
     Ok(())
-}
-
-#[test]
-fn heads_of_answers(rt: HostRuntime) {
-    for (status, problem, length, last, head) in [
-        (
-            200,
-            false,
-            0,
-            false,
-            "HTTP/1.1 200 OK\r\nContent-Type: application/json\r\nContent-Length: 0\r\n\r\n",
-        ),
-        (
-            507,
-            true,
-            53,
-            false,
-            "HTTP/1.1 507 Insufficient Storage\r\nContent-Type: application/problem+json\r\nContent-Length: 53\r\n\r\n",
-        ),
-        (
-            431,
-            true,
-            4_294_967_295,
-            true,
-            "HTTP/1.1 431 Request Header Fields Too Large\r\nContent-Type: application/problem+json\r\nContent-Length: 4294967295\r\nConnection: close\r\n\r\n",
-        ),
-    ] {
-        assert!(rt; status == 200 || status == 431 || status == 507);
-        let text = write_head(status, problem, length, last);
-        assert_eq!(rt; text.as_slice(), head.as_bytes());
-    }
 }

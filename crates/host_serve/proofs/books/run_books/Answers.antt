@@ -21,7 +21,7 @@ returns g c =
     let asks = Asks g.T.Ticker.ticked c.args.ticker in
     let hands : Handing = IsGiven g.N.Named.gives in
     let view = g.L.Listener.told c.finish_listener-all.new.listener in
-    let worked = all_worked _ (λ s stream sent t. hands stream sent) hands (λ s stream sent t given. given) g.C.Clock.told g.T.Ticker.ticked c.args.cat.now said c.args.ticker clocks c.args.books c.crew_of-crew.result.items _ _
+    let worked = all_worked _ (λ s stream sent t. hands stream sent) (λ s left after t. t ≡ s) hands (λ s stream sent t given. given) g.C.Clock.told g.T.Ticker.ticked c.args.cat.now said c.args.ticker clocks c.args.books c.crew_of-crew.result.items _ _
     c.run_crew-desk.new.first c.run_crew-desk.result members.crew members.ready members.count c.requires.workers run
     c.finish_listener-all.new.desk c.meet.new.desk (g.C.Clock.told c.into_clock-clock.result) (g.C.Clock.told c.finish_listener-all.new.clock)
     left.turns.0 c.into_clock-clock.new.all.amount view.handed members.nothing c.into_clock-clock.ensures.amount
@@ -67,7 +67,7 @@ into_listener-listener-requires g c =
     let said = c.args.said in
     let members = c.crew_of-crew.ensures in
     let hands : Handing = IsGiven g.N.Named.gives in
-    let parts = all_parts _ (λ s stream sent t. hands stream sent) hands (λ s stream sent t given. given) g.C.Clock.told g.T.Ticker.ticked c.args.cat.now said c.args.ticker (map g.C.Clock.told c.args.clocks.items) c.args.books c.crew_of-crew.result.items _ _
+    let parts = all_parts _ (λ s stream sent t. hands stream sent) (λ s left after t. t ≡ s) hands (λ s stream sent t given. given) g.C.Clock.told g.T.Ticker.ticked c.args.cat.now said c.args.ticker (map g.C.Clock.told c.args.clocks.items) c.args.books c.crew_of-crew.result.items _ _
     c.run_crew-desk.new.first c.run_crew-desk.result members.crew members.ready members.count c.requires.workers c.run_crew-desk.ensures.run
     c.into_clock-clock.new.all.parts members.parts c.into_clock-clock.ensures.parts in
     record { whole = omega (arith, parts, c.requires.parts, c.requires.one_each) }

@@ -5,7 +5,7 @@ use Rattle.host_notes.specs.Ends.{note_of, status_of}
 use Rattle.host_notes.specs.Noted.{IsNoted}
 use Rattle.host_notes.specs.declared.ending.CommandEnd.{CommandEnd}
 use Rattle.host_serve.specs.Telling.{Noting}
-use Rattle.host_serve.proofs.Ending.{no_words, when_refused, stays, wall_missing, without, missed, ends_without}
+use Rattle.host_serve.proofs.Ending.{no_words, refused_wall, when_refused, stays, wall_missing, without, missed, ends_without}
 use Rattle.host_serve.proofs.Telling.{rose_before, told_part, told_whole}
 use Rattle.host_serve.proofs.run.run_serve.Goals as goal
 
@@ -13,6 +13,11 @@ pub returns-clause-words : goal.returns-clause-words
 returns-clause-words g c is =
     no_words (words_texts c.args.words.now) (g.F.Shelf.told c.args.shelf.now) _ c.run_by_words-outcome.result.outcome c.run_by_words-outcome.ensures.runs
     (sym (c.end_command-status.ensures.status ∙ ap status_of c.command_end.ensures) ∙ is)
+
+pub returns-clause-refused_wall : goal.returns-clause-refused_wall
+returns-clause-refused_wall g c two =
+    refused_wall (words_texts c.args.words.now) (g.F.Shelf.told c.args.shelf.now) _ c.run_by_words-outcome.result.outcome c.run_by_words-outcome.ensures.runs
+    (sym (c.end_command-status.ensures.status ∙ ap status_of c.command_end.ensures) ∙ two)
 
 pub returns-clause-refused_words : goal.returns-clause-refused_words
 returns-clause-refused_words g c none =

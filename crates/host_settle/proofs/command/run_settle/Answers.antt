@@ -4,7 +4,7 @@ use Rattle.host_words.specs.Options.{words_texts}
 use Rattle.host_catalogue.specs.Files.{Files}
 use Rattle.host_catalogue.specs.Opening.{HasNoBooks}
 use Rattle.host_notes.specs.Ends.{status_of}
-use Rattle.host_settle.specs.Settle.{EndsSettle}
+use Rattle.host_settle.specs.Settle.{RanSettle}
 use Rattle.host_settle.proofs.Settling.{ends_without, few, front_table, missed, same_catalogue, same_export, whole_table, without}
 use Rattle.host_settle.proofs.command.run_settle.Goals as goal
 
@@ -55,7 +55,7 @@ returns-clause-no_books g c told is catalogue export asked none =
     let none_said = subst (λ (e : List ℕ). HasNoBooks told said.catalogue.now (Some e)) other
     (subst (λ (n : List ℕ). HasNoBooks told n (Some export)) one none) in
     elim (ends_without told said.catalogue.now said.export.now output sent none_said c.settle-end.result
-    (subst (λ (files : Files). EndsSettle files said.catalogue.now said.export.now output sent c.settle-end.result) is c.settle-end.ensures.ends)) [
+    (subst (λ (files : Files). RanSettle files said.catalogue.now said.export.now output sent c.settle-end.result) is c.settle-end.ensures.ends)) [
       | inl h ↦ inl (status ∙ h)
       | inr more ↦ elim more [ inl h ↦ inr (inl (status ∙ h)) | inr h ↦ inr (inr (status ∙ h)) ]
     ]

@@ -1,6 +1,6 @@
-use Rattle.std.proofs.Common.{[], append-nil, arith, ap, inl, inr, refl, sym, ◌∙◌, Some, List, ℕ, Option, ◌++◌}
+use Rattle.std.proofs.Common.{[], append-nil, arith, ap, inl, inr, refl, sym, ◌∙◌, Some, List, ℕ}
 use Rattle.host_words.specs.Options.{words_texts}
-use Rattle.host_words.specs.declared.command.CommandName.TheVariants.{Tiny, Replay, Export, Settle}
+use Rattle.host_words.specs.declared.command.CommandName.TheVariants.{Replay, Export, Settle}
 use Rattle.rail_host.proofs.Naming.{one_name, no_tiny, no_settle, for_settle, export_tiny, replay_tiny, settle_tiny, replay_export, replay_settle, export_settle}
 use Rattle.rail_host.proofs.host.run_plain.Goals as goal
 

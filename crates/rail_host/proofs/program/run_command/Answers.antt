@@ -1,8 +1,10 @@
-use Rattle.std.proofs.Common.{ap, inl, inr, refl}
-use Rattle.std.specs.Prelude.{option_map}
+use Rattle.std.proofs.Common.{◌≡◌, Option, None, ap, inl, inr, refl, subst}
+use Rattle.claim_rule.specs.Walls.{WallView}
 use Rattle.host_words.specs.Options.{words_texts}
+use Rattle.host_drill.specs.Ends.{Leaves}
 use Rattle.host_words.specs.declared.command.CommandName.TheVariants.{Replay, Export, Drill, Serve}
 use Rattle.rail_host.proofs.Naming.{one_name, no_tiny, no_settle, serve_tiny, serve_replay, serve_export, serve_settle, serve_drill, drill_tiny, drill_replay, drill_export, drill_settle}
+use Rattle.rail_host.proofs.Walls.{drill_refused, same_wall}
 use Rattle.rail_host.proofs.program.run_command.Goals as goal
 
 pub returns-then-is_for-clause-words : goal.returns-then-is_for-clause-words
@@ -27,7 +29,7 @@ returns-then-is_for-2-clause-words g c two =
       replay = λ said is. drill_replay (one_name Drill Replay words drill is.command);
       export = λ said is. drill_export (one_name Drill Export words drill is.command);
       settle = no_settle Drill words drill drill_settle;
-      drill = c.run_drill.ensures.words two;
+      drill = c.run_drill-status.ensures.words two;
       serve = λ said is. c.if-is_for.ensures.no refl is.command;
     }
 
@@ -53,13 +55,19 @@ returns-then-is_for-clause-ended g c = inr (inr (c.if-is_for.ensures.yes refl, c
 
 pub returns-then-is_for-2-clause-ended : goal.returns-then-is_for-2-clause-ended
 returns-then-is_for-2-clause-ended g c =
-    let ends = c.run_drill.ensures.ends in inl (record {
+    let ends = c.run_drill-status.ensures.ends in inl (record {
       command = c.if-is_for-2.ensures.yes refl;
       cause = ends.0;
-      wall = option_map (λ w. w) c.run_drill.result.wall;
-      leaves = ends.2;
+      leaves = subst (λ (w : Option WallView). Leaves (words_texts c.args.words.now) (g.K.Sink.told c.args.output.now) (g.K.Sink.told c.run_drill-status.new.output) w ends.0)
+          (same_wall c.run_drill-status.result.wall) ends.2;
       ends = record { is = ends.1; note = ends.3 };
     })
+
+pub returns-then-is_for-2-clause-refused_wall : goal.returns-then-is_for-2-clause-refused_wall
+returns-then-is_for-2-clause-refused_wall g c two =
+    let ends = c.run_drill-status.ensures.ends in
+    subst (λ (w : Option WallView). w ≡ None) (same_wall c.run_drill-status.result.wall)
+    (drill_refused (words_texts c.args.words.now) _ _ _ ends.0 c.run_drill-status.result.status ends.1 ends.2 two)
 
 -- words of no plain command, which are refused
 pub returns-clause-ended : goal.returns-clause-ended

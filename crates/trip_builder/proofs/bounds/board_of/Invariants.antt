@@ -3,6 +3,6 @@ use Rattle.trip_builder.proofs.bounds.board_of.Given as goal
 
 abbrev pub invariant-loop-departure : goal.invariant-loop-departure
 invariant-loop-departure l = record {
-  earlier : AreEarlier l.departure-items l.board l.departure-index;
-  done : AreDone l.departure-items l.rides l.board l.departure-index;
+  earlier : AreEarlier l.departures l.board l.departure-index;
+  done : AreDone l.departures l.rides l.board l.departure-index;
 }

@@ -1,16 +1,21 @@
-use Rattle.std.proofs.Common.{◌≡◌, ◌∙◌, Bool, true, false, not, List, inl, refl, sym, subst, true≢false}
+use Rattle.std.proofs.Common.{◌≡◌, ◌∙◌, ℕ, Bool, true, false, not, List, inl, refl, sym, subst, true≢false}
 use Rattle.offer_codes.specs.declared.code.Segment.{Segment}
 use Rattle.trip_builder.specs.Segments.{segment}
+use Rattle.trip_builder.specs.Search.{AreDecidedFrom}
 use Rattle.trip_builder.specs.Keeping.{IsOutdone}
 use Rattle.trip_builder.proofs.Boarding.{used_up}
 use Rattle.trip_builder.proofs.Bounding.{ride_hopeless}
 use Rattle.trip_builder.proofs.Outdoing.{ride_outdone}
-use Rattle.trip_builder.proofs.Leading.{back_decided}
 use Rattle.trip_builder.proofs.found.may_lead.Goals as goal
 
 turned : (b : Bool) → not b ≡ false → b ≡ true
 turned true e = refl
 turned false e = absurd (true≢false e)
+
+pub returns-then-misses-clause-decided : goal.returns-then-misses-clause-decided
+returns-then-misses-clause-decided c =
+    λ e. subst (λ (n : ℕ). AreDecidedFrom c.args.runs.now c.args.wish.now c.args.found.now.best.trips.items c.args.way.now n c.args.departure.now) (sym c.if-changes-eq0.true)
+    (c.misses.ensures c.args.runs.now c.args.wish.now c.args.way.now c.requires.search c.if-misses.true)
 
 pub returns-then-has_run-clause-decided : goal.returns-then-has_run-clause-decided
 returns-then-has_run-clause-decided c =
@@ -32,8 +37,3 @@ returns-in-Some-clause-decided c =
     let begun = c.as_slice.ensures.value ∙ c.in-Some.ensures in
     let outdone = subst (λ (t : List Segment). IsOutdone r best c.of_ride-bound.result t c.args.changes) begun (c.outdo.ensures w c.requires.search.kept (turned c.outdo.result e)) in
     ride_outdone r w best way c.args.changes c.of_ride-bound.result d c.requires.search.kept.are.order (c.of_ride-bound.ensures r w c.requires.search.bounds) outdone)
-
-pub returns-then-leads_back-clause-decided : goal.returns-then-leads_back-clause-decided
-returns-then-leads_back-clause-decided c =
-    λ e. back_decided c.args.runs.now c.args.wish.now c.args.found.now.best.trips.items c.args.way.now c.args.changes c.args.departure.now c.if-changes-eq1.true
-    (c.leads_back.ensures c.args.runs.now c.args.wish.now c.requires.search.soles c.if-leads_back.true)

@@ -1,6 +1,5 @@
-use Rattle.std.proofs.Common.{◌∙◌, sym, subst, arith}
-use Rattle.trip_builder.specs.Bounds.{AreBounds}
-use Rattle.trip_builder.specs.Soles.{AreSoles}
+use Rattle.std.proofs.Common.{◌∙◌, ◌<◌, List, length, subst, arith}
+use Rattle.trip_builder.specs.Bounds.{ReachView}
 use Rattle.trip_builder.proofs.Deciding.{best_of_all}
 use Rattle.trip_builder.proofs.search.trips.Goals as goal
 
@@ -12,8 +11,7 @@ loop-changes-init c =
       search = record {
         kept = c.none.ensures r w;
         ends = c.in_ok-unknown.ensures r w;
-        bounds = subst (AreBounds r w) (sym c.unknown-2.ensures) (λ n none h. absurd (omega (arith, h)));
-        soles = subst (AreSoles r w) (sym c.unknown-3.ensures) (λ n none h. absurd (omega (arith, h)));
+        bounds = λ n none h. (let inside = subst (λ (l : List ReachView). n < length l) c.unknown-2.ensures h in absurd (omega (arith, inside)));
       };
       decided = λ n h. absurd (omega (arith, h));
     }

@@ -18,6 +18,7 @@ loop-self-preserved g c =
           (pushes.2 ∙ ap (λ (l : List ℕ). with_end before (take n l)) (take_rest all sent ∙ ap (λ (l : List ℕ). drop sent l) c.deref.ensures.value))
           ∙ inv.told;
       within = search rules;
+      few = inv.few;
       room = inv.room;
       faults = c.in-Took.ensures.steady (λ e. absurd cc) ∙ inv.faults;
     }

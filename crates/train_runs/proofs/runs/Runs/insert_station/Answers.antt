@@ -1,13 +1,13 @@
-use Rattle.std.proofs.Common.{rules, ◌≡◌, ◌<◌, ◌++◌, ◌∷◌, [], ℕ, List, ◌∙◌, sym, ap, subst, Some, None, length, string_bytes}
-use Rattle.std.specs.Prelude.{cond}
-use Rattle.std.specs.Str.{bytes_eq}
-use Rattle.std.specs.BTreeMap.{get_by_text}
-use Rattle.std.proofs.lemmas.Map.Text.{btree_map_updates_text}
-use Rattle.train_runs.specs.Stations.{StationView, station_with}
+use Rattle.std.proofs.Common.{rules, ◌≡◌, ◌<◌, ◌++◌, ◌∷◌, [], ℕ, List, ◌∙◌, sym, ap, subst, None, length}
+use Rattle.std.proofs.Common.{true}
+use Rattle.std.specs.BTreeMap.{get}
+use Rattle.std.specs.Ordering.{nat_cmp}
+use Rattle.train_runs.specs.Stations.{StationView, station_with, is_code, code_number}
 use Rattle.train_runs.specs.Runs.{RunsView, AreSound}
 use Rattle.train_runs.specs.declared.departure.Departure.{Departure}
 use Rattle.train_runs.specs.Boards.{HasBoards}
-use Rattle.train_runs.proofs.Coding.{finds, grows}
+use Rattle.train_runs.proofs.Coding.{grows}
+use Rattle.train_runs.proofs.Numbers.{finds_number}
 use Rattle.train_runs.proofs.Posting.{boards_grow}
 use Rattle.train_runs.proofs.runs.Runs.insert_station.Goals as goal
 
@@ -19,14 +19,12 @@ invariant_of-self-in-Ok c =
     let stations : c.push.new.self.items ≡ c.self.inside.stations.items ++ last ∷ [] = c.in_ok-push.ensures.items ∙ ap (λ (s : StationView). c.self.inside.stations.items ++ s ∷ []) made in
     let boards : c.push-2.new.self.items ≡ c.self.inside.boards.items ++ [] ∷ [] = c.in_default.ensures.items ∙ ap (λ (b : List Departure). c.self.inside.boards.items ++ b ∷ []) c.new-2.ensures in
     let count : c.len.result ≡ length c.self.inside.stations.items = search rules in
-    let fresh : station_with c.args.code.now c.self.inside.stations.items ≡ None = ap (station_with c.args.code.now) was ∙ c.requires.fresh in (
+    let fresh : station_with c.args.code.now c.self.inside.stations.items ≡ None = ap (station_with c.args.code.now) was ∙ c.requires.fresh in
+    let keyed : c.code_number-key.result ≡ code_number c.args.code.now = c.code_number-key.ensures ∙ ap code_number c.as_bytes.ensures.value in (
       subst (λ (ss : List StationView). AreSound (record { stations = ss; runs = c.self.inside.runs.items })) (sym stations)
           (grows (record { stations = c.self.inside.stations.items; runs = c.self.inside.runs.items }) last c.self.invariant.0 (subst (λ (ss : List StationView). length ss < 65536) (sym was) c.requires.room) c.requires.code),
-      λ code. subst (λ (ss : List StationView). get_by_text c.insert.new.self code ≡ station_with code ss) (sym stations)
-          (finds code c.self.inside.stations.items last (get_by_text c.self.inside.numbers code) (get_by_text c.insert.new.self code) fresh (c.self.invariant.1 code)
-          (subst (λ (bs : List ℕ). get_by_text c.insert.new.self code ≡ cond (bytes_eq bs code) (Some (record { 0 = length c.self.inside.stations.items })) (get_by_text c.self.inside.numbers code)) c.in_ok-key.ensures.ok
-          (subst (λ (n : ℕ). get_by_text c.insert.new.self code ≡ cond (bytes_eq (string_bytes c.in_ok-key.key) code) (Some (record { 0 = n })) (get_by_text c.self.inside.numbers code)) count
-          (btree_map_updates_text (string_bytes c.in_ok-key.key) c.self.inside.numbers c.insert.new.self (Some (record { 0 = c.len.result })) c.in-Ok.ensures.updates code)))),
+      subst (λ (ss : List StationView). (code : List ℕ) → is_code code ≡ true → get nat_cmp c.insert.new.self (code_number code) ≡ station_with code ss) (sym stations)
+          (finds_number c.self.inside.stations.items last c.self.inside.numbers c.insert.new.self c.code_number-key.result c.len.result c.requires.code fresh keyed count c.in-Ok.ensures.updates c.self.invariant.1),
       subst (λ (ss : List StationView). HasBoards (record { stations = ss; runs = c.self.inside.runs.items }) c.push-2.new.self.items) (sym stations)
           (subst (λ (bs : List (List Departure)). HasBoards (record { stations = c.self.inside.stations.items ++ last ∷ []; runs = c.self.inside.runs.items }) bs) (sym boards)
           (boards_grow (record { stations = c.self.inside.stations.items; runs = c.self.inside.runs.items }) last c.self.inside.boards.items c.self.invariant.0 c.self.invariant.2)),

@@ -1,6 +1,20 @@
-use Rattle.std.proofs.Common.{◌∙◌, ◌-◌, ◌<◌, arith, subst, set}
-use Rattle.trip_builder.proofs.Posting.{IsHalf, told_set, told_rises, half_on, half_posted}
+use Rattle.std.proofs.Common.{◌≡◌, ◌∙◌, ◌-◌, ◌<◌, List, length, arith, sym, subst, set}
+use Rattle.trip_builder.specs.declared.board.Useful.{Useful}
+use Rattle.trip_builder.specs.Bounds.{IsNoted}
+use Rattle.trip_builder.proofs.Posting.{IsHalf, half_noted, told_set, told_rises, half_on, half_posted}
 use Rattle.trip_builder.proofs.board.Board.finish.Goals as goal
+
+pub loop-back-init : goal.loop-back-init
+loop-back-init c =
+    let items = c.self.inside.useful.items in
+    let ok = c.self.inside.useful.ok in
+    let is = c.len-count.ensures in
+    let size : length items ≡ c.len-count.result = omega (arith, ok, is) in
+    record {
+      size = size;
+      rises = c.self.invariant;
+      half = λ depart rank noted. subst (λ n. IsHalf (n - 1) items depart rank) size (half_noted items depart rank (subst (λ (l : List Useful). IsNoted l depart rank) (sym c.self.view_is) noted));
+    }
 
 pub loop-back-preserved : goal.loop-back-preserved
 loop-back-preserved c =

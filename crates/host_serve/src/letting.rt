@@ -1,0 +1,30 @@
+// What becomes of streams that were served.
+ghost use Rattle.std.specs.Prelude.{⊤};
+ghost use Rattle.rail_service.specs.Listeners.{Handing};
+
+use rail_io::{Sink, Source};
+use rail_service::Finished;
+
+/// Lets go of streams whose connection has ended.
+pub trait Closing<I: Source, O: Sink> {
+    /// That a call let go of a stream whose source and whose sink told so much then. Who knows nothing of it but this trait can show that only
+    /// by a call with the stream as it then was.
+    ghost closes: { Handing };
+
+    /// Lets go of a stream, which closes it.
+    fn close(finished: Finished<I, O>)
+        ensures { closes (I.told finished.input) (O.told finished.output) };
+}
+
+/// Drops them.
+pub struct Dropping;
+
+impl<I: Source + Drop, O: Sink + Drop> Closing<I, O> for Dropping {
+    ghost closes = { λ _ _. ⊤ };
+
+    fn close(finished: Finished<I, O>)
+        ensures { ⊤ }
+    {
+        let _closed = finished;
+    }
+}

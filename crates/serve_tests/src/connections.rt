@@ -1,0 +1,130 @@
+// Two connections at once.
+ghost use Rattle.std.specs.Prelude.{◌≡◌, IfOk, length};
+
+use crate::gate::gate_listener;
+use claim_rule::Wall;
+use history_model::phase::{Phase, phase_word};
+use host_serve::run_serve;
+use rail_io::{CountTicker, MapShelf, ScriptClock, VecSink};
+use rail_service::{ListListener, Listener};
+use sample_shop::{CATALOGUE, after_six};
+use std::alloc::{AllocError, Global};
+use std::sync::Wait;
+use std::sync::atomic::AtomicBool;
+use std::test::Fail;
+use std::thread::Threads;
+
+/// A request for a place from Basel to Bern.
+pub const RESERVES: &str =
+    "POST /reservations HTTP/1.1\r\nRetailer-Key: north\r\nContent-Length: 65\r\n\r\n{\"class\":\"SECOND\",\"from\":\"BASEL\",\"run\":0,\"to\":\"BERN\",\"wanted\":[]}";
+
+const TWO: &str = "serve k1.json --port 80 --workers 2 --connections 2";
+
+const THREE: &str = "serve k1.json --port 80 --workers 1 --connections 3 --export";
+
+/// What the books hold after two such requests, and why no third came.
+const EXPORT_AND_FAULT: &str =
+    "rail-export 1 18 65536\nrow 0 0 P 1 1780294500 1100 1 4.0.2\nrow 1 0 P 1 1780294500 1100 1 5.0.2\nend 2\nrail_host: read fault\n";
+
+// The sample catalogue's file.
+fn shelf_of(alloc: Global) -> Result<MapShelf, AllocError> {
+    let mut shelf = MapShelf::new(alloc, Vec::new(alloc));
+    let name = String::from_str(alloc, "k1.json")?;
+    shelf.put(name, CATALOGUE.as_bytes().to_vec(alloc)?)?;
+    Ok(shelf)
+}
+
+fn words_of(alloc: Global, line: &str) -> Result<Vec<String>, AllocError> {
+    let mut words = Vec::new(alloc);
+    for word in line.split(' ') {
+        words.push(String::from_str(alloc, word)?)?;
+    }
+    Ok(words)
+}
+
+// As many clocks as `serve` is given, all at six.
+fn clocks_of(alloc: Global) -> Result<Vec<ScriptClock>, AllocError>
+    ensures { IfOk result (λ clocks. length clocks.items ≡ 17) }
+{
+    let next = after_six(0);
+    let mut clocks = Vec::new(alloc);
+    for _number in 0..17u32 {
+        clocks.push(ScriptClock { next, tick: 0 })?;
+    }
+    Ok(clocks)
+}
+
+// Two streams, each with one reservation.
+fn two_streams(alloc: Global) -> Result<Vec<Vec<u8>>, AllocError> {
+    let mut streams = Vec::new(alloc);
+    for _ in 0..2u32 {
+        streams.push(RESERVES.as_bytes().to_vec(alloc)?)?;
+    }
+    Ok(streams)
+}
+
+/// The status and the wall of the words over this listener.
+fn serve<R: Threads + Wait + Sync, L: Listener + Drop + Send>(
+    rt: &R,
+    alloc: Global,
+    line: &str,
+    listener: L,
+    notes: &mut VecSink,
+) -> Result<(u8, Option<Wall>), AllocError>
+where
+    L::Input: Send,
+    L::Output: Send,
+    requires fresh { (L.told listener).handed ≡ 0 }
+{
+    let clocks = clocks_of(alloc)?;
+    let words = words_of(alloc, line)?;
+    let mut shelf = shelf_of(alloc)?;
+    let ticker = CountTicker { left: 0 };
+    let end = run_serve(
+        rt, alloc, &words, &mut shelf, listener, ticker, clocks, notes,
+    );
+    Ok((end.status, end.wall))
+}
+
+// Whether rows 0 and 1 are prebooked at different places.
+fn has_two_bookings(wall: &Wall) -> bool {
+    let prebooked = Some(phase_word(Phase::Prebooked));
+    wall.row_word(0, 0) == prebooked
+        && wall.row_word(1, 0) == prebooked
+        && wall.row_word(0, 8) != wall.row_word(1, 8)
+}
+
+#[test]
+fn two_connections(rt: HostRuntime) -> Result<(), Fail> {
+    let alloc = rt.alloc();
+    let listener = ListListener::new(alloc, two_streams(alloc)?, Vec::new(alloc));
+    let mut notes = VecSink::new(alloc, Vec::new(alloc));
+    let (status, wall) = serve(&rt, alloc, TWO, listener, &mut notes)?;
+    assert!(rt; status == 0);
+    assert!(rt; has_two_bookings(&wall.expect(&rt, "a wall")));
+    Ok(())
+}
+
+/// The first stream's first read waits until the second stream was answered, so that both are served at once.
+#[test]
+fn two_connections_at_once(rt: HostRuntime) -> Result<(), Fail> {
+    let answered = AtomicBool::new(false);
+    let listener = gate_listener(rt.alloc(), &answered);
+    let mut notes = VecSink::new(rt.alloc(), Vec::new(rt.alloc()));
+    let (status, wall) = serve(&rt, rt.alloc(), TWO, listener, &mut notes)?;
+    assert!(rt; status == 0);
+    assert!(rt; has_two_bookings(&wall.expect(&rt, "a wall")));
+    Ok(())
+}
+
+/// An accept that fails: the notes take the export and, behind it, the note.
+#[test]
+fn a_failed_accept(rt: HostRuntime) -> Result<(), Fail> {
+    let alloc = rt.alloc();
+    let listener = ListListener::new(alloc, two_streams(alloc)?, Vec::new(alloc));
+    let mut notes = VecSink::new(alloc, Vec::new(alloc));
+    let (status, _wall) = serve(&rt, alloc, THREE, listener, &mut notes)?;
+    assert!(rt; status == 3);
+    assert!(rt; notes.taken() == EXPORT_AND_FAULT.as_bytes());
+    Ok(())
+}

@@ -1,0 +1,23 @@
+use Rattle.std.proofs.Common.{◌≡◌, ◌-◌, List, length, refl, ap}
+use Rattle.train_runs.specs.declared.run.Stop.{Stop}
+use Rattle.trip_builder.specs.Segments.{stops_of}
+use Rattle.trip_builder.proofs.Bounding.{ride_firsts, firsts_more}
+use Rattle.trip_builder.proofs.bounds.bound_run.Goals as goal
+
+pub loop-back-preserved : goal.loop-back-preserved
+loop-back-preserved c =
+    let r = c.args.runs.now in
+    let w = c.args.wish.now in
+    let v = c.args.bounds.now.ranks in
+    let changes = length c.args.bounds.now.levels in
+    let run = c.args.run.0 in
+    let count = length c.stops_of-stops.result.now in
+    let back = c.loop-back.back in
+    let stop = count - 1 - back in
+    let was = c.loop-back.invariant in
+    let test = c.loop-back-test.true in
+    let whole : count ≡ length (stops_of r run) = ap (λ (l : List Stop). length l) c.stops_of-stops.ensures.stops in
+    record {
+      rides = c.put.ensures r w v changes was.rides (ride_firsts r w v changes run count c.loop-back.firsts back stop whole test refl was.further);
+      further = firsts_more r w v changes run count c.loop-back.firsts c.firsts_at.result c.join-firsts.result back stop test refl c.join-firsts.ensures.left c.join-firsts.ensures.right c.firsts_at.ensures was.further;
+    }
