@@ -50,12 +50,13 @@ ride_found r w v changes reach rides way run stop bound two are same is fresh s 
     fresh s rest leads (subst (λ (x : FirstTwo). Precede x (rank_of v s rest)) (sym value) (are.rides run stop s rest is_run is_stop count leads)) apart
 
 -- by the board of the station
-pub firsts_found : (r : RunsView) (w : TripWish) (v : RanksView) (changes : ℕ) (reach : ReachView) (boards : List (List Useful)) (station : StationNo) (from to : ℕ) (two : FirstTwo) (board : List Useful) → IsReach r w v changes reach
-    → boards ≡ reach.boards → true ≡ ltb station.0 (length boards) → board ≡ get_or boards station.0 board → to < end_of_windows → BoundsWindow board from to two → FirstsLeaving r w v changes station from to two
-firsts_found r w v changes reach boards station from to two board are same small is end window s rest count leads says =
+early_found : (r : RunsView) (w : TripWish) (v : RanksView) (changes : ℕ) (reach : ReachView) (boards : List (List Useful)) (station : StationNo) (from to : ℕ) (two : FirstTwo) (board : List Useful) → IsReach r w v changes reach
+    → boards ≡ reach.boards → true ≡ ltb station.0 (length boards) → board ≡ get_or boards station.0 board → to < end_of_windows → BoundsWindow board from to two → (s : Segment) (rest : List Segment) → length rest ≡ changes
+    → LeadsTo r w s rest → leaves station from to (first_stop r s) ≡ true → rank_of v s rest < v.late → Precede two (rank_of v s rest)
+early_found r w v changes reach boards station from to two board are same small is end window s rest count leads says less =
     let size : length boards ≡ length reach.boards = ap (λ (l : List (List Useful)). length l) same in
     let inside = ltb-true station.0 (length boards) (sym small) in
-    let it = subst (IsBoardOf r reach.rides station.0) (sym (is ∙ ap (λ (l : List (List Useful)). get_or l station.0 board) same)) (are.boards station.0 board (omega (arith, inside, size))) in
+    let it = subst (IsBoardOf r v.late reach.rides station.0) (sym (is ∙ ap (λ (l : List (List Useful)). get_or l station.0 board) same)) (are.boards station.0 board (omega (arith, inside, size))) in
     let first = first_stop r s in
     let parts = both_true (first.station.0 == station.0) (nat_le from first.depart && nat_le first.depart to) says in
     let times = both_true (nat_le from first.depart) (nat_le first.depart to) parts.1 in
@@ -64,7 +65,21 @@ firsts_found r w v changes reach boards station from to two board are same small
     let up = leads.known.0.rises in
     let ends = leads.known.0.ends in
     window first.depart (rank_of v s rest)
-    (it s.run.0 s.span.from (omega (arith, up, ends)) (eqb-true first.station.0 station.0 parts.0) (omega (arith, high, end)) (rank_of v s rest) (are.rides s.run.0 s.span.from s rest refl refl count leads)) low high
+    (it s.run.0 s.span.from (omega (arith, up, ends)) (eqb-true first.station.0 station.0 parts.0) (omega (arith, high, end)) (rank_of v s rest) (are.rides s.run.0 s.span.from s rest refl refl count leads) less) low high
+
+-- by the board of the station, and what comes too late for it
+pub firsts_found : (r : RunsView) (w : TripWish) (v : RanksView) (changes : ℕ) (reach : ReachView) (boards : List (List Useful)) (station : StationNo) (from to : ℕ) (early late two : FirstTwo) (board : List Useful)
+    → IsReach r w v changes reach → boards ≡ reach.boards → true ≡ ltb station.0 (length boards) → board ≡ get_or boards station.0 board → to < end_of_windows → BoundsWindow board from to early
+    → ((rank : ℕ) → v.late ≤ rank → rank < no_rank → Precede late rank) → ((rank : ℕ) → Precede early rank → Precede two rank) → ((rank : ℕ) → Precede late rank → Precede two rank)
+    → FirstsLeaving r w v changes station from to two
+firsts_found r w v changes reach boards station from to early late two board are same small is end window after left right s rest count leads says = by_rank (cases_lt rank v.late)
+  where
+    rank : ℕ
+    rank = rank_of v s rest
+
+    by_rank : (rank < v.late) ⊎ (v.late ≤ rank) → Precede two rank
+    by_rank (inl less) = left rank (early_found r w v changes reach boards station from to early board are same small is end window s rest count leads says less)
+    by_rank (inr past) = right rank (after rank past (leading_placed r w v are.ranks s rest leads).few)
 
 pub leaving_fresh : (r : RunsView) (w : TripWish) (v : RanksView) (changes : ℕ) (way : List Segment) (station : StationNo) (from to bound : ℕ) (two : FirstTwo) → FirstsLeaving r w v changes station from to two
     → BoundsFresh r w v two way bound → BoundsLeaving r w changes way station from to bound
@@ -72,11 +87,11 @@ leaving_fresh r w v changes way station from to bound two firsts fresh s rest co
 
 pub narrowing_found : (r : RunsView) (w : TripWish) (v : RanksView) (changes : ℕ) (reach : ReachView) (boards : List (List Useful)) (station : StationNo) (from to first last : ℕ) (board : List Useful) → IsReach r w v changes reach
     → boards ≡ reach.boards → true ≡ ltb station.0 (length boards) → board ≡ get_or boards station.0 board → to < end_of_windows → NarrowsWindow board from to first last
-    → NarrowsLeaving r w changes station from to first last
-narrowing_found r w v changes reach boards station from to first last board are same small is end narrows s rest count leads says =
+    → no_rank ≤ v.late → NarrowsLeaving r w changes station from to first last
+narrowing_found r w v changes reach boards station from to first last board are same small is end narrows none s rest count leads says =
     let size : length boards ≡ length reach.boards = ap (λ (l : List (List Useful)). length l) same in
     let inside = ltb-true station.0 (length boards) (sym small) in
-    let it = subst (IsBoardOf r reach.rides station.0) (sym (is ∙ ap (λ (l : List (List Useful)). get_or l station.0 board) same)) (are.boards station.0 board (omega (arith, inside, size))) in
+    let it = subst (IsBoardOf r v.late reach.rides station.0) (sym (is ∙ ap (λ (l : List (List Useful)). get_or l station.0 board) same)) (are.boards station.0 board (omega (arith, inside, size))) in
     let start = first_stop r s in
     let parts = both_true (start.station.0 == station.0) (nat_le from start.depart && nat_le start.depart to) says in
     let times = both_true (nat_le from start.depart) (nat_le start.depart to) parts.1 in
@@ -85,8 +100,10 @@ narrowing_found r w v changes reach boards station from to first last board are 
     let up = leads.known.0.rises in
     let ends = leads.known.0.ends in
     let here = eqb-true start.station.0 station.0 parts.0 in
+    let its = are.rides s.run.0 s.span.from s rest refl refl count leads in
+    let few = its.0 in
     let part = narrows.each start.depart (rank_of v s rest)
-    (it s.run.0 s.span.from (omega (arith, up, ends)) here (omega (arith, high, end)) (rank_of v s rest) (are.rides s.run.0 s.span.from s rest refl refl count leads)) low high in
+    (it s.run.0 s.span.from (omega (arith, up, ends)) here (omega (arith, high, end)) (rank_of v s rest) its (omega (arith, few, none))) low high in
     leaves_there station first last start (is_station start.station station here) part.0 part.1
 
 pub stop_firsts : (r : RunsView) (w : TripWish) (v : RanksView) (changes run number : ℕ) (stop : Stop) (station : StationNo) (from to : ℕ) (two : FirstTwo) → 0 < changes → stop ≡ stop_at (stops_of r run) number
@@ -180,10 +197,10 @@ firsts_more r w v changes run stops old here new back stop fits at left right ow
 abbrev pub AreEarlier : List Departure → List Useful → ℕ → Type 0
 AreEarlier ds board index = (k : ℕ) (none : Departure) → index ≤ k → k < length ds → All (λ u. u.moment ≤ (get_or ds k none).moment) board
 
--- those before `index` are noted
-abbrev pub AreDone : List Departure → List (List FirstTwo) → List Useful → ℕ → Type 0
-AreDone ds rides board index = (k : ℕ) (none : Departure) (rank : ℕ) → k < index → k < length ds
-    → Precede (firsts_in rides (get_or ds k none).run.0 (get_or ds k none).stop) rank → IsNoted board (get_or ds k none).moment rank
+-- those before `index` are noted, where they don't lead there too late
+abbrev pub AreDone : List Departure → ℕ → List (List FirstTwo) → List Useful → ℕ → Type 0
+AreDone ds late rides board index = (k : ℕ) (none : Departure) (rank : ℕ) → k < index → k < length ds
+    → Precede (firsts_in rides (get_or ds k none).run.0 (get_or ds k none).stop) rank → rank < late → IsNoted board (get_or ds k none).moment rank
 
 pub earlier_post : (r : RunsView) (station : StationNo) (from to : ℕ) (ds : List Departure) (board new : List Useful) (index moment : ℕ) (least : FirstTwo) (d : Departure) → AreLeaving r station from to ds
     → d ≡ get_or ds index d → index < length ds → moment ≡ d.moment → HasPosted board moment least new → AreEarlier ds board index → AreEarlier ds new (index + 1)
@@ -208,34 +225,34 @@ earlier_post r station from to ds board new index moment least d leaving is fits
 pub earlier_skip : (ds : List Departure) (board : List Useful) (index : ℕ) → AreEarlier ds board index → AreEarlier ds board (index + 1)
 earlier_skip ds board index earlier k none low high = earlier k none (omega (arith, low)) high
 
-done_on : (ds : List Departure) (rides : List (List FirstTwo)) (board new : List Useful) (index : ℕ) (d : Departure) → d ≡ get_or ds index d → index < length ds → AreDone ds rides board index
-    → ((depart rank : ℕ) → IsNoted board depart rank → IsNoted new depart rank) → ((rank : ℕ) → Precede (firsts_in rides d.run.0 d.stop) rank → IsNoted new d.moment rank)
-    → AreDone ds rides new (index + 1)
-done_on ds rides board new index d is fits done old here k none rank low high bound = by_place (cases_lt k index)
+done_on : (ds : List Departure) (late : ℕ) (rides : List (List FirstTwo)) (board new : List Useful) (index : ℕ) (d : Departure) → d ≡ get_or ds index d → index < length ds → AreDone ds late rides board index
+    → ((depart rank : ℕ) → IsNoted board depart rank → IsNoted new depart rank) → ((rank : ℕ) → Precede (firsts_in rides d.run.0 d.stop) rank → rank < late → IsNoted new d.moment rank)
+    → AreDone ds late rides new (index + 1)
+done_on ds late rides board new index d is fits done old here k none rank low high bound early = by_place (cases_lt k index)
   where
     by_place : (k < index) ⊎ (index ≤ k) → IsNoted new (get_or ds k none).moment rank
-    by_place (inl less) = old (get_or ds k none).moment rank (done k none rank less high bound)
+    by_place (inl less) = old (get_or ds k none).moment rank (done k none rank less high bound early)
     by_place (inr past) =
         let at : k ≡ index = omega (arith, low, past) in
         let same : get_or ds k none ≡ d = ap (λ n. get_or ds n none) at ∙ (get_or_default ds index none d fits ∙ sym is) in
-        subst (λ (x : Departure). IsNoted new x.moment rank) (sym same) (here rank (subst (λ (x : Departure). Precede (firsts_in rides x.run.0 x.stop) rank) same bound))
+        subst (λ (x : Departure). IsNoted new x.moment rank) (sym same) (here rank (subst (λ (x : Departure). Precede (firsts_in rides x.run.0 x.stop) rank) same bound) early)
 
-pub done_post : (ds : List Departure) (rides : List (List FirstTwo)) (board new : List Useful) (index moment : ℕ) (bound : FirstTwo) (d : Departure) → d ≡ get_or ds index d → index < length ds → moment ≡ d.moment
-    → bound ≡ firsts_in rides d.run.0 d.stop → HasPosted board moment bound new → AreDone ds rides board index → AreDone ds rides new (index + 1)
-done_post ds rides board new index moment bound d is fits at value has done =
-    done_on ds rides board new index d is fits done
+pub done_post : (ds : List Departure) (late : ℕ) (rides : List (List FirstTwo)) (board new : List Useful) (index moment : ℕ) (bound : FirstTwo) (d : Departure) → d ≡ get_or ds index d → index < length ds → moment ≡ d.moment
+    → bound ≡ firsts_in rides d.run.0 d.stop → HasPosted board moment bound new → AreDone ds late rides board index → AreDone ds late rides new (index + 1)
+done_post ds late rides board new index moment bound d is fits at value has done =
+    done_on ds late rides board new index d is fits done
     (λ depart rank noted. subst (λ (l : List Useful). IsNoted l depart rank) (sym has.is) (noted_on board has.it bound depart rank has.rises has.follows noted))
-    (λ rank here. subst (λ (l : List Useful). IsNoted l d.moment rank) (sym has.is)
+    (λ rank here early. subst (λ (l : List Useful). IsNoted l d.moment rank) (sym has.is)
     (noted_last board has.it bound d.moment rank (has.moment_is ∙ at) has.follows (subst (λ (n : FirstTwo). Precede n rank) (sym value) here)))
 
-pub done_skip : (ds : List Departure) (rides : List (List FirstTwo)) (board : List Useful) (index : ℕ) (bound : FirstTwo) (d : Departure) → d ≡ get_or ds index d → index < length ds
-    → bound ≡ firsts_in rides d.run.0 d.stop → no_rank ≤ bound.first → AreDone ds rides board index → AreDone ds rides board (index + 1)
-done_skip ds rides board index bound d is fits value none done =
-    done_on ds rides board board index d is fits done (λ depart rank noted. noted) (λ rank here. (let its = subst (λ (n : FirstTwo). Precede n rank) (sym value) here in let few = its.0 in let low = its.1.0 in absurd (omega (arith, few, low, none))))
+pub done_skip : (ds : List Departure) (late : ℕ) (rides : List (List FirstTwo)) (board : List Useful) (index : ℕ) (bound : FirstTwo) (d : Departure) → d ≡ get_or ds index d → index < length ds
+    → bound ≡ firsts_in rides d.run.0 d.stop → late ≤ bound.first → AreDone ds late rides board index → AreDone ds late rides board (index + 1)
+done_skip ds late rides board index bound d is fits value past done =
+    done_on ds late rides board board index d is fits done (λ depart rank noted. noted) (λ rank here early. (let its = subst (λ (n : FirstTwo). Precede n rank) (sym value) here in let low = its.1.0 in absurd (omega (arith, early, low, past))))
 
-pub board_done : (r : RunsView) (rides : List (List FirstTwo)) (station : StationNo) (from to : ℕ) (ds : List Departure) (board new : List Useful) (index : ℕ) → AreLeaving r station from to ds → from ≡ 0 → end_of_windows ≤ to + 1
-    → AreDone ds rides board index → length ds ≤ index → ((depart rank : ℕ) → IsNoted board depart rank → IsPosted new depart rank) → IsBoardOf r rides station.0 new
-board_done r rides station from to ds board new index leaving start far done ended finish run stop further here early rank bound =
+pub board_done : (r : RunsView) (late : ℕ) (rides : List (List FirstTwo)) (station : StationNo) (from to : ℕ) (ds : List Departure) (board new : List Useful) (index : ℕ) → AreLeaving r station from to ds → from ≡ 0 → end_of_windows ≤ to + 1
+    → AreDone ds late rides board index → length ds ≤ index → ((depart rank : ℕ) → IsNoted board depart rank → IsPosted new depart rank) → IsBoardOf r late rides station.0 new
+board_done r late rides station from to ds board new index leaving start far done ended finish run stop further here early rank bound in_time =
     let at = stop_at (stops_of r run) stop in
     let listed = leaving.every run stop further (leaves_there station from to at (is_station at.station station here) (omega (arith, start)) (omega (arith, early, far))) in
     let none : Departure = record { moment = 0; run = record { 0 = run }; stop = stop } in
@@ -246,7 +263,7 @@ board_done r rides station from to ds board new index leaving start far done end
     let d = get_or ds listed.place none in
     let moment : d.moment ≡ at.depart = sym each.moment ∙ (ap (λ n. (stop_at (stops_of r n) d.stop).depart) is_run ∙ ap (λ n. (stop_at (stops_of r run) n).depart) is_stop) in
     let its : Precede (firsts_in rides d.run.0 d.stop) rank = subst (λ n. Precede (firsts_in rides n d.stop) rank) (sym is_run) (subst (λ n. Precede (firsts_in rides run n) rank) (sym is_stop) bound) in
-    subst (λ n. IsPosted new n rank) moment (finish d.moment rank (done listed.place none rank (omega (arith, ended, within)) listed.within its))
+    subst (λ n. IsPosted new n rank) moment (finish d.moment rank (done listed.place none rank (omega (arith, ended, within)) listed.within its in_time))
 
 -- ---- what is left out
 

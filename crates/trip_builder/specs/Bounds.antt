@@ -54,10 +54,11 @@ IsBound bound arrival = (bound ≤ arrival) × (bound < never)
 abbrev pub no_rank : ℕ
 no_rank = 65_535
 
--- the runs that come to the destination, and for each run its place among them
+-- the runs that come to the destination, for each run its place among them, and from which rank on they come too late
 pub record RanksView : Type 0 where
   pub order : List Arrival
   pub ranks : List ℕ
+  pub late : ℕ
 
 abbrev pub rank_in : RanksView → ℕ → ℕ
 rank_in v run = slice_index_or v.ranks run no_rank
@@ -156,14 +157,14 @@ unknown = record { first = 0; second = 0 }
 abbrev pub firsts_in : List (List FirstTwo) → ℕ → ℕ → FirstTwo
 firsts_in rides run stop = slice_index_or (slice_index_or rides stop []) run unknown
 
--- the departures of the station that lead to the destination, by their rides
-abbrev pub IsBoardOf : RunsView → List (List FirstTwo) → ℕ → List Useful → Type 0
-IsBoardOf r rides station board = (run stop : ℕ) → stop + 1 < length (stops_of r run) → (stop_at (stops_of r run) stop).station.0 ≡ station
-    → (stop_at (stops_of r run) stop).depart < end_of_windows → (rank : ℕ) → Precede (firsts_in rides run stop) rank
+-- the departures of the station that lead to the destination before that rank, by their rides
+abbrev pub IsBoardOf : RunsView → ℕ → List (List FirstTwo) → ℕ → List Useful → Type 0
+IsBoardOf r late rides station board = (run stop : ℕ) → stop + 1 < length (stops_of r run) → (stop_at (stops_of r run) stop).station.0 ≡ station
+    → (stop_at (stops_of r run) stop).depart < end_of_windows → (rank : ℕ) → Precede (firsts_in rides run stop) rank → rank < late
     → IsPosted board (stop_at (stops_of r run) stop).depart rank
 
-abbrev pub AreBoards : RunsView → List (List FirstTwo) → List (List Useful) → Type 0
-AreBoards r rides boards = (n : ℕ) (none : List Useful) → n < length boards → IsBoardOf r rides n (slice_index_or boards n none)
+abbrev pub AreBoards : RunsView → ℕ → List (List FirstTwo) → List (List Useful) → Type 0
+AreBoards r late rides boards = (n : ℕ) (none : List Useful) → n < length boards → IsBoardOf r late rides n (slice_index_or boards n none)
 
 -- the two precede what takes the run at the stop, and goes on with so many changes to the destination
 abbrev pub FirstsOfRide : RunsView → TripWish → RanksView → ℕ → ℕ → ℕ → FirstTwo → Type 0
@@ -181,7 +182,7 @@ pub record ReachView : Type 0 where
 pub record IsReach (r : RunsView) (w : TripWish) (v : RanksView) (changes : ℕ) (reach : ReachView) : Type 0 where
   pub ranks : AreRanks r w v
   pub rides : AreRides r w v changes reach.rides
-  pub boards : AreBoards r reach.rides reach.boards
+  pub boards : AreBoards r v.late reach.rides reach.boards
 
 -- those without a change, with one, and so on
 pub record BoundsView : Type 0 where

@@ -200,7 +200,7 @@ fn reach(
     if bound > found.ceiling || is_hopeless(runs, found, bound, way, trains) {
         return Ok(());
     }
-    let part = found.bounds.narrowed(trains - 1, &window);
+    let part = found.bounds.narrowed_early(trains - 1, &window);
     change(runs, wish, way, trains, leaving(runs, part), found)?;
     Ok(())
 }

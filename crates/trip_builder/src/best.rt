@@ -49,6 +49,11 @@ impl Best {
         *self.trips.allocator()
     }
 
+    /// When the last of sixteen trips arrives: later than each arrival where there are fewer.
+    pub(crate) fn limit(&self) -> u64 {
+        self.limit
+    }
+
     /// Whether what arrives after these seconds doesn't come among the best.
     pub(crate) fn are_all_by(&self, seconds: u64) -> bool
         ensures { (r : RunsView) (w : TripWish) → IsKept r w self.now → result ≡ true

@@ -315,6 +315,10 @@ impl Hints {
         ensures earlier { AllWithin (λ u. u.moment < seconds) useful.now 0 result }
         ensures later { AllWithin (λ u. seconds ≤ u.moment) useful.now result (length useful.now) }
     {
+        let end = useful.len();
+        if are_before(useful, end, seconds) {
+            return end;
+        }
         let count = self.follow(useful, seconds);
         if are_before(useful, count, seconds) {
             return count;

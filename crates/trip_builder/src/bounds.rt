@@ -1,7 +1,9 @@
 ghost use Rattle.std.specs.Prelude.{◌≡◌, ◌<◌, ◌≤◌, ◌^◌, ℕ, [], length, IfOk, OnOk, slice_index_or};
 ghost use Rattle.train_runs.specs.Runs.{RunsView};
+ghost use Rattle.train_runs.specs.Stops.{stop_at};
+ghost use Rattle.trip_builder.specs.Segments.{stops_of as stops_of_run};
 ghost use Rattle.trip_builder.specs.declared.trip.TripWish.{TripWish};
-ghost use Rattle.trip_builder.specs.Bounds.{RanksView, AreRanks, AreRides, AreUnknown, IsPut, IsBoardOf, AreBoards, AreBounds, BoundsRide, BoundsLeaving, NarrowsLeaving, FirstsOfRide, FirstsOfStop, FirstsLeaving, firsts_in, unknown};
+ghost use Rattle.trip_builder.specs.Bounds.{RanksView, AreRanks, AreRides, AreUnknown, IsPut, IsBoardOf, AreBoards, AreBounds, BoundsRide, BoundsLeaving, NarrowsLeaving, FirstsOfRide, FirstsOfStop, FirstsLeaving, firsts_in, unknown, no_rank};
 ghost use Rattle.trip_builder.specs.Ends.{AreEnds};
 
 use crate::board::Board;
@@ -13,7 +15,7 @@ use offer_codes::Segment;
 use rail_ids::{RunNo, StationNo};
 use std::alloc::{AllocError, Global};
 use std::marker::Model;
-use train_runs::{Departure, Runs};
+use train_runs::{Departure, Runs, Stop};
 
 /// With fewer changes than this there are bounds.
 const BOUNDED_CHANGES: usize = 3;
@@ -112,18 +114,19 @@ impl Bounds {
         self.levels.len()
     }
 
-    /// The bounds of all departures.
+    /// The bounds of all departures. Of what arrives after the limit they say no more than that.
     pub(crate) fn of(
         alloc: Global,
         runs: &Runs,
         wish: &TripWish,
         ends: &mut Ends,
+        limit: u64,
     ) -> Result<Bounds, AllocError>
         requires { AreEnds runs.now wish.now ends.old }
         ensures ends { AreEnds runs.now wish.now ends.new }
         ensures bounds { IfOk result (AreBounds runs.now wish.now) }
     {
-        let ranks = Ranks::of(alloc, runs, wish, ends)?;
+        let ranks = Ranks::of(alloc, runs, wish, ends, limit)?;
         let right = ranks.are_right(runs, wish, ends);
         let mut bounds = Bounds {
             ranks,
@@ -144,7 +147,8 @@ impl Bounds {
         let alloc = *self.levels.allocator();
         for changes in 0..BOUNDED_CHANGES {
             let rides = rides_of(alloc, runs, wish, self)?;
-            let boards = boards_of(alloc, runs, rides.as_slice(), changes)?;
+            let late = self.ranks.late();
+            let boards = boards_of(alloc, runs, rides.as_slice(), changes, late)?;
             self.levels.push(Reach { rides, boards })?;
         }
         Ok(())
@@ -172,9 +176,11 @@ impl Bounds {
             return 0;
         };
         match reach.boards.get(window.station.0 as usize) {
-            Some(board) => self
-                .ranks
-                .arrival(board.firsts(window.from, window.to), way),
+            Some(board) => {
+                let early = board.firsts(window.from, window.to);
+                let two = join(early, self.ranks.late_ones());
+                self.ranks.arrival(two, way)
+            }
             None => 0,
         }
     }
@@ -189,7 +195,10 @@ impl Bounds {
             return UNKNOWN;
         };
         match reach.boards.get(window.station.0 as usize) {
-            Some(board) => board.firsts(window.from, window.to),
+            Some(board) => {
+                let early = board.firsts(window.from, window.to);
+                join(early, self.ranks.late_ones())
+            }
             None => UNKNOWN,
         }
     }
@@ -201,6 +210,21 @@ impl Bounds {
         ensures from { window.now.from ≤ result.from }
         ensures to { result.to ≤ window.now.to }
         ensures leading { (r : RunsView) (w : TripWish) → AreBounds r w self.now
+            → NarrowsLeaving r w changes window.now.station window.now.from window.now.to result.from result.to }
+    {
+        if self.ranks.late() < NO_RANK {
+            return *window;
+        }
+        self.narrowed_early(changes, window)
+    }
+
+    /// The same, where nothing comes too late: what does may leave outside of this part.
+    pub(crate) fn narrowed_early(&self, changes: usize, window: &Window) -> Window
+        requires end { window.now.to < 2 ^ 63 }
+        ensures station { result.station ≡ window.now.station }
+        ensures from { window.now.from ≤ result.from }
+        ensures to { result.to ≤ window.now.to }
+        ensures leading { no_rank ≤ self.now.ranks.late → (r : RunsView) (w : TripWish) → AreBounds r w self.now
             → NarrowsLeaving r w changes window.now.station window.now.from window.now.to result.from result.to }
     {
         let Some(reach) = self.levels.get(changes) else {
@@ -241,7 +265,8 @@ fn rides_of(
 {
     if bounds.count() < BOUNDED_CHANGES - 1 {
         let mut rides = unknown_rides(alloc, runs, most_stops_of(runs))?;
-        bound_all(runs, wish, bounds, rides.as_mut_slice());
+        let firsts = first_departures(alloc, runs)?;
+        bound_each(runs, wish, bounds, firsts.as_slice(), rides.as_mut_slice());
         return Ok(rides);
     }
     let firsts = leaving(runs, window_of(runs, wish, &[]));
@@ -262,6 +287,23 @@ fn unknown_rides(alloc: Global, runs: &Runs, stops: usize) -> Result<Vec<Column>
     Ok(rides)
 }
 
+// Where each run begins, the earlier ones first: so runs that follow one another ask a board for places that stand
+// together. Who takes them needs none of this.
+fn first_departures(alloc: Global, runs: &Runs) -> Result<Vec<Departure>, AllocError> {
+    let mut firsts = Vec::new(alloc);
+    for run in 0..runs.count() {
+        firsts.push(Departure {
+            moment: stop_of(runs, RunNo(run), 0).depart,
+            run: RunNo(run),
+            stop: 0,
+        })?;
+    }
+    firsts
+        .as_mut_slice()
+        .sort_unstable_by_key(|it| it.moment.seconds());
+    Ok(firsts)
+}
+
 // How many stops a run has at most.
 fn most_stops_of(runs: &Runs) -> usize {
     let mut most = 0;
@@ -278,18 +320,6 @@ fn past_stops_of(departures: &[Departure]) -> usize {
         past = past.max(usize::from(departure.stop) + 1);
     }
     past
-}
-
-// Bounds the rides of all runs.
-fn bound_all(runs: &Runs, wish: &TripWish, bounds: &Bounds, rides: &mut [Column])
-    requires ranks { AreRanks runs.now wish.now bounds.now.ranks }
-    requires bounds { AreBounds runs.now wish.now bounds.now }
-    requires rides { AreRides runs.now wish.now bounds.now.ranks (length bounds.now.levels) rides.old }
-    ensures { AreRides runs.now wish.now bounds.now.ranks (length bounds.now.levels) rides.new }
-{
-    for run in 0..runs.count() {
-        bound_run(runs, wish, bounds, RunNo(run), rides);
-    }
 }
 
 // Bounds the rides of the runs of these departures.
@@ -324,7 +354,8 @@ fn bound_run(runs: &Runs, wish: &TripWish, bounds: &Bounds, run: RunNo, rides: &
     for back in 0..count {
         let stop = count - 1 - back;
         put(rides, stop, run, firsts);
-        firsts = join(firsts, firsts_at(runs, wish, bounds, run, stop as u8));
+        let here = firsts_at(runs, wish, bounds, run, stop as u8, &stops[stop]);
+        firsts = join(firsts, here);
     }
 }
 
@@ -338,27 +369,37 @@ fn put(rides: &mut [Column], stop: usize, run: RunNo, firsts: FirstTwo)
     }
 }
 
-// The first two of what gets off the run at the stop with one change more.
-fn firsts_at(runs: &Runs, wish: &TripWish, bounds: &Bounds, run: RunNo, stop: u8) -> FirstTwo
+// The first two of what gets off the run at the stop of this number, with one change more.
+fn firsts_at(
+    runs: &Runs,
+    wish: &TripWish,
+    bounds: &Bounds,
+    run: RunNo,
+    stop: u8,
+    off: &Stop,
+) -> FirstTwo
+    requires off { off.now ≡ stop_at (stops_of_run runs.now run.0) stop }
     requires ranks { AreRanks runs.now wish.now bounds.now.ranks }
     requires bounds { AreBounds runs.now wish.now bounds.now }
     ensures { FirstsOfStop runs.now wish.now bounds.now.ranks (length bounds.now.levels) run.0 stop result }
 {
     let changes = bounds.count();
     if changes > 0 {
-        return bounds.firsts_leaving(changes - 1, &window_at(runs, &stop_of(runs, run, stop)));
+        return bounds.firsts_leaving(changes - 1, &window_at(runs, off));
     }
     bounds.ranks.at(run, stop)
 }
 
-// The departures of each station that lead to the destination: none where no further change is bounded by them.
+// The departures of each station that lead to the destination before this rank: none where no further change is bounded
+// by them.
 fn boards_of(
     alloc: Global,
     runs: &Runs,
     rides: &[Column],
     changes: usize,
+    late: u16,
 ) -> Result<Vec<Board>, AllocError>
-    ensures { IfOk result (λ v. AreBoards runs.now rides.now v.items) }
+    ensures { IfOk result (λ v. AreBoards runs.now late rides.now v.items) }
 {
     let count = if changes < BOUNDED_CHANGES - 1 {
         runs.station_count()
@@ -367,7 +408,7 @@ fn boards_of(
     };
     let mut boards = Vec::new(alloc);
     for station in 0..count {
-        boards.push(board_of(alloc, runs, rides, StationNo(station))?)?;
+        boards.push(board_of(alloc, runs, rides, StationNo(station), late)?)?;
     }
     Ok(boards)
 }
@@ -378,8 +419,9 @@ fn board_of(
     runs: &Runs,
     rides: &[Column],
     station: StationNo,
+    late: u16,
 ) -> Result<Board, AllocError>
-    ensures { IfOk result (IsBoardOf runs.now rides.now station.0) }
+    ensures { IfOk result (IsBoardOf runs.now late rides.now station.0) }
 {
     let change = u64::from(runs.change(station).unwrap_or(0));
     let departures = leaving(runs, always(station));
@@ -387,7 +429,7 @@ fn board_of(
     board.reserve(departures.len())?;
     for departure in departures {
         let two = firsts_of(rides, departure.run, departure.stop);
-        if two.first < NO_RANK {
+        if two.first < late {
             board.post(departure.moment.seconds() as u32, two)?;
         }
     }

@@ -1,7 +1,7 @@
 ghost use Rattle.std.specs.Prelude.{◌≡◌, ◌≤◌, ◌<◌, ℕ, true, [], length, slice_index_or};
 ghost use Rattle.train_runs.specs.Runs.{RunsView};
 ghost use Rattle.trip_builder.specs.declared.trip.TripWish.{TripWish};
-ghost use Rattle.trip_builder.specs.Bounds.{Precede, AreRanks, IsPlacedRun, Ascends, BoundsFresh, FirstsOfStop, rank_in};
+ghost use Rattle.trip_builder.specs.Bounds.{Precede, AreRanks, IsPlacedRun, Ascends, BoundsFresh, FirstsOfStop, rank_in, no_rank};
 ghost use Rattle.trip_builder.specs.declared.ranks.Arrival.{Arrival};
 ghost use Rattle.trip_builder.specs.Ends.{IsEnd, AreEnds};
 
@@ -75,11 +75,13 @@ pub(crate) struct Arrival {
     pub arrive: u64,
 }
 
-/// The runs that come to the destination, the earliest first, and for each run its place among them.
+/// The runs that come to the destination, the earliest first, for each run its place among them, and from which rank on
+/// they come too late.
 #[derive(Drop)]
 pub(crate) struct Ranks {
     order: Vec<Arrival>,
     ranks: Vec<u16>,
+    late: u16,
 }
 
 impl Model for Ranks {
@@ -87,7 +89,7 @@ impl Model for Ranks {
 
     ghost Value = { RanksView };
 
-    ghost view = { λ r. record { order = r.order.items; ranks = r.ranks.items } };
+    ghost view = { λ r. record { order = r.order.items; ranks = r.ranks.items; late = r.late } };
 }
 
 impl Ranks {
@@ -96,15 +98,17 @@ impl Ranks {
         Ranks {
             order: Vec::new(alloc),
             ranks: Vec::new(alloc),
+            late: NO_RANK,
         }
     }
 
-    /// Those of all runs. Who takes them looks whether they are right.
+    /// Those of all runs, of which what comes after the limit is too late. Who takes them looks whether they are right.
     pub(crate) fn of(
         alloc: Global,
         runs: &Runs,
         wish: &TripWish,
         ends: &mut Ends,
+        limit: u64,
     ) -> Result<Ranks, AllocError>
         requires { AreEnds runs.now wish.now ends.old }
         ensures { AreEnds runs.now wish.now ends.new }
@@ -112,7 +116,8 @@ impl Ranks {
         let mut order = arrivals_of(alloc, runs, wish, ends)?;
         order.as_mut_slice().sort_unstable_by_key(|it| it.arrive);
         let ranks = places_of(alloc, runs, order.as_slice())?;
-        Ok(Ranks { order, ranks })
+        let late = late_of(order.as_slice(), limit);
+        Ok(Ranks { order, ranks, late })
     }
 
     /// Whether all that come to the destination have their places.
@@ -148,6 +153,23 @@ impl Ranks {
                     && it.arrive < NEVER
             }
             None => false,
+        }
+    }
+
+    /// From which rank on they come too late.
+    pub(crate) fn late(&self) -> u16
+        ensures { result ≡ self.now.late }
+    {
+        self.late
+    }
+
+    /// Those that come too late: which of them stays unsaid.
+    pub(crate) fn late_ones(&self) -> FirstTwo
+        ensures { (rank : ℕ) → self.now.late ≤ rank → rank < no_rank → Precede result rank }
+    {
+        FirstTwo {
+            first: self.late,
+            second: self.late,
         }
     }
 
@@ -236,6 +258,16 @@ fn places_of(alloc: Global, runs: &Runs, order: &[Arrival]) -> Result<Vec<u16>, 
         }
     }
     Ok(ranks)
+}
+
+// The first that arrives after the limit.
+fn late_of(order: &[Arrival], limit: u64) -> u16 {
+    for rank in 0..order.len() {
+        if order[rank].arrive > limit {
+            return (rank % 65_536) as u16;
+        }
+    }
+    NO_RANK
 }
 
 // Whether the later ones stand further on.

@@ -71,6 +71,7 @@ fn go_on(
         if found.best.are_all_by(departure.moment.seconds()) {
             return Ok(());
         }
+        found.left = found.left.saturating_sub(1);
         if may_lead(runs, wish, way, departure, changes, found) {
             ride(runs, wish, way, departure, changes, found)?;
         }
@@ -98,7 +99,6 @@ fn ride(
     ensures decided { OnOk result
         (AreDecidedFrom runs.now wish.now found.new.best.trips.items way.now changes departure.now) }
 {
-    found.left = found.left.saturating_sub(1);
     if changes == 0 {
         return get_off(runs, wish, way, departure, found);
     }
@@ -125,7 +125,7 @@ fn bound_long_search(runs: &Runs, wish: &TripWish, found: &mut Found) -> Result<
     }
     if found.bounds.are_unknown() {
         let alloc = found.best.allocator();
-        found.bounds = Bounds::of(alloc, runs, wish, &mut found.ends)?;
+        found.bounds = Bounds::of(alloc, runs, wish, &mut found.ends, found.best.limit())?;
         found.left = SHORT_SEARCH;
         look_ahead(runs, wish, found)?;
     }

@@ -4,5 +4,5 @@ use Rattle.trip_builder.proofs.bounds.board_of.Given as goal
 abbrev pub invariant-loop-departure : goal.invariant-loop-departure
 invariant-loop-departure l = record {
   earlier : AreEarlier l.departures l.board l.departure-index;
-  done : AreDone l.departures l.rides l.board l.departure-index;
+  done : AreDone l.departures l.late l.rides l.board l.departure-index;
 }

@@ -19,5 +19,5 @@ loop-back-preserved c =
     let whole : count ≡ length (stops_of r run) = ap (λ (l : List Stop). length l) c.stops_of-stops.ensures.stops in
     record {
       rides = c.put.ensures r w v changes was.rides (ride_firsts r w v changes run count c.loop-back.firsts back stop whole test refl was.further);
-      further = firsts_more r w v changes run count c.loop-back.firsts c.firsts_at.result c.join-firsts.result back stop test refl c.join-firsts.ensures.left c.join-firsts.ensures.right c.firsts_at.ensures was.further;
+      further = firsts_more r w v changes run count c.loop-back.firsts c.firsts_at-here.result c.join-firsts.result back stop test refl c.join-firsts.ensures.left c.join-firsts.ensures.right c.firsts_at-here.ensures was.further;
     }

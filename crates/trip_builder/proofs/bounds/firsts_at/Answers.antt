@@ -10,5 +10,5 @@ returns-then-changes-gt0 c =
     let v = c.args.bounds.now.ranks in
     let window = c.window_at.result in
     subst (λ n. FirstsOfStop r w v n c.args.run.0 c.args.stop c.firsts_leaving.result) c.count-changes.ensures
-    (stop_firsts r w v c.count-changes.result c.args.run.0 c.args.stop c.stop_of.result window.station window.from window.to c.firsts_leaving.result c.if-changes-gt0.true c.stop_of.ensures
+    (stop_firsts r w v c.count-changes.result c.args.run.0 c.args.stop c.args.off.now window.station window.from window.to c.firsts_leaving.result c.if-changes-gt0.true c.requires.off
     c.window_at.ensures.station c.window_at.ensures.from c.window_at.ensures.to (c.firsts_leaving.ensures r w c.requires.ranks c.requires.bounds))

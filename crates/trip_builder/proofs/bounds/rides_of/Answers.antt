@@ -4,16 +4,16 @@ use Rattle.trip_builder.specs.Bounds.{AreRides}
 use Rattle.trip_builder.proofs.Bounding.{unknown_rides}
 use Rattle.trip_builder.proofs.bounds.rides_of.Goals as goal
 
-pub bound_all-requires-clause-rides : goal.bound_all-requires-clause-rides
-bound_all-requires-clause-rides c =
+pub bound_each-requires-clause-rides : goal.bound_each-requires-clause-rides
+bound_each-requires-clause-rides c =
     let r = c.args.runs.now in
     let w = c.args.wish.now in
     let b = c.args.bounds.now in
     subst (λ (l : List (List FirstTwo)). AreRides r w b.ranks (length b.levels) l) (sym c.as_mut_slice.ensures.value)
     (unknown_rides r w b.ranks (length b.levels) c.in_ok-rides.rides.items c.requires.ranks c.in_ok-rides.ensures)
 
-pub bound_each-requires-clause-rides : goal.bound_each-requires-clause-rides
-bound_each-requires-clause-rides c =
+pub bound_each-requires-2-clause-rides : goal.bound_each-requires-2-clause-rides
+bound_each-requires-2-clause-rides c =
     let r = c.args.runs.now in
     let w = c.args.wish.now in
     let b = c.args.bounds.now in

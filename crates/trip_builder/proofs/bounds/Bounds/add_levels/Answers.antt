@@ -22,7 +22,7 @@ loop-changes-preserved c =
     let are = subst (AreBounds r w) back was.are in
     let its = subst (λ (b : BoundsView). AreRides r w b.ranks (length b.levels) rides) back c.in_ok-rides.ensures in
     let more = bounds_more r w old new reach changes refl c.in_ok-push.ensures.items count are
-    (record { ranks = ranks; rides = subst (λ n. AreRides r w inside.ranks n rides) count its; boards = subst (λ (l : List (List FirstTwo)). AreBoards r l boards) c.as_slice.ensures.value c.in_ok-boards.ensures }) in
+    (record { ranks = ranks; rides = subst (λ n. AreRides r w inside.ranks n rides) count its; boards = subst (λ n. AreBoards r n rides boards) c.late-late.ensures (subst (λ (l : List (List FirstTwo)). AreBoards r c.late-late.result l boards) c.as_slice.ensures.value c.in_ok-boards.ensures) }) in
     record {
       count = more.0;
       ranks = ranks;
