@@ -1,7 +1,5 @@
-use Rattle.std.proofs.Common.{◌≡◌, ◌≤◌, ◌<◌, ℕ, ◌+◌, ◌-◌, ◌*◌, ◌/◌, arith, subst}
-use Rattle.claim_rule.specs.Calls.{ShapeBy}
+use Rattle.std.proofs.Common.{◌≡◌, ◌≤◌, ◌+◌, ◌-◌, ◌*◌, ◌/◌, arith}
 use Rattle.claim_rule.proofs.Out.{holds_then, endings_then}
-use Rattle.availability.specs.Looks.{CountsFree, row_from}
 use Rattle.availability.proofs.Rows.{counted_thrice}
 use Rattle.availability.proofs.looks.free_by_fours.Goals as goal
 
