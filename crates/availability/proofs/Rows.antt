@@ -55,3 +55,13 @@ counted_one old new place span free look = (
   (free ∷ [], (look.0, [], look.1, refl, sym (append-nil look.0)), as_byte free),
   look.2,
 )
+
+-- three stretches, each behind the one before
+pub counted_thrice : (old mid next new : DeskView) (first l m n second third all : ℕ) (span : Interval) (count more most : ℕ) → second ≡ first + l → third ≡ first + (l + m) → l + m + n ≡ all
+    → ShapeBy (CountsFree (row_from first l) span count) old mid → ShapeBy (CountsFree (row_from second m) span more) mid next → ShapeBy (CountsFree (row_from third n) span most) next new
+    → ShapeBy (CountsFree (row_from first all) span (count + more + most)) old new
+counted_thrice old mid next new first l m n second third all span count more most at then is one two three =
+    let two' = subst (λ (k : ℕ). ShapeBy (CountsFree (row_from k m) span more) mid next) at two in
+    let three' = subst (λ (k : ℕ). ShapeBy (CountsFree (row_from k n) span most) next new) then three in
+    let both = counted_then old mid next first l m span count more one two' in
+    subst (λ (k : ℕ). ShapeBy (CountsFree (row_from first k) span (count + more + most)) old new) is (counted_then old next new first (l + m) n span (count + more) most both three')

@@ -1,4 +1,4 @@
-ghost use Rattle.std.specs.Prelude.{◌≡◌, ◌<◌, ◌≤◌, ◌+◌, ◌&&◌, All, length, cond, IfOk, IfSome, OnOk, OnErr};
+ghost use Rattle.std.specs.Prelude.{◌≡◌, ◌<◌, ◌≤◌, ◌+◌, ◌-◌, ◌*◌, ◌&&◌, All, length, cond, IfOk, IfSome, OnOk, OnErr};
 ghost use Rattle.leg_masks.specs.Interval.{IsPiece, most_places, pieces as pieces_of};
 ghost use Rattle.claim_rule.specs.Desks.{IsOf};
 ghost use Rattle.claim_rule.specs.Calls.{ShapeBy};
@@ -52,7 +52,10 @@ pub fn free_in_row(books: &Books, desk: &mut Desk, first: PlaceNo, count: u32, s
 {
     let _most = books.places();
     let parts = Parts::of(span);
-    free_one_by_one(books, desk, first.0, count, &parts)
+    if parts.second.is_some() {
+        return free_one_by_one(books, desk, first.0, count, &parts);
+    }
+    free_by_fours(books, desk, first.0, count, &parts)
 }
 
 /// Whether each of the places was free on all legs of the span, by one look at each piece of the span at each place in order,
@@ -151,6 +154,84 @@ fn free_one_by_one(books: &Books, desk: &mut Desk, first: u32, count: u32, parts
         free += look_at_one(books, desk, first + n, parts);
     }
     free
+}
+
+// The same, but from one multiple of four to another four places are looked at in each turn. There no place's number needs to
+// be worked out again at its look, since none of them can be past the greatest one.
+#[inline(always)]
+fn free_by_fours(books: &Books, desk: &mut Desk, first: u32, count: u32, parts: &Parts) -> u32
+    requires own { IsOf books.now desk.old }
+    requires places { first + count ≤ length books.now.layout.legs }
+    requires small { first + count ≤ most_places }
+    ensures own { IsOf books.now desk.new }
+    ensures entries { ShapeBy (CountsFree (row_from first count) parts.now result) desk.old desk.new }
+    ensures holds { KeepsHolds desk.old desk.new }
+    ensures endings { KeepsEndings desk.old desk.new }
+{
+    let end = first + count;
+    let from = (first + 3) / 4;
+    let to = end / 4;
+    if to <= from {
+        return free_one_by_one(books, desk, first, count, parts);
+    }
+    let before = free_one_by_one(books, desk, first, 4 * from - first, parts);
+    let between = free_fours(books, desk, from, to, parts);
+    let behind = free_one_by_one(books, desk, 4 * to, end - 4 * to, parts);
+    before + between + behind
+}
+
+// How many are free of the places from four times the first number up to four times the other.
+#[inline(always)]
+fn free_fours(books: &Books, desk: &mut Desk, from: u32, to: u32, parts: &Parts) -> u32
+    requires own { IsOf books.now desk.old }
+    requires ordered { from ≤ to }
+    requires places { 4 * to ≤ length books.now.layout.legs }
+    requires small { 4 * to ≤ most_places }
+    ensures own { IsOf books.now desk.new }
+    ensures entries { ShapeBy (CountsFree (row_from (4 * from) (4 * (to - from))) parts.now result) desk.old desk.new }
+    ensures few { result ≤ 4 * (to - from) }
+    ensures holds { KeepsHolds desk.old desk.new }
+    ensures endings { KeepsEndings desk.old desk.new }
+{
+    let mut free = 0;
+    for four in from..to {
+        free += look_at_four(books, desk, four, parts);
+    }
+    free
+}
+
+// How many of the four places from four times this number up are free.
+#[inline(always)]
+fn look_at_four(books: &Books, desk: &mut Desk, four: u32, parts: &Parts) -> u32
+    requires own { IsOf books.now desk.old }
+    requires places { 4 * four + 4 ≤ length books.now.layout.legs }
+    requires small { 4 * four + 4 ≤ most_places }
+    ensures own { IsOf books.now desk.new }
+    ensures entries { ShapeBy (CountsFree (row_from (4 * four) 4) parts.now result) desk.old desk.new }
+    ensures few { result ≤ 4 }
+    ensures holds { KeepsHolds desk.old desk.new }
+    ensures endings { KeepsEndings desk.old desk.new }
+{
+    let first = look_at_two(books, desk, 4 * four, parts);
+    let second = look_at_two(books, desk, 4 * four + 2, parts);
+    first + second
+}
+
+// How many of this place and the next one are free.
+#[inline(always)]
+fn look_at_two(books: &Books, desk: &mut Desk, place: u32, parts: &Parts) -> u32
+    requires own { IsOf books.now desk.old }
+    requires places { place + 2 ≤ length books.now.layout.legs }
+    requires small { place + 2 ≤ most_places }
+    ensures own { IsOf books.now desk.new }
+    ensures entries { ShapeBy (CountsFree (row_from place 2) parts.now result) desk.old desk.new }
+    ensures few { result ≤ 2 }
+    ensures holds { KeepsHolds desk.old desk.new }
+    ensures endings { KeepsEndings desk.old desk.new }
+{
+    let first = look_at_one(books, desk, place, parts);
+    let second = look_at_one(books, desk, place + 1, parts);
+    first + second
 }
 
 // 1 where the place is free, else 0.

@@ -5,7 +5,7 @@ ghost use Rattle.rail_io.specs.Told.{Pushes, PushesBoth};
 ghost use Rattle.host_io.specs.Tcp.{seconds_of};
 
 use crate::outbox::Outbox;
-use rail_io::{Pushed, PushedBoth, RETRIES, Sink, pushed_of};
+use rail_io::{Pushed, PushedBoth, RETRIES, Sink, WriterSink, pushed_of};
 use std::alloc::Global;
 use std::io::{ErrorKind, IoSlice, Read};
 use std::net::{Shutdown, TcpStream};
@@ -65,7 +65,8 @@ fn pieces_of<'a>(first: &'a [u8], second: &'a [u8]) -> [IoSlice<'a>; 2]
     [IoSlice::new(first), IoSlice::new(second)]
 }
 
-/// A stream as a sink that tells no content. Two pieces go out by one call of the system.
+/// A stream as a sink that tells no content. One piece goes out by `send`, and two go out by one call for several pieces,
+/// which costs the system more.
 #[derive(Drop)]
 struct StreamSink<'a> {
     stream: &'a TcpStream,
@@ -86,7 +87,7 @@ impl Sink for StreamSink<'_> {
     ghost faults = { λ s. s.faults };
 
     fn write(&mut self, piece: &[u8]) -> Pushed {
-        let pushed = pushed_of(send_some(self.stream, &[IoSlice::new(piece)]));
+        let pushed = WriterSink::new(self.stream).write(piece);
         if let Pushed::Failed = pushed {
             self.faults = self.faults.saturating_add(1);
         }
