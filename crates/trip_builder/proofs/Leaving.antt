@@ -1,5 +1,5 @@
 -- The departures of a station within a window, as the search takes them.
-use Rattle.std.proofs.Common.{◌≡◌, ◌∙◌, ℕ, ◌+◌, ◌<◌, ◌≤◌, ◌==◌, ◌⊎◌, inl, inr, ◌&&◌, true, List, [], length, Some, None, refl, sym, ap, subst, arith, nat_le, get_or, eqb-true, eq-eqb}
+use Rattle.std.proofs.Common.{◌≡◌, ℕ, ◌+◌, ◌<◌, ◌≤◌, ◌==◌, ◌⊎◌, inl, inr, ◌&&◌, true, List, [], length, Some, None, refl, sym, ap, subst, arith, nat_le, get_or, eqb-true, eq-eqb}
 use Rattle.std.specs.Prelude.{slice_get, Option}
 use Rattle.std.specs.List.{AllPairs, Contains}
 use Rattle.std.specs.Option.{option_map_or}

@@ -1,5 +1,5 @@
 -- The shortest rides to the destination, and what is left out by them.
-use Rattle.std.proofs.Common.{◌≡◌, ◌∙◌, ℕ, suc, ◌+◌, ◌-◌, ◌<◌, ◌≤◌, ◌==◌, ◌&&◌, ◌⊎◌, inl, inr, true, List, [], ◌∷◌, ◌++◌, length, sym, ap, subst, arith, nat_le, get_or, eqb-true}
+use Rattle.std.proofs.Common.{◌≡◌, ℕ, suc, ◌+◌, ◌-◌, ◌<◌, ◌≤◌, ◌==◌, ◌&&◌, ◌⊎◌, inl, inr, true, List, [], ◌∷◌, ◌++◌, length, sym, ap, subst, arith, nat_le, get_or, eqb-true}
 use Rattle.std.specs.Prelude.{Option}
 use Rattle.std.specs.List.{AllByRecursion}
 use Rattle.std.specs.Option.{option_map_or}
@@ -18,7 +18,7 @@ use Rattle.trip_builder.specs.Trips.{connects, change_at, longest_wait}
 use Rattle.trip_builder.specs.Best.{IsKnown, IsDecided}
 use Rattle.trip_builder.specs.Search.{Rise, AreLeaving, AreAllLeaving, AllArriveBefore, AreDecidedWith}
 use Rattle.trip_builder.specs.Ends.{IsThere}
-use Rattle.trip_builder.specs.Bounds.{goes_to, LeadsTo, end_of, arrival_of}
+use Rattle.trip_builder.specs.Bounds.{goes_to, arrival_of}
 use Rattle.trip_builder.specs.Shortest.{ride_from, AreLowered, IsRide, AreRidesTo, AreFromDepartures, AreShortest, TakesAtLeast}
 use Rattle.trip_builder.proofs.Ways.{both_true, departs_after}
 use Rattle.trip_builder.proofs.Deciding.{behind_decided}
@@ -91,9 +91,9 @@ past_rides r w rides count is each run to last there = by_place (cases_lt run co
     by_place : (run < count) ⊎ (count ≤ run) → AreRidesTo r run to rides
     by_place (inl less) = each run less to last there
     by_place (inr past) = absurd (
-      let none : length (stops_of r run) ≡ 0 = ap (λ (o : Option RunView). length (option_map_or (λ (it : RunView). it.stops) o [])) (slice_get_past r.runs run (omega (arith, is, past))) in
-      omega (arith, none, last)
-      )
+        let none : length (stops_of r run) ≡ 0 = ap (λ (o : Option RunView). length (option_map_or (λ (it : RunView). it.stops) o [])) (slice_get_past r.runs run (omega (arith, is, past))) in
+        omega (arith, none, last)
+        )
 
 -- ---- how long it takes at least
 

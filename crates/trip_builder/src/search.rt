@@ -86,7 +86,10 @@ fn go_on(
     let part = found.bounds.narrowed(changes, &window);
     let least = found.shortest.least_from(changes, part.station);
     for departure in leaving(runs, part) {
-        if found.best.are_all_before(departure.moment.seconds() + least) {
+        if found
+            .best
+            .are_all_before(departure.moment.seconds() + least)
+        {
             return Ok(());
         }
         if may_lead(runs, wish, way, departure, changes, found) {

@@ -3,7 +3,7 @@ ghost use Rattle.train_runs.specs.Runs.{RunsView};
 ghost use Rattle.train_runs.specs.declared.departure.Departure.{Departure};
 ghost use Rattle.trip_builder.specs.declared.trip.TripWish.{TripWish};
 ghost use Rattle.trip_builder.specs.Segments.{stops_of as stops_of_run};
-ghost use Rattle.trip_builder.specs.Search.{Rise, AreAllLeaving};
+ghost use Rattle.trip_builder.specs.Search.{Rise};
 ghost use Rattle.trip_builder.specs.Ends.{IsThere};
 ghost use Rattle.trip_builder.specs.Shortest.{ride_from as ride_from_in, AreLowered, AreRidesTo, AreShortest, AreFromDepartures, TakesAtLeast};
 
@@ -53,7 +53,11 @@ impl Shortest {
     pub(crate) fn of(alloc: Global, runs: &Runs, wish: &TripWish) -> Result<Shortest, AllocError>
         ensures { IfOk result (AreShortest runs.now wish.now) }
     {
-        let rides = Vec::from_elem(alloc, NO_RIDE, runs.station_count().min(MOST_STATIONS) as usize)?;
+        let rides = Vec::from_elem(
+            alloc,
+            NO_RIDE,
+            runs.station_count().min(MOST_STATIONS) as usize,
+        )?;
         let mut shortest = Shortest { rides };
         let departures = all_leaving(runs, wish.destination);
         shortest.add_departures(runs, departures);

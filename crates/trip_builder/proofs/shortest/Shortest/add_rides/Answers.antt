@@ -1,4 +1,4 @@
-use Rattle.std.proofs.Common.{◌≡◌, ◌-◌, ℕ, List, ap, arith}
+use Rattle.std.proofs.Common.{◌≡◌, ◌-◌, List, ap, arith}
 use Rattle.train_runs.specs.declared.run.Stop.{Stop}
 use Rattle.train_runs.specs.Stops.{stop_at}
 use Rattle.trip_builder.specs.Segments.{stops_of}
