@@ -17,7 +17,7 @@ use Rattle.train_runs.specs.Stations.{StationView}
 use Rattle.train_runs.specs.declared.run.RunFault.TheVariants.{TooFewStops, TooManyStops, TimesNotRising, TooManyRuns, StationRepeated}
 use Rattle.train_runs.specs.Stops.{RunView, IsRun, most_stops, stop_at, no_stop, stands_at, first_unrisen, first_repeated}
 use Rattle.train_runs.specs.Runs.{RunsView, AreSound, run_fault, most_runs}
-use Rattle.train_runs.specs.Departures.{IsDeparture, IsBefore, AreDepartures, times_left, departure_count}
+use Rattle.train_runs.specs.Departures.{AreExactly, IsDeparture, IsBefore, AreDepartures, times_left, departure_count}
 use Rattle.train_runs.specs.Boards.{IsBoard, HasBoards, IsPosted, IsPartBoard, ArePosted, IsWindow}
 use Rattle.train_runs.proofs.Departing.{members_insert, less_or_equal, window_exact}
 
@@ -275,15 +275,21 @@ sound_with r run sound e known =
 pub boards_with : (r : RunsView) (run : RunView) (boards new : List (List Departure)) → HasBoards r boards → length new ≡ length boards → ArePosted r.runs run (length run.stops - 1) new → HasBoards (record { stations = r.stations; runs = r.runs ++ run ∷ [] }) new
 boards_with r run boards new h size posted = end_boards r.stations r.runs run new (size ∙ h.count) posted
 
--- the departures of a station from its list
-pub looked_up : (r : RunsView) (boards seen : List (List Departure)) (s : StationNo) (board ds : List Departure) (from to : ℕ) → HasBoards r boards → seen ≡ boards → true ≡ ltb s.0 (length seen) → board ≡ get_or seen s.0 board
-    → IsWindow from to board ds → AreDepartures r.runs s from to ds
-looked_up r boards seen s board ds from to h same small is window =
+-- the departures of a station are its list
+pub whole_board : (r : RunsView) (boards seen : List (List Departure)) (s : StationNo) (board : List Departure) → HasBoards r boards → seen ≡ boards → true ≡ ltb s.0 (length seen) → board ≡ get_or seen s.0 board
+    → AreExactly (IsDeparture r.runs s) board
+whole_board r boards seen s board h same small is =
     let size : length seen ≡ length boards = ap length same in
     let inside = ltb-true s.0 (length seen) (sym small) in
     let at : board ≡ get_or boards s.0 board = is ∙ ap (λ (l : List (List Departure)). get_or l s.0 board) same in
     let it = subst (λ (l : List Departure). IsBoard r.runs s l) (sym at) (h.each s.0 board (omega (arith, inside, size))) in
-    window_exact (IsDeparture r.runs s) from to board ds it.exact window
+    it.exact
+
+-- those within a window
+pub looked_up : (r : RunsView) (boards seen : List (List Departure)) (s : StationNo) (board ds : List Departure) (from to : ℕ) → HasBoards r boards → seen ≡ boards → true ≡ ltb s.0 (length seen) → board ≡ get_or seen s.0 board
+    → IsWindow from to board ds → AreDepartures r.runs s from to ds
+looked_up r boards seen s board ds from to h same small is window =
+    window_exact (IsDeparture r.runs s) from to board ds (whole_board r boards seen s board h same small is) window
 
 -- how many there are in the list
 pub counted : (r : RunsView) (boards seen : List (List Departure)) (s : StationNo) (board : List Departure) → HasBoards r boards → seen ≡ boards → true ≡ ltb s.0 (length seen) → board ≡ get_or seen s.0 board → length board ≡ departure_count s r.runs
@@ -293,15 +299,24 @@ counted r boards seen s board h same small is =
     let at : board ≡ get_or boards s.0 board = is ∙ ap (λ (l : List (List Departure)). get_or l s.0 board) same in
     ap length at ∙ (h.each s.0 board (omega (arith, inside, size))).count
 
+-- no train leaves a station that isn't known
+unknown_left : (r : RunsView) (boards seen : List (List Departure)) (s : StationNo) (d : Departure) → AreSound r → HasBoards r boards → seen ≡ boards → false ≡ ltb s.0 (length seen) → IsDeparture r.runs s d → ⊥
+unknown_left r boards seen s d sound h same past is =
+    let known = departs_from_known r s d sound is in
+    let size : length seen ≡ length boards = ap length same in
+    let stations = h.count in
+    true≢false (sym (lt-ltb s.0 (length seen) (omega (arith, known, size, stations))) ∙ sym past)
+
 pub none_there : (r : RunsView) (boards seen : List (List Departure)) (s : StationNo) (from to : ℕ) → AreSound r → HasBoards r boards → seen ≡ boards → false ≡ ltb s.0 (length seen) → AreDepartures r.runs s from to []
 none_there r boards seen s from to sound h same past = record {
   in_order = λ i j d l small. absurd (omega (arith, small));
-  members = λ x. (
-    (λ c. absurd (omega (arith, c.1))),
-    λ dep. absurd (let known = departs_from_known r s x sound dep.0 in
-        let size : length seen ≡ length boards = ap length same in let stations = h.count in
-        true≢false (sym (lt-ltb s.0 (length seen) (omega (arith, known, size, stations))) ∙ sym past)),
-  );
+  members = λ x. (λ c. absurd (omega (arith, c.1)), λ dep. absurd (unknown_left r boards seen s x sound h same past dep.0));
+}
+
+pub none_at_all : (r : RunsView) (boards seen : List (List Departure)) (s : StationNo) → AreSound r → HasBoards r boards → seen ≡ boards → false ≡ ltb s.0 (length seen) → AreExactly (IsDeparture r.runs s) []
+none_at_all r boards seen s sound h same past = record {
+  in_order = λ i j d l small. absurd (omega (arith, small));
+  members = λ x. (λ c. absurd (omega (arith, c.1)), λ dep. absurd (unknown_left r boards seen s x sound h same past dep));
 }
 
 -- a departure that was put in and taken out again

@@ -71,6 +71,13 @@ impl Board {
         self.departures.remove(place);
     }
 
+    /// All of them.
+    pub(crate) fn all(&self) -> &[Departure]
+        ensures { result.now ≡ self.now }
+    {
+        self.departures.as_slice()
+    }
+
     /// The departures from the one second to the other, both included.
     pub(crate) fn between<L: Ledger>(
         &self,

@@ -3,7 +3,7 @@ ghost use Rattle.train_runs.specs.declared.run.RunFault.TheVariants as run_fault
 ghost use Rattle.train_runs.specs.Stations.{station_with, is_code as is_code_of, most_stations};
 ghost use Rattle.train_runs.specs.Stops.{IsRun, most_stops};
 ghost use Rattle.train_runs.specs.Runs.{AreSound, most_runs, run_fault as run_fault_of, span_of, and_station, IsStationAdded, RefusesStation, code_of};
-ghost use Rattle.train_runs.specs.Departures.{AreDepartures, departure_count};
+ghost use Rattle.train_runs.specs.Departures.{AreDepartures, AreExactly, IsDeparture, departure_count};
 ghost use Rattle.train_runs.specs.Boards.{HasBoards, ArePosted};
 ghost use Rattle.std.specs.Int.Digits.{digits_of};
 
@@ -219,6 +219,18 @@ impl Runs {
     {
         match self.boards.get(station.0 as usize) {
             Some(board) => board.between(from, to, steps),
+            None => &[],
+        }
+    }
+
+    /// All departures of the station, at whatever moment, in the order of moment, run and stop. A station that isn't known
+    /// has none. Takes no memory.
+    pub fn all_departures(&self, station: StationNo) -> &[Departure]
+        ensures departures { AreExactly (IsDeparture self.now.runs station) result.now }
+        ensures sound { All (IsRun (length self.now.stations)) self.now.runs }
+    {
+        match self.boards.get(station.0 as usize) {
+            Some(board) => board.all(),
             None => &[],
         }
     }

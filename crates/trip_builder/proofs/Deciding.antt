@@ -8,7 +8,7 @@ use Rattle.trip_builder.specs.declared.trip.TripWish.{TripWish}
 use Rattle.trip_builder.specs.Segments.{all_segments, first_stop, last_stop}
 use Rattle.trip_builder.specs.Order.{last_arrival, stands_before, sorted_in}
 use Rattle.trip_builder.specs.Trips.{arrives, is_trip, sets_out, all_lists, most_trips, trips_of}
-use Rattle.trip_builder.specs.Best.{IsAmong, AllStandBefore, AreInOrder, IsDecided, IsTrip, AreBest}
+use Rattle.trip_builder.specs.Best.{IsKnown, IsAmong, AllStandBefore, AreInOrder, IsDecided, IsTrip, AreBest}
 use Rattle.trip_builder.specs.Search.{IsWay, Rise, keep, AllArriveBy, AllArriveBefore, Grows, AreDecided, AreDecidedWith}
 use Rattle.trip_builder.proofs.StrictOrder.{three_ways, trips_strict}
 use Rattle.trip_builder.proofs.FirstSixteen.{first_sixteen, among-all, all_put, all_map, all_among, put_in_order, has_put}
@@ -169,6 +169,10 @@ pub departs_behind : (r : RunsView) (w : TripWish) (best : List (List Segment)) 
 departs_behind r w best way more m s rise by h rest e trip =
     let next = (trip_goes_on r w way s rest trip).departure rise in
     behind_decided r best m (way ++ s ∷ rest) by (omega (arith, next, h))
+
+-- no trip has a segment that there isn't
+pub not_ridden : (r : RunsView) (w : TripWish) (best : List (List Segment)) (way : List Segment) (more : ℕ) (s : Segment) → (IsKnown r s → ⊥) → AreDecidedWith r w best way more s
+not_ridden r w best way more s never rest e trip = absurd (never (trip_goes_on r w way s rest trip).known)
 
 pub one_further : (P : ℕ → Type 0) (i : ℕ) → ((k : ℕ) → k < i → P k) → P i → (k : ℕ) → k < i + 1 → P k
 one_further P i below here k h = by_place (three_ways k i)

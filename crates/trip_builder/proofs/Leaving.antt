@@ -1,7 +1,7 @@
 -- The departures of a station within a window, as the search takes them.
-use Rattle.std.proofs.Common.{◌≡◌, ◌∙◌, ℕ, ◌+◌, ◌<◌, ◌≤◌, ◌==◌, ◌⊎◌, inl, inr, ◌&&◌, true, List, [], length, Some, None, refl, sym, ap, subst, arith, nat_le, get_or, eqb-true, eq-eqb}
+use Rattle.std.proofs.Common.{◌≡◌, ℕ, ◌+◌, ◌<◌, ◌≤◌, ◌==◌, ◌⊎◌, inl, inr, ◌&&◌, true, List, [], length, Some, None, refl, sym, ap, subst, arith, nat_le, get_or, eqb-true, eq-eqb}
 use Rattle.std.specs.Prelude.{slice_get, Option}
-use Rattle.std.specs.List.{AllPairs}
+use Rattle.std.specs.List.{AllPairs, Contains}
 use Rattle.std.specs.Option.{option_map_or}
 use Rattle.std.proofs.lemmas.Bool.Decides.{nat_tests}
 use Rattle.std.proofs.lemmas.List.Elements.{Contains-get_or, at_read}
@@ -10,10 +10,10 @@ use Rattle.train_runs.specs.declared.run.Stop.{Stop}
 use Rattle.train_runs.specs.declared.departure.Departure.{Departure}
 use Rattle.train_runs.specs.Stops.{RunView, stop_at}
 use Rattle.train_runs.specs.Runs.{RunsView}
-use Rattle.train_runs.specs.Departures.{IsDeparture, IsWithin, IsBefore, AreDepartures}
+use Rattle.train_runs.specs.Departures.{IsDeparture, IsWithin, IsBefore, AreExactly, AreDepartures}
 use Rattle.trip_builder.specs.Segments.{stops_of}
 use Rattle.trip_builder.specs.Trips.{leaves}
-use Rattle.trip_builder.specs.Search.{Leaves, AreLeaving}
+use Rattle.trip_builder.specs.Search.{Leaves, IsListed, AreLeaving, AreAllLeaving}
 use Rattle.trip_builder.proofs.StrictOrder.{three_ways}
 use Rattle.trip_builder.proofs.Ways.{both_true}
 
@@ -78,22 +78,43 @@ rising ds ordered j k none low high = by_place (three_ways j k)
     by_place (inr (inl h)) = by_pair (ordered j k none h high)
     by_place (inr (inr h)) = absurd (omega (arith, h, low))
 
+-- a departure of the list
+listed : (ds : List Departure) (d : Departure) (run stop : ℕ) → d.run.0 ≡ run → d.stop ≡ stop → Contains ds d → IsListed ds run stop
+listed ds d run stop is_run is_stop at = record {
+  place = at.0;
+  within = at.1;
+  run_is = λ none. at_read ds (λ (x : Departure). x.run.0 ≡ run) at.0 d at.1 (sym at.2) is_run none;
+  stop_is = λ none. at_read ds (λ (x : Departure). x.stop ≡ stop) at.0 d at.1 (sym at.2) is_stop none;
+}
+
 pub are_leaving : (r : RunsView) (station : StationNo) (from to : ℕ) (ds : List Departure) → AreDepartures r.runs station from to ds → AreLeaving r station from to ds
 are_leaving r station from to ds are = record {
   each = λ k none h. (let is = (are.members (get_or ds k none)).0 (Contains-get_or ds k none h) in departure_leaves r station from to (get_or ds k none) is.0 is.1);
-  every = λ run stop further says. (let one = leaving_stop r station from to run stop further says in
-      let at = (are.members one.0).1 one.1.1.1 in
-      record {
-        place = at.0;
-        within = at.1;
-        run_is = λ none. at_run at.0 at.1 one.0 at.2 none ∙ one.1.0;
-        stop_is = λ none. at_stop at.0 at.1 one.0 at.2 none ∙ one.1.1.0;
-      });
+  every = λ run stop further says. (let one = leaving_stop r station from to run stop further says in listed ds one.0 run stop one.1.0 one.1.1.0 ((are.members one.0).1 one.1.1.1));
   rise = rising ds are.in_order;
 }
-  where
-    at_run : (k : ℕ) → k < length ds → (d : Departure) → get_or ds k d ≡ d → (none : Departure) → (get_or ds k none).run.0 ≡ d.run.0
-    at_run k h d is none = at_read ds (λ (x : Departure). x.run.0 ≡ d.run.0) k d h (sym is) refl none
 
-    at_stop : (k : ℕ) → k < length ds → (d : Departure) → get_or ds k d ≡ d → (none : Departure) → (get_or ds k none).stop ≡ d.stop
-    at_stop k h d is none = at_read ds (λ (x : Departure). x.stop ≡ d.stop) k d h (sym is) refl none
+-- a stop of the station that isn't the run's last, as a departure
+stop_left : (r : RunsView) (station : StationNo) (run stop : ℕ) → stop + 1 < length (stops_of r run) → (stop_at (stops_of r run) stop).station.0 ≡ station.0
+    → (d : Departure) × ((d.run.0 ≡ run) × ((d.stop ≡ stop) × IsDeparture r.runs station d))
+stop_left r station run stop further there = by_run (slice_get r.runs run) refl
+  where
+    by_run : (o : Option RunView) → slice_get r.runs run ≡ o → (d : Departure) × ((d.run.0 ≡ run) × ((d.stop ≡ stop) × IsDeparture r.runs station d))
+    by_run None e = absurd (let none : length (stops_of r run) ≡ 0 = ap (λ (o : Option RunView). length (option_map_or (λ (x : RunView). x.stops) o [])) e in omega (arith, none, further))
+    by_run (Some it) e =
+        let stops = stops_are r run it e in
+        let at = stop_at it.stops stop in
+        let d : Departure = record { moment = at.depart; run = record { 0 = run }; stop = stop } in
+        let is : IsDeparture r.runs station d = record {
+          run = it;
+          found = e;
+          goes_on = subst (λ (xs : List Stop). stop + 1 < length xs) stops further;
+          here = is_station at.station station (subst (λ (xs : List Stop). (stop_at xs stop).station.0 ≡ station.0) stops there);
+          leaves = refl;
+        } in
+        (d, (refl, (refl, is)))
+
+pub all_leave : (r : RunsView) (station : StationNo) (ds : List Departure) → AreExactly (IsDeparture r.runs station) ds → AreAllLeaving r station ds
+all_leave r station ds are run stop further there =
+    let one = stop_left r station run stop further there in
+    listed ds one.0 run stop one.1.0 one.1.1.0 ((are.members one.0).1 one.1.1.1)

@@ -15,3 +15,4 @@ pub mod Keeping
 pub mod Outdoing
 pub mod Calling
 pub mod Ranking
+pub mod Riding

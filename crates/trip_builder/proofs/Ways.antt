@@ -88,7 +88,7 @@ next_goes_on r w (b ∷ bs) s rest e =
     let chain = both_true (is_chain r (b ∷ []) bs) (is_chain r (b ∷ bs) (s ∷ rest)) (sym (chain_parts r (b ∷ []) bs (s ∷ rest)) ∙ parts.1) in
     both_true (follows r (b ∷ bs) s) (is_chain r ((b ∷ bs) ++ s ∷ []) rest) chain.1
 
-departs_after : (a change limit depart : ℕ) (same : Bool) → (same && (nat_le (a + change) depart && nat_le depart limit)) ≡ true → a ≤ depart
+pub departs_after : (a change limit depart : ℕ) (same : Bool) → (same && (nat_le (a + change) depart && nat_le depart limit)) ≡ true → a ≤ depart
 departs_after a change limit depart same e = by_tests same (nat_le (a + change) depart) refl e
   where
     by_tests : (s b : Bool) → nat_le (a + change) depart ≡ b → (s && (b && nat_le depart limit)) ≡ true → a ≤ depart

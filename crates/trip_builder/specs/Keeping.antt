@@ -11,6 +11,7 @@ use Rattle.trip_builder.specs.Best.{AreBest}
 use Rattle.trip_builder.specs.Search.{AllArriveBefore}
 use Rattle.trip_builder.specs.Bounds.{never, AreBounds}
 use Rattle.trip_builder.specs.Ends.{AreEnds}
+use Rattle.trip_builder.specs.Shortest.{AreShortest}
 
 -- the last of sixteen trips
 abbrev pub sixteenth : List (List Segment) → List Segment
@@ -28,6 +29,7 @@ pub record IsSearch (r : RunsView) (w : TripWish) (found : Found) : Type 0 where
   pub kept : IsKept r w found.best
   pub ends : AreEnds r w found.ends
   pub bounds : AreBounds r w found.bounds
+  pub shortest : AreShortest r w found.shortest
 
 -- ---- what can't come among the best
 

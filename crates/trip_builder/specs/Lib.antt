@@ -5,4 +5,5 @@ pub mod Search
 pub mod Best
 pub mod Bounds
 pub mod Ends
+pub mod Shortest
 pub mod Keeping

@@ -66,6 +66,10 @@ pub record IsListed (ds : List Departure) (run stop : ℕ) : Type 0 where
   pub run_is : (none : Departure) → (slice_index_or ds place none).run.0 ≡ run
   pub stop_is : (none : Departure) → (slice_index_or ds place none).stop ≡ stop
 
+-- all departures of the station, at whatever moment
+abbrev pub AreAllLeaving : RunsView → StationNo → List Departure → Type 0
+AreAllLeaving r station ds = (run stop : ℕ) → stop + 1 < length (stops_of r run) → (stop_at (stops_of r run) stop).station.0 ≡ station.0 → IsListed ds run stop
+
 -- all departures of the station within the window, the earlier ones first
 pub record AreLeaving (r : RunsView) (station : StationNo) (from to : ℕ) (ds : List Departure) : Type 0 where
   pub each : (k : ℕ) (none : Departure) → k < length ds → Leaves r station from to (slice_index_or ds k none)

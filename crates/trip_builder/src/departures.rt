@@ -2,7 +2,7 @@ ghost use Rattle.std.specs.Prelude.{◌≡◌, ◌<◌, ◌≤◌, ◌+◌, ◌^
 ghost use Rattle.train_runs.specs.Stops.{most_stops, stop_at, no_stop as nowhere};
 ghost use Rattle.trip_builder.specs.Segments.{stops_of as stops_of_run, first_stop, last_stop, last_of, first_of};
 ghost use Rattle.trip_builder.specs.Trips.{leaves, change_at, longest_wait};
-ghost use Rattle.trip_builder.specs.Search.{AreLeaving, Rise, IsWindowOf, first_after, last_after};
+ghost use Rattle.trip_builder.specs.Search.{AreLeaving, AreAllLeaving, Rise, IsWindowOf, first_after, last_after};
 
 use crate::trip::TripWish;
 use offer_codes::Segment;
@@ -73,6 +73,14 @@ pub(crate) fn leaving(runs: &Runs, window: Window) -> &[Departure]
     ensures rise { Rise runs.now }
 {
     leaving_from::<Brand>(runs, window, Blank::new(1))
+}
+
+/// All departures of the station.
+pub(crate) fn all_leaving(runs: &Runs, station: StationNo) -> &[Departure]
+    ensures leaving { AreAllLeaving runs.now station result.now }
+    ensures rise { Rise runs.now }
+{
+    runs.all_departures(station)
 }
 
 // The steps are counted from nothing and let go.

@@ -14,6 +14,7 @@ use crate::chain::has_run;
 use crate::departures::stops_of;
 use crate::ends::{End, Ends};
 use crate::ranks::NEVER;
+use crate::shortest::Shortest;
 use crate::trip::TripWish;
 use arrayvec::ArrayVec;
 use leg_masks::Span;
@@ -21,12 +22,13 @@ use offer_codes::Segment;
 use std::alloc::AllocError;
 use train_runs::{Departure, Runs};
 
-/// What a search has so far: the best trips, where runs come to the destination, the bounds from behind once they are made,
-/// how many tries come before that, and by when what is looked at ahead arrives.
+/// What a search has so far: the best trips, where runs come to the destination, how short a ride there is at least, the
+/// bounds from behind once they are made, how many tries come before that, and by when what is looked at ahead arrives.
 #[derive(Drop)]
 pub(crate) struct Found {
     pub best: Best,
     pub ends: Ends,
+    pub shortest: Shortest,
     pub bounds: Bounds,
     pub left: u32,
     pub ceiling: u64,

@@ -17,6 +17,7 @@ mod found;
 mod order;
 mod ranks;
 mod search;
+mod shortest;
 mod trip;
 
 pub use chain::are_connected;

@@ -9,6 +9,8 @@ use crate::bounds::Bounds;
 use crate::departures::{leaving, stops_of, window_of};
 use crate::ends::Ends;
 use crate::found::{Found, get_off, is_hopeless, longer, may_lead};
+use crate::ranks::NEVER;
+use crate::shortest::Shortest;
 use crate::trip::{Trip, TripWish};
 use offer_codes::Segment;
 use std::alloc::{AllocError, Global};
@@ -34,14 +36,29 @@ pub fn trips(alloc: Global, runs: &Runs, wish: &TripWish) -> Result<Vec<Trip>, A
     let mut found = Found {
         best: Best::none(alloc),
         ends: Ends::unknown(alloc, runs)?,
+        shortest: Shortest::blank(alloc),
         bounds: Bounds::unknown(alloc),
         left: SHORT_SEARCH,
         ceiling: 0,
     };
     for changes in 0..MOST_SEGMENTS {
+        time_rides(runs, wish, &mut found)?;
         go_on(runs, wish, &[], changes, &mut found)?;
     }
     Ok(found.best.into_trips())
+}
+
+// Once there are sixteen trips, it looks up the shortest rides. Before that nothing is too late.
+fn time_rides(runs: &Runs, wish: &TripWish, found: &mut Found) -> Result<(), AllocError>
+    requires { IsSearch runs.now wish.now found.old }
+    ensures search { OnOk result (IsSearch runs.now wish.now found.new) }
+    ensures grows { OnOk result (Grows runs.now wish.now found.old.best.trips.items found.new.best.trips.items) }
+{
+    if found.shortest.are_blank() && found.best.are_all_before(NEVER) {
+        let alloc = found.best.allocator();
+        found.shortest = Shortest::of(alloc, runs, wish)?;
+    }
+    Ok(())
 }
 
 // Tries all trips that go on from the way with one train and so many changes to others.
@@ -67,8 +84,12 @@ fn go_on(
         return Ok(());
     }
     let part = found.bounds.narrowed(changes, &window);
+    let least = found.shortest.least_from(changes, part.station);
     for departure in leaving(runs, part) {
-        if found.best.are_all_by(departure.moment.seconds()) {
+        if found
+            .best
+            .are_all_before(departure.moment.seconds() + least)
+        {
             return Ok(());
         }
         found.left = found.left.saturating_sub(1);
@@ -104,8 +125,9 @@ fn ride(
     }
     let stops = stops_of(runs, departure.run);
     for to in departure.stop + 1..stops.len() as u8 {
-        let arrive = stops[usize::from(to)].arrive.seconds();
-        if !found.best.are_all_by(arrive) {
+        let off = &stops[usize::from(to)];
+        let least = found.shortest.least_from(changes - 1, off.station);
+        if !found.best.are_all_before(off.arrive.seconds() + least) {
             let way = longer(way, departure, to);
             go_on(runs, wish, way.as_slice(), changes - 1, found)?;
         }

@@ -3,17 +3,19 @@ use Rattle.std.proofs.lemmas.List.Elements.{at_read}
 use Rattle.train_runs.specs.declared.run.Stop.{Stop}
 use Rattle.offer_codes.specs.declared.code.Segment.{Segment}
 use Rattle.train_runs.specs.declared.departure.Departure.{Departure}
-use Rattle.trip_builder.specs.Segments.{segment}
+use Rattle.trip_builder.specs.Segments.{segment, stops_of, last_stop}
 use Rattle.trip_builder.specs.Search.{IsWay, Grows, AreDecided, AreDecidedWith}
 use Rattle.trip_builder.specs.Bounds.{never}
 use Rattle.trip_builder.specs.Keeping.{IsSearch, IsOutdone}
-use Rattle.trip_builder.proofs.Ways.{way_taken}
-use Rattle.trip_builder.proofs.Deciding.{grows_on, stays_with, one_further, with_further, arrives_behind}
-use Rattle.trip_builder.proofs.Boarding.{all_covered, late_covered, stop_is}
+use Rattle.trip_builder.specs.Shortest.{TakesAtLeast}
+use Rattle.trip_builder.proofs.Ways.{way_taken, trip_goes_on}
+use Rattle.trip_builder.proofs.Deciding.{same_grows, grows_on, stays_with, one_further, with_further, not_ridden}
+use Rattle.trip_builder.proofs.Boarding.{all_covered, stop_is}
+use Rattle.trip_builder.proofs.Riding.{late_from, change_late}
 use Rattle.trip_builder.proofs.Bounding.{window_hopeless}
 use Rattle.trip_builder.proofs.Outdoing.{window_outdone}
 use Rattle.trip_builder.proofs.search.+search.Goals as goal
-use Rattle.trip_builder.proofs.search.+search.Goals.{go_on-then-may_lead+in_ok-ride, go_on-else-may_lead, ride-then-not-are_all_by+in_ok-go_on, ride-else-not-are_all_by}
+use Rattle.trip_builder.proofs.search.+search.Goals.{go_on-then-may_lead+in_ok-ride, go_on-else-may_lead, ride-then-not-are_all_before+in_ok-go_on, ride-else-not-are_all_before}
 
 pub go_on-returns-then-is_hopeless-clause-decided : goal.go_on-returns-then-is_hopeless-clause-decided
 go_on-returns-then-is_hopeless-clause-decided t c =
@@ -31,8 +33,8 @@ go_on-returns-then-is_hopeless-clause-decided t c =
     (λ (outdone : IsOutdone r best bound way (more + 1)). window_outdone r w best way more win.station win.from win.to bound search.kept.are.order window bounds outdone)
     (c.is_hopeless.ensures w search c.if-is_hopeless.true)
 
-pub go_on-returns-then-are_all_by-clause-decided : goal.go_on-returns-then-are_all_by-clause-decided
-go_on-returns-then-are_all_by-clause-decided t c =
+pub go_on-returns-then-are_all_before-clause-decided : goal.go_on-returns-then-are_all_before-clause-decided
+go_on-returns-then-are_all_before-clause-decided t c =
     let r = c.args.runs.now in
     let w = c.args.wish.now in
     let way = c.args.way.now in
@@ -41,13 +43,16 @@ go_on-returns-then-are_all_by-clause-decided t c =
     let ds = c.leaving-departure-items.result.now in
     let d = c.departure-item.result in
     let i = c.loop-departure.departure-index in
-    let by = c.are_all_by.ensures r w c.loop-departure.invariant.search.kept c.if-are_all_by.true in
+    let least = c.least_from-least.result in
+    let late = c.are_all_before.ensures r w c.loop-departure.invariant.search.kept c.if-are_all_before.true in
     let at : c.seconds.result ≡ (get_or ds i d).moment = c.seconds.ensures.value ∙ ap (λ (x : Departure). x.moment) c.departure-item.is in
     let part = c.narrowed-part.result in
     let narrowed = c.narrowed-part.ensures in
-    all_covered r w best way c.args.changes win.station part.station win.from win.to part.from part.to ds d c.leaving-departure-items.ensures.leaving narrowed.station
-    (narrowed.leading r w c.in_ok-bound_long_search.ensures.search.bounds) c.window_of-window.ensures.window
-    (late_covered r w best way c.args.changes part.station part.from part.to ds d i c.seconds.result c.leaving-departure-items.ensures.leaving c.leaving-departure-items.ensures.rise by
+    let search = c.in_ok-bound_long_search.ensures.search in
+    let leaving = c.leaving-departure-items.ensures in
+    all_covered r w best way c.args.changes win.station part.station win.from win.to part.from part.to ds d leaving.leaving narrowed.station
+    (narrowed.leading r w search.bounds) c.window_of-window.ensures.window
+    (late_from r w best way c.args.changes part.station part.from part.to ds d i (c.seconds.result + least) least leaving.leaving (c.least_from-least.ensures.least r w leaving.rise search.shortest) late
     (omega (arith, at)) c.loop-departure.invariant.tried)
 
 pub go_on-loop-departure-preserved : goal.go_on-loop-departure-preserved
@@ -121,6 +126,20 @@ ride-go_on-requires t c =
       ),
     )
 
+pub ride-loop-to-init : goal.ride-loop-to-init
+ride-loop-to-init t c =
+    let r = c.args.runs.now in
+    let w = c.args.wish.now in
+    let way = c.args.way.now in
+    let d = c.args.departure.now in
+    let best = c.args.found.now.best.trips.items in
+    let search = c.requires.search in
+    record {
+      grows = same_grows r w best search.kept.are;
+      search = record { kept = search.kept; ends = search.ends; shortest = search.shortest; bounds = search.bounds };
+      tried = λ k h. not_ridden r w best way c.args.changes (segment d.run.0 d.stop k) (λ known. (let up = known.rises in omega (arith, up, h)));
+    }
+
 pub ride-loop-to-preserved : goal.ride-loop-to-preserved
 ride-loop-to-preserved t c =
     let r = c.args.runs.now in
@@ -135,8 +154,8 @@ ride-loop-to-preserved t c =
     let some = c.if-changes-eq0.false in
     let fewer : more ≡ suc (more - 1) = omega (arith, some) in
     let P : List (List Segment) → ℕ → Type 0 = (λ l k. AreDecidedWith r w l way more (segment d.run.0 d.stop k)) in
-    elim c.if-not-are_all_by.branch [
-      | ride-then-not-are_all_by+in_ok-go_on v ↦
+    elim c.if-not-are_all_before.branch [
+      | ride-then-not-are_all_before+in_ok-go_on v ↦
           let new = v.go_on.new.found.best.trips.items in
           let longer : v.as_slice.result.now ≡ way ++ s ∷ [] = v.as_slice.ensures.value ∙ v.longer-way.ensures in
           let here = with_further r w new way (more - 1) more s fewer (subst (λ (t : List Segment). AreDecided r w new t (more - 1)) longer v.in_ok-go_on.ensures.decided) in
@@ -146,17 +165,34 @@ ride-loop-to-preserved t c =
             tried = subst (λ b. (k : ℕ) → k < to + 1 → P b.best.trips.items k) (sym v.found-is)
                 (one_further (P new) to (λ k h. stays_with r w best new way more (segment d.run.0 d.stop k) v.in_ok-go_on.ensures.grows (c.loop-to.invariant.tried k h)) here);
           }
-      | ride-else-not-are_all_by v ↦
+      | ride-else-not-are_all_before v ↦
           let at : c.from.result ≡ to = c.from.ensures in
           let stop = c.index-stops-from.result in
           let there = stop_is r d.run.0 to c.stops_of-stops.result.now stop c.stops_of-stops.ensures.stops (omega (arith, c.loop-to-test.true))
           (c.index-stops-from.is ∙ ap (λ k. get_or c.stops_of-stops.result.now k stop) at) in
-          let arrive = c.seconds-arrive.ensures.value ∙ sym (ap (λ (x : Stop). x.arrive) (there ∙ c.index-stops-from.is)) in
-          let by = c.are_all_by.ensures r w c.loop-to.invariant.search.kept v.if-not-are_all_by.false in
-          let here = arrives_behind r w best way (more - 1) more c.seconds-arrive.result s c.requires.rise fewer by (omega (arith, arrive)) in
+          let least = c.least_from-least.result in
+          let off = ap (λ (x : Stop). x.arrive) there in
+          let seen = ap (λ (x : Stop). x.arrive) c.index-stops-from.is in
+          let value = c.seconds.ensures.value in
+          let arrive : c.seconds.result ≡ (last_stop r s).arrive = omega (arith, off, seen, value) in
+          let takes = subst (λ (x : Stop). TakesAtLeast r w (more - 1) x.station least) (sym there) (c.least_from-least.ensures.least r w c.requires.rise c.loop-to.invariant.search.shortest) in
+          let late = c.are_all_before.ensures r w c.loop-to.invariant.search.kept v.if-not-are_all_before.false in
+          let here = change_late r w best way (more - 1) more least (c.seconds.result + least) s fewer takes late (omega (arith, arrive)) in
           record {
             grows = subst (λ b. Grows r w old b.best.trips.items) (sym v.found-is) c.loop-to.invariant.grows;
             search = subst (IsSearch r w) (sym v.found-is) c.loop-to.invariant.search;
             tried = subst (λ b. (k : ℕ) → k < to + 1 → P b.best.trips.items k) (sym v.found-is) (one_further (P best) to c.loop-to.invariant.tried here);
           }
     ]
+
+pub ride-returns-clause-decided : goal.ride-returns-clause-decided
+ride-returns-clause-decided t c =
+    λ to rest e trip.
+    (let r = c.args.runs.now in
+    let d = c.args.departure.now in
+    let known = (trip_goes_on r c.args.wish.now c.args.way.now (segment d.run.0 d.stop to) rest trip).known in
+    let end = known.ends in
+    let ended = c.loop-to-test.false in
+    let few = c.stops_of-stops.ensures.few in
+    let size : length c.stops_of-stops.result.now ≡ length (stops_of r d.run.0) = ap (λ (l : List Stop). length l) c.stops_of-stops.ensures.stops in
+    c.loop-to.invariant.tried to (omega (arith, end, ended, few, size)) rest e trip)
