@@ -83,7 +83,7 @@ go_on-loop-departure-preserved t c =
           }
       | go_on-else-may_lead v ↦ record {
         grows = subst (λ b. Grows r w old b.best.trips.items) (sym v.found-is) c.loop-departure.invariant.grows;
-        search = subst (IsSearch r w) (sym v.found-is) (let was = c.loop-departure.invariant.search in record { kept = was.kept; ends = was.ends; bounds = was.bounds });
+        search = subst (IsSearch r w) (sym v.found-is) (let was = c.loop-departure.invariant.search in record { kept = was.kept; ends = was.ends; bounds = was.bounds; shortest = was.shortest });
         tried = subst (λ b. (k : ℕ) → k < i + 1 → P b.best.trips.items k) (sym v.found-is)
             (one_further (P best) i c.loop-departure.invariant.tried (here best (c.may_lead.ensures.decided v.if-may_lead.false)));
       }
