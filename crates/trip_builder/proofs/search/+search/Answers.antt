@@ -4,13 +4,13 @@ use Rattle.train_runs.specs.declared.run.Stop.{Stop}
 use Rattle.offer_codes.specs.declared.code.Segment.{Segment}
 use Rattle.train_runs.specs.declared.departure.Departure.{Departure}
 use Rattle.trip_builder.specs.Segments.{segment, stops_of, last_stop}
-use Rattle.trip_builder.specs.Search.{IsWay, Grows, AreDecided, AreDecidedWith}
+use Rattle.trip_builder.specs.Search.{IsWay, Leaves, Grows, AreDecided, AreDecidedWith}
 use Rattle.trip_builder.specs.Bounds.{never}
 use Rattle.trip_builder.specs.Keeping.{IsSearch, IsOutdone}
 use Rattle.trip_builder.specs.Shortest.{TakesAtLeast}
 use Rattle.trip_builder.proofs.Ways.{way_taken, trip_goes_on}
 use Rattle.trip_builder.proofs.Deciding.{same_grows, grows_on, stays_with, one_further, with_further, not_ridden}
-use Rattle.trip_builder.proofs.Boarding.{all_covered, stop_is}
+use Rattle.trip_builder.proofs.Boarding.{all_covered, part_taken, stop_is}
 use Rattle.trip_builder.proofs.Riding.{late_from, change_late}
 use Rattle.trip_builder.proofs.Bounding.{window_hopeless}
 use Rattle.trip_builder.proofs.Outdoing.{window_outdone}
@@ -88,6 +88,27 @@ go_on-loop-departure-preserved t c =
             (one_further (P best) i c.loop-departure.invariant.tried (here best (c.may_lead.ensures.decided v.if-may_lead.false)));
       }
     ]
+
+pub go_on-ride-requires : goal.go_on-ride-requires
+go_on-ride-requires t c =
+    let r = c.args.runs.now in
+    let w = c.args.wish.now in
+    let win = c.window_of-window.result in
+    let ds = c.leaving-departure-items.result.now in
+    let i = c.loop-departure.departure-index in
+    let d = c.departure-item.result in
+    let part = c.narrowed-part.result in
+    let narrowed = c.narrowed-part.ensures in
+    let was = c.loop-departure.invariant.search in
+    let leaves = subst (Leaves r part.station part.from part.to) (sym c.departure-item.is) (c.leaving-departure-items.ensures.leaving.each i d c.loop-departure-test.true) in
+    let taken = part_taken r w c.args.way.now win.station part.station win.from win.to part.from part.to d leaves narrowed.station narrowed.from narrowed.to c.window_of-window.ensures.window
+    (c.may_lead.ensures.fresh c.if-may_lead.true) in (
+      omega (arith, c.decreases),
+      (
+        c.requires.few,
+        (c.requires.way, (record { kept = was.kept; ends = was.ends; bounds = was.bounds; shortest = was.shortest }, (c.leaving-departure-items.ensures.rise, taken))),
+      ),
+    )
 
 pub go_on-returns-clause-decided : goal.go_on-returns-clause-decided
 go_on-returns-clause-decided t c =
