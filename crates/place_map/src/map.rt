@@ -112,8 +112,8 @@ impl PlaceMap {
         self.places.len() as u32
     }
 
-    /// The places of the run and the class that have all wanted traits, in rising number. Only the run's own places are
-    /// looked at.
+    /// The places of the run and the class that have all wanted traits, in rising number. Only the run's places of that
+    /// class are tried.
     pub fn candidates(
         &self,
         alloc: Global,
