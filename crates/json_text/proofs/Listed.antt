@@ -98,12 +98,40 @@ listed_at (Token.boolean b ∷ ts) = ap seen (value_is 126 (Token.boolean b ∷ 
 listed_at (Token.null ∷ ts) = ap seen (value_is 126 (Token.null ∷ ts))
 listed_at (Token.bad ∷ ts) = ap seen (value_is 126 (Token.bad ∷ ts))
 
-listed_in : (o : Option (List Token)) → option_and_then items_ahead (option_and_then after_bracket o) ≡ option_and_then as_array (option_and_then data_at o)
-listed_in None = refl
-listed_in (Some ts) = sym (listed_at ts)
+no_list_in : (o : Option (List Token)) → option_and_then after_bracket o ≡ None → option_and_then as_array (option_and_then data_at o) ≡ None
+no_list_in None e = refl
+no_list_in (Some ts) e = listed_at ts ∙ ap (option_and_then items_ahead) e
 
-pub listed : (place : ℕ) (text : List ℕ) → option_and_then items_ahead (list_tokens place (tokens text)) ≡ option_and_then as_array (member_at place text)
-listed place text = listed_in (member_tokens place (tokens text))
+pub not_listed : (place : ℕ) (text : List ℕ) → list_tokens place (tokens text) ≡ None → option_and_then as_array (member_at place text) ≡ None
+not_listed place text e = no_list_in (member_tokens place (tokens text)) e
+
+abbrev rest : Option (List Token) → List Token
+rest None = []
+rest (Some ts) = ts
+
+list_data : (ts us : List Token) → after_bracket ts ≡ Some us → data_at ts ≡ option_map array (items_ahead us)
+list_data [] us e = absurd (cc)
+list_data (Token.begin_object ∷ ts) us e = absurd (cc)
+list_data (Token.end_object ∷ ts) us e = absurd (cc)
+list_data (Token.begin_array ∷ ts) us e =
+    ap (λ o. first_of (converted of_json o)) (value-begin_array 126 ts (omega arith))
+    ∙ ap first_of (converted-array (items (value 125) (length ts) ts))
+    ∙ first_of-parse_map array (converted of_items (items (value 125) (length ts) ts))
+    ∙ ap (λ o. option_map array (items_ahead (rest o))) e
+list_data (Token.end_array ∷ ts) us e = absurd (cc)
+list_data (Token.key s ∷ ts) us e = absurd (cc)
+list_data (Token.string s ∷ ts) us e = absurd (cc)
+list_data (Token.number s ∷ ts) us e = absurd (cc)
+list_data (Token.boolean b ∷ ts) us e = absurd (cc)
+list_data (Token.null ∷ ts) us e = absurd (cc)
+list_data (Token.bad ∷ ts) us e = absurd (cc)
+
+list_in : (o : Option (List Token)) (us : List Token) → option_and_then after_bracket o ≡ Some us → option_and_then data_at o ≡ option_map array (items_ahead us)
+list_in None us e = absurd (cc)
+list_in (Some ts) us e = list_data ts us e
+
+pub listed : (place : ℕ) (text : List ℕ) (us : List Token) → list_tokens place (tokens text) ≡ Some us → member_at place text ≡ option_map array (items_ahead us)
+listed place text us e = list_in (member_tokens place (tokens text)) us e
 
 -- ---- each item takes a token
 

@@ -30,6 +30,7 @@ pub record IsSoFar (name : List ℕ) (ts : List Token) (kept : List Entry) (plac
   pub whole : members_of ts ≡ converted (λ ms. of_members ms acc) (members (value 126) n now)
   pub passed : behind_so_many 126 count ts ≡ Some now
   pub others : (q : List ℕ) → (q ≡ name → ⊥) → get_member q acc ≡ get_member q (members_view kept)
+  pub gone : get_member name (members_view kept) ≡ None
   pub left : get_member name acc ≡ option_and_then (value_at ts) place
   pub there : IfSome place (λ i. is_some (value_at ts i) ≡ true)
   pub room : count + length now ≤ length ts
@@ -42,6 +43,7 @@ begun name ts = record {
   whole = refl;
   passed = so_many_none 126 ts;
   others = λ q h. refl;
+  gone = refl;
   left = refl;
   there = tt;
   room = omega arith;
@@ -69,6 +71,7 @@ kept_one {name} {ts} {kept} {place} {count} {now} so e s r key apart is less =
       whole = so.whole ∙ member_read (value 126) so.acc so.n k now s r d (omega (arith, so.enough, shorter)) key is;
       passed = next_count count ts r (so_many_and_one 126 count ts now s r (Some k) so.passed key (skipped 126 s r d is));
       others = λ q h. alike q k d so.acc (members_view kept) (so.others q h) ∙ ap (get_member q) (sym (members_view-push kept e));
+      gone = ap (get_member name) (members_view-push kept e) ∙ get_member-put_other name k d (members_view kept) (λ h. apart (sym h)) ∙ so.gone;
       left = get_member-put_other name k d so.acc (λ h. apart (sym h)) ∙ so.left;
       there = so.there;
       room = omega (arith, so.room, shorter, less);
@@ -91,6 +94,7 @@ passed_one {name} {ts} {kept} {place} {count} {now} so k s r key same is less =
       whole = so.whole ∙ member_read (value 126) so.acc so.n k now s r d (omega (arith, so.enough, shorter)) key found.1;
       passed = next_count count ts r (so_many_and_one 126 count ts now s r (Some k) so.passed key (skipped 126 s r d found.1));
       others = λ q h. get_member-put_other q k d so.acc (λ i. h (i ∙ same)) ∙ so.others q h;
+      gone = so.gone;
       left = ap (λ m. get_member m (put k d so.acc)) (sym same) ∙ get_member-put k d so.acc ∙ sym here;
       there = ap is_some here;
       room = omega (arith, so.room, shorter, less);
@@ -105,6 +109,7 @@ ended {name} {ts} {kept} {place} {count} {now} so v r same key =
       read = so.whole ∙ members_over (value 126) so.acc so.n now r so.enough key;
       kind = ap (λ d. is_some (as_object d)) seen;
       others = λ q h. so.others q h ∙ sym (ap (get q) seen);
+      gone = ap (get name) seen ∙ so.gone;
       left = so.left;
       there = so.there;
     }
@@ -120,6 +125,7 @@ outlined {name} {kept} {place} text us opened o = record {
   read = whole_read (value 127 (tokens text)) (object o.found) (ap (λ ts. converted of_json (value 127 ts)) opened ∙ object_read us ∙ ap (parse_map object) o.read);
   kind = sym o.kind;
   others = o.others;
+  gone = o.gone;
   left = o.left ∙ ap (λ ts. option_and_then (λ i. option_and_then data_at (member_tokens i ts)) place) (sym opened);
   there = subst (λ ts. IfSome place (λ i. is_some (option_and_then data_at (member_tokens i ts)) ≡ true)) (sym opened) o.there;
 }
@@ -153,12 +159,13 @@ module _ (name : List ℕ) where
   no_object_with a o (Token.bad ∷ ts) d h e = absurd (cc)
 
   pub no_object : (text : List ℕ) (d : Data) → is_some (after_brace (tokens text)) ≡ false → read text ≡ Some d → IsOutline name text d None
-  no_object text d h e = record {
+  no_object text d h e = let none = no_object_with _ _ (tokens text) d h (ap whole (sym (value_is 127 (tokens text))) ∙ e) in record {
     whole = d;
     read = e;
     kind = refl;
     others = λ q i. refl;
-    left = no_object_with _ _ (tokens text) d h (ap whole (sym (value_is 127 (tokens text))) ∙ e);
+    gone = none;
+    left = none;
     there = tt;
   }
 

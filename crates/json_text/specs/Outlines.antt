@@ -79,6 +79,7 @@ pub record IsOutlineOf (name : List ℕ) (ts : List Token) (kept : Data) (place 
   pub read : members_of ts ≡ Some (found, rest)
   pub kind : is_some (as_object kept) ≡ true
   pub others : (q : List ℕ) → (q ≡ name → ⊥) → get_member q found ≡ get q kept
+  pub gone : get name kept ≡ None
   pub left : get_member name found ≡ option_and_then (λ i. option_and_then data_at (value_tokens i ts)) place
   pub there : IfSome place (λ i. is_some (option_and_then data_at (value_tokens i ts)) ≡ true)
 
@@ -88,6 +89,7 @@ pub record IsOutline (name : List ℕ) (text : List ℕ) (kept : Data) (place : 
   pub read : read text ≡ Some whole
   pub kind : is_some (as_object whole) ≡ is_some (as_object kept)
   pub others : (q : List ℕ) → (q ≡ name → ⊥) → get q whole ≡ get q kept
+  pub gone : get name kept ≡ None
   pub left : get name whole ≡ option_and_then (λ i. member_at i text) place
   pub there : IfSome place (λ i. is_some (member_at i text) ≡ true)
 

@@ -2,10 +2,9 @@
 ghost use Rattle.std.specs.Prelude.{◌≡◌, ◌≤◌, ◌+◌, Some, None, Err, IfOk, IfSome, OnOk, MatchOption, MatchResult, IsUtf8, length, option_and_then, option_map};
 ghost use Rattle.serde_json.specs.Data.{no_items, item};
 ghost use Rattle.serde_json.specs.Events.{items_len};
-ghost use Rattle.serde_json.specs.Find.{as_array};
 ghost use Rattle.json_text.specs.View.{view};
 ghost use Rattle.json_text.specs.Outlines.{list_tokens, member_at};
-ghost use Rattle.json_text.specs.Ahead.{ahead};
+ghost use Rattle.json_text.specs.Ahead.{ahead, IsListOf};
 
 use crate::fault::ReadFault;
 use crate::passing::pass_so_many;
@@ -41,7 +40,7 @@ pub fn items_at<'a>(
     place: usize,
 ) -> Result<Option<Items<'a>>, AllocError>
     ensures items { IfOk result
-        (λ l. IsUtf8 bytes.now → option_and_then ahead l ≡ option_and_then as_array (member_at place bytes.now)) }
+        (λ l. IsUtf8 bytes.now → IsListOf (member_at place bytes.now) l) }
     ensures few { IfOk result
         (λ l. IfSome (option_and_then ahead l) (λ ds. items_len ds ≤ 9_223_372_036_854_775_807)) }
 {

@@ -59,7 +59,11 @@ fn pass_members(reader: &mut Reader<'_>, depth: usize) -> Result<(), Invalid>
 }
 
 /// Passes over so many members of an object, as they stand, without a look at their numbers.
-pub(crate) fn pass_so_many(reader: &mut Reader<'_>, depth: usize, count: usize) -> Result<(), Invalid>
+pub(crate) fn pass_so_many(
+    reader: &mut Reader<'_>,
+    depth: usize,
+    count: usize,
+) -> Result<(), Invalid>
     ensures value { MatchResult result (λ _. behind_so_many depth count reader.old ≡ Some reader.new)
         (λ _. behind_so_many depth count reader.old ≡ None) }
     ensures no_longer { OnOk result (length reader.new ≤ length reader.old) }

@@ -49,7 +49,11 @@ pub(crate) fn read_all<'a>(
 }
 
 #[cycle(read)]
-pub(crate) fn read<'a>(alloc: Global, reader: &mut Reader<'a>, depth: usize) -> Result<Value<'a>, ReadFault>
+pub(crate) fn read<'a>(
+    alloc: Global,
+    reader: &mut Reader<'a>,
+    depth: usize,
+) -> Result<Value<'a>, ReadFault>
     ensures ok { IfOk result (λ v. converted of_json (value depth reader.old) ≡ Some (view v, reader.new)) }
     ensures shorter { OnOk result (length reader.new < length reader.old) }
     ensures err { result ≡ Err ReadFault.NotJson → converted of_json (value depth reader.old) ≡ None }

@@ -1,7 +1,7 @@
-use Rattle.std.proofs.Common.{◌≡◌, ◌+◌, ◌≤◌, length, Some, None, option_and_then, sym, ap, ◌∙◌, rules, arith}
+use Rattle.std.proofs.Common.{◌≡◌, ◌+◌, ◌≤◌, length, Some, None, sym, ap, ◌∙◌, rules, arith}
 use Rattle.json.specs.Lex.{tokens}
-use Rattle.json_text.specs.Outlines.{list_tokens, items_ahead}
-use Rattle.json_text.proofs.Listed.{listed, few_ahead}
+use Rattle.json_text.specs.Outlines.{list_tokens}
+use Rattle.json_text.proofs.Listed.{listed, not_listed, few_ahead}
 use Rattle.json_text.proofs.Counted.{few_tokens}
 use Rattle.json_text.proofs.items.items_at.Goals as goal
 
@@ -11,7 +11,7 @@ returns-in-Ok-open_list-clause-items c utf8 =
     let text : c.in-Ok.text.now ≡ c.args.bytes.now = search rules in
     let opened : list_tokens place (tokens c.args.bytes.now) ≡ Some c.open_list.new.reader =
     ap (λ t. list_tokens place (tokens t)) (sym text) ∙ ap (list_tokens place) (sym c.in_ok-reader.ensures.ok) ∙ c.in-Ok-open_list.ensures.value in
-    sym (ap (option_and_then items_ahead) opened) ∙ listed place c.args.bytes.now
+    listed place c.args.bytes.now c.open_list.new.reader opened
 
 pub returns-in-Ok-open_list-clause-few : goal.returns-in-Ok-open_list-clause-few
 returns-in-Ok-open_list-clause-few c =
@@ -25,4 +25,4 @@ returns-in-Err-clause-items c utf8 =
     let text : c.in-Ok.text.now ≡ c.args.bytes.now = search rules in
     let none : list_tokens place (tokens c.args.bytes.now) ≡ None =
     ap (λ t. list_tokens place (tokens t)) (sym text) ∙ ap (list_tokens place) (sym c.in_ok-reader.ensures.ok) ∙ c.in-Err.ensures.value in
-    sym (ap (option_and_then items_ahead) none) ∙ listed place c.args.bytes.now
+    not_listed place c.args.bytes.now none
