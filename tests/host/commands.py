@@ -106,6 +106,24 @@ CATALOGUES = [
     ("\"south\"", "\"north\"", "catalogue fault 7"),
 ]
 
+# What stands in the place of the one name of runs, what follows the whole, and the note; without one it is as the example.
+DEEP = "[" * 125 + "]" * 125
+RUNS = [
+    ("\"runs\":[],\"runs\":", "}", ""),
+    ("\"runs\":[{\"train\":0}],\"\\u0072uns\":", "}", ""),
+    ("\"\\u0072uns\":7,\"runs\":", ",\"other\":{\"runs\":[]}}", ""),
+    ("\"runs\":[%s],\"runs\":" % DEEP, "}", ""),
+    ("\"runs\":[[%s]],\"runs\":" % DEEP, "}", "catalogue fault 1"),
+    ("\"runs\":[{\"train\":1e999}],\"runs\":", "}", "catalogue fault 1"),
+    ("\"runs\":[{\"train\":01}],\"runs\":", "}", "catalogue fault 1"),
+    ("\"runs\":", ",\"runs\":[{}]}", "catalogue fault 2 at runs[0].train"),
+    ("\"runs\":", ",\"\\u0072uns\":[]}", "catalogue fault 2 at runs"),
+    ("\"runs\":", ",\"runs\":{\"train\":1}}", "catalogue fault 2 at runs"),
+    ("\"runs\":", ",\"runs\":[{\"train\":1e999}]}", "catalogue fault 1"),
+    ("\"runs\":", ",\"currency\":\"EURO\",\"runs\":[{}]}", "catalogue fault 2 at currency"),
+    ("\"Runs\":", "}", "catalogue fault 2 at runs"),
+]
+
 # Lines of an export for the example, and the note on it.
 FIRST_LINE = "rail-export 1 18 65536\n"
 SOLD_LINE = "row 0 0 C 1 1780294500 800 1 4.1.2\n"
@@ -205,6 +223,11 @@ def catalogues(runs: Runs):
     for number, (text, note) in enumerate(texts + TEXTS):
         runs.write("wrong.json", text)
         runs.check("catalogue %d" % number, runs.run("replay wrong.json", RESERVES), (1, b"", "rail_host: %s\n" % note))
+    sold = runs.run("replay k1.json", RESERVES)
+    for number, (name, end, note) in enumerate(RUNS):
+        text = example.replace("\"runs\":", name, 1).rstrip()[:-1] + end
+        runs.write("wrong.json", text.encode())
+        runs.check("runs %d" % number, runs.run("replay wrong.json", RESERVES), (1, b"", "rail_host: %s\n" % note) if note else sold)
     os.mkdir(os.path.join(runs.folder, "folder"))
     for line in ("replay folder", "serve folder --port 8080"):
         runs.check(line + ", which is no file", runs.run(line, RESERVES), (3, b"", READ_FAULT))

@@ -1,2 +1,6 @@
 pub mod Trees
-mod Turns
+pub mod Turns
+pub mod Passed
+pub mod Outlined
+pub mod Listed
+pub mod Counted

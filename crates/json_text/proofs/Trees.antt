@@ -1,5 +1,5 @@
 -- A value, level by level, and looking into the list of an object's members.
-use Rattle.std.proofs.Common.{◌≡◌, ℕ, List, [], ◌∷◌, ◌++◌, map, Bool, true, false, cond, Option, Some, None, true≢false, Bor, Vec, Global, refl, sym, ap, ◌∙◌, rules}
+use Rattle.std.proofs.Common.{◌≡◌, ℕ, List, [], ◌∷◌, ◌++◌, map, Bool, true, false, cond, Some, true≢false, Bor, Vec, Global, refl, sym, ap, ◌∙◌, rules}
 use Rattle.std.specs.Str.{bytes_eq}
 use Rattle.std.proofs.lemmas.Slice.Eq.{bytes_eq-Decides}
 use Rattle.serde_json.specs.Data.{Data, array, object, Members, no_members, put}
@@ -25,7 +25,7 @@ put_all-push (m ∷ es) e found = put_all-push es e (put m.0.now (view m.1) foun
 pub members_view-push : (es : List Entry) (e : Entry) → members_view (es ++ e ∷ []) ≡ put e.0.now (view e.1) (members_view es)
 members_view-push es e = put_all-push es e no_members
 
-found_at : (b : Bool) (name k : List ℕ) (d : Data) (ms : Members) → bytes_eq k name ≡ b → get_member name (put k d ms) ≡ cond b (Some d) (get_member name ms)
+pub found_at : (b : Bool) (name k : List ℕ) (d : Data) (ms : Members) → bytes_eq k name ≡ b → get_member name (put k d ms) ≡ cond b (Some d) (get_member name ms)
 found_at true name k d ms e = let same = (bytes_eq-Decides k name).0 e in ap (λ n. get_member n (put k d ms)) (sym same) ∙ get_member-put k d ms
 found_at false name k d ms e = get_member-put_other name k d ms (λ h. true≢false (sym ((bytes_eq-Decides k name).1 (sym h)) ∙ e))
 

@@ -9,12 +9,17 @@
 #![tactic(auto)]
 
 mod fault;
+mod items;
 mod number;
+mod outline;
+mod passing;
 mod reading;
 mod value;
 
 pub use fault::ReadFault;
+pub use items::{Items, items_at};
 pub use json::Scratch;
 pub use number::Number;
+pub use outline::{Outline, read_outline};
 pub use reading::read_value;
 pub use value::Value;

@@ -11,10 +11,10 @@ use crate::value::Value;
 use json::{Reader, Scratch, Token};
 use std::alloc::{AllocError, Global};
 
-const MAX_DEPTH: usize = 127;
+pub(crate) const MAX_DEPTH: usize = 127;
 
 /// How many members the outermost object has room for at first.
-const OUTERMOST: usize = 8;
+pub(crate) const OUTERMOST: usize = 8;
 
 /// The value that the bytes are. `scratch` is room for the texts with escapes; one that is kept from reading to reading
 /// saves its making.
@@ -32,7 +32,7 @@ pub fn read_value<'a>(
     }
 }
 
-fn read_all<'a>(
+pub(crate) fn read_all<'a>(
     alloc: Global,
     text: &'a str,
     scratch: &'a mut Scratch,
@@ -49,7 +49,11 @@ fn read_all<'a>(
 }
 
 #[cycle(read)]
-fn read<'a>(alloc: Global, reader: &mut Reader<'a>, depth: usize) -> Result<Value<'a>, ReadFault>
+pub(crate) fn read<'a>(
+    alloc: Global,
+    reader: &mut Reader<'a>,
+    depth: usize,
+) -> Result<Value<'a>, ReadFault>
     ensures ok { IfOk result (λ v. converted of_json (value depth reader.old) ≡ Some (view v, reader.new)) }
     ensures shorter { OnOk result (length reader.new < length reader.old) }
     ensures err { result ≡ Err ReadFault.NotJson → converted of_json (value depth reader.old) ≡ None }

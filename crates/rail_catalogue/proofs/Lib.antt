@@ -1,3 +1,4 @@
 pub mod JsonFacts
 pub mod Indexes
 pub mod Stationing
+pub mod Fronts

@@ -10,3 +10,4 @@ pub mod CoachViews
 pub mod Contents
 pub mod Format
 pub mod Networks
+pub mod Listed

@@ -1,25 +1,28 @@
-ghost use Rattle.std.specs.Prelude.{◌≡◌, ◌≤◌, IfOk, IfErr, IfSome, Some, None, length, map, option_map};
+ghost use Rattle.std.specs.Prelude.{◌≡◌, ◌≤◌, IfOk, IfErr, IfSome, None, IsUtf8, length, map, option_map};
 ghost use Rattle.json_text.specs.View.{view};
+ghost use Rattle.json_text.specs.Outlines.{IsOutline};
 ghost use Rattle.serde_json.specs.Find.{as_array};
 ghost use Rattle.rail_catalogue.specs.Faults.{fault_of, not_json};
 ghost use Rattle.rail_catalogue.specs.Json.{data_of, json_of, whole_in as whole_of, whole_or as whole_or_of, list_of as list_of_member, list_in as list_in_of, member_data};
 
 use crate::fault::CatalogueFault;
-use json_text::{ReadFault, Scratch, Value};
+use json_text::{Outline, ReadFault, Scratch, Value, read_outline};
 use std::alloc::Global;
 
-/// The JSON that the bytes are.
-pub fn read_value<'a>(
+/// The JSON that the bytes are, without the members of the name.
+pub fn outline_of<'a>(
     alloc: Global,
     text: &'a [u8],
     scratch: &'a mut Scratch,
-) -> Result<Value<'a>, CatalogueFault>
-    ensures ok { IfOk result (λ v. json_of text.now ≡ Some (view v)) }
+    name: &str,
+) -> Result<Outline<'a>, CatalogueFault>
+    ensures utf8 { IfOk result (λ _. IsUtf8 text.now) }
+    ensures ok { IfOk result (λ o. IsOutline name.now text.now (view o.kept) o.place) }
     ensures kind { IfErr result (λ e. IfSome (fault_of e) (λ f. f ≡ not_json)) }
     ensures err { IfErr result (λ e. IfSome (fault_of e) (λ _. json_of text.now ≡ None)) }
 {
-    match json_text::read_value(alloc, text, scratch) {
-        Ok(value) => Ok(value),
+    match read_outline(alloc, text, scratch, name) {
+        Ok(outline) => Ok(outline),
         Err(ReadFault::NoMemory) => Err(CatalogueFault::NoMemory),
         Err(ReadFault::NotJson) => Err(CatalogueFault::NotJson),
     }

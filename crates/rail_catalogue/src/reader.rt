@@ -1,19 +1,22 @@
-ghost use Rattle.std.specs.Prelude.{◌≡◌, ◌≤◌, Ok, Err, IfOk, length, string_bytes};
+ghost use Rattle.std.specs.Prelude.{◌≡◌, [], Ok, IfOk, IfSome, IsUtf8, is_some, true};
 ghost use Rattle.std.specs.List.{list_all};
 ghost use Rattle.json_text.specs.View.{view};
+ghost use Rattle.json_text.specs.Outlines.{member_at};
 ghost use Rattle.rail_catalogue.specs.Faults.{Refuses};
-ghost use Rattle.rail_catalogue.specs.Networks.{heading_view};
-ghost use Rattle.rail_catalogue.specs.Format.{catalogue_of, contents_of, heading_of, is_currency as is_currency_of, is_capital};
+ghost use Rattle.rail_catalogue.specs.Networks.{heading_view, IsWithin, front_view, front_in, with_runs, runs_at};
+ghost use Rattle.rail_catalogue.specs.Format.{catalogue_of, heading_of, is_currency as is_currency_of, is_capital};
 
 use crate::catalogue::Catalogue;
 use crate::fault::{CatalogueFault, field_fault};
-use crate::json::{read_value, whole_or};
-use crate::retailers::read_retailers;
+use crate::json::{outline_of, whole_or};
+use crate::retailers::{Retailers, read_retailers};
 use crate::runs::read_network;
 use crate::stations::read_stations;
 use crate::steps::read_terms;
 use json_text::{Scratch, Value};
 use std::alloc::Global;
+use tariff::Terms;
+use train_runs::Runs;
 
 /// The catalogue of a text, or its first fault in the order of the format.
 pub fn read_catalogue(alloc: Global, text: &[u8]) -> Result<Catalogue, CatalogueFault>
@@ -21,20 +24,61 @@ pub fn read_catalogue(alloc: Global, text: &[u8]) -> Result<Catalogue, Catalogue
     ensures err { Refuses (catalogue_of text.now) result }
 {
     let mut scratch = Scratch::new(alloc);
-    let whole = read_value(alloc, text, &mut scratch)?;
-    read_contents(alloc, &whole)
+    let front = read_front(alloc, text, &mut scratch)?;
+    let Front {
+        heading,
+        retailers,
+        stations,
+        terms,
+        place,
+    } = front;
+    let network = read_network(alloc, text, &mut scratch, place, stations)?;
+    Ok(Catalogue::new(heading.currency, heading.rows, retailers, terms, network))
 }
 
-fn read_contents(alloc: Global, whole: &Value<'_>) -> Result<Catalogue, CatalogueFault>
-    ensures ok { IfOk result (λ c. contents_of (view whole.now) ≡ Ok c) }
-    ensures err { Refuses (contents_of (view whole.now)) result }
+// What is read before the runs, and where these stand among the members of the whole.
+#[derive(Drop)]
+struct Front {
+    heading: Heading,
+    retailers: Retailers,
+    stations: Runs,
+    terms: Terms,
+    place: Option<usize>,
+}
+
+// Reads all but the runs.
+fn read_front(alloc: Global, text: &[u8], scratch: &mut Scratch) -> Result<Front, CatalogueFault>
+    ensures utf8 { IfOk result (λ _. IsUtf8 text.now) }
+    ensures ok { IfOk result (λ f. catalogue_of text.now ≡ with_runs (front_view f) (runs_at f.place text.now)) }
+    ensures there { IfOk result (λ f. IfSome f.place (λ i. is_some (member_at i text.now) ≡ true)) }
+    ensures no_run { IfOk result (λ f. f.stations.runs ≡ []) }
+    ensures heading { IfOk result (λ f. IsWithin f.heading) }
+    ensures err { Refuses (catalogue_of text.now) result }
+{
+    let outline = outline_of(alloc, text, scratch, "runs")?;
+    let front = front_of(alloc, &outline.kept, outline.place)?;
+    Ok(front)
+}
+
+// Reads all but the runs, where the member of these has been left out.
+fn front_of(alloc: Global, whole: &Value<'_>, place: Option<usize>) -> Result<Front, CatalogueFault>
+    ensures ok { IfOk result (λ f. front_in (view whole.now) ≡ Ok (front_view f)) }
+    ensures place { IfOk result (λ f. f.place ≡ place) }
+    ensures no_run { IfOk result (λ f. f.stations.runs ≡ []) }
+    ensures heading { IfOk result (λ f. IsWithin f.heading) }
+    ensures err { Refuses (front_in (view whole.now)) result }
 {
     let heading = read_heading(alloc, whole)?;
     let retailers = read_retailers(alloc, whole.get("retailers"))?;
     let stations = read_stations(alloc, whole.get("stations"))?;
     let terms = read_terms(alloc, whole, heading.confirm_seconds)?;
-    let network = read_network(alloc, whole.get("runs"), stations)?;
-    Ok(Catalogue::new(heading.currency, heading.rows, retailers, terms, network))
+    Ok(Front {
+        heading,
+        retailers,
+        stations,
+        terms,
+        place,
+    })
 }
 
 // What stands before the lists.
@@ -47,9 +91,7 @@ struct Heading {
 
 fn read_heading(alloc: Global, whole: &Value<'_>) -> Result<Heading, CatalogueFault>
     ensures ok { IfOk result (λ h. heading_of (view whole.now) ≡ Ok (heading_view h)) }
-    ensures letters { IfOk result (λ h. length (string_bytes h.currency) ≡ 3) }
-    ensures rows { IfOk result (λ h. (1 ≤ h.rows) × (h.rows ≤ 262_144)) }
-    ensures seconds { IfOk result (λ h. (1 ≤ h.confirm_seconds) × (h.confirm_seconds ≤ 86_400)) }
+    ensures within { IfOk result IsWithin }
     ensures err { Refuses (heading_of (view whole.now)) result }
 {
     if !whole.is_object() {

@@ -1,22 +1,25 @@
-ghost use Rattle.std.specs.Prelude.{◌≡◌, ◌<◌, ◌≤◌, ◌+◌, [], All, Ok, Err, IfOk, IfSome, OnOk, length};
+ghost use Rattle.std.specs.Prelude.{◌≡◌, ◌<◌, ◌≤◌, ◌+◌, [], ◌∷◌, All, Ok, Err, None, IfOk, IfErr, IfSome, IfNone, MatchOption, OnOk, IsUtf8, is_some, true, length};
 ghost use Rattle.json_text.specs.View.{view};
+ghost use Rattle.json_text.specs.Outlines.{member_at};
+ghost use Rattle.json_text.specs.Ahead.{ahead};
 ghost use Rattle.place_map.specs.Places.{EndsWithRun};
-ghost use Rattle.rail_catalogue.specs.Json.{member_data};
-ghost use Rattle.rail_catalogue.specs.Faults.{Refuses};
+ghost use Rattle.rail_catalogue.specs.Json.{list_of as list_of_member};
+ghost use Rattle.rail_catalogue.specs.Faults.{Refuses, fault_of};
 ghost use Rattle.rail_catalogue.specs.Stops.{timetable_of, fares_of, amount_at, with_run};
 ghost use Rattle.rail_catalogue.specs.Contents.{IsWhole};
-ghost use Rattle.rail_catalogue.specs.Format.{places_of, with_item, network_of};
-ghost use Rattle.rail_catalogue.specs.Networks.{network_view};
+ghost use Rattle.rail_catalogue.specs.Format.{places_of, with_item, network_from, network_of};
+ghost use Rattle.rail_catalogue.specs.Networks.{network_view, runs_at, start_of};
+ghost use Rattle.rail_catalogue.specs.Listed.{all_ahead, AreListed};
 
 use crate::catalogue::Fares;
 use crate::coaches::read_coaches;
 use crate::fault::{CatalogueFault, field_fault, item_fault};
 use crate::json::{list_in, list_of, whole_in};
 use crate::stops::read_stops;
-use json_text::Value;
+use json_text::{Items, Scratch, Value, items_at};
 use place_map::PlaceMap;
 use rail_ids::RunNo;
-use std::alloc::Global;
+use std::alloc::{AllocError, Global};
 use tariff::Fare;
 use train_runs::{Run, RunFault, Runs};
 
@@ -28,30 +31,85 @@ pub struct Network {
     pub places: PlaceMap,
 }
 
-/// The runs of the member, over these stations.
+/// The runs of the member at this place, over these stations.
 pub fn read_network(
     alloc: Global,
-    value: Option<&Value<'_>>,
+    text: &[u8],
+    scratch: &mut Scratch,
+    place: Option<usize>,
     runs: Runs,
 ) -> Result<Network, CatalogueFault>
-    requires { runs.runs ≡ [] }
-    ensures ok { IfOk result (λ n. network_of runs.stations (member_data value.entry) ≡ Ok (network_view n)) }
+    requires empty { runs.runs ≡ [] }
+    requires utf8 { IsUtf8 text.now }
+    requires there { IfSome place (λ i. is_some (member_at i text.now) ≡ true) }
+    ensures ok { IfOk result (λ n. network_of runs.stations (runs_at place text.now) ≡ Ok (network_view n)) }
     ensures whole { IfOk result (λ n. IsWhole n.runs n.fares.items n.places) }
     ensures some { IfOk result (λ n. 1 ≤ length n.runs.runs) }
-    ensures err { Refuses (network_of runs.stations (member_data value.entry)) result }
+    ensures err { Refuses (network_of runs.stations (runs_at place text.now)) result }
 {
-    let Some(items) = list_in(value, 1, 9_223_372_036_854_775_807) else {
+    let Some(items) = find_runs(text, scratch, place)? else {
         return Err(field_fault(alloc, "runs"));
     };
+    let network = read_runs(alloc, items, runs)?;
+    if network.fares.is_empty() {
+        return Err(field_fault(alloc, "runs"));
+    }
+    Ok(network)
+}
+
+// The runs, of which one at a time is read, where they are a list.
+fn find_runs<'a>(
+    text: &'a [u8],
+    scratch: &'a mut Scratch,
+    place: Option<usize>,
+) -> Result<Option<Items<'a>>, AllocError>
+    requires utf8 { IsUtf8 text.now }
+    requires there { IfSome place (λ i. is_some (member_at i text.now) ≡ true) }
+    ensures { IfOk result (λ l. MatchOption l (list_of_member (runs_at place text.now) ≡ None)
+        (λ l. AreListed (runs_at place text.now) l)) }
+{
+    let Some(place) = place else {
+        return Ok(None);
+    };
+    let items = items_at(text, scratch, place)?;
+    Ok(items)
+}
+
+fn read_runs(alloc: Global, items: Items<'_>, runs: Runs) -> Result<Network, CatalogueFault>
+    requires empty { runs.runs ≡ [] }
+    requires there { is_some (ahead items) ≡ true }
+    requires few { length (all_ahead items) ≤ 9_223_372_036_854_775_807 }
+    ensures ok { IfOk result (λ n. network_from (start_of runs.stations) 0 (all_ahead items.entry) ≡ Ok (network_view n)) }
+    ensures whole { IfOk result (λ n. IsWhole n.runs n.fares.items n.places) }
+    ensures count { IfOk result (λ n. length n.runs.runs ≡ length (all_ahead items.entry)) }
+    ensures err { Refuses (network_from (start_of runs.stations) 0 (all_ahead items.entry)) result }
+{
+    let mut items = items;
     let mut network = Network {
         runs,
         fares: Vec::new(alloc),
         places: PlaceMap::new(alloc),
     };
-    for (n, item) in items.iter().enumerate() {
-        read_run(alloc, item, n, &mut network)?;
+    let mut n = 0;
+    'items: while let Some(item) = next_run(alloc, &mut items)? {
+        read_run(alloc, &item, n, &mut network)?;
+        n += 1;
     }
     Ok(network)
+}
+
+// The next item, of a list that was found to be JSON before.
+fn next_run<'a>(alloc: Global, items: &mut Items<'a>) -> Result<Option<Value<'a>>, CatalogueFault>
+    requires { is_some (ahead items.old) ≡ true }
+    ensures last { IfOk result (λ v. IfNone v (all_ahead items.old ≡ [])) }
+    ensures there { IfOk result (λ v. IfSome v (λ _. is_some (ahead items.new) ≡ true)) }
+    ensures next { IfOk result (λ v. IfSome v (λ v. all_ahead items.old ≡ view v ∷ all_ahead items.new)) }
+    ensures err { IfErr result (λ e. fault_of e ≡ None) }
+{
+    match items.next(alloc) {
+        Ok(item) => Ok(item),
+        Err(_) => Err(CatalogueFault::NoMemory),
+    }
 }
 
 // Adds the next item of the list, which has this index.
