@@ -75,6 +75,7 @@ fn find_runs<'a>(
     Ok(items)
 }
 
+// The network of these stations and items, one after another.
 fn read_runs(alloc: Global, items: Items<'_>, runs: Runs) -> Result<Network, CatalogueFault>
     requires empty { runs.runs ≡ [] }
     requires there { is_some (ahead items) ≡ true }
@@ -98,7 +99,7 @@ fn read_runs(alloc: Global, items: Items<'_>, runs: Runs) -> Result<Network, Cat
     Ok(network)
 }
 
-// The next item, of a list that was found to be JSON before.
+// The next item of a list that is known to be JSON, so that nothing but memory can be wanting.
 fn next_run<'a>(alloc: Global, items: &mut Items<'a>) -> Result<Option<Value<'a>>, CatalogueFault>
     requires { is_some (ahead items.old) ≡ true }
     ensures last { IfOk result (λ v. IfNone v (all_ahead items.old ≡ [])) }
