@@ -134,7 +134,7 @@ impl Board {
     {
         let useful = self.useful.as_slice();
         let first = self.hints.count_before(useful, from);
-        let count = self.hints.count_before(useful, to + 1);
+        let count = self.hints.count_from(useful, first, to + 1);
         if count <= first {
             return NONE;
         }
@@ -319,11 +319,27 @@ impl Hints {
         if are_before(useful, end, seconds) {
             return end;
         }
+        if are_before(useful, 0, seconds) {
+            return 0;
+        }
         let count = self.follow(useful, seconds);
         if are_before(useful, count, seconds) {
             return count;
         }
         count_before(useful, seconds)
+    }
+
+    // The same, where it may be as many as these.
+    fn count_from(&self, useful: &[Useful], count: usize, seconds: u64) -> usize
+        requires rises { Rises useful.now }
+        ensures within { result ≤ length useful.now }
+        ensures earlier { AllWithin (λ u. u.moment < seconds) useful.now 0 result }
+        ensures later { AllWithin (λ u. seconds ≤ u.moment) useful.now result (length useful.now) }
+    {
+        if are_before(useful, count, seconds) {
+            return count;
+        }
+        self.count_before(useful, seconds)
     }
 
     // The first departure from the hint on that leaves no earlier, where it isn't far.
