@@ -263,15 +263,75 @@ fn rides_of(
     requires bounds { AreBounds runs.now wish.now bounds.now }
     ensures { IfOk result (λ v. AreRides runs.now wish.now bounds.now.ranks (length bounds.now.levels) v.items) }
 {
+    if bounds.count() == 0 {
+        return last_rides(alloc, runs, wish, bounds);
+    }
     if bounds.count() < BOUNDED_CHANGES - 1 {
-        let mut rides = unknown_rides(alloc, runs, most_stops_of(runs))?;
         let firsts = first_departures(alloc, runs)?;
-        bound_each(runs, wish, bounds, firsts.as_slice(), rides.as_mut_slice());
-        return Ok(rides);
+        let stops = most_stops_of(runs);
+        return rides_from(alloc, runs, wish, bounds, firsts.as_slice(), stops);
     }
     let firsts = leaving(runs, window_of(runs, wish, &[]));
-    let mut rides = unknown_rides(alloc, runs, past_stops_of(firsts))?;
-    bound_each(runs, wish, bounds, firsts, rides.as_mut_slice());
+    let stops = past_stops_of(firsts);
+    rides_from(alloc, runs, wish, bounds, firsts, stops)
+}
+
+// Those without a change.
+fn last_rides(
+    alloc: Global,
+    runs: &Runs,
+    wish: &TripWish,
+    bounds: &Bounds,
+) -> Result<Vec<Column>, AllocError>
+    requires ranks { AreRanks runs.now wish.now bounds.now.ranks }
+    requires none { length bounds.now.levels ≡ 0 }
+    ensures { IfOk result (λ v. AreRides runs.now wish.now bounds.now.ranks (length bounds.now.levels) v.items) }
+{
+    let mut rides = unknown_rides(alloc, runs, most_stops_of(runs))?;
+    end_each(runs, wish, bounds, rides.as_mut_slice());
+    Ok(rides)
+}
+
+// Bounds the rides of all runs without a change.
+fn end_each(runs: &Runs, wish: &TripWish, bounds: &Bounds, rides: &mut [Column])
+    requires ranks { AreRanks runs.now wish.now bounds.now.ranks }
+    requires none { length bounds.now.levels ≡ 0 }
+    requires rides { AreRides runs.now wish.now bounds.now.ranks (length bounds.now.levels) rides.old }
+    ensures { AreRides runs.now wish.now bounds.now.ranks (length bounds.now.levels) rides.new }
+{
+    for run in 0..runs.count() {
+        end_run(runs, wish, bounds, RunNo(run), rides);
+    }
+}
+
+// Those of the run.
+fn end_run(runs: &Runs, wish: &TripWish, bounds: &Bounds, run: RunNo, rides: &mut [Column])
+    requires ranks { AreRanks runs.now wish.now bounds.now.ranks }
+    requires none { length bounds.now.levels ≡ 0 }
+    requires rides { AreRides runs.now wish.now bounds.now.ranks (length bounds.now.levels) rides.old }
+    ensures { AreRides runs.now wish.now bounds.now.ranks (length bounds.now.levels) rides.new }
+{
+    for stop in 0..stops_of(runs, run).len() {
+        put(rides, stop, run, bounds.ranks.ride(run, stop as u8));
+    }
+}
+
+// Those with so many changes and one, of the runs of these departures, from there on: at so many stops.
+fn rides_from(
+    alloc: Global,
+    runs: &Runs,
+    wish: &TripWish,
+    bounds: &Bounds,
+    departures: &[Departure],
+    stops: usize,
+) -> Result<Vec<Column>, AllocError>
+    requires some { 1 ≤ length bounds.now.levels }
+    requires ranks { AreRanks runs.now wish.now bounds.now.ranks }
+    requires bounds { AreBounds runs.now wish.now bounds.now }
+    ensures { IfOk result (λ v. AreRides runs.now wish.now bounds.now.ranks (length bounds.now.levels) v.items) }
+{
+    let mut rides = unknown_rides(alloc, runs, stops)?;
+    bound_each(runs, wish, bounds, departures, rides.as_mut_slice());
     Ok(rides)
 }
 
@@ -322,7 +382,7 @@ fn past_stops_of(departures: &[Departure]) -> usize {
     past
 }
 
-// Bounds the rides of the runs of these departures.
+// Bounds the rides of the runs of these departures, from there on.
 fn bound_each(
     runs: &Runs,
     wish: &TripWish,
@@ -330,28 +390,38 @@ fn bound_each(
     departures: &[Departure],
     rides: &mut [Column],
 )
+    requires some { 1 ≤ length bounds.now.levels }
     requires ranks { AreRanks runs.now wish.now bounds.now.ranks }
     requires bounds { AreBounds runs.now wish.now bounds.now }
     requires rides { AreRides runs.now wish.now bounds.now.ranks (length bounds.now.levels) rides.old }
     ensures { AreRides runs.now wish.now bounds.now.ranks (length bounds.now.levels) rides.new }
 {
     for departure in departures {
-        bound_run(runs, wish, bounds, departure.run, rides);
+        bound_run(runs, wish, bounds, departure, rides);
     }
 }
 
-// For each stop of the run, the first two by what gets off further on. A run's stops stand together, and what is asked
-// of a station's board is few numbers.
-fn bound_run(runs: &Runs, wish: &TripWish, bounds: &Bounds, run: RunNo, rides: &mut [Column])
+// For each stop of the run from the departure on, the first two by what gets off further on. A run's stops stand
+// together, and what is asked of a station's board is few numbers.
+fn bound_run(
+    runs: &Runs,
+    wish: &TripWish,
+    bounds: &Bounds,
+    departure: &Departure,
+    rides: &mut [Column],
+)
+    requires some { 1 ≤ length bounds.now.levels }
     requires ranks { AreRanks runs.now wish.now bounds.now.ranks }
     requires bounds { AreBounds runs.now wish.now bounds.now }
     requires rides { AreRides runs.now wish.now bounds.now.ranks (length bounds.now.levels) rides.old }
     ensures { AreRides runs.now wish.now bounds.now.ranks (length bounds.now.levels) rides.new }
 {
+    let run = departure.run;
     let stops = stops_of(runs, run);
     let count = stops.len();
+    let needed = count.saturating_sub(usize::from(departure.stop));
     let mut firsts = NONE;
-    for back in 0..count {
+    for back in 0..needed {
         let stop = count - 1 - back;
         put(rides, stop, run, firsts);
         let here = firsts_at(runs, wish, bounds, run, stop as u8, &stops[stop]);
@@ -379,15 +449,13 @@ fn firsts_at(
     off: &Stop,
 ) -> FirstTwo
     requires off { off.now ≡ stop_at (stops_of_run runs.now run.0) stop }
+    requires some { 1 ≤ length bounds.now.levels }
     requires ranks { AreRanks runs.now wish.now bounds.now.ranks }
     requires bounds { AreBounds runs.now wish.now bounds.now }
     ensures { FirstsOfStop runs.now wish.now bounds.now.ranks (length bounds.now.levels) run.0 stop result }
 {
     let changes = bounds.count();
-    if changes > 0 {
-        return bounds.firsts_leaving(changes - 1, &window_at(runs, off));
-    }
-    bounds.ranks.at(run, stop)
+    bounds.firsts_leaving(changes - 1, &window_at(runs, off))
 }
 
 // The departures of each station that lead to the destination before this rank: none where no further change is bounded
@@ -426,7 +494,7 @@ fn board_of(
     let change = u64::from(runs.change(station).unwrap_or(0));
     let departures = leaving(runs, always(station));
     let mut board = Board::new(alloc, LONGEST_WINDOW.saturating_sub(change));
-    board.reserve(departures.len())?;
+    board.reserve(count_early(rides, departures, late))?;
     for departure in departures {
         let two = firsts_of(rides, departure.run, departure.stop);
         if two.first < late {
@@ -436,6 +504,17 @@ fn board_of(
     board.finish();
     board.hint()?;
     Ok(board)
+}
+
+// How many of the departures lead to the destination before this rank. Room is taken for no more of them: memory that
+// is new to a program costs more than a second look.
+fn count_early(rides: &[Column], departures: &[Departure], late: u16) -> usize {
+    let mut count: usize = 0;
+    for departure in departures {
+        let two = firsts_of(rides, departure.run, departure.stop);
+        count = count.saturating_add(usize::from(two.first < late));
+    }
+    count
 }
 
 // The window of all departures of a station.
