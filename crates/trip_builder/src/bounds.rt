@@ -1,15 +1,15 @@
-ghost use Rattle.std.specs.Prelude.{◌≡◌, ◌<◌, ◌≤◌, ◌^◌, ℕ, [], length, IfOk, OnOk, slice_index_or};
+ghost use Rattle.std.specs.Prelude.{◌≡◌, ◌<◌, ◌≤◌, ◌^◌, ℕ, true, [], length, IfOk, OnOk, slice_index_or};
 ghost use Rattle.train_runs.specs.Runs.{RunsView};
 ghost use Rattle.train_runs.specs.Stops.{stop_at};
 ghost use Rattle.trip_builder.specs.Segments.{stops_of as stops_of_run};
 ghost use Rattle.trip_builder.specs.declared.trip.TripWish.{TripWish};
-ghost use Rattle.trip_builder.specs.Bounds.{RanksView, AreRanks, AreRides, AreUnknown, IsPut, IsBoardOf, AreBoards, AreBounds, BoundsRide, BoundsLeaving, NarrowsLeaving, FirstsOfRide, FirstsOfStop, FirstsLeaving, firsts_in, unknown, no_rank};
+ghost use Rattle.trip_builder.specs.Bounds.{RanksView, Precede, AreRanks, AreRides, AreUnknown, IsPut, IsBoardOf, AreBoards, AreBounds, BoundsRide, BoundsLeaving, NarrowsLeaving, FirstsOfRide, FirstsOfStop, FirstsOfStation, FirstsLeaving, AreBests, firsts_in, unknown, no_rank};
 ghost use Rattle.trip_builder.specs.Ends.{AreEnds};
 
 use crate::board::Board;
 use crate::departures::{Window, leaving, stop_of, stops_of, window_at, window_of};
 use crate::ends::Ends;
-use crate::ranks::{FirstTwo, NO_RANK, NONE, Ranks, UNKNOWN, join};
+use crate::ranks::{FirstTwo, NO_RANK, NONE, Ranks, UNKNOWN, join, precede_all};
 use crate::trip::TripWish;
 use offer_codes::Segment;
 use rail_ids::{RunNo, StationNo};
@@ -61,11 +61,12 @@ impl Column {
     }
 }
 
-/// The bounds with one number of changes.
+/// The bounds with one number of changes, and for each board the first two by all of its departures.
 #[derive(Drop)]
 struct Reach {
     rides: Vec<Column>,
     boards: Vec<Board>,
+    bests: Vec<FirstTwo>,
 }
 
 impl Model for Reach {
@@ -73,7 +74,7 @@ impl Model for Reach {
 
     ghost Value = { ReachView };
 
-    ghost view = { λ r. record { rides = r.rides.items; boards = r.boards.items } };
+    ghost view = { λ r. record { rides = r.rides.items; boards = r.boards.items; bests = r.bests.items } };
 }
 
 /// When what goes on from a departure arrives at the destination at the earliest: without a change, with one, with two.
@@ -149,7 +150,12 @@ impl Bounds {
             let rides = rides_of(alloc, runs, wish, self)?;
             let late = self.ranks.late();
             let boards = boards_of(alloc, runs, rides.as_slice(), changes, late)?;
-            self.levels.push(Reach { rides, boards })?;
+            let bests = bests_of(alloc, boards.as_slice())?;
+            self.levels.push(Reach {
+                rides,
+                boards,
+                bests,
+            })?;
         }
         Ok(())
     }
@@ -201,6 +207,23 @@ impl Bounds {
             }
             None => UNKNOWN,
         }
+    }
+
+    // Whether these two precede all that leaves the station and changes so often: then none of it need be looked at.
+    fn precede_leaving(&self, changes: usize, station: StationNo, two: FirstTwo) -> bool
+        ensures { result ≡ true → (r : RunsView) (w : TripWish) → AreBounds r w self.now
+            → FirstsOfStation r w self.now.ranks changes station two }
+    {
+        let Some(reach) = self.levels.get(changes) else {
+            return false;
+        };
+        let Some(_all) = reach.boards.get(station.0 as usize) else {
+            return false;
+        };
+        let Some(best) = reach.bests.get(station.0 as usize) else {
+            return false;
+        };
+        precede_all(two, *best) && precede_all(two, self.ranks.late_ones())
     }
 
     /// The part of the window in which what leads to the destination with so many changes leaves.
@@ -424,8 +447,7 @@ fn bound_run(
     for back in 0..needed {
         let stop = count - 1 - back;
         put(rides, stop, run, firsts);
-        let here = firsts_at(runs, wish, bounds, run, stop as u8, &stops[stop]);
-        firsts = join(firsts, here);
+        firsts = firsts_with(runs, bounds, run, stop as u8, &stops[stop], firsts);
     }
 }
 
@@ -439,23 +461,29 @@ fn put(rides: &mut [Column], stop: usize, run: RunNo, firsts: FirstTwo)
     }
 }
 
-// The first two of what gets off the run at the stop of this number, with one change more.
-fn firsts_at(
+// These two, and the first two of what gets off the run at the stop of this number, with one change more. A run that has
+// the first ones already, as it soon has where few come to the destination, asks no board for a window.
+fn firsts_with(
     runs: &Runs,
-    wish: &TripWish,
     bounds: &Bounds,
     run: RunNo,
     stop: u8,
     off: &Stop,
+    firsts: FirstTwo,
 ) -> FirstTwo
     requires off { off.now ≡ stop_at (stops_of_run runs.now run.0) stop }
     requires some { 1 ≤ length bounds.now.levels }
-    requires ranks { AreRanks runs.now wish.now bounds.now.ranks }
-    requires bounds { AreBounds runs.now wish.now bounds.now }
-    ensures { FirstsOfStop runs.now wish.now bounds.now.ranks (length bounds.now.levels) run.0 stop result }
+    ensures further { (rank : ℕ) → Precede firsts rank → Precede result rank }
+    ensures own { (w : TripWish) → AreRanks runs.now w bounds.now.ranks → AreBounds runs.now w bounds.now
+        → FirstsOfStop runs.now w bounds.now.ranks (length bounds.now.levels) run.0 stop result }
 {
-    let changes = bounds.count();
-    bounds.firsts_leaving(changes - 1, &window_at(runs, off))
+    let changes = bounds.count() - 1;
+    let window = window_at(runs, off);
+    if bounds.precede_leaving(changes, window.station, firsts) {
+        return firsts;
+    }
+    let here = bounds.firsts_leaving(changes, &window);
+    join(firsts, here)
 }
 
 // The departures of each station that lead to the destination before this rank: none where no further change is bounded
@@ -479,6 +507,17 @@ fn boards_of(
         boards.push(board_of(alloc, runs, rides, StationNo(station), late)?)?;
     }
     Ok(boards)
+}
+
+// For each of them the first two by all of its departures.
+fn bests_of(alloc: Global, boards: &[Board]) -> Result<Vec<FirstTwo>, AllocError>
+    ensures { IfOk result (λ v. AreBests boards.now v.items) }
+{
+    let mut bests = Vec::new(alloc);
+    for board in boards {
+        bests.push(board.best())?;
+    }
+    Ok(bests)
 }
 
 // Those of one station.

@@ -67,6 +67,15 @@ pub(crate) fn later(a: FirstTwo, b: FirstTwo) -> FirstTwo
     }
 }
 
+/// Whether all that the others precede these two precede as well.
+pub(crate) fn precede_all(two: FirstTwo, others: FirstTwo) -> bool
+    ensures { result ≡ true → (rank : ℕ) → Precede others rank → Precede two rank }
+{
+    two.first <= others.first
+        && (two.second <= others.first
+            || (two.first == others.first && two.second <= others.second))
+}
+
 /// A run that comes to the destination, at which of its stops, and when.
 #[derive(Clone, Copy)]
 pub(crate) struct Arrival {

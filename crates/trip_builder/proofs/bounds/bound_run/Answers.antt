@@ -11,8 +11,7 @@ loop-back-preserved c =
     let v = c.args.bounds.now.ranks in
     let changes = length c.args.bounds.now.levels in
     let run = c.args.departure.now.run.0 in
-    let count = c.stops_of-stops.result.now in
-    let size = length count in
+    let size = length c.stops_of-stops.result.now in
     let back = c.loop-back.back in
     let stop = size - 1 - back in
     let was = c.loop-back.invariant in
@@ -20,7 +19,8 @@ loop-back-preserved c =
     let early = c.loop-back-test.true in
     let test : back < size = omega (arith, needed, early) in
     let whole : size ≡ length (stops_of r run) = ap (λ (l : List Stop). length l) c.stops_of-stops.ensures.stops in
+    let new = c.firsts_with-firsts.result in
     record {
       rides = c.put.ensures r w v changes was.rides (ride_firsts r w v changes run size c.loop-back.firsts back stop whole test refl was.further);
-      further = firsts_more r w v changes run size c.loop-back.firsts c.firsts_at-here.result c.join-firsts.result back stop test refl c.join-firsts.ensures.left c.join-firsts.ensures.right c.firsts_at-here.ensures was.further;
+      further = firsts_more r w v changes run size c.loop-back.firsts new new back stop test refl c.firsts_with-firsts.ensures.further (λ rank here. here) (c.firsts_with-firsts.ensures.own w c.requires.ranks c.requires.bounds) was.further;
     }
