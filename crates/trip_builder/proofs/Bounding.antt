@@ -18,7 +18,7 @@ use Rattle.trip_builder.specs.Order.{last_arrival}
 use Rattle.trip_builder.specs.Trips.{change_at, longest_wait, leaves, connects, uses_run, follows, is_chain, arrives, sets_out}
 use Rattle.trip_builder.specs.Best.{IsTrip, IsDecided}
 use Rattle.trip_builder.specs.Search.{has_run, leaves_after, IsWindowOf, AreLeaving, AllArriveBefore, AreDecided, AreDecidedFrom}
-use Rattle.trip_builder.specs.Bounds.{never, no_rank, unknown, end_of_windows, goes_to, LeadsTo, end_of, arrival_of, IsBound, RanksView, rank_of, IsPlaced, AreRanks, Precede, BoundsFresh, HasPosted, IsNoted, IsPosted, BoundsWindow, NarrowsWindow, firsts_in, IsBoardOf, FirstsOfRide, AreRides, AreUnknown, IsPut, ReachView, IsReach, BoundsView, AreBounds, BoundsRide, BoundsLeaving, FirstsLeaving, NarrowsLeaving, FirstsOfStop}
+use Rattle.trip_builder.specs.Bounds.{never, no_rank, unknown, end_of_windows, goes_to, LeadsTo, end_of, arrival_of, IsBound, RanksView, rank_of, IsPlaced, AreRanks, Precede, BoundsFresh, HasPosted, IsNoted, IsPosted, BoundsWindow, NarrowsWindow, firsts_in, IsBoardOf, FirstsOfRide, AreRides, AreUnknown, IsPut, ReachView, IsReach, BoundsView, AreBounds, BoundsRide, BoundsLeaving, FirstsLeaving, NarrowsLeaving, FirstsOfStop, FirstsOfStation, HasBest}
 use Rattle.trip_builder.proofs.Ways.{both_true, last_is, known_after, next_goes_on, trip_goes_on}
 use Rattle.trip_builder.proofs.Leaving.{is_station, leaves_there}
 use Rattle.trip_builder.proofs.Deciding.{behind_decided}
@@ -80,6 +80,56 @@ firsts_found r w v changes reach boards station from to early late two board are
     by_rank : (rank < v.late) ⊎ (v.late ≤ rank) → Precede two rank
     by_rank (inl less) = left rank (early_found r w v changes reach boards station from to early board are same small is end window s rest count leads says less)
     by_rank (inr past) = right rank (after rank past (leading_placed r w v are.ranks s rest leads).few)
+
+-- ---- all departures of a board
+
+pub best_more : (board : List Useful) (index : ℕ) (u : Useful) (old new : FirstTwo) → u ≡ get_or board index u → index < length board → ((rank : ℕ) → Precede old rank → Precede new rank)
+    → ((rank : ℕ) → Precede u.onward rank → Precede new rank) → ((k rank : ℕ) (none : Useful) → k < index → Precede (get_or board k none).onward rank → Precede old rank)
+    → (k rank : ℕ) (none : Useful) → k < index + 1 → Precede (get_or board k none).onward rank → Precede new rank
+best_more board index u old new is fits left right before k rank none high has = by_place (cases_lt k index)
+  where
+    by_place : (k < index) ⊎ (index ≤ k) → Precede new rank
+    by_place (inl less) = left rank (before k rank none less has)
+    by_place (inr past) =
+        let at : k ≡ index = omega (arith, high, past) in
+        let same : get_or board k none ≡ u = ap (λ n. get_or board n none) at ∙ (get_or_default board index none u fits ∙ sym is) in
+        right rank (subst (λ (x : Useful). Precede x.onward rank) same has)
+
+pub bests_more : (boards : List (List Useful)) (bests new : List FirstTwo) (index : ℕ) (board : List Useful) (best : FirstTwo) → board ≡ get_or boards index board → index < length boards → new ≡ bests ++ best ∷ []
+    → length bests ≡ index → HasBest board best → ((n : ℕ) (none : List Useful) → n < index → HasBest (get_or boards n none) (get_or bests n unknown))
+    → (n : ℕ) (none : List Useful) → n < index + 1 → HasBest (get_or boards n none) (get_or new n unknown)
+bests_more boards bests new index board best is fits made size here before n none high = subst (λ (l : List FirstTwo). HasBest (get_or boards n none) (get_or l n unknown)) (sym made) (by_place (cases_lt n index))
+  where
+    by_place : (n < index) ⊎ (index ≤ n) → HasBest (get_or boards n none) (get_or (bests ++ best ∷ []) n unknown)
+    by_place (inl less) = subst (HasBest (get_or boards n none)) (sym (get_or_append_left bests (best ∷ []) unknown n (omega (arith, less, size)))) (before n none less)
+    by_place (inr past) =
+        let at : n ≡ index = omega (arith, high, past) in
+        let end : n ≡ length bests = omega (arith, high, past, size) in
+        let same : get_or boards n none ≡ board = ap (λ m. get_or boards m none) at ∙ (get_or_default boards index none board fits ∙ sym is) in
+        let last : get_or (bests ++ best ∷ []) n unknown ≡ best = ap (λ m. get_or (bests ++ best ∷ []) m unknown) end ∙ get_or-append_seam bests best [] unknown in
+        subst (λ (l : List Useful). HasBest l (get_or (bests ++ best ∷ []) n unknown)) (sym same) (subst (HasBest board) (sym last) here)
+
+-- what precedes all of a station's board, and what comes too late for it
+pub station_found : (r : RunsView) (w : TripWish) (v : RanksView) (changes : ℕ) (reach : ReachView) (boards : List (List Useful)) (bests : List FirstTwo) (station : StationNo) (board : List Useful) (best late two : FirstTwo)
+    → IsReach r w v changes reach → boards ≡ reach.boards → bests ≡ reach.bests → true ≡ ltb station.0 (length boards) → board ≡ get_or boards station.0 board → true ≡ ltb station.0 (length bests) → best ≡ get_or bests station.0 best
+    → ((rank : ℕ) → v.late ≤ rank → rank < no_rank → Precede late rank) → ((rank : ℕ) → Precede best rank → Precede two rank) → ((rank : ℕ) → Precede late rank → Precede two rank)
+    → FirstsOfStation r w v changes station two
+station_found r w v changes reach boards bests station board best late two are same others small is few at after left right from to end =
+    firsts_found r w v changes reach boards station from to best late two board are same small is end window after left right
+  where
+    has : HasBest board best
+    has =
+        let size : length boards ≡ length reach.boards = ap (λ (l : List (List Useful)). length l) same in
+        let inside = ltb-true station.0 (length boards) (sym small) in
+        let its = are.bests station.0 board (omega (arith, inside, size)) in
+        let there : board ≡ get_or reach.boards station.0 board = is ∙ ap (λ (l : List (List Useful)). get_or l station.0 board) same in
+        let one : get_or reach.bests station.0 unknown ≡ best = ap (λ (l : List FirstTwo). get_or l station.0 unknown) (sym others) ∙ (get_or_default bests station.0 unknown best (ltb-true station.0 (length bests) (sym few)) ∙ sym at) in
+        subst (λ (l : List Useful). HasBest l best) (sym there) (subst (λ (x : FirstTwo). HasBest (get_or reach.boards station.0 board) x) one its)
+
+    window : BoundsWindow board from to best
+    window depart rank posted low high =
+        let none : Useful = record { moment = 0; block = 0; onward = unknown; so_far = unknown } in
+        has posted.place rank none posted.within (posted.earlier posted.place none (omega arith) refl)
 
 pub leaving_fresh : (r : RunsView) (w : TripWish) (v : RanksView) (changes : ℕ) (way : List Segment) (station : StationNo) (from to bound : ℕ) (two : FirstTwo) → FirstsLeaving r w v changes station from to two
     → BoundsFresh r w v two way bound → BoundsLeaving r w changes way station from to bound

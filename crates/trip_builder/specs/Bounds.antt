@@ -148,6 +148,10 @@ pub record NarrowsWindow (board : List Useful) (from to first last : ℕ) : Type
   pub ends : last ≤ to
   pub each : (depart rank : ℕ) → IsPosted board depart rank → from ≤ depart → depart ≤ to → (first ≤ depart) × (depart ≤ last)
 
+-- the two precede what each departure of the board leads to
+abbrev pub HasBest : List Useful → FirstTwo → Type 0
+HasBest board two = (k rank : ℕ) (none : Useful) → k < length board → Precede (slice_index_or board k none).onward rank → Precede two rank
+
 -- ---- the bounds of rides and stations
 
 abbrev pub unknown : FirstTwo
@@ -166,6 +170,9 @@ IsBoardOf r late rides station board = (run stop : ℕ) → stop + 1 < length (s
 abbrev pub AreBoards : RunsView → ℕ → List (List FirstTwo) → List (List Useful) → Type 0
 AreBoards r late rides boards = (n : ℕ) (none : List Useful) → n < length boards → IsBoardOf r late rides n (slice_index_or boards n none)
 
+abbrev pub AreBests : List (List Useful) → List FirstTwo → Type 0
+AreBests boards bests = (n : ℕ) (none : List Useful) → n < length boards → HasBest (slice_index_or boards n none) (slice_index_or bests n unknown)
+
 -- the two precede what takes the run at the stop, and goes on with so many changes to the destination
 abbrev pub FirstsOfRide : RunsView → TripWish → RanksView → ℕ → ℕ → ℕ → FirstTwo → Type 0
 FirstsOfRide r w v changes run stop two = (s : Segment) (rest : List Segment) → s.run.0 ≡ run → s.span.from ≡ stop → length rest ≡ changes → LeadsTo r w s rest
@@ -174,15 +181,17 @@ FirstsOfRide r w v changes run stop two = (s : Segment) (rest : List Segment) �
 abbrev pub AreRides : RunsView → TripWish → RanksView → ℕ → List (List FirstTwo) → Type 0
 AreRides r w v changes rides = (run stop : ℕ) → FirstsOfRide r w v changes run stop (firsts_in rides run stop)
 
--- the bounds with one number of changes: of each ride, and of each station's departures
+-- the bounds with one number of changes: of each ride, of each station's departures, and of all of them together
 pub record ReachView : Type 0 where
   pub rides : List (List FirstTwo)
   pub boards : List (List Useful)
+  pub bests : List FirstTwo
 
 pub record IsReach (r : RunsView) (w : TripWish) (v : RanksView) (changes : ℕ) (reach : ReachView) : Type 0 where
   pub ranks : AreRanks r w v
   pub rides : AreRides r w v changes reach.rides
   pub boards : AreBoards r v.late reach.rides reach.boards
+  pub bests : AreBests reach.boards reach.bests
 
 -- those without a change, with one, and so on
 pub record BoundsView : Type 0 where
@@ -214,6 +223,10 @@ BoundsLeaving r w changes way station from to bound = (s : Segment) (rest : List
 abbrev pub FirstsLeaving : RunsView → TripWish → RanksView → ℕ → StationNo → ℕ → ℕ → FirstTwo → Type 0
 FirstsLeaving r w v changes station from to two = (s : Segment) (rest : List Segment) → length rest ≡ changes → LeadsTo r w s rest
     → leaves station from to (first_stop r s) ≡ true → Precede two (rank_of v s rest)
+
+-- likewise what leaves the station at any moment
+abbrev pub FirstsOfStation : RunsView → TripWish → RanksView → ℕ → StationNo → FirstTwo → Type 0
+FirstsOfStation r w v changes station two = (from to : ℕ) → to < end_of_windows → FirstsLeaving r w v changes station from to two
 
 -- it leaves from the first moment to the last
 abbrev pub NarrowsLeaving : RunsView → TripWish → ℕ → StationNo → ℕ → ℕ → ℕ → ℕ → Type 0

@@ -1,7 +1,7 @@
 ghost use Rattle.std.specs.Prelude.{◌≡◌, ◌≤◌, ◌<◌, ◌+◌, ◌^◌, ℕ, true, [], length, All, OnOk, slice_index_or};
 ghost use Rattle.trip_builder.specs.declared.board.Useful.{Useful};
 ghost use Rattle.std.specs.List.{AllWithin};
-ghost use Rattle.trip_builder.specs.Bounds.{Precede, Rises, HasPosted, Follows, IsNoted, IsPosted, BoundsWindow, NarrowsWindow};
+ghost use Rattle.trip_builder.specs.Bounds.{Precede, Rises, HasPosted, Follows, IsNoted, IsPosted, BoundsWindow, NarrowsWindow, HasBest};
 
 use crate::ranks::{FirstTwo, NONE, UNKNOWN, join, later};
 use std::alloc::{AllocError, Global};
@@ -107,6 +107,13 @@ impl Board {
         Ok(())
     }
 
+    /// The first two by all of its departures.
+    pub(crate) fn best(&self) -> FirstTwo
+        ensures { HasBest self.now result }
+    {
+        best_of(self.useful.as_slice())
+    }
+
     /// From when to when the board's departures leave of those from the one second to the other, both included.
     pub(crate) fn narrowed(&self, from: u64, to: u64) -> Part
         requires end { to < 2 ^ 63 }
@@ -134,7 +141,7 @@ impl Board {
     {
         let useful = self.useful.as_slice();
         let first = self.hints.count_before(useful, from);
-        let count = self.hints.count_before(useful, to + 1);
+        let count = self.hints.count_from(useful, first, to + 1);
         if count <= first {
             return NONE;
         }
@@ -195,6 +202,17 @@ fn told(here: Useful, next: Useful) -> Useful
         onward: join(here.onward, next.onward),
         so_far: here.so_far,
     }
+}
+
+// The first two by all of these departures.
+fn best_of(board: &[Useful]) -> FirstTwo
+    ensures { HasBest board.now result }
+{
+    let mut best = NONE;
+    for useful in board {
+        best = join(best, useful.onward);
+    }
+    best
 }
 
 // When the departure at this place leaves.
@@ -319,11 +337,27 @@ impl Hints {
         if are_before(useful, end, seconds) {
             return end;
         }
+        if are_before(useful, 0, seconds) {
+            return 0;
+        }
         let count = self.follow(useful, seconds);
         if are_before(useful, count, seconds) {
             return count;
         }
         count_before(useful, seconds)
+    }
+
+    // The same, where it may be as many as these.
+    fn count_from(&self, useful: &[Useful], count: usize, seconds: u64) -> usize
+        requires rises { Rises useful.now }
+        ensures within { result ≤ length useful.now }
+        ensures earlier { AllWithin (λ u. u.moment < seconds) useful.now 0 result }
+        ensures later { AllWithin (λ u. seconds ≤ u.moment) useful.now result (length useful.now) }
+    {
+        if are_before(useful, count, seconds) {
+            return count;
+        }
+        self.count_before(useful, seconds)
     }
 
     // The first departure from the hint on that leaves no earlier, where it isn't far.

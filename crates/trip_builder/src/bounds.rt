@@ -1,15 +1,15 @@
-ghost use Rattle.std.specs.Prelude.{◌≡◌, ◌<◌, ◌≤◌, ◌^◌, ℕ, [], length, IfOk, OnOk, slice_index_or};
+ghost use Rattle.std.specs.Prelude.{◌≡◌, ◌<◌, ◌≤◌, ◌^◌, ℕ, true, [], length, IfOk, OnOk, slice_index_or};
 ghost use Rattle.train_runs.specs.Runs.{RunsView};
 ghost use Rattle.train_runs.specs.Stops.{stop_at};
 ghost use Rattle.trip_builder.specs.Segments.{stops_of as stops_of_run};
 ghost use Rattle.trip_builder.specs.declared.trip.TripWish.{TripWish};
-ghost use Rattle.trip_builder.specs.Bounds.{RanksView, AreRanks, AreRides, AreUnknown, IsPut, IsBoardOf, AreBoards, AreBounds, BoundsRide, BoundsLeaving, NarrowsLeaving, FirstsOfRide, FirstsOfStop, FirstsLeaving, firsts_in, unknown, no_rank};
+ghost use Rattle.trip_builder.specs.Bounds.{RanksView, Precede, AreRanks, AreRides, AreUnknown, IsPut, IsBoardOf, AreBoards, AreBounds, BoundsRide, BoundsLeaving, NarrowsLeaving, FirstsOfRide, FirstsOfStop, FirstsOfStation, FirstsLeaving, AreBests, firsts_in, unknown, no_rank};
 ghost use Rattle.trip_builder.specs.Ends.{AreEnds};
 
 use crate::board::Board;
 use crate::departures::{Window, leaving, stop_of, stops_of, window_at, window_of};
 use crate::ends::Ends;
-use crate::ranks::{FirstTwo, NO_RANK, NONE, Ranks, UNKNOWN, join};
+use crate::ranks::{FirstTwo, NO_RANK, NONE, Ranks, UNKNOWN, join, precede_all};
 use crate::trip::TripWish;
 use offer_codes::Segment;
 use rail_ids::{RunNo, StationNo};
@@ -61,11 +61,12 @@ impl Column {
     }
 }
 
-/// The bounds with one number of changes.
+/// The bounds with one number of changes, and for each board the first two by all of its departures.
 #[derive(Drop)]
 struct Reach {
     rides: Vec<Column>,
     boards: Vec<Board>,
+    bests: Vec<FirstTwo>,
 }
 
 impl Model for Reach {
@@ -73,7 +74,7 @@ impl Model for Reach {
 
     ghost Value = { ReachView };
 
-    ghost view = { λ r. record { rides = r.rides.items; boards = r.boards.items } };
+    ghost view = { λ r. record { rides = r.rides.items; boards = r.boards.items; bests = r.bests.items } };
 }
 
 /// When what goes on from a departure arrives at the destination at the earliest: without a change, with one, with two.
@@ -149,7 +150,12 @@ impl Bounds {
             let rides = rides_of(alloc, runs, wish, self)?;
             let late = self.ranks.late();
             let boards = boards_of(alloc, runs, rides.as_slice(), changes, late)?;
-            self.levels.push(Reach { rides, boards })?;
+            let bests = bests_of(alloc, boards.as_slice())?;
+            self.levels.push(Reach {
+                rides,
+                boards,
+                bests,
+            })?;
         }
         Ok(())
     }
@@ -201,6 +207,23 @@ impl Bounds {
             }
             None => UNKNOWN,
         }
+    }
+
+    // Whether these two precede all that leaves the station and changes so often: then none of it need be looked at.
+    fn precede_leaving(&self, changes: usize, station: StationNo, two: FirstTwo) -> bool
+        ensures { result ≡ true → (r : RunsView) (w : TripWish) → AreBounds r w self.now
+            → FirstsOfStation r w self.now.ranks changes station two }
+    {
+        let Some(reach) = self.levels.get(changes) else {
+            return false;
+        };
+        let Some(_all) = reach.boards.get(station.0 as usize) else {
+            return false;
+        };
+        let Some(best) = reach.bests.get(station.0 as usize) else {
+            return false;
+        };
+        precede_all(two, *best) && precede_all(two, self.ranks.late_ones())
     }
 
     /// The part of the window in which what leads to the destination with so many changes leaves.
@@ -263,15 +286,75 @@ fn rides_of(
     requires bounds { AreBounds runs.now wish.now bounds.now }
     ensures { IfOk result (λ v. AreRides runs.now wish.now bounds.now.ranks (length bounds.now.levels) v.items) }
 {
+    if bounds.count() == 0 {
+        return last_rides(alloc, runs, wish, bounds);
+    }
     if bounds.count() < BOUNDED_CHANGES - 1 {
-        let mut rides = unknown_rides(alloc, runs, most_stops_of(runs))?;
         let firsts = first_departures(alloc, runs)?;
-        bound_each(runs, wish, bounds, firsts.as_slice(), rides.as_mut_slice());
-        return Ok(rides);
+        let stops = most_stops_of(runs);
+        return rides_from(alloc, runs, wish, bounds, firsts.as_slice(), stops);
     }
     let firsts = leaving(runs, window_of(runs, wish, &[]));
-    let mut rides = unknown_rides(alloc, runs, past_stops_of(firsts))?;
-    bound_each(runs, wish, bounds, firsts, rides.as_mut_slice());
+    let stops = past_stops_of(firsts);
+    rides_from(alloc, runs, wish, bounds, firsts, stops)
+}
+
+// Those without a change.
+fn last_rides(
+    alloc: Global,
+    runs: &Runs,
+    wish: &TripWish,
+    bounds: &Bounds,
+) -> Result<Vec<Column>, AllocError>
+    requires ranks { AreRanks runs.now wish.now bounds.now.ranks }
+    requires none { length bounds.now.levels ≡ 0 }
+    ensures { IfOk result (λ v. AreRides runs.now wish.now bounds.now.ranks (length bounds.now.levels) v.items) }
+{
+    let mut rides = unknown_rides(alloc, runs, most_stops_of(runs))?;
+    end_each(runs, wish, bounds, rides.as_mut_slice());
+    Ok(rides)
+}
+
+// Bounds the rides of all runs without a change.
+fn end_each(runs: &Runs, wish: &TripWish, bounds: &Bounds, rides: &mut [Column])
+    requires ranks { AreRanks runs.now wish.now bounds.now.ranks }
+    requires none { length bounds.now.levels ≡ 0 }
+    requires rides { AreRides runs.now wish.now bounds.now.ranks (length bounds.now.levels) rides.old }
+    ensures { AreRides runs.now wish.now bounds.now.ranks (length bounds.now.levels) rides.new }
+{
+    for run in 0..runs.count() {
+        end_run(runs, wish, bounds, RunNo(run), rides);
+    }
+}
+
+// Those of the run.
+fn end_run(runs: &Runs, wish: &TripWish, bounds: &Bounds, run: RunNo, rides: &mut [Column])
+    requires ranks { AreRanks runs.now wish.now bounds.now.ranks }
+    requires none { length bounds.now.levels ≡ 0 }
+    requires rides { AreRides runs.now wish.now bounds.now.ranks (length bounds.now.levels) rides.old }
+    ensures { AreRides runs.now wish.now bounds.now.ranks (length bounds.now.levels) rides.new }
+{
+    for stop in 0..stops_of(runs, run).len() {
+        put(rides, stop, run, bounds.ranks.ride(run, stop as u8));
+    }
+}
+
+// Those with so many changes and one, of the runs of these departures, from there on: at so many stops.
+fn rides_from(
+    alloc: Global,
+    runs: &Runs,
+    wish: &TripWish,
+    bounds: &Bounds,
+    departures: &[Departure],
+    stops: usize,
+) -> Result<Vec<Column>, AllocError>
+    requires some { 1 ≤ length bounds.now.levels }
+    requires ranks { AreRanks runs.now wish.now bounds.now.ranks }
+    requires bounds { AreBounds runs.now wish.now bounds.now }
+    ensures { IfOk result (λ v. AreRides runs.now wish.now bounds.now.ranks (length bounds.now.levels) v.items) }
+{
+    let mut rides = unknown_rides(alloc, runs, stops)?;
+    bound_each(runs, wish, bounds, departures, rides.as_mut_slice());
     Ok(rides)
 }
 
@@ -322,7 +405,7 @@ fn past_stops_of(departures: &[Departure]) -> usize {
     past
 }
 
-// Bounds the rides of the runs of these departures.
+// Bounds the rides of the runs of these departures, from there on.
 fn bound_each(
     runs: &Runs,
     wish: &TripWish,
@@ -330,32 +413,41 @@ fn bound_each(
     departures: &[Departure],
     rides: &mut [Column],
 )
+    requires some { 1 ≤ length bounds.now.levels }
     requires ranks { AreRanks runs.now wish.now bounds.now.ranks }
     requires bounds { AreBounds runs.now wish.now bounds.now }
     requires rides { AreRides runs.now wish.now bounds.now.ranks (length bounds.now.levels) rides.old }
     ensures { AreRides runs.now wish.now bounds.now.ranks (length bounds.now.levels) rides.new }
 {
     for departure in departures {
-        bound_run(runs, wish, bounds, departure.run, rides);
+        bound_run(runs, wish, bounds, departure, rides);
     }
 }
 
-// For each stop of the run, the first two by what gets off further on. A run's stops stand together, and what is asked
-// of a station's board is few numbers.
-fn bound_run(runs: &Runs, wish: &TripWish, bounds: &Bounds, run: RunNo, rides: &mut [Column])
+// For each stop of the run from the departure on, the first two by what gets off further on. A run's stops stand
+// together, and what is asked of a station's board is few numbers.
+fn bound_run(
+    runs: &Runs,
+    wish: &TripWish,
+    bounds: &Bounds,
+    departure: &Departure,
+    rides: &mut [Column],
+)
+    requires some { 1 ≤ length bounds.now.levels }
     requires ranks { AreRanks runs.now wish.now bounds.now.ranks }
     requires bounds { AreBounds runs.now wish.now bounds.now }
     requires rides { AreRides runs.now wish.now bounds.now.ranks (length bounds.now.levels) rides.old }
     ensures { AreRides runs.now wish.now bounds.now.ranks (length bounds.now.levels) rides.new }
 {
+    let run = departure.run;
     let stops = stops_of(runs, run);
     let count = stops.len();
+    let needed = count.saturating_sub(usize::from(departure.stop));
     let mut firsts = NONE;
-    for back in 0..count {
+    for back in 0..needed {
         let stop = count - 1 - back;
         put(rides, stop, run, firsts);
-        let here = firsts_at(runs, wish, bounds, run, stop as u8, &stops[stop]);
-        firsts = join(firsts, here);
+        firsts = firsts_with(runs, bounds, run, stop as u8, &stops[stop], firsts);
     }
 }
 
@@ -369,25 +461,29 @@ fn put(rides: &mut [Column], stop: usize, run: RunNo, firsts: FirstTwo)
     }
 }
 
-// The first two of what gets off the run at the stop of this number, with one change more.
-fn firsts_at(
+// These two, and the first two of what gets off the run at the stop of this number, with one change more. A run that has
+// the first ones already, as it soon has where few come to the destination, asks no board for a window.
+fn firsts_with(
     runs: &Runs,
-    wish: &TripWish,
     bounds: &Bounds,
     run: RunNo,
     stop: u8,
     off: &Stop,
+    firsts: FirstTwo,
 ) -> FirstTwo
     requires off { off.now ≡ stop_at (stops_of_run runs.now run.0) stop }
-    requires ranks { AreRanks runs.now wish.now bounds.now.ranks }
-    requires bounds { AreBounds runs.now wish.now bounds.now }
-    ensures { FirstsOfStop runs.now wish.now bounds.now.ranks (length bounds.now.levels) run.0 stop result }
+    requires some { 1 ≤ length bounds.now.levels }
+    ensures further { (rank : ℕ) → Precede firsts rank → Precede result rank }
+    ensures own { (w : TripWish) → AreRanks runs.now w bounds.now.ranks → AreBounds runs.now w bounds.now
+        → FirstsOfStop runs.now w bounds.now.ranks (length bounds.now.levels) run.0 stop result }
 {
-    let changes = bounds.count();
-    if changes > 0 {
-        return bounds.firsts_leaving(changes - 1, &window_at(runs, off));
+    let changes = bounds.count() - 1;
+    let window = window_at(runs, off);
+    if bounds.precede_leaving(changes, window.station, firsts) {
+        return firsts;
     }
-    bounds.ranks.at(run, stop)
+    let here = bounds.firsts_leaving(changes, &window);
+    join(firsts, here)
 }
 
 // The departures of each station that lead to the destination before this rank: none where no further change is bounded
@@ -413,6 +509,17 @@ fn boards_of(
     Ok(boards)
 }
 
+// For each of them the first two by all of its departures.
+fn bests_of(alloc: Global, boards: &[Board]) -> Result<Vec<FirstTwo>, AllocError>
+    ensures { IfOk result (λ v. AreBests boards.now v.items) }
+{
+    let mut bests = Vec::new(alloc);
+    for board in boards {
+        bests.push(board.best())?;
+    }
+    Ok(bests)
+}
+
 // Those of one station.
 fn board_of(
     alloc: Global,
@@ -426,7 +533,7 @@ fn board_of(
     let change = u64::from(runs.change(station).unwrap_or(0));
     let departures = leaving(runs, always(station));
     let mut board = Board::new(alloc, LONGEST_WINDOW.saturating_sub(change));
-    board.reserve(departures.len())?;
+    board.reserve(count_early(rides, departures, late))?;
     for departure in departures {
         let two = firsts_of(rides, departure.run, departure.stop);
         if two.first < late {
@@ -436,6 +543,17 @@ fn board_of(
     board.finish();
     board.hint()?;
     Ok(board)
+}
+
+// How many of the departures lead to the destination before this rank. Room is taken for no more of them: memory that
+// is new to a program costs more than a second look.
+fn count_early(rides: &[Column], departures: &[Departure], late: u16) -> usize {
+    let mut count: usize = 0;
+    for departure in departures {
+        let two = firsts_of(rides, departure.run, departure.stop);
+        count = count.saturating_add(usize::from(two.first < late));
+    }
+    count
 }
 
 // The window of all departures of a station.

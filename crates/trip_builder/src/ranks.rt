@@ -1,7 +1,7 @@
 ghost use Rattle.std.specs.Prelude.{◌≡◌, ◌≤◌, ◌<◌, ℕ, true, [], length, slice_index_or};
 ghost use Rattle.train_runs.specs.Runs.{RunsView};
 ghost use Rattle.trip_builder.specs.declared.trip.TripWish.{TripWish};
-ghost use Rattle.trip_builder.specs.Bounds.{Precede, AreRanks, IsPlacedRun, Ascends, BoundsFresh, FirstsOfStop, rank_in, no_rank};
+ghost use Rattle.trip_builder.specs.Bounds.{Precede, AreRanks, IsPlacedRun, Ascends, BoundsFresh, FirstsOfRide, rank_in, no_rank};
 ghost use Rattle.trip_builder.specs.declared.ranks.Arrival.{Arrival};
 ghost use Rattle.trip_builder.specs.Ends.{IsEnd, AreEnds};
 
@@ -65,6 +65,15 @@ pub(crate) fn later(a: FirstTwo, b: FirstTwo) -> FirstTwo
     } else {
         a
     }
+}
+
+/// Whether all that the others precede these two precede as well.
+pub(crate) fn precede_all(two: FirstTwo, others: FirstTwo) -> bool
+    ensures { result ≡ true → (rank : ℕ) → Precede others rank → Precede two rank }
+{
+    two.first <= others.first
+        && (two.second <= others.first
+            || (two.first == others.first && two.second <= others.second))
 }
 
 /// A run that comes to the destination, at which of its stops, and when.
@@ -173,16 +182,16 @@ impl Ranks {
         }
     }
 
-    /// The run alone, where it comes to the destination at this stop.
-    pub(crate) fn at(&self, run: RunNo, stop: u8) -> FirstTwo
+    /// The run alone, where it comes to the destination after this stop.
+    pub(crate) fn ride(&self, run: RunNo, stop: u8) -> FirstTwo
         ensures { (r : RunsView) (w : TripWish) → AreRanks r w self.now
-            → FirstsOfStop r w self.now 0 run.0 stop result }
+            → FirstsOfRide r w self.now 0 run.0 stop result }
     {
         let rank = self.of_run(run);
         let Some(it) = self.order.get(usize::from(rank)) else {
             return NONE;
         };
-        if it.stop != stop {
+        if it.stop <= stop {
             return NONE;
         }
         FirstTwo {

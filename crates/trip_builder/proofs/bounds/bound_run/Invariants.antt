@@ -6,5 +6,5 @@ use Rattle.trip_builder.proofs.bounds.bound_run.Given as goal
 abbrev pub invariant-loop-back : goal.invariant-loop-back
 invariant-loop-back l = record {
   rides : AreRides l.runs l.wish l.bounds.ranks (length l.bounds.levels) l.rides;
-  further : FirstsFrom l.runs l.wish l.bounds.ranks (length l.bounds.levels) l.fn.run.0 l.count l.firsts l.back;
+  further : FirstsFrom l.runs l.wish l.bounds.ranks (length l.bounds.levels) l.run.0 l.count l.firsts l.back;
 }

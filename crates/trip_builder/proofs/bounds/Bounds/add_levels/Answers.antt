@@ -1,6 +1,7 @@
 use Rattle.std.proofs.Common.{◌≡◌, List, length, refl, sym, subst}
+use Rattle.trip_builder.specs.declared.board.Useful.{Useful}
 use Rattle.trip_builder.specs.declared.ranks.FirstTwo.{FirstTwo}
-use Rattle.trip_builder.specs.Bounds.{AreRanks, AreBoards, AreRides, ReachView, BoundsView, AreBounds}
+use Rattle.trip_builder.specs.Bounds.{AreRanks, AreBoards, AreBests, AreRides, ReachView, BoundsView, AreBounds}
 use Rattle.trip_builder.proofs.Bounding.{bounds_more}
 use Rattle.trip_builder.proofs.bounds.Bounds.add_levels.Goals as goal
 
@@ -13,7 +14,8 @@ loop-changes-preserved c =
     let inside = c.self-in-loop-changes.inside in
     let rides = c.in_ok-rides.rides.items in
     let boards = c.in_ok-boards.boards.items in
-    let reach : ReachView = record { rides = rides; boards = boards } in
+    let bests = c.in_ok-bests.bests.items in
+    let reach : ReachView = record { rides = rides; boards = boards; bests = bests } in
     let old : BoundsView = record { ranks = inside.ranks; levels = inside.levels.items } in
     let new : BoundsView = record { ranks = inside.ranks; levels = c.push.new.self.items } in
     let back : c.loop-changes.self ≡ old = sym c.self-in-loop-changes.view_is in
@@ -22,7 +24,7 @@ loop-changes-preserved c =
     let are = subst (AreBounds r w) back was.are in
     let its = subst (λ (b : BoundsView). AreRides r w b.ranks (length b.levels) rides) back c.in_ok-rides.ensures in
     let more = bounds_more r w old new reach changes refl c.in_ok-push.ensures.items count are
-    (record { ranks = ranks; rides = subst (λ n. AreRides r w inside.ranks n rides) count its; boards = subst (λ n. AreBoards r n rides boards) c.late-late.ensures (subst (λ (l : List (List FirstTwo)). AreBoards r c.late-late.result l boards) c.as_slice.ensures.value c.in_ok-boards.ensures) }) in
+    (record { ranks = ranks; rides = subst (λ n. AreRides r w inside.ranks n rides) count its; boards = subst (λ n. AreBoards r n rides boards) c.late-late.ensures (subst (λ (l : List (List FirstTwo)). AreBoards r c.late-late.result l boards) c.as_slice.ensures.value c.in_ok-boards.ensures); bests = subst (λ (l : List (List Useful)). AreBests l bests) c.as_slice-in-loop-changes.ensures.value c.in_ok-bests.ensures }) in
     record {
       count = more.0;
       ranks = ranks;
