@@ -1,8 +1,8 @@
 // What the head of a request says.
-ghost use Rattle.std.specs.Prelude.{◌≡◌, ◌<◌, ◌≤◌, ◌↔◌, ◌&&◌, ◌||◌, ◌==◌, All, length, IfOk, IfErr, IfSome, IsTrue, option_map, codes, reverse, true};
+ghost use Rattle.std.specs.Prelude.{◌≡◌, ◌<◌, ◌≤◌, ◌↔◌, ◌&&◌, ◌||◌, ◌==◌, ℕ, List, [], ◌∷◌, All, length, IfOk, IfErr, IfSome, IsTrue, option_map, codes, reverse, true};
 ghost use Rattle.std.specs.List.{AllByRecursion, position_or_len};
 ghost use Rattle.httparse.specs.Grammar.{trim_ows, skip_ows};
-ghost use Rattle.httparse.specs.Spans.{IsWithin, IsHeaderWithin, span_bytes};
+ghost use Rattle.httparse.specs.Spans.{IsWithin, IsHeaderWithin, IsRequestOf, IsRequestWithin, span_bytes};
 ghost use Rattle.http_wire.specs.Heads.{IsHead, HasLines};
 ghost use Rattle.http_wire.specs.HeadLines.{same_name, values_named, IsNumeral, IsLength, lengths_in, closes_in, says_close, first_key, lines_at, IsFirstOf};
 ghost use Rattle.http_wire.specs.HeadRead.{IsServedRead, IsServedWithin, IsHeadFault};
@@ -13,7 +13,10 @@ use crate::head::{
 };
 use crate::request::WireFault;
 use httparse::Status;
-use httparse::spans::{EMPTY_HEADER_SPAN, HeaderSpan, Span, parse_request};
+use httparse::spans::{EMPTY_HEADER_SPAN, HeaderSpan, RequestSpans, Span, parse_request};
+
+/// The most lines that nearly all heads have after the request line.
+const FEW_LINES: usize = 8;
 
 fn skip_front(text: &[u8]) -> &[u8]
     ensures { result.now ≡ skip_ows text.now }
@@ -145,6 +148,23 @@ fn length_of(head: &[u8], lines: &[HeaderSpan], first: Span) -> Result<u32, Wire
     Ok(number as u32)
 }
 
+/// The body's length, where one line alone gives one.
+fn only_length(head: &[u8], only: Span) -> Result<u32, WireFault>
+    requires within { IsWithin (length head.now) only }
+    ensures ok { IfOk result (IsLength (span_bytes head.now only ∷ [])) }
+    ensures fits { IfOk result (λ n. n ≤ 262144) }
+    ensures err { (lines : List (List ℕ × List ℕ)) → lengths_in lines ≡ span_bytes head.now only ∷ []
+        → IfErr result (IsLengthFault lines) }
+{
+    let Some(number) = long_number(only.of(head)) else {
+        return Err(WireFault::BadLength);
+    };
+    if number > 262_144 {
+        return Err(WireFault::BodyTooLarge);
+    }
+    Ok(number as u32)
+}
+
 /// The body's length.
 fn body_length(head: &[u8], lines: &[HeaderSpan]) -> Result<u32, WireFault>
     requires { All (IsHeaderWithin (length head.now)) lines.now }
@@ -154,7 +174,7 @@ fn body_length(head: &[u8], lines: &[HeaderSpan]) -> Result<u32, WireFault>
 {
     match values_named(head, lines, b"content-length") {
         Named::None => Ok(0),
-        Named::First(first) => length_of(head, lines, first),
+        Named::First(only) => only_length(head, only),
         Named::Several(first) => length_of(head, lines, first),
     }
 }
@@ -195,18 +215,21 @@ fn read_lines(head: &[u8], lines: &[HeaderSpan]) -> Result<ServedLines, WireFaul
     }
 }
 
-/// What the head says where it is one of a request.
-pub fn served_head(head: &[u8], number: u32) -> Result<ServedHead, WireFault>
+/// What a head says that was parsed, where it is one of a request.
+fn parsed_head(
+    head: &[u8],
+    lines: &[HeaderSpan],
+    spans: RequestSpans,
+    number: u32,
+) -> Result<ServedHead, WireFault>
     requires head { IsHead head.now }
     requires few { HasLines 66 head.now → ⊥ }
+    requires parsed { IsRequestOf head.now lines.now spans }
+    requires parsed_within { IsRequestWithin head.now lines.now spans }
     ensures ok { IfOk result (IsServedRead number head.now) }
     ensures within { IfOk result (IsServedWithin (length head.now)) }
     ensures err { IfErr result (IsHeadFault head.now) }
 {
-    let mut lines = [EMPTY_HEADER_SPAN; HEAD_LINES];
-    let Ok(Status::Complete(spans)) = parse_request(head, &mut lines) else {
-        return Err(WireFault::BadHead);
-    };
     let read = match read_lines(head, &lines[..spans.headers]) {
         Ok(read) => read,
         Err(fault) => return Err(fault),
@@ -223,4 +246,35 @@ pub fn served_head(head: &[u8], number: u32) -> Result<ServedHead, WireFault>
         length: read.length,
         last: is_last(spans.version, read.close, number),
     })
+}
+
+/// What the head says, whatever lines it has. It stands apart, since room for the most lines is dear to clear.
+#[inline(never)]
+fn long_head(head: &[u8], number: u32) -> Result<ServedHead, WireFault>
+    requires head { IsHead head.now }
+    requires few { HasLines 66 head.now → ⊥ }
+    ensures ok { IfOk result (IsServedRead number head.now) }
+    ensures within { IfOk result (IsServedWithin (length head.now)) }
+    ensures err { IfErr result (IsHeadFault head.now) }
+{
+    let mut lines = [EMPTY_HEADER_SPAN; HEAD_LINES];
+    let Ok(Status::Complete(spans)) = parse_request(head, &mut lines) else {
+        return Err(WireFault::BadHead);
+    };
+    parsed_head(head, &lines, spans, number)
+}
+
+/// What the head says where it is one of a request. Room for few lines is tried first.
+pub fn served_head(head: &[u8], number: u32) -> Result<ServedHead, WireFault>
+    requires head { IsHead head.now }
+    requires few { HasLines 66 head.now → ⊥ }
+    ensures ok { IfOk result (IsServedRead number head.now) }
+    ensures within { IfOk result (IsServedWithin (length head.now)) }
+    ensures err { IfErr result (IsHeadFault head.now) }
+{
+    let mut lines = [EMPTY_HEADER_SPAN; FEW_LINES];
+    if let Ok(Status::Complete(spans)) = parse_request(head, &mut lines) {
+        return parsed_head(head, &lines, spans, number);
+    }
+    long_head(head, number)
 }

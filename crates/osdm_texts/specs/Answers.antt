@@ -13,7 +13,7 @@ use Rattle.osdm_texts.specs.declared.problem.Problem.{Problem}
 use Rattle.osdm_texts.specs.declared.written.Success.{Success}
 use Rattle.osdm_texts.specs.declared.written.Success.TheVariants.{Done, Created}
 use Rattle.osdm_texts.specs.declared.written.Text.{Text}
-use Rattle.osdm_texts.specs.declared.written.Text.TheVariants.{Small, Large}
+use Rattle.osdm_texts.specs.declared.written.Text.TheVariants.{Counts, Large}
 use Rattle.osdm_texts.specs.declared.written.Written.{Written}
 use Rattle.osdm_texts.specs.Problems.{problem_line, problem_tree}
 use Rattle.osdm_texts.specs.Bookings.{booking_tree}
@@ -77,7 +77,7 @@ status_told Done = 200
 status_told Created = 201
 
 abbrev pub text_bytes : Text → List ℕ
-text_bytes (Small text) = text.items
+text_bytes (Counts n) = compact_text (swept_tree n)
 text_bytes (Large text) = text.items
 
 abbrev pub told_of : Result Written Problem → Told

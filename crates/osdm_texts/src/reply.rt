@@ -5,6 +5,8 @@ ghost use Rattle.osdm_texts.specs.Offers.{IsWritable};
 ghost use Rattle.osdm_texts.specs.Ids.{HasId};
 ghost use Rattle.osdm_texts.specs.Bookings.{HasIds};
 ghost use Rattle.osdm_texts.specs.Replies.{offers_tree, exchanged_tree, tree_of, CanBeWritten};
+ghost use Rattle.osdm_texts.specs.Problems.{problem_tree};
+ghost use Rattle.osdm_texts.specs.Sweeps.{swept_tree};
 ghost use Rattle.osdm_texts.specs.Appends.{Appends, tokens_of};
 
 use crate::bookings::put_booking;
@@ -100,9 +102,24 @@ pub fn reply_text(alloc: Global, cat: &Catalogue, reply: &Reply<'_>) -> Result<V
             Ok(finish(out))
         }
         Reply::PlaceList { run, free } => places_text(alloc, run_places(cat, *run), free),
-        Reply::Swept(swept) => Vec::from_slice(alloc, swept_text(*swept).as_slice()),
-        Reply::Problem(problem) => Vec::from_slice(alloc, small_text(problem).as_slice()),
+        Reply::Swept(swept) => counts_copy(alloc, *swept),
+        Reply::Problem(problem) => problem_copy(alloc, problem),
     }
+}
+
+// A sweep's text. It stands apart, like a problem's, since room for a small text is dear to clear for each reply.
+#[inline(never)]
+fn counts_copy(alloc: Global, swept: Swept) -> Result<Vec<u8>, AllocError>
+    ensures { IfOk result (λ text. text.items ≡ compact_text (swept_tree swept)) }
+{
+    Vec::from_slice(alloc, swept_text(swept).as_slice())
+}
+
+#[inline(never)]
+fn problem_copy(alloc: Global, problem: &Problem) -> Result<Vec<u8>, AllocError>
+    ensures { IfOk result (λ text. text.items ≡ compact_text (problem_tree problem.now)) }
+{
+    Vec::from_slice(alloc, small_text(problem).as_slice())
 }
 
 // A writer that has written nothing, into a buffer that few replies outgrow.

@@ -7,7 +7,6 @@ ghost use Rattle.osdm_texts.specs.Answers.{status_told, telling, told_of};
 
 use crate::reply::{Reply, reply_text};
 use crate::small::swept_text;
-use arrayvec::ArrayVec;
 use booking_rows::Swept;
 use rail_catalogue::Catalogue;
 use std::alloc::Global;
@@ -36,8 +35,8 @@ impl Success {
 /// A JSON text (RFC 8259).
 #[derive(Drop)]
 pub enum Text {
-    /// At most 256 bytes, which took no memory.
-    Small(ArrayVec<u8, 256>),
+    /// That of a sweep's counts (`swept_text`), which is written where it is told, since that takes no memory.
+    Counts(Swept),
     /// Any number of bytes.
     Large(Vec<u8>),
 }
@@ -76,10 +75,9 @@ pub fn write_reply(
 pub fn write_swept(swept: Swept) -> Written
     ensures told { told_of (Ok result) ≡ telling 200 (compact_text (swept_tree swept)) }
 {
-    let text = swept_text(swept);
     Written {
         success: Success::Done,
-        length: text.len() as u32,
-        text: Text::Small(text),
+        length: swept_text(swept).len() as u32,
+        text: Text::Counts(swept),
     }
 }

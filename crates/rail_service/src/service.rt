@@ -39,6 +39,8 @@ impl<C: Clock> Responder for Service<'_, '_, '_, C> {
 
     ghost refuses = { λ service fault text. Declines service fault text };
 
+    // Inlined, since an answer is large to hand on.
+    #[inline(always)]
     fn answer(&mut self, intake: &Intake, request: &Request, last: bool) -> Answer {
         let now = self.clock.now();
         let retailer = retailer_of(self.cat, intake, request);

@@ -5,3 +5,4 @@ pub mod Placed
 pub mod Runs
 pub mod Calm
 pub mod Replying
+pub mod WantedTries

@@ -10,6 +10,7 @@ ghost use Rattle.claim_rule.specs.Desks.{IsOf};
 ghost use Rattle.claim_rule.specs.Out.{IsHolding, HasNotedItems, HoldsNone, KeepsEndings};
 ghost use Rattle.reservation_service.specs.Holding.{PlacesAll, HoldsPlaces, FindsNoRow, items_wanted, placing_of as placing_of_added, placing_of_party as placing_of_party_added, problem_of};
 
+use crate::wanting::{Wanted, add_wanted};
 use booking_rows::start_hold;
 use claim_rule::{Desk, Hold};
 use hold_core::{Added, add_places};
@@ -57,7 +58,9 @@ pub struct Held {
 /// if it can. `None` where no row is free, and none has an ended booking that may be followed by another.
 ///
 /// The books have the catalogue's places, each segment's run holds its span, and there are one to eight passengers. A
-/// hold keeps what it won: after another placing than `Whole` the caller abandons it.
+/// hold keeps what it won: after another placing than `Whole` the caller abandons it. Inlined, since a hold is large to
+/// hand on.
+#[inline(always)]
 pub fn hold_places(
     shop: &Shop<'_>,
     desk: &mut Desk,
@@ -140,14 +143,22 @@ fn place_segment(
     ensures endings { KeepsEndings desk.old desk.new }
 {
     let places = shop.cat.places();
+    let all = places.class_places(segment.run, offer.class);
     if offer.wanted == 0 {
-        let all = places.class_places(segment.run, offer.class);
         let part = OfferPart {
             offer,
             segment,
             together,
         };
         return place_among(shop, desk, hold, &part, all);
+    }
+    if !together {
+        let wanted = Wanted {
+            span: segment.span,
+            count: offer.adults + offer.children,
+            traits: offer.wanted,
+        };
+        return placing_of(add_wanted(shop, desk, hold, all, &wanted));
     }
     match places.candidates(shop.alloc, segment.run, offer.class, offer.wanted) {
         Ok(some) => {

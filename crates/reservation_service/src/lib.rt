@@ -9,6 +9,7 @@
 mod booking;
 mod details;
 mod holding;
+mod wanting;
 
 pub use booking::{Reservation, book_offer, new_view, reserve_places};
 pub use details::detail_for;

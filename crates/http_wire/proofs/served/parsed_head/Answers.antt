@@ -5,32 +5,26 @@ use Rattle.httparse.specs.Grammar.{print_request}
 use Rattle.httparse.specs.Spans.{IsRequestOf, IsRequestWithin}
 use Rattle.http_wire.specs.Heads.{HasLines}
 use Rattle.http_wire.specs.HeadLines.{first_key, closes_in, is_last}
-use Rattle.http_wire.proofs.RequestHeads.{few_fields, whole_head}
+use Rattle.http_wire.proofs.RequestHeads.{whole_head}
 use Rattle.http_wire.proofs.NamedLemmas.{span_front, span_fits}
 use Rattle.http_wire.proofs.ServedLemmas.{head_fault_from, served_from}
-use Rattle.http_wire.proofs.served.served_head.Goals as goal
-
-pub returns-in_default-2-clause-err : goal.returns-in_default-2-clause-err
-returns-in_default-2-clause-err c h is =
-    let few = few_fields h is.valid (λ many. c.requires.few (subst (HasLines 66) (sym is.is) many)) in
-    let found = c.parse_request.ensures.found h [] (is.valid, is.is ∙ sym (append-nil (print_request h))) few in
-    rw c.in_default.is at found
+use Rattle.http_wire.proofs.served.parsed_head.Goals as goal
 
 pub returns-in-Err-clause-err : goal.returns-in-Err-clause-err
 returns-in-Err-clause-err c =
-    let at : IsRequestOf c.args.head.now c.parse_request.new.headers c.in-Ok-Complete.spans =
-    rw c.in-Ok-Complete.field-0-is at c.in-Ok-Complete.ensures.complete in
+    let at : IsRequestOf c.args.head.now c.args.lines.now c.args.spans =
+    c.requires.parsed in
     head_fault_from c.args.head.now at.0 _ c.in-Err.fault at.1.fields
     (record { valid = at.1.reads.0; is = whole_head c.args.head.now at.0 _ c.requires.head c.requires.few at.1.reads }) c.in-Err.ensures.err
 
 pub returns-clause-ok : goal.returns-clause-ok
 unfolding is_last
 returns-clause-ok c =
-    let at : IsRequestOf c.args.head.now c.parse_request.new.headers c.in-Ok-Complete.spans =
-    rw c.in-Ok-Complete.field-0-is at c.in-Ok-Complete.ensures.complete in
-    let within : IsRequestWithin c.args.head.now c.parse_request.new.headers c.in-Ok-Complete.spans =
-    rw c.in-Ok-Complete.field-0-is at c.in-Ok-Complete.ensures.within in
-    let spans = c.in-Ok-Complete.spans in
+    let at : IsRequestOf c.args.head.now c.args.lines.now c.args.spans =
+    c.requires.parsed in
+    let within : IsRequestWithin c.args.head.now c.args.lines.now c.args.spans =
+    c.requires.parsed_within in
+    let spans = c.args.spans in
     let few : c.path_length.result ≤ length (slice_range c.args.head.now spans.path.start spans.path.end) =
     subst (λ (t : List ℕ). c.path_length.result ≤ length t) c.of.ensures c.path_length.ensures.within in (
       at.0,
@@ -52,9 +46,9 @@ returns-clause-ok c =
 
 pub overflow_add-path : goal.overflow_add-path
 overflow_add-path c =
-    let within : IsRequestWithin c.args.head.now c.parse_request.new.headers c.in-Ok-Complete.spans =
-    rw c.in-Ok-Complete.field-0-is at c.in-Ok-Complete.ensures.within in
-    let spans = c.in-Ok-Complete.spans in
+    let within : IsRequestWithin c.args.head.now c.args.lines.now c.args.spans =
+    c.requires.parsed_within in
+    let spans = c.args.spans in
     let few : c.path_length.result ≤ length (slice_range c.args.head.now spans.path.start spans.path.end) =
     subst (λ (t : List ℕ). c.path_length.result ≤ length t) c.of.ensures c.path_length.ensures.within in
     let fits : spans.path.start + c.path_length.result ≤ spans.path.end =
@@ -63,9 +57,9 @@ overflow_add-path c =
 
 pub returns-clause-within : goal.returns-clause-within
 returns-clause-within c =
-    let within : IsRequestWithin c.args.head.now c.parse_request.new.headers c.in-Ok-Complete.spans =
-    rw c.in-Ok-Complete.field-0-is at c.in-Ok-Complete.ensures.within in
-    let spans = c.in-Ok-Complete.spans in
+    let within : IsRequestWithin c.args.head.now c.args.lines.now c.args.spans =
+    c.requires.parsed_within in
+    let spans = c.args.spans in
     let few : c.path_length.result ≤ length (slice_range c.args.head.now spans.path.start spans.path.end) =
     subst (λ (t : List ℕ). c.path_length.result ≤ length t) c.of.ensures c.path_length.ensures.within in
     let fits : spans.path.start + c.path_length.result ≤ spans.path.end =
