@@ -73,7 +73,7 @@ member_at place text = option_and_then data_at (member_tokens place (tokens text
 abbrev pub members_of : List Token → Option (Members × List Token)
 members_of ts = converted (λ ms. of_members ms no_members) (members (value 126) (length ts) ts)
 
--- the same of the tokens after the brace: `found` is all members, and `rest` follows the object
+-- the tokens after a brace are an object with the members `found`, and then `rest`; `kept` has all but those of the name, of which the last is the one at the place
 pub record IsOutlineOf (name : List ℕ) (ts : List Token) (kept : Data) (place : Option ℕ) (rest : List Token) : Type 0 where
   pub found : Members
   pub read : members_of ts ≡ Some (found, rest)
@@ -83,7 +83,7 @@ pub record IsOutlineOf (name : List ℕ) (ts : List Token) (kept : Data) (place 
   pub left : get_member name found ≡ option_and_then (λ i. option_and_then data_at (value_tokens i ts)) place
   pub there : IfSome place (λ i. is_some (option_and_then data_at (value_tokens i ts)) ≡ true)
 
--- the text's value, of which `kept` has all but what the name stands for: that is the member at the place
+-- the text's value is `whole`; `kept` has all its members but those of the name, of which the last is the one at the place
 pub record IsOutline (name : List ℕ) (text : List ℕ) (kept : Data) (place : Option ℕ) : Type 0 where
   pub whole : Data
   pub read : read text ≡ Some whole

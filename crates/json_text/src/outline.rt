@@ -1,5 +1,5 @@
 //! A text without one member of its outermost object.
-ghost use Rattle.std.specs.Prelude.{◌≡◌, ◌<◌, ◌^◌, Some, None, Err, IfOk, IsUtf8, is_some, true, length};
+ghost use Rattle.std.specs.Prelude.{◌≡◌, ◌<◌, ◌^◌, None, Err, IfOk, IsUtf8, is_some, true, length};
 ghost use Rattle.serde_json.specs.Read.{read as read_text};
 ghost use Rattle.json.specs.Lex.{tokens};
 ghost use Rattle.json_text.specs.View.{view};
