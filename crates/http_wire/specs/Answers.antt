@@ -33,12 +33,6 @@ media_of problem = if problem then codes "application/problem+json" else codes "
 abbrev pub close_of : Bool → List ℕ
 close_of last = if last then codes "\r\nConnection: close" else []
 
--- the head up to the length of the body
-abbrev pub front_text : ℕ → Bool → List ℕ
-front_text status problem =
-    codes "HTTP/1.1 " ++ decimal status ++ codes " " ++ reason_of status
-    ++ codes "\r\nContent-Type: " ++ media_of problem ++ codes "\r\nContent-Length: "
-
 unfoldable pub head_text : ℕ → Bool → ℕ → Bool → List ℕ
 head_text status problem size last =
     codes "HTTP/1.1 " ++ decimal status ++ codes " " ++ reason_of status

@@ -1,7 +1,7 @@
 // Answers and their heads.
-ghost use Rattle.std.specs.Prelude.{◌≡◌, ◌+◌, ◌<◌, ◌≤◌, [], ◌++◌, length, decimal, IsTrue};
+ghost use Rattle.std.specs.Prelude.{◌≡◌, ◌+◌, ◌<◌, ◌≤◌, ◌++◌, length, decimal, IsTrue};
 ghost use Rattle.arrayvec.specs.ArrayVec.{array_vec_len};
-ghost use Rattle.http_wire.specs.Answers.{is_status, reason_of, media_of, close_of, front_text, head_text};
+ghost use Rattle.http_wire.specs.Answers.{is_status, reason_of, media_of, close_of, head_text};
 
 use arrayvec::ArrayVec;
 
@@ -79,47 +79,6 @@ pub fn append_number(text: &mut ArrayVec<u8, 256>, number: u32)
     append(text, itoa::Buffer::new().format(number).as_bytes());
 }
 
-/// The head up to the length of the body, piece by piece.
-#[inline(never)]
-fn append_pieces(head: &mut ArrayVec<u8, 256>, status: u16, problem: bool)
-    requires empty { head.old.items ≡ [] }
-    requires none { array_vec_len head.old ≡ 0 }
-    ensures front { head.new.items ≡ front_text status problem }
-    ensures len { array_vec_len head.new ≤ 120 }
-{
-    append(head, b"HTTP/1.1 ");
-    append_number(head, u32::from(status));
-    append(head, b" ");
-    append(head, reason(status));
-    append(head, b"\r\nContent-Type: ");
-    append(head, media(problem));
-    append(head, b"\r\nContent-Length: ");
-}
-
-/// The same. That of nearly all answers is one piece.
-fn append_front(head: &mut ArrayVec<u8, 256>, status: u16, problem: bool)
-    requires empty { head.old.items ≡ [] }
-    requires none { array_vec_len head.old ≡ 0 }
-    ensures front { head.new.items ≡ front_text status problem }
-    ensures len { array_vec_len head.new ≤ 120 }
-{
-    if problem {
-        append_pieces(head, status, problem);
-        return;
-    }
-    match status {
-        200 => append(
-            head,
-            b"HTTP/1.1 200 OK\r\nContent-Type: application/json\r\nContent-Length: ",
-        ),
-        201 => append(
-            head,
-            b"HTTP/1.1 201 Created\r\nContent-Type: application/json\r\nContent-Length: ",
-        ),
-        _ => append_pieces(head, status, problem),
-    }
-}
-
 /// The head of an answer with a body of `length` bytes, up to its empty line. `problem` gives the
 /// media type of RFC 9457, and `last` the line `Connection: close`.
 pub fn write_head(status: u16, problem: bool, length: u32, last: bool) -> ArrayVec<u8, 256>
@@ -127,7 +86,13 @@ pub fn write_head(status: u16, problem: bool, length: u32, last: bool) -> ArrayV
     ensures head { result.items ≡ head_text status problem length last }
 {
     let mut head = ArrayVec::new();
-    append_front(&mut head, status, problem);
+    append(&mut head, b"HTTP/1.1 ");
+    append_number(&mut head, u32::from(status));
+    append(&mut head, b" ");
+    append(&mut head, reason(status));
+    append(&mut head, b"\r\nContent-Type: ");
+    append(&mut head, media(problem));
+    append(&mut head, b"\r\nContent-Length: ");
     append_number(&mut head, length);
     append(&mut head, close(last));
     append(&mut head, b"\r\n\r\n");
