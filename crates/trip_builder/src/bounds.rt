@@ -504,7 +504,8 @@ fn boards_of(
     };
     let mut boards = Vec::new(alloc);
     for station in 0..count {
-        boards.push(board_of(alloc, runs, rides, StationNo(station), late)?)?;
+        let room = changes > 0;
+        boards.push(board_of(alloc, runs, rides, StationNo(station), late, room)?)?;
     }
     Ok(boards)
 }
@@ -520,20 +521,23 @@ fn bests_of(alloc: Global, boards: &[Board]) -> Result<Vec<FirstTwo>, AllocError
     Ok(bests)
 }
 
-// Those of one station.
+// Those of one station, for which room is taken at once where they may be many.
 fn board_of(
     alloc: Global,
     runs: &Runs,
     rides: &[Column],
     station: StationNo,
     late: u16,
+    room: bool,
 ) -> Result<Board, AllocError>
     ensures { IfOk result (IsBoardOf runs.now late rides.now station.0) }
 {
     let change = u64::from(runs.change(station).unwrap_or(0));
     let departures = leaving(runs, always(station));
     let mut board = Board::new(alloc, LONGEST_WINDOW.saturating_sub(change));
-    board.reserve(count_early(rides, departures, late))?;
+    if room {
+        board.reserve(count_early(rides, departures, late))?;
+    }
     for departure in departures {
         let two = firsts_of(rides, departure.run, departure.stop);
         if two.first < late {
