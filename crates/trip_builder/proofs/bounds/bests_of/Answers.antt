@@ -1,5 +1,4 @@
-use Rattle.std.proofs.Common.{◌≡◌, ◌+◌, length, arith}
-use Rattle.std.proofs.Common.{length-append, ap, List, ◌∷◌, [], ◌∙◌}
+use Rattle.std.proofs.Common.{◌≡◌, ◌∙◌, ◌+◌, List, [], ◌∷◌, length, length-append, ap, arith}
 use Rattle.trip_builder.specs.declared.ranks.FirstTwo.{FirstTwo}
 use Rattle.trip_builder.proofs.Bounding.{bests_more}
 use Rattle.trip_builder.proofs.bounds.bests_of.Goals as goal

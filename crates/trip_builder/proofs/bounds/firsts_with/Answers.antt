@@ -1,5 +1,5 @@
-use Rattle.std.proofs.Common.{◌≡◌, ◌-◌, ◌≤◌, ◌+◌, length, List, subst, arith, ap}
-use Rattle.trip_builder.specs.Bounds.{FirstsOfStop, FirstsLeaving, FirstsOfStation, rank_of}
+use Rattle.std.proofs.Common.{◌≡◌, ◌-◌, length, subst, arith, ap}
+use Rattle.trip_builder.specs.Bounds.{FirstsLeaving, FirstsOfStation, rank_of}
 use Rattle.trip_builder.proofs.Bounding.{stop_firsts}
 use Rattle.trip_builder.proofs.bounds.firsts_with.Goals as goal
 
