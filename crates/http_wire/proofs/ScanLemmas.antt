@@ -1,16 +1,16 @@
 -- Where a search stands, byte by byte and piece by piece.
-use Rattle.std.proofs.Common.{◌≡◌, ◌≢◌, ℕ, zero, suc, ◌+◌, ◌-◌, ◌^◌, ◌<◌, ◌≤◌, Bool, true, false, not, ◌&&◌, cond, List, [], ◌∷◌, ◌++◌, length, take, drop, get_or, Option, Some, None, refl, sym, ◌∙◌, ap, subst, arith, inl, inr, ⊎_elim, append_assoc, append-nil, take-suc, take-add, get_or-drop}
+use Rattle.std.proofs.Common.{◌≡◌, ◌≢◌, ℕ, zero, suc, ◌+◌, ◌-◌, ◌^◌, ◌<◌, ◌≤◌, Bool, true, false, not, ◌&&◌, cond, List, [], ◌∷◌, ◌++◌, length, take, drop, get_or, Option, Some, None, refl, sym, ◌∙◌, ap, subst, arith, inl, inr, append_assoc, append-nil}
 use Rattle.std.specs.Prelude.{◌⊎◌, ◌==◌, slice_range, min, IfNone}
 use Rattle.std.specs.List.{flat_map, AllByRecursion}
 use Rattle.std.proofs.Math.Seq.{get_or-append_seam}
-use Rattle.std.proofs.lemmas.Bool.{false_from_ne_true, cases_lt}
+use Rattle.std.proofs.lemmas.Bool.{false_from_ne_true}
 use Rattle.std.proofs.lemmas.Bool.Decides.{Decides-eqb}
 use Rattle.std.proofs.lemmas.List.{length-append, length-take, take-append-drop, take-append-le, take-take, take_all, drop-take}
 use Rattle.httparse.specs.Grammar.{LineEnd, crlf, lf, print_blank, print_end}
 use Rattle.http_wire.specs.declared.scan.HeadScan.{HeadScan}
 use Rattle.http_wire.specs.Heads.{HasNoFeed, IsLine, print_line, print_lines, IsHeadOfLines, HasLines}
 use Rattle.http_wire.specs.Requests.{HeadAt, IsBlank}
-use Rattle.http_wire.specs.Scan.{IsLineEmpty, IsCarriageLast, HasBegun, IsOpenWith, IsOpen, StandsWith, StandsFor, ArePlain, is_blank, with_plain}
+use Rattle.http_wire.specs.Scan.{IsLineEmpty, IsCarriageLast, HasBegun, IsOpenWith, IsOpen, StandsWith, StandsFor, is_blank, with_plain}
 use Rattle.http_wire.specs.Stages.{IsSearched, IsSearchOver}
 use Rattle.http_wire.proofs.Search.{Nothing, search_head, only_ends}
 use Rattle.http_wire.proofs.Fronts.{not_blank}
@@ -437,39 +437,3 @@ plain_ended scan (suc n) = refl
 pub plain_at : (scan : HeadScan) (n : ℕ) → (with_plain scan n).at ≡ scan.at + n
 plain_at scan zero = omega arith
 plain_at scan (suc n) = refl
-
--- ---- plain bytes at the front of a piece
-
-pub plain_next : (piece : List ℕ) (n : ℕ) → ArePlain piece n → 13 < get_or piece n 0 → ArePlain piece (n + 1)
-plain_next piece n before here k small =
-    ⊎_elim (λ less. before k less)
-    (λ most. let same : n ≡ k = omega (arith, most, small) in subst (λ (i : ℕ). 13 < get_or piece i 0) same here)
-    (cases_lt k n)
-
--- so many at the front, and so many behind them
-pub plain_join : (piece : List ℕ) (n m : ℕ) → ArePlain piece n → ArePlain (drop n piece) m → ArePlain piece (n + m)
-plain_join piece n m before after k small =
-    ⊎_elim (λ less. before k less)
-    (λ most.
-    let rest : k - n < m = omega (arith, most, small) in
-    let same : n + (k - n) ≡ k = omega (arith, most) in
-    subst (λ (i : ℕ). 13 < get_or piece i 0) same (subst (λ (b : ℕ). 13 < b) (get_or-drop n piece (k - n) 0) (after (k - n) rest)))
-    (cases_lt k n)
-
--- the search with the plain bytes at the front of a piece
-pub plain_front_stands : (scan : HeadScan) (n : ℕ) (bytes piece : List ℕ) → scan.ended ≡ None → n ≤ length piece
-    → ArePlain piece n → StandsFor scan bytes → StandsFor (with_plain scan n) (bytes ++ take n piece)
-plain_front_stands scan zero bytes piece live within plain s = subst (StandsFor scan) (sym (append-nil bytes)) s
-plain_front_stands scan (suc n) bytes piece live within plain s =
-    subst (StandsFor (with_plain scan (suc n)))
-    (append_assoc bytes (take n piece) (get_or piece n 0 ∷ []) ∙ ap (λ (l : List ℕ). bytes ++ l) (sym (take-suc piece n 0 (omega (arith, within)))))
-    (plain_more scan n (bytes ++ take n piece) (get_or piece n 0) live (plain n (omega arith))
-    (plain_front_stands scan n bytes piece live (omega (arith, within)) (λ k small. plain k (omega (arith, small))) s))
-
--- the same behind a part of the piece that was searched
-pub plain_behind : (scan : HeadScan) (n m : ℕ) (bytes piece : List ℕ) → scan.ended ≡ None → m ≤ length (drop n piece)
-    → ArePlain (drop n piece) m → StandsFor scan (bytes ++ take n piece) → StandsFor (with_plain scan m) (bytes ++ take (n + m) piece)
-plain_behind scan n m bytes piece live within plain s =
-    subst (StandsFor (with_plain scan m))
-    (append_assoc bytes (take n piece) (take m (drop n piece)) ∙ ap (λ (l : List ℕ). bytes ++ l) (sym (take-add n m piece)))
-    (plain_front_stands scan m (bytes ++ take n piece) (drop n piece) live within plain s)

@@ -1,5 +1,5 @@
 -- What a search for the end of a head stands for, by the rules on heads: where a head ends, and how many lines it has.
-use Rattle.std.specs.Prelude.{◌≡◌, ◌≢◌, ◌⊎◌, ℕ, zero, suc, ◌+◌, ◌-◌, ◌<◌, ◌≤◌, Bool, true, false, not, ◌&&◌, List, [], ◌∷◌, ◌++◌, length, take, slice_index, Option, Some, None}
+use Rattle.std.specs.Prelude.{◌≡◌, ◌≢◌, ◌⊎◌, ℕ, zero, suc, ◌+◌, ◌-◌, ◌<◌, ◌≤◌, Bool, true, false, not, ◌&&◌, List, [], ◌∷◌, ◌++◌, length, take, Option, Some, None}
 use Rattle.std.specs.List.{AllByRecursion}
 use Rattle.httparse.specs.Grammar.{LineEnd}
 use Rattle.http_wire.specs.Heads.{HasNoFeed, IsLine, print_lines, IsHeadOfLines}
@@ -59,7 +59,3 @@ is_blank scan = scan.line_empty && not scan.begun && not scan.carriage
 abbrev pub with_plain : HeadScan → ℕ → HeadScan
 with_plain scan zero = scan
 with_plain scan (suc n) = record scan { at = scan.at + suc n; line_empty = false; carriage = false }
-
--- so many bytes at the front tell no lines apart
-abbrev pub ArePlain : List ℕ → ℕ → Type 0
-ArePlain bytes n = (k : ℕ) → k < n → 13 < slice_index bytes k

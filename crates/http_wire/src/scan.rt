@@ -1,6 +1,6 @@
 // The search for the end of a head, which goes on from where it stood.
 ghost use Rattle.std.specs.Prelude.{◌≡◌, ◌<◌, ◌≤◌, ◌+◌, ◌-◌, ◌^◌, ℕ, List, [], ◌∷◌, ◌++◌, length, min, None, not, ◌&&◌, if◌then◌else◌};
-ghost use Rattle.http_wire.specs.Scan.{StandsFor, ArePlain, is_blank, with_plain as with_plain_bytes};
+ghost use Rattle.http_wire.specs.Scan.{StandsFor, is_blank, with_plain as with_plain_bytes};
 
 use std::sync::ledger::Ledger;
 use step_count::Steps;
@@ -40,51 +40,6 @@ fn still_empty(line_empty: bool, carriage: bool, byte_carriage: bool) -> bool
     ensures { result ≡ (line_empty && not carriage && byte_carriage) }
 {
     line_empty && !carriage && byte_carriage
-}
-
-/// How many bytes at the front are above a carriage return in value: each is looked at once, and so is the one behind
-/// them, which isn't counted here.
-fn plain_front<L: Ledger>(piece: &[u8], steps: &mut Steps<L>) -> usize
-    ensures within { result ≤ length piece.now }
-    ensures plain { ArePlain piece.now result }
-    ensures steps { steps.new ≡ steps.old + result }
-{
-    let mut at = 0;
-    // Four in a turn, so that a byte costs less.
-    'fours: while piece.len() - at >= 4 {
-        if piece[at] <= b'\r' {
-            return at;
-        }
-        steps.tick();
-        if piece[at + 1] <= b'\r' {
-            return at + 1;
-        }
-        steps.tick();
-        if piece[at + 2] <= b'\r' {
-            return at + 2;
-        }
-        steps.tick();
-        if piece[at + 3] <= b'\r' {
-            return at + 3;
-        }
-        steps.tick();
-        at += 4;
-    }
-    at + plain_rest(&piece[at..], steps)
-}
-
-/// The same, byte by byte.
-fn plain_rest<L: Ledger>(piece: &[u8], steps: &mut Steps<L>) -> usize
-    ensures within { result ≤ length piece.now }
-    ensures plain { ArePlain piece.now result }
-    ensures steps { steps.new ≡ steps.old + result }
-{
-    let mut at = 0;
-    'ones: while at < piece.len() && piece[at] > b'\r' {
-        steps.tick();
-        at += 1;
-    }
-    at
 }
 
 impl HeadScan {
@@ -183,22 +138,21 @@ impl HeadScan {
         if scan.ended.is_some() {
             return scan;
         }
-        let mut done = 0;
-        'bytes: loop {
-            // Most bytes are neither of the two that tell lines apart, and are only counted.
-            let plain = plain_front(&piece[done..], steps);
-            scan = scan.with_plain(plain as u32);
-            done += plain;
-            if done == piece.len() {
-                return scan;
-            }
+        // Most bytes are neither of the two that tell lines apart, and are only counted.
+        let mut plain = 0u32;
+        for byte in piece {
             steps.tick();
-            scan = scan.with_byte(piece[done]);
-            done += 1;
-            if scan.ended.is_some() {
-                return scan;
+            if *byte > b'\r' {
+                plain += 1;
+            } else {
+                scan = scan.with_plain(plain).with_byte(*byte);
+                plain = 0;
+                if scan.ended.is_some() {
+                    return scan;
+                }
             }
         }
+        scan.with_plain(plain)
     }
 
     /// Whether all bytes searched are empty lines.

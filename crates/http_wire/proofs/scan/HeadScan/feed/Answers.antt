@@ -1,10 +1,12 @@
-use Rattle.std.proofs.Common.{◌≡◌, ◌+◌, ◌-◌, ◌<◌, ◌≤◌, List, [], ◌∷◌, ◌++◌, length, take, drop, get_or, ℕ, suc, sym, ◌∙◌, ap, subst, arith, append_assoc, Option, Some, None, true, false, refl, take-suc}
+use Rattle.std.proofs.Common.{◌≡◌, ◌+◌, ◌<◌, List, [], ◌∷◌, ◌++◌, length, take, drop, get_or, ℕ, suc, sym, ◌∙◌, ap, subst, arith, append_assoc, Option, Some, None, true, false, refl}
 use Rattle.std.specs.Prelude.{is_some}
-use Rattle.std.proofs.lemmas.List.{take_all, take-append-drop, length-drop}
+use Rattle.std.proofs.Math.Seq.{take-suc}
+use Rattle.std.proofs.lemmas.List.{take_all, take-append-drop}
 use Rattle.http_wire.specs.declared.scan.HeadScan.{HeadScan}
-use Rattle.http_wire.specs.Scan.{StandsFor, ArePlain, with_plain}
-use Rattle.http_wire.proofs.ScanLemmas.{stands_ended, plain_behind, plain_at}
+use Rattle.http_wire.specs.Scan.{StandsFor, with_plain}
+use Rattle.http_wire.proofs.ScanLemmas.{stands_ended, plain_more, plain_at}
 use Rattle.http_wire.proofs.scan.HeadScan.feed.Goals as goal
+use Rattle.http_wire.proofs.scan.HeadScan.feed.Goals.{then-byte-gt13, else-byte-gt13+else-is_some-2}
 
 one_more : (piece : List ℕ) (i : ℕ) → i < length piece → take (i + 1) piece ≡ take i piece ++ get_or piece i 0 ∷ []
 one_more piece i small =
@@ -18,72 +20,67 @@ on_byte r piece bytes i small s =
     subst (StandsFor r)
     (append_assoc bytes (take i piece) (get_or piece i 0 ∷ []) ∙ ap (λ (l : List ℕ). bytes ++ l) (sym (one_more piece i small))) s
 
+more : (n : ℕ) → suc n ≡ n + 1
+more n = omega arith
+
 none_of : (o : Option ℕ) → is_some o ≡ false → o ≡ None
 none_of None e = refl
 none_of (Some n) e = absurd cc
 
-pub returns-then-done-piece-clause-stands : goal.returns-then-done-piece-clause-stands
-returns-then-done-piece-clause-stands g c =
-    let done = c.bytes.done in
-    let n = c.plain_front-plain.result in
+pub loop-byte-preserved : goal.loop-byte-preserved
+loop-byte-preserved g c =
+    let i = c.loop-byte.byte-index in
     let piece = c.args.piece.now in
-    let rest : take (length piece - done) (drop done piece) ≡ drop done piece =
-    take_all (length piece - done) (drop done piece) (omega (arith, length-drop done piece)) in
-    let within : n ≤ length (drop done piece) = subst (λ (l : List ℕ). n ≤ length l) rest c.plain_front-plain.ensures.within in
-    let plain : ArePlain (drop done piece) n = subst (λ (l : List ℕ). ArePlain l n) rest c.plain_front-plain.ensures.plain in
-    let all : take (done + n) piece ≡ piece = take_all (done + n) piece (omega (arith, c.if-done-piece.true)) in
-    λ bytes s.
-    subst (λ (t : HeadScan). StandsFor t (bytes ++ piece)) (sym c.with_plain-scan.ensures)
-    (subst (λ (l : List ℕ). StandsFor (with_plain c.bytes.scan n) (bytes ++ l)) all
-    (plain_behind c.bytes.scan done n bytes piece c.bytes.invariant.live within plain
-    (c.bytes.invariant.stands bytes s)))
+    let scan = c.loop-byte.scan in
+    let plain = c.loop-byte.plain in
+    let inv = c.loop-byte.invariant in
+    let small : i < length piece = omega (arith, c.loop-byte-test.true) in
+    let live : c.if-byte-gt13.scan.ended ≡ None =
+    elim c.if-byte-gt13.branch [
+      | then-byte-gt13 w ↦ rw w.scan-is inv.live
+      | else-byte-gt13+else-is_some-2 w ↦ rw w.scan-is (none_of w.with_byte-scan.result.ended (sym w.is_some-else-byte-gt13.ensures ∙ w.if-is_some-2.false))
+    ] in
+    let stands : (bytes : List ℕ) → StandsFor c.args.self bytes → StandsFor (with_plain c.if-byte-gt13.scan c.if-byte-gt13.plain) (bytes ++ take (i + 1) piece) =
+    elim c.if-byte-gt13.branch [
+      | then-byte-gt13 w ↦ rw (w.scan-is, w.plain-is) (λ bytes s. subst (λ (k : ℕ). StandsFor (with_plain scan k) (bytes ++ take (i + 1) piece)) (more plain)
+          (on_byte (with_plain scan (suc plain)) piece bytes i small
+          (plain_more scan plain (bytes ++ take i piece) (get_or piece i 0) inv.live (omega (arith, w.if-byte-gt13.true)) (inv.stands bytes s))))
+      | else-byte-gt13+else-is_some-2 w ↦ rw (w.scan-is, w.plain-is) (λ bytes s.
+          on_byte w.with_byte-scan.result piece bytes i small
+          (w.with_byte-scan.ensures.stands (bytes ++ take i piece)
+          (subst (λ (t : HeadScan). StandsFor t (bytes ++ take i piece)) (sym w.with_plain.ensures) (inv.stands bytes s))))
+    ] in
+    let at : c.if-byte-gt13.scan.at + c.if-byte-gt13.plain ≡ c.args.self.at + (i + 1) =
+    elim c.if-byte-gt13.branch [
+      | then-byte-gt13 w ↦ rw (w.scan-is, w.plain-is) (omega (arith, inv.at))
+      | else-byte-gt13+else-is_some-2 w ↦ rw (w.scan-is, w.plain-is)
+          (omega (arith, w.with_byte-scan.ensures.at, ap (λ (t : HeadScan). t.at) w.with_plain.ensures, plain_at scan plain, inv.at))
+    ] in
+    record {
+      live = live;
+      stands = stands;
+      at = at;
+      steps = omega (arith, c.tick.ensures, inv.steps);
+    }
+
+pub returns-clause-stands : goal.returns-clause-stands
+returns-clause-stands g c =
+    let all : take c.loop-byte.byte-index c.args.piece.now ≡ c.args.piece.now = take_all c.loop-byte.byte-index c.args.piece.now (omega arith) in
+    λ bytes s. subst (λ (t : HeadScan). StandsFor t (bytes ++ c.args.piece.now)) (sym c.with_plain-2.ensures)
+    (subst (λ (l : List ℕ). StandsFor (with_plain c.loop-byte.scan c.loop-byte.plain) (bytes ++ l)) all (c.loop-byte.invariant.stands bytes s))
 
 pub returns-then-is_some-2-clause-stands : goal.returns-then-is_some-2-clause-stands
 returns-then-is_some-2-clause-stands g c =
-    let done = c.bytes.done in
-    let n = c.plain_front-plain.result in
+    let i = c.loop-byte.byte-index in
     let piece = c.args.piece.now in
-    let rest : take (length piece - done) (drop done piece) ≡ drop done piece =
-    take_all (length piece - done) (drop done piece) (omega (arith, length-drop done piece)) in
-    let within : n ≤ length (drop done piece) = subst (λ (l : List ℕ). n ≤ length l) rest c.plain_front-plain.ensures.within in
-    let plain : ArePlain (drop done piece) n = subst (λ (l : List ℕ). ArePlain l n) rest c.plain_front-plain.ensures.plain in
-    let small : done + n < length piece =
-    omega (arith, within, length-drop done piece, c.bytes.invariant.within, c.if-done-piece.false) in
+    let small : i < length piece = omega (arith, c.loop-byte-test.true) in
     let r = c.with_byte-scan.result in
-    let yes : is_some r.ended ≡ true = sym c.is_some-in-bytes.ensures ∙ c.if-is_some-2.true in
+    let yes : is_some r.ended ≡ true = sym c.is_some-else-byte-gt13.ensures ∙ c.if-is_some-2.true in
     let some : r.ended ≡ None → ⊥ = λ none. let no = ap is_some none in absurd cc in
     λ bytes s.
-    let stood : StandsFor c.with_plain-scan.result (bytes ++ take (done + n) piece) =
-    subst (λ (t : HeadScan). StandsFor t (bytes ++ take (done + n) piece)) (sym c.with_plain-scan.ensures)
-    (plain_behind c.bytes.scan done n bytes piece c.bytes.invariant.live within plain
-    (c.bytes.invariant.stands bytes s)) in
-    let here : StandsFor r (bytes ++ take (done + n + 1) piece) =
-    on_byte r piece bytes (done + n) small (c.with_byte-scan.ensures.stands (bytes ++ take (done + n) piece) stood) in
+    let here : StandsFor r (bytes ++ take (i + 1) piece) =
+    on_byte r piece bytes i small (c.with_byte-scan.ensures.stands (bytes ++ take i piece)
+    (subst (λ (t : HeadScan). StandsFor t (bytes ++ take i piece)) (sym c.with_plain.ensures) (c.loop-byte.invariant.stands bytes s))) in
     subst (StandsFor r)
-    (append_assoc bytes (take (done + n + 1) piece) (drop (done + n + 1) piece)
-    ∙ ap (λ (l : List ℕ). bytes ++ l) (take-append-drop (done + n + 1) piece))
-    (stands_ended r (bytes ++ take (done + n + 1) piece) (drop (done + n + 1) piece) some here)
-
-pub bytes-preserved : goal.bytes-preserved
-bytes-preserved g c =
-    let done = c.bytes.done in
-    let n = c.plain_front-plain.result in
-    let piece = c.args.piece.now in
-    let inv = c.bytes.invariant in
-    let rest : take (length piece - done) (drop done piece) ≡ drop done piece =
-    take_all (length piece - done) (drop done piece) (omega (arith, length-drop done piece)) in
-    let within : n ≤ length (drop done piece) = subst (λ (l : List ℕ). n ≤ length l) rest c.plain_front-plain.ensures.within in
-    let plain : ArePlain (drop done piece) n = subst (λ (l : List ℕ). ArePlain l n) rest c.plain_front-plain.ensures.plain in
-    let small : done + n < length piece =
-    omega (arith, within, length-drop done piece, inv.within, c.if-done-piece.false) in
-    record {
-      within = omega (arith, small);
-      live = none_of c.with_byte-scan.result.ended (sym c.is_some-in-bytes.ensures ∙ c.if-is_some-2.false);
-      stands = λ bytes s.
-          on_byte c.with_byte-scan.result piece bytes (done + n) small
-          (c.with_byte-scan.ensures.stands (bytes ++ take (done + n) piece)
-          (subst (λ (t : HeadScan). StandsFor t (bytes ++ take (done + n) piece)) (sym c.with_plain-scan.ensures)
-          (plain_behind c.bytes.scan done n bytes piece inv.live within plain (inv.stands bytes s))));
-      at = omega (arith, c.with_byte-scan.ensures.at, ap (λ (t : HeadScan). t.at) c.with_plain-scan.ensures, plain_at c.bytes.scan n, inv.at);
-      steps = omega (arith, c.tick.ensures, c.plain_front-plain.ensures.steps, inv.steps);
-    }
+    (append_assoc bytes (take (i + 1) piece) (drop (i + 1) piece) ∙ ap (λ (l : List ℕ). bytes ++ l) (take-append-drop (i + 1) piece))
+    (stands_ended r (bytes ++ take (i + 1) piece) (drop (i + 1) piece) some here)
