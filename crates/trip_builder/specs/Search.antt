@@ -76,9 +76,9 @@ pub record AreLeaving (r : RunsView) (station : StationNo) (from to : ℕ) (ds :
   pub every : (run stop : ℕ) → stop + 1 < length (stops_of r run) → leaves station from to (stop_at (stops_of r run) stop) ≡ true → IsListed ds run stop
   pub rise : (j k : ℕ) (none : Departure) → j ≤ k → k < length ds → (slice_index_or ds j none).moment ≤ (slice_index_or ds k none).moment
 
--- each segment arrives after it departed
+-- each segment departs no earlier than its train came there, and arrives after it departed
 abbrev pub Rise : RunsView → Type 0
-Rise r = (s : Segment) → IsKnown r s → (first_stop r s).depart < (last_stop r s).arrive
+Rise r = (s : Segment) → IsKnown r s → ((first_stop r s).arrive ≤ (first_stop r s).depart) × ((first_stop r s).depart < (last_stop r s).arrive)
 
 -- the best sixteen with one more
 abbrev pub keep : RunsView → TripWish → List (List Segment) → List Segment → List (List Segment)
