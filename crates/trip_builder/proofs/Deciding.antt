@@ -158,18 +158,6 @@ with_further r w best way n more s is decided (x ∷ rest) e trip =
     let same : (way ++ s ∷ []) ++ x ∷ rest ≡ way ++ s ∷ x ∷ rest = append_assoc way (s ∷ []) (x ∷ rest) in
     subst (IsDecided r best) same (decided x rest (omega (arith, is, e)) (subst (IsTrip r w) (sym same) trip))
 
-pub arrives_behind : (r : RunsView) (w : TripWish) (best : List (List Segment)) (way : List Segment) (n more m : ℕ) (s : Segment) → Rise r → more ≡ suc n → AllArriveBy r best m
-    → m ≤ (last_stop r s).arrive → AreDecidedWith r w best way more s
-arrives_behind r w best way n more m s rise is by h rest e trip =
-    let next = (trip_goes_on r w way s rest trip).arrival rise in
-    behind_decided r best m (way ++ s ∷ rest) by (omega (arith, next, is, e, h))
-
-pub departs_behind : (r : RunsView) (w : TripWish) (best : List (List Segment)) (way : List Segment) (more m : ℕ) (s : Segment) → Rise r → AllArriveBy r best m
-    → m ≤ (first_stop r s).depart → AreDecidedWith r w best way more s
-departs_behind r w best way more m s rise by h rest e trip =
-    let next = (trip_goes_on r w way s rest trip).departure rise in
-    behind_decided r best m (way ++ s ∷ rest) by (omega (arith, next, h))
-
 -- no trip has a segment that there isn't
 pub not_ridden : (r : RunsView) (w : TripWish) (best : List (List Segment)) (way : List Segment) (more : ℕ) (s : Segment) → (IsKnown r s → ⊥) → AreDecidedWith r w best way more s
 not_ridden r w best way more s never rest e trip = absurd (never (trip_goes_on r w way s rest trip).known)

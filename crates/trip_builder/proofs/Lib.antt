@@ -10,9 +10,13 @@ pub mod Deciding
 pub mod Boarding
 pub mod Leaving
 pub mod Posting
+pub mod Resting
+pub mod Adding
+pub mod Collecting
 pub mod Bounding
 pub mod Keeping
 pub mod Outdoing
 pub mod Calling
 pub mod Ranking
+pub mod Reaching
 pub mod Riding

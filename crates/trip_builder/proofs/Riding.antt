@@ -64,7 +64,7 @@ all_shortest r w ds old new leaving departures low last rise run to there high =
     by_place : (to + 1 < length (stops_of r run)) ⊎ (length (stops_of r run) ≤ to + 1) → (from : ℕ) → from < to
         → IsRide new (stop_at (stops_of r run) from).station.0 (stop_at (stops_of r run) from).depart (stop_at (stops_of r run) to).arrive
     by_place (inl further) =
-        let it = leaving run to further there in
+        let it = leaving.every run to further there in
         let none : Departure = record { moment = 0; run = record { 0 = run }; stop = to } in
         let d = get_or ds it.place none in
         let one : AreRidesTo r d.run.0 d.stop old = departures it.place none it.within in
