@@ -194,7 +194,9 @@ impl Bounds {
         if reach.boards.count() <= window.station.0 as usize {
             return *window;
         }
-        let part = reach.boards.narrowed(window.station, window.from, window.to);
+        let part = reach
+            .boards
+            .narrowed(window.station, window.from, window.to);
         Window {
             station: window.station,
             from: part.from,
@@ -249,7 +251,7 @@ fn boards_of(
     ensures { IfOk result (λ boards. (w : TripWish) → AreRanks runs.now w ranks.now
         → AreRides runs.now w ranks.now changes rides.now → AreBoards runs.now w ranks.now changes boards) }
 {
-    if changes + 1 >= BOUNDED_CHANGES {
+    if changes >= BOUNDED_CHANGES - 1 {
         return Ok(Draft::new(alloc, 0, 0)?.finish());
     }
     let count = runs.station_count();
@@ -293,7 +295,11 @@ fn gather(
 }
 
 // Those without a change.
-fn gather_last(ranks: &Ranks, departures: &[Departure], twos: &mut Vec<FirstTwo>) -> Result<(), AllocError>
+fn gather_last(
+    ranks: &Ranks,
+    departures: &[Departure],
+    twos: &mut Vec<FirstTwo>,
+) -> Result<(), AllocError>
     requires none { twos.old.items ≡ [] }
     ensures { OnOk result ((r : RunsView) (w : TripWish) → AreRanks r w ranks.now
         → AreFirsts r w ranks.now 0 departures.now (length departures.now) twos.new.items) }
@@ -305,7 +311,11 @@ fn gather_last(ranks: &Ranks, departures: &[Departure], twos: &mut Vec<FirstTwo>
 }
 
 // Those of the rides.
-fn gather_rides(rides: &Rides, departures: &[Departure], twos: &mut Vec<FirstTwo>) -> Result<(), AllocError>
+fn gather_rides(
+    rides: &Rides,
+    departures: &[Departure],
+    twos: &mut Vec<FirstTwo>,
+) -> Result<(), AllocError>
     requires none { twos.old.items ≡ [] }
     ensures { OnOk result ((r : RunsView) (w : TripWish) (v : RanksView) (changes : ℕ) → AreRides r w v changes rides.now
         → AreFirsts r w v changes departures.now (length departures.now) twos.new.items) }
@@ -345,7 +355,12 @@ fn times_of(runs: &Runs) -> Part {
 // ---- the rides
 
 // Those of all rides with one change more: with the most changes, of what leaves the origin.
-fn rides_of(alloc: Global, runs: &Runs, wish: &TripWish, bounds: &Bounds) -> Result<Rides, AllocError>
+fn rides_of(
+    alloc: Global,
+    runs: &Runs,
+    wish: &TripWish,
+    bounds: &Bounds,
+) -> Result<Rides, AllocError>
     requires ranks { AreRanks runs.now wish.now bounds.now.ranks }
     requires bounds { AreBounds runs.now wish.now bounds.now }
     ensures { IfOk result (AreRides runs.now wish.now bounds.now.ranks (length bounds.now.levels)) }
@@ -398,7 +413,12 @@ fn all_rides(alloc: Global, runs: &Runs, ranks: &Ranks, reach: &Reach) -> Result
     ensures { IfOk result (λ rides. (w : TripWish) (changes : ℕ) → IsReach runs.now w ranks.now changes reach.now
         → AreRides runs.now w ranks.now (changes + 1) rides) }
 {
-    let mut rides = Rides::unknown(alloc, runs, most_stops_of(runs), runs.station_count() as usize)?;
+    let mut rides = Rides::unknown(
+        alloc,
+        runs,
+        most_stops_of(runs),
+        runs.station_count() as usize,
+    )?;
     let firsts = first_departures(alloc, runs)?;
     bound_each(runs, ranks, reach, firsts.as_slice(), &mut rides);
     rides.end();
@@ -459,7 +479,13 @@ fn past_stops_of(departures: &[Departure]) -> u8 {
 }
 
 // Bounds the rides of these runs.
-fn bound_each(runs: &Runs, ranks: &Ranks, reach: &Reach, departures: &[Departure], rides: &mut Rides)
+fn bound_each(
+    runs: &Runs,
+    ranks: &Ranks,
+    reach: &Reach,
+    departures: &[Departure],
+    rides: &mut Rides,
+)
     ensures { StayRides runs.now ranks.now reach.now rides.old rides.new }
 {
     for departure in departures {
@@ -486,7 +512,13 @@ fn bound_run(runs: &Runs, ranks: &Ranks, reach: &Reach, run: RunNo, rides: &mut 
 }
 
 // Bounds the rides of these departures alone.
-fn board_each(runs: &Runs, ranks: &Ranks, reach: &Reach, departures: &[Departure], rides: &mut Rides)
+fn board_each(
+    runs: &Runs,
+    ranks: &Ranks,
+    reach: &Reach,
+    departures: &[Departure],
+    rides: &mut Rides,
+)
     requires rise { Rise runs.now }
     requires known { DepartFromKnown runs.now }
     ensures { StayRides runs.now ranks.now reach.now rides.old rides.new }
@@ -540,7 +572,10 @@ fn firsts_by_board(runs: &Runs, reach: &Reach, off: &Stop, firsts: FirstTwo) -> 
         → FirstsOfStop runs.now w v (changes + 1) off.now result }
 {
     let window = window_at(runs, off);
-    if reach.boards.precede_rest(window.station, window.from, firsts) {
+    if reach
+        .boards
+        .precede_rest(window.station, window.from, firsts)
+    {
         return firsts;
     }
     let here = reach.boards.firsts(window.station, window.from, window.to);

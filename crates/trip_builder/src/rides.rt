@@ -21,7 +21,12 @@ pub(crate) struct Rides {
 
 impl Rides {
     /// Nothing is known of the rides from the first so many stops of each run, nor of the stations.
-    pub(crate) fn unknown(alloc: Global, runs: &Runs, width: u8, stations: usize) -> Result<Rides, AllocError>
+    pub(crate) fn unknown(
+        alloc: Global,
+        runs: &Runs,
+        width: u8,
+        stations: usize,
+    ) -> Result<Rides, AllocError>
         ensures { IfOk result (AreUnknown (length runs.now.runs)) }
     {
         let count = runs.count() as usize;
@@ -77,7 +82,14 @@ impl Rides {
     }
 
     /// Notes the first two of the run at the stop, and marks the station where they come before this rank.
-    pub(crate) fn note(&mut self, run: RunNo, stop: u8, station: StationNo, two: FirstTwo, late: u16)
+    pub(crate) fn note(
+        &mut self,
+        run: RunNo,
+        stop: u8,
+        station: StationNo,
+        two: FirstTwo,
+        late: u16,
+    )
         ensures rides { (r : RunsView) (w : TripWish) (v : RanksView) (changes : ℕ) → AreRides r w v changes self.old
             → FirstsOfRide r w v changes run.0 stop two → AreRides r w v changes self.new }
         ensures kept { (n : ℕ) → slice_index_or self.old.marks.items n true ≡ true

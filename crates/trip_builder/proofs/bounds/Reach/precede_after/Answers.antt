@@ -11,6 +11,7 @@ returns-then-stations-count c =
     let size : length boards ≡ length c.args.self.now.boards = ap (λ (l : List (List Useful)). length l) same in
     let count = c.count.ensures in
     let small = c.if-stations-count.true in
-    let its = c.precede.ensures said boards c.self.invariant n in
-    (omega (arith, size, count, small, low),
-    λ depart rank none posted from. its depart rank none (omega (arith, count, small, low)) (subst (λ (l : List (List Useful)). IsPosted (get_or l n none) depart rank) (sym same) posted) from))
+    let its = c.precede.ensures said boards c.self.invariant n in (
+      omega (arith, size, count, small, low),
+      λ depart rank none posted from. its depart rank none (omega (arith, count, small, low)) (subst (λ (l : List (List Useful)). IsPosted (get_or l n none) depart rank) (sym same) posted) from,
+    ))

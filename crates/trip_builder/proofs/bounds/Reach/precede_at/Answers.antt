@@ -11,6 +11,7 @@ returns-then-station-count c =
     let size : length boards ≡ length c.args.self.now.boards = ap (λ (l : List (List Useful)). length l) same in
     let count = c.count.ensures in
     let small = c.if-station-count.true in
-    let its = c.precede.ensures said boards c.self.invariant c.args.station.0 in
-    (omega (arith, size, count, small),
-    λ depart rank none posted low. its depart rank none (omega (arith, count, small)) (subst (λ (l : List (List Useful)). IsPosted (get_or l c.args.station.0 none) depart rank) (sym same) posted) low))
+    let its = c.precede.ensures said boards c.self.invariant c.args.station.0 in (
+      omega (arith, size, count, small),
+      λ depart rank none posted low. its depart rank none (omega (arith, count, small)) (subst (λ (l : List (List Useful)). IsPosted (get_or l c.args.station.0 none) depart rank) (sym same) posted) low,
+    ))
