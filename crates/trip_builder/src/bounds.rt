@@ -25,8 +25,8 @@ const BOUNDED_CHANGES: usize = 3;
 /// The seconds of a change's window, both ends included, where a change takes no time.
 const LONGEST_WINDOW: u32 = 14_401;
 
-/// The bounds with one number of changes: of each ride, of what leaves each station, and of what leaves any of them from
-/// a moment on. Without a change rides are told by the ranks.
+/// The bounds with one number of changes: of each ride, of what leaves each station, and of what leaves any of them
+/// from a moment on. Without a change rides are told by the ranks.
 #[derive(Drop)]
 struct Reach {
     rides: Rides,
@@ -284,7 +284,8 @@ fn gather(
     departures: &[Departure],
     twos: &mut Vec<FirstTwo>,
 ) -> Result<(), AllocError>
-    ensures { OnOk result ((r : RunsView) (w : TripWish) → AreRanks r w ranks.now → AreRides r w ranks.now changes rides.now
+    ensures { OnOk result ((r : RunsView) (w : TripWish) → AreRanks r w ranks.now
+        → AreRides r w ranks.now changes rides.now
         → AreFirsts r w ranks.now changes departures.now (length departures.now) twos.new.items) }
 {
     twos.clear();
@@ -317,7 +318,8 @@ fn gather_rides(
     twos: &mut Vec<FirstTwo>,
 ) -> Result<(), AllocError>
     requires none { twos.old.items ≡ [] }
-    ensures { OnOk result ((r : RunsView) (w : TripWish) (v : RanksView) (changes : ℕ) → AreRides r w v changes rides.now
+    ensures { OnOk result ((r : RunsView) (w : TripWish) (v : RanksView) (changes : ℕ)
+        → AreRides r w v changes rides.now
         → AreFirsts r w v changes departures.now (length departures.now) twos.new.items) }
 {
     for departure in departures {
@@ -379,7 +381,8 @@ fn rides_of(
 
 // Those without a change: the stations that something leaves in time.
 fn last_rides(alloc: Global, runs: &Runs, ranks: &Ranks) -> Result<Rides, AllocError>
-    ensures { IfOk result (λ rides. (w : TripWish) → AreRanks runs.now w ranks.now → AreRides runs.now w ranks.now 0 rides) }
+    ensures { IfOk result (λ rides. (w : TripWish) → AreRanks runs.now w ranks.now
+        → AreRides runs.now w ranks.now 0 rides) }
 {
     let mut rides = Rides::unknown(alloc, runs, 0, runs.station_count() as usize)?;
     mark_each(runs, ranks, &mut rides);
@@ -493,8 +496,8 @@ fn bound_each(
     }
 }
 
-// For each stop of the run, the first two by what gets off further on. A run's stops stand together, and what is asked of
-// a station's board is few numbers.
+// For each stop of the run, the first two by what gets off further on. A run's stops stand together, and what is asked
+// of a station's board is few numbers.
 fn bound_run(runs: &Runs, ranks: &Ranks, reach: &Reach, run: RunNo, rides: &mut Rides)
     ensures { StayRides runs.now ranks.now reach.now rides.old rides.new }
 {
@@ -529,7 +532,8 @@ fn board_each(
     }
 }
 
-// The first two by what gets off further on, from the next stop on until nothing leaves any more that comes before them.
+// The first two by what gets off further on, from the next stop on until nothing leaves any more that comes before
+// them.
 fn firsts_after(runs: &Runs, ranks: &Ranks, reach: &Reach, departure: &Departure) -> FirstTwo
     requires rise { Rise runs.now }
     requires known { DepartFromKnown runs.now }
@@ -549,8 +553,8 @@ fn firsts_after(runs: &Runs, ranks: &Ranks, reach: &Reach, departure: &Departure
     firsts
 }
 
-// These two, and the first two of what gets off at the stop, with one change more. What comes there when all that may
-// follow has left for good asks no board.
+// These two, and the first two of what gets off at the stop, with one change more. Where nothing that leaves any
+// station from then on comes before them, no board is asked.
 fn firsts_with(runs: &Runs, reach: &Reach, off: &Stop, firsts: FirstTwo) -> FirstTwo
     ensures further { (rank : ℕ) → Precede firsts rank → Precede result rank }
     ensures own { (w : TripWish) (v : RanksView) (changes : ℕ) → IsReach runs.now w v changes reach.now

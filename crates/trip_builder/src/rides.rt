@@ -8,8 +8,8 @@ use rail_ids::{RunNo, StationNo};
 use std::alloc::{AllocError, Global};
 use train_runs::Runs;
 
-/// For each run and each of so many of its first stops, the first two that come to the destination by what takes the run
-/// there; and which stations something leaves that comes there in time, once that was looked at for all runs.
+/// For each run and each of so many of its first stops, the first two that come to the destination by what takes the
+/// run there; and which stations something leaves that comes there in time, once that was looked at for all runs.
 #[derive(Drop)]
 pub(crate) struct Rides {
     width: u8,
