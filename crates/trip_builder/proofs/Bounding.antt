@@ -86,15 +86,21 @@ pub leaving_fresh : (r : RunsView) (w : TripWish) (v : RanksView) (changes : ℕ
     → BoundsFresh r w v two way bound → BoundsLeaving r w changes way station from to bound
 leaving_fresh r w v changes way station from to bound two firsts fresh s rest count leads says apart = fresh s rest leads (firsts s rest count leads says) apart
 
-pub narrowing_found : (r : RunsView) (w : TripWish) (v : RanksView) (changes : ℕ) (reach : ReachView) (station : StationNo) (from to first last : ℕ) → IsReach r w v changes reach → station.0 < length reach.boards
-    → ((none : List Useful) → station.0 < length reach.boards → NarrowsWindow (get_or reach.boards station.0 none) from to first last) → no_rank ≤ v.late → NarrowsLeaving r w changes station from to first last
-narrowing_found r w v changes reach station from to first last are inside known none s rest count leads says =
-    let rank = rank_of v s rest in
-    let start = first_stop r s in
-    let its = left_within station from to start says in
-    let few = (leading_placed r w v are.ranks s rest leads).few in
-    let part = (known no_board inside).each start.depart rank (are.boards station.0 no_board inside s rest count leads its.0 (omega (arith, few, none))) its.1.0 its.1.1 in
-    leaves_there station first last start (is_station start.station station its.0) part.0 part.1
+pub narrowing_found : (r : RunsView) (w : TripWish) (v : RanksView) (changes : ℕ) (reach : ReachView) (station : StationNo) (from to first last : ℕ) → IsReach r w v changes reach
+    → ((none : List Useful) → station.0 < length reach.boards → NarrowsWindow (get_or reach.boards station.0 none) from to first last)
+    → (length reach.boards ≤ station.0 → (first ≡ from) × (last ≡ to)) → no_rank ≤ v.late → NarrowsLeaving r w changes station from to first last
+narrowing_found r w v changes reach station from to first last are known other none s rest count leads says = by_place (cases_lt station.0 (length reach.boards))
+  where
+    by_place : (station.0 < length reach.boards) ⊎ (length reach.boards ≤ station.0) → leaves station first last (first_stop r s) ≡ true
+    by_place (inl inside) =
+        let start = first_stop r s in
+        let its = left_within station from to start says in
+        let few = (leading_placed r w v are.ranks s rest leads).few in
+        let part = (known no_board inside).each start.depart (rank_of v s rest) (are.boards station.0 no_board inside s rest count leads its.0 (omega (arith, few, none))) its.1.0 its.1.1 in
+        leaves_there station first last start (is_station start.station station its.0) part.0 part.1
+    by_place (inr past) =
+        let same = other past in
+        subst (λ n. leaves station n last (first_stop r s) ≡ true) (sym same.0) (subst (λ n. leaves station from n (first_stop r s) ≡ true) (sym same.1) says)
 
 -- ---- what goes on from a stop
 

@@ -191,9 +191,6 @@ impl Bounds {
         let Some(reach) = self.levels.get(changes) else {
             return *window;
         };
-        if reach.boards.count() <= window.station.0 as usize {
-            return *window;
-        }
         let part = reach
             .boards
             .narrowed(window.station, window.from, window.to);
