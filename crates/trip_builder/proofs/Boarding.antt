@@ -1,6 +1,5 @@
 -- The departures after a way, and the stops that their trains come to.
-use Rattle.std.proofs.Common.{◌≡◌, ◌∙◌, ℕ, ◌<◌, ◌≤◌, ◌==◌, ◌&&◌, ◌⊎◌, inl, inr, true, false, not, List, length, refl, sym, ap, subst, arith, nat_le, get_or, eqb-true, true≢false}
-use Rattle.std.proofs.lemmas.Bool.{cases_lt}
+use Rattle.std.proofs.Common.{◌≡◌, ◌∙◌, ℕ, ◌<◌, ◌≤◌, ◌==◌, ◌&&◌, true, false, not, List, length, refl, sym, ap, subst, arith, nat_le, get_or, eqb-true, true≢false}
 use Rattle.std.proofs.lemmas.Bool.Decides.{nat_tests}
 use Rattle.std.proofs.lemmas.List.Elements.{at_read}
 use Rattle.rail_ids.specs.declared.StationNo.{StationNo}
@@ -12,7 +11,7 @@ use Rattle.train_runs.specs.declared.departure.Departure.{Departure}
 use Rattle.trip_builder.specs.declared.trip.TripWish.{TripWish}
 use Rattle.trip_builder.specs.Segments.{segment, first_stop, stops_of}
 use Rattle.trip_builder.specs.Trips.{leaves, uses_run}
-use Rattle.trip_builder.specs.Search.{leaves_after, has_run, AreLeaving, Leaves, MayTake, Rise, AllArriveBy, AreDecided, AreDecidedWith}
+use Rattle.trip_builder.specs.Search.{leaves_after, has_run, AreLeaving, Leaves, MayTake, AreDecided, AreDecidedWith}
 use Rattle.trip_builder.proofs.StrictOrder.{one_segment}
 use Rattle.trip_builder.proofs.Ways.{trip_goes_on, both_true}
 use Rattle.trip_builder.specs.Bounds.{NarrowsLeaving}

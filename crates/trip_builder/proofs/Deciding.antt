@@ -5,11 +5,11 @@ use Rattle.std.proofs.lemmas.Bool.Decides.{nat_tests}
 use Rattle.offer_codes.specs.declared.code.Segment.{Segment}
 use Rattle.train_runs.specs.Runs.{RunsView}
 use Rattle.trip_builder.specs.declared.trip.TripWish.{TripWish}
-use Rattle.trip_builder.specs.Segments.{all_segments, first_stop, last_stop}
+use Rattle.trip_builder.specs.Segments.{all_segments, last_stop}
 use Rattle.trip_builder.specs.Order.{last_arrival, stands_before, sorted_in}
 use Rattle.trip_builder.specs.Trips.{arrives, is_trip, sets_out, all_lists, most_trips, trips_of}
 use Rattle.trip_builder.specs.Best.{IsKnown, IsAmong, AllStandBefore, AreInOrder, IsDecided, IsTrip, AreBest}
-use Rattle.trip_builder.specs.Search.{IsWay, Rise, keep, AllArriveBy, AllArriveBefore, Grows, AreDecided, AreDecidedWith}
+use Rattle.trip_builder.specs.Search.{IsWay, keep, AllArriveBy, AllArriveBefore, Grows, AreDecided, AreDecidedWith}
 use Rattle.trip_builder.proofs.StrictOrder.{three_ways, trips_strict}
 use Rattle.trip_builder.proofs.FirstSixteen.{first_sixteen, among-all, all_put, all_map, all_among, put_in_order, has_put}
 use Rattle.trip_builder.proofs.Members.{among_at, among_filter, filter_among, apart_filter}

@@ -1,5 +1,5 @@
 -- The bounds of rides: what is noted of them, which stations are marked, and what is gathered for a station's board.
-use Rattle.std.proofs.Common.{◌≡◌, ◌∙◌, ℕ, ◌+◌, ◌-◌, ◌*◌, ◌<◌, ◌≤◌, ◌⊎◌, inl, inr, Bool, true, false, true≢false, List, [], ◌∷◌, ◌++◌, length, length-append, Option, refl, sym, ap, subst, arith, get_or, set, min, nat_lt, if◌then◌else◌}
+use Rattle.std.proofs.Common.{◌≡◌, ◌∙◌, ℕ, ◌+◌, ◌-◌, ◌*◌, ◌<◌, ◌≤◌, ◌⊎◌, inl, inr, Bool, true, false, true≢false, List, [], ◌∷◌, ◌++◌, length, Option, refl, sym, ap, subst, arith, get_or, set, min, nat_lt, if◌then◌else◌}
 use Rattle.std.specs.Option.{option_map_or}
 use Rattle.std.proofs.lemmas.Bool.{cases_lt}
 use Rattle.std.proofs.lemmas.Bool.Decides.{nat_tests}
@@ -17,7 +17,7 @@ use Rattle.trip_builder.specs.declared.ranks.FirstTwo.{FirstTwo}
 use Rattle.trip_builder.specs.declared.rides.Rides.{Rides}
 use Rattle.trip_builder.specs.Segments.{stops_of, first_stop, last_stop}
 use Rattle.trip_builder.specs.Search.{Rise, DepartFromKnown}
-use Rattle.trip_builder.specs.Bounds.{unknown, no_rank, LeadsTo, rank_of, RanksView, AreRanks, Precede, firsts_in, FirstsOfRide, FirstsOfStop, IsMarkedRun, LeavesLate, AreRides, AreUnknown, AreFirsts, ReachView, IsReach, PrecedeAfter}
+use Rattle.trip_builder.specs.Bounds.{unknown, no_rank, LeadsTo, rank_of, RanksView, AreRanks, Precede, FirstsOfRide, FirstsOfStop, IsMarkedRun, LeavesLate, AreRides, AreUnknown, ReachView, IsReach, PrecedeAfter}
 use Rattle.trip_builder.proofs.Bounding.{unknown_precede, after_found}
 use Rattle.trip_builder.proofs.Riding.{arrives_on}
 

@@ -1,4 +1,4 @@
-use Rattle.std.proofs.Common.{◌≡◌, ◌≤◌, ◌+◌, ℕ, List, length, ap, arith}
+use Rattle.std.proofs.Common.{◌≡◌, ◌+◌, List, length, ap, arith}
 use Rattle.train_runs.specs.declared.run.Stop.{Stop}
 use Rattle.trip_builder.specs.Segments.{stops_of}
 use Rattle.trip_builder.proofs.Boarding.{stop_is}

@@ -1,4 +1,4 @@
-use Rattle.std.proofs.Common.{◌≡◌, ◌≤◌, ◌+◌, arith}
+use Rattle.std.proofs.Common.{arith}
 use Rattle.trip_builder.proofs.Bounding.{rest_found}
 use Rattle.trip_builder.proofs.bounds.firsts_with.Goals as goal
 

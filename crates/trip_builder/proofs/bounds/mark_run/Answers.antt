@@ -1,4 +1,4 @@
-use Rattle.std.proofs.Common.{◌≡◌, ◌∙◌, ◌<◌, true, get_or, length, sym, subst, arith}
+use Rattle.std.proofs.Common.{◌≡◌, ◌∙◌, true, get_or, length, sym, subst, arith}
 use Rattle.std.proofs.lemmas.List.Elements.{at_read}
 use Rattle.train_runs.specs.declared.run.Stop.{Stop}
 use Rattle.train_runs.specs.Stops.{stop_at, no_stop}

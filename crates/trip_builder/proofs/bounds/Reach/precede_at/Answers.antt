@@ -1,4 +1,4 @@
-use Rattle.std.proofs.Common.{◌≡◌, ◌<◌, ◌≤◌, List, length, get_or, sym, ap, subst, arith}
+use Rattle.std.proofs.Common.{◌≡◌, List, length, get_or, sym, ap, subst, arith}
 use Rattle.trip_builder.specs.declared.board.Useful.{Useful}
 use Rattle.trip_builder.specs.Bounds.{ReachView, IsPosted}
 use Rattle.trip_builder.proofs.bounds.Reach.precede_at.Goals as goal

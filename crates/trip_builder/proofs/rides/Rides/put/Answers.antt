@@ -1,4 +1,4 @@
-use Rattle.std.proofs.Common.{◌≡◌, ◌<◌, arith}
+use Rattle.std.proofs.Common.{arith}
 use Rattle.trip_builder.proofs.Reaching.{firsts_put}
 use Rattle.trip_builder.proofs.rides.Rides.put.Goals as goal
 
