@@ -19,4 +19,5 @@ pub mod Outdoing
 pub mod Calling
 pub mod Ranking
 pub mod Reaching
+pub mod Narrowing
 pub mod Riding

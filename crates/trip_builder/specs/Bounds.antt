@@ -95,6 +95,12 @@ abbrev pub BoundsFresh : RunsView → TripWish → RanksView → FirstTwo → Li
 BoundsFresh r w v two way bound = (s : Segment) (rest : List Segment) → LeadsTo r w s rest → Precede two (rank_of v s rest)
     → has_run way (end_of s rest).run.0 ≡ false → IsBound bound (arrival_of r s rest)
 
+-- the same ranks, of which as many come too late, or more
+pub record IsNarrowed (old new : RanksView) : Type 0 where
+  pub order_is : new.order ≡ old.order
+  pub ranks_are : new.ranks ≡ old.ranks
+  pub late_is : new.late ≤ old.late
+
 -- ---- the board of a station
 
 -- later departures stand further on, those of a block together
@@ -221,6 +227,11 @@ pub record BoundsView : Type 0 where
 
 abbrev pub AreBounds : RunsView → TripWish → BoundsView → Type 0
 AreBounds r w b = (n : ℕ) (none : ReachView) → n < length b.levels → IsReach r w b.ranks n (slice_index_or b.levels n none)
+
+-- the same bounds, of which more may come too late
+pub record AreNarrowed (old new : BoundsView) : Type 0 where
+  pub narrowed : IsNarrowed old.ranks new.ranks
+  pub levels_are : new.levels ≡ old.levels
 
 -- for any wish: where the bounds of what goes on are its own, the rides with one change more stay right
 abbrev pub StayRides : RunsView → RanksView → ReachView → Rides → Rides → Type 0

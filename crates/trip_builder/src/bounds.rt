@@ -3,13 +3,14 @@ ghost use Rattle.train_runs.specs.Runs.{RunsView};
 ghost use Rattle.trip_builder.specs.declared.trip.TripWish.{TripWish};
 ghost use Rattle.trip_builder.specs.Search.{Rise, DepartFromKnown};
 ghost use Rattle.trip_builder.specs.Ends.{AreEnds};
-ghost use Rattle.trip_builder.specs.Bounds.{RanksView, ReachView, Precede, AreRanks, AreRides, AreFirsts, AreBoards, IsReach, AreBounds, StayRides, StayLastRides, BoundsRide, BoundsLeaving, NarrowsLeaving, FirstsOfRide, FirstsOfStop, PrecedeFrom, PrecedeAfter, no_rank};
+ghost use Rattle.trip_builder.specs.Bounds.{RanksView, ReachView, Precede, AreRanks, AreRides, AreFirsts, AreBoards, IsReach, AreBounds, AreNarrowed, StayRides, StayLastRides, BoundsRide, BoundsLeaving, NarrowsLeaving, FirstsOfRide, FirstsOfStop, PrecedeFrom, PrecedeAfter, no_rank};
 
 use crate::afters::Afters;
 use crate::board::Part;
 use crate::boards::{Boards, Draft};
 use crate::departures::{Window, all_leaving, leaving, stop_of, stops_of, window_at, window_of};
 use crate::ends::Ends;
+use crate::probe::probed_rank;
 use crate::ranks::{FirstTwo, NO_RANK, Ranks, join};
 use crate::rides::Rides;
 use crate::trip::TripWish;
@@ -132,8 +133,26 @@ impl Bounds {
         let alloc = *self.levels.allocator();
         for changes in 0..BOUNDED_CHANGES {
             let rides = rides_of(alloc, runs, wish, self)?;
+            self.narrow(alloc, runs, wish, &rides)?;
             let reach = reach_of(alloc, runs, &self.ranks, rides, changes)?;
             self.levels.push(reach)?;
+        }
+        Ok(())
+    }
+
+    // Before the boards with one change are made, lets what comes later than some ways of the wish come too late.
+    fn narrow(
+        &mut self,
+        alloc: Global,
+        runs: &Runs,
+        wish: &TripWish,
+        rides: &Rides,
+    ) -> Result<(), AllocError>
+        ensures { OnOk result (AreNarrowed self.old self.new) }
+    {
+        if self.count() == 1 {
+            let rank = probed_rank(alloc, runs, wish, &self.ranks, rides)?;
+            self.ranks.narrow(rank);
         }
         Ok(())
     }
@@ -212,8 +231,6 @@ fn firsts_of(ranks: &Ranks, rides: &Rides, changes: usize, departure: &Departure
     }
     rides.at(departure.run, departure.stop)
 }
-
-// ---- the departures of each station
 
 // The bounds with so many changes, by the rides with as many.
 fn reach_of(
@@ -350,8 +367,6 @@ fn times_of(runs: &Runs) -> Part {
     }
     times
 }
-
-// ---- the rides
 
 // Those of all rides with one change more: with the most changes, of what leaves the origin.
 fn rides_of(

@@ -18,6 +18,7 @@ mod ends;
 mod found;
 mod hints;
 mod order;
+mod probe;
 mod ranks;
 mod rests;
 mod rides;

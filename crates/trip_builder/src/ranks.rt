@@ -2,7 +2,7 @@ ghost use Rattle.std.specs.Prelude.{◌≡◌, ◌≤◌, ◌<◌, ℕ, true, []
 ghost use Rattle.train_runs.specs.Runs.{RunsView};
 ghost use Rattle.trip_builder.specs.declared.trip.TripWish.{TripWish};
 ghost use Rattle.offer_codes.specs.declared.code.Segment.{Segment};
-ghost use Rattle.trip_builder.specs.Bounds.{Precede, AreRanks, IsPlacedRun, Ascends, BoundsFresh, FirstsOfRide, LeadsTo, rank_in, rank_of, no_rank};
+ghost use Rattle.trip_builder.specs.Bounds.{Precede, AreRanks, IsPlacedRun, Ascends, BoundsFresh, FirstsOfRide, LeadsTo, IsNarrowed, rank_in, rank_of, no_rank};
 ghost use Rattle.trip_builder.specs.declared.ranks.Arrival.{Arrival};
 ghost use Rattle.trip_builder.specs.Ends.{IsEnd, AreEnds};
 
@@ -171,6 +171,17 @@ impl Ranks {
         ensures { result ≡ self.now.late }
     {
         self.late
+    }
+
+    /// Lets those come too late as well that arrive after the one of this rank.
+    pub(crate) fn narrow(&mut self, rank: u16)
+        ensures { IsNarrowed self.old self.new }
+    {
+        let Some(it) = self.order.get(usize::from(rank)) else {
+            return;
+        };
+        let late = late_of(self.order.as_slice(), it.arrive);
+        self.late = self.late.min(late);
     }
 
     /// Those that come too late: which of them stays unsaid.
