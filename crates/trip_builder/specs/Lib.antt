@@ -4,6 +4,7 @@ pub mod Trips
 pub mod Search
 pub mod Best
 pub mod Bounds
+pub mod Boards
 pub mod Ends
 pub mod Shortest
 pub mod Keeping

@@ -1,20 +1,22 @@
 ghost use Rattle.std.specs.Prelude.{◌≡◌, ◌≤◌, ◌<◌, ◌+◌, ◌^◌, ℕ, true, [], length, All, OnOk, slice_index_or};
 ghost use Rattle.trip_builder.specs.declared.board.Useful.{Useful};
 ghost use Rattle.std.specs.List.{AllWithin};
+ghost use Rattle.trip_builder.specs.Boards.{InOrder, AreNoted};
 ghost use Rattle.trip_builder.specs.Bounds.{Precede, Rises, HasPosted, Follows, IsNoted, IsPosted, BoundsWindow, NarrowsWindow, HasBest};
 
 use crate::ranks::{FirstTwo, NONE, UNKNOWN, join, later};
 use std::alloc::{AllocError, Global};
 use std::marker::Model;
+use train_runs::Departure;
 
 /// A departure that leads to the destination, and the first two that come there from its block: by those that leave no
 /// earlier (`onward`), and by those that leave no later.
 #[derive(Clone, Copy)]
 pub(crate) struct Useful {
-    moment: u32,
-    block: u32,
-    onward: FirstTwo,
-    so_far: FirstTwo,
+    pub moment: u32,
+    pub block: u32,
+    pub onward: FirstTwo,
+    pub so_far: FirstTwo,
 }
 
 /// From when to when something leaves, both included.
@@ -67,6 +69,44 @@ impl Board {
     {
         self.useful.reserve(count)?;
         Ok(())
+    }
+
+    /// Takes all departures off, for blocks of so many seconds. The memory stays.
+    pub(crate) fn clear(&mut self, seconds: u64)
+        ensures { self.new ≡ [] }
+    {
+        self.useful.clear();
+        self.seconds = seconds;
+        self.end = 0;
+    }
+
+    /// Posts those of the departures that lead to the destination before this rank, by the first two of each.
+    pub(crate) fn post_all(
+        &mut self,
+        departures: &[Departure],
+        twos: &[FirstTwo],
+        late: u16,
+    ) -> Result<(), AllocError>
+        requires none { self.old ≡ [] }
+        requires order { InOrder departures.now }
+        ensures { OnOk result (AreNoted departures.now twos.now late self.new) }
+    {
+        for n in 0..departures.len().min(twos.len()) {
+            let departure = departures[n];
+            let two = twos[n];
+            if two.first < late {
+                self.post(departure.moment.seconds() as u32, two)?;
+            }
+        }
+        Ok(())
+    }
+
+    /// Its departures.
+    pub(crate) fn all(&self) -> &[Useful]
+        ensures value { result.now ≡ self.now }
+        ensures rises { Rises result.now }
+    {
+        self.useful.as_slice()
     }
 
     /// Puts a departure behind those that leave no later. What leaves later than it is told to it by `finish`.
@@ -215,16 +255,17 @@ fn best_of(board: &[Useful]) -> FirstTwo
     best
 }
 
-// When the departure at this place leaves.
-fn moment_at(useful: &[Useful], place: usize) -> u64
+/// When the departure at this place leaves.
+pub(crate) fn moment_at(useful: &[Useful], place: usize) -> u64
     requires { place < length useful.now }
-    ensures { (none : Useful) → result ≡ (slice_index_or useful.now place none).moment }
+    ensures value { (none : Useful) → result ≡ (slice_index_or useful.now place none).moment }
+    ensures small { result < 2 ^ 32 }
 {
     u64::from(useful[place].moment)
 }
 
-// Whether so many of the departures leave before these seconds.
-fn are_before(useful: &[Useful], count: usize, seconds: u64) -> bool
+/// Whether so many of the departures leave before these seconds.
+pub(crate) fn are_before(useful: &[Useful], count: usize, seconds: u64) -> bool
     requires rises { Rises useful.now }
     ensures within { result ≡ true → count ≤ length useful.now }
     ensures earlier { result ≡ true → AllWithin (λ u. u.moment < seconds) useful.now 0 count }
@@ -239,8 +280,8 @@ fn are_before(useful: &[Useful], count: usize, seconds: u64) -> bool
     count == useful.len() || seconds <= moment_at(useful, count)
 }
 
-// How many of the departures leave before these seconds.
-fn count_before(useful: &[Useful], seconds: u64) -> usize
+/// How many of the departures leave before these seconds.
+pub(crate) fn count_before(useful: &[Useful], seconds: u64) -> usize
     requires rises { Rises useful.now }
     ensures within { result ≤ length useful.now }
     ensures earlier { AllWithin (λ u. u.moment < seconds) useful.now 0 result }

@@ -6,16 +6,20 @@
 //! their runs and stops.
 #![tactic(auto)]
 
+mod afters;
 mod ahead;
 mod best;
 mod board;
+mod boards;
 mod bounds;
 mod chain;
 mod departures;
 mod ends;
 mod found;
+mod hints;
 mod order;
 mod ranks;
+mod rests;
 mod search;
 mod shortest;
 mod trip;

@@ -9,6 +9,6 @@ halves-preserved-then-moment_at-seconds c =
     record {
       within = omega (arith, within);
       earlier = λ k d low high. below_side c.args.useful.now c.args.seconds (c.halves.first + c.halves.size / 2) d c.requires.rises fits
-          (let at = c.moment_at.ensures d in let small = c.if-moment_at-seconds.true in omega (arith, at, small)) k d (omega (arith, high));
+          (let at = c.moment_at.ensures.value d in let small = c.if-moment_at-seconds.true in omega (arith, at, small)) k d (omega (arith, high));
       later = λ k d low high. c.halves.invariant.later k d (omega (arith, low)) high;
     }

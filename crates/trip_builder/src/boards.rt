@@ -1,0 +1,419 @@
+ghost use Rattle.std.specs.Prelude.{◌≡◌, ◌<◌, ◌≤◌, ◌++◌, ◌∷◌, ◌^◌, ℕ, true, List, [], length, All, IfOk, OnOk, slice_index_or};
+ghost use Rattle.std.specs.List.{AllWithin};
+ghost use Rattle.std.specs.Option.{IfSome};
+ghost use Rattle.trip_builder.specs.declared.board.Useful.{Useful};
+ghost use Rattle.trip_builder.specs.Bounds.{Precede, Rises, IsPosted, BoundsWindow, NarrowsWindow, unknown};
+ghost use Rattle.trip_builder.specs.Boards.{InOrder, HasAdded, Keeps, IsTold, AreTold, AreToldFrom, AreRests, AreSpanned, AreHintsOf, IsHeadOf, AreAllTold, part_at, rest_in};
+
+use crate::board::{Board, Part, Useful, are_before, count_before, moment_at};
+use crate::hints::Hints;
+use crate::ranks::{FirstTwo, NONE, UNKNOWN, join, later, precede_all};
+use crate::rests::{Parts, tell};
+use rail_ids::StationNo;
+use std::alloc::{AllocError, Global};
+use std::marker::Model;
+use train_runs::Departure;
+
+/// Where a station's board stands among all departures, and where its hints begin among all hints.
+#[derive(Clone, Copy)]
+pub(crate) struct Head {
+    begin: usize,
+    end: usize,
+    hints: usize,
+    parts: Parts,
+    last: u64,
+    best: FirstTwo,
+}
+
+/// Of a station from which nothing leads to the destination.
+const NO_HEAD: Head = Head {
+    begin: 0,
+    end: 0,
+    hints: 0,
+    parts: Parts { start: 0, shift: 0 },
+    last: 0,
+    best: NONE,
+};
+
+/// For each station the departures that lead to the destination. They stand in one list, one board after the other.
+#[derive(Drop)]
+pub(crate) struct Boards {
+    numbers: Vec<usize>,
+    heads: Vec<Head>,
+    useful: Vec<Useful>,
+    places: Vec<u16>,
+    rests: Vec<FirstTwo>,
+}
+
+impl Model for Boards {
+    ghost use Rattle.std.specs.Prelude.{List};
+    ghost use Rattle.trip_builder.specs.declared.board.Useful.{Useful};
+    ghost use Rattle.trip_builder.specs.Boards.{boards_at, AreHeads};
+
+    ghost Value = { List (List Useful) };
+
+    ghost view = { λ b. boards_at b.heads.items b.useful.items b.numbers.items };
+
+    ghost invariant = { λ b. AreHeads b.heads.items b.useful.items b.rests.items b.numbers.items };
+}
+
+/// Boards in the making, and what the next one is made in.
+#[derive(Drop)]
+pub(crate) struct Draft {
+    pub boards: Boards,
+    pub board: Board,
+    pub hints: Hints,
+}
+
+impl Draft {
+    /// No station yet, with room for so many stations and departures.
+    pub(crate) fn new(alloc: Global, stations: usize, room: usize) -> Result<Draft, AllocError>
+        ensures { IfOk result (λ d. d.boards ≡ []) }
+    {
+        let boards = Boards::none(alloc, stations, room)?;
+        Ok(Draft {
+            boards,
+            board: Board::new(alloc, 0),
+            hints: Hints::none(alloc),
+        })
+    }
+
+    /// The next station has no board.
+    pub(crate) fn skip(&mut self) -> Result<(), AllocError>
+        ensures { OnOk result (self.new.boards ≡ self.old.boards ++ [] ∷ []) }
+    {
+        self.boards.skip()
+    }
+
+    /// Adds the next station's board: those of the departures that lead to the destination before this rank, by the first
+    /// two of each, in blocks of so many seconds.
+    pub(crate) fn add(
+        &mut self,
+        departures: &[Departure],
+        twos: &[FirstTwo],
+        late: u16,
+        seconds: u32,
+    ) -> Result<(), AllocError>
+        requires { InOrder departures.now }
+        ensures { OnOk result (HasAdded self.old.boards departures.now twos.now late self.new.boards) }
+    {
+        self.board.clear(u64::from(seconds));
+        self.board.post_all(departures, twos, late)?;
+        self.board.finish();
+        let useful = self.board.all();
+        if useful.is_empty() {
+            return self.boards.skip();
+        }
+        self.hints.set(useful)?;
+        self.boards.keep(useful, &self.hints)
+    }
+
+    /// All are there.
+    pub(crate) fn finish(self) -> Boards
+        ensures { result ≡ self.boards }
+    {
+        self.boards
+    }
+}
+
+impl Boards {
+    // No station yet, with room for so many stations and departures.
+    fn none(alloc: Global, stations: usize, room: usize) -> Result<Boards, AllocError>
+        ensures { IfOk result (λ b. b ≡ []) }
+    {
+        let mut heads = Vec::new(alloc);
+        heads.push(NO_HEAD)?;
+        let mut numbers = Vec::new(alloc);
+        numbers.reserve(stations)?;
+        let mut useful = Vec::new(alloc);
+        useful.reserve(room)?;
+        Ok(Boards {
+            numbers,
+            heads,
+            useful,
+            places: Vec::new(alloc),
+            rests: Vec::new(alloc),
+        })
+    }
+
+    // The next station has no board.
+    fn skip(&mut self) -> Result<(), AllocError>
+        ensures { OnOk result (self.new ≡ self.old ++ [] ∷ []) }
+    {
+        self.numbers.push(0)?;
+        Ok(())
+    }
+
+    // The next station's board, with its hints.
+    fn keep(&mut self, useful: &[Useful], hints: &Hints) -> Result<(), AllocError>
+        requires rises { Rises useful.now }
+        requires hints { AreHintsOf useful.now hints.now }
+        ensures { OnOk result (self.new ≡ self.old ++ useful.now ∷ []) }
+    {
+        let begin = self.useful.len();
+        self.useful.extend_from_slice(useful)?;
+        self.places.extend_from_slice(hints.places.as_slice())?;
+        let before = self.rests.len();
+        self.rests.extend_from_slice(hints.rests.as_slice())?;
+        let number = self.heads.len();
+        self.heads.push(Head {
+            begin,
+            end: self.useful.len(),
+            hints: before,
+            parts: hints.parts,
+            last: hints.last,
+            best: first_of(hints.rests.as_slice()),
+        })?;
+        self.numbers.push(number)?;
+        Ok(())
+    }
+
+    /// How many stations there are.
+    pub(crate) fn count(&self) -> usize
+        ensures { result ≡ length self.now }
+    {
+        self.numbers.len()
+    }
+
+    /// From when to when the station's departures leave of those from the one second to the other, both included.
+    pub(crate) fn narrowed(&self, station: StationNo, from: u64, to: u64) -> Part
+        requires end { to < 2 ^ 63 }
+        ensures from { from ≤ result.from }
+        ensures to { result.to ≤ to }
+        ensures each { (none : List Useful) → station.0 < length self.now
+            → NarrowsWindow (slice_index_or self.now station.0 none) from to result.from result.to }
+    {
+        let Some(head) = head_of(self.numbers.as_slice(), self.heads.as_slice(), station) else {
+            return Part { from, to };
+        };
+        let all = self.useful.as_slice();
+        let useful = &all[head.begin..head.end];
+        narrow(useful, &head, self.places.as_slice(), from, to)
+    }
+
+    /// The first two by what leaves the station from the one second to the other, both included, where the window is as
+    /// long as a block; else two that precede them.
+    pub(crate) fn firsts(&self, station: StationNo, from: u64, to: u64) -> FirstTwo
+        requires end { to < 2 ^ 63 }
+        ensures known { (none : List Useful) → station.0 < length self.now
+            → BoundsWindow (slice_index_or self.now station.0 none) from to result }
+        ensures other { length self.now ≤ station.0 → result ≡ unknown }
+    {
+        let Some(head) = head_of(self.numbers.as_slice(), self.heads.as_slice(), station) else {
+            return UNKNOWN;
+        };
+        let all = self.useful.as_slice();
+        let useful = &all[head.begin..head.end];
+        firsts_within(useful, &head, self.places.as_slice(), from, to)
+    }
+
+    /// Whether these two precede all that leaves the station from this second on.
+    pub(crate) fn precede_rest(&self, station: StationNo, from: u64, two: FirstTwo) -> bool
+        ensures known { result ≡ true → station.0 < length self.now }
+        ensures rest { result ≡ true → (depart rank : ℕ) (none : List Useful)
+            → IsPosted (slice_index_or self.now station.0 none) depart rank → from ≤ depart → Precede two rank }
+    {
+        let Some(head) = head_of(self.numbers.as_slice(), self.heads.as_slice(), station) else {
+            return false;
+        };
+        precede_all(two, head.best)
+            || from > head.last
+            || precede_all(two, rest_of(&head, self.rests.as_slice(), from))
+    }
+
+    /// Notes what leaves any station in these parts of the time.
+    pub(crate) fn tell_all(&self, parts: Parts, rests: &mut [FirstTwo])
+        ensures { AreAllTold self.now parts rests.new }
+    {
+        let all = self.useful.as_slice();
+        for head in self.heads.as_slice() {
+            let useful = &all[head.begin..head.end];
+            tell_board(useful, head, self.rests.as_slice(), parts, rests);
+        }
+    }
+}
+
+// The head of the station's board.
+fn head_of(numbers: &[usize], heads: &[Head], station: StationNo) -> Option<Head>
+    ensures { IfSome result (IsHeadOf numbers.now heads.now station.0) }
+{
+    let Some(number) = numbers.get(station.0 as usize) else {
+        return None;
+    };
+    match heads.get(*number) {
+        Some(head) => Some(*head),
+        None => None,
+    }
+}
+
+// The two of the first part.
+fn first_of(rests: &[FirstTwo]) -> FirstTwo
+    ensures { result ≡ slice_index_or rests.now 0 unknown }
+{
+    match rests.get(0) {
+        Some(two) => *two,
+        None => UNKNOWN,
+    }
+}
+
+// The two of the part in which the second lies.
+fn rest_of(head: &Head, rests: &[FirstTwo], seconds: u64) -> FirstTwo
+    ensures { result ≡ rest_in rests.now head.now (part_at head.now.parts seconds) }
+{
+    match rests.get(head.hints.saturating_add(head.parts.at(seconds))) {
+        Some(two) => *two,
+        None => UNKNOWN,
+    }
+}
+
+// How many departures are told of together.
+const GROUP: usize = 8;
+
+// Notes what leaves by the board in these parts of the time.
+fn tell_board(
+    useful: &[Useful],
+    head: &Head,
+    all: &[FirstTwo],
+    parts: Parts,
+    rests: &mut [FirstTwo],
+)
+    requires rises { Rises useful.now }
+    requires hinted { AreRests useful.now head.now.parts (rest_in all.now head.now) }
+    ensures kept { Keeps rests.old rests.new }
+    ensures told { AreTold useful.now parts rests.new }
+{
+    for group in 0..useful.len() / GROUP + 1 {
+        let first = group * GROUP;
+        if first < useful.len() {
+            tell_group(useful, head, all, parts, first, rests);
+        }
+    }
+}
+
+// Likewise by so many departures, from the first on: all of them are told of where the last of them leaves.
+fn tell_group(
+    useful: &[Useful],
+    head: &Head,
+    all: &[FirstTwo],
+    parts: Parts,
+    first: usize,
+    rests: &mut [FirstTwo],
+)
+    requires rises { Rises useful.now }
+    requires hinted { AreRests useful.now head.now.parts (rest_in all.now head.now) }
+    requires within { first < length useful.now }
+    ensures kept { Keeps rests.old rests.new }
+    ensures told { AreToldFrom first (first + 8) useful.now parts rests.new }
+{
+    let last = useful.len().min(first.saturating_add(GROUP)) - 1;
+    let two = rest_of(head, all, moment_at(useful, first));
+    tell(rests, parts.at(moment_at(useful, last)), two);
+}
+
+// From when to when the board's departures leave of those from the one second to the other, both included.
+fn narrow(useful: &[Useful], head: &Head, places: &[u16], from: u64, to: u64) -> Part
+    requires rises { Rises useful.now }
+    requires spanned { AreSpanned useful.now head.now.parts head.now.last }
+    requires end { to < 2 ^ 63 }
+    ensures { NarrowsWindow useful.now from to result.from result.to }
+{
+    let first = count_of(useful, head, places, from);
+    let past = count_of(useful, head, places, to + 1);
+    if past <= first {
+        return Part { from, to: 0 };
+    }
+    let earliest = useful[first];
+    let latest = useful[past - 1];
+    Part {
+        from: u64::from(earliest.moment),
+        to: u64::from(latest.moment),
+    }
+}
+
+// The first two by what leaves from the one second to the other, both included, where the window is as long as a block;
+// else two that precede them.
+fn firsts_within(useful: &[Useful], head: &Head, places: &[u16], from: u64, to: u64) -> FirstTwo
+    requires rises { Rises useful.now }
+    requires spanned { AreSpanned useful.now head.now.parts head.now.last }
+    requires end { to < 2 ^ 63 }
+    ensures { BoundsWindow useful.now from to result }
+{
+    let first = count_of(useful, head, places, from);
+    let count = count_from(useful, head, places, first, to + 1);
+    if count <= first {
+        return NONE;
+    }
+    let earliest = useful[first];
+    let latest = useful[count - 1];
+    if earliest.block == latest.block {
+        return later(earliest.onward, latest.so_far);
+    }
+    if earliest.block.saturating_add(1) == latest.block {
+        return join(earliest.onward, latest.so_far);
+    }
+    UNKNOWN
+}
+
+// How many of the departures leave before these seconds, where it may be as many as these.
+fn count_from(
+    useful: &[Useful],
+    head: &Head,
+    places: &[u16],
+    count: usize,
+    seconds: u64,
+) -> usize
+    requires rises { Rises useful.now }
+    requires spanned { AreSpanned useful.now head.now.parts head.now.last }
+    ensures within { result ≤ length useful.now }
+    ensures earlier { AllWithin (λ u. u.moment < seconds) useful.now 0 result }
+    ensures later { AllWithin (λ u. seconds ≤ u.moment) useful.now result (length useful.now) }
+{
+    if are_before(useful, count, seconds) {
+        return count;
+    }
+    count_of(useful, head, places, seconds)
+}
+
+// The same, by the board's hints.
+fn count_of(useful: &[Useful], head: &Head, places: &[u16], seconds: u64) -> usize
+    requires rises { Rises useful.now }
+    requires spanned { AreSpanned useful.now head.now.parts head.now.last }
+    ensures within { result ≤ length useful.now }
+    ensures earlier { AllWithin (λ u. u.moment < seconds) useful.now 0 result }
+    ensures later { AllWithin (λ u. seconds ≤ u.moment) useful.now result (length useful.now) }
+{
+    if seconds <= head.parts.start {
+        return 0;
+    }
+    if seconds > head.last {
+        return useful.len();
+    }
+    let count = follow(useful, hint_of(head, places, seconds), seconds);
+    if are_before(useful, count, seconds) {
+        return count;
+    }
+    count_before(useful, seconds)
+}
+
+// Where to look for these seconds.
+fn hint_of(head: &Head, places: &[u16], seconds: u64) -> u16 {
+    match places.get(head.hints.saturating_add(head.parts.at(seconds))) {
+        Some(place) => *place,
+        None => u16::MAX,
+    }
+}
+
+// How many places a hint is followed by at most.
+const MOST_STEPS: usize = 8;
+
+// The first departure from the hint on that leaves no earlier, where it isn't far.
+fn follow(useful: &[Useful], hint: u16, seconds: u64) -> usize {
+    let begin = usize::from(hint);
+    let end = useful.len().min(begin + MOST_STEPS);
+    for place in begin..end {
+        if moment_at(useful, place) >= seconds {
+            return place;
+        }
+    }
+    end
+}

@@ -1,0 +1,78 @@
+ghost use Rattle.std.specs.Prelude.{◌≡◌, ◌≤◌, ◌<◌, ◌+◌, ◌-◌, ◌/◌, ◌%◌, ◌^◌, ℕ, length, OnOk, slice_index_or};
+ghost use Rattle.trip_builder.specs.declared.board.Useful.{Useful};
+ghost use Rattle.trip_builder.specs.Bounds.{Precede, Rises};
+ghost use Rattle.trip_builder.specs.Boards.{part_at, AreTold, AreHintsOf};
+
+use crate::board::{Useful, moment_at};
+use crate::ranks::{FirstTwo, NONE};
+use crate::rests::{Parts, settle, tell};
+use std::alloc::{AllocError, Global};
+
+/// For each part of a board's time where to look for its moments, and the first two by what leaves in it or later.
+///
+/// Where to look may be wrong: who takes it looks whether it is right.
+#[derive(Drop)]
+pub(crate) struct Hints {
+    pub parts: Parts,
+    pub last: u64,
+    pub places: Vec<u16>,
+    pub rests: Vec<FirstTwo>,
+}
+
+impl Hints {
+    /// Those of no board. Takes no memory.
+    pub(crate) fn none(alloc: Global) -> Hints {
+        Hints {
+            parts: Parts { start: 0, shift: 0 },
+            last: 0,
+            places: Vec::new(alloc),
+            rests: Vec::new(alloc),
+        }
+    }
+
+    /// Makes them those of this board, with one part for two to four departures.
+    pub(crate) fn set(&mut self, useful: &[Useful]) -> Result<(), AllocError>
+        requires some { 0 < length useful.now }
+        requires rises { Rises useful.now }
+        ensures { OnOk result (AreHintsOf useful.now self.new) }
+    {
+        let last = moment_at(useful, useful.len() - 1);
+        let parts = Parts::between(moment_at(useful, 0), last, useful.len() as u64 / 2);
+        let count = parts.at(last).saturating_add(1);
+        self.parts = parts;
+        self.last = last;
+        self.places.clear();
+        self.places.resize(count, u16::MAX)?;
+        self.rests.clear();
+        self.rests.resize(count, NONE)?;
+        note_all(useful, parts, self.places.as_mut_slice(), self.rests.as_mut_slice());
+        settle(self.rests.as_mut_slice());
+        fill(self.places.as_mut_slice());
+        Ok(())
+    }
+}
+
+// Notes in each departure's part what it leads to, and the first departure of each part that has one.
+fn note_all(useful: &[Useful], parts: Parts, places: &mut [u16], rests: &mut [FirstTwo])
+    ensures { AreTold useful.now parts rests.new }
+{
+    for n in 0..useful.len() {
+        let it = useful[n];
+        let part = parts.at(u64::from(it.moment));
+        tell(rests, part, it.onward);
+        if part < places.len() {
+            places[part] = places[part].min((n % 65_536) as u16);
+        }
+    }
+}
+
+// Those of the parts that have none.
+fn fill(places: &mut [u16]) {
+    let mut next = u16::MAX;
+    let count = places.len();
+    for back in 0..count {
+        let part = count - 1 - back;
+        next = next.min(places[part]);
+        places[part] = next;
+    }
+}
