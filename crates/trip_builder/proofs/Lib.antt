@@ -10,6 +10,9 @@ pub mod Deciding
 pub mod Boarding
 pub mod Leaving
 pub mod Posting
+pub mod Resting
+pub mod Adding
+pub mod Collecting
 pub mod Bounding
 pub mod Keeping
 pub mod Outdoing

@@ -68,7 +68,12 @@ AreToldFrom from past board parts rests = (j rank : ℕ) (none : Useful) → fro
 
 -- ---- a board's hints
 
--- the two of each part precede what leaves in it or later
+-- the two of each part precede what leaves by the board in it or later
+abbrev pub AreRestsIn : List Useful → Parts → List FirstTwo → Type 0
+AreRestsIn board parts rests = (j n rank : ℕ) (none : Useful) → j < length board → n ≤ part_at parts (slice_index_or board j none).moment → n < length rests
+    → Precede (slice_index_or board j none).onward rank → Precede (slice_index_or rests n unknown) rank
+
+-- likewise, where each has its part
 abbrev pub AreRests : List Useful → Parts → (ℕ → FirstTwo) → Type 0
 AreRests board parts rest = (j n rank : ℕ) (none : Useful) → j < length board → n ≤ part_at parts (slice_index_or board j none).moment
     → Precede (slice_index_or board j none).onward rank → Precede (rest n) rank
@@ -135,6 +140,9 @@ abbrev pub AreAllTold : List (List Useful) → Parts → List FirstTwo → Type 
 AreAllTold boards parts rests = (n depart rank : ℕ) (none : List Useful) → n < length boards → IsPosted (slice_index_or boards n none) depart rank → IsTold rests (part_at parts depart) rank
 
 -- the two of each part precede what leaves any station in it or later
+abbrev pub AreAftersIn : List (List Useful) → Parts → List FirstTwo → Type 0
+AreAftersIn boards parts rests = (n depart rank m : ℕ) (none : List Useful) → n < length boards → IsPosted (slice_index_or boards n none) depart rank → m ≤ part_at parts depart → m < length rests
+    → Precede (slice_index_or rests m unknown) rank
+
 abbrev pub AreAfters : List (List Useful) → Afters → Type 0
-AreAfters boards afters = (n depart rank m : ℕ) (none : List Useful) → n < length boards → IsPosted (slice_index_or boards n none) depart rank → m ≤ part_at afters.parts depart → m < length afters.rests.items
-    → Precede (slice_index_or afters.rests.items m unknown) rank
+AreAfters boards afters = AreAftersIn boards afters.parts afters.rests.items

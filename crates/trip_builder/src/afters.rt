@@ -1,7 +1,7 @@
 ghost use Rattle.std.specs.Prelude.{◌≡◌, ◌<◌, ◌≤◌, ℕ, true, List, length, IfOk, slice_index_or};
 ghost use Rattle.trip_builder.specs.declared.board.Useful.{Useful};
 ghost use Rattle.trip_builder.specs.Bounds.{Precede, IsPosted};
-ghost use Rattle.trip_builder.specs.Boards.{AreAfters};
+ghost use Rattle.trip_builder.specs.Boards.{AreAfters, AreAftersIn};
 
 use crate::boards::Boards;
 use crate::ranks::{FirstTwo, NONE, precede_all};
@@ -30,8 +30,7 @@ impl Afters {
     {
         let parts = Parts::between(start, end, MOST_PARTS as u64);
         let mut rests = Vec::from_elem(alloc, NONE, MOST_PARTS)?;
-        boards.tell_all(parts, rests.as_mut_slice());
-        settle(rests.as_mut_slice());
+        make(boards, parts, rests.as_mut_slice());
         Ok(Afters { parts, rests })
     }
 
@@ -46,4 +45,12 @@ impl Afters {
             None => false,
         }
     }
+}
+
+// The two of each of these parts.
+fn make(boards: &Boards, parts: Parts, rests: &mut [FirstTwo])
+    ensures { AreAftersIn boards.now parts rests.new }
+{
+    boards.tell_all(parts, rests);
+    settle(rests);
 }

@@ -1,4 +1,4 @@
-ghost use Rattle.std.specs.Prelude.{◌≡◌, ◌<◌, ◌≤◌, ◌++◌, ◌∷◌, ◌^◌, ℕ, true, List, [], length, All, IfOk, OnOk, slice_index_or};
+ghost use Rattle.std.specs.Prelude.{◌≡◌, ◌<◌, ◌≤◌, ◌+◌, ◌++◌, ◌∷◌, ◌^◌, ℕ, true, List, [], length, IfOk, OnOk, slice_index_or};
 ghost use Rattle.std.specs.List.{AllWithin};
 ghost use Rattle.std.specs.Option.{IfSome};
 ghost use Rattle.trip_builder.specs.declared.board.Useful.{Useful};
@@ -216,9 +216,13 @@ impl Boards {
         let Some(head) = head_of(self.numbers.as_slice(), self.heads.as_slice(), station) else {
             return false;
         };
-        precede_all(two, head.best)
-            || from > head.last
-            || precede_all(two, rest_of(&head, self.rests.as_slice(), from))
+        if precede_all(two, head.best) {
+            return true;
+        }
+        if from > head.last {
+            return true;
+        }
+        precede_all(two, rest_of(&head, self.rests.as_slice(), from))
     }
 
     /// Notes what leaves any station in these parts of the time.
@@ -305,7 +309,7 @@ fn tell_group(
     ensures kept { Keeps rests.old rests.new }
     ensures told { AreToldFrom first (first + 8) useful.now parts rests.new }
 {
-    let last = useful.len().min(first.saturating_add(GROUP)) - 1;
+    let last = first + (useful.len() - first).min(GROUP) - 1;
     let two = rest_of(head, all, moment_at(useful, first));
     tell(rests, parts.at(moment_at(useful, last)), two);
 }

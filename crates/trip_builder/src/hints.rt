@@ -1,7 +1,7 @@
 ghost use Rattle.std.specs.Prelude.{◌≡◌, ◌≤◌, ◌<◌, ◌+◌, ◌-◌, ◌/◌, ◌%◌, ◌^◌, ℕ, length, OnOk, slice_index_or};
 ghost use Rattle.trip_builder.specs.declared.board.Useful.{Useful};
 ghost use Rattle.trip_builder.specs.Bounds.{Precede, Rises};
-ghost use Rattle.trip_builder.specs.Boards.{part_at, AreTold, AreHintsOf};
+ghost use Rattle.trip_builder.specs.Boards.{AreTold, AreRestsIn, AreHintsOf};
 
 use crate::board::{Useful, moment_at};
 use crate::ranks::{FirstTwo, NONE};
@@ -45,11 +45,18 @@ impl Hints {
         self.places.resize(count, u16::MAX)?;
         self.rests.clear();
         self.rests.resize(count, NONE)?;
-        note_all(useful, parts, self.places.as_mut_slice(), self.rests.as_mut_slice());
-        settle(self.rests.as_mut_slice());
-        fill(self.places.as_mut_slice());
+        make(useful, parts, self.places.as_mut_slice(), self.rests.as_mut_slice());
         Ok(())
     }
+}
+
+// The hints of the board in these parts.
+fn make(useful: &[Useful], parts: Parts, places: &mut [u16], rests: &mut [FirstTwo])
+    ensures { AreRestsIn useful.now parts rests.new }
+{
+    note_all(useful, parts, places, rests);
+    settle(rests);
+    fill(places);
 }
 
 // Notes in each departure's part what it leads to, and the first departure of each part that has one.
