@@ -32,15 +32,15 @@ behind_post ds board new index moment least order fits at has behind k none low 
     by_place : (j < length board) ⊎ (length board ≤ j) → (get_or new j u).moment ≤ (get_or ds k none).moment
     by_place (inl less) =
         let same : (get_or new j u).moment ≡ (get_or board j u).moment =
-            ap (λ (l : List Useful). (get_or l j u).moment) has.is ∙ ap (λ (x : Useful). x.moment) (get_or_append_left board (has.it ∷ []) u j less) in
+        ap (λ (l : List Useful). (get_or l j u).moment) has.is ∙ ap (λ (x : Useful). x.moment) (get_or_append_left board (has.it ∷ []) u j less) in
         let old = behind k none (omega (arith, low)) high j u less in
         omega (arith, same, old)
     by_place (inr past) =
         let count : length new ≡ length board + 1 = ap (λ (l : List Useful). length l) has.is ∙ length-append board (has.it ∷ []) in
         let here : j ≡ length board = omega (arith, past, below, count) in
         let same : (get_or new j u).moment ≡ moment =
-            ap (λ (l : List Useful). (get_or l j u).moment) has.is
-            ∙ (ap (λ n. (get_or (board ++ has.it ∷ []) n u).moment) here ∙ (ap (λ (x : Useful). x.moment) (get_or-append_seam board has.it [] u) ∙ has.moment_is)) in
+        ap (λ (l : List Useful). (get_or l j u).moment) has.is
+        ∙ (ap (λ n. (get_or (board ++ has.it ∷ []) n u).moment) here ∙ (ap (λ (x : Useful). x.moment) (get_or-append_seam board has.it [] u) ∙ has.moment_is)) in
         let rise = order index k none (omega (arith, low)) high in
         let first : (get_or ds index none).moment ≡ moment = ap (λ (x : Departure). x.moment) (get_or_default ds index none no_departure fits) ∙ sym at in
         omega (arith, same, rise, first)

@@ -7,7 +7,7 @@ use Rattle.trip_builder.specs.declared.boards.Head.{Head}
 use Rattle.trip_builder.specs.declared.ranks.FirstTwo.{FirstTwo}
 use Rattle.trip_builder.specs.declared.rests.Parts.{Parts}
 use Rattle.trip_builder.specs.Bounds.{unknown, Precede, Rises, IsPosted, HasBest}
-use Rattle.trip_builder.specs.Boards.{part_at, Keeps, IsTold, AreTold, AreAllTold, AreRests, AreHints, rest_in, no_head, board_of, board_at, boards_at, IsHead, AreHeads, IsHeadOf}
+use Rattle.trip_builder.specs.Boards.{part_at, Keeps, IsTold, AreTold, AreAllTold, AreHints, rest_in, no_head, board_of, board_at, boards_at, IsHead, AreHeads, IsHeadOf}
 use Rattle.trip_builder.proofs.Resting.{nothing, part_up, told_kept}
 
 -- ---- a part of a longer list
@@ -61,14 +61,14 @@ head_new useful board rests own h begin end hints best rises hinted =
       ends = omega (arith, end);
       rises = subst Rises (sym same) rises;
       hinted = subst (λ (b : List Useful). AreHints b h.parts h.last (length (rests ++ own) - h.hints) (rest_in (rests ++ own) h)) (sym same)
-      (record {
-        spanned = hinted.spanned;
-        few = λ j none inside. (let low = hinted.few j none inside in omega (arith, low, long, hints));
-        rests = λ j n rank none inside low has.
-            subst (λ (x : FirstTwo). Precede x rank) (sym (ap (λ m. get_or (rests ++ own) (m + n) unknown) hints ∙ get_or-append-add rests own n unknown)) (hinted.rests j n rank none inside low has);
-      });
+          (record {
+            spanned = hinted.spanned;
+            few = λ j none inside. (let low = hinted.few j none inside in omega (arith, low, long, hints));
+            rests = λ j n rank none inside low has.
+                subst (λ (x : FirstTwo). Precede x rank) (sym (ap (λ m. get_or (rests ++ own) (m + n) unknown) hints ∙ get_or-append-add rests own n unknown)) (hinted.rests j n rank none inside low has);
+          });
       best_is = subst (λ (b : List Useful). HasBest b h.best) (sym same)
-      (λ k rank none inside has. subst (λ (x : FirstTwo). Precede x rank) (sym best) (hinted.rests k 0 rank none inside (omega arith) has));
+          (λ k rank none inside has. subst (λ (x : FirstTwo). Precede x rank) (sym best) (hinted.rests k 0 rank none inside (omega arith) has));
     }
 
 -- ---- all heads
@@ -203,9 +203,9 @@ heads_told heads seen useful all parts old new index zero as_heads as_useful ins
     by_place (inr past) =
         let here : k ≡ index = omega (arith, high, past) in
         let same : board_of all (get_or seen index zero) ≡ board_of useful (get_or heads k no_head) =
-            ap (λ (l : List Useful). board_of l (get_or seen index zero)) as_useful
-            ∙ (ap (λ (l : List Head). board_of useful (get_or l index zero)) as_heads
-            ∙ (ap (board_of useful) (get_or_default heads index zero no_head (omega (arith, inside, count))) ∙ ap (λ m. board_of useful (get_or heads m no_head)) (sym here))) in
+        ap (λ (l : List Useful). board_of l (get_or seen index zero)) as_useful
+        ∙ (ap (λ (l : List Head). board_of useful (get_or l index zero)) as_heads
+        ∙ (ap (board_of useful) (get_or_default heads index zero no_head (omega (arith, inside, count))) ∙ ap (λ m. board_of useful (get_or heads m no_head)) (sym here))) in
         subst (λ (b : List Useful). AreTold b parts new) same own
 
 -- by each head, what leaves any station

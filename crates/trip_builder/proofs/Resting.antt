@@ -1,5 +1,5 @@
 -- Parts of the time: what is told in one of them, and what each knows of the later ones.
-use Rattle.std.proofs.Common.{◌≡◌, ◌∙◌, ℕ, ◌+◌, ◌-◌, ◌*◌, ◌/◌, ◌%◌, ◌^◌, ◌<◌, ◌≤◌, ◌⊎◌, inl, inr, min, List, length, refl, sym, ap, subst, arith, get_or, set, length-set}
+use Rattle.std.proofs.Common.{◌≡◌, ◌∙◌, ℕ, ◌+◌, ◌-◌, ◌/◌, ◌%◌, ◌^◌, ◌<◌, ◌≤◌, ◌⊎◌, inl, inr, min, List, length, refl, sym, ap, subst, arith, get_or, set, length-set}
 use Rattle.std.proofs.Math.Nat.{div-mul-le_self}
 use Rattle.std.proofs.lemmas.Bool.{cases_lt, cases_eq}
 use Rattle.std.proofs.lemmas.List.{get_or_default, get_or-set_same, get_or-set_other}
@@ -8,7 +8,7 @@ use Rattle.trip_builder.specs.declared.board.Useful.{Useful}
 use Rattle.trip_builder.specs.declared.ranks.FirstTwo.{FirstTwo}
 use Rattle.trip_builder.specs.declared.rests.Parts.{Parts}
 use Rattle.trip_builder.specs.Bounds.{unknown, Precede, Rises}
-use Rattle.trip_builder.specs.Boards.{part_at, Keeps, IsAhead, IsTold, AreSettled, AreTold, AreToldFrom, AreRestsIn, AreHints}
+use Rattle.trip_builder.specs.Boards.{part_at, Keeps, IsTold, AreSettled, AreTold, AreToldFrom, AreRestsIn, AreHints}
 
 -- what is read where a board has no place
 abbrev pub nothing : Useful

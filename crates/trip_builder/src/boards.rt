@@ -359,13 +359,7 @@ fn firsts_within(useful: &[Useful], head: &Head, places: &[u16], from: u64, to: 
 }
 
 // How many of the departures leave before these seconds, where it may be as many as these.
-fn count_from(
-    useful: &[Useful],
-    head: &Head,
-    places: &[u16],
-    count: usize,
-    seconds: u64,
-) -> usize
+fn count_from(useful: &[Useful], head: &Head, places: &[u16], count: usize, seconds: u64) -> usize
     requires rises { Rises useful.now }
     requires spanned { AreSpanned useful.now head.now.parts head.now.last }
     ensures within { result ≤ length useful.now }

@@ -45,7 +45,12 @@ impl Hints {
         self.places.resize(count, u16::MAX)?;
         self.rests.clear();
         self.rests.resize(count, NONE)?;
-        make(useful, parts, self.places.as_mut_slice(), self.rests.as_mut_slice());
+        make(
+            useful,
+            parts,
+            self.places.as_mut_slice(),
+            self.rests.as_mut_slice(),
+        );
         Ok(())
     }
 }

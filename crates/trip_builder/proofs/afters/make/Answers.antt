@@ -1,4 +1,4 @@
-use Rattle.std.proofs.Common.{◌≡◌, length, arith}
+use Rattle.std.proofs.Common.{arith}
 use Rattle.trip_builder.specs.Boards.{part_at}
 use Rattle.trip_builder.proofs.Resting.{settled_told}
 use Rattle.trip_builder.proofs.afters.make.Goals as goal

@@ -1,4 +1,4 @@
-use Rattle.std.proofs.Common.{◌≡◌, ◌∙◌, length, arith, ap, subst, get_or}
+use Rattle.std.proofs.Common.{◌≡◌, ◌∙◌, arith, ap, subst, get_or}
 use Rattle.trip_builder.specs.Boards.{IsTold, part_at}
 use Rattle.trip_builder.proofs.Resting.{nothing, told_more}
 use Rattle.trip_builder.proofs.hints.note_all.Goals as goal

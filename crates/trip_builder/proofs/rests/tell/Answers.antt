@@ -1,4 +1,4 @@
-use Rattle.std.proofs.Common.{arith, length}
+use Rattle.std.proofs.Common.{arith}
 use Rattle.trip_builder.proofs.Resting.{kept_set, told_set}
 use Rattle.trip_builder.proofs.rests.tell.Goals as goal
 

@@ -20,4 +20,4 @@ returns-in-Some c =
     let is : rest ≡ get_or rests part unknown = look.1 ∙ (get_or_default seen part rest unknown within ∙ ap (λ (l : List FirstTwo). get_or l part unknown) value) in
     λ yes boards are n depart rank none inside posted low.
     (let up : part ≤ part_at afters.parts depart = subst (λ m. m ≤ part_at afters.parts depart) (sym c.at.ensures) (part_up afters.parts c.args.seconds depart low) in
-        c.precede_all.ensures yes rank (subst (λ (x : FirstTwo). Precede x rank) (sym is) (are n depart rank part none inside posted up (omega (arith, within, size)))))
+    c.precede_all.ensures yes rank (subst (λ (x : FirstTwo). Precede x rank) (sym is) (are n depart rank part none inside posted up (omega (arith, within, size)))))

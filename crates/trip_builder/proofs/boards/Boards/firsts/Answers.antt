@@ -1,4 +1,4 @@
-use Rattle.std.proofs.Common.{◌∙◌, ◌⊎◌, inr, List, refl, sym, ap, subst, arith}
+use Rattle.std.proofs.Common.{◌∙◌, inr, List, refl, sym, ap, subst, arith}
 use Rattle.trip_builder.specs.declared.board.Useful.{Useful}
 use Rattle.trip_builder.specs.Bounds.{IsPosted}
 use Rattle.trip_builder.specs.Boards.{board_of}

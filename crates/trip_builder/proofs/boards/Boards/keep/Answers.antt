@@ -1,10 +1,10 @@
-use Rattle.std.proofs.Common.{◌≡◌, ◌∙◌, ℕ, ◌++◌, ◌∷◌, [], ◌<◌, List, length, length-append, sym, ap, subst, arith, get_or}
+use Rattle.std.proofs.Common.{◌≡◌, ◌∙◌, ℕ, ◌++◌, ◌∷◌, [], ◌<◌, List, length, sym, ap, subst, arith, get_or}
 use Rattle.std.proofs.lemmas.List.{length_push}
 use Rattle.trip_builder.specs.declared.board.Useful.{Useful}
 use Rattle.trip_builder.specs.declared.boards.Head.{Head}
 use Rattle.trip_builder.specs.declared.ranks.FirstTwo.{FirstTwo}
 use Rattle.trip_builder.specs.Bounds.{unknown}
-use Rattle.trip_builder.specs.Boards.{AreHeads, AreHints, IsHead, boards_at}
+use Rattle.trip_builder.specs.Boards.{AreHeads, boards_at}
 use Rattle.trip_builder.proofs.Collecting.{heads_kept, heads_rests, heads_more, numbers_more, head_new, boards_more}
 use Rattle.trip_builder.proofs.boards.Boards.keep.Goals as goal
 use Rattle.trip_builder.proofs.boards.Boards.keep.Goals.{In_ok-push}
@@ -44,7 +44,7 @@ with_head c =
     let begin : c.len-begin.result ≡ length i.useful.items = let ok = i.useful.ok in let is = c.len-begin.ensures in omega (arith, ok, is) in
     let before : c.len-before.result ≡ length i.rests.items = let ok = i.rests.ok in let is = c.len-before.ensures in omega (arith, ok, is) in
     let end : c.len.result ≡ length (i.useful.items ++ board) =
-        let ok = c.extend_from_slice.new.self.ok in let is = c.len.ensures in let size = ap (λ (l : List Useful). length l) useful_is in omega (arith, ok, is, size) in
+    let ok = c.extend_from_slice.new.self.ok in let is = c.len.ensures in let size = ap (λ (l : List Useful). length l) useful_is in omega (arith, ok, is, size) in
     let best : c.first_of.result ≡ get_or own 0 unknown = c.first_of.ensures ∙ ap (λ (l : List FirstTwo). get_or l 0 unknown) c.as_slice-3.ensures.value in
     let h : Head = record { begin = c.len-begin.result; end = c.len.result; hints = c.len-before.result; parts = hints.parts; last = hints.last; best = c.first_of.result } in
     subst (λ (l : List Head). AreHeads l c.extend_from_slice.new.self.items c.extend_from_slice-3.new.self.items i.numbers.items) (sym c.in_ok-push.ensures.items)
@@ -75,7 +75,7 @@ returns c =
     let useful_is : c.extend_from_slice.new.self.items ≡ i.useful.items ++ board = c.in_ok-extend_from_slice.ensures.items in
     let begin : c.len-begin.result ≡ length i.useful.items = let ok = i.useful.ok in let is = c.len-begin.ensures in omega (arith, ok, is) in
     let end : c.len.result ≡ length (i.useful.items ++ board) =
-        let ok = c.extend_from_slice.new.self.ok in let is = c.len.ensures in let size = ap (λ (l : List Useful). length l) useful_is in omega (arith, ok, is, size) in
+    let ok = c.extend_from_slice.new.self.ok in let is = c.len.ensures in let size = ap (λ (l : List Useful). length l) useful_is in omega (arith, ok, is, size) in
     let fits : number ≡ length i.heads.items = let ok = i.heads.ok in let is = c.len-number.ensures in omega (arith, ok, is) in
     let h : Head = record { begin = c.len-begin.result; end = c.len.result; hints = c.len-before.result; parts = c.args.hints.now.parts; last = c.args.hints.now.last; best = c.first_of.result } in
     ap (λ (l : List Head). boards_at l c.extend_from_slice.new.self.items c.push-2.new.self.items) c.in_ok-push.ensures.items

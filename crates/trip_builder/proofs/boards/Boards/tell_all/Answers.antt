@@ -1,4 +1,4 @@
-use Rattle.std.proofs.Common.{◌≡◌, ◌<◌, List, length, arith, ap}
+use Rattle.std.proofs.Common.{◌≡◌, List, length, arith, ap}
 use Rattle.trip_builder.specs.declared.boards.Head.{Head}
 use Rattle.trip_builder.proofs.Collecting.{head_seen, heads_told, all_told}
 use Rattle.trip_builder.proofs.boards.Boards.tell_all.Goals as goal
