@@ -182,13 +182,14 @@ impl Boards {
         ensures to { result.to ≤ to }
         ensures each { (none : List Useful) → station.0 < length self.now
             → NarrowsWindow (slice_index_or self.now station.0 none) from to result.from result.to }
+        ensures behind { length self.now ≤ station.0 → (result.from ≡ from) × (result.to ≡ to) }
     {
         let Some(head) = head_of(self.numbers.as_slice(), self.heads.as_slice(), station) else {
             return Part { from, to };
         };
         let all = self.useful.as_slice();
         let useful = &all[head.begin..head.end];
-        narrow(useful, &head, self.places.as_slice(), from, to)
+        narrow(useful, head, self.places.as_slice(), from, to)
     }
 
     /// The first two by what leaves the station from the one second to the other, both included, where the window is as
@@ -204,7 +205,7 @@ impl Boards {
         };
         let all = self.useful.as_slice();
         let useful = &all[head.begin..head.end];
-        firsts_within(useful, &head, self.places.as_slice(), from, to)
+        firsts_within(useful, head, self.places.as_slice(), from, to)
     }
 
     /// Whether these two precede all that leaves the station from this second on.
@@ -216,13 +217,13 @@ impl Boards {
         let Some(head) = head_of(self.numbers.as_slice(), self.heads.as_slice(), station) else {
             return false;
         };
-        if precede_all(two, head.best) {
-            return true;
-        }
         if from > head.last {
             return true;
         }
-        precede_all(two, rest_of(&head, self.rests.as_slice(), from))
+        if precede_all(two, head.best) {
+            return true;
+        }
+        precede_all(two, rest_of(head, self.rests.as_slice(), from))
     }
 
     /// Notes what leaves any station in these parts of the time.
@@ -238,14 +239,11 @@ impl Boards {
 }
 
 // The head of the station's board.
-fn head_of(numbers: &[usize], heads: &[Head], station: StationNo) -> Option<Head>
-    ensures { IfSome result (IsHeadOf numbers.now heads.now station.0) }
+fn head_of<'a>(numbers: &[usize], heads: &'a [Head], station: StationNo) -> Option<&'a Head>
+    ensures { IfSome result (λ h. IsHeadOf numbers.now heads.now station.0 h.now) }
 {
-    let Some(number) = numbers.get(station.0 as usize) else {
-        return None;
-    };
-    match heads.get(*number) {
-        Some(head) => Some(*head),
+    match numbers.get(station.0 as usize) {
+        Some(number) => heads.get(*number),
         None => None,
     }
 }

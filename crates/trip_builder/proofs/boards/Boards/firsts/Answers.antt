@@ -13,7 +13,7 @@ returns-in_default-clause-known c = λ none inside depart rank posted low high.
 pub returns-clause-known : goal.returns-clause-known
 returns-clause-known c =
     let i = c.self.inside in
-    let h = c.in-Some.head in
+    let h = c.in-Some.head.now in
     λ none inside depart rank posted low high.
     c.firsts_within.ensures depart rank
     (subst (λ (b : List Useful). IsPosted b depart rank)

@@ -27,7 +27,8 @@ invariant_of-self-in_err-push c =
     let i = c.self.inside in
     let board = c.args.useful.now in
     let own = c.as_slice-2.result.now in
-    subst (λ (l : List Head). AreHeads l c.extend_from_slice.new.self.items c.extend_from_slice-3.new.self.items i.numbers.items) (sym c.in_err-push.ensures.items)
+    let heads_is : c.push.new.self.items ≡ i.heads.items = c.in_err-push.ensures.items in
+    subst (λ (l : List Head). AreHeads l c.extend_from_slice.new.self.items c.extend_from_slice-3.new.self.items i.numbers.items) (sym heads_is)
     (subst (λ (l : List FirstTwo). AreHeads i.heads.items c.extend_from_slice.new.self.items l i.numbers.items) (sym c.in_ok-extend_from_slice-3.ensures.items)
     (subst (λ (l : List Useful). AreHeads i.heads.items l (i.rests.items ++ own) i.numbers.items) (sym c.in_ok-extend_from_slice.ensures.items)
     (heads_rests i.heads.items (i.useful.items ++ board) i.rests.items own i.numbers.items (heads_kept i.heads.items i.useful.items board i.rests.items i.numbers.items c.self.invariant))))

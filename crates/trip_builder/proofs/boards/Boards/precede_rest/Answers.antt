@@ -9,7 +9,7 @@ use Rattle.trip_builder.proofs.boards.Boards.precede_rest.Goals as goal
 pub returns-then-precede_all-clause-rest : goal.returns-then-precede_all-clause-rest
 returns-then-precede_all-clause-rest c =
     let i = c.self.inside in
-    let h = c.in-Some.head in
+    let h = c.in-Some.head.now in
     let of = c.in-Some.ensures in
     let is = head_there i.heads.items c.as_slice-2.result.now i.useful.items i.rests.items i.numbers.items c.as_slice.result.now c.args.station.0 h c.self.invariant c.as_slice.ensures.value c.as_slice-2.ensures.value of in
     λ yes depart rank none posted low.
@@ -20,7 +20,7 @@ returns-then-precede_all-clause-rest c =
 pub returns-then-from-head-clause-rest : goal.returns-then-from-head-clause-rest
 returns-then-from-head-clause-rest c =
     let i = c.self.inside in
-    let h = c.in-Some.head in
+    let h = c.in-Some.head.now in
     let of = c.in-Some.ensures in
     let is = head_there i.heads.items c.as_slice-2.result.now i.useful.items i.rests.items i.numbers.items c.as_slice.result.now c.args.station.0 h c.self.invariant c.as_slice.ensures.value c.as_slice-2.ensures.value of in
     λ yes depart rank none posted low.
@@ -31,7 +31,7 @@ returns-then-from-head-clause-rest c =
 pub returns-clause-rest : goal.returns-clause-rest
 returns-clause-rest c =
     let i = c.self.inside in
-    let h = c.in-Some.head in
+    let h = c.in-Some.head.now in
     let of = c.in-Some.ensures in
     let is = head_there i.heads.items c.as_slice-2.result.now i.useful.items i.rests.items i.numbers.items c.as_slice.result.now c.args.station.0 h c.self.invariant c.as_slice.ensures.value c.as_slice-2.ensures.value of in
     λ yes depart rank none posted low.
