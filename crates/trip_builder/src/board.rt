@@ -130,11 +130,15 @@ impl Board {
         ensures { (depart rank : ℕ) → IsNoted self.old depart rank → IsPosted self.new depart rank }
     {
         let count = self.useful.len();
+        if count == 0 {
+            return;
+        }
+        let mut later = self.useful[count - 1];
         for back in 1..count {
             let next = count - back;
-            let later = self.useful[next];
             let here = self.useful[next - 1];
-            self.useful[next - 1] = told(here, later);
+            later = told(here, later);
+            self.useful[next - 1] = later;
         }
     }
 
