@@ -1,6 +1,5 @@
 -- The departures after a way, and the stops that their trains come to.
-use Rattle.std.proofs.Common.{◌≡◌, ◌∙◌, ℕ, ◌<◌, ◌≤◌, ◌==◌, ◌&&◌, ◌⊎◌, inl, inr, true, false, not, List, length, refl, sym, ap, subst, arith, nat_le, get_or, eqb-true, true≢false}
-use Rattle.std.proofs.lemmas.Bool.{cases_lt}
+use Rattle.std.proofs.Common.{◌≡◌, ◌∙◌, ℕ, ◌<◌, ◌≤◌, ◌==◌, ◌&&◌, true, false, not, List, length, refl, sym, ap, subst, arith, nat_le, get_or, eqb-true, true≢false}
 use Rattle.std.proofs.lemmas.Bool.Decides.{nat_tests}
 use Rattle.std.proofs.lemmas.List.Elements.{at_read}
 use Rattle.rail_ids.specs.declared.StationNo.{StationNo}
@@ -12,12 +11,11 @@ use Rattle.train_runs.specs.declared.departure.Departure.{Departure}
 use Rattle.trip_builder.specs.declared.trip.TripWish.{TripWish}
 use Rattle.trip_builder.specs.Segments.{segment, first_stop, stops_of}
 use Rattle.trip_builder.specs.Trips.{leaves, uses_run}
-use Rattle.trip_builder.specs.Search.{leaves_after, has_run, AreLeaving, Leaves, MayTake, Rise, AllArriveBy, AreDecided, AreDecidedWith}
+use Rattle.trip_builder.specs.Search.{leaves_after, has_run, AreLeaving, Leaves, MayTake, AreDecided, AreDecidedWith}
 use Rattle.trip_builder.proofs.StrictOrder.{one_segment}
 use Rattle.trip_builder.proofs.Ways.{trip_goes_on, both_true}
 use Rattle.trip_builder.specs.Bounds.{NarrowsLeaving}
 use Rattle.trip_builder.proofs.Leaving.{is_station, leaves_there}
-use Rattle.trip_builder.proofs.Deciding.{departs_behind}
 use Rattle.trip_builder.proofs.Bounding.{trip_leads}
 
 pub used_up : (r : RunsView) (w : TripWish) (best : List (List Segment)) (way : List Segment) (more : ℕ) (s : Segment) → has_run way s.run.0 ≡ true → AreDecidedWith r w best way more s
@@ -59,20 +57,6 @@ all_covered r w best way more station part from to first last ds none leaving he
     let listed = leaving.every s.run.0 s.span.from (omega (arith, up, end)) (subst (λ (x : StationNo). leaves x first last (first_stop r s) ≡ true) (sym here) within) in
     let is : ride_of ds listed.place none s.span.to ≡ s = one_segment (ride_of ds listed.place none s.span.to) s (listed.run_is none, (listed.stop_is none, refl)) in
     subst (λ (x : Segment). AreDecidedWith r w best way more x) is (each listed.place listed.within s.span.to) rest e trip
-
--- where those from one on leave too late to come among the best
-pub late_covered : (r : RunsView) (w : TripWish) (best : List (List Segment)) (way : List Segment) (more : ℕ) (station : StationNo) (from to : ℕ) (ds : List Departure) (none : Departure) (i m : ℕ)
-    → AreLeaving r station from to ds → Rise r → AllArriveBy r best m → m ≤ (get_or ds i none).moment
-    → ((k : ℕ) → k < i → (none : Departure) (to : ℕ) → AreDecidedWith r w best way more (ride_of ds k none to))
-    → (k : ℕ) → k < length ds → (to : ℕ) → AreDecidedWith r w best way more (ride_of ds k none to)
-late_covered r w best way more station from to ds none i m leaving rise by late before k h stop = by_place (cases_lt k i)
-  where
-    by_place : (k < i) ⊎ (i ≤ k) → AreDecidedWith r w best way more (ride_of ds k none stop)
-    by_place (inl less) = before k less none stop
-    by_place (inr after) =
-        let rising = leaving.rise i k none after h in
-        let at = (leaving.each k none h).moment in
-        departs_behind r w best way more m (ride_of ds k none stop) rise by (omega (arith, late, rising, at))
 
 pub stop_is : (r : RunsView) (run to : ℕ) (stops : List Stop) (stop : Stop) → stops ≡ stops_of r run → to < length stops → stop ≡ get_or stops to stop → get_or (stops_of r run) to no_stop ≡ stop
 stop_is r run to stops stop same h is = subst (λ (xs : List Stop). get_or xs to no_stop ≡ stop) same (at_read stops (λ x. x ≡ stop) to stop h is refl no_stop)

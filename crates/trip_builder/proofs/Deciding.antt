@@ -5,11 +5,11 @@ use Rattle.std.proofs.lemmas.Bool.Decides.{nat_tests}
 use Rattle.offer_codes.specs.declared.code.Segment.{Segment}
 use Rattle.train_runs.specs.Runs.{RunsView}
 use Rattle.trip_builder.specs.declared.trip.TripWish.{TripWish}
-use Rattle.trip_builder.specs.Segments.{all_segments, first_stop, last_stop}
+use Rattle.trip_builder.specs.Segments.{all_segments, last_stop}
 use Rattle.trip_builder.specs.Order.{last_arrival, stands_before, sorted_in}
 use Rattle.trip_builder.specs.Trips.{arrives, is_trip, sets_out, all_lists, most_trips, trips_of}
 use Rattle.trip_builder.specs.Best.{IsKnown, IsAmong, AllStandBefore, AreInOrder, IsDecided, IsTrip, AreBest}
-use Rattle.trip_builder.specs.Search.{IsWay, Rise, keep, AllArriveBy, AllArriveBefore, Grows, AreDecided, AreDecidedWith}
+use Rattle.trip_builder.specs.Search.{IsWay, keep, AllArriveBy, AllArriveBefore, Grows, AreDecided, AreDecidedWith}
 use Rattle.trip_builder.proofs.StrictOrder.{three_ways, trips_strict}
 use Rattle.trip_builder.proofs.FirstSixteen.{first_sixteen, among-all, all_put, all_map, all_among, put_in_order, has_put}
 use Rattle.trip_builder.proofs.Members.{among_at, among_filter, filter_among, apart_filter}
@@ -157,18 +157,6 @@ with_further r w best way n more s is decided [] e trip = absurd (omega (arith, 
 with_further r w best way n more s is decided (x ∷ rest) e trip =
     let same : (way ++ s ∷ []) ++ x ∷ rest ≡ way ++ s ∷ x ∷ rest = append_assoc way (s ∷ []) (x ∷ rest) in
     subst (IsDecided r best) same (decided x rest (omega (arith, is, e)) (subst (IsTrip r w) (sym same) trip))
-
-pub arrives_behind : (r : RunsView) (w : TripWish) (best : List (List Segment)) (way : List Segment) (n more m : ℕ) (s : Segment) → Rise r → more ≡ suc n → AllArriveBy r best m
-    → m ≤ (last_stop r s).arrive → AreDecidedWith r w best way more s
-arrives_behind r w best way n more m s rise is by h rest e trip =
-    let next = (trip_goes_on r w way s rest trip).arrival rise in
-    behind_decided r best m (way ++ s ∷ rest) by (omega (arith, next, is, e, h))
-
-pub departs_behind : (r : RunsView) (w : TripWish) (best : List (List Segment)) (way : List Segment) (more m : ℕ) (s : Segment) → Rise r → AllArriveBy r best m
-    → m ≤ (first_stop r s).depart → AreDecidedWith r w best way more s
-departs_behind r w best way more m s rise by h rest e trip =
-    let next = (trip_goes_on r w way s rest trip).departure rise in
-    behind_decided r best m (way ++ s ∷ rest) by (omega (arith, next, h))
 
 -- no trip has a segment that there isn't
 pub not_ridden : (r : RunsView) (w : TripWish) (best : List (List Segment)) (way : List Segment) (more : ℕ) (s : Segment) → (IsKnown r s → ⊥) → AreDecidedWith r w best way more s

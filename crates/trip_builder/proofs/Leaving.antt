@@ -115,6 +115,9 @@ stop_left r station run stop further there = by_run (slice_get r.runs run) refl
         (d, (refl, (refl, is)))
 
 pub all_leave : (r : RunsView) (station : StationNo) (ds : List Departure) → AreExactly (IsDeparture r.runs station) ds → AreAllLeaving r station ds
-all_leave r station ds are run stop further there =
-    let one = stop_left r station run stop further there in
-    listed ds one.0 run stop one.1.0 one.1.1.0 ((are.members one.0).1 one.1.1.1)
+all_leave r station ds are = record {
+  moments = λ k none h. (let is = (are.members (get_or ds k none)).0 (Contains-get_or ds k none h) in
+      subst (λ (xs : List Stop). (stop_at xs (get_or ds k none).stop).depart ≡ (get_or ds k none).moment) (sym (stops_are r (get_or ds k none).run.0 is.run is.found)) is.leaves);
+  every = λ run stop further there. (let one = stop_left r station run stop further there in listed ds one.0 run stop one.1.0 one.1.1.0 ((are.members one.0).1 one.1.1.1));
+  rise = rising ds are.in_order;
+}

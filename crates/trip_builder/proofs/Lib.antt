@@ -18,4 +18,5 @@ pub mod Keeping
 pub mod Outdoing
 pub mod Calling
 pub mod Ranking
+pub mod Reaching
 pub mod Riding

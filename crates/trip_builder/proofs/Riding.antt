@@ -16,11 +16,11 @@ use Rattle.trip_builder.specs.Segments.{segment, stops_of, first_stop, last_stop
 use Rattle.trip_builder.specs.Order.{last_arrival}
 use Rattle.trip_builder.specs.Trips.{connects, change_at, longest_wait}
 use Rattle.trip_builder.specs.Best.{IsKnown, IsDecided}
-use Rattle.trip_builder.specs.Search.{Rise, AreLeaving, AreAllLeaving, AllArriveBefore, AreDecidedWith}
+use Rattle.trip_builder.specs.Search.{Rise, AreLeaving, AreAllLeaving, AllArriveBefore, AreDecidedWith, AreDecidedFrom}
 use Rattle.trip_builder.specs.Ends.{IsThere}
 use Rattle.trip_builder.specs.Bounds.{goes_to, arrival_of}
 use Rattle.trip_builder.specs.Shortest.{ride_from, AreLowered, IsRide, AreRidesTo, AreFromDepartures, AreShortest, TakesAtLeast}
-use Rattle.trip_builder.proofs.Ways.{both_true, departs_after}
+use Rattle.trip_builder.proofs.Ways.{both_true, departs_after, trip_goes_on}
 use Rattle.trip_builder.proofs.Deciding.{behind_decided}
 use Rattle.trip_builder.proofs.Bounding.{trip_leads, end_is}
 use Rattle.trip_builder.proofs.Boarding.{stop_is}
@@ -49,7 +49,7 @@ ride_taken r run from to rides stops on off seconds rise same up high is_on is_o
     let its = stops_of r run in
     let at_on : stop_at its from ≡ on = stop_is r run from stops on same (omega (arith, up, high)) is_on in
     let at_off : stop_at its to ≡ off = stop_is r run to stops off same high is_off in
-    let later : (stop_at its from).depart < (stop_at its to).arrive = rise (segment run from to) (record { rises = up; ends = subst (λ (xs : List Stop). to < length xs) same high }) in
+    let later : (stop_at its from).depart < (stop_at its to).arrive = (rise (segment run from to) (record { rises = up; ends = subst (λ (xs : List Stop). to < length xs) same high })).1 in
     let depart : (stop_at its from).depart ≡ on.depart = ap (λ (x : Stop). x.depart) at_on in
     let arrive : (stop_at its to).arrive ≡ off.arrive = ap (λ (x : Stop). x.arrive) at_off in
     let less : ride_from rides on.station.0 ≤ seconds = here (omega (arith, took, later, depart, arrive)) in
@@ -64,7 +64,7 @@ all_shortest r w ds old new leaving departures low last rise run to there high =
     by_place : (to + 1 < length (stops_of r run)) ⊎ (length (stops_of r run) ≤ to + 1) → (from : ℕ) → from < to
         → IsRide new (stop_at (stops_of r run) from).station.0 (stop_at (stops_of r run) from).depart (stop_at (stops_of r run) to).arrive
     by_place (inl further) =
-        let it = leaving run to further there in
+        let it = leaving.every run to further there in
         let none : Departure = record { moment = 0; run = record { 0 = run }; stop = to } in
         let d = get_or ds it.place none in
         let one : AreRidesTo r d.run.0 d.stop old = departures it.place none it.within in
@@ -78,7 +78,7 @@ pub none_shortest : (r : RunsView) (w : TripWish) (rides : List ℕ) → rides �
 none_shortest r w rides none rise run to there high from up =
     let on = stop_at (stops_of r run) from in
     let off = stop_at (stops_of r run) to in
-    let later : on.depart < off.arrive = rise (segment run from to) (record { rises = up; ends = high }) in
+    let later : on.depart < off.arrive = (rise (segment run from to) (record { rises = up; ends = high })).1 in
     let second : IsRide [] on.station.0 on.depart off.arrive = omega (arith, later) in
     subst (λ (l : List ℕ). IsRide l on.station.0 on.depart off.arrive) (sym none) second
 
@@ -98,12 +98,12 @@ past_rides r w rides count is each run to last there = by_place (cases_lt run co
 -- ---- how long it takes at least
 
 goes_later : (r : RunsView) (w : TripWish) (s : Segment) (rest : List Segment) → Rise r → AllByRecursion (IsKnown r) (s ∷ rest) → goes_to r w s rest ≡ true → (first_stop r s).depart < arrival_of r s rest
-goes_later r w s [] rise known goes = rise s known.0
+goes_later r w s [] rise known goes = (rise s known.0).1
 goes_later r w s (t ∷ rest) rise known goes =
     let off = last_stop r s in
     let parts = both_true (connects r off t) (goes_to r w t rest) goes in
     let after = departs_after off.arrive (change_at r off.station) (off.arrive + longest_wait) (first_stop r t).depart ((first_stop r t).station.0 == off.station.0) parts.0 in
-    let up = rise s known.0 in
+    let up = (rise s known.0).1 in
     let more = goes_later r w t rest rise known.1 parts.1 in
     omega (arith, after, up, more)
 
@@ -164,3 +164,28 @@ change_late r w best way n more seconds m s is takes late at (t ∷ rest) count 
     let after = departs_after off.arrive (change_at r off.station) (off.arrive + longest_wait) on.depart (on.station.0 == off.station.0) parts.0 in
     let low = takes t rest (omega (arith, is, count)) (record { known = leads.known.1; goes = parts.1 }) (eqb-true on.station.0 off.station.0 tests.0) in
     too_late r best way s (t ∷ rest) m late (omega (arith, low, at, after))
+
+-- a train comes to a further stop no earlier
+pub arrives_on : (r : RunsView) (run to k : ℕ) → Rise r → to ≤ k → k < length (stops_of r run) → (stop_at (stops_of r run) to).arrive ≤ (stop_at (stops_of r run) k).arrive
+arrives_on r run to k rise low inside = by_place (cases_lt to k)
+  where
+    by_place : (to < k) ⊎ (k ≤ to) → (stop_at (stops_of r run) to).arrive ≤ (stop_at (stops_of r run) k).arrive
+    by_place (inl less) = let up = rise (segment run to k) (record { rises = less; ends = inside }) in omega (arith, up.0, up.1)
+    by_place (inr past) =
+        let same : to ≡ k = omega (arith, low, past) in
+        subst (λ n. (stop_at (stops_of r run) to).arrive ≤ (stop_at (stops_of r run) n).arrive) same (omega arith)
+
+-- where the train comes too late to a stop of a change, and later still to all further ones
+pub further_late : (r : RunsView) (w : TripWish) (best : List (List Segment)) (way : List Segment) (n more m : ℕ) (d : Departure) (to : ℕ) → more ≡ suc n → Rise r → AllArriveBefore r best m
+    → m ≤ (stop_at (stops_of r d.run.0) to).arrive + 1 → ((k : ℕ) → k < to → AreDecidedWith r w best way more (segment d.run.0 d.stop k)) → AreDecidedFrom r w best way more d
+further_late r w best way n more m d to is rise late at before k rest count trip = by_place (cases_lt k to)
+  where
+    s : Segment
+    s = segment d.run.0 d.stop k
+
+    by_place : (k < to) ⊎ (to ≤ k) → IsDecided r best (way ++ s ∷ rest)
+    by_place (inl less) = before k less rest count trip
+    by_place (inr past) =
+        let known = (trip_goes_on r w way s rest trip).known in
+        let up = arrives_on r d.run.0 to k rise past known.ends in
+        change_late r w best way n more 1 m s is (takes_a_second r w n (last_stop r s).station rise) late (omega (arith, at, up)) rest count trip

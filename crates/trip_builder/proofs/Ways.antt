@@ -106,7 +106,7 @@ chain_later r rise before (x ∷ rest) e known =
     let off = last_stop r (last_of before) in
     let next = both_true (connects r off x) (not (uses_run before x)) parts.0 in
     let after = departs_after off.arrive (change_at r off.station) (off.arrive + longest_wait) (first_stop r x).depart ((first_stop r x).station.0 == off.station.0) next.0 in
-    let up = rise x known.0 in
+    let up = (rise x known.0).1 in
     let here : last_arrival r (before ++ x ∷ []) ≡ (last_stop r x).arrive = ap (λ (s : Segment). (last_stop r s).arrive) (last_is before x) in
     let whole : last_arrival r ((before ++ x ∷ []) ++ rest) ≡ last_arrival r (before ++ x ∷ rest) = ap (last_arrival r) (append_assoc before (x ∷ []) rest) in
     omega (arith, more, after, up, here, whole)
@@ -132,5 +132,5 @@ trip_goes_on r w way s rest trip =
       known = known.0;
       next = parts.0;
       arrival = arrival;
-      departure = λ rise. (let at = arrival rise in let up = rise s known.0 in omega (arith, at, up));
+      departure = λ rise. (let at = arrival rise in let up = (rise s known.0).1 in omega (arith, at, up));
     }

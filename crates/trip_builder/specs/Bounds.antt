@@ -1,5 +1,5 @@
 -- What bounds a search from behind: for each departure the earliest arrival at the destination, with so many changes.
-use Rattle.std.specs.Prelude.{◌≡◌, ◌<◌, ◌≤◌, ◌+◌, ◌-◌, ◌^◌, ◌++◌, ◌==◌, ◌&&◌, ◌⊎◌, ℕ, length, Bool, true, false, List, [], ◌∷◌, slice_index_or}
+use Rattle.std.specs.Prelude.{◌≡◌, ◌<◌, ◌≤◌, ◌+◌, ◌-◌, ◌*◌, ◌++◌, ◌==◌, ◌&&◌, ◌⊎◌, ℕ, length, nat_lt, Bool, true, false, List, [], ◌∷◌, slice_index_or, if◌then◌else◌}
 use Rattle.std.specs.List.{AllByRecursion}
 use Rattle.rail_ids.specs.declared.StationNo.{StationNo}
 use Rattle.offer_codes.specs.declared.code.Segment.{Segment}
@@ -9,6 +9,9 @@ use Rattle.trip_builder.specs.declared.trip.TripWish.{TripWish}
 use Rattle.trip_builder.specs.declared.board.Useful.{Useful}
 use Rattle.trip_builder.specs.declared.ranks.FirstTwo.{FirstTwo}
 use Rattle.trip_builder.specs.declared.ranks.Arrival.{Arrival}
+use Rattle.trip_builder.specs.declared.rides.Rides.{Rides}
+use Rattle.train_runs.specs.declared.departure.Departure.{Departure}
+use Rattle.train_runs.specs.declared.run.Stop.{Stop}
 use Rattle.trip_builder.specs.Segments.{stops_of, first_stop, last_stop}
 use Rattle.trip_builder.specs.Trips.{connects, leaves}
 use Rattle.trip_builder.specs.Best.{IsKnown}
@@ -18,10 +21,6 @@ use Rattle.trip_builder.specs.Ends.{IsThere}
 -- later than each arrival
 abbrev pub never : ℕ
 never = 18_446_744_073_709_551_615
-
--- the windows of all changes end before this moment
-abbrev pub end_of_windows : ℕ
-end_of_windows = 2 ^ 63
 
 -- ---- what goes on to the destination
 
@@ -152,46 +151,68 @@ pub record NarrowsWindow (board : List Useful) (from to first last : ℕ) : Type
 abbrev pub HasBest : List Useful → FirstTwo → Type 0
 HasBest board two = (k rank : ℕ) (none : Useful) → k < length board → Precede (slice_index_or board k none).onward rank → Precede two rank
 
--- ---- the bounds of rides and stations
+-- ---- the board of a station, by what leads to the destination
+
+-- what leaves the station and goes on with so many changes is posted, unless it comes too late
+abbrev pub IsBoardOf : RunsView → TripWish → RanksView → ℕ → ℕ → List Useful → Type 0
+IsBoardOf r w v changes station board = (s : Segment) (rest : List Segment) → length rest ≡ changes → LeadsTo r w s rest → (first_stop r s).station.0 ≡ station
+    → rank_of v s rest < v.late → IsPosted board (first_stop r s).depart (rank_of v s rest)
+
+abbrev pub AreBoards : RunsView → TripWish → RanksView → ℕ → List (List Useful) → Type 0
+AreBoards r w v changes boards = (n : ℕ) (none : List Useful) → n < length boards → IsBoardOf r w v changes n (slice_index_or boards n none)
+
+-- what leaves the station comes too late
+abbrev pub LeavesLate : RunsView → TripWish → RanksView → ℕ → ℕ → Type 0
+LeavesLate r w v changes station = (s : Segment) (rest : List Segment) → length rest ≡ changes → LeadsTo r w s rest → (first_stop r s).station.0 ≡ station → v.late ≤ rank_of v s rest
+
+-- ---- the bounds of rides
 
 abbrev pub unknown : FirstTwo
 unknown = record { first = 0; second = 0 }
 
--- for each number of a stop and each run which two come first by what leaves there
-abbrev pub firsts_in : List (List FirstTwo) → ℕ → ℕ → FirstTwo
-firsts_in rides run stop = slice_index_or (slice_index_or rides stop []) run unknown
-
--- the departures of the station that lead to the destination before that rank, by their rides
-abbrev pub IsBoardOf : RunsView → ℕ → List (List FirstTwo) → ℕ → List Useful → Type 0
-IsBoardOf r late rides station board = (run stop : ℕ) → stop + 1 < length (stops_of r run) → (stop_at (stops_of r run) stop).station.0 ≡ station
-    → (stop_at (stops_of r run) stop).depart < end_of_windows → (rank : ℕ) → Precede (firsts_in rides run stop) rank → rank < late
-    → IsPosted board (stop_at (stops_of r run) stop).depart rank
-
-abbrev pub AreBoards : RunsView → ℕ → List (List FirstTwo) → List (List Useful) → Type 0
-AreBoards r late rides boards = (n : ℕ) (none : List Useful) → n < length boards → IsBoardOf r late rides n (slice_index_or boards n none)
-
-abbrev pub AreBests : List (List Useful) → List FirstTwo → Type 0
-AreBests boards bests = (n : ℕ) (none : List Useful) → n < length boards → HasBest (slice_index_or boards n none) (slice_index_or bests n unknown)
+-- for each run and each number of a stop which two come first by what leaves there: a run's stops stand together
+abbrev pub firsts_in : Rides → ℕ → ℕ → FirstTwo
+firsts_in rides run stop = if nat_lt stop rides.width then slice_index_or rides.firsts.items (run * rides.width + stop) unknown else unknown
 
 -- the two precede what takes the run at the stop, and goes on with so many changes to the destination
 abbrev pub FirstsOfRide : RunsView → TripWish → RanksView → ℕ → ℕ → ℕ → FirstTwo → Type 0
 FirstsOfRide r w v changes run stop two = (s : Segment) (rest : List Segment) → s.run.0 ≡ run → s.span.from ≡ stop → length rest ≡ changes → LeadsTo r w s rest
     → Precede two (rank_of v s rest)
 
-abbrev pub AreRides : RunsView → TripWish → RanksView → ℕ → List (List FirstTwo) → Type 0
-AreRides r w v changes rides = (run stop : ℕ) → FirstsOfRide r w v changes run stop (firsts_in rides run stop)
+-- for each of the first so many departures the two that precede what takes it
+pub record AreFirsts (r : RunsView) (w : TripWish) (v : RanksView) (changes : ℕ) (ds : List Departure) (many : ℕ) (twos : List FirstTwo) : Type 0 where
+  pub count : length twos ≡ many
+  pub each : (k : ℕ) (d : Departure) (two : FirstTwo) → k < many → FirstsOfRide r w v changes (slice_index_or ds k d).run.0 (slice_index_or ds k d).stop (slice_index_or twos k two)
 
--- the bounds with one number of changes: of each ride, of each station's departures, and of all of them together
+-- where what takes the run comes in time, the station that it leaves is marked
+abbrev pub IsMarkedRun : RunsView → TripWish → RanksView → ℕ → ℕ → List Bool → Type 0
+IsMarkedRun r w v changes run marks = (s : Segment) (rest : List Segment) → s.run.0 ≡ run → length rest ≡ changes → LeadsTo r w s rest → rank_of v s rest < v.late
+    → slice_index_or marks (first_stop r s).station.0 true ≡ true
+
+pub record AreRides (r : RunsView) (w : TripWish) (v : RanksView) (changes : ℕ) (rides : Rides) : Type 0 where
+  pub firsts : (run stop : ℕ) → FirstsOfRide r w v changes run stop (firsts_in rides run stop)
+  pub count : length rides.done.items ≡ length r.runs
+  pub done : (run : ℕ) → slice_index_or rides.done.items run false ≡ true → IsMarkedRun r w v changes run rides.marks.items
+  pub whole : rides.all ≡ true → (run : ℕ) → IsMarkedRun r w v changes run rides.marks.items
+
+-- rides of so many runs of which nothing is known
+pub record AreUnknown (runs : ℕ) (rides : Rides) : Type 0 where
+  pub firsts : (run stop : ℕ) → firsts_in rides run stop ≡ unknown
+  pub count : length rides.done.items ≡ runs
+  pub done : (run : ℕ) → slice_index_or rides.done.items run false ≡ false
+  pub all : rides.all ≡ false
+
+-- ---- the bounds of all
+
+-- the bounds with one number of changes: of each ride, and of each station's departures
 pub record ReachView : Type 0 where
-  pub rides : List (List FirstTwo)
+  pub rides : Rides
   pub boards : List (List Useful)
-  pub bests : List FirstTwo
 
 pub record IsReach (r : RunsView) (w : TripWish) (v : RanksView) (changes : ℕ) (reach : ReachView) : Type 0 where
   pub ranks : AreRanks r w v
   pub rides : AreRides r w v changes reach.rides
-  pub boards : AreBoards r v.late reach.rides reach.boards
-  pub bests : AreBests reach.boards reach.bests
+  pub boards : AreBoards r w v changes reach.boards
 
 -- those without a change, with one, and so on
 pub record BoundsView : Type 0 where
@@ -201,13 +222,22 @@ pub record BoundsView : Type 0 where
 abbrev pub AreBounds : RunsView → TripWish → BoundsView → Type 0
 AreBounds r w b = (n : ℕ) (none : ReachView) → n < length b.levels → IsReach r w b.ranks n (slice_index_or b.levels n none)
 
--- rides of which nothing is known
-abbrev pub AreUnknown : List (List FirstTwo) → Type 0
-AreUnknown rides = (run stop : ℕ) → firsts_in rides run stop ≡ unknown
+-- for any wish: where the bounds of what goes on are its own, the rides with one change more stay right
+abbrev pub StayRides : RunsView → RanksView → ReachView → Rides → Rides → Type 0
+StayRides r v reach old new = (w : TripWish) (changes : ℕ) → IsReach r w v changes reach → AreRides r w v (changes + 1) old → AreRides r w v (changes + 1) new
 
--- the column with other two for the run, where it has that run
-abbrev pub IsPut : List FirstTwo → ℕ → FirstTwo → List FirstTwo → Type 0
-IsPut old run two new = (k : ℕ) → (slice_index_or new k unknown ≡ slice_index_or old k unknown) ⊎ ((k ≡ run) × (slice_index_or new k unknown ≡ two))
+-- likewise those without a change
+abbrev pub StayLastRides : RunsView → RanksView → Rides → Rides → Type 0
+StayLastRides r v old new = (w : TripWish) → AreRanks r w v → AreRides r w v 0 old → AreRides r w v 0 new
+
+-- the station has a board, and the two precede what leaves it from that moment on
+abbrev pub PrecedeFrom : List (List Useful) → ℕ → ℕ → FirstTwo → Type 0
+PrecedeFrom boards station from two = (station < length boards)
+    × ((depart rank : ℕ) (none : List Useful) → IsPosted (slice_index_or boards station none) depart rank → from ≤ depart → Precede two rank)
+
+-- likewise so many stations
+abbrev pub PrecedeAfter : List (List Useful) → ℕ → ℕ → FirstTwo → Type 0
+PrecedeAfter boards stations from two = (n : ℕ) → n < stations → PrecedeFrom boards n from two
 
 -- what takes the run at the stop after the way, and goes on with so many changes and a last run that the way doesn't have, arrives no earlier
 abbrev pub BoundsRide : RunsView → TripWish → ℕ → List Segment → ℕ → ℕ → ℕ → Type 0
@@ -219,21 +249,11 @@ abbrev pub BoundsLeaving : RunsView → TripWish → ℕ → List Segment → St
 BoundsLeaving r w changes way station from to bound = (s : Segment) (rest : List Segment) → length rest ≡ changes → LeadsTo r w s rest
     → leaves station from to (first_stop r s) ≡ true → has_run way (end_of s rest).run.0 ≡ false → IsBound bound (arrival_of r s rest)
 
--- the two precede it
-abbrev pub FirstsLeaving : RunsView → TripWish → RanksView → ℕ → StationNo → ℕ → ℕ → FirstTwo → Type 0
-FirstsLeaving r w v changes station from to two = (s : Segment) (rest : List Segment) → length rest ≡ changes → LeadsTo r w s rest
-    → leaves station from to (first_stop r s) ≡ true → Precede two (rank_of v s rest)
-
--- likewise what leaves the station at any moment
-abbrev pub FirstsOfStation : RunsView → TripWish → RanksView → ℕ → StationNo → FirstTwo → Type 0
-FirstsOfStation r w v changes station two = (from to : ℕ) → to < end_of_windows → FirstsLeaving r w v changes station from to two
-
 -- it leaves from the first moment to the last
 abbrev pub NarrowsLeaving : RunsView → TripWish → ℕ → StationNo → ℕ → ℕ → ℕ → ℕ → Type 0
 NarrowsLeaving r w changes station from to first last = (s : Segment) (rest : List Segment) → length rest ≡ changes → LeadsTo r w s rest
     → leaves station from to (first_stop r s) ≡ true → leaves station first last (first_stop r s) ≡ true
 
--- the two precede what gets off the run at the stop, and goes on with so many changes to the destination
-abbrev pub FirstsOfStop : RunsView → TripWish → RanksView → ℕ → ℕ → ℕ → FirstTwo → Type 0
-FirstsOfStop r w v changes run stop two = (s : Segment) (rest : List Segment) → s.run.0 ≡ run → s.span.to ≡ stop → length rest ≡ changes → LeadsTo r w s rest
-    → Precede two (rank_of v s rest)
+-- the two precede what gets off a train at this stop, and goes on with so many changes to the destination
+abbrev pub FirstsOfStop : RunsView → TripWish → RanksView → ℕ → Stop → FirstTwo → Type 0
+FirstsOfStop r w v changes off two = (s : Segment) (rest : List Segment) → last_stop r s ≡ off → length rest ≡ changes → LeadsTo r w s rest → Precede two (rank_of v s rest)

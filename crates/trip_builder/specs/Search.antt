@@ -66,9 +66,11 @@ pub record IsListed (ds : List Departure) (run stop : ℕ) : Type 0 where
   pub run_is : (none : Departure) → (slice_index_or ds place none).run.0 ≡ run
   pub stop_is : (none : Departure) → (slice_index_or ds place none).stop ≡ stop
 
--- all departures of the station, at whatever moment
-abbrev pub AreAllLeaving : RunsView → StationNo → List Departure → Type 0
-AreAllLeaving r station ds = (run stop : ℕ) → stop + 1 < length (stops_of r run) → (stop_at (stops_of r run) stop).station.0 ≡ station.0 → IsListed ds run stop
+-- all departures of the station, at whatever moment, the earlier ones first
+pub record AreAllLeaving (r : RunsView) (station : StationNo) (ds : List Departure) : Type 0 where
+  pub moments : (k : ℕ) (none : Departure) → k < length ds → (stop_at (stops_of r (slice_index_or ds k none).run.0) (slice_index_or ds k none).stop).depart ≡ (slice_index_or ds k none).moment
+  pub every : (run stop : ℕ) → stop + 1 < length (stops_of r run) → (stop_at (stops_of r run) stop).station.0 ≡ station.0 → IsListed ds run stop
+  pub rise : (j k : ℕ) (none : Departure) → j ≤ k → k < length ds → (slice_index_or ds j none).moment ≤ (slice_index_or ds k none).moment
 
 -- all departures of the station within the window, the earlier ones first
 pub record AreLeaving (r : RunsView) (station : StationNo) (from to : ℕ) (ds : List Departure) : Type 0 where
@@ -76,9 +78,13 @@ pub record AreLeaving (r : RunsView) (station : StationNo) (from to : ℕ) (ds :
   pub every : (run stop : ℕ) → stop + 1 < length (stops_of r run) → leaves station from to (stop_at (stops_of r run) stop) ≡ true → IsListed ds run stop
   pub rise : (j k : ℕ) (none : Departure) → j ≤ k → k < length ds → (slice_index_or ds j none).moment ≤ (slice_index_or ds k none).moment
 
--- each segment arrives after it departed
+-- each segment departs no earlier than its train came there, and arrives after it departed
 abbrev pub Rise : RunsView → Type 0
-Rise r = (s : Segment) → IsKnown r s → (first_stop r s).depart < (last_stop r s).arrive
+Rise r = (s : Segment) → IsKnown r s → ((first_stop r s).arrive ≤ (first_stop r s).depart) × ((first_stop r s).depart < (last_stop r s).arrive)
+
+-- each segment departs from a known station
+abbrev pub DepartFromKnown : RunsView → Type 0
+DepartFromKnown r = (s : Segment) → IsKnown r s → (first_stop r s).station.0 < length r.stations
 
 -- the best sixteen with one more
 abbrev pub keep : RunsView → TripWish → List (List Segment) → List Segment → List (List Segment)

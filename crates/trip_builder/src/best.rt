@@ -115,7 +115,6 @@ fn begins_behind(runs: &Runs, trip: &[Segment], bound: u64, begun: &[Segment], m
     requires some { (1 ≤ length trip.now) × (1 ≤ length begun.now) }
     requires few { length begun.now + more ≤ 3 }
     ensures arrival { result ≡ true → last_arrival runs.now trip.now ≤ bound }
-    ensures some { 1 ≤ length begun.now }
     ensures key { result ≡ true → BeginsBehind runs.now trip.now begun.now more }
 {
     if bound < last_stop_of(runs, trip).arrive.seconds() {

@@ -1,15 +1,17 @@
-ghost use Rattle.std.specs.Prelude.{◌≡◌, ◌<◌, ◌≤◌, ◌^◌, ℕ, true, [], length, IfOk, OnOk, slice_index_or};
+ghost use Rattle.std.specs.Prelude.{◌≡◌, ◌<◌, ◌≤◌, ◌+◌, ◌^◌, ℕ, true, [], length, IfOk, OnOk};
 ghost use Rattle.train_runs.specs.Runs.{RunsView};
-ghost use Rattle.train_runs.specs.Stops.{stop_at};
-ghost use Rattle.trip_builder.specs.Segments.{stops_of as stops_of_run};
 ghost use Rattle.trip_builder.specs.declared.trip.TripWish.{TripWish};
-ghost use Rattle.trip_builder.specs.Bounds.{RanksView, Precede, AreRanks, AreRides, AreUnknown, IsPut, IsBoardOf, AreBoards, AreBounds, BoundsRide, BoundsLeaving, NarrowsLeaving, FirstsOfRide, FirstsOfStop, FirstsOfStation, FirstsLeaving, AreBests, firsts_in, unknown, no_rank};
+ghost use Rattle.trip_builder.specs.Search.{Rise, DepartFromKnown};
 ghost use Rattle.trip_builder.specs.Ends.{AreEnds};
+ghost use Rattle.trip_builder.specs.Bounds.{RanksView, ReachView, Precede, AreRanks, AreRides, AreFirsts, AreBoards, IsReach, AreBounds, StayRides, StayLastRides, BoundsRide, BoundsLeaving, NarrowsLeaving, FirstsOfRide, FirstsOfStop, PrecedeFrom, PrecedeAfter, no_rank};
 
-use crate::board::Board;
-use crate::departures::{Window, leaving, stop_of, stops_of, window_at, window_of};
+use crate::afters::Afters;
+use crate::board::Part;
+use crate::boards::{Boards, Draft};
+use crate::departures::{Window, all_leaving, leaving, stop_of, stops_of, window_at, window_of};
 use crate::ends::Ends;
-use crate::ranks::{FirstTwo, NO_RANK, NONE, Ranks, UNKNOWN, join, precede_all};
+use crate::ranks::{FirstTwo, NO_RANK, Ranks, join};
+use crate::rides::Rides;
 use crate::trip::TripWish;
 use offer_codes::Segment;
 use rail_ids::{RunNo, StationNo};
@@ -20,61 +22,43 @@ use train_runs::{Departure, Runs, Stop};
 /// With fewer changes than this there are bounds.
 const BOUNDED_CHANGES: usize = 3;
 
-/// No window of a change ends later.
-const LAST_SECOND: u64 = 9_223_372_036_854_775_807;
-
 /// The seconds of a change's window, both ends included, where a change takes no time.
-const LONGEST_WINDOW: u64 = 14_401;
+const LONGEST_WINDOW: u32 = 14_401;
 
-/// For one number of a stop and each run, the first two that come to the destination by what takes the run there.
-#[derive(Drop)]
-struct Column {
-    firsts: Vec<FirstTwo>,
-}
-
-impl Model for Column {
-    ghost use Rattle.std.specs.Prelude.{List};
-    ghost use Rattle.trip_builder.specs.declared.ranks.FirstTwo.{FirstTwo};
-
-    ghost Value = { List FirstTwo };
-
-    ghost view = { λ c. c.firsts.items };
-}
-
-impl Column {
-    fn at(&self, run: RunNo) -> FirstTwo
-        ensures { result ≡ slice_index_or self.now run.0 unknown }
-    {
-        match self.firsts.get(run.0 as usize) {
-            Some(two) => *two,
-            None => UNKNOWN,
-        }
-    }
-
-    fn put(&mut self, run: RunNo, two: FirstTwo)
-        ensures { IsPut self.old run.0 two self.new }
-    {
-        let place = run.0 as usize;
-        if place < self.firsts.len() {
-            self.firsts[place] = two;
-        }
-    }
-}
-
-/// The bounds with one number of changes, and for each board the first two by all of its departures.
+/// The bounds with one number of changes: of each ride, of what leaves each station, and of what leaves any of them
+/// from a moment on. Without a change rides are told by the ranks.
 #[derive(Drop)]
 struct Reach {
-    rides: Vec<Column>,
-    boards: Vec<Board>,
-    bests: Vec<FirstTwo>,
+    rides: Rides,
+    boards: Boards,
+    afters: Afters,
 }
 
 impl Model for Reach {
     ghost use Rattle.trip_builder.specs.Bounds.{ReachView};
+    ghost use Rattle.trip_builder.specs.Boards.{AreAfters};
 
     ghost Value = { ReachView };
 
-    ghost view = { λ r. record { rides = r.rides.items; boards = r.boards.items; bests = r.bests.items } };
+    ghost view = { λ r. record { rides = r.rides; boards = r.boards } };
+
+    ghost invariant = { λ r. AreAfters r.boards r.afters };
+}
+
+impl Reach {
+    // Whether these two precede all that leaves the station from these seconds on.
+    fn precede_at(&self, station: StationNo, seconds: u64, two: FirstTwo) -> bool
+        ensures { result ≡ true → PrecedeFrom self.now.boards station.0 seconds two }
+    {
+        (station.0 as usize) < self.boards.count() && self.afters.precede(seconds, two)
+    }
+
+    // Whether these two precede all that leaves any of so many stations from these seconds on.
+    fn precede_after(&self, stations: u32, seconds: u64, two: FirstTwo) -> bool
+        ensures { result ≡ true → PrecedeAfter self.now.boards stations seconds two }
+    {
+        stations as usize <= self.boards.count() && self.afters.precede(seconds, two)
+    }
 }
 
 /// When what goes on from a departure arrives at the destination at the earliest: without a change, with one, with two.
@@ -148,14 +132,8 @@ impl Bounds {
         let alloc = *self.levels.allocator();
         for changes in 0..BOUNDED_CHANGES {
             let rides = rides_of(alloc, runs, wish, self)?;
-            let late = self.ranks.late();
-            let boards = boards_of(alloc, runs, rides.as_slice(), changes, late)?;
-            let bests = bests_of(alloc, boards.as_slice())?;
-            self.levels.push(Reach {
-                rides,
-                boards,
-                bests,
-            })?;
+            let reach = reach_of(alloc, runs, &self.ranks, rides, changes)?;
+            self.levels.push(reach)?;
         }
         Ok(())
     }
@@ -168,7 +146,7 @@ impl Bounds {
         let Some(reach) = self.levels.get(changes) else {
             return 0;
         };
-        let two = firsts_of(reach.rides.as_slice(), departure.run, departure.stop);
+        let two = firsts_of(&self.ranks, &reach.rides, changes, departure);
         self.ranks.arrival(two, way)
     }
 
@@ -181,49 +159,9 @@ impl Bounds {
         let Some(reach) = self.levels.get(changes) else {
             return 0;
         };
-        match reach.boards.get(window.station.0 as usize) {
-            Some(board) => {
-                let early = board.firsts(window.from, window.to);
-                let two = join(early, self.ranks.late_ones());
-                self.ranks.arrival(two, way)
-            }
-            None => 0,
-        }
-    }
-
-    // The first two by what leaves within the window and changes so often.
-    fn firsts_leaving(&self, changes: usize, window: &Window) -> FirstTwo
-        requires end { window.now.to < 2 ^ 63 }
-        ensures { (r : RunsView) (w : TripWish) → AreRanks r w self.now.ranks → AreBounds r w self.now
-            → FirstsLeaving r w self.now.ranks changes window.now.station window.now.from window.now.to result }
-    {
-        let Some(reach) = self.levels.get(changes) else {
-            return UNKNOWN;
-        };
-        match reach.boards.get(window.station.0 as usize) {
-            Some(board) => {
-                let early = board.firsts(window.from, window.to);
-                join(early, self.ranks.late_ones())
-            }
-            None => UNKNOWN,
-        }
-    }
-
-    // Whether these two precede all that leaves the station and changes so often: then none of it need be looked at.
-    fn precede_leaving(&self, changes: usize, station: StationNo, two: FirstTwo) -> bool
-        ensures { result ≡ true → (r : RunsView) (w : TripWish) → AreBounds r w self.now
-            → FirstsOfStation r w self.now.ranks changes station two }
-    {
-        let Some(reach) = self.levels.get(changes) else {
-            return false;
-        };
-        let Some(_all) = reach.boards.get(station.0 as usize) else {
-            return false;
-        };
-        let Some(best) = reach.bests.get(station.0 as usize) else {
-            return false;
-        };
-        precede_all(two, *best) && precede_all(two, self.ranks.late_ones())
+        let early = reach.boards.firsts(window.station, window.from, window.to);
+        let two = join(early, self.ranks.late_ones());
+        self.ranks.arrival(two, way)
     }
 
     /// The part of the window in which what leads to the destination with so many changes leaves.
@@ -253,10 +191,9 @@ impl Bounds {
         let Some(reach) = self.levels.get(changes) else {
             return *window;
         };
-        let Some(board) = reach.boards.get(window.station.0 as usize) else {
-            return *window;
-        };
-        let part = board.narrowed(window.from, window.to);
+        let part = reach
+            .boards
+            .narrowed(window.station, window.from, window.to);
         Window {
             station: window.station,
             from: part.from,
@@ -265,108 +202,244 @@ impl Bounds {
     }
 }
 
-// The first two of the run at the stop.
-fn firsts_of(rides: &[Column], run: RunNo, stop: u8) -> FirstTwo
-    ensures { result ≡ firsts_in rides.now run.0 stop }
+// The first two of the departure with so many changes.
+fn firsts_of(ranks: &Ranks, rides: &Rides, changes: usize, departure: &Departure) -> FirstTwo
+    ensures { (r : RunsView) (w : TripWish) → AreRanks r w ranks.now → AreRides r w ranks.now changes rides.now
+        → FirstsOfRide r w ranks.now changes departure.now.run.0 departure.now.stop result }
 {
-    match rides.get(usize::from(stop)) {
-        Some(column) => column.at(run),
-        None => UNKNOWN,
+    if changes == 0 {
+        return ranks.ride(departure.run, departure.stop);
     }
+    rides.at(departure.run, departure.stop)
 }
 
-// Those of all rides with one change more: with the most changes, of the runs that leave the origin.
+// ---- the departures of each station
+
+// The bounds with so many changes, by the rides with as many.
+fn reach_of(
+    alloc: Global,
+    runs: &Runs,
+    ranks: &Ranks,
+    rides: Rides,
+    changes: usize,
+) -> Result<Reach, AllocError>
+    ensures { IfOk result (λ reach. (w : TripWish) → AreRanks runs.now w ranks.now
+        → AreRides runs.now w ranks.now changes rides → IsReach runs.now w ranks.now changes reach) }
+{
+    let boards = boards_of(alloc, runs, ranks, &rides, changes)?;
+    let times = times_of(runs);
+    let afters = Afters::of(alloc, &boards, times.from, times.to)?;
+    Ok(Reach {
+        rides,
+        boards,
+        afters,
+    })
+}
+
+// The departures of each station that lead to the destination in time: no boards where no further change is bounded by
+// them.
+fn boards_of(
+    alloc: Global,
+    runs: &Runs,
+    ranks: &Ranks,
+    rides: &Rides,
+    changes: usize,
+) -> Result<Boards, AllocError>
+    ensures { IfOk result (λ boards. (w : TripWish) → AreRanks runs.now w ranks.now
+        → AreRides runs.now w ranks.now changes rides.now → AreBoards runs.now w ranks.now changes boards) }
+{
+    if changes >= BOUNDED_CHANGES - 1 {
+        return Ok(Draft::new(alloc, 0, 0)?.finish());
+    }
+    let count = runs.station_count();
+    let mut draft = Draft::new(alloc, count as usize, departures_of(runs))?;
+    let mut twos = Vec::new(alloc);
+    for station in 0..count {
+        if rides.is_marked(StationNo(station)) {
+            let departures = all_leaving(runs, StationNo(station));
+            gather(ranks, rides, changes, departures, &mut twos)?;
+            let seconds = block_of(runs, StationNo(station));
+            draft.add(departures, twos.as_slice(), ranks.late(), seconds)?;
+        } else {
+            draft.skip()?;
+        }
+    }
+    Ok(draft.finish())
+}
+
+// How many seconds the longest window of a change at the station has.
+fn block_of(runs: &Runs, station: StationNo) -> u32 {
+    LONGEST_WINDOW.saturating_sub(runs.change(station).unwrap_or(0))
+}
+
+// The first two of each of the departures. They are read one after the other, without a look at what they are, so that
+// memory is waited for less.
+fn gather(
+    ranks: &Ranks,
+    rides: &Rides,
+    changes: usize,
+    departures: &[Departure],
+    twos: &mut Vec<FirstTwo>,
+) -> Result<(), AllocError>
+    ensures { OnOk result ((r : RunsView) (w : TripWish) → AreRanks r w ranks.now
+        → AreRides r w ranks.now changes rides.now
+        → AreFirsts r w ranks.now changes departures.now (length departures.now) twos.new.items) }
+{
+    twos.clear();
+    if changes == 0 {
+        return gather_last(ranks, departures, twos);
+    }
+    gather_rides(rides, departures, twos)
+}
+
+// Those without a change.
+fn gather_last(
+    ranks: &Ranks,
+    departures: &[Departure],
+    twos: &mut Vec<FirstTwo>,
+) -> Result<(), AllocError>
+    requires none { twos.old.items ≡ [] }
+    ensures { OnOk result ((r : RunsView) (w : TripWish) → AreRanks r w ranks.now
+        → AreFirsts r w ranks.now 0 departures.now (length departures.now) twos.new.items) }
+{
+    for departure in departures {
+        twos.push(ranks.ride(departure.run, departure.stop))?;
+    }
+    Ok(())
+}
+
+// Those of the rides.
+fn gather_rides(
+    rides: &Rides,
+    departures: &[Departure],
+    twos: &mut Vec<FirstTwo>,
+) -> Result<(), AllocError>
+    requires none { twos.old.items ≡ [] }
+    ensures { OnOk result ((r : RunsView) (w : TripWish) (v : RanksView) (changes : ℕ)
+        → AreRides r w v changes rides.now
+        → AreFirsts r w v changes departures.now (length departures.now) twos.new.items) }
+{
+    for departure in departures {
+        twos.push(rides.at(departure.run, departure.stop))?;
+    }
+    Ok(())
+}
+
+// How many departures there are.
+fn departures_of(runs: &Runs) -> usize {
+    let mut count: usize = 0;
+    for run in 0..runs.count() {
+        let stops = stops_of(runs, RunNo(run)).len();
+        count = count.saturating_add(stops.saturating_sub(1));
+    }
+    count
+}
+
+// When the first run begins and the last one ends.
+fn times_of(runs: &Runs) -> Part {
+    let mut times = Part {
+        from: u64::MAX,
+        to: 0,
+    };
+    for run in 0..runs.count() {
+        let stops = stops_of(runs, RunNo(run));
+        if !stops.is_empty() {
+            times.from = times.from.min(stops[0].depart.seconds());
+            times.to = times.to.max(stops[stops.len() - 1].arrive.seconds());
+        }
+    }
+    times
+}
+
+// ---- the rides
+
+// Those of all rides with one change more: with the most changes, of what leaves the origin.
 fn rides_of(
     alloc: Global,
     runs: &Runs,
     wish: &TripWish,
     bounds: &Bounds,
-) -> Result<Vec<Column>, AllocError>
+) -> Result<Rides, AllocError>
     requires ranks { AreRanks runs.now wish.now bounds.now.ranks }
     requires bounds { AreBounds runs.now wish.now bounds.now }
-    ensures { IfOk result (λ v. AreRides runs.now wish.now bounds.now.ranks (length bounds.now.levels) v.items) }
+    ensures { IfOk result (AreRides runs.now wish.now bounds.now.ranks (length bounds.now.levels)) }
 {
-    if bounds.count() == 0 {
-        return last_rides(alloc, runs, wish, bounds);
+    let count = bounds.count();
+    if count == 0 {
+        return last_rides(alloc, runs, &bounds.ranks);
     }
-    if bounds.count() < BOUNDED_CHANGES - 1 {
-        let firsts = first_departures(alloc, runs)?;
-        let stops = most_stops_of(runs);
-        return rides_from(alloc, runs, wish, bounds, firsts.as_slice(), stops);
+    let reach = &bounds.levels[count - 1];
+    if count < BOUNDED_CHANGES - 1 {
+        return all_rides(alloc, runs, &bounds.ranks, reach);
     }
     let firsts = leaving(runs, window_of(runs, wish, &[]));
-    let stops = past_stops_of(firsts);
-    rides_from(alloc, runs, wish, bounds, firsts, stops)
+    first_rides(alloc, runs, &bounds.ranks, reach, firsts)
 }
 
-// Those without a change.
-fn last_rides(
-    alloc: Global,
-    runs: &Runs,
-    wish: &TripWish,
-    bounds: &Bounds,
-) -> Result<Vec<Column>, AllocError>
-    requires ranks { AreRanks runs.now wish.now bounds.now.ranks }
-    requires none { length bounds.now.levels ≡ 0 }
-    ensures { IfOk result (λ v. AreRides runs.now wish.now bounds.now.ranks (length bounds.now.levels) v.items) }
+// Those without a change: the stations that something leaves in time.
+fn last_rides(alloc: Global, runs: &Runs, ranks: &Ranks) -> Result<Rides, AllocError>
+    ensures { IfOk result (λ rides. (w : TripWish) → AreRanks runs.now w ranks.now
+        → AreRides runs.now w ranks.now 0 rides) }
 {
-    let mut rides = unknown_rides(alloc, runs, most_stops_of(runs))?;
-    end_each(runs, wish, bounds, rides.as_mut_slice());
+    let mut rides = Rides::unknown(alloc, runs, 0, runs.station_count() as usize)?;
+    mark_each(runs, ranks, &mut rides);
+    rides.end();
     Ok(rides)
 }
 
-// Bounds the rides of all runs without a change.
-fn end_each(runs: &Runs, wish: &TripWish, bounds: &Bounds, rides: &mut [Column])
-    requires ranks { AreRanks runs.now wish.now bounds.now.ranks }
-    requires none { length bounds.now.levels ≡ 0 }
-    requires rides { AreRides runs.now wish.now bounds.now.ranks (length bounds.now.levels) rides.old }
-    ensures { AreRides runs.now wish.now bounds.now.ranks (length bounds.now.levels) rides.new }
+// Marks the stations from which a run goes straight to the destination in time.
+fn mark_each(runs: &Runs, ranks: &Ranks, rides: &mut Rides)
+    ensures { StayLastRides runs.now ranks.now rides.old rides.new }
 {
     for run in 0..runs.count() {
-        end_run(runs, wish, bounds, RunNo(run), rides);
+        mark_run(runs, ranks, RunNo(run), rides);
     }
 }
 
-// Those of the run.
-fn end_run(runs: &Runs, wish: &TripWish, bounds: &Bounds, run: RunNo, rides: &mut [Column])
-    requires ranks { AreRanks runs.now wish.now bounds.now.ranks }
-    requires none { length bounds.now.levels ≡ 0 }
-    requires rides { AreRides runs.now wish.now bounds.now.ranks (length bounds.now.levels) rides.old }
-    ensures { AreRides runs.now wish.now bounds.now.ranks (length bounds.now.levels) rides.new }
+// Those of one run.
+fn mark_run(runs: &Runs, ranks: &Ranks, run: RunNo, rides: &mut Rides)
+    ensures { StayLastRides runs.now ranks.now rides.old rides.new }
 {
-    for stop in 0..stops_of(runs, run).len() {
-        put(rides, stop, run, bounds.ranks.ride(run, stop as u8));
+    let stops = stops_of(runs, run);
+    let count = usize::from(ranks.stop_of(run)).min(stops.len());
+    for stop in 0..count {
+        rides.mark(stops[stop].station);
     }
+    rides.end_run(run);
 }
 
-// Those with so many changes and one, of the runs of these departures, from there on: at so many stops.
-fn rides_from(
-    alloc: Global,
-    runs: &Runs,
-    wish: &TripWish,
-    bounds: &Bounds,
-    departures: &[Departure],
-    stops: usize,
-) -> Result<Vec<Column>, AllocError>
-    requires some { 1 ≤ length bounds.now.levels }
-    requires ranks { AreRanks runs.now wish.now bounds.now.ranks }
-    requires bounds { AreBounds runs.now wish.now bounds.now }
-    ensures { IfOk result (λ v. AreRides runs.now wish.now bounds.now.ranks (length bounds.now.levels) v.items) }
+// Those of all runs.
+fn all_rides(alloc: Global, runs: &Runs, ranks: &Ranks, reach: &Reach) -> Result<Rides, AllocError>
+    ensures { IfOk result (λ rides. (w : TripWish) (changes : ℕ) → IsReach runs.now w ranks.now changes reach.now
+        → AreRides runs.now w ranks.now (changes + 1) rides) }
 {
-    let mut rides = unknown_rides(alloc, runs, stops)?;
-    bound_each(runs, wish, bounds, departures, rides.as_mut_slice());
+    let mut rides = Rides::unknown(
+        alloc,
+        runs,
+        most_stops_of(runs),
+        runs.station_count() as usize,
+    )?;
+    let firsts = first_departures(alloc, runs)?;
+    bound_each(runs, ranks, reach, firsts.as_slice(), &mut rides);
+    rides.end();
     Ok(rides)
 }
 
-// Nothing is known of the rides from the first so many stops of each run.
-fn unknown_rides(alloc: Global, runs: &Runs, stops: usize) -> Result<Vec<Column>, AllocError>
-    ensures { IfOk result (λ v. AreUnknown v.items) }
+// Those of these departures alone.
+fn first_rides(
+    alloc: Global,
+    runs: &Runs,
+    ranks: &Ranks,
+    reach: &Reach,
+    departures: &[Departure],
+) -> Result<Rides, AllocError>
+    requires rise { Rise runs.now }
+    requires known { DepartFromKnown runs.now }
+    ensures { IfOk result (λ rides. (w : TripWish) (changes : ℕ) → IsReach runs.now w ranks.now changes reach.now
+        → AreRides runs.now w ranks.now (changes + 1) rides) }
 {
-    let mut rides = Vec::new(alloc);
-    for _ in 0..stops {
-        let firsts = Vec::from_elem(alloc, UNKNOWN, runs.count() as usize)?;
-        rides.push(Column { firsts })?;
-    }
+    let mut rides = Rides::unknown(alloc, runs, past_stops_of(departures), 0)?;
+    board_each(runs, ranks, reach, departures, &mut rides);
     Ok(rides)
 }
 
@@ -388,187 +461,124 @@ fn first_departures(alloc: Global, runs: &Runs) -> Result<Vec<Departure>, AllocE
 }
 
 // How many stops a run has at most.
-fn most_stops_of(runs: &Runs) -> usize {
+fn most_stops_of(runs: &Runs) -> u8 {
     let mut most = 0;
     for run in 0..runs.count() {
-        most = most.max(stops_of(runs, RunNo(run)).len());
+        most = most.max(stops_of(runs, RunNo(run)).len() as u8);
     }
     most
 }
 
 // The first number of a stop that comes after those of these departures.
-fn past_stops_of(departures: &[Departure]) -> usize {
-    let mut past = 0;
+fn past_stops_of(departures: &[Departure]) -> u8 {
+    let mut past: u8 = 0;
     for departure in departures {
-        past = past.max(usize::from(departure.stop) + 1);
+        past = past.max(departure.stop.saturating_add(1));
     }
     past
 }
 
-// Bounds the rides of the runs of these departures, from there on.
+// Bounds the rides of these runs.
 fn bound_each(
     runs: &Runs,
-    wish: &TripWish,
-    bounds: &Bounds,
+    ranks: &Ranks,
+    reach: &Reach,
     departures: &[Departure],
-    rides: &mut [Column],
+    rides: &mut Rides,
 )
-    requires some { 1 ≤ length bounds.now.levels }
-    requires ranks { AreRanks runs.now wish.now bounds.now.ranks }
-    requires bounds { AreBounds runs.now wish.now bounds.now }
-    requires rides { AreRides runs.now wish.now bounds.now.ranks (length bounds.now.levels) rides.old }
-    ensures { AreRides runs.now wish.now bounds.now.ranks (length bounds.now.levels) rides.new }
+    ensures { StayRides runs.now ranks.now reach.now rides.old rides.new }
 {
     for departure in departures {
-        bound_run(runs, wish, bounds, departure, rides);
+        bound_run(runs, ranks, reach, departure.run, rides);
     }
 }
 
-// For each stop of the run from the departure on, the first two by what gets off further on. A run's stops stand
-// together, and what is asked of a station's board is few numbers.
-fn bound_run(
-    runs: &Runs,
-    wish: &TripWish,
-    bounds: &Bounds,
-    departure: &Departure,
-    rides: &mut [Column],
-)
-    requires some { 1 ≤ length bounds.now.levels }
-    requires ranks { AreRanks runs.now wish.now bounds.now.ranks }
-    requires bounds { AreBounds runs.now wish.now bounds.now }
-    requires rides { AreRides runs.now wish.now bounds.now.ranks (length bounds.now.levels) rides.old }
-    ensures { AreRides runs.now wish.now bounds.now.ranks (length bounds.now.levels) rides.new }
+// For each stop of the run, the first two by what gets off further on. A run's stops stand together, and what is asked
+// of a station's board is few numbers.
+fn bound_run(runs: &Runs, ranks: &Ranks, reach: &Reach, run: RunNo, rides: &mut Rides)
+    ensures { StayRides runs.now ranks.now reach.now rides.old rides.new }
 {
-    let run = departure.run;
     let stops = stops_of(runs, run);
     let count = stops.len();
-    let needed = count.saturating_sub(usize::from(departure.stop));
-    let mut firsts = NONE;
-    for back in 0..needed {
+    let late = ranks.late();
+    let mut firsts = ranks.late_ones();
+    for back in 0..count {
         let stop = count - 1 - back;
-        put(rides, stop, run, firsts);
-        firsts = firsts_with(runs, bounds, run, stop as u8, &stops[stop], firsts);
+        let off = &stops[stop];
+        rides.note(run, stop as u8, off.station, firsts, late);
+        firsts = firsts_with(runs, reach, off, firsts);
     }
+    rides.end_run(run);
 }
 
-// Notes the first two of the run at the stop.
-fn put(rides: &mut [Column], stop: usize, run: RunNo, firsts: FirstTwo)
-    ensures { (r : RunsView) (w : TripWish) (v : RanksView) (changes : ℕ) → AreRides r w v changes rides.old
-        → FirstsOfRide r w v changes run.0 stop firsts → AreRides r w v changes rides.new }
-{
-    if stop < rides.len() {
-        rides[stop].put(run, firsts);
-    }
-}
-
-// These two, and the first two of what gets off the run at the stop of this number, with one change more. A run that has
-// the first ones already, as it soon has where few come to the destination, asks no board for a window.
-fn firsts_with(
+// Bounds the rides of these departures alone.
+fn board_each(
     runs: &Runs,
-    bounds: &Bounds,
-    run: RunNo,
-    stop: u8,
-    off: &Stop,
-    firsts: FirstTwo,
-) -> FirstTwo
-    requires off { off.now ≡ stop_at (stops_of_run runs.now run.0) stop }
-    requires some { 1 ≤ length bounds.now.levels }
-    ensures further { (rank : ℕ) → Precede firsts rank → Precede result rank }
-    ensures own { (w : TripWish) → AreRanks runs.now w bounds.now.ranks → AreBounds runs.now w bounds.now
-        → FirstsOfStop runs.now w bounds.now.ranks (length bounds.now.levels) run.0 stop result }
+    ranks: &Ranks,
+    reach: &Reach,
+    departures: &[Departure],
+    rides: &mut Rides,
+)
+    requires rise { Rise runs.now }
+    requires known { DepartFromKnown runs.now }
+    ensures { StayRides runs.now ranks.now reach.now rides.old rides.new }
 {
-    let changes = bounds.count() - 1;
-    let window = window_at(runs, off);
-    if bounds.precede_leaving(changes, window.station, firsts) {
+    for departure in departures {
+        let firsts = firsts_after(runs, ranks, reach, departure);
+        rides.put(departure.run, departure.stop, firsts);
+    }
+}
+
+// The first two by what gets off further on, from the next stop on until nothing leaves any more that comes before
+// them.
+fn firsts_after(runs: &Runs, ranks: &Ranks, reach: &Reach, departure: &Departure) -> FirstTwo
+    requires rise { Rise runs.now }
+    requires known { DepartFromKnown runs.now }
+    ensures { (w : TripWish) (changes : ℕ) → IsReach runs.now w ranks.now changes reach.now
+        → FirstsOfRide runs.now w ranks.now (changes + 1) departure.now.run.0 departure.now.stop result }
+{
+    let stops = stops_of(runs, departure.run);
+    let stations = runs.station_count();
+    let mut firsts = ranks.late_ones();
+    for stop in usize::from(departure.stop) + 1..stops.len() {
+        let off = &stops[stop];
+        if reach.precede_after(stations, off.arrive.seconds(), firsts) {
+            return firsts;
+        }
+        firsts = firsts_by_board(runs, reach, off, firsts);
+    }
+    firsts
+}
+
+// These two, and the first two of what gets off at the stop, with one change more. Where nothing that leaves any
+// station from then on comes before them, no board is asked.
+fn firsts_with(runs: &Runs, reach: &Reach, off: &Stop, firsts: FirstTwo) -> FirstTwo
+    ensures further { (rank : ℕ) → Precede firsts rank → Precede result rank }
+    ensures own { (w : TripWish) (v : RanksView) (changes : ℕ) → IsReach runs.now w v changes reach.now
+        → ((rank : ℕ) → v.late ≤ rank → rank < no_rank → Precede firsts rank)
+        → FirstsOfStop runs.now w v (changes + 1) off.now result }
+{
+    if reach.precede_at(off.station, off.arrive.seconds(), firsts) {
         return firsts;
     }
-    let here = bounds.firsts_leaving(changes, &window);
+    firsts_by_board(runs, reach, off, firsts)
+}
+
+// Likewise by the board of the station. A train that has the first ones already, as it soon has where few come to the
+// destination, asks for no window.
+fn firsts_by_board(runs: &Runs, reach: &Reach, off: &Stop, firsts: FirstTwo) -> FirstTwo
+    ensures further { (rank : ℕ) → Precede firsts rank → Precede result rank }
+    ensures own { (w : TripWish) (v : RanksView) (changes : ℕ) → IsReach runs.now w v changes reach.now
+        → ((rank : ℕ) → v.late ≤ rank → rank < no_rank → Precede firsts rank)
+        → FirstsOfStop runs.now w v (changes + 1) off.now result }
+{
+    let window = window_at(runs, off);
+    if reach
+        .boards
+        .precede_rest(window.station, window.from, firsts)
+    {
+        return firsts;
+    }
+    let here = reach.boards.firsts(window.station, window.from, window.to);
     join(firsts, here)
-}
-
-// The departures of each station that lead to the destination before this rank: none where no further change is bounded
-// by them.
-fn boards_of(
-    alloc: Global,
-    runs: &Runs,
-    rides: &[Column],
-    changes: usize,
-    late: u16,
-) -> Result<Vec<Board>, AllocError>
-    ensures { IfOk result (λ v. AreBoards runs.now late rides.now v.items) }
-{
-    let count = if changes < BOUNDED_CHANGES - 1 {
-        runs.station_count()
-    } else {
-        0
-    };
-    let mut boards = Vec::new(alloc);
-    for station in 0..count {
-        let room = changes > 0;
-        boards.push(board_of(alloc, runs, rides, StationNo(station), late, room)?)?;
-    }
-    Ok(boards)
-}
-
-// For each of them the first two by all of its departures.
-fn bests_of(alloc: Global, boards: &[Board]) -> Result<Vec<FirstTwo>, AllocError>
-    ensures { IfOk result (λ v. AreBests boards.now v.items) }
-{
-    let mut bests = Vec::new(alloc);
-    for board in boards {
-        bests.push(board.best())?;
-    }
-    Ok(bests)
-}
-
-// Those of one station, for which room is taken at once where they may be many.
-fn board_of(
-    alloc: Global,
-    runs: &Runs,
-    rides: &[Column],
-    station: StationNo,
-    late: u16,
-    room: bool,
-) -> Result<Board, AllocError>
-    ensures { IfOk result (IsBoardOf runs.now late rides.now station.0) }
-{
-    let change = u64::from(runs.change(station).unwrap_or(0));
-    let departures = leaving(runs, always(station));
-    let mut board = Board::new(alloc, LONGEST_WINDOW.saturating_sub(change));
-    if room {
-        board.reserve(count_early(rides, departures, late))?;
-    }
-    for departure in departures {
-        let two = firsts_of(rides, departure.run, departure.stop);
-        if two.first < late {
-            board.post(departure.moment.seconds() as u32, two)?;
-        }
-    }
-    board.finish();
-    board.hint()?;
-    Ok(board)
-}
-
-// How many of the departures lead to the destination before this rank. Room is taken for no more of them: memory that
-// is new to a program costs more than a second look.
-fn count_early(rides: &[Column], departures: &[Departure], late: u16) -> usize {
-    let mut count: usize = 0;
-    for departure in departures {
-        let two = firsts_of(rides, departure.run, departure.stop);
-        count = count.saturating_add(usize::from(two.first < late));
-    }
-    count
-}
-
-// The window of all departures of a station.
-fn always(station: StationNo) -> Window
-    ensures station { result.station ≡ station }
-    ensures from { result.from ≡ 0 }
-    ensures to { result.to ≡ 9_223_372_036_854_775_807 }
-{
-    Window {
-        station,
-        from: 0,
-        to: LAST_SECOND,
-    }
 }

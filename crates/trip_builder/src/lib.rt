@@ -20,6 +20,7 @@ mod hints;
 mod order;
 mod ranks;
 mod rests;
+mod rides;
 mod search;
 mod shortest;
 mod trip;

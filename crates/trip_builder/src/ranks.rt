@@ -1,7 +1,8 @@
 ghost use Rattle.std.specs.Prelude.{◌≡◌, ◌≤◌, ◌<◌, ℕ, true, [], length, slice_index_or};
 ghost use Rattle.train_runs.specs.Runs.{RunsView};
 ghost use Rattle.trip_builder.specs.declared.trip.TripWish.{TripWish};
-ghost use Rattle.trip_builder.specs.Bounds.{Precede, AreRanks, IsPlacedRun, Ascends, BoundsFresh, FirstsOfRide, rank_in, no_rank};
+ghost use Rattle.offer_codes.specs.declared.code.Segment.{Segment};
+ghost use Rattle.trip_builder.specs.Bounds.{Precede, AreRanks, IsPlacedRun, Ascends, BoundsFresh, FirstsOfRide, LeadsTo, rank_in, rank_of, no_rank};
 ghost use Rattle.trip_builder.specs.declared.ranks.Arrival.{Arrival};
 ghost use Rattle.trip_builder.specs.Ends.{IsEnd, AreEnds};
 
@@ -197,6 +198,21 @@ impl Ranks {
         FirstTwo {
             first: rank,
             second: NO_RANK,
+        }
+    }
+
+    /// At which stop the run comes to the destination: 0 where it doesn't, or too late.
+    pub(crate) fn stop_of(&self, run: RunNo) -> u8
+        ensures { (r : RunsView) (w : TripWish) → AreRanks r w self.now → (s : Segment) → s.run.0 ≡ run.0
+            → LeadsTo r w s [] → rank_of self.now s [] < self.now.late → s.span.to ≡ result }
+    {
+        let rank = self.of_run(run);
+        if rank >= self.late {
+            return 0;
+        }
+        match self.order.get(usize::from(rank)) {
+            Some(it) => it.stop,
+            None => 0,
         }
     }
 

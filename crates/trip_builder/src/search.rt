@@ -22,6 +22,9 @@ pub(crate) const MOST_SEGMENTS: usize = 3;
 /// How many tries a search has before the bounds are made, which takes memory and a pass over all runs.
 const SHORT_SEARCH: u32 = 50_000;
 
+/// A train with so many stops is a try more: each of them is looked at.
+const STOPS_OF_A_TRY: u32 = 16;
+
 /// The first sixteen trips of the wish: by their last arrival, then the later first departure, then fewer segments, then the
 /// list of run, first stop and last stop.
 ///
@@ -124,10 +127,17 @@ fn ride(
         return get_off(runs, wish, way, departure, found);
     }
     let stops = stops_of(runs, departure.run);
+    found.left = found
+        .left
+        .saturating_sub(stops.len() as u32 / STOPS_OF_A_TRY);
     for to in departure.stop + 1..stops.len() as u8 {
         let off = &stops[usize::from(to)];
+        let arrive = off.arrive.seconds();
+        if found.best.are_all_before(arrive + 1) {
+            return Ok(());
+        }
         let least = found.shortest.least_from(changes - 1, off.station);
-        if !found.best.are_all_before(off.arrive.seconds() + least) {
+        if !found.best.are_all_before(arrive + least) {
             let way = longer(way, departure, to);
             go_on(runs, wish, way.as_slice(), changes - 1, found)?;
         }

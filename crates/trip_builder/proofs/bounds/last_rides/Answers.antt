@@ -1,13 +1,9 @@
-use Rattle.std.proofs.Common.{List, length, sym, subst}
-use Rattle.trip_builder.specs.declared.ranks.FirstTwo.{FirstTwo}
-use Rattle.trip_builder.specs.Bounds.{AreRides}
-use Rattle.trip_builder.proofs.Bounding.{unknown_rides}
+use Rattle.trip_builder.proofs.Reaching.{unknown_rides}
 use Rattle.trip_builder.proofs.bounds.last_rides.Goals as goal
 
-pub end_each-requires-clause-rides : goal.end_each-requires-clause-rides
-end_each-requires-clause-rides c =
-    let r = c.args.runs.now in
-    let w = c.args.wish.now in
-    let b = c.args.bounds.now in
-    subst (λ (l : List (List FirstTwo)). AreRides r w b.ranks (length b.levels) l) (sym c.as_mut_slice.ensures.value)
-    (unknown_rides r w b.ranks (length b.levels) c.in_ok-rides.rides.items c.requires.ranks c.in_ok-rides.ensures)
+pub returns : goal.returns
+returns c =
+    λ w ranks.
+    (let r = c.args.runs.now in
+    let v = c.args.ranks.now in
+    c.end.ensures r w v 0 (c.mark_each.ensures w ranks (unknown_rides r w v 0 c.in_ok-rides.rides ranks c.in_ok-rides.ensures)))

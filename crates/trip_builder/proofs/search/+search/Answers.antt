@@ -11,7 +11,7 @@ use Rattle.trip_builder.specs.Shortest.{TakesAtLeast}
 use Rattle.trip_builder.proofs.Ways.{way_taken, trip_goes_on}
 use Rattle.trip_builder.proofs.Deciding.{same_grows, grows_on, stays_with, one_further, with_further, not_ridden}
 use Rattle.trip_builder.proofs.Boarding.{all_covered, part_taken, stop_is}
-use Rattle.trip_builder.proofs.Riding.{late_from, change_late}
+use Rattle.trip_builder.proofs.Riding.{late_from, change_late, further_late}
 use Rattle.trip_builder.proofs.Bounding.{window_hopeless}
 use Rattle.trip_builder.proofs.Outdoing.{window_outdone}
 use Rattle.trip_builder.proofs.search.+search.Goals as goal
@@ -194,11 +194,11 @@ ride-loop-to-preserved t c =
           let least = c.least_from-least.result in
           let off = ap (λ (x : Stop). x.arrive) there in
           let seen = ap (λ (x : Stop). x.arrive) c.index-stops-from.is in
-          let value = c.seconds.ensures.value in
-          let arrive : c.seconds.result ≡ (last_stop r s).arrive = omega (arith, off, seen, value) in
+          let value = c.seconds-arrive.ensures.value in
+          let arrive : c.seconds-arrive.result ≡ (last_stop r s).arrive = omega (arith, off, seen, value) in
           let takes = subst (λ (x : Stop). TakesAtLeast r w (more - 1) x.station least) (sym there) (c.least_from-least.ensures.least r w c.requires.rise c.loop-to.invariant.search.shortest) in
-          let late = c.are_all_before.ensures r w c.loop-to.invariant.search.kept v.if-not-are_all_before.false in
-          let here = change_late r w best way (more - 1) more least (c.seconds.result + least) s fewer takes late (omega (arith, arrive)) in
+          let late = c.are_all_before-in-loop-to.ensures r w c.loop-to.invariant.search.kept v.if-not-are_all_before.false in
+          let here = change_late r w best way (more - 1) more least (c.seconds-arrive.result + least) s fewer takes late (omega (arith, arrive)) in
           record {
             grows = subst (λ b. Grows r w old b.best.trips.items) (sym v.found-is) c.loop-to.invariant.grows;
             search = subst (IsSearch r w) (sym v.found-is) c.loop-to.invariant.search;
@@ -217,3 +217,23 @@ ride-returns-clause-decided t c =
     let few = c.stops_of-stops.ensures.few in
     let size : length c.stops_of-stops.result.now ≡ length (stops_of r d.run.0) = ap (λ (l : List Stop). length l) c.stops_of-stops.ensures.stops in
     c.loop-to.invariant.tried to (omega (arith, end, ended, few, size)) rest e trip)
+
+pub ride-returns-then-are_all_before-clause-decided : goal.ride-returns-then-are_all_before-clause-decided
+ride-returns-then-are_all_before-clause-decided t c =
+    let r = c.args.runs.now in
+    let w = c.args.wish.now in
+    let way = c.args.way.now in
+    let d = c.args.departure.now in
+    let more = c.args.changes in
+    let best = c.loop-to.found.best.trips.items in
+    let to = c.loop-to.to in
+    let some = c.if-changes-eq0.false in
+    let fewer : more ≡ suc (more - 1) = omega (arith, some) in
+    let stop = c.index-stops-from.result in
+    let there = stop_is r d.run.0 to c.stops_of-stops.result.now stop c.stops_of-stops.ensures.stops (omega (arith, c.loop-to-test.true))
+    (c.index-stops-from.is ∙ ap (λ k. get_or c.stops_of-stops.result.now k stop) c.from.ensures) in
+    let off = ap (λ (x : Stop). x.arrive) there in
+    let seen = ap (λ (x : Stop). x.arrive) c.index-stops-from.is in
+    let value = c.seconds-arrive.ensures.value in
+    let late = c.are_all_before.ensures r w c.loop-to.invariant.search.kept c.if-are_all_before.true in
+    further_late r w best way (more - 1) more (c.seconds-arrive.result + 1) d to fewer c.requires.rise late (omega (arith, off, seen, value)) c.loop-to.invariant.tried

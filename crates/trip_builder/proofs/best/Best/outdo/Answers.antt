@@ -29,7 +29,7 @@ returns-in-Some c =
     c.segments.ensures.value ∙ (c.in-Some.ensures.lookup.1 ∙ (get_or_default seen 15 last [] fits ∙ ap (λ (l : List (List Segment)). get_or l 15 []) c.deref.ensures.value)) in
     inr (record {
       full = omega (arith, fits, size, few);
-      some = c.begins_behind.ensures.some;
+      some = let none = c.if-is_empty.ensures in grind (arith, nat_tests);
       arrival = subst (λ (t : List Segment). last_arrival r t ≤ c.args.bound) is (c.begins_behind.ensures.arrival e);
       key = subst (λ (t : List Segment). BeginsBehind r t c.args.begun.now c.args.more) is (c.begins_behind.ensures.key e);
     }))

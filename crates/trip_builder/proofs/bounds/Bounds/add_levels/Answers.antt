@@ -1,7 +1,5 @@
-use Rattle.std.proofs.Common.{◌≡◌, List, length, refl, sym, subst}
-use Rattle.trip_builder.specs.declared.board.Useful.{Useful}
-use Rattle.trip_builder.specs.declared.ranks.FirstTwo.{FirstTwo}
-use Rattle.trip_builder.specs.Bounds.{AreRanks, AreBoards, AreBests, AreRides, ReachView, BoundsView, AreBounds}
+use Rattle.std.proofs.Common.{◌≡◌, length, refl, sym, subst}
+use Rattle.trip_builder.specs.Bounds.{AreRanks, AreRides, BoundsView, AreBounds}
 use Rattle.trip_builder.proofs.Bounding.{bounds_more}
 use Rattle.trip_builder.proofs.bounds.Bounds.add_levels.Goals as goal
 
@@ -12,19 +10,16 @@ loop-changes-preserved c =
     let was = c.loop-changes.invariant in
     let changes = c.loop-changes.changes in
     let inside = c.self-in-loop-changes.inside in
-    let rides = c.in_ok-rides.rides.items in
-    let boards = c.in_ok-boards.boards.items in
-    let bests = c.in_ok-bests.bests.items in
-    let reach : ReachView = record { rides = rides; boards = boards; bests = bests } in
+    let rides = c.in_ok-rides.rides in
+    let reach = c.in_ok-reach.reach in
     let old : BoundsView = record { ranks = inside.ranks; levels = inside.levels.items } in
     let new : BoundsView = record { ranks = inside.ranks; levels = c.push.new.self.items } in
     let back : c.loop-changes.self ≡ old = sym c.self-in-loop-changes.view_is in
     let count = subst (λ (b : BoundsView). length b.levels ≡ changes) back was.count in
     let ranks = subst (λ (b : BoundsView). AreRanks r w b.ranks) back was.ranks in
     let are = subst (AreBounds r w) back was.are in
-    let its = subst (λ (b : BoundsView). AreRides r w b.ranks (length b.levels) rides) back c.in_ok-rides.ensures in
-    let more = bounds_more r w old new reach changes refl c.in_ok-push.ensures.items count are
-    (record { ranks = ranks; rides = subst (λ n. AreRides r w inside.ranks n rides) count its; boards = subst (λ n. AreBoards r n rides boards) c.late-late.ensures (subst (λ (l : List (List FirstTwo)). AreBoards r c.late-late.result l boards) c.as_slice.ensures.value c.in_ok-boards.ensures); bests = subst (λ (l : List (List Useful)). AreBests l bests) c.as_slice-in-loop-changes.ensures.value c.in_ok-bests.ensures }) in
+    let its = subst (λ n. AreRides r w inside.ranks n rides) count (subst (λ (b : BoundsView). AreRides r w b.ranks (length b.levels) rides) back c.in_ok-rides.ensures) in
+    let more = bounds_more r w old new reach changes refl c.in_ok-push.ensures.items count are (c.in_ok-reach.ensures w ranks its) in
     record {
       count = more.0;
       ranks = ranks;

@@ -1,0 +1,159 @@
+ghost use Rattle.std.specs.Prelude.{◌≡◌, ◌<◌, ◌+◌, ◌*◌, ℕ, true, false, length, IfOk, slice_index_or};
+ghost use Rattle.train_runs.specs.Runs.{RunsView};
+ghost use Rattle.trip_builder.specs.declared.trip.TripWish.{TripWish};
+ghost use Rattle.trip_builder.specs.Bounds.{RanksView, AreRides, AreUnknown, FirstsOfRide, IsMarkedRun, LeavesLate, firsts_in};
+
+use crate::ranks::{FirstTwo, UNKNOWN};
+use rail_ids::{RunNo, StationNo};
+use std::alloc::{AllocError, Global};
+use train_runs::Runs;
+
+/// For each run and each of so many of its first stops, the first two that come to the destination by what takes the
+/// run there; and which stations something leaves that comes there in time, once that was looked at for all runs.
+#[derive(Drop)]
+pub(crate) struct Rides {
+    width: u8,
+    firsts: Vec<FirstTwo>,
+    marks: Vec<bool>,
+    done: Vec<bool>,
+    all: bool,
+}
+
+impl Rides {
+    /// Nothing is known of the rides from the first so many stops of each run, nor of the stations.
+    pub(crate) fn unknown(
+        alloc: Global,
+        runs: &Runs,
+        width: u8,
+        stations: usize,
+    ) -> Result<Rides, AllocError>
+        ensures { IfOk result (AreUnknown (length runs.now.runs)) }
+    {
+        let count = runs.count() as usize;
+        Ok(Rides {
+            width,
+            firsts: Vec::from_elem(alloc, UNKNOWN, count.saturating_mul(usize::from(width)))?,
+            marks: Vec::from_elem(alloc, false, stations)?,
+            done: Vec::from_elem(alloc, false, count)?,
+            all: false,
+        })
+    }
+
+    /// The first two of the run at the stop.
+    pub(crate) fn at(&self, run: RunNo, stop: u8) -> FirstTwo
+        ensures { result ≡ firsts_in self.now run.0 stop }
+    {
+        if stop >= self.width {
+            return UNKNOWN;
+        }
+        match self.firsts.get(place(self.width, run, stop)) {
+            Some(two) => *two,
+            None => UNKNOWN,
+        }
+    }
+
+    /// Notes the first two of the run at the stop.
+    pub(crate) fn put(&mut self, run: RunNo, stop: u8, two: FirstTwo)
+        ensures rides { (r : RunsView) (w : TripWish) (v : RanksView) (changes : ℕ) → AreRides r w v changes self.old
+            → FirstsOfRide r w v changes run.0 stop two → AreRides r w v changes self.new }
+        ensures marks { self.new.marks.items ≡ self.old.marks.items }
+    {
+        if stop >= self.width {
+            return;
+        }
+        let place = place(self.width, run, stop);
+        if place < self.firsts.len() {
+            self.firsts[place] = two;
+        }
+    }
+
+    /// Something leaves the station that comes to the destination in time.
+    pub(crate) fn mark(&mut self, station: StationNo)
+        ensures rides { (r : RunsView) (w : TripWish) (v : RanksView) (changes : ℕ) → AreRides r w v changes self.old
+            → AreRides r w v changes self.new }
+        ensures kept { (n : ℕ) → slice_index_or self.old.marks.items n true ≡ true
+            → slice_index_or self.new.marks.items n true ≡ true }
+        ensures marked { slice_index_or self.new.marks.items station.0 true ≡ true }
+    {
+        let place = station.0 as usize;
+        if place < self.marks.len() {
+            self.marks[place] = true;
+        }
+    }
+
+    /// Notes the first two of the run at the stop, and marks the station where they come before this rank.
+    pub(crate) fn note(
+        &mut self,
+        run: RunNo,
+        stop: u8,
+        station: StationNo,
+        two: FirstTwo,
+        late: u16,
+    )
+        ensures rides { (r : RunsView) (w : TripWish) (v : RanksView) (changes : ℕ) → AreRides r w v changes self.old
+            → FirstsOfRide r w v changes run.0 stop two → AreRides r w v changes self.new }
+        ensures kept { (n : ℕ) → slice_index_or self.old.marks.items n true ≡ true
+            → slice_index_or self.new.marks.items n true ≡ true }
+        ensures marked { two.first < late → slice_index_or self.new.marks.items station.0 true ≡ true }
+    {
+        self.put(run, stop, two);
+        if two.first < late {
+            self.mark(station);
+        }
+    }
+
+    /// All stations that the run leaves in time are marked.
+    pub(crate) fn end_run(&mut self, run: RunNo)
+        ensures { (r : RunsView) (w : TripWish) (v : RanksView) (changes : ℕ) → AreRides r w v changes self.old
+            → IsMarkedRun r w v changes run.0 self.old.marks.items → AreRides r w v changes self.new }
+    {
+        let place = run.0 as usize;
+        if place < self.done.len() {
+            self.done[place] = true;
+        }
+    }
+
+    /// Looks whether that holds of all runs: else no mark says anything.
+    pub(crate) fn end(&mut self)
+        ensures { (r : RunsView) (w : TripWish) (v : RanksView) (changes : ℕ) → AreRides r w v changes self.old
+            → AreRides r w v changes self.new }
+    {
+        if self.are_done() {
+            self.all = true;
+        }
+    }
+
+    // Whether that holds of all runs.
+    fn are_done(&self) -> bool
+        ensures { result ≡ true → (run : ℕ) → run < length self.now.done.items
+            → slice_index_or self.now.done.items run false ≡ true }
+    {
+        for run in 0..self.done.len() {
+            if !self.done[run] {
+                return false;
+            }
+        }
+        true
+    }
+
+    /// Whether something may leave the station that comes to the destination in time.
+    pub(crate) fn is_marked(&self, station: StationNo) -> bool
+        ensures { (r : RunsView) (w : TripWish) (v : RanksView) (changes : ℕ) → AreRides r w v changes self.now
+            → result ≡ false → LeavesLate r w v changes station.0 }
+    {
+        if !self.all {
+            return true;
+        }
+        match self.marks.get(station.0 as usize) {
+            Some(mark) => *mark,
+            None => true,
+        }
+    }
+}
+
+// Where the two of the run at the stop stand, with so many stops for each run.
+fn place(width: u8, run: RunNo, stop: u8) -> usize
+    ensures { result ≡ run.0 * width + stop }
+{
+    run.0 as usize * usize::from(width) + usize::from(stop)
+}
