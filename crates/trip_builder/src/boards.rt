@@ -73,7 +73,7 @@ impl Draft {
         let boards = Boards::none(alloc, stations, room)?;
         Ok(Draft {
             boards,
-            board: Board::new(alloc, 0),
+            board: Board::new(alloc),
             hints: Hints::none(alloc),
         })
     }
@@ -85,8 +85,8 @@ impl Draft {
         self.boards.skip()
     }
 
-    /// Adds the next station's board: those of the departures that lead to the destination before this rank, by the first
-    /// two of each, in blocks of so many seconds.
+    /// Adds the next station's board: those of the departures that lead to the destination before this rank, by the
+    /// first two of each, in blocks of so many seconds.
     pub(crate) fn add(
         &mut self,
         departures: &[Departure],

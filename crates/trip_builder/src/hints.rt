@@ -64,7 +64,8 @@ fn make(useful: &[Useful], parts: Parts, places: &mut [u16], rests: &mut [FirstT
     fill(places);
 }
 
-// Notes for each departure's part what it and all later ones lead to, and the first departure of each part that has one.
+// Notes for each departure's part what it and all later ones lead to, and the first departure of each part that has
+// one.
 fn note_all(useful: &[Useful], parts: Parts, places: &mut [u16], rests: &mut [FirstTwo])
     ensures { AreTold useful.now parts rests.new }
 {
