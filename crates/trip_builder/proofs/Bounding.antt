@@ -201,18 +201,6 @@ boards_more r w v changes n old new board is size are one k none high = subst (�
 
 -- ---- the board of a station
 
-pub best_more : (board : List Useful) (index : ℕ) (u : Useful) (old new : FirstTwo) → u ≡ get_or board index u → index < length board → ((rank : ℕ) → Precede old rank → Precede new rank)
-    → ((rank : ℕ) → Precede u.onward rank → Precede new rank) → ((k rank : ℕ) (none : Useful) → k < index → Precede (get_or board k none).onward rank → Precede old rank)
-    → (k rank : ℕ) (none : Useful) → k < index + 1 → Precede (get_or board k none).onward rank → Precede new rank
-best_more board index u old new is fits left right before k rank none high has = by_place (cases_lt k index)
-  where
-    by_place : (k < index) ⊎ (index ≤ k) → Precede new rank
-    by_place (inl less) = left rank (before k rank none less has)
-    by_place (inr past) =
-        let at : k ≡ index = omega (arith, high, past) in
-        let same : get_or board k none ≡ u = ap (λ n. get_or board n none) at ∙ (get_or_default board index none u fits ∙ sym is) in
-        right rank (subst (λ (x : Useful). Precede x.onward rank) same has)
-
 -- of a station that all leave too late
 pub late_board : (r : RunsView) (w : TripWish) (v : RanksView) (changes station : ℕ) (board : List Useful) → LeavesLate r w v changes station → IsBoardOf r w v changes station board
 late_board r w v changes station board late s rest count leads here less = absurd (let past = late s rest count leads here in omega (arith, past, less))

@@ -7,7 +7,7 @@ use Rattle.trip_builder.specs.declared.boards.Head.{Head}
 use Rattle.trip_builder.specs.declared.ranks.FirstTwo.{FirstTwo}
 use Rattle.trip_builder.specs.declared.rests.Parts.{Parts}
 use Rattle.trip_builder.specs.Bounds.{unknown, Precede, Rises, IsPosted, HasBest}
-use Rattle.trip_builder.specs.Boards.{part_at, Keeps, IsTold, AreTold, AreAllTold, AreHints, rest_in, no_head, board_of, board_at, boards_at, IsHead, AreHeads, IsHeadOf}
+use Rattle.trip_builder.specs.Boards.{part_at, Keeps, IsTold, AreTold, IsHeadTold, AreAllTold, AreHints, rest_in, no_head, board_of, board_at, boards_at, IsHead, AreHeads, IsHeadOf}
 use Rattle.trip_builder.proofs.Resting.{nothing, part_up, told_kept}
 
 -- ---- a part of a longer list
@@ -178,35 +178,29 @@ rest_found useful rests h from two rest is value all depart rank posted low =
 
 -- ---- all boards together
 
--- a head that is read
-pub head_seen : (heads seen : List Head) (useful all : List Useful) (rests own : List FirstTwo) (numbers : List ℕ) (k : ℕ) (zero : Head) → AreHeads heads useful rests numbers → seen ≡ heads → all ≡ useful → own ≡ rests
-    → k < length seen → IsHead all own (get_or seen k zero)
-head_seen heads seen useful all rests own numbers k zero are as_heads as_useful as_rests inside =
-    let size : length seen ≡ length heads = ap (λ (l : List Head). length l) as_heads in
-    let fits : k < length heads = omega (arith, inside, size) in
-    let same : get_or heads k no_head ≡ get_or seen k zero = get_or_default heads k no_head zero fits ∙ ap (λ (l : List Head). get_or l k zero) (sym as_heads) in
-    subst (λ (l : List Useful). IsHead l own (get_or seen k zero)) (sym as_useful)
-    (subst (λ (l : List FirstTwo). IsHead useful l (get_or seen k zero)) (sym as_rests) (subst (λ (x : Head). IsHead useful rests x) same (are.each k fits)))
+-- what is told by a head is told of its board
+pub head_told : (useful : List Useful) (rests : List FirstTwo) (h : Head) (parts : Parts) (afters : List FirstTwo) → IsHead useful rests h → IsHeadTold rests h parts afters → AreTold (board_of useful h) parts afters
+head_told useful rests h parts afters is told j rank none inside has =
+    let moment = (get_or (board_of useful h) j none).moment in
+    told moment rank (is.hinted.spanned.stops j none inside) (is.hinted.rests j (part_at h.parts moment) rank none inside (omega arith) has)
 
--- one head more is told of
-pub heads_told : (heads seen : List Head) (useful all : List Useful) (parts : Parts) (old new : List FirstTwo) (index : ℕ) (zero : Head) → seen ≡ heads → all ≡ useful → index < length seen → length new ≡ length old → Keeps old new
-    → AreTold (board_of all (get_or seen index zero)) parts new → ((k : ℕ) → k < index → AreTold (board_of useful (get_or heads k no_head)) parts old)
-    → (k : ℕ) → k < index + 1 → AreTold (board_of useful (get_or heads k no_head)) parts new
-heads_told heads seen useful all parts old new index zero as_heads as_useful inside size keeps own before k high = by_place (cases_lt k index)
+-- one head more, as it is read
+pub heads_told : (heads seen : List Head) (useful : List Useful) (rests own : List FirstTwo) (numbers : List ℕ) (parts : Parts) (old new : List FirstTwo) (index : ℕ) (zero : Head) → AreHeads heads useful rests numbers
+    → seen ≡ heads → own ≡ rests → index < length seen → length new ≡ length old → Keeps old new → IsHeadTold own (get_or seen index zero) parts new
+    → ((k : ℕ) → k < index → AreTold (board_of useful (get_or heads k no_head)) parts old) → (k : ℕ) → k < index + 1 → AreTold (board_of useful (get_or heads k no_head)) parts new
+heads_told heads seen useful rests own numbers parts old new index zero are as_heads as_rests inside size keeps told before k high = by_place (cases_lt k index)
   where
-    count : length seen ≡ length heads
-    count = ap (λ (l : List Head). length l) as_heads
+    fits : index < length heads
+    fits = let count = ap (λ (l : List Head). length l) as_heads in omega (arith, inside, count)
 
     by_place : (k < index) ⊎ (index ≤ k) → AreTold (board_of useful (get_or heads k no_head)) parts new
     by_place (inl less) = λ j rank none within has.
         told_kept old new (part_at parts (get_or (board_of useful (get_or heads k no_head)) j none).moment) rank size keeps (before k less j rank none within has)
     by_place (inr past) =
-        let here : k ≡ index = omega (arith, high, past) in
-        let same : board_of all (get_or seen index zero) ≡ board_of useful (get_or heads k no_head) =
-        ap (λ (l : List Useful). board_of l (get_or seen index zero)) as_useful
-        ∙ (ap (λ (l : List Head). board_of useful (get_or l index zero)) as_heads
-        ∙ (ap (board_of useful) (get_or_default heads index zero no_head (omega (arith, inside, count))) ∙ ap (λ m. board_of useful (get_or heads m no_head)) (sym here))) in
-        subst (λ (b : List Useful). AreTold b parts new) same own
+        let here : index ≡ k = omega (arith, high, past) in
+        let same : get_or seen index zero ≡ get_or heads index no_head = ap (λ (l : List Head). get_or l index zero) as_heads ∙ get_or_default heads index zero no_head fits in
+        let its = subst (λ (x : Head). IsHeadTold rests x parts new) same (subst (λ (l : List FirstTwo). IsHeadTold l (get_or seen index zero) parts new) as_rests told) in
+        subst (λ m. AreTold (board_of useful (get_or heads m no_head)) parts new) here (head_told useful rests (get_or heads index no_head) parts new (are.each index fits) its)
 
 -- by each head, what leaves any station
 pub all_told : (heads : List Head) (useful : List Useful) (rests : List FirstTwo) (numbers : List ℕ) (now : List (List Useful)) (parts : Parts) (afters : List FirstTwo) → AreHeads heads useful rests numbers

@@ -213,13 +213,6 @@ below_side board t mid none rises within less k d low =
     let same : (get_or board k d).moment ≡ (get_or board k none).moment = ap (λ (u : Useful). u.moment) (get_or_default board k d none (omega (arith, low, within))) in
     omega (arith, up, same, less)
 
-pub above_side : (board : List Useful) (t mid : ℕ) (none : Useful) → Rises board → mid < length board → t ≤ (get_or board mid none).moment
-    → (k : ℕ) (d : Useful) → mid ≤ k → k < length board → t ≤ (get_or board k d).moment
-above_side board t mid none rises within le k d low high =
-    let up = (rises mid k none low high).0 in
-    let same : (get_or board k d).moment ≡ (get_or board k none).moment = ap (λ (u : Useful). u.moment) (get_or_default board k d none high) in
-    omega (arith, up, same, le)
-
 -- one that leaves within the window has its place between both ends
 place_between : (board : List Useful) (from to first count depart arrival : ℕ) → AllWithin (λ (u : Useful). u.moment < from) board 0 first
     → AllWithin (λ (u : Useful). to + 1 ≤ u.moment) board count (length board) → (is : IsPosted board depart arrival) → from ≤ depart → depart ≤ to → (first ≤ is.place) × (is.place < count)
@@ -249,26 +242,6 @@ none_narrowed board from to first count earlier later none = record {
   ends = omega arith;
   each = λ depart arrival posted low high. (let place = place_between board from to first count depart arrival earlier later posted low high in absurd (omega (arith, place.0, place.1, none)));
 }
-
-pub some_narrowed : (board : List Useful) (from to first count : ℕ) (a z : Useful) → Rises board → count ≤ length board → AllWithin (λ (u : Useful). u.moment < from) board 0 first
-    → AllWithin (λ (u : Useful). from ≤ u.moment) board first (length board) → AllWithin (λ (u : Useful). u.moment < to + 1) board 0 count
-    → AllWithin (λ (u : Useful). to + 1 ≤ u.moment) board count (length board) → first < count → a ≡ get_or board first a → z ≡ get_or board (count - 1) z → NarrowsWindow board from to a.moment z.moment
-some_narrowed board from to first count a z rises inside before from_first by_count behind some is_a is_z = record {
-  starts = let low = from_first first a (omega arith) (omega (arith, some, inside)) in omega (arith, low, at_a);
-  ends = let high = by_count (count - 1) a (omega arith) (omega (arith, some)) in omega (arith, high, at_z);
-  each = λ depart arrival posted low high. (let place = place_between board from to first count depart arrival before behind posted low high in
-      let at = posted.moment a in
-      let before_count = place.1 in
-      let up = (rises first posted.place a place.0 posted.within).0 in
-      let down = (rises posted.place (count - 1) a (omega (arith, before_count)) (omega (arith, some, inside))).0 in
-      (omega (arith, at, up, at_a), omega (arith, at, down, at_z)));
-}
-  where
-    at_a : a.moment ≡ (get_or board first a).moment
-    at_a = ap (λ (u : Useful). u.moment) is_a
-
-    at_z : z.moment ≡ (get_or board (count - 1) a).moment
-    at_z = ap (λ (u : Useful). u.moment) (is_z ∙ get_or_default board (count - 1) z a (omega (arith, some, inside)))
 
 -- where the first and the last within the window are of one block
 pub one_block : (board : List Useful) (from to first count : ℕ) (a z : Useful) (two : FirstTwo) → Rises board → count ≤ length board → AllWithin (λ (u : Useful). u.moment < from) board 0 first

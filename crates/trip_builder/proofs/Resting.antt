@@ -1,14 +1,14 @@
 -- Parts of the time: what is told in one of them, and what each knows of the later ones.
-use Rattle.std.proofs.Common.{◌≡◌, ◌∙◌, ℕ, ◌+◌, ◌-◌, ◌/◌, ◌%◌, ◌^◌, ◌<◌, ◌≤◌, ◌⊎◌, inl, inr, min, List, length, refl, sym, ap, subst, arith, get_or, set, length-set}
+use Rattle.std.proofs.Common.{◌≡◌, ◌∙◌, ℕ, ◌+◌, ◌-◌, ◌*◌, ◌/◌, ◌%◌, ◌^◌, ◌<◌, ◌≤◌, ◌⊎◌, inl, inr, min, List, length, refl, sym, ap, subst, arith, get_or, set, length-set}
 use Rattle.std.proofs.Math.Nat.{div-mul-le_self}
 use Rattle.std.proofs.lemmas.Bool.{cases_lt, cases_eq}
 use Rattle.std.proofs.lemmas.List.{get_or_default, get_or-set_same, get_or-set_other}
-use Rattle.std.proofs.lemmas.Nat.{le-div, pow_pos}
+use Rattle.std.proofs.lemmas.Nat.{le-div, pow_pos, div-add-mod', mod_below, mul-le}
 use Rattle.trip_builder.specs.declared.board.Useful.{Useful}
 use Rattle.trip_builder.specs.declared.ranks.FirstTwo.{FirstTwo}
 use Rattle.trip_builder.specs.declared.rests.Parts.{Parts}
 use Rattle.trip_builder.specs.Bounds.{unknown, Precede, Rises}
-use Rattle.trip_builder.specs.Boards.{part_at, Keeps, IsTold, AreSettled, AreTold, AreToldFrom, AreRestsIn, AreHints}
+use Rattle.trip_builder.specs.Boards.{part_at, Keeps, KeepsBy, IsTold, AreSettled, AreTold, AreRestsIn, AreHints}
 
 -- what is read where a board has no place
 abbrev pub nothing : Useful
@@ -20,6 +20,35 @@ quotient_up x y k some up = let low = div-mul-le_self x k in le-div (x / k) y k 
 -- later moments lie in later parts
 pub part_up : (parts : Parts) (a b : ℕ) → a ≤ b → part_at parts a ≤ part_at parts b
 part_up parts a b up = quotient_up (a - parts.start) (b - parts.start) (2 ^ (parts.shift % 64)) (pow_pos (parts.shift % 64)) (omega (arith, up))
+
+quotient_end : (x k part : ℕ) → 0 < k → x / k ≤ part → x < (part + 1) * k
+quotient_end x k part some up =
+    let whole = div-add-mod' x k in
+    let rest = mod_below x k some in
+    let low = mul-le (x / k) k part k up (omega arith) in
+    omega (arith, whole, rest, low)
+
+-- the moments of a part come before its end
+pub part_ends : (parts : Parts) (seconds part : ℕ) → part_at parts seconds ≤ part → seconds ≤ parts.start + (part + 1) * 2 ^ (parts.shift % 64)
+part_ends parts seconds part up =
+    let end = quotient_end (seconds - parts.start) (2 ^ (parts.shift % 64)) part (pow_pos (parts.shift % 64)) up in
+    omega (arith, end)
+
+-- so they do where the sums and products stop at the largest number
+pub end_reached : (most start part k a s past sum end last seconds : ℕ) → 0 < k → a ≡ min (part + 1) most → s ≡ k → past ≡ min (a * s) most → sum ≡ min (start + past) most → end ≡ min sum last → last ≤ most → seconds ≤ last
+    → seconds ≤ start + (part + 1) * k → seconds ≤ end
+end_reached most start part k a s past sum end last seconds some a_is s_is past_is sum_is end_is fits low high = by_place (cases_lt most (part + 1))
+  where
+    by_place : (most < part + 1) ⊎ (part + 1 ≤ most) → seconds ≤ end
+    by_place (inl over) =
+        let full : a ≡ most = omega (arith, a_is, over) in
+        let product : a * s ≡ most * k = ap (λ x. x * s) full ∙ ap (λ x. most * x) s_is in
+        let large = mul-le most 1 most k (omega arith) some in
+        omega (arith, product, large, past_is, sum_is, end_is, fits, low)
+    by_place (inr within) =
+        let exact : a ≡ part + 1 = omega (arith, a_is, within) in
+        let product : a * s ≡ (part + 1) * k = ap (λ x. x * s) exact ∙ ap (λ x. (part + 1) * x) s_is in
+        omega (arith, product, past_is, sum_is, end_is, fits, low, high)
 
 -- ---- what is told
 
@@ -52,29 +81,57 @@ told_kept old new part rank size keeps told n low inside =
       precedes = keeps it.place rank it.precedes;
     }
 
+-- what the two precede that are put in a part's place stays
+pub kept_by_set : (rests : List FirstTwo) (place : ℕ) (two : FirstTwo) → place < length rests → KeepsBy two rests (set rests place two)
+kept_by_set rests place two within n rank both has = by_place (cases_eq n place)
+  where
+    by_place : (n ≡ place) ⊎ (n ≡ place → ⊥) → Precede (get_or (set rests place two) n unknown) rank
+    by_place (inl here) =
+        subst (λ m. Precede (get_or (set rests place two) m unknown) rank) (sym here) (subst (λ (x : FirstTwo). Precede x rank) (sym (get_or-set_same rests place two unknown within)) both)
+    by_place (inr apart) = subst (λ (x : FirstTwo). Precede x rank) (sym (get_or-set_other rests place n two unknown apart)) has
+
+pub told_kept_by : (two : FirstTwo) (old new : List FirstTwo) (part rank : ℕ) → length new ≡ length old → KeepsBy two old new → Precede two rank → IsTold old part rank → IsTold new part rank
+told_kept_by two old new part rank size keeps both told n low inside =
+    let it = told n low (omega (arith, inside, size)) in
+    record {
+      place = it.place;
+      from = it.from;
+      within = let h = it.within in omega (arith, h, size);
+      precedes = keeps it.place rank both it.precedes;
+    }
+
 pub told_sooner : (rests : List FirstTwo) (part later rank : ℕ) → part ≤ later → IsTold rests later rank → IsTold rests part rank
 told_sooner rests part later rank up told n low inside = told n (omega (arith, low, up)) inside
 
--- one departure more is told
-pub told_more : (board : List Useful) (parts : Parts) (old new : List FirstTwo) (n : ℕ) → length new ≡ length old → Keeps old new
-    → ((rank : ℕ) → Precede (get_or board n nothing).onward rank → IsTold new (part_at parts (get_or board n nothing).moment) rank) → AreToldFrom 0 n board parts old → AreToldFrom 0 (n + 1) board parts new
-told_more board parts old new n size keeps own before j rank none low high inside has = by_place (cases_lt j n)
-  where
-    by_place : (j < n) ⊎ (n ≤ j) → IsTold new (part_at parts (get_or board j none).moment) rank
-    by_place (inl less) = told_kept old new (part_at parts (get_or board j none).moment) rank size keeps (before j rank none low less inside has)
-    by_place (inr past) =
-        let here : j ≡ n = omega (arith, high, past) in
-        let same : get_or board j none ≡ get_or board n nothing = ap (λ m. get_or board m none) here ∙ get_or_default board n none nothing (omega (arith, inside, past, high)) in
-        subst (λ (x : Useful). IsTold new (part_at parts x.moment) rank) (sym same) (own rank (subst (λ (x : Useful). Precede x.onward rank) same has))
+-- ---- what is told of a board, from its last departure back
 
--- some departures more are told
-pub told_group : (board : List Useful) (parts : Parts) (old new : List FirstTwo) (from past : ℕ) → length new ≡ length old → Keeps old new → AreToldFrom from past board parts new → AreToldFrom 0 from board parts old
-    → AreToldFrom 0 past board parts new
-told_group board parts old new from past size keeps own before j rank none low high inside has = by_place (cases_lt j from)
+abbrev pub IsRestBack : ℕ → List Useful → FirstTwo → Type 0
+IsRestBack back board rest = (j rank : ℕ) (none : Useful) → length board ≤ j + back → j < length board → Precede (get_or board j none).onward rank → Precede rest rank
+
+abbrev pub AreToldBack : ℕ → List Useful → Parts → List FirstTwo → Type 0
+AreToldBack back board parts rests = (j rank : ℕ) (none : Useful) → length board ≤ j + back → j < length board → Precede (get_or board j none).onward rank
+    → IsTold rests (part_at parts (get_or board j none).moment) rank
+
+same_place : (board : List Useful) (j place : ℕ) (none : Useful) → j ≡ place → place < length board → get_or board j none ≡ get_or board place nothing
+same_place board j place none here within = ap (λ m. get_or board m none) here ∙ get_or_default board place none nothing within
+
+-- one departure more
+pub rest_back : (board : List Useful) (back place : ℕ) (rest e : FirstTwo) → back < length board → place ≡ length board - 1 - back → ((rank : ℕ) → Precede rest rank → Precede e rank)
+    → ((rank : ℕ) → Precede (get_or board place nothing).onward rank → Precede e rank) → IsRestBack back board rest → IsRestBack (back + 1) board e
+rest_back board back place rest e some at left right was j rank none low inside has = by_place (cases_lt place j)
   where
-    by_place : (j < from) ⊎ (from ≤ j) → IsTold new (part_at parts (get_or board j none).moment) rank
-    by_place (inl less) = told_kept old new (part_at parts (get_or board j none).moment) rank size keeps (before j rank none low less inside has)
-    by_place (inr more) = own j rank none more high inside has
+    by_place : (place < j) ⊎ (j ≤ place) → Precede e rank
+    by_place (inl past) = left rank (was j rank none (omega (arith, past, at)) inside has)
+    by_place (inr less) = right rank (subst (λ (x : Useful). Precede x.onward rank) (same_place board j place none (omega (arith, less, low, at, some)) (omega (arith, at, some))) has)
+
+pub told_back : (board : List Useful) (parts : Parts) (old new : List FirstTwo) (back place : ℕ) (e : FirstTwo) → back < length board → place ≡ length board - 1 - back → length new ≡ length old → KeepsBy e old new
+    → ((rank : ℕ) → Precede e rank → IsTold new (part_at parts (get_or board place nothing).moment) rank) → IsRestBack (back + 1) board e → AreToldBack back board parts old → AreToldBack (back + 1) board parts new
+told_back board parts old new back place e some at size keeps own rest was j rank none low inside has = by_place (cases_lt place j)
+  where
+    by_place : (place < j) ⊎ (j ≤ place) → IsTold new (part_at parts (get_or board j none).moment) rank
+    by_place (inl past) = told_kept_by e old new (part_at parts (get_or board j none).moment) rank size keeps (rest j rank none low inside has) (was j rank none (omega (arith, past, at)) inside has)
+    by_place (inr less) =
+        subst (λ (x : Useful). IsTold new (part_at parts x.moment) rank) (sym (same_place board j place none (omega (arith, less, low, at, some)) (omega (arith, at, some)))) (own rank (rest j rank none low inside has))
 
 -- ---- what each part knows of the later ones, from the last one back
 

@@ -41,6 +41,10 @@ part_at parts seconds = (seconds - parts.start) / 2 ^ (parts.shift % 64)
 abbrev pub Keeps : List FirstTwo → List FirstTwo → Type 0
 Keeps old new = (n rank : ℕ) → Precede (slice_index_or old n unknown) rank → Precede (slice_index_or new n unknown) rank
 
+-- likewise, where these two precede it as well
+abbrev pub KeepsBy : FirstTwo → List FirstTwo → List FirstTwo → Type 0
+KeepsBy two old new = (n rank : ℕ) → Precede two rank → Precede (slice_index_or old n unknown) rank → Precede (slice_index_or new n unknown) rank
+
 -- a part no earlier than the n-th has two that precede the rank
 pub record IsAhead (rests : List FirstTwo) (n rank : ℕ) : Type 0 where
   pub place : ℕ
@@ -59,11 +63,6 @@ AreSettled old new = (n m rank : ℕ) → n ≤ m → m < length old → Precede
 -- what each departure of the board leads to is told in its part
 abbrev pub AreTold : List Useful → Parts → List FirstTwo → Type 0
 AreTold board parts rests = (j rank : ℕ) (none : Useful) → j < length board → Precede (slice_index_or board j none).onward rank
-    → IsTold rests (part_at parts (slice_index_or board j none).moment) rank
-
--- likewise of those from the one place to before the other
-abbrev pub AreToldFrom : ℕ → ℕ → List Useful → Parts → List FirstTwo → Type 0
-AreToldFrom from past board parts rests = (j rank : ℕ) (none : Useful) → from ≤ j → j < past → j < length board → Precede (slice_index_or board j none).onward rank
     → IsTold rests (part_at parts (slice_index_or board j none).moment) rank
 
 -- ---- a board's hints
@@ -134,6 +133,14 @@ pub record IsHeadOf (numbers : List ℕ) (heads : List Head) (station : ℕ) (h 
   pub is : h ≡ slice_index_or heads (slice_index_or numbers station 0) no_head
 
 -- ---- all boards together
+
+-- what the two of the board's part precede is told for each second of that part
+abbrev pub IsPartTold : List FirstTwo → Head → Parts → ℕ → List FirstTwo → Type 0
+IsPartTold all h parts part rests = (seconds rank : ℕ) → seconds ≤ h.last → part_at h.parts seconds ≡ part → Precede (rest_in all h part) rank → IsTold rests (part_at parts seconds) rank
+
+-- likewise for each second up to the board's last departure
+abbrev pub IsHeadTold : List FirstTwo → Head → Parts → List FirstTwo → Type 0
+IsHeadTold all h parts rests = (seconds rank : ℕ) → seconds ≤ h.last → Precede (rest_in all h (part_at h.parts seconds)) rank → IsTold rests (part_at parts seconds) rank
 
 -- what leaves any station is told in its part
 abbrev pub AreAllTold : List (List Useful) → Parts → List FirstTwo → Type 0

@@ -2,9 +2,9 @@ ghost use Rattle.std.specs.Prelude.{◌≡◌, ◌≤◌, ◌<◌, ◌+◌, ◌^
 ghost use Rattle.trip_builder.specs.declared.board.Useful.{Useful};
 ghost use Rattle.std.specs.List.{AllWithin};
 ghost use Rattle.trip_builder.specs.Boards.{InOrder, AreNoted};
-ghost use Rattle.trip_builder.specs.Bounds.{Precede, Rises, HasPosted, Follows, IsNoted, IsPosted, BoundsWindow, NarrowsWindow, HasBest};
+ghost use Rattle.trip_builder.specs.Bounds.{Precede, Rises, HasPosted, Follows, IsNoted, IsPosted};
 
-use crate::ranks::{FirstTwo, NONE, UNKNOWN, join, later};
+use crate::ranks::{FirstTwo, join};
 use std::alloc::{AllocError, Global};
 use std::marker::Model;
 use train_runs::Departure;
@@ -35,7 +35,6 @@ pub(crate) struct Board {
     useful: Vec<Useful>,
     seconds: u64,
     end: u64,
-    hints: Hints,
 }
 
 impl Model for Board {
@@ -51,24 +50,15 @@ impl Model for Board {
 }
 
 impl Board {
-    /// No departure, and blocks of so many seconds. Takes no memory.
-    pub(crate) fn new(alloc: Global, seconds: u64) -> Board
+    /// No departure. Takes no memory.
+    pub(crate) fn new(alloc: Global) -> Board
         ensures { result ≡ [] }
     {
         Board {
             useful: Vec::new(alloc),
-            seconds,
+            seconds: 0,
             end: 0,
-            hints: Hints::none(alloc),
         }
-    }
-
-    /// Takes the memory for so many departures more. It changes nothing else.
-    pub(crate) fn reserve(&mut self, count: usize) -> Result<(), AllocError>
-        ensures { self.new ≡ self.old }
-    {
-        self.useful.reserve(count)?;
-        Ok(())
     }
 
     /// Takes all departures off, for blocks of so many seconds. The memory stays.
@@ -109,8 +99,8 @@ impl Board {
         self.useful.as_slice()
     }
 
-    /// Puts a departure behind those that leave no later. What leaves later than it is told to it by `finish`.
-    pub(crate) fn post(&mut self, moment: u32, least: FirstTwo) -> Result<(), AllocError>
+    // Puts a departure behind those that leave no later. What leaves later than it is told to it by `finish`.
+    fn post(&mut self, moment: u32, least: FirstTwo) -> Result<(), AllocError>
         requires later { All (λ u. u.moment ≤ moment) self.old }
         ensures { OnOk result (HasPosted self.old moment least self.new) }
     {
@@ -130,70 +120,16 @@ impl Board {
         ensures { (depart rank : ℕ) → IsNoted self.old depart rank → IsPosted self.new depart rank }
     {
         let count = self.useful.len();
+        if count == 0 {
+            return;
+        }
+        let mut later = self.useful[count - 1];
         for back in 1..count {
             let next = count - back;
-            let later = self.useful[next];
             let here = self.useful[next - 1];
-            self.useful[next - 1] = told(here, later);
+            later = told(here, later);
+            self.useful[next - 1] = later;
         }
-    }
-
-    /// Makes searches of the board short. It changes nothing else.
-    pub(crate) fn hint(&mut self) -> Result<(), AllocError>
-        ensures { self.new ≡ self.old }
-    {
-        let alloc = *self.useful.allocator();
-        self.hints = Hints::of(alloc, self.useful.as_slice())?;
-        Ok(())
-    }
-
-    /// The first two by all of its departures.
-    pub(crate) fn best(&self) -> FirstTwo
-        ensures { HasBest self.now result }
-    {
-        best_of(self.useful.as_slice())
-    }
-
-    /// From when to when the board's departures leave of those from the one second to the other, both included.
-    pub(crate) fn narrowed(&self, from: u64, to: u64) -> Part
-        requires end { to < 2 ^ 63 }
-        ensures { NarrowsWindow self.now from to result.from result.to }
-    {
-        let useful = self.useful.as_slice();
-        let first = self.hints.count_before(useful, from);
-        let past = self.hints.count_before(useful, to + 1);
-        if past <= first {
-            return Part { from, to: 0 };
-        }
-        let earliest = useful[first];
-        let latest = useful[past - 1];
-        Part {
-            from: u64::from(earliest.moment),
-            to: u64::from(latest.moment),
-        }
-    }
-
-    /// The first two by what leaves from the one second to the other, both included, where the window is as long as a
-    /// block; else two that precede them.
-    pub(crate) fn firsts(&self, from: u64, to: u64) -> FirstTwo
-        requires end { to < 2 ^ 63 }
-        ensures { BoundsWindow self.now from to result }
-    {
-        let useful = self.useful.as_slice();
-        let first = self.hints.count_before(useful, from);
-        let count = self.hints.count_from(useful, first, to + 1);
-        if count <= first {
-            return NONE;
-        }
-        let earliest = useful[first];
-        let latest = useful[count - 1];
-        if earliest.block == latest.block {
-            return later(earliest.onward, latest.so_far);
-        }
-        if earliest.block.saturating_add(1) == latest.block {
-            return join(earliest.onward, latest.so_far);
-        }
-        UNKNOWN
     }
 }
 
@@ -244,17 +180,6 @@ fn told(here: Useful, next: Useful) -> Useful
     }
 }
 
-// The first two by all of these departures.
-fn best_of(board: &[Useful]) -> FirstTwo
-    ensures { HasBest board.now result }
-{
-    let mut best = NONE;
-    for useful in board {
-        best = join(best, useful.onward);
-    }
-    best
-}
-
 /// When the departure at this place leaves.
 pub(crate) fn moment_at(useful: &[Useful], place: usize) -> u64
     requires { place < length useful.now }
@@ -297,122 +222,4 @@ pub(crate) fn count_before(useful: &[Useful], seconds: u64) -> usize
         size = half;
     }
     first
-}
-
-// Where to look for a moment: for each part of the time from the first departure to the last, the first that leaves in
-// it or later. A hint may be wrong: who takes it looks whether it is right.
-#[derive(Drop)]
-struct Hints {
-    first: u64,
-    shift: u32,
-    places: Vec<u16>,
-}
-
-// How many places a hint is followed by at most.
-const MOST_STEPS: usize = 8;
-
-impl Hints {
-    // Takes no memory.
-    fn none(alloc: Global) -> Hints {
-        Hints {
-            first: 0,
-            shift: 0,
-            places: Vec::new(alloc),
-        }
-    }
-
-    // About one part for each departure.
-    fn of(alloc: Global, useful: &[Useful]) -> Result<Hints, AllocError> {
-        if useful.is_empty() {
-            return Ok(Hints::none(alloc));
-        }
-        let first = moment_at(useful, 0);
-        let span = moment_at(useful, useful.len() - 1).saturating_sub(first);
-        let each = span / useful.len() as u64;
-        let shift = 64u32.saturating_sub(each.leading_zeros()).min(63);
-        let parts = (span >> shift) as usize;
-        let mut hints = Hints {
-            first,
-            shift,
-            places: Vec::from_elem(alloc, u16::MAX, parts.saturating_add(1))?,
-        };
-        hints.place_all(useful);
-        hints.fill();
-        Ok(hints)
-    }
-
-    // The first departure of each part that has one.
-    fn place_all(&mut self, useful: &[Useful]) {
-        for back in 0..useful.len() {
-            let place = useful.len() - 1 - back;
-            let part = self.part_of(moment_at(useful, place));
-            if part < self.places.len() {
-                self.places[part] = (place % 65_536) as u16;
-            }
-        }
-    }
-
-    // Those of the parts that have none.
-    fn fill(&mut self) {
-        let mut next = u16::MAX;
-        let count = self.places.len();
-        for back in 0..count {
-            let part = count - 1 - back;
-            next = next.min(self.places[part]);
-            self.places[part] = next;
-        }
-    }
-
-    fn part_of(&self, seconds: u64) -> usize {
-        (seconds.saturating_sub(self.first) >> (self.shift % 64)) as usize
-    }
-
-    // How many of the departures leave before these seconds.
-    fn count_before(&self, useful: &[Useful], seconds: u64) -> usize
-        requires rises { Rises useful.now }
-        ensures within { result ≤ length useful.now }
-        ensures earlier { AllWithin (λ u. u.moment < seconds) useful.now 0 result }
-        ensures later { AllWithin (λ u. seconds ≤ u.moment) useful.now result (length useful.now) }
-    {
-        let end = useful.len();
-        if are_before(useful, end, seconds) {
-            return end;
-        }
-        if are_before(useful, 0, seconds) {
-            return 0;
-        }
-        let count = self.follow(useful, seconds);
-        if are_before(useful, count, seconds) {
-            return count;
-        }
-        count_before(useful, seconds)
-    }
-
-    // The same, where it may be as many as these.
-    fn count_from(&self, useful: &[Useful], count: usize, seconds: u64) -> usize
-        requires rises { Rises useful.now }
-        ensures within { result ≤ length useful.now }
-        ensures earlier { AllWithin (λ u. u.moment < seconds) useful.now 0 result }
-        ensures later { AllWithin (λ u. seconds ≤ u.moment) useful.now result (length useful.now) }
-    {
-        if are_before(useful, count, seconds) {
-            return count;
-        }
-        self.count_before(useful, seconds)
-    }
-
-    // The first departure from the hint on that leaves no earlier, where it isn't far.
-    fn follow(&self, useful: &[Useful], seconds: u64) -> usize {
-        let Some(place) = self.places.get(self.part_of(seconds)) else {
-            return useful.len();
-        };
-        let hint = *place as usize;
-        let end = useful.len().min(hint + MOST_STEPS);
-        for place in hint..end {
-            if moment_at(useful, place) >= seconds {
-                return place;
-            }
-        }
-        end
-    }
 }

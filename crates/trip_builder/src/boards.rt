@@ -3,7 +3,7 @@ ghost use Rattle.std.specs.List.{AllWithin};
 ghost use Rattle.std.specs.Option.{IfSome};
 ghost use Rattle.trip_builder.specs.declared.board.Useful.{Useful};
 ghost use Rattle.trip_builder.specs.Bounds.{Precede, Rises, IsPosted, BoundsWindow, NarrowsWindow, unknown};
-ghost use Rattle.trip_builder.specs.Boards.{InOrder, HasAdded, Keeps, IsTold, AreTold, AreToldFrom, AreRests, AreSpanned, AreHintsOf, IsHeadOf, AreAllTold, part_at, rest_in};
+ghost use Rattle.trip_builder.specs.Boards.{InOrder, HasAdded, Keeps, AreSpanned, AreHintsOf, IsHeadOf, IsPartTold, IsHeadTold, AreAllTold, rest_in};
 
 use crate::board::{Board, Part, Useful, are_before, count_before, moment_at};
 use crate::hints::Hints;
@@ -73,7 +73,7 @@ impl Draft {
         let boards = Boards::none(alloc, stations, room)?;
         Ok(Draft {
             boards,
-            board: Board::new(alloc, 0),
+            board: Board::new(alloc),
             hints: Hints::none(alloc),
         })
     }
@@ -85,8 +85,8 @@ impl Draft {
         self.boards.skip()
     }
 
-    /// Adds the next station's board: those of the departures that lead to the destination before this rank, by the first
-    /// two of each, in blocks of so many seconds.
+    /// Adds the next station's board: those of the departures that lead to the destination before this rank, by the
+    /// first two of each, in blocks of so many seconds.
     pub(crate) fn add(
         &mut self,
         departures: &[Departure],
@@ -127,12 +127,16 @@ impl Boards {
         numbers.reserve(stations)?;
         let mut useful = Vec::new(alloc);
         useful.reserve(room)?;
+        let mut places = Vec::new(alloc);
+        places.reserve(room)?;
+        let mut rests = Vec::new(alloc);
+        rests.reserve(room)?;
         Ok(Boards {
             numbers,
             heads,
             useful,
-            places: Vec::new(alloc),
-            rests: Vec::new(alloc),
+            places,
+            rests,
         })
     }
 
@@ -223,17 +227,18 @@ impl Boards {
         if precede_all(two, head.best) {
             return true;
         }
-        precede_all(two, rest_of(head, self.rests.as_slice(), from))
+        precede_all(
+            two,
+            rest_at(head, self.rests.as_slice(), head.parts.at(from)),
+        )
     }
 
     /// Notes what leaves any station in these parts of the time.
     pub(crate) fn tell_all(&self, parts: Parts, rests: &mut [FirstTwo])
         ensures { AreAllTold self.now parts rests.new }
     {
-        let all = self.useful.as_slice();
         for head in self.heads.as_slice() {
-            let useful = &all[head.begin..head.end];
-            tell_board(useful, head, self.rests.as_slice(), parts, rests);
+            tell_board(head, self.rests.as_slice(), parts, rests);
         }
     }
 }
@@ -258,58 +263,35 @@ fn first_of(rests: &[FirstTwo]) -> FirstTwo
     }
 }
 
-// The two of the part in which the second lies.
-fn rest_of(head: &Head, rests: &[FirstTwo], seconds: u64) -> FirstTwo
-    ensures { result ≡ rest_in rests.now head.now (part_at head.now.parts seconds) }
+// The two of this part of the board.
+fn rest_at(head: &Head, all: &[FirstTwo], part: usize) -> FirstTwo
+    ensures { result ≡ rest_in all.now head.now part }
 {
-    match rests.get(head.hints.saturating_add(head.parts.at(seconds))) {
+    match all.get(head.hints.saturating_add(part)) {
         Some(two) => *two,
         None => UNKNOWN,
     }
 }
 
-// How many departures are told of together.
-const GROUP: usize = 8;
-
 // Notes what leaves by the board in these parts of the time.
-fn tell_board(
-    useful: &[Useful],
-    head: &Head,
-    all: &[FirstTwo],
-    parts: Parts,
-    rests: &mut [FirstTwo],
-)
-    requires rises { Rises useful.now }
-    requires hinted { AreRests useful.now head.now.parts (rest_in all.now head.now) }
+fn tell_board(head: &Head, all: &[FirstTwo], parts: Parts, rests: &mut [FirstTwo])
     ensures kept { Keeps rests.old rests.new }
-    ensures told { AreTold useful.now parts rests.new }
+    ensures told { IsHeadTold all.now head.now parts rests.new }
 {
-    for group in 0..useful.len() / GROUP + 1 {
-        let first = group * GROUP;
-        if first < useful.len() {
-            tell_group(useful, head, all, parts, first, rests);
-        }
+    let last = head.parts.at(head.last);
+    for part in 0..last {
+        tell_part(head, all, parts, part, rests);
     }
+    tell_part(head, all, parts, last, rests);
 }
 
-// Likewise by so many departures, from the first on: all of them are told of where the last of them leaves.
-fn tell_group(
-    useful: &[Useful],
-    head: &Head,
-    all: &[FirstTwo],
-    parts: Parts,
-    first: usize,
-    rests: &mut [FirstTwo],
-)
-    requires rises { Rises useful.now }
-    requires hinted { AreRests useful.now head.now.parts (rest_in all.now head.now) }
-    requires within { first < length useful.now }
+// Likewise in this part of the board: where it ends, since that is all that the part tells of its departures.
+fn tell_part(head: &Head, all: &[FirstTwo], parts: Parts, part: usize, rests: &mut [FirstTwo])
     ensures kept { Keeps rests.old rests.new }
-    ensures told { AreToldFrom first (first + 8) useful.now parts rests.new }
+    ensures told { IsPartTold all.now head.now parts part rests.new }
 {
-    let last = first + (useful.len() - first).min(GROUP) - 1;
-    let two = rest_of(head, all, moment_at(useful, first));
-    tell(rests, parts.at(moment_at(useful, last)), two);
+    let end = head.parts.end_of(part, head.last);
+    tell(rests, parts.at(end), rest_at(head, all, part));
 }
 
 // From when to when the board's departures leave of those from the one second to the other, both included.

@@ -4,8 +4,8 @@ ghost use Rattle.trip_builder.specs.Bounds.{Precede, Rises};
 ghost use Rattle.trip_builder.specs.Boards.{AreTold, AreRestsIn, AreHintsOf};
 
 use crate::board::{Useful, moment_at};
-use crate::ranks::{FirstTwo, NONE};
-use crate::rests::{Parts, settle, tell};
+use crate::ranks::{FirstTwo, NONE, join};
+use crate::rests::{Parts, put, settle};
 use std::alloc::{AllocError, Global};
 
 /// For each part of a board's time where to look for its moments, and the first two by what leaves in it or later.
@@ -64,16 +64,21 @@ fn make(useful: &[Useful], parts: Parts, places: &mut [u16], rests: &mut [FirstT
     fill(places);
 }
 
-// Notes in each departure's part what it leads to, and the first departure of each part that has one.
+// Notes for each departure's part what it and all later ones lead to, and the first departure of each part that has
+// one.
 fn note_all(useful: &[Useful], parts: Parts, places: &mut [u16], rests: &mut [FirstTwo])
     ensures { AreTold useful.now parts rests.new }
 {
-    for n in 0..useful.len() {
-        let it = useful[n];
+    let count = useful.len();
+    let mut rest = NONE;
+    for back in 0..count {
+        let place = count - 1 - back;
+        let it = useful[place];
         let part = parts.at(u64::from(it.moment));
-        tell(rests, part, it.onward);
+        rest = join(rest, it.onward);
+        put(rests, part, rest);
         if part < places.len() {
-            places[part] = places[part].min((n % 65_536) as u16);
+            places[part] = (place % 65_536) as u16;
         }
     }
 }

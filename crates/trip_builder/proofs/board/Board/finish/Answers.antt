@@ -1,4 +1,5 @@
-use Rattle.std.proofs.Common.{◌≡◌, ◌∙◌, ◌-◌, ◌<◌, List, length, arith, sym, subst, set}
+use Rattle.std.proofs.Common.{◌≡◌, ◌∙◌, ◌-◌, ◌<◌, List, length, arith, sym, subst, get_or, set}
+use Rattle.std.proofs.lemmas.List.{get_or-set_same}
 use Rattle.trip_builder.specs.declared.board.Useful.{Useful}
 use Rattle.trip_builder.specs.Bounds.{IsNoted}
 use Rattle.trip_builder.proofs.Posting.{IsHalf, half_noted, told_set, told_rises, half_on, half_posted}
@@ -12,6 +13,7 @@ loop-back-init c =
     let size : length items ≡ c.len-count.result = omega (arith, ok, is) in
     record {
       size = size;
+      next_is = c.index-later.ensures;
       rises = c.self.invariant;
       half = λ depart rank noted. subst (λ n. IsHalf (n - 1) items depart rank) size (half_noted items depart rank (subst (λ (l : List Useful). IsNoted l depart rank) (sym c.self.view_is) noted));
     }
@@ -26,11 +28,12 @@ loop-back-preserved c =
     let low = c.loop-back.auto.back in
     let some : 0 < next = omega (arith, test) in
     let inside : next < c.len-count.result = omega (arith, test, low) in
-    let told = told_set next old c.index-here.result.now c.index-later.result.now c.told.result some (omega (arith, inside, size)) c.index-here.ensures c.index-later.ensures
-    c.told.ensures.moment c.told.ensures.block c.told.ensures.so_far c.told.ensures.own c.told.ensures.told in
-    let new = set old (next - 1) c.told.result in
+    let told = told_set next old c.index-here.result.now c.loop-back.later c.told-later.result some (omega (arith, inside, size)) c.index-here.ensures was.next_is
+    c.told-later.ensures.moment c.told-later.ensures.block c.told-later.ensures.so_far c.told-later.ensures.own c.told-later.ensures.told in
+    let new = set old (next - 1) c.told-later.result in
     record {
       size = told.size ∙ was.size;
+      next_is = subst (λ n. c.told-later.result ≡ get_or new n c.told-later.result) (omega arith) (sym (get_or-set_same old (next - 1) c.told-later.result c.told-later.result (omega (arith, inside, size))));
       rises = told_rises next old new told was.rises;
       half = λ depart arrival noted. subst (λ n. IsHalf n new depart arrival) (omega arith) (half_on next old new depart arrival some (omega (arith, inside, size)) was.rises told (was.half depart arrival noted));
     }
