@@ -42,8 +42,8 @@ impl Seen {
     }
 }
 
-/// With which rank some ways of the wish come to the destination, by the rides with one change: what comes later is hardly
-/// asked for. Any rank would do.
+/// With which rank some ways of the wish come to the destination, by the rides with one change: what comes later is
+/// hardly asked for. Any rank would do.
 pub(crate) fn probed_rank(
     alloc: Global,
     runs: &Runs,
