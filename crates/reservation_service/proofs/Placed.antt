@@ -1,5 +1,5 @@
 -- Placings of segments, one after the other, and what a whole one has.
-use Rattle.std.proofs.Common.{◌≡◌, ◌∙◌, Bool, true, false, ◌&&◌, inl, inr, ℕ, ◌+◌, ◌*◌, ◌<◌, ◌≤◌, List, [], ◌∷◌, ◌++◌, length, map, take, drop, get_or, refl, sym, ap, subst, arith, append_assoc, append-nil, length-append, take-append-drop, length-take}
+use Rattle.std.proofs.Common.{◌≡◌, ◌≢◌, ◌∙◌, Bool, true, false, ◌&&◌, inl, inr, ℕ, ◌+◌, ◌*◌, ◌<◌, ◌≤◌, List, [], ◌∷◌, ◌++◌, length, map, take, drop, get_or, refl, sym, ap, subst, arith, append_assoc, append-nil, length-append, take-append-drop, length-take}
 use Rattle.rail_ids.specs.declared.RowNo.{RowNo}
 use Rattle.rail_ids.specs.declared.PlaceNo.{PlaceNo}
 use Rattle.std.specs.Prelude.{nat_le}
@@ -16,6 +16,7 @@ use Rattle.claim_rule.specs.Rule.{DeskView}
 use Rattle.claim_rule.specs.Calls.{ShapeBy}
 use Rattle.claim_rule.specs.Holds.{HoldView}
 use Rattle.hold_core.specs.declared.adds.Added.{Added}
+use Rattle.hold_core.specs.declared.adds.Added.TheVariants as added
 use Rattle.hold_core.specs.Tries.{place_number, with_items}
 use Rattle.hold_core.specs.Places.{Adds, AddsPlaces}
 use Rattle.party_places.specs.declared.party.PartyAdded.{PartyAdded}
@@ -147,3 +148,16 @@ whole_places cat o together row items (s ∷ rest) p all old new (inl (mine, won
     (won ++ later.0, (won, later.0, all_of cat o together row items won s mine old mid did go.0, later.1, refl), later.2 ∙ append_assoc items won later.0)
 whole_places cat o together row items (s ∷ rest) p all old new (inl (mine, won, mid, did, inr stop)) e = absurd (stop.0 (sym stop.1 ∙ e))
 whole_places cat o together row items (s ∷ rest) p all old new (inr none) e = absurd (memory_not p none.0 e)
+
+-- passengers who don't sit together never want for memory
+
+singly_known : (a : Added) → placing_of a ≢ NoMemory
+singly_known added.All e = let no : Whole ≡ NoMemory = e in cc
+singly_known (added.NoPlace won) e = let no : Short ≡ NoMemory = e in cc
+singly_known (added.Contended place) e = let no : Contended ≡ NoMemory = e in cc
+
+pub apart_has_memory : (cat : CatalogueView) (o : OfferView) (row : RowNo) (items : List Item) (segments : List Segment) (p : Placing) (all : List Item) (old new : DeskView) → PlacesAll cat o false row items segments p all old new → p ≢ NoMemory
+apart_has_memory cat o row items [] p all old new is e = memory_not p e is.0
+apart_has_memory cat o row items (s ∷ rest) p all old new (inl (mine, won, mid, did, inl go)) e = apart_has_memory cat o row (items ++ won) rest p all mid new go.1 e
+apart_has_memory cat o row items (s ∷ rest) p all old new (inl (mine, won, mid, did, inr stop)) e = singly_known did.0 (sym did.1 ∙ (sym stop.1 ∙ e))
+apart_has_memory cat o row items (s ∷ rest) p all old new (inr none) e = let no : false ≡ true = none.3 in cc

@@ -1,5 +1,5 @@
 -- The replies to a booking of an offer.
-use Rattle.std.proofs.Common.{◌≡◌, Bool, ◌∙◌, inl, inr, ℕ, ◌≤◌, List, [], ◌∷◌, ◌++◌, length, Option, Some, None, refl, sym, ap, subst, arith, append_assoc}
+use Rattle.std.proofs.Common.{◌≡◌, ◌≢◌, Bool, false, ◌∙◌, inl, inr, ℕ, ◌≤◌, List, [], ◌∷◌, ◌++◌, length, Option, Some, None, refl, sym, ap, subst, arith, append_assoc}
 use Rattle.rail_ids.specs.declared.RowNo.{RowNo}
 use mathlib.Core.List.{IsPrefix}
 use Rattle.leg_masks.specs.Interval.{PlacedSpan as Item}
@@ -31,8 +31,8 @@ use Rattle.osdm_texts.proofs.Telling.{of_problem}
 use Rattle.reservation_service.specs.declared.holding.Placing.{Placing}
 use Rattle.reservation_service.specs.declared.holding.Placing.TheVariants.{Whole, Short, Contended, NoMemory}
 use Rattle.reservation_service.specs.Holding.{count_of, HoldsPlaces, FindsNoRow, GivesUp, HasAllPlaces, problem_of}
-use Rattle.reservation_service.specs.Reserving.{detail_of, made_view, Reserves, SealsHold, HasAllOrNone, AnswersReserving}
-use Rattle.reservation_service.proofs.Placed.{whole_places, places_many}
+use Rattle.reservation_service.specs.Reserving.{detail_of, made_view, Reserves, SealsHold, FailsToHold, HasAllOrNone, AnswersReserving}
+use Rattle.reservation_service.proofs.Placed.{apart_has_memory, whole_places, places_many}
 use Rattle.reservation_service.proofs.Calm.{held_calmly, reserves_tidy}
 
 pub whole_of : (p : Placing) → problem_of p ≡ None → p ≡ Whole
@@ -116,3 +116,19 @@ prebooked cat retailer now o together row p items old mid new reply written plac
 
 pub answered_tidy : (cat : CatalogueView) (retailer now : ℕ) (o : OfferView) (together : Bool) (old new : DeskView) (written : Told) (books : BooksView) → IsOf books new → AnswersReserving cat retailer now o together old new written → IsIdle new → IsTidy old → IsTidy new
 answered_tidy cat retailer now o together old new written books of a = reserves_tidy cat retailer now o together books old new a.0 of a.1
+
+-- a hold for passengers who don't sit together never fails for want of memory
+
+answers_known : (p : Placing) (why : Problem) → p ≢ NoMemory → problem_of p ≡ Some why → why ≢ reason.NoMemory
+answers_known Whole why ne is e = let no : ◌≡◌ {A = Option Problem} None (Some why) = is in cc
+answers_known Short why ne is e = let no : ◌≡◌ {A = Option Problem} (Some reason.NoPlace) (Some reason.NoMemory) = is ∙ ap Some e in cc
+answers_known Contended why ne is e = let no : ◌≡◌ {A = Option Problem} (Some reason.Contended) (Some reason.NoMemory) = is ∙ ap Some e in cc
+answers_known NoMemory why ne is e = absurd (ne refl)
+
+same_problem : (a b : Problem) → problem a ≡ problem b → a ≡ b
+same_problem a b e = cc
+
+pub fails_with_memory : (cat : CatalogueView) (o : OfferView) (old new : DeskView) (reply : Reply) → FailsToHold cat o false old new reply → reply ≢ problem reason.NoMemory
+fails_with_memory cat o old new reply (inl (did, is)) e = let no : problem reason.RowsFull ≡ problem reason.NoMemory = sym is ∙ e in cc
+fails_with_memory cat o old new reply (inr (row, p, why, items, mid, (first, started, placed), wrong, gave, is)) e =
+    answers_known p why (apart_has_memory cat o row [] o.segments p items first mid placed) wrong (same_problem why reason.NoMemory (sym is ∙ e))

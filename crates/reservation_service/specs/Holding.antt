@@ -73,14 +73,14 @@ AddsSegment cat o true row items s placing won old new =
     × ShapeBy (SpoilsAll (party_at cat o row (length items) s) answer) old new
 
 -- From a hold of the row with these items to one with all of those: each segment in order, up to the first that hasn't all its places, or
--- for which there was no memory: that takes wanted traits
+-- for which there was no memory: only passengers who want traits and are to sit together take some
 abbrev pub PlacesAll : CatalogueView → OfferView → Bool → RowNo → List Item → List Segment → Placing → List Item → DeskView → DeskView → Type 0
 PlacesAll cat o together row items [] placing all old new = (placing ≡ Whole) × (all ≡ items) × (new ≡ old)
 PlacesAll cat o together row items (s ∷ rest) placing all old new =
     ((mine : Placing) × (won : List Item) × (mid : DeskView) × AddsSegment cat o together row items s mine won old mid
     × (((mine ≡ Whole) × PlacesAll cat o together row (items ++ won) rest placing all mid new)
     ⊎ ((mine ≢ Whole) × (placing ≡ mine) × (all ≡ items ++ won) × (new ≡ mid))))
-    ⊎ ((placing ≡ NoMemory) × (all ≡ items) × (new ≡ old) × (o.wanted ≢ 0))
+    ⊎ ((placing ≡ NoMemory) × (all ≡ items) × (new ≡ old) × (together ≡ true) × (o.wanted ≢ 0))
 
 -- a hold was started on the row, and places added for these segments
 abbrev pub HoldsPlaces : CatalogueView → OfferView → Bool → List Segment → RowNo → Placing → List Item → DeskView → DeskView → Type 0

@@ -1,5 +1,5 @@
 //! Holding a place for each passenger at each segment of an offer.
-ghost use Rattle.std.specs.Prelude.{◌≡◌, ◌≤◌, ◌+◌, ◌*◌, ◌∷◌, [], true, length, IfSome, IfNone};
+ghost use Rattle.std.specs.Prelude.{◌≡◌, ◌≤◌, ◌+◌, ◌*◌, ◌∷◌, [], true, false, length, IfSome, IfNone};
 ghost use Rattle.std.specs.List.{list_all, AllByRecursion};
 ghost use Rattle.place_map.specs.Candidates.{candidates_of, IsOfRun, AreRising};
 ghost use Rattle.offer_codes.specs.Offers.{is_party, offer_view};
@@ -118,7 +118,7 @@ fn place_segments(
     Placing::Whole
 }
 
-// Adds places for one segment to the hold.
+// Adds places for one segment to the hold: side by side where that is wished, else one by one.
 fn place_segment(
     shop: &Shop<'_>,
     desk: &mut Desk,
@@ -142,85 +142,114 @@ fn place_segment(
     ensures noted { HasNotedItems desk.new hold.new }
     ensures endings { KeepsEndings desk.old desk.new }
 {
-    let places = shop.cat.places();
-    let all = places.class_places(segment.run, offer.class);
-    if offer.wanted == 0 {
-        let part = OfferPart {
-            offer,
-            segment,
-            together,
-        };
-        return place_among(shop, desk, hold, &part, all);
+    if together {
+        place_party(shop, desk, hold, offer, segment)
+    } else {
+        place_apart(shop, desk, hold, offer, segment)
     }
-    if !together {
-        let wanted = Wanted {
-            span: segment.span,
-            count: offer.adults + offer.children,
-            traits: offer.wanted,
-        };
-        return placing_of(add_wanted(shop, desk, hold, all, &wanted));
+}
+
+// Adds places for one segment to the hold, one by one. No memory is taken.
+fn place_apart(
+    shop: &Shop<'_>,
+    desk: &mut Desk,
+    hold: &mut Hold,
+    offer: &OfferCode,
+    segment: Segment,
+) -> Placing
+    requires own { IsOf shop.now.books.now desk.old }
+    requires legs { shop.now.books.now.layout.legs ≡ legs_in shop.now.cat.now }
+    requires hold { IsHolding desk.old hold.old }
+    requires noted { HasNotedItems desk.old hold.old }
+    requires party { is_party offer.now.adults offer.now.children ≡ true }
+    requires run { is_of_runs shop.now.cat.now.runs segment ≡ true }
+    requires room { length hold.old.items + items_wanted (offer_view offer.now) segment ≤ most_items }
+    ensures own { IsOf shop.now.books.now desk.new }
+    ensures row { hold.new.row ≡ hold.old.row }
+    ensures placed { PlacesAll shop.now.cat.now (offer_view offer.now) false hold.old.row hold.old.items
+        (segment ∷ []) result hold.new.items desk.old desk.new }
+    ensures hold { IsHolding desk.new hold.new }
+    ensures noted { HasNotedItems desk.new hold.new }
+    ensures endings { KeepsEndings desk.old desk.new }
+{
+    let all = shop.cat.places().class_places(segment.run, offer.class);
+    let count = offer.adults + offer.children;
+    if offer.wanted == 0 {
+        return placing_of(add_places(shop.books, desk, hold, all, segment.span, count));
+    }
+    let wanted = Wanted {
+        span: segment.span,
+        count,
+        traits: offer.wanted,
+    };
+    placing_of(add_wanted(shop, desk, hold, all, &wanted))
+}
+
+// Adds places for one segment to the hold, side by side. Those with wanted traits are listed first.
+fn place_party(
+    shop: &Shop<'_>,
+    desk: &mut Desk,
+    hold: &mut Hold,
+    offer: &OfferCode,
+    segment: Segment,
+) -> Placing
+    requires own { IsOf shop.now.books.now desk.old }
+    requires legs { shop.now.books.now.layout.legs ≡ legs_in shop.now.cat.now }
+    requires hold { IsHolding desk.old hold.old }
+    requires noted { HasNotedItems desk.old hold.old }
+    requires party { is_party offer.now.adults offer.now.children ≡ true }
+    requires run { is_of_runs shop.now.cat.now.runs segment ≡ true }
+    requires room { length hold.old.items + items_wanted (offer_view offer.now) segment ≤ most_items }
+    ensures own { IsOf shop.now.books.now desk.new }
+    ensures row { hold.new.row ≡ hold.old.row }
+    ensures placed { PlacesAll shop.now.cat.now (offer_view offer.now) true hold.old.row hold.old.items
+        (segment ∷ []) result hold.new.items desk.old desk.new }
+    ensures hold { IsHolding desk.new hold.new }
+    ensures noted { HasNotedItems desk.new hold.new }
+    ensures endings { KeepsEndings desk.old desk.new }
+{
+    let places = shop.cat.places();
+    if offer.wanted == 0 {
+        let all = places.class_places(segment.run, offer.class);
+        return place_among(shop, desk, hold, offer, segment, all);
     }
     match places.candidates(shop.alloc, segment.run, offer.class, offer.wanted) {
-        Ok(some) => {
-            let part = OfferPart {
-                offer,
-                segment,
-                together,
-            };
-            place_among(shop, desk, hold, &part, some.as_slice())
-        }
+        Ok(some) => place_among(shop, desk, hold, offer, segment, some.as_slice()),
         Err(_) => Placing::NoMemory,
     }
 }
 
-// A segment of an offer, and whether its passengers are to sit together there.
-#[derive(Clone, Copy)]
-struct OfferPart<'a> {
-    offer: &'a OfferCode,
-    segment: Segment,
-    together: bool,
-}
-
-// Adds places for one segment to the hold, out of its candidates: side by side or one by one, as is wished.
+// Adds places for one segment to the hold, side by side, out of its candidates.
 fn place_among(
     shop: &Shop<'_>,
     desk: &mut Desk,
     hold: &mut Hold,
-    part: &OfferPart<'_>,
+    offer: &OfferCode,
+    segment: Segment,
     candidates: &[PlaceNo],
 ) -> Placing
     requires own { IsOf shop.now.books.now desk.old }
     requires legs { shop.now.books.now.layout.legs ≡ legs_in shop.now.cat.now }
     requires hold { IsHolding desk.old hold.old }
     requires noted { HasNotedItems desk.old hold.old }
-    requires party { is_party part.now.offer.now.adults part.now.offer.now.children ≡ true }
-    requires run { is_of_runs shop.now.cat.now.runs part.now.segment ≡ true }
-    requires room { length hold.old.items + items_wanted (offer_view part.now.offer.now) part.now.segment ≤ most_items }
-    requires candidates { candidates.now ≡ candidates_of part.now.segment.run.0
-        part.now.offer.now.class part.now.offer.now.wanted shop.now.cat.now.places }
-    requires of_run { AllByRecursion (IsOfRun part.now.segment.run.0 shop.now.cat.now.places) candidates.now }
+    requires party { is_party offer.now.adults offer.now.children ≡ true }
+    requires run { is_of_runs shop.now.cat.now.runs segment ≡ true }
+    requires room { length hold.old.items + items_wanted (offer_view offer.now) segment ≤ most_items }
+    requires candidates { candidates.now ≡ candidates_of segment.run.0 offer.now.class offer.now.wanted shop.now.cat.now.places }
+    requires of_run { AllByRecursion (IsOfRun segment.run.0 shop.now.cat.now.places) candidates.now }
     requires rising { AreRising 0 candidates.now }
     ensures own { IsOf shop.now.books.now desk.new }
     ensures row { hold.new.row ≡ hold.old.row }
-    ensures placed { PlacesAll shop.now.cat.now (offer_view part.now.offer.now) part.now.together
-        hold.old.row hold.old.items (part.now.segment ∷ []) result hold.new.items desk.old desk.new }
+    ensures placed { PlacesAll shop.now.cat.now (offer_view offer.now) true hold.old.row hold.old.items
+        (segment ∷ []) result hold.new.items desk.old desk.new }
     ensures hold { IsHolding desk.new hold.new }
     ensures noted { HasNotedItems desk.new hold.new }
     ensures endings { KeepsEndings desk.old desk.new }
 {
-    let OfferPart {
-        offer,
-        segment,
-        together,
-    } = *part;
-    let count = offer.adults + offer.children;
+    let places = shop.cat.places();
     let span = segment.span;
-    if together {
-        let places = shop.cat.places();
-        placing_of_party(add_party(places, shop.books, desk, hold, candidates, span, count))
-    } else {
-        placing_of(add_places(shop.books, desk, hold, candidates, span, count))
-    }
+    let party = offer.adults + offer.children;
+    placing_of_party(add_party(places, shop.books, desk, hold, candidates, span, party))
 }
 
 // What an answer means for a segment whose places were added one by one.

@@ -1,5 +1,5 @@
 -- The replies to commands on exchanges.
-use Rattle.std.proofs.Common.{false, ◌≡◌, ◌∙◌, inl, inr, ℕ, ℤ, ◌≤◌, true, List, length, Some, None, refl, sym, subst}
+use Rattle.std.proofs.Common.{false, ◌≡◌, ◌≢◌, ◌∙◌, inl, inr, ℕ, ℤ, ◌≤◌, true, List, length, Some, None, refl, sym, subst}
 use Rattle.std.specs.Prelude.{nat_le}
 use Rattle.std.proofs.lemmas.Bool.{leb-true}
 use Rattle.leg_masks.specs.Interval.{PlacedSpan as Item}
@@ -37,8 +37,8 @@ use Rattle.reservation_service.specs.Holding.{HoldsPlaces, FindsNoRow, GivesUp, 
 use Rattle.reservation_service.specs.Reserving.{detail_of, made_view, HasAllOrNone}
 use Rattle.reservation_service.proofs.Calm.{held_calmly}
 use Rattle.reservation_service.proofs.Placed.{both}
-use Rattle.reservation_service.proofs.Replying.{whole_of, seals_since, has_places}
-use Rattle.trade_service.specs.Exchanges.{QuotesExchangeOfIt, DecidesOrNot, IsUnready, lost_problem, ready_of, AnswersReady, AnswersExchange}
+use Rattle.reservation_service.proofs.Replying.{whole_of, seals_since, has_places, fails_with_memory}
+use Rattle.trade_service.specs.Exchanges.{QuotesExchangeOfIt, DecidesOrNot, CarriesOut, IsUnready, lost_problem, ready_of, AnswersReady, AnswersExchange}
 use Rattle.booking_service.specs.Deciding.{Answered}
 use Rattle.trade_service.proofs.Settling.{Settles}
 
@@ -175,3 +175,24 @@ refused cat rows retailer code now p old new (a, did, un) none = (problem p, inl
 
 pub exchanged_tidy : (books : BooksView) (old new : DeskView) → IsOf books new → IsIdle new → Settles old new → IsTidy old → IsTidy new
 exchanged_tidy books old new of idle settles tidy = (idle, settles tidy.1, makes_empty books new of idle.0)
+
+-- an exchange ends for want of memory only where all places of the new booking were held, and are given back
+
+lost_known : (shown : Phase) → lost_problem shown ≢ NoMemory
+lost_known phase.Free e = let no : UnknownBooking ≡ NoMemory = e in cc
+lost_known phase.Making e = let no : WrongState phase.Making ≡ NoMemory = e in cc
+lost_known phase.Prebooked e = let no : WrongState phase.Prebooked ≡ NoMemory = e in cc
+lost_known phase.Confirmed e = let no : WrongState phase.Confirmed ≡ NoMemory = e in cc
+lost_known phase.Fulfilled e = let no : WrongState phase.Fulfilled ≡ NoMemory = e in cc
+lost_known (phase.Ending kind) e = let no : WrongState (phase.Ending kind) ≡ NoMemory = e in cc
+lost_known (phase.Ended kind) e = let no : WrongState (phase.Ended kind) ≡ NoMemory = e in cc
+
+same_reason : (a b : Problem) → problem a ≡ problem b → a ≡ b
+same_reason a b e = cc
+
+pub memory_when_held : (cat : CatalogueView) (ready : ReadyView) (old new : DeskView) → CarriesOut cat ready old new (problem NoMemory)
+    → (row : RowNo) × (items : List Item) × (held : DeskView) × HoldsPlaces cat ready.code.offer false ready.code.offer.segments row Whole items old held × GivesUp row items held new
+memory_when_held cat ready old new (inl failed) = absurd (fails_with_memory cat ready.code.offer old new (problem NoMemory) failed refl)
+memory_when_held cat ready old new (inr (row, items, held, placed, inl (noted, notes, inl (made, difference, did, seals, is)))) = absurd (let no : problem NoMemory ≡ exchanged row _ _ _ = is in cc)
+memory_when_held cat ready old new (inr (row, items, held, placed, inl (noted, notes, inr (shown, hold, lost, did, gave, is)))) = absurd (lost_known shown (same_reason _ _ (sym is)))
+memory_when_held cat ready old new (inr (row, items, held, placed, inr (gave, is))) = (row, items, held, placed, gave)
