@@ -228,7 +228,7 @@ places_chosen cat o together standing row items [] placing all old new each fit 
       making = subst (λ (is : List Item). IsMaking standing row (map held is) (state_seen old)) (sym same) m;
       goes = subst (λ (p : Placing). GoesWith p items all (Some [])) (sym whole) ([], same ∙ sym (append-nil items), refl);
     })
-places_chosen cat o together standing row items (s ∷ rest) placing all old new each fit differ off alone legal m (inr (memory, same, still, traits)) =
+places_chosen cat o together standing row items (s ∷ rest) placing all old new each fit differ off alone legal m (inr (memory, same, still, both, traits)) =
     subst (λ (d : DeskView). HasPlaced cat o together standing row items (s ∷ rest) placing all old d) (sym still)
     (record {
       alone = alone;
