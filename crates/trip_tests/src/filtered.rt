@@ -72,7 +72,7 @@ fn trips_of_runs_that_arrive_together(rt: HostRuntime) -> Result<(), Fail> {
         let stay = 60 + 30 * (run / 6) * (line % 2);
         let mut times = Vec::new(alloc);
         for stop in 0..6u32 {
-            let arrive = 900 * line + 1200 * stop;
+            let arrive = 1500 * line + 1200 * stop;
             times.push(((line + 3 * stop) % STATIONS, arrive, arrive + stay))?;
         }
         add(&rt, alloc, &mut runs, times.as_slice())?;

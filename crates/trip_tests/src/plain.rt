@@ -40,7 +40,7 @@ pub fn stretches(alloc: Global, runs: &Runs) -> Result<Vec<Stretch>, Fail> {
         let stops = it.stops();
         for (from, first) in stops.iter().enumerate() {
             for (to, last) in stops.iter().enumerate() {
-                if from < to && to < 64 {
+                if from < to && to < 127 {
                     found.push(Stretch {
                         run,
                         from: from as u8,
