@@ -235,7 +235,8 @@ fn place_among(
     requires party { is_party offer.now.adults offer.now.children ≡ true }
     requires run { is_of_runs shop.now.cat.now.runs segment ≡ true }
     requires room { length hold.old.items + items_wanted (offer_view offer.now) segment ≤ most_items }
-    requires candidates { candidates.now ≡ candidates_of segment.run.0 offer.now.class offer.now.wanted shop.now.cat.now.places }
+    requires candidates { candidates.now
+        ≡ candidates_of segment.run.0 offer.now.class offer.now.wanted shop.now.cat.now.places }
     requires of_run { AllByRecursion (IsOfRun segment.run.0 shop.now.cat.now.places) candidates.now }
     requires rising { AreRising 0 candidates.now }
     ensures own { IsOf shop.now.books.now desk.new }
