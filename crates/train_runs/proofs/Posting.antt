@@ -185,10 +185,10 @@ step_boards runs last n p boards s d ds small here known fits is ordered h k non
         (posts_elsewhere runs last n (record { 0 = k }) (get_or boards k none) small (λ e. other (sym e ∙ here)) (h k none (omega (arith, below, size))))
 
 -- a station that isn't known has no departure
-pub departs_from_known : (r : RunsView) (s : StationNo) (x : Departure) → AreSound r → IsDeparture r.runs s x → s.0 < length r.stations
-departs_from_known r s x sound dep =
+pub departs_from_known : (r : RunsView) (s : StationNo) (x : Departure) → All (IsRun (length r.stations)) r.runs → IsDeparture r.runs s x → s.0 < length r.stations
+departs_from_known r s x each dep =
     let within = slice_get_within r.runs x.run.0 dep.run dep.found in
-    let fine = subst (λ (run : RunView). IsRun (length r.stations) run) (get_or_from_slice_get r.runs x.run.0 dep.run dep.run dep.found) (sound.each x.run.0 dep.run within) in
+    let fine = subst (λ (run : RunView). IsRun (length r.stations) run) (get_or_from_slice_get r.runs x.run.0 dep.run dep.run dep.found) (each x.run.0 dep.run within) in
     let below = fine.known x.stop no_stop (omega (arith, dep.goes_on)) in
     let same : (stop_at dep.run.stops x.stop).station.0 ≡ s.0 = ap (λ (q : StationNo). q.0) dep.here in omega (arith, below, same)
 
@@ -210,7 +210,7 @@ no_board : (r : RunsView) (s : StationNo) → AreSound r → length r.stations �
 no_board r s sound le = record {
   exact = record {
     in_order = λ i j d l small. absurd (omega (arith, small));
-    members = λ x. ((λ c. absurd (omega (arith, c.1))), λ dep. absurd (let known = departs_from_known r s x sound dep in omega (arith, known, le)));
+    members = λ x. ((λ c. absurd (omega (arith, c.1))), λ dep. absurd (let known = departs_from_known r s x sound.each dep in omega (arith, known, le)));
   };
   count = sym (sum_none (times_left s) r.runs (λ k d small. never_left (length r.stations) s (get_or r.runs k d) le (sound.each k d small)));
 }
@@ -302,7 +302,7 @@ counted r boards seen s board h same small is =
 -- no train leaves a station that isn't known
 unknown_left : (r : RunsView) (boards seen : List (List Departure)) (s : StationNo) (d : Departure) → AreSound r → HasBoards r boards → seen ≡ boards → false ≡ ltb s.0 (length seen) → IsDeparture r.runs s d → ⊥
 unknown_left r boards seen s d sound h same past is =
-    let known = departs_from_known r s d sound is in
+    let known = departs_from_known r s d sound.each is in
     let size : length seen ≡ length boards = ap length same in
     let stations = h.count in
     true≢false (sym (lt-ltb s.0 (length seen) (omega (arith, known, size, stations))) ∙ sym past)
@@ -318,6 +318,13 @@ none_at_all r boards seen s sound h same past = record {
   in_order = λ i j d l small. absurd (omega (arith, small));
   members = λ x. (λ c. absurd (omega (arith, c.1)), λ dep. absurd (unknown_left r boards seen s x sound h same past dep));
 }
+
+-- a list of the departures of a station that isn't known is empty
+pub none_known : (stations : List StationView) (runs : List RunView) (s : StationNo) (from to : ℕ) (ds : List Departure) → All (IsRun (length stations)) runs → length stations ≤ s.0 → AreDepartures runs s from to ds → ds ≡ []
+none_known stations runs s from to [] each past h = refl
+none_known stations runs s from to (d ∷ ds) each past h =
+    let known = departs_from_known (record { stations = stations; runs = runs }) s d each ((h.members d).0 (0, omega arith, refl)).0 in
+    absurd (omega (arith, known, past))
 
 -- a departure that was put in and taken out again
 pub put_back : (boards later : List (List Departure)) (s p : ℕ) (y : Departure) (d new at gone : List Departure) → later ≡ set boards s new → s < length boards → p ≤ length (get_or boards s d) → new ≡ insert (get_or boards s d) p y

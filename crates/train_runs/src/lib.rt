@@ -1,10 +1,10 @@
 //! Stations, and the runs of trains between them.
 //!
-//! A run stops at two to 127 stations, each once, and its times rise from stop to stop; between two neighbouring stops lies
-//! a leg. `Runs` takes stations and runs one after the other, with the first fault of each named, and is as before after a
-//! refusal. Then it is only asked: for a station by its code, for a run, for the legs between two stations, and for the
-//! departures of a station from one moment to another. These are found by two binary searches, since `Runs` keeps a
-//! list of its departures in order for each station.
+//! A run stops at two to 127 stations, each once, and its times rise from stop to stop; between two neighbouring stops
+//! lies a leg. `Runs` takes stations and runs one after the other, with the first fault of each named, and is as before
+//! after a refusal. Then it is only asked: for a station by its code, for a run, for the legs between two stations, and
+//! for the departures of a station from one moment to another. These are found by two binary searches, since `Runs`
+//! keeps a list of its departures in order for each station.
 #![tactic(auto)]
 
 mod crossing;

@@ -8,7 +8,9 @@ use std::marker::Model;
 /// How many stops a run may have.
 pub const MOST_STOPS: usize = 127;
 
-/// A stop of a run. At the first stop the arrival is the departure, at the last the departure is the arrival.
+/// A stop of a run: when the run reaches the station, and when it leaves it. The first stop has an arrival too and the
+/// last a departure, though no one rides to the one or on from the other: each may be the stop's other time, and
+/// needn't be.
 #[derive(Debug, Clone, Copy, PartialEq, Eq)]
 pub struct Stop {
     pub station: StationNo,

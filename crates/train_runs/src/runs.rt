@@ -64,8 +64,8 @@ impl Runs {
         }
     }
 
-    /// Adds a station with its code, and the seconds that a change of trains takes there at least. After a refusal all is
-    /// as before.
+    /// Adds a station with its code, and the seconds that a change of trains takes there at least. After a refusal all
+    /// is as before.
     pub fn add_station(&mut self, code: &[u8], change: u32) -> Result<StationNo, StationFault>
         ensures ok { IfOk result (IsStationAdded self.old code.now change self.new) }
         ensures runs { self.new.runs ≡ self.old.runs }
@@ -187,10 +187,11 @@ impl Runs {
         self.runs.len() as u32
     }
 
-    /// The departures of the station from the one moment to the other, both included, at stops that aren't a run's last, in
-    /// the order of moment, run and stop. A station that isn't known has none. Takes no memory.
+    /// The departures of the station from the one moment to the other, both included, at stops that aren't a run's
+    /// last, in the order of moment, run and stop. A station that isn't known has none. Takes no memory.
     ///
-    /// A step is one comparison of moments: at most twice the binary digits of the station's count of departures, and two.
+    /// A step is one comparison of moments: at most twice the binary digits of the station's count of departures, and
+    /// two.
     pub fn departures<L: Ledger>(
         &self,
         station: StationNo,
@@ -199,6 +200,7 @@ impl Runs {
         steps: &mut Steps<L>,
     ) -> &[Departure]
         ensures departures { AreDepartures self.now.runs station from to result.now }
+        ensures unknown { length self.now.stations ≤ station.0 → result.now ≡ [] }
         ensures cost { steps.new ≤ steps.old + (2 * length (digits_of 2 (departure_count station self.now.runs)) + 2) }
     {
         self.departures_within(station, from.seconds(), to.seconds(), steps)
@@ -223,8 +225,8 @@ impl Runs {
         }
     }
 
-    /// All departures of the station, at whatever moment, in the order of moment, run and stop. A station that isn't known
-    /// has none. Takes no memory.
+    /// All departures of the station, at whatever moment, in the order of moment, run and stop. A station that isn't
+    /// known has none. Takes no memory.
     pub fn all_departures(&self, station: StationNo) -> &[Departure]
         ensures departures { AreExactly (IsDeparture self.now.runs station) result.now }
         ensures sound { All (IsRun (length self.now.stations)) self.now.runs }
@@ -265,8 +267,8 @@ impl Runs {
         }
     }
 
-    /// The legs of the run between the two stations: `None` exactly where there is no such run, or it doesn't stop at the
-    /// one and later at the other.
+    /// The legs of the run between the two stations: `None` exactly where there is no such run, or it doesn't stop at
+    /// the one and later at the other.
     pub fn span_between(&self, run: RunNo, from: StationNo, to: StationNo) -> Option<Span>
         ensures value { result ≡ span_of self.now run from to }
     {
@@ -298,8 +300,8 @@ fn fault_of(runs: &[Run], run: &Run) -> Option<RunFault>
     Some(RunFault::StationRepeated { stop })
 }
 
-// Posts the departures of the run at its stops from the n-th on, where those before are posted. After want of memory the
-// boards are as before.
+// Posts the departures of the run at its stops from the n-th on, where those before are posted. After want of memory
+// the boards are as before.
 fn post_from(boards: &mut [Board], runs: &[Run], run: &Run, n: usize) -> Result<(), AllocError>
     requires posted { ArePosted runs.now run.now n boards.old }
     requires known { All (λ s. s.station.0 < length boards.old) run.now.stops }
