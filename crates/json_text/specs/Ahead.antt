@@ -5,10 +5,12 @@ use Rattle.serde_json.specs.Find.{as_array}
 use Rattle.json_text.specs.Outlines.{items_ahead}
 use Rattle.json_text.specs.declared.items.Items.{Items}
 
--- the items, if all that is to come is a list's end
+-- the items up to the bracket that closes their list, whatever stands behind it; none where an item is no JSON or that
+-- bracket is missing
 abbrev pub ahead : Items → Option DataItems
 ahead l = items_ahead l.reader
 
--- the value is the list of the items that are to come, or no list
+-- Where the list was opened, the value is the list of what is to come, and there is no value where that is no end of a
+-- list. Where none was, the value is no list, or there is none.
 abbrev pub IsListOf : Option Data → Option Items → Type 0
 IsListOf value items = MatchOption items (option_and_then as_array value ≡ None) (λ l. value ≡ option_map array (ahead l))

@@ -47,14 +47,17 @@ behind_items depth ts = option_map (λ p. p.1) (converted of_items (items (value
 abbrev pub behind_members : ℕ → List Token → Option (List Token)
 behind_members depth ts = option_map (λ p. p.1) (converted (λ ms. of_members ms no_members) (members (value depth) (length ts) ts))
 
--- what follows so many members
+-- What follows so many members, whatever their names, and however large their numbers. A closing brace passes for a
+-- name too: a value that stands behind it counts as one more member. Behind the outermost object of a text that is JSON
+-- none stands, so there it has no more members than are written.
 unfoldable pub behind_so_many : ℕ → ℕ → List Token → Option (List Token)
 behind_so_many depth zero ts = Some ts
 behind_so_many depth (suc n) ts = option_and_then (λ k. option_and_then (behind_so_many depth n) (skip_value depth k.1)) (read_key ts)
 
 -- ---- the members of the outermost object
 
--- what follows the name of the member at this place
+-- What follows the name of the member at this place. At the place behind the last member it is what follows the closing
+-- brace, and so no value where the text is JSON and the object its outermost.
 abbrev pub value_tokens : ℕ → List Token → Option (List Token)
 value_tokens place ts = option_map (λ k. k.1) (option_and_then read_key (behind_so_many 126 place ts))
 
@@ -73,7 +76,9 @@ member_at place text = option_and_then data_at (member_tokens place (tokens text
 abbrev pub members_of : List Token → Option (Members × List Token)
 members_of ts = converted (λ ms. of_members ms no_members) (members (value 126) (length ts) ts)
 
--- the tokens after a brace are an object with the members `found`, and then `rest`; `kept` has all but those of the name, of which the last is the one at the place
+-- The tokens after a brace are an object with the members `found`, and then `rest`. In the object `kept` each other
+-- name finds what it finds in `found`, and the name nothing. What the name finds in `found` stands at the place (it may
+-- stand at others too), and there is no place where it finds nothing.
 pub record IsOutlineOf (name : List ℕ) (ts : List Token) (kept : Data) (place : Option ℕ) (rest : List Token) : Type 0 where
   pub found : Members
   pub read : members_of ts ≡ Some (found, rest)
@@ -83,7 +88,10 @@ pub record IsOutlineOf (name : List ℕ) (ts : List Token) (kept : Data) (place 
   pub left : get_member name found ≡ option_and_then (λ i. option_and_then data_at (value_tokens i ts)) place
   pub there : IfSome place (λ i. is_some (option_and_then data_at (value_tokens i ts)) ≡ true)
 
--- the text's value is `whole`; `kept` has all its members but those of the name, of which the last is the one at the place
+-- The text's value is `whole`. Where that is an object, `kept` is one in which each other name finds what it finds in
+-- `whole`, and the name nothing; what the name finds in `whole` stands at the place, and there is no place where it
+-- finds nothing. Where `whole` is no object there is no place, and `kept` is no object either; which value it is isn't
+-- said.
 pub record IsOutline (name : List ℕ) (text : List ℕ) (kept : Data) (place : Option ℕ) : Type 0 where
   pub whole : Data
   pub read : read text ≡ Some whole

@@ -5,8 +5,8 @@
 //! found. Texts without escapes are not copied, and those with some lie in the `Scratch` that is lent to the reading,
 //! which can be kept from one reading to the next.
 //!
-//! Where a tree of the whole would take too much, `read_outline` leaves the members of one name out, and `items_at` hands
-//! out the list that such a member is, item by item.
+//! Where a tree of the whole would take too much, `read_outline` leaves the members of one name out, and `items_at`
+//! hands out the list that such a member is, item by item.
 //!
 //! It is a room of its own since catalogues and the bodies of requests are read by it alike.
 #![tactic(auto)]
