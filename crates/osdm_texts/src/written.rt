@@ -1,4 +1,6 @@
-//! Replies as they are told: a problem, or a status with a text that is written before it is known whether it will be told.
+//! Replies that are no problem, as they are told: a status, and a text with its length. What takes memory is written
+//! before the reply is decided on, so that want of memory can still be answered in its stead. What a sweep did takes none,
+//! and is written where it is told.
 ghost use Rattle.std.specs.Prelude.{◌≡◌, Ok, IfSome};
 ghost use Rattle.serde_json.specs.Written.{compact_text};
 ghost use Rattle.osdm_texts.specs.Replies.{tree_of as written_tree, CanBeWritten};
@@ -49,7 +51,8 @@ pub struct Written {
     pub text: Text,
 }
 
-/// Writes a reply that is told with this status. `None` where there is no memory for its text, or where its length doesn't fit a head.
+/// Writes a reply that is told with this status. `None` where there is no memory for its text, or where its length
+/// doesn't fit a head.
 ///
 /// The reply is one that `reply_text` can write.
 pub fn write_reply(
