@@ -72,8 +72,9 @@ AddsSegment cat o true row items s placing won old new =
     × ShapeBy (SeatsParty (party_at cat o row (length items) s) answer won) old new
     × ShapeBy (SpoilsAll (party_at cat o row (length items) s) answer) old new
 
--- From a hold of the row with these items to one with all of those: each segment in order, up to the first that hasn't all its places, or
--- for which there was no memory: only passengers who want traits and are to sit together take some
+-- From a hold of the row with `items` to one with `all`: places are added for each segment in order. That ends early at a
+-- segment that doesn't get all its places, of which those that were won stay on the hold; or at one for which there is no
+-- memory, and at which nothing is done. Memory is taken only for passengers who want traits and are to sit together.
 abbrev pub PlacesAll : CatalogueView → OfferView → Bool → RowNo → List Item → List Segment → Placing → List Item → DeskView → DeskView → Type 0
 PlacesAll cat o together row items [] placing all old new = (placing ≡ Whole) × (all ≡ items) × (new ≡ old)
 PlacesAll cat o together row items (s ∷ rest) placing all old new =
