@@ -1,4 +1,5 @@
--- A booking that was found has an id, and so has its successor; and so they have in another phase, or at an end without one.
+-- A booking that was found has an id, and so has its successor; and so they have in another phase, or at an end without
+-- one.
 use Rattle.std.proofs.Common.{◌≡◌, ℕ, ◌≤◌, Some, sym, subst, arith}
 use Rattle.history_model.specs.declared.phase.Phase.{Phase}
 use Rattle.history_model.specs.declared.phase.EndKind.{EndKind}

@@ -33,7 +33,8 @@ Replying = DeskView → DeskView → Reply → Type 0
 abbrev pub Answered : CatalogueView → Replying → DeskView → DeskView → Told → Type 0
 Answered cat Does old new said = (reply : Reply) × Does old new reply × (said ≡ reply_told cat reply)
 
--- A look for the booking. None is answered as unknown; with one, this is done, or there is no memory and nothing more is done.
+-- A look for the booking. None is answered as unknown; with one, this is done, or there is no memory and nothing more
+-- is done.
 abbrev pub OnBooking : ℕ → RowNo → ℕ → (RowSeen → Replying) → Replying
 OnBooking rows row retailer Does old new reply =
     (ShapeBy (FindsBooking rows row retailer None) old new × (reply ≡ problem UnknownBooking))

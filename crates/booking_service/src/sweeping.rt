@@ -11,8 +11,9 @@ use expiry_sweeper::sweep;
 use osdm_texts::{Written, write_swept};
 use rail_time::Moment;
 
-/// Expires every booking whose limit of confirmation was before now, and answers how many. A booking whose row was given to another
-/// meanwhile is in no count. No memory is taken. The text is that of the reply by any catalogue: it names no station and no amount.
+/// Expires every booking whose limit of confirmation was before now, and answers how many. A booking whose row was
+/// given to another meanwhile is in no count. No memory is taken. The text is that of the reply by any catalogue: it
+/// names no station and no amount.
 pub fn sweep_bookings(books: &Books, desk: &mut Desk, now: Moment) -> Written
     requires own { IsOf books.now desk.old }
     requires idle { IsIdle desk.old }

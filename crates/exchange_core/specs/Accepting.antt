@@ -24,7 +24,8 @@ use Rattle.exchange_core.specs.declared.accepting.Exchanged.TheVariants.{Done, W
 abbrev pub exchange_end : ReadyView → RowNo → End
 exchange_end ready successor = end_at ready.moment ready.code.difference (successor_word successor.row successor.generation)
 
--- the old booking is turned from the phase that the code names, and its items are read; the new one is sealed; the old one is ended
+-- the old booking is turned from the phase that the code names, and its items are read; the new one is sealed; the old
+-- one is ended
 abbrev pub exchange_steps : ReadyView → RowNo → List Item → List Step
 exchange_steps ready successor items =
     end_turn ready.code.row.row (phase_named ready.code.fulfilled) (Ending Exchange) (exchange_end ready successor)

@@ -20,7 +20,8 @@ use Rattle.exchange_core.specs.declared.readying.Readied.TheVariants as readied
 abbrev pub difference_at : CatalogueView → RowSeen → ℕ → Bool → OfferView → ℤ
 difference_at cat v made fulfilled offer = pos (offer_price cat offer + cat.terms.exchange_fee) -ℤ pos (refund_at cat v made fulfilled)
 
--- the steps of a quote, by what it answers: the booking was seen in the phase that the code names, and the code has the difference of now
+-- the steps of a quote, by what it answers: the booking was seen in the phase that the code names, and the code has the
+-- difference of now
 abbrev pub QuotesExchange : CatalogueView → ℕ → RowNo → ℕ → OfferView → ℕ → QuotedExchange → List Step → Type 0
 QuotesExchange cat rows row retailer offer now (quoted.Done code) es =
     (row.row < rows) × ((v : RowSeen) × SeesOwn row retailer v es × (v.phase ≡ phase_named code.fulfilled)

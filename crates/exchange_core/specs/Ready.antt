@@ -14,7 +14,8 @@ pub record ReadyView : Type 0 where
   pub retailer : ℕ
   pub moment : ℕ
 
--- the booking of the checked code is sealed in what the desk has seen, and its difference is one that an exchange may have
+-- the booking of the checked code is sealed in what the desk has seen, and its difference is one that an exchange may
+-- have
 pub record IsReadyFor (desk : DeskView) (ready : ReadyView) : Type 0 where
   pub row : ready.code.row.row < desk.layout.rows
   pub sealed : IsSealedRow desk ready.code.row

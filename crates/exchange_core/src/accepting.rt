@@ -19,16 +19,18 @@ use row_decisions::finish_end;
 
 /// What came of carrying an exchange out.
 pub enum Exchanged {
-    /// The old booking has ended by exchange, and the one in this row is sealed as confirmed; it costs this much more, in minor units.
+    /// The old booking has ended by exchange, and the one in this row is sealed as confirmed; it costs this much more,
+    /// in minor units.
     Done { new: RowNo, difference: i64 },
-    /// The turn was lost: the old booking shows another phase than the code names, free where its row was given away. The hold is as it
-    /// was.
+    /// The turn was lost: the old booking shows another phase than the code names, free where its row was given away.
+    /// The hold is as it was.
     WrongState { shown: Phase, hold: Hold },
 }
 
-/// Exchanges a booking for the one that is held, by a quote that was checked: turns the old booking from the phase that the code names,
-/// seals the new one as confirmed, and ends the old one with all its items given back. Its end has the moment of the check, the code's
-/// difference, and the new booking as its successor. Where the turn is lost, nothing else has changed.
+/// Exchanges a booking for the one that is held, by a quote that was checked: turns the old booking from the phase that
+/// the code names, seals the new one as confirmed, and ends the old one with all its items given back. Its end has the
+/// moment of the check, the code's difference, and the new booking as its successor. Where the turn is lost, nothing
+/// else has changed.
 ///
 /// The hold is ready to be sealed, and the desk has no ending out. At most 103 entries are added.
 pub fn accept_exchange(

@@ -12,8 +12,8 @@ use rail_time::Moment;
 use refund_core::refund_at;
 use tariff::exchange_difference;
 
-/// What the offer costs more, with the exchange fee, than the booking was worth at this moment, where its ticket was then collected or not.
-/// In minor units; below 0 where money goes back.
+/// What the offer costs more, with the exchange fee, than the booking was worth at this moment, where its ticket was
+/// then collected or not. In minor units; below 0 where money goes back.
 pub(crate) fn difference_at(
     cat: &Catalogue,
     view: &RowView,

@@ -24,15 +24,16 @@ use refund_core::{find_booking, is_collected};
 pub enum QuotedExchange {
     /// The quote.
     Done(ExchangeCode),
-    /// The row is past the last, or its look shows the booking free, in the making, or another retailer's; or its last look shows it
-    /// free.
+    /// The row is past the last, or its look shows the booking free, in the making, or another retailer's; or its last
+    /// look shows it free.
     Unknown,
     /// The look shows another phase than confirmed and fulfilled.
     WrongState { shown: Phase },
 }
 
-/// Quotes an exchange of this retailer's confirmed or fulfilled booking for an offer: what the offer costs more than the booking is worth
-/// now, in the phase that its look shows. The offer is in the ranges of its spelling, and so is the quote. At most 57 entries are added.
+/// Quotes an exchange of this retailer's confirmed or fulfilled booking for an offer: what the offer costs more than
+/// the booking is worth now, in the phase that its look shows. The offer is in the ranges of its spelling, and so is
+/// the quote. At most 57 entries are added.
 pub fn quote_exchange(
     cat: &Catalogue,
     books: &Books,

@@ -21,7 +21,8 @@ use rail_time::Moment;
 use refund_core::{find_booking, is_named, is_stale};
 use std::marker::Model;
 
-/// A quote that was checked, with the retailer for whom and the moment at which it was. Contracts see it as a `ReadyView`.
+/// A quote that was checked, with the retailer for whom and the moment at which it was. Contracts see it as a
+/// `ReadyView`.
 #[derive(Drop)]
 pub struct ExchangeReady {
     pub(crate) code: ExchangeCode,
@@ -43,8 +44,8 @@ impl Model for ExchangeReady {
 pub enum Readied {
     /// The quote is right, and the booking is in the phase that it names.
     Fine(ExchangeReady),
-    /// The row is past the last, or its look shows the booking free, in the making, or another retailer's; or its last look shows it
-    /// free.
+    /// The row is past the last, or its look shows the booking free, in the making, or another retailer's; or its last
+    /// look shows it free.
     Unknown,
     /// The look shows another phase than the code names.
     WrongState { shown: Phase },
@@ -54,8 +55,9 @@ pub enum Readied {
     QuoteWrong,
 }
 
-/// Checks the quote of an exchange of this retailer's booking. Refusals are tried in this order: `QuoteStale`, `Unknown`, `QuoteWrong`,
-/// `WrongState`. The code's offer is in the ranges of its spelling. At most 57 entries are added.
+/// Checks the quote of an exchange of this retailer's booking. Refusals are tried in this order: `QuoteStale`,
+/// `Unknown`, `QuoteWrong`, `WrongState`. The code's offer is in the ranges of its spelling. At most 57 entries are
+/// added.
 pub fn ready_exchange(
     cat: &Catalogue,
     books: &Books,

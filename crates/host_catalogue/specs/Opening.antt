@@ -37,8 +37,8 @@ abbrev pub BeginsWith : Files → CatalogueView → Option (List ℕ) → List K
 BeginsWith told cat None kept = kept ≡ []
 BeginsWith told cat (Some name) kept = (text : List ℕ) × IsTextOf Export told name text × IsExportFor cat text kept
 
--- Books of the catalogue that open with these bookings, and their first desk, which has seen nothing. Each exchange among the bookings has
--- its new booking.
+-- Books of the catalogue that open with these bookings, and their first desk, which has seen nothing. Each exchange
+-- among the bookings has its new booking.
 pub record IsOpened (cat : CatalogueView) (kept : List KeptBooking) (books : BooksView) (desk : DeskView) : Type 0 where
   pub layout : books.layout ≡ layout_with (legs_in cat) cat.rows kept
   pub own : IsOf books desk
@@ -85,7 +85,8 @@ LacksExport told cat (Some name) = IfSome told (λ files.
     (files name ≡ None) ⊎ IsTooLarge Export files name
     ⊎ ((text : List ℕ) × IsText Export files name text × (fault : ImportFault) × IsRefusal cat text fault))
 
--- a shelf has no books for a command, where it tells its files: no catalogue, or not the export that they are to open with
+-- a shelf has no books for a command, where it tells its files: no catalogue, or not the export that they are to open
+-- with
 abbrev pub LacksBooks : Files → List ℕ → Option (List ℕ) → Type 0
 LacksBooks told name from = LacksCatalogue told name ⊎ ((cat : CatalogueView) × Loads told name (Ok cat) × LacksExport told cat from)
 

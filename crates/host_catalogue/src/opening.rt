@@ -87,8 +87,9 @@ fn open_from<F: Shelf>(
     }
 }
 
-/// The catalogue of the file with the name, its books, and their first desk, which has seen nothing. The books open with the bookings of
-/// the export with the other name, of at most 268,435,456 bytes, which is read after the catalogue; or, without one, with none.
+/// The catalogue of the file with the name, its books, and their first desk, which has seen nothing. The books open
+/// with the bookings of the export with the other name, of at most 268,435,456 bytes, which is read after the
+/// catalogue; or, without one, with none.
 pub fn load_books<F: Shelf>(
     alloc: Global,
     shelf: &mut F,

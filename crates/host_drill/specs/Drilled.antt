@@ -59,10 +59,11 @@ abbrev pub AreWorkers : CatalogueView → DrillWords → List Entry → ℕ → 
 AreWorkers cat said history k [] = Unit {0}
 AreWorkers cat said history k (replies ∷ more) = IsWorker cat said history k replies × AreWorkers cat said history (k + 1) more
 
--- The finished books hold in one legal history the entries of each worker's connection and else only meetings of the first desk, which
--- parted the workers' desks and has joined all of them. And this is counted: the requests, the live bookings of the books, the answers
--- 409 and 503, and the pairs of live bookings that share a place on a leg. It comes to what seed, requests and places say, whatever the
--- threads did: each leg is sold to as many requests as ask for it, or to all places; each other request is refused, and none is busy.
+-- The finished books hold in one legal history the entries of each worker's connection and else only meetings of the
+-- first desk, which parted the workers' desks and has joined all of them. And this is counted: the requests, the live
+-- bookings of the books, the answers 409 and 503, and the pairs of live bookings that share a place on a leg. It comes
+-- to what seed, requests and places say, whatever the threads did: each leg is sold to as many requests as ask for it,
+-- or to all places; each other request is refused, and none is busy.
 pub record IsDrilled (said : DrillWords) (wall : WallView) (totals : Totals) : Type 0 where
   pub cat : CatalogueView
   pub catalogue : IsCatalogue cat said

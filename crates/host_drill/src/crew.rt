@@ -185,8 +185,8 @@ fn meet_one(
     })
 }
 
-/// Takes in all desks, and counts what their connections were answered: `None` where one of them didn't come to its end, or was answered
-/// for want of memory.
+/// Takes in all desks, and counts what their connections were answered: `None` where one of them didn't come to its
+/// end, or was answered for want of memory.
 pub(crate) fn meet_all(
     cat: &Catalogue,
     said: DrillWords,

@@ -144,8 +144,8 @@ fn drill<R: Threads + Sync, K: Sink>(
     }
 }
 
-/// Runs a drill by its words, of which the first is `drill`: `--seed N` (0 to 65,535), `--workers N` (1 to 16), `--size N` (1 to 2,000)
-/// and `--places N` (1 to 1,200), all required.
+/// Runs a drill by its words, of which the first is `drill`: `--seed N` (0 to 65,535), `--workers N` (1 to 16), `--size
+/// N` (1 to 2,000) and `--places N` (1 to 1,200), all required.
 ///
 /// | status | where |
 /// |---|---|
@@ -154,7 +154,8 @@ fn drill<R: Threads + Sync, K: Sink>(
 /// | 4 | the output failed in this call |
 /// | 5 | there was no memory for some part of it |
 ///
-/// Each has the note of its end, and a failing note changes no status. Threads are started for the connections, and all are joined.
+/// Each has the note of its end, and a failing note changes no status. Threads are started for the connections, and all
+/// are joined.
 pub fn run_drill<R: Threads + Sync, K: Sink, E: Sink>(
     rt: &R,
     alloc: Global,
@@ -173,7 +174,8 @@ pub fn run_drill<R: Threads + Sync, K: Sink, E: Sink>(
     ensures words { result.status ≡ 2 → IsNoDrill (words_texts words.now) }
     ensures nothing_written { result.status ≡ 2 → output.new ≡ output.old }
 
-    // A failure of the output is answered where its count of faults rose in this call, and at every other status that count is as it was.
+    // A failure of the output is answered where its count of faults rose in this call, and at every other status that
+    // count is as it was.
     ensures write_cause { result.status ≡ 4 → Rose (K.faults output.old) (K.faults output.new) }
     ensures write_steady { (result.status ≡ 4 → ⊥) → K.faults output.new ≡ K.faults output.old }
 {

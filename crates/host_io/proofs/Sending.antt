@@ -18,7 +18,8 @@ send_more told later items sent n e =
     ∙ ap (λ (l : List ℕ). with_end told (take n (drop sent items) ++ l)) (sym (drop-drop n sent items))
     ∙ ap (λ (l : List ℕ). with_end told l) (take-append-drop n (drop sent items))
 
--- so many bytes of what was held and of a piece behind it: with what is still held, all that was held and the first of the piece
+-- so many bytes of what was held and of a piece behind it: with what is still held, all that was held and the first of
+-- the piece
 piece_more : (held piece : List ℕ) (n : ℕ) → take n (held ++ piece) ++ drop n held ≡ held ++ take (n - length held) piece
 piece_more [] piece n =
     let same : n - length {A = ℕ} [] ≡ n = omega arith in

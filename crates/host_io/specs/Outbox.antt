@@ -22,8 +22,8 @@ Fits o piece = o.used + length piece ≤ most_held
 abbrev pub IsInRoom : OutboxView → Type 0
 IsInRoom o = (o.used ≤ most_held) × (o.held ≡ [] → o.used ≡ 0)
 
--- So many bytes lie in memory for so many, and so many of them went out: the memory is that of its making, and no byte that went out is
--- kept where no other is.
+-- So many bytes lie in memory for so many, and so many of them went out: the memory is that of its making, and no byte
+-- that went out is kept where no other is.
 abbrev pub Lies : ℕ → ℕ → ℕ → Type 0
 Lies sent taken memory = (sent ≤ taken) × (taken ≤ most_held) × (most_held ≤ memory) × (sent ≡ taken → taken ≡ 0)
 

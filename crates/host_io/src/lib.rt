@@ -2,8 +2,8 @@
 //!
 //! `TcpPort` stands before a port, whose answers an `Outbox` holds back, and `SleepTicker` before the machine's clock.
 //!
-//! It is a room of its own since `TcpPort`, its streams and `SleepTicker` are the edge of the proof: what the system does is trusted there,
-//! and what is made of each answer is proved.
+//! It is a room of its own since `TcpPort`, its streams and `SleepTicker` are the edge of the proof: what the system
+//! does is trusted there, and what is made of each answer is proved.
 #![tactic(auto)]
 
 mod outbox;

@@ -27,7 +27,8 @@ fn write_behind<K: Sink>(sink: &mut K, first: &[u8], second: &[u8]) -> PushedBot
     sink.write_both(first, second)
 }
 
-/// Bytes that were taken for a sink which hasn't got them yet, at most 65,536. The sink gets them in their order, and each once.
+/// Bytes that were taken for a sink which hasn't got them yet, at most 65,536. The sink gets them in their order, and
+/// each once.
 #[derive(Drop)]
 pub struct Outbox {
     bytes: Vec<u8>,

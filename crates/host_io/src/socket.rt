@@ -29,15 +29,16 @@ const DRAIN_PIECES: u32 = 1_000_000;
 
 const DRAIN_ROOM: usize = 16_384;
 
-/// How many seconds a read may wait: fewer where nothing has come since the last answer, or at all, than inside a request.
+/// How many seconds a read may wait: fewer where nothing has come since the last answer, or at all, than inside a
+/// request.
 fn read_seconds(idle: bool) -> u64
     ensures { result ≡ seconds_of idle }
 {
     if idle { IDLE_SECONDS } else { STALLED_SECONDS }
 }
 
-/// Makes an accepted stream ready to be served: it sends without delay, a write of more than 30 seconds fails, and so does a first read of
-/// more than 5.
+/// Makes an accepted stream ready to be served: it sends without delay, a write of more than 30 seconds fails, and so
+/// does a first read of more than 5.
 pub fn make_ready(stream: &TcpStream) -> io::Result<()> {
     stream.set_nodelay(true)?;
     stream.set_read_timeout(Some(Duration::from_secs(IDLE_SECONDS)))?;
@@ -65,8 +66,8 @@ fn pieces_of<'a>(first: &'a [u8], second: &'a [u8]) -> [IoSlice<'a>; 2]
     [IoSlice::new(first), IoSlice::new(second)]
 }
 
-/// A stream as a sink that tells no content. One piece goes out by `send`, and two go out by one call for several pieces,
-/// which costs the system more.
+/// A stream as a sink that tells no content. One piece goes out by `send`, and two go out by one call for several
+/// pieces, which costs the system more.
 #[derive(Drop)]
 struct StreamSink<'a> {
     stream: &'a TcpStream,
@@ -115,7 +116,8 @@ struct Shared {
 }
 
 impl Shared {
-    /// Sends what was answered since the last call: whether there was any. Nothing is sent a second time where this fails.
+    /// Sends what was answered since the last call: whether there was any. Nothing is sent a second time where this
+    /// fails.
     fn send_answers(&self) -> io::Result<bool> {
         if !self.answered.swap(false, Ordering::SeqCst) {
             return Ok(false);
@@ -162,10 +164,11 @@ impl Shared {
     }
 }
 
-/// The reading half of a connection. What was answered is sent before it waits for more. A read fails that waits for more than 5 seconds
-/// where nothing has come since the last answer, or for more than 30 inside a request, and so does one before which the answers can't be
-/// sent. Where the other side hasn't ended the connection when it is let go, it is told that no more answers come, and what it still sends
-/// is read away for a moment, so that it gets to read the last answer.
+/// The reading half of a connection. What was answered is sent before it waits for more. A read fails that waits for
+/// more than 5 seconds where nothing has come since the last answer, or for more than 30 inside a request, and so does
+/// one before which the answers can't be sent. Where the other side hasn't ended the connection when it is let go, it
+/// is told that no more answers come, and what it still sends is read away for a moment, so that it gets to read the
+/// last answer.
 pub struct SocketReader<C: time::Clock + Drop> {
     clock: C,
     shared: Arc<Shared, Global>,
@@ -177,8 +180,9 @@ pub struct SocketReader<C: time::Clock + Drop> {
     open: bool,
 }
 
-/// The writing half of a connection, which tells no content. Answers are held back until the reading half is asked for more or is let go,
-/// or until they are many: so one call of the system sends the answers to all requests that one read gave.
+/// The writing half of a connection, which tells no content. Answers are held back until the reading half is asked for
+/// more or is let go, or until they are many: so one call of the system sends the answers to all requests that one read
+/// gave.
 pub struct SocketSink {
     shared: Arc<Shared, Global>,
     faults: u64,

@@ -25,8 +25,8 @@ pub enum AfterRefusal {
     Pause,
 }
 
-/// What an accept does after this error of Linux: EBADF, EINVAL, ENOTSOCK and EOPNOTSUPP say that the listener is gone; EINTR, EPROTO and
-/// ECONNABORTED concern one connection alone.
+/// What an accept does after this error of Linux: EBADF, EINVAL, ENOTSOCK and EOPNOTSUPP say that the listener is gone;
+/// EINTR, EPROTO and ECONNABORTED concern one connection alone.
 pub fn after_refusal(code: u32) -> AfterRefusal
     ensures { result ≡ after_of code }
 {
@@ -37,8 +37,8 @@ pub fn after_refusal(code: u32) -> AfterRefusal
     }
 }
 
-/// Listens on 127.0.0.1. Its streams send without delay. A read fails that waits for more than 5 seconds between two requests, or for more
-/// than 30 inside one, and a write that waits for more than 30.
+/// Listens on 127.0.0.1. Its streams send without delay. A read fails that waits for more than 5 seconds between two
+/// requests, or for more than 30 inside one, and a write that waits for more than 30.
 #[derive(Drop)]
 pub struct TcpPort<N: Net<Listener = TcpListener, Stream = TcpStream> + time::Clock + Copy + Drop> {
     net: N,
@@ -94,7 +94,8 @@ impl<N: Net<Listener = TcpListener, Stream = TcpStream> + time::Clock + Copy + D
         self.faults = self.faults.saturating_add(1);
     }
 
-    // The next connection, for which it may wait, also until handles and memory are there again. None where the listener is gone.
+    // The next connection, for which it may wait, also until handles and memory are there again. None where the
+    // listener is gone.
     fn next_stream(&self) -> Option<(SocketReader<N>, SocketSink)> {
         let listener = self.listener.as_ref()?;
         for _ in 0..u64::MAX {

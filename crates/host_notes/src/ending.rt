@@ -13,8 +13,8 @@ use session_loop::ConnEnd;
 pub enum CommandEnd {
     /// 0: all that was asked for is done.
     Done,
-    /// 1: there is no catalogue, or not the export that its books are to open with; 3 where the shelf failed, and 5 where there was no
-    /// memory for them.
+    /// 1: there is no catalogue, or not the export that its books are to open with; 3 where the shelf failed, and 5
+    /// where there was no memory for them.
     NotLoaded(LoadFault),
     /// 2: the words are refused.
     WordsRefused,

@@ -82,7 +82,8 @@ pub end_is_not_one : (e : ConnEnd) → status_of_end e ≡ 1 → ⊥
 end_is_not_one conn.Done one = absurd (omega (arith, one))
 end_is_not_one e one = absurd (omega (arith, one))
 
--- What a status says where P says what the command did: it had books, or there were none, and nothing was read or written.
+-- What a status says where P says what the command did: it had books, or there were none, and nothing was read or
+-- written.
 module _ (name : CommandName) (words : List (List ℕ)) (files : Files) (input left output sent : Option (List ℕ)) (P : ReplayView → ReplayEnd → Type 0)
     (fails : (said : ReplayView) (fault : _) → P said (end.NotLoaded fault) → Fails files said.catalogue said.from fault × IsUntouched input left output sent)
     (given : (said : ReplayView) (c : ConnEnd) → P said (end.Served c) → Given said files) where

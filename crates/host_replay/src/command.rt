@@ -83,9 +83,9 @@ fn replay<F: Shelf, S: Source, K: Sink>(
     ReplayEnd::Served(serve(alloc, opened, said, input, output))
 }
 
-/// `replay` by its words, of which the first is the command's name: it serves the catalogue of the named file to the input as one
-/// connection, with the words' clock. Its books open with the bookings of the export that the words name, or with none. Answers the
-/// status, and notes how it ended.
+/// `replay` by its words, of which the first is the command's name: it serves the catalogue of the named file to the
+/// input as one connection, with the words' clock. Its books open with the bookings of the export that the words name,
+/// or with none. Answers the status, and notes how it ended.
 ///
 /// | status | where |
 /// |---|---|
@@ -106,7 +106,8 @@ pub fn run_replay<F: Shelf, S: Source, K: Sink, E: Sink>(
 ) -> u8
     requires command { IsForReplay (words_texts words.now) }
 
-    // Status 2 comes exactly where the words are refused, but for want of memory to read them. Nothing is then touched but the notes.
+    // Status 2 comes exactly where the words are refused, but for want of memory to read them. Nothing is then touched
+    // but the notes.
     ensures words { result ≡ 2 → IsNoReplay (words_texts words.now) }
     ensures refused_words { IsNoReplay (words_texts words.now) → (result ≡ 2) ⊎ (result ≡ 5) }
     ensures nothing_read { result ≡ 2 → input.new ≡ input.old }
@@ -133,7 +134,8 @@ pub fn run_replay<F: Shelf, S: Source, K: Sink, E: Sink>(
     ensures write_fault { WritesWhere (result ≡ 4) (S.told input.old) (K.told output.old) (K.told output.new)
         (λ stream written. RepliesPart (words_texts words.now) (F.told shelf.old) stream (S.told input.new) written) }
 
-    // A device's failure is answered where its count of faults rose in this call, and at every other status that count is as it was.
+    // A device's failure is answered where its count of faults rose in this call, and at every other status that count
+    // is as it was.
     ensures read_cause { result ≡ 3 → Rose (S.faults input.old) (S.faults input.new)
         ⊎ Rose (F.faults shelf.old) (F.faults shelf.new) }
     ensures write_cause { result ≡ 4 → Rose (K.faults output.old) (K.faults output.new) }
@@ -141,8 +143,9 @@ pub fn run_replay<F: Shelf, S: Source, K: Sink, E: Sink>(
     ensures write_steady { (result ≡ 4 → ⊥) → K.faults output.new ≡ K.faults output.old }
     ensures shelf_steady { (result ≡ 3 → ⊥) → F.faults shelf.new ≡ F.faults shelf.old }
 
-    // Status 1 comes where the shelf has no books: of the catalogue's name or of the export's no file, one too large, or a text that
-    // is refused. Where it has none, and tells so, no other status comes but for its failure and for want of memory.
+    // Status 1 comes where the shelf has no books: of the catalogue's name or of the export's no file, one too large,
+    // or a text that is refused. Where it has none, and tells so, no other status comes but for its failure and for
+    // want of memory.
     ensures without { result ≡ 1 → IsWithoutBooks Replay (words_texts words.now) (F.told shelf.old) }
     ensures no_books { (files : List ℕ → Option (List ℕ)) → F.told shelf.old ≡ Some files → (said : ReplayView)
         → IsReplay (words_texts words.now) said → HasNoBooks files said.catalogue said.from

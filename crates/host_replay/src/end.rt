@@ -13,7 +13,8 @@ pub enum ReplayEnd {
     NoMemory,
     /// There are no books to serve.
     NotLoaded(LoadFault),
-    /// The connection ended so. Of an export: `Done` where its text is written, and `WriteFault` where the output failed in it.
+    /// The connection ended so. Of an export: `Done` where its text is written, and `WriteFault` where the output
+    /// failed in it.
     Served(ConnEnd),
 }
 

@@ -68,8 +68,9 @@ fn text_of(alloc: Global, books: Books, desk: Desk) -> Result<Vec<u8>, AllocErro
     }
 }
 
-/// The export that one connection at the first desk of the books leaves, with the clock of the words; or how the connection ended. Its answers
-/// are kept until its end, and where one of them is for want of memory, or there is no memory to keep them, the end is `NoMemory`.
+/// The export that one connection at the first desk of the books leaves, with the clock of the words; or how the
+/// connection ended. Its answers are kept until its end, and where one of them is for want of memory, or there is no
+/// memory to keep them, the end is `NoMemory`.
 fn export_input<S: Source>(
     alloc: Global,
     opened: (Catalogue, Books, Desk),
@@ -148,9 +149,9 @@ fn export<F: Shelf, S: Source, K: Sink>(
     }
 }
 
-/// `export` by its words, of which the first is the command's name: it serves the input as `replay` does, and writes in place of the answers
-/// the export of the bookings that there are then. Answers the status, and notes how it ended. It writes nothing but a whole export, unless
-/// the output fails in it.
+/// `export` by its words, of which the first is the command's name: it serves the input as `replay` does, and writes in
+/// place of the answers the export of the bookings that there are then. Answers the status, and notes how it ended. It
+/// writes nothing but a whole export, unless the output fails in it.
 ///
 /// | status | where |
 /// |---|---|
@@ -171,7 +172,8 @@ pub fn run_export<F: Shelf, S: Source, K: Sink, E: Sink>(
 ) -> u8
     requires command { IsForExport (words_texts words.now) }
 
-    // Status 2 comes exactly where the words are refused, but for want of memory to read them. Nothing is then touched but the notes.
+    // Status 2 comes exactly where the words are refused, but for want of memory to read them. Nothing is then touched
+    // but the notes.
     ensures words { result ≡ 2 → IsNoExport (words_texts words.now) }
     ensures refused_words { IsNoExport (words_texts words.now) → (result ≡ 2) ⊎ (result ≡ 5) }
     ensures nothing_read { result ≡ 2 → input.new ≡ input.old }
@@ -185,8 +187,8 @@ pub fn run_export<F: Shelf, S: Source, K: Sink, E: Sink>(
         × TakesNote E.told E.faults notes.old notes.new (note_of (end_of_replay end))
         × OfCounts F.faults F.misses shelf.old shelf.new (HasShelfCause end)) }
 
-    // Where the input and the output tell their bytes, those written are the export that the requests to come leave: all of it, or a
-    // beginning of it where the output failed. At every other status nothing is written.
+    // Where the input and the output tell their bytes, those written are the export that the requests to come leave:
+    // all of it, or a beginning of it where the output failed. At every other status nothing is written.
     ensures exported { WritesWhere (result ≡ 0) (S.told input.old) (K.told output.old) (K.told output.new)
         (ExportsAll (words_texts words.now) (F.told shelf.old)) }
     ensures write_fault { (stream before : List ℕ) → S.told input.old ≡ Some stream → K.told output.old ≡ Some before
@@ -196,8 +198,8 @@ pub fn run_export<F: Shelf, S: Source, K: Sink, E: Sink>(
         → (answers : List ℕ) × EndsCut (words_texts words.now) (F.told shelf.old) stream answers }
     ensures nothing_written { (result ≡ 0 → ⊥) → (result ≡ 4 → ⊥) → output.new ≡ output.old }
 
-    // A device's failure is answered where its count of faults rose in this call, and at every other status that count is as it was; but at
-    // status 5 the input may have failed behind an answer for want of memory.
+    // A device's failure is answered where its count of faults rose in this call, and at every other status that count
+    // is as it was; but at status 5 the input may have failed behind an answer for want of memory.
     ensures read_cause { result ≡ 3 → Rose (S.faults input.old) (S.faults input.new)
         ⊎ Rose (F.faults shelf.old) (F.faults shelf.new) }
     ensures write_cause { result ≡ 4 → Rose (K.faults output.old) (K.faults output.new) }
@@ -205,8 +207,9 @@ pub fn run_export<F: Shelf, S: Source, K: Sink, E: Sink>(
     ensures write_steady { (result ≡ 4 → ⊥) → K.faults output.new ≡ K.faults output.old }
     ensures shelf_steady { (result ≡ 3 → ⊥) → F.faults shelf.new ≡ F.faults shelf.old }
 
-    // Status 1 comes where the shelf has no books: of the catalogue's name or of the export's no file, one too large, or a text that
-    // is refused. Where it has none, and tells so, no other status comes but for its failure and for want of memory.
+    // Status 1 comes where the shelf has no books: of the catalogue's name or of the export's no file, one too large,
+    // or a text that is refused. Where it has none, and tells so, no other status comes but for its failure and for
+    // want of memory.
     ensures without { result ≡ 1 → IsWithoutBooks Export (words_texts words.now) (F.told shelf.old) }
     ensures no_books { (files : List ℕ → Option (List ℕ)) → F.told shelf.old ≡ Some files → (said : ReplayView)
         → IsExport (words_texts words.now) said → HasNoBooks files said.catalogue said.from

@@ -121,7 +121,8 @@ module _ {S T C : Type 0} (told : C → Readings) (handed : S → ℕ) (hands : 
     all_turns before old after new run =
         whole_run (DoesTurn told handed gives lets_go ticked) HasEnded (HasChain told handed hands ticked) still next each before old after new run
 
-  -- Of a member that serves, which was handed out no stream before: as many connections as it was handed out. It has one part of the ledger.
+  -- Of a member that serves, which was handed out no stream before: as many connections as it was handed out. It has
+  -- one part of the ledger.
   pub serving_chain : (cat : CatalogueView) (said : Numbers) (ticker : T) (i : ℕ) (w : Post S T C) (old : DeskView) (v : Post S T C) (new : DeskView)
       → i < said.workers → IsPosted cat said ticker i w → handed_of w handed ≡ 0 → HasChain told handed hands ticked w old v new
       → (part_of v ≡ 1) × Chain (Connection hands cat) (handed_of v handed) (stand_of told w old) (stand_of told v new)

@@ -177,8 +177,9 @@ module _ {S T C : Type 0} (handed : S → ℕ) (gives : HandingBy S) (lets_go : 
         → (own new.seen (i + 1) ≡ own (slice_index_or run.crew i member).desk.seen (i + 1)) × IsPrefix (slice_index_or run.crew i member).desk.seen new.seen
     entries met i low lt = has_in books run.crew first other new run.met met i member low (behind i lt)
 
-    -- All that the members of a crew did stands in what the first desk has seen. The first member's desk served on, and was joined last. All
-    -- the streams together are as many as the holder of all shares had counted, and those that were served on.
+    -- All that the members of a crew did stands in what the first desk has seen. The first member's desk served on, and
+    -- was joined last. All the streams together are as many as the holder of all shares had counted, and those that
+    -- were served on.
     pub all_worked : (more amount total : ℕ) → before.amount ≡ 0 → amount ≡ after.amount + handed_of member.worker handed → total ≡ amount + more
         → clock ≡ told (clock_of member.worker) → KeepsDesk member.desk other
         → Chain (Connection hands cat) more (record { desk = member.desk; clock = clock }) (record { desk = other; clock = later })
@@ -244,7 +245,8 @@ module _ {S T C : Type 0} (handed : S → ℕ) (gives : HandingBy S) (lets_go : 
         serving zero less = first_one
         serving (suc i) less = later_one (suc i) (omega arith) less
 
--- The members' desks are tidy, and the first desk has joined them, with what each did. The first member's is another one by then, and was joined last.
+-- The members' desks are tidy, and the first desk has joined them, with what each did. The first member's is another
+-- one by then, and was joined last.
 pub all_rested : {W : Type 0} (Fits : W → BooksView → Type 0) (books : BooksView) (crew : List (Member W)) (none : Member W) (first other new : DeskView)
     → IsCrew Fits books crew → HasMetAll books crew 1 first → IsOf books other → IsTidy other → other.number ≡ 1 → HasMet first other new
     → (n : ℕ) → 1 ≤ n → n ≤ length crew → IsRested books.layout new.seen n

@@ -44,7 +44,8 @@ pub record IsMember {W : Type 0} (Fits : W → BooksView → Type 0) (books : Bo
 abbrev pub IsCrew : {W : Type 0} → (W → BooksView → Type 0) → BooksView → List (Member W) → Type 0
 IsCrew {W} Fits books crew = (i : ℕ) (none : Member W) → i < length crew → IsMember Fits books (i + 1) (slice_index_or crew i none)
 
--- a member that stands ready at its post, with its own of the clocks, handed out no stream, at a desk without entries of its own
+-- a member that stands ready at its post, with its own of the clocks, handed out no stream, at a desk without entries
+-- of its own
 pub record IsReady {S T C : Type 0} (m : Member (Post S T C)) (handed : S → ℕ) (told : C → Readings) (cat : CatalogueView) (said : Serving) (ticker : T)
     (clocks : List Readings) (i : ℕ) : Type 0 where
   pub post : IsPosted cat said ticker i m.worker
@@ -90,8 +91,8 @@ pub record HasMetAll {W : Type 0} (books : BooksView) (crew : List (Member W)) (
   pub meets : OnlyMet desk.seen
   pub met : (i : ℕ) (none : Member W) → left ≤ i → i < length crew → HasIn desk (i + 1) (slice_index_or crew i none).desk
 
--- The members of a crew took their turns to their ends; the first desk has joined the desks of all but the first, which is left, and what
--- these had counted was given away.
+-- The members of a crew took their turns to their ends; the first desk has joined the desks of all but the first, which
+-- is left, and what these had counted was given away.
 pub record HasRun {W : Type 0} (Fits : W → BooksView → Type 0) (does : Doing W) (ended : W → Type 0) (has counts : W → ℕ) (books : BooksView) (old : List (Member W))
     (before after : Held) (desk : DeskView) (member : Member W) : Type 0 where
   pub crew : List (Member W)

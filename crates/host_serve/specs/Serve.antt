@@ -44,8 +44,9 @@ IsExporting words = (said : ServeView) × IsServe words said × (said.export ≡
 abbrev pub IsPlain : List (List ℕ) → Type 0
 IsPlain words = (said : ServeView) × IsServe words said × (said.export ≡ false)
 
--- The entries of desk n of the books in the history are those of so many turns that were made one after the other, at the books' desk of
--- that number and from this clock on. It had none before them, and what it had seen before the first and after the last begins the history.
+-- The entries of desk n of the books in the history are those of so many turns that were made one after the other, at
+-- the books' desk of that number and from this clock on. It had none before them, and what it had seen before the first
+-- and after the last begins the history.
 pub record HasWorked (Does : OneTurn) (books : BooksView) (history : List Entry) (n : ℕ) (clock : Readings) (count : ℕ) : Type 0 where
   pub began : Stand
   pub began_clock : began.clock ≡ clock
@@ -60,8 +61,9 @@ pub record HasWorked (Does : OneTurn) (books : BooksView) (history : List Entry)
   pub turns : Chain Does count began ended
   pub entries : own history n ≡ own ended.desk.seen n
 
--- In the history the desks 1 to the number of workers served connections, so many all together, and the one behind them swept, each by its
--- own of the clocks. For each sweep the ticker was asked once at least for a tick, and each time after the words' seconds.
+-- In the history the desks 1 to the number of workers served connections, so many all together, and the one behind them
+-- swept, each by its own of the clocks. For each sweep the ticker was asked once at least for a tick, and each time
+-- after the words' seconds.
 pub record AllWorked (cat : CatalogueView) (books : BooksView) (said : Serving) (clocks : List Readings) (asks : ℕ → ℕ → Type 0) (hands : Handing) (total : ℕ)
     (history : List Entry) : Type 0 where
   pub served : ℕ → ℕ
@@ -73,8 +75,8 @@ pub record AllWorked (cat : CatalogueView) (books : BooksView) (said : Serving) 
   pub enough : sweeps ≤ ticks
   pub asked : asks said.sweep ticks
 
--- The books were finished by their first desk, which had parted so many others and had joined each: this is the wall that was left, and
--- in its history is what that desk had seen.
+-- The books were finished by their first desk, which had parted so many others and had joined each: this is the wall
+-- that was left, and in its history is what that desk had seen.
 pub record IsWallOf (books : BooksView) (others : ℕ) (wall : WallView) : Type 0 where
   pub layout : wall.layout ≡ books.layout
   pub desk : DeskView
@@ -84,9 +86,10 @@ pub record IsWallOf (books : BooksView) (others : ℕ) (wall : WallView) : Type 
   pub seen : wall.history ≡ desk.seen
   pub finished : Finishes books.layout desk wall.words wall.history
 
--- The wall is that of the books at which the members served, and these have this layout. Its words are those of its history, which is legal,
--- and it is free for an export. In the history the first desk only met others, and the members' entries are those of all their turns at these
--- books: so many connections all together, and the sweeps. No desk beyond these has any.
+-- The wall is that of the books at which the members served, and these have this layout. Its words are those of its
+-- history, which is legal, and it is free for an export. In the history the first desk only met others, and the
+-- members' entries are those of all their turns at these books: so many connections all together, and the sweeps. No
+-- desk beyond these has any.
 pub record IsServedWall (cat : CatalogueView) (plan : Layout) (said : Serving) (clocks : List Readings) (asks : ℕ → ℕ → Type 0) (hands : Handing) (total : ℕ) (wall : WallView) : Type 0 where
   pub books : BooksView
   pub layout : books.layout ≡ plan
@@ -97,8 +100,8 @@ pub record IsServedWall (cat : CatalogueView) (plan : Layout) (said : Serving) (
   pub worked : AllWorked cat books said clocks asks hands total wall.history
   pub no_others : (n : ℕ) → said.workers + 1 < n → own wall.history n ≡ []
 
--- what the listener told and how often it had failed, before and after; what the clocks told, and whether the ticker was asked for a tick
--- after so many seconds so often; and the wall
+-- what the listener told and how often it had failed, before and after; what the clocks told, and whether the ticker
+-- was asked for a tick after so many seconds so often; and the wall
 pub record Left : Type 1 where
   pub faults_before : ℕ
   pub before : ListenerView
@@ -123,8 +126,8 @@ left_by told faults becomes hands clocks asks first last wall = record {
   wall = wall;
 }
 
--- what was served: the books of the words' catalogue, with its places and rows, which opened with no booking or with those of the words'
--- export, over just as many connections as the listener has handed out
+-- what was served: the books of the words' catalogue, with its places and rows, which opened with no booking or with
+-- those of the words' export, over just as many connections as the listener has handed out
 pub record HasWall (files : Files) (said : ServeView) (left : Left) : Type 0 where
   pub cat : CatalogueView
   pub kept : List KeptBooking
@@ -137,7 +140,8 @@ pub record HasOpened (files : Files) (said : ServeView) : Type 0 where
   pub kept : List KeptBooking
   pub books : HasBooks files said.catalogue said.from cat kept
 
--- The listener listens at the port, and has handed out as many streams as its limit, which is the words'. It hasn't failed.
+-- The listener listens at the port, and has handed out as many streams as its limit, which is the words'. It hasn't
+-- failed.
 pub record IsSpent (said : Serving) (faults_before faults_after : ℕ) (view : ListenerView) : Type 0 where
   pub handed : view ≡ record { port = said.port; limit = said.connections; handed = said.connections }
   pub steady : faults_after ≡ faults_before
@@ -154,8 +158,8 @@ pub record IsUnbound (said : Serving) (faults_before faults_after : ℕ) (before
   pub rose : Rose faults_before faults_after
   pub only : after ≡ record before { limit = said.connections }
 
--- What the words ask for ended so. Where there are books, only a failed bind, and want of memory before any stream was handed out, hand
--- back no wall.
+-- What the words ask for ended so. Where there are books, only a failed bind, and want of memory before any stream was
+-- handed out, hand back no wall.
 abbrev pub Ends : Files → ServeView → Left → ServeOutcome → Type 0
 Ends files said left end.Served = IsSpent said.numbers left.faults_before left.faults_after left.after × HasWall files said left
 Ends files said left end.AcceptFailed =
@@ -170,8 +174,8 @@ Ends files said left (end.NotLoaded fault) =
 Ends files said left end.NoMemory = (left.wall ≡ None) × (left.after.handed ≡ 0) × (left.faults_after ≡ left.faults_before)
 Ends files said left end.Refused = ⊥
 
--- books with this layout were served and closed so, by these clocks and this ticker, from a count of faults of the listener to one with what
--- it then told
+-- books with this layout were served and closed so, by these clocks and this ticker, from a count of faults of the
+-- listener to one with what it then told
 abbrev pub BooksEnd : CatalogueView → Layout → Serving → List Readings → (ℕ → ℕ → Type 0) → Handing → ℕ → ℕ → ListenerView → Option WallView → ServeOutcome → Type 0
 BooksEnd cat plan said clocks asks hands before after view wall end.Served =
     IsSpent said before after view × IsSomeAnd wall (IsServedWall cat plan said clocks asks hands view.handed)

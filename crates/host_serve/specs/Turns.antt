@@ -34,8 +34,8 @@ pub record HasCatalogue (books : BooksView) (cat : CatalogueView) : Type 0 where
   pub legs : books.layout.legs ≡ legs_in cat
   pub rows : books.layout.rows ≡ cat.rows
 
--- This stream's connection was served to its end, by the desk's own entries: from what its source and its sink told to what they tell then,
--- by the bytes that were taken of it and the bytes that answer them, and not one more.
+-- This stream's connection was served to its end, by the desk's own entries: from what its source and its sink told to
+-- what they tell then, by the bytes that were taken of it and the bytes that answer them, and not one more.
 abbrev pub ServesStream : CatalogueView → Option (List ℕ) → Option (List ℕ) → Option (List ℕ) → Option (List ℕ) → Readings → DeskView → Readings → DeskView
     → Type 0
 ServesStream cat stream sent left after clock old later new =
@@ -45,12 +45,13 @@ ServesStream cat stream sent left after clock old later new =
 abbrev pub HandedBy : {L : Type 0} → (L → L → Type 0) → HandingBy L → L → Handing
 HandedBy becomes hands listener = IsGiven (HandsOn becomes hands listener)
 
--- what a call shows that lets go of a stream: the one that was called, what the stream's source and its sink told as it was let go, and the one
--- behind the call
+-- what a call shows that lets go of a stream: the one that was called, what the stream's source and its sink told as it
+-- was let go, and the one behind the call
 abbrev pub LettingGo : Type 0 → Type 1
 LettingGo S = S → Option (List ℕ) → Option (List ℕ) → S → Type 0
 
--- what holds of a stream that is served: of what its source and its sink told as it was handed out, and of what they told at its end
+-- what holds of a stream that is served: of what its source and its sink told as it was handed out, and of what they
+-- told at its end
 abbrev pub Passing : Type 1
 Passing = Option (List ℕ) → Option (List ℕ) → Option (List ℕ) → Option (List ℕ) → Type 0
 
@@ -156,8 +157,9 @@ module _ {S T C : Type 0} where
   abbrev pub stand_of : (C → Readings) → Post S T C → DeskView → Stand
   stand_of told w d = record { desk = d; clock = told (clock_of w) }
 
-  -- A member stays at its post, a serving one with its catalogue, and serves the stream that it is handed out in this turn, which it lets go as
-  -- it was when its connection had ended. A sweeping one asks its ticker once for a tick, after its seconds.
+  -- A member stays at its post, a serving one with its catalogue, and serves the stream that it is handed out in this
+  -- turn, which it lets go as it was when its connection had ended. A sweeping one asks its ticker once for a tick,
+  -- after its seconds.
   abbrev pub DoesTurn : (C → Readings) → (S → ℕ) → HandingBy S → LettingGo S → (T → ℕ → T → Type 0) → Post S T C → DeskView → Post S T C → DeskView
       → Type 0
   DoesTurn told handed hands lets_go ticked (Serving w) old (Serving v) new =
@@ -168,8 +170,8 @@ module _ {S T C : Type 0} where
   DoesTurn told handed hands lets_go ticked (Serving w) old (Sweeping v) new = ⊥
   DoesTurn told handed hands lets_go ticked (Sweeping w) old (Serving v) new = ⊥
 
-  -- All turns of a member up to its end are a chain: of as many connections of its catalogue as it was handed out streams, which were handed out
-  -- so, or of sweeps, with a tick for each at least.
+  -- All turns of a member up to its end are a chain: of as many connections of its catalogue as it was handed out
+  -- streams, which were handed out so, or of sweeps, with a tick for each at least.
   abbrev pub HasChain : (C → Readings) → (S → ℕ) → Handing → (T → ℕ → T → Type 0) → Post S T C → DeskView → Post S T C → DeskView → Type 0
   HasChain told handed hands ticked (Serving w) old (Serving v) new =
       (v.common.cat.now ≡ w.common.cat.now) × (served : ℕ) × (handed v.streams ≡ handed w.streams + served)
@@ -180,8 +182,8 @@ module _ {S T C : Type 0} where
   HasChain told handed hands ticked (Serving w) old (Sweeping v) new = ⊥
   HasChain told handed hands ticked (Sweeping w) old (Serving v) new = ⊥
 
-  -- The post of member i, from 0: as many as the words say serve the catalogue, and a last one asks this ticker for a tick each so many
-  -- seconds.
+  -- The post of member i, from 0: as many as the words say serve the catalogue, and a last one asks this ticker for a
+  -- tick each so many seconds.
   abbrev pub IsPosted : CatalogueView → Numbers → T → ℕ → Post S T C → Type 0
   IsPosted cat said ticker i (Serving w) = (i < said.workers) × (w.common.cat.now ≡ cat)
   IsPosted cat said ticker i (Sweeping w) = (i ≡ said.workers) × (w.seconds ≡ said.sweep) × (w.ticker ≡ ticker)

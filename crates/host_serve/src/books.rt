@@ -42,8 +42,8 @@ pub struct ServeRun<L> {
     pub wall: Option<Wall>,
 }
 
-/// Runs a crew until its members have ended, joins the desks of all but the first, with what those had counted, and hands
-/// that one back.
+/// Runs a crew until its members have ended, joins the desks of all but the first, with what those had counted, and
+/// hands that one back.
 fn run_crew<R: Threads + Wait + Sync, N: Ledger, W: Gives<N> + Send + Drop>(
     rt: &R,
     books: &Books,
@@ -62,8 +62,8 @@ fn run_crew<R: Threads + Wait + Sync, N: Ledger, W: Gives<N> + Send + Drop>(
     meet_others(books, first, crew, all)
 }
 
-/// Serves what is left of the listener's streams at the member's desk, where the listener hasn't ended: whether as many as its limit
-/// were then handed out, or an accept failed.
+/// Serves what is left of the listener's streams at the member's desk, where the listener hasn't ended: whether as many
+/// as its limit were then handed out, or an accept failed.
 fn finish_listener<N: Named, L: Listener + Drop, C: Clock>(
     common: Common<'_>,
     books: &Books,

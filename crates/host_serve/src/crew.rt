@@ -21,9 +21,9 @@ use worker_pool::Member;
 /// The members at the streams of a shared listener.
 pub type Crew<'s, R, L, N, T, C> = Vec<Member<Post<'s, LockedStreams<'s, R, L, N>, T, C>>>;
 
-/// As many serving members as the words say, and a sweeping one behind them, each at a desk that was parted from the first and with a
-/// clock of its own: the last one is the first member's. Each serving member has a part of the share. They fill a crew that has room for
-/// them, so that this can't fail once there is a listener to share.
+/// As many serving members as the words say, and a sweeping one behind them, each at a desk that was parted from the
+/// first and with a clock of its own: the last one is the first member's. Each serving member has a part of the share.
+/// They fill a crew that has room for them, so that this can't fail once there is a listener to share.
 pub fn crew_of<'s, R: Wait, L: Listener + Drop, N: Named, T: Ticker + Drop, C: Clock + Drop>(
     rt: &'s R,
     shared: &'s Mutex<SharedListener<L, N>>,

@@ -15,8 +15,8 @@ use claim_rule::{Books, Desk};
 use rail_io::Clock;
 use rail_service::{Accepted, Listener};
 
-/// Serves a listener's streams one after the other, and lets each go as it is when its connection has ended, until as many as its limit were
-/// handed out, and answers true, or until an accept failed, and answers false.
+/// Serves a listener's streams one after the other, and lets each go as it is when its connection has ended, until as
+/// many as its limit were handed out, and answers true, or until an accept failed, and answers false.
 pub fn drain_listener<N: Named, L: Listener + Drop, C: Clock, D: Closing<L::Input, L::Output>>(
     common: Common<'_>,
     books: &Books,

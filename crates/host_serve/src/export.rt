@@ -11,8 +11,8 @@ use rail_io::Sink;
 use session_loop::write_all;
 use std::alloc::Global;
 
-/// Writes the export of the wall, where there is one, to the notes: how serving ends then, which had ended so. A failed accept stays one,
-/// whatever becomes of the text.
+/// Writes the export of the wall, where there is one, to the notes: how serving ends then, which had ended so. A failed
+/// accept stays one, whatever becomes of the text.
 pub fn write_export<E: Sink>(
     alloc: Global,
     wall: &Option<Wall>,

@@ -137,7 +137,8 @@ fn said_of<'a>(alloc: Global, words: &'a [String]) -> Result<ServeWords<'a>, Wor
     read_serve(alloc, words)
 }
 
-/// Serves what the words say, if they are those of the command, and writes the export of the books to the notes, if they ask for it.
+/// Serves what the words say, if they are those of the command, and writes the export of the books to the notes, if
+/// they ask for it.
 fn run_by_words<
     R: Threads + Wait + Sync,
     F: Shelf,
@@ -200,11 +201,12 @@ where
     }
 }
 
-/// Serves a catalogue to connections: by as many members as the words say, which take streams in turn from the listener behind a lock,
-/// each at a desk and a clock of its own, and by one further member that sweeps at each tick. The words are those after the program's
-/// name: `serve`, the name of the catalogue's file, `--port`, and with `--workers`, `--connections` and `--sweep` how many members serve,
-/// how many connections are taken, and the seconds from one sweep to the next. With `--from` the books open with the bookings of the export
-/// of this name, and with `--export` the export of the books is written to the notes at the end, also behind a failed accept.
+/// Serves a catalogue to connections: by as many members as the words say, which take streams in turn from the listener
+/// behind a lock, each at a desk and a clock of its own, and by one further member that sweeps at each tick. The words
+/// are those after the program's name: `serve`, the name of the catalogue's file, `--port`, and with `--workers`,
+/// `--connections` and `--sweep` how many members serve, how many connections are taken, and the seconds from one sweep
+/// to the next. With `--from` the books open with the bookings of the export of this name, and with `--export` the
+/// export of the books is written to the notes at the end, also behind a failed accept.
 ///
 /// | status | where |
 /// |---|---|
@@ -215,17 +217,19 @@ where
 /// | 4 | all connections have ended, and the notes failed in the writing of the export |
 /// | 5 | there was no memory to begin with, or, where all connections have ended, for the export |
 ///
-/// Each has the note of its end, behind the export. Behind a failed accept the status is 3, whatever becomes of the export: the notes take
-/// all of it, a front of it where they fail, or nothing of it where there is no memory for it.
+/// Each has the note of its end, behind the export. Behind a failed accept the status is 3, whatever becomes of the
+/// export: the notes take all of it, a front of it where they fail, or nothing of it where there is no memory for it.
 ///
-/// The end of one connection changes no status, and neither does a note that fails. It may wait, so all this is said where it returns.
-/// Wherever members ran, the books are finished and handed back. In the wall's history the first desk only met others, each serving member's
-/// entries are those of the connections that it served, and the last member's those of its sweeps; no other desk has any. Each desk is between
-/// two calls of the service, so that the wall has an export. All these desks are of one set of books, which the first finished: the wall is
-/// theirs, and so is the export. The members served as many connections together as the listener has handed out streams: at status 0 as many
-/// as the words say. Each of these came by a stream that this very listener has handed out, after some calls of it. Which one, and how many of
-/// them had a request, is said by no clause. A connection for which there was no memory has taken, written and done nothing: so that each
-/// stream was served is said by its type, which lets it be spent by serving alone, and by no clause.
+/// The end of one connection changes no status, and neither does a note that fails. It may wait, so all this is said
+/// where it returns. Wherever members ran, the books are finished and handed back. In the wall's history the first desk
+/// only met others, each serving member's entries are those of the connections that it served, and the last member's
+/// those of its sweeps; no other desk has any. Each desk is between two calls of the service, so that the wall has an
+/// export. All these desks are of one set of books, which the first finished: the wall is theirs, and so is the export.
+/// The members served as many connections together as the listener has handed out streams: at status 0 as many as the
+/// words say. Each of these came by a stream that this very listener has handed out, after some calls of it. Which one,
+/// and how many of them had a request, is said by no clause. A connection for which there was no memory has taken,
+/// written and done nothing: so that each stream was served is said by its type, which lets it be spent by serving
+/// alone, and by no clause.
 pub fn run_serve<
     R: Threads + Wait + Sync,
     F: Shelf,
@@ -249,15 +253,16 @@ where
     requires clocks { length clocks.items ≡ 17 }
     requires fresh { (L.told listener).handed ≡ 0 }
 
-    // Status 2 comes exactly where the words are refused, but for want of memory to read them. Nothing is then touched but the notes.
+    // Status 2 comes exactly where the words are refused, but for want of memory to read them. Nothing is then touched
+    // but the notes.
     ensures words { result.status ≡ 2 → IsNoServe (words_texts words.now) }
     ensures refused_words { IsNoServe (words_texts words.now) → (result.status ≡ 2) ⊎ (result.status ≡ 5) }
     ensures nothing_fetched { result.status ≡ 2 → shelf.new ≡ shelf.old }
     ensures nothing_heard { result.status ≡ 2 → result.listener ≡ listener }
     ensures refused_wall { result.status ≡ 2 → result.wall ≡ None }
 
-    // The status is that of the end, and the command ran so. The notes took the export, if it was asked for and there are books, and the
-    // note of the end.
+    // The status is that of the end, and the command ran so. The notes took the export, if it was asked for and there
+    // are books, and the note of the end.
     ensures run { (outcome : ServeOutcome) × (result.status ≡ status_of_serve outcome)
         × Runs (words_texts words.now) (F.told shelf.old)
         (left_by L.told L.faults L.becomes L.hands (map C.told clocks.items) (Asks T.ticked ticker)
@@ -273,20 +278,22 @@ where
         outcome
         × HasShelfCause outcome (F.faults shelf.old) (F.faults shelf.new) (F.misses shelf.old) (F.misses shelf.new) }
 
-    // At status 0 the notes took just the export of the wall handed back, if it was asked for. At status 4 they failed in it.
+    // At status 0 the notes took just the export of the wall handed back, if it was asked for. At status 4 they failed
+    // in it.
     ensures exported { result.status ≡ 0 → IsExporting (words_texts words.now)
         → IsSomeAnd result.wall (λ w. E.told notes.new ≡ with_end (E.told notes.old) (text_on w)) }
     ensures write_cause { result.status ≡ 4 → IsExporting (words_texts words.now)
         × Rose (E.faults notes.old) (E.faults notes.new) }
 
-    // A wall is missing only at a status other than 0. At status 3 it is missing only where the shelf failed, or the bind did, which
-    // leaves the listener as it was but for its limit: a failed accept hands the wall back.
+    // A wall is missing only at a status other than 0. At status 3 it is missing only where the shelf failed, or the
+    // bind did, which leaves the listener as it was but for its limit: a failed accept hands the wall back.
     ensures wall { result.status ≡ 0 → result.wall ≡ None → ⊥ }
     ensures no_wall { result.status ≡ 3 → result.wall ≡ None → Rose (F.faults shelf.old) (F.faults shelf.new)
         ⊎ IsOnlyLimited (words_texts words.now) (L.told listener) (L.told result.listener) }
 
-    // Status 1 comes where the shelf has no books: of the catalogue's name or of the export's no file, one too large, or a text that
-    // is refused. Where it has none, and tells so, no other status comes but for its failure and for want of memory.
+    // Status 1 comes where the shelf has no books: of the catalogue's name or of the export's no file, one too large,
+    // or a text that is refused. Where it has none, and tells so, no other status comes but for its failure and for
+    // want of memory.
     ensures without { result.status ≡ 1 → IsWithoutBooks (words_texts words.now) (F.told shelf.old) }
     ensures no_books { (files : List ℕ → Option (List ℕ)) → F.told shelf.old ≡ Some files → (said : ServeView)
         → IsServe (words_texts words.now) said → HasNoBooks files said.catalogue said.from
@@ -296,8 +303,8 @@ where
     ensures missed { result.status ≡ 1 → Rose (F.misses shelf.old) (F.misses shelf.new)
         ⊎ IsOfRefusedText (words_texts words.now) (F.told shelf.old) }
 
-    // A failure is answered where a count of faults rose in this call, and both counts are as they were at every other status: behind a
-    // failed accept none other comes. The listener's never falls.
+    // A failure is answered where a count of faults rose in this call, and both counts are as they were at every other
+    // status: behind a failed accept none other comes. The listener's never falls.
     ensures read_cause { result.status ≡ 3 → Rose (L.faults listener) (L.faults result.listener)
         ⊎ Rose (F.faults shelf.old) (F.faults shelf.new) }
     ensures shelf_steady { (result.status ≡ 3 → ⊥) → F.faults shelf.new ≡ F.faults shelf.old }

@@ -25,8 +25,8 @@ pub struct Server<'s, S, C> {
 }
 
 impl<S: Streams, C: Clock> Server<'_, S, C> {
-    /// Serves the stream that it is handed next to its connection's end, and lets it go as it is then; or ends, and sets the mark, where there
-    /// is none.
+    /// Serves the stream that it is handed next to its connection's end, and lets it go as it is then; or ends, and
+    /// sets the mark, where there is none.
     pub fn take_turn(&mut self, books: &Books, desk: &mut Desk) -> TurnEnd
         requires has { HasCatalogue books.now self.old.common.cat.now }
         requires own { IsOf books.now desk.old }

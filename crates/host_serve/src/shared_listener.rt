@@ -9,8 +9,8 @@ use rail_service::{Accepted, Listener, Waiting};
 use std::marker::Brand;
 use std::sync::ledger::{Book, Ledger, Share};
 
-/// What is named of a listener while it stands behind a lock: its count of faults when it was handed in, its port and its limit, what its
-/// streams and their sinks may tell; and the ledger in which those who take its streams count them.
+/// What is named of a listener while it stands behind a lock: its count of faults when it was handed in, its port and
+/// its limit, what its streams and their sinks may tell; and the ledger in which those who take its streams count them.
 pub trait Named: Ledger {
     ghost faults: { ℕ };
 
@@ -42,8 +42,9 @@ pub enum ListenerEnd {
     Failed,
 }
 
-/// A listener beside how it ended, to stand in a lock. Whoever has the lock knows what is named of it, and why it ended. The book has as its
-/// total how many streams were handed out: so many are counted in all shares of the ledger together.
+/// A listener beside how it ended, to stand in a lock. Whoever has the lock knows what is named of it, and why it
+/// ended. The book has as its total how many streams were handed out: so many are counted in all shares of the ledger
+/// together.
 #[derive(Drop)]
 pub struct SharedListener<L: Listener + Drop, N: Named> {
     listener: L,
@@ -80,7 +81,8 @@ impl<L: Listener + Drop, N: Named> SharedListener<L, N> {
         }
     }
 
-    /// The next stream, which is counted in the share. None exactly where the listener has then ended; one that has ended isn't asked again.
+    /// The next stream, which is counted in the share. None exactly where the listener has then ended; one that has
+    /// ended isn't asked again.
     pub fn next(&mut self, share: &mut Share<N>) -> Option<Waiting<L::Input, L::Output>>
         requires part { 0 < share.old.parts }
         ensures some { IfSome result (λ _. (self.new.end ≡ Open) × (share.new.amount ≡ share.old.amount + 1)
@@ -111,7 +113,8 @@ impl<L: Listener + Drop, N: Named> SharedListener<L, N> {
         self.end
     }
 
-    /// Takes the listener out, with what is known of it. The share with all parts of the ledger counts all streams that were handed out.
+    /// Takes the listener out, with what is known of it. The share with all parts of the ledger counts all streams that
+    /// were handed out.
     pub fn into_listener(self, all: &mut Share<N>) -> (L, ListenerEnd)
         requires whole { all.old.parts ≡ N.parts }
         ensures counted { (L.told result.0).handed ≡ all.old.amount }

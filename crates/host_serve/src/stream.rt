@@ -13,8 +13,8 @@ use claim_rule::{Books, Desk};
 use rail_io::{Clock, Sink, Source};
 use rail_service::{Finished, Waiting, serve_waiting};
 
-/// Serves a stream that was handed out to its connection's end, and hands it back as it is then: what is served is that stream, from the
-/// bytes that its source told to those that its sink took.
+/// Serves a stream that was handed out to its connection's end, and hands it back as it is then: what is served is that
+/// stream, from the bytes that its source told to those that its sink took.
 pub fn serve_stream<I: Source, O: Sink, C: Clock>(
     common: Common<'_>,
     books: &Books,
@@ -29,12 +29,14 @@ pub fn serve_stream<I: Source, O: Sink, C: Clock>(
     ensures tidy { IsTidy desk.new }
     ensures keeps { KeepsDesk desk.old desk.new }
 
-    // The bytes written are the defined replies to the requests of the bytes taken, whatever other desks do, and the sink has got no others.
+    // The bytes written are the defined replies to the requests of the bytes taken, whatever other desks do, and the
+    // sink has got no others.
     ensures served { ServesWhole common.entry.cat.now
         (connection_at desk.old (C.told clock.old) (I.told waiting.input) (O.told waiting.output))
         (connection_at desk.new (C.told clock.new) (I.told result.input) (O.told result.output)) result.end }
 
-    // A device's failure is the end where its count of faults rose in this call, and at every other end that count is as it was.
+    // A device's failure is the end where its count of faults rose in this call, and at every other end that count is
+    // as it was.
     ensures read_cause { result.end ≡ ReadFault → Rose (I.faults waiting.input) (I.faults result.input) }
     ensures write_cause { result.end ≡ WriteFault → Rose (O.faults waiting.output) (O.faults result.output) }
     ensures read_steady { (result.end ≡ ReadFault → ⊥) → I.faults result.input ≡ I.faults waiting.input }

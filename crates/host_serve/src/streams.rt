@@ -9,7 +9,8 @@ use rail_service::{Finished, Listener, Waiting};
 use std::sync::ledger::Share;
 use std::sync::{Mutex, Wait};
 
-/// Hands out streams one after the other, and none once it has ended; and takes each back whose connection has ended, to let it go.
+/// Hands out streams one after the other, and none once it has ended; and takes each back whose connection has ended,
+/// to let it go.
 pub trait Streams {
     /// What comes of a stream.
     type Input: Source + Drop;
@@ -20,12 +21,14 @@ pub trait Streams {
     /// How many it has handed out.
     ghost handed: { Self → ℕ };
 
-    /// That a call handed out a stream: these streams before it, what the stream's source and its sink told, and these streams behind it.
-    /// Who knows nothing of them but this trait can show that only by a call that gave such a stream.
+    /// That a call handed out a stream: these streams before it, what the stream's source and its sink told, and these
+    /// streams behind it. Who knows nothing of them but this trait can show that only by a call that gave such a
+    /// stream.
     ghost hands: { HandingBy Self };
 
-    /// That a call let go of a stream: these streams before it, what the stream's source and its sink told as it was let go, and these streams
-    /// behind it. Who knows nothing of them but this trait can show that only by a call with the stream as it then was.
+    /// That a call let go of a stream: these streams before it, what the stream's source and its sink told as it was
+    /// let go, and these streams behind it. Who knows nothing of them but this trait can show that only by a call with
+    /// the stream as it then was.
     ghost lets_go: { LettingGo Self };
 
     /// The next stream, for which it may wait, or none, where there will be no more.
@@ -42,7 +45,8 @@ pub trait Streams {
         ensures handed { handed self.new ≡ handed self.old };
 }
 
-/// The streams of a listener behind a lock, which is held only while a stream is taken. Those that were taken here are counted in the share.
+/// The streams of a listener behind a lock, which is held only while a stream is taken. Those that were taken here are
+/// counted in the share.
 #[derive(Drop)]
 pub struct LockedStreams<'s, R, L: Listener + Drop, N: Named> {
     pub rt: &'s R,

@@ -70,8 +70,8 @@ fn settle<F: Shelf, K: Sink>(
     }
 }
 
-/// `settle` by its words: the settlement table of the books of a catalogue that open with the bookings of an export. Answers the status, and
-/// notes how it ended. It writes nothing but a whole table, unless the output fails in it.
+/// `settle` by its words: the settlement table of the books of a catalogue that open with the bookings of an export.
+/// Answers the status, and notes how it ended. It writes nothing but a whole table, unless the output fails in it.
 ///
 /// | status | where |
 /// |---|---|
@@ -101,8 +101,8 @@ pub fn run_settle<F: Shelf, K: Sink, E: Sink>(
         × OfCounts F.faults F.misses shelf.old shelf.new (HasShelfCause end)) }
     ensures few { result ≤ 5 }
 
-    // Where the output tells its bytes, those written are the settlement table for the texts that the shelf gave: all of it, or a
-    // beginning of it where the output failed. At every other status nothing is written.
+    // Where the output tells its bytes, those written are the settlement table for the texts that the shelf gave: all
+    // of it, or a beginning of it where the output failed. At every other status nothing is written.
     ensures settled { (before : List ℕ) → K.told output.old ≡ Some before → result ≡ 0
         → (text : List ℕ) × (K.told output.new ≡ Some (before ++ text))
         × IsTableFor (words_texts words.now) (F.told shelf.old) text }
@@ -111,14 +111,16 @@ pub fn run_settle<F: Shelf, K: Sink, E: Sink>(
         × IsTableFor (words_texts words.now) (F.told shelf.old) (front ++ back) }
     ensures nothing_written { (result ≡ 0 → ⊥) → (result ≡ 4 → ⊥) → output.new ≡ output.old }
 
-    // A device's failure is answered where its count of faults rose in this call, and at every other status that count is as it was.
+    // A device's failure is answered where its count of faults rose in this call, and at every other status that count
+    // is as it was.
     ensures read_cause { result ≡ 3 → Rose (F.faults shelf.old) (F.faults shelf.new) }
     ensures write_cause { result ≡ 4 → Rose (K.faults output.old) (K.faults output.new) }
     ensures write_steady { (result ≡ 4 → ⊥) → K.faults output.new ≡ K.faults output.old }
     ensures shelf_steady { (result ≡ 3 → ⊥) → F.faults shelf.new ≡ F.faults shelf.old }
 
-    // Status 1 comes where the shelf has no books: of the catalogue's name or of the export's no file, one too large, or a text that
-    // is refused. Where it has none, and tells so, no other status comes but for its failure and for want of memory.
+    // Status 1 comes where the shelf has no books: of the catalogue's name or of the export's no file, one too large,
+    // or a text that is refused. Where it has none, and tells so, no other status comes but for its failure and for
+    // want of memory.
     ensures without { result ≡ 1 → HasNoneToSettle (words_texts words.now) (F.told shelf.old) }
     ensures no_books { (files : List ℕ → Option (List ℕ)) → F.told shelf.old ≡ Some files → (catalogue export : List ℕ)
         → IsSettle (words_texts words.now) catalogue export → HasNoBooks files catalogue (Some export)

@@ -11,7 +11,8 @@ use std::alloc::{AllocError, Global};
 use std::process::Abort;
 use std::test::Fail;
 
-/// A run over devices of memory: its words, its input, which calls of each device fail, counted from 1, and how it has to end.
+/// A run over devices of memory: its words, its input, which calls of each device fail, counted from 1, and how it has
+/// to end.
 #[derive(Clone, Copy)]
 struct Run {
     line: &'static str,

@@ -63,7 +63,8 @@ pub record IsSettled (s : State) : Type 0 where
   pub rows : StandFrom 0 sold
   pub is : (s ≡ sold) ⊎ ((b : Booking) × IsEmptyRow (length sold) b × (s ≡ sold ++ b ∷ []))
 
--- the books have a place of so many legs for each of these numbers, which are all from 0 on, and 1,024 rows; the desk is alone at them
+-- the books have a place of so many legs for each of these numbers, which are all from 0 on, and 1,024 rows; the desk
+-- is alone at them
 pub record IsRun (legs : ℕ) (places : List PlaceNo) (books : BooksView) (desk : DeskView) : Type 0 where
   pub some : 0 < legs
   pub few : legs ≤ most_place_legs

@@ -49,8 +49,8 @@ fn serve<S: Source, K: Sink>(
     run_session(&mut intake, input, output, &mut tiny)
 }
 
-/// `tiny` by its words, of which the first is the command's name: it serves the input as one connection of one run with the words' legs and
-/// places, of which none is reserved. Answers the status, and notes how it ended.
+/// `tiny` by its words, of which the first is the command's name: it serves the input as one connection of one run with
+/// the words' legs and places, of which none is reserved. Answers the status, and notes how it ended.
 ///
 /// | status | where |
 /// |---|---|

@@ -31,7 +31,8 @@ pub enum Reservation {
     NoPlace,
 }
 
-/// One run with its reservations, which stand in the words alone. Contracts see its legs, how many places it has, and what is reserved.
+/// One run with its reservations, which stand in the words alone. Contracts see its legs, how many places it has, and
+/// what is reserved.
 #[derive(Drop)]
 pub struct Run {
     legs: u8,

@@ -8,8 +8,8 @@ use rail_catalogue::Catalogue;
 use train_runs::Runs;
 use trip_builder::{are_connected, first_stop_of, last_stop_of};
 
-/// Whether the catalogue has the offer: every run exists and holds its span, the segments are a trip whose first and last stations
-/// differ, and the first departure isn't before the offer was made. Takes no memory.
+/// Whether the catalogue has the offer: every run exists and holds its span, the segments are a trip whose first and
+/// last stations differ, and the first departure isn't before the offer was made. Takes no memory.
 pub fn is_offered(cat: &Catalogue, code: &OfferCode) -> bool
     ensures { result ≡ is_offered_of cat.now (offer_view code.now) }
 {

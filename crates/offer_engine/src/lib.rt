@@ -1,7 +1,7 @@
 //! What a retailer asks for: the trips of a wish as offers, each with its price and with how many places are free.
 //!
-//! `offers` makes one offer for each trip, with counts that this call's own looks showed. Its id spells all that a booking needs;
-//! `is_offered` says of such an id whether the catalogue has the trip.
+//! `offers` makes one offer for each trip, with counts that this call's own looks showed. Its id spells all that a
+//! booking needs; `is_offered` says of such an id whether the catalogue has the trip.
 #![tactic(auto)]
 
 mod codes;

@@ -16,11 +16,13 @@ use rail_time::Moment;
 use std::alloc::{AllocError, Global};
 use trip_builder::{Trip, TripWish, trips};
 
-/// One offer for each trip of the wish, in the order of the trips, where the wish's earliest departure is raised to now.
+/// One offer for each trip of the wish, in the order of the trips, where the wish's earliest departure is raised to
+/// now.
 ///
-/// An offer's code has now as the moment when it was made, the trip's segments, and the wish's passengers, class and traits. Its price
-/// is the sum of the prices of its segments, and `free` holds for each segment how many of its wanted places were free on it, by a
-/// look of this call at each piece of each. There are one to eight passengers, `wanted` is at most 31, and the books have the catalogue's places.
+/// An offer's code has now as the moment when it was made, the trip's segments, and the wish's passengers, class and
+/// traits. Its price is the sum of the prices of its segments, and `free` holds for each segment how many of its wanted
+/// places were free on it, by a look of this call at each piece of each. There are one to eight passengers, `wanted` is
+/// at most 31, and the books have the catalogue's places.
 ///
 /// Where there is no memory, the desk has made the looks of the first segments.
 pub fn offers(

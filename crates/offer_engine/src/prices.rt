@@ -8,7 +8,8 @@ use offer_codes::{OfferCode, Segment};
 use rail_catalogue::Catalogue;
 use tariff::{Fare, price};
 
-/// The price of an offer's segments for all its passengers, in minor units. A segment of no run of the catalogue costs nothing.
+/// The price of an offer's segments for all its passengers, in minor units. A segment of no run of the catalogue costs
+/// nothing.
 pub fn price_of_offer(cat: &Catalogue, offer: &OfferCode) -> u64
     requires party { is_party offer.now.adults offer.now.children ≡ true }
     ensures price { result ≡ offer_price cat.now (offer_view offer.now) }

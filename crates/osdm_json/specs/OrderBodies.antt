@@ -21,7 +21,8 @@ abbrev segment_on : RunNo → Option Interval → Result Segment BodyFault
 segment_on run None = Err (Field To)
 segment_on run (Some span) = Ok (record { run = run; span = span })
 
--- a run's segment between two stations: `from` is looked up first, and where the run doesn't go so it is `to` that is bad
+-- a run's segment between two stations: `from` is looked up first, and where the run doesn't go so it is `to` that is
+-- bad
 abbrev pub segment_of : CatalogueView → RunNo → List ℕ → List ℕ → Result Segment BodyFault
 segment_of cat run from to =
     known From (station_with from cat.runs.stations) (λ start.

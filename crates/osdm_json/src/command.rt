@@ -18,8 +18,8 @@ pub enum Command {
     /// A booking of an offer.
     Book {
         offer: Option<OfferCode>,
-        /// Whether the passengers of each segment are to sit side by side. They sit apart only where each stretch of places had one with a
-        /// leg that was taken or contended when it was looked at or tried.
+        /// Whether the passengers of each segment are to sit side by side. They sit apart only where each stretch of
+        /// places had one with a leg that was taken or contended when it was looked at or tried.
         together: bool,
     },
     /// A booking of one segment, without an offer, for so many adults.
@@ -28,8 +28,8 @@ pub enum Command {
         class: Class,
         count: u8,
         wanted: u8,
-        /// Whether the places are to lie side by side. They lie apart only where each stretch of places had one with a leg that was taken or
-        /// contended when it was looked at or tried.
+        /// Whether the places are to lie side by side. They lie apart only where each stretch of places had one with a
+        /// leg that was taken or contended when it was looked at or tried.
         together: bool,
     },
     /// A booking as it stands.

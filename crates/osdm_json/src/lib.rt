@@ -1,8 +1,8 @@
 //! What retailers ask, out of the path and the body of a request, and what they are answered.
 //!
-//! `read_command` reads the body of a route once, as JSON (RFC 8259), and answers the command that it asks, or the first fault in the order
-//! of the route's fields. Ids and codes are read where they stand; one that is no spelling is kept as none, since what it names is a
-//! question of the service. The texts of answers are those of `osdm_texts`.
+//! `read_command` reads the body of a route once, as JSON (RFC 8259), and answers the command that it asks, or the
+//! first fault in the order of the route's fields. Ids and codes are read where they stand; one that is no spelling is
+//! kept as none, since what it names is a question of the service. The texts of answers are those of `osdm_texts`.
 #![tactic(auto)]
 
 mod command;

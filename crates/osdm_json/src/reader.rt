@@ -36,8 +36,8 @@ impl BodyRoom {
     }
 }
 
-/// The command that a route asks with this body, or the first fault: fields in the order of the route's table, then stations. A route that
-/// has no body lets it be, and takes no memory. `NoMemory` is the one answer without a cause.
+/// The command that a route asks with this body, or the first fault: fields in the order of the route's table, then
+/// stations. A route that has no body lets it be, and takes no memory. `NoMemory` is the one answer without a cause.
 pub fn read_command(
     alloc: Global,
     cat: &Catalogue,

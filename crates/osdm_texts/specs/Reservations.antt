@@ -15,7 +15,8 @@ goes_on a b = a.place == b.place && (a.span.to == word_legs && b.span.from == wo
 abbrev pub joined : PlacedSpan → PlacedSpan → PlacedSpan
 joined a b = record { place = a.place; span = record { from = a.span.from; to = b.span.to } }
 
--- what a booking with these items has at each place: its item there, or both its items as one where they go on over the border
+-- what a booking with these items has at each place: its item there, or both its items as one where they go on over the
+-- border
 abbrev pub reservations : List PlacedSpan → List PlacedSpan
 reservations [] = []
 reservations (a ∷ []) = a ∷ []

@@ -1,4 +1,5 @@
--- What a catalogue says of the stops and places that a reply names. Where it has no such run, stop, station or place, an empty one stands in.
+-- What a catalogue says of the stops and places that a reply names. Where it has no such run, stop, station or place,
+-- an empty one stands in.
 use Rattle.std.specs.Prelude.{ℕ, List, [], slice_get, slice_index_or}
 use Rattle.std.specs.Option.{option_map_or}
 use Rattle.rail_ids.specs.declared.StationNo.{StationNo}

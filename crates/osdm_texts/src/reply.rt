@@ -64,8 +64,8 @@ pub enum Reply<'r> {
 
 /// The JSON text of the reply, in one growing buffer: no space, and each object's members in byte order of their names.
 ///
-/// Each id in the reply has its ranges, each offer has one count for each segment, and a list of places one entry for each place of its
-/// run. Whatever else the catalogue lacks is written as empty.
+/// Each id in the reply has its ranges, each offer has one count for each segment, and a list of places one entry for
+/// each place of its run. Whatever else the catalogue lacks is written as empty.
 pub fn reply_text(alloc: Global, cat: &Catalogue, reply: &Reply<'_>) -> Result<Vec<u8>, AllocError>
     requires writable { CanBeWritten cat.now reply.now }
     ensures { IfOk result (λ text. text.items ≡ compact_text (tree_of cat.now reply.now)) }

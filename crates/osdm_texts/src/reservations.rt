@@ -14,8 +14,8 @@ use rail_catalogue::Catalogue;
 use std::alloc::AllocError;
 use std::marker::Model;
 
-/// A booking whose items are those of placed spans, each at a place of its own, is shown with just these spans in their order, each once
-/// and whole.
+/// A booking whose items are those of placed spans, each at a place of its own, is shown with just these spans in their
+/// order, each once and whole.
 pub fn places_are_shown_once()
     ensures once { (placed : List PlacedSpan) → Pairwise (λ a b. a.place ≢ b.place) placed
         → reservations (flat_map (λ r. items_at r.span r.place) placed) ≡ placed }

@@ -13,8 +13,8 @@ use arrayvec::ArrayVec;
 use booking_rows::Swept;
 use rail_time::{Moment, write_moment};
 
-/// The JSON text of a problem (RFC 9457). A `WrongState` shows a phase that is neither free nor in the making; of those two the detail is
-/// empty. No memory is taken.
+/// The JSON text of a problem (RFC 9457). A `WrongState` shows a phase that is neither free nor in the making; of those
+/// two the detail is empty. No memory is taken.
 pub fn small_text(problem: &Problem) -> ArrayVec<u8, 256>
     ensures { result.items ≡ compact_text (problem_tree problem.now) }
 {

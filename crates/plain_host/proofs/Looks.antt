@@ -1,4 +1,5 @@
--- Looks at a booking's row by a desk that is alone: the last one shows what the first one showed, and no turn behind them is lost.
+-- Looks at a booking's row by a desk that is alone: the last one shows what the first one showed, and no turn behind
+-- them is lost.
 use Rattle.std.proofs.Common.{◌≡◌, ◌≢◌, ⊎_elim, inl, inr, ℕ, ◌<◌, ◌≤◌, Bool, true, false, cond, List, [], ◌∷◌, ◌++◌, Option, Some, None, ne_eqb, refl, sym, ap, ◌∙◌, subst, arith}
 use Rattle.std.specs.Prelude.{◌==◌}
 use Rattle.std.specs.Option.{option_map_or}

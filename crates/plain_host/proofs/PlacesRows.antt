@@ -295,7 +295,8 @@ kept_none s each = ap kept_of (sym (append-nil s)) ∙ kept_behind s [] each
 kept_last : (s : State) (b : Booking) → AllByRecursion IsStanding s → b.phase ≡ Making → kept_of (s ++ b ∷ []) ≡ Some (row_of b)
 kept_last s b each making = kept_behind s (b ∷ []) each ∙ ap (λ (p : Phase). option_map row_of (cond (is_in_making p) (Some b) None)) making
 
--- the row stands behind what stands, in the making by the first desk with these items, and none of the others is as late
+-- the row stands behind what stands, in the making by the first desk with these items, and none of the others is as
+-- late
 pub record IsMaking (standing : State) (row : RowNo) (items : List BookedItem) (s : State) : Type 0 where
   pub last : Booking
   pub row_is : row_of last ≡ row

@@ -266,7 +266,8 @@ stands_with s row b c st same =
 pub there_same : (s t : State) → map key_of t ≡ map key_of s → (x : Booking) → is_there t x ≡ is_there s x
 there_same s t keys x = ap (λ (ks : List (ℕ × ℕ)). stands_as x.row (next_in ks x.row - 1) x) keys
 
--- where another sealed booking of the same row and generation stands there, the list has its view, and the row kept is the same
+-- where another sealed booking of the same row and generation stands there, the list has its view, and the row kept is
+-- the same
 pub changed_standing : (s t : State) (row : ℕ) (b c : Booking) → (st : Stands s row b) → t ≡ st.before ++ c ∷ st.after → key_of c ≡ key_of b
     → is_sealed b.phase ≡ true → is_sealed c.phase ≡ true
     → (standings_of t ≡ map (replaced (row_of b) (view_of c)) (standings_of s)) × (kept_of t ≡ kept_of s)

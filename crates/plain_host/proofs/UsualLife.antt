@@ -157,7 +157,8 @@ frees : (outcome_of (example 2) 1 (six + 1300) (command.Places (segment 1 0 1)) 
     ≡ place_list 1 (true ∷ true ∷ true ∷ true ∷ true ∷ true ∷ [])
 frees = refl
 
--- two passengers by a window on legs of both words of a place have two items each; who is there on the last of the legs alone keeps the place from them
+-- two passengers by a window on legs of both words of a place have two items each; who is there on the last of the legs
+-- alone keeps the place from them
 abbrev over_the_border : ℕ → ℕ → OfferView
 over_the_border adults from = record { made = six; adults = adults; children = 0; class = Second; wanted = 1; segments = segment 1 from 64 ∷ [] }
 

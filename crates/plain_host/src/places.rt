@@ -76,9 +76,9 @@ pub fn places_are_plain()
         → AnswersPlainly cat retailer now (ordered cat now (AcceptExchange row code)) }
 {}
 
-/// The law of all commands: what a lone desk answers to a command that can be read, by what it orders or is refused for,
-/// is what a host of one thread answers at the list of the desk's bookings, and it leaves the list that the host of one
-/// thread leaves.
+/// The law of all commands: what a lone desk answers to a command that can be read, by what it orders or is refused
+/// for, is what a host of one thread answers at the list of the desk's bookings, and it leaves the list that the host
+/// of one thread leaves.
 pub fn commands_are_plain()
     ensures plain { (cat : CatalogueView) (retailer now : ℕ) (c : Command) → IsReadable cat c
         → AnswersPlainly cat retailer now (ordered cat now c) }

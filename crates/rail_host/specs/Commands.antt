@@ -46,8 +46,8 @@ pub record Shelved : Type 0 where
   pub missed : ℕ
   pub misses : ℕ
 
--- Serving ended so, from what the listener told to what it tells. It is the export of the wall that is left that the notes took, if it was
--- asked for, before the note of the end.
+-- Serving ended so, from what the listener told to what it tells. It is the export of the wall that is left that the
+-- notes took, if it was asked for, before the note of the end.
 pub record ServesPort (words : List (List ℕ)) (files : Files) (left : Left) (status : ℕ) (shelf : Shelved) (n : Noting) : Type 0 where
   pub outcome : ServeOutcome
   pub is : status ≡ status_of_serve outcome

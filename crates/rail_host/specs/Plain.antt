@@ -40,8 +40,8 @@ LacksItsBooks words files = IsWithoutBooks Replay words files ⊎ IsWithoutBooks
 abbrev pub HasRefusedText : List (List ℕ) → Files → Type 0
 HasRefusedText words files = IsOfRefusedText Replay words files ⊎ IsOfRefusedText Export words files ⊎ IsOfRefusedFile words files
 
--- the bytes written answer those to come, to their end or to a last request; or they are the export that these leave; or they
--- are the settlement table
+-- the bytes written answer those to come, to their end or to a last request; or they are the export that these leave;
+-- or they are the settlement table
 abbrev pub AnswersAll : List (List ℕ) → Files → List ℕ → List ℕ → Type 0
 AnswersAll words files stream written =
     ServesAll words stream written ⊎ RepliesAll words files stream written ⊎ ExportsAll words files stream written

@@ -18,8 +18,8 @@ use std::sync::Wait;
 use std::thread::Threads;
 use std::time;
 
-/// Runs the command of the words on these devices, and ends with its status; or, where there was no memory for the words, with status 5 and
-/// its note.
+/// Runs the command of the words on these devices, and ends with its status; or, where there was no memory for the
+/// words, with status 5 and its note.
 pub fn run_host<
     R: Threads + Wait + Sync + time::Clock,
     F: Shelf,
@@ -44,8 +44,8 @@ where
     L::Output: Send,
     requires fresh { (L.told listener).handed ≡ 0 }
 
-    // The command of the words ran so on these devices, and the program's status is that of its end. What is left of the listener and the
-    // wall goes with the program.
+    // The command of the words ran so on these devices, and the program's status is that of its end. What is left of
+    // the listener and the wall goes with the program.
     ensures ended { IfOk words (λ said. (last : L) × (wall : Option WallView)
         × EndsSo (words_texts said.items)
         (left_by L.told L.faults L.becomes L.hands (replicate 17 None) (Asks T.ticked ticker) listener last wall)

@@ -27,9 +27,10 @@ use host_words::{CommandName, is_for};
 use rail_io::{Shelf, Sink, Source};
 use std::alloc::Global;
 
-/// Runs the command of the first word over one connection, and answers its status: `replay`, `export` or `settle` where that is the first
-/// word, and else `tiny`, which refuses the words of every other command. Each has a contract of its own, and this one says by the first
-/// word which holds. The statuses are those of their tables, and each has the note of its end. A failing note changes no status.
+/// Runs the command of the first word over one connection, and answers its status: `replay`, `export` or `settle` where
+/// that is the first word, and else `tiny`, which refuses the words of every other command. Each has a contract of its
+/// own, and this one says by the first word which holds. The statuses are those of their tables, and each has the note
+/// of its end. A failing note changes no status.
 ///
 /// `settle` reads no input: it writes the settlement table of the files that its words name.
 pub fn run_plain<F: Shelf, S: Source, K: Sink, E: Sink>(
@@ -40,8 +41,8 @@ pub fn run_plain<F: Shelf, S: Source, K: Sink, E: Sink>(
     output: &mut K,
     notes: &mut E,
 ) -> u8
-    // Status 2 comes exactly where the words are refused, but for want of memory to read those of `replay` or `export`. Nothing is then
-    // touched but the notes.
+    // Status 2 comes exactly where the words are refused, but for want of memory to read those of `replay` or `export`.
+    // Nothing is then touched but the notes.
     ensures words { result ≡ 2 → IsRefusedWords (words_texts words.now) }
     ensures refused_words { IsRefusedWords (words_texts words.now)
         → (result ≡ 2) ⊎ ((result ≡ 5) × AsksToServe (words_texts words.now)) }
@@ -52,7 +53,8 @@ pub fn run_plain<F: Shelf, S: Source, K: Sink, E: Sink>(
         → IsNoted (E.told notes.old) (E.told notes.new) (E.faults notes.old) (E.faults notes.new)
         (note_of WordsRefused) }
 
-    // Else it is that of the command's end, and the bytes written are the answers of the bytes taken, or the export that they leave.
+    // Else it is that of the command's end, and the bytes written are the answers of the bytes taken, or the export
+    // that they leave.
     ensures run { (result ≡ 2)
         ⊎ ((end : ConnEnd) × (result ≡ status_of (end_of end))
         × IsTinyRun (words_texts words.now) (S.told input.old) (S.told input.new)
@@ -73,8 +75,8 @@ pub fn run_plain<F: Shelf, S: Source, K: Sink, E: Sink>(
         (note_of (end_of_settle end))
         × HasSettleCause end (F.faults shelf.old) (F.faults shelf.new) (F.misses shelf.old) (F.misses shelf.new)) }
 
-    // Where the input and the output tell their bytes, those written are the defined answers of those to come, or the export, or the
-    // settlement table.
+    // Where the input and the output tell their bytes, those written are the defined answers of those to come, or the
+    // export, or the settlement table.
     ensures served { (stream before : List ℕ) → S.told input.old ≡ Some stream → K.told output.old ≡ Some before
         → result ≡ 0
         → (written : List ℕ) × (K.told output.new ≡ Some (before ++ written))
@@ -94,16 +96,17 @@ pub fn run_plain<F: Shelf, S: Source, K: Sink, E: Sink>(
         → (written : List ℕ) × (K.told output.new ≡ Some (before ++ written))
         × AnswersPart (words_texts words.now) (F.told shelf.old) stream (S.told input.new) written }
 
-    // On `settle` the bytes written are just the settlement table for the texts that the shelf gave, and no input is read.
+    // On `settle` the bytes written are just the settlement table for the texts that the shelf gave, and no input is
+    // read.
     ensures settled { (before : List ℕ) → K.told output.old ≡ Some before → IsForSettle (words_texts words.now)
         → result ≡ 0
         → (text : List ℕ) × (K.told output.new ≡ Some (before ++ text))
         × IsTableFor (words_texts words.now) (F.told shelf.old) text }
     ensures unread { IsForSettle (words_texts words.now) → input.new ≡ input.old }
 
-    // A device's failure is answered where its count of faults rose in this call, and at every other status that count is as it
-    // was; but at status 5 of `export` the input may have failed behind an answer for want of memory. A missing or too large file is
-    // answered where the shelf's misses rose.
+    // A device's failure is answered where its count of faults rose in this call, and at every other status that count
+    // is as it was; but at status 5 of `export` the input may have failed behind an answer for want of memory. A
+    // missing or too large file is answered where the shelf's misses rose.
     ensures read_cause { result ≡ 3 → Rose (S.faults input.old) (S.faults input.new)
         ⊎ (AsksForFiles (words_texts words.now) × Rose (F.faults shelf.old) (F.faults shelf.new)) }
     ensures write_cause { result ≡ 4 → Rose (K.faults output.old) (K.faults output.new) }
@@ -114,8 +117,9 @@ pub fn run_plain<F: Shelf, S: Source, K: Sink, E: Sink>(
     ensures missed { result ≡ 1 → Rose (F.misses shelf.old) (F.misses shelf.new)
         ⊎ HasRefusedText (words_texts words.now) (F.told shelf.old) }
 
-    // Status 1 comes where the shelf has no books: of the catalogue's name or of the export's no file, one too large, or a text that
-    // is refused. Where it has none, and tells so, no other status comes but for its failure and for want of memory.
+    // Status 1 comes where the shelf has no books: of the catalogue's name or of the export's no file, one too large,
+    // or a text that is refused. Where it has none, and tells so, no other status comes but for its failure and for
+    // want of memory.
     ensures without { result ≡ 1 → LacksItsBooks (words_texts words.now) (F.told shelf.old) }
     ensures no_books { (files : List ℕ → Option (List ℕ)) → F.told shelf.old ≡ Some files → (said : ReplayView)
         → IsWithFiles (words_texts words.now) said → HasNoBooks files said.catalogue said.from

@@ -1,8 +1,8 @@
 //! The reservation host. `main` makes the real objects, runs the command that the first word names,
 //! and ends with its status.
 //!
-//! It is the one program. Each command stands in a room of its own below it; here they meet the machine: standard input, output and
-//! error, files, a port, the clock, and threads.
+//! It is the one program. Each command stands in a room of its own below it; here they meet the machine: standard
+//! input, output and error, files, a port, the clock, and threads.
 #![tactic(auto)]
 
 ghost use Rattle.std.specs.Prelude.{◌≡◌, drop};

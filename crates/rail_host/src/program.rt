@@ -23,8 +23,9 @@ use std::sync::Wait;
 use std::thread::Threads;
 use std::time;
 
-/// Runs the command that the first word names, and hands back its status and the listener: `drill`, `serve`, or one of the plain commands, to
-/// which all other words go. `serve` alone hears of the listener. It and `drill` alone have finished books to hand back.
+/// Runs the command that the first word names, and hands back its status and the listener: `drill`, `serve`, or one of
+/// the plain commands, to which all other words go. `serve` alone hears of the listener. It and `drill` alone have
+/// finished books to hand back.
 pub fn run_command<
     R: Threads + Wait + Sync + time::Clock,
     F: Shelf,
@@ -49,8 +50,8 @@ where
     L::Output: Send,
     requires fresh { (L.told listener).handed ≡ 0 }
 
-    // Status 2 comes exactly where the words are those of no command, but for want of memory to read them. Nothing is then touched but
-    // the notes.
+    // Status 2 comes exactly where the words are those of no command, but for want of memory to read them. Nothing is
+    // then touched but the notes.
     ensures words { result.status ≡ 2 → IsNoCommand (words_texts words.now) }
     ensures refused_words { IsNoCommand (words_texts words.now) → (result.status ≡ 2) ⊎ (result.status ≡ 5) }
     ensures nothing_read { result.status ≡ 2 → input.new ≡ input.old }
@@ -59,10 +60,10 @@ where
     ensures nothing_heard { result.status ≡ 2 → result.listener ≡ listener }
     ensures refused_wall { result.status ≡ 2 → result.wall ≡ None }
 
-    // The command of the words ran so on the devices handed in: from this input, to this output, on this shelf's files. The
-    // status and the note are those of its end. Of `serve`, and of no other command, the notes took the export before the
-    // note, if it was asked for. The wall that is handed back is that of `serve`, or the one that the line of `drill`
-    // counts.
+    // The command of the words ran so on the devices handed in: from this input, to this output, on this shelf's files.
+    // The status and the note are those of its end. Of `serve`, and of no other command, the notes took the export
+    // before the note, if it was asked for. The wall that is handed back is that of `serve`, or the one that the line
+    // of `drill` counts.
     ensures ended { EndsSo (words_texts words.now)
         (left_by L.told L.faults L.becomes L.hands (replicate 17 None) (Asks T.ticked ticker)
         listener result.listener result.wall)
@@ -87,10 +88,10 @@ where
           };
         }) }
 
-    // What a command has no use for is left as it was: only `serve` hears of the listener, and neither it nor `drill` or
-    // `settle` reads the input. A command other than `serve` and `drill` hands back no wall. A failure of the input or the
-    // output is answered where its count of faults rose in this call, and at every other status that count is as it was;
-    // but at status 5 of `export` the input may have failed behind an answer for want of memory.
+    // What a command has no use for is left as it was: only `serve` hears of the listener, and neither it nor `drill`
+    // or `settle` reads the input. A command other than `serve` and `drill` hands back no wall. A failure of the input
+    // or the output is answered where its count of faults rose in this call, and at every other status that count is as
+    // it was; but at status 5 of `export` the input may have failed behind an answer for want of memory.
     ensures unheard { (IsForServe (words_texts words.now) → ⊥) → result.listener ≡ listener }
     ensures no_wall { (IsForServe (words_texts words.now) → ⊥) → (IsForDrill (words_texts words.now) → ⊥)
         → result.wall ≡ None }
@@ -107,8 +108,8 @@ where
     ensures read_steady { (result.status ≡ 3 → ⊥) → (IsForExport (words_texts words.now) → result.status ≡ 5 → ⊥)
         → S.faults input.new ≡ S.faults input.old }
 
-    // Where the words are those of `serve` and the shelf, which tells so, has no books of theirs, no other status comes but for its failure
-    // and for want of memory.
+    // Where the words are those of `serve` and the shelf, which tells so, has no books of theirs, no other status comes
+    // but for its failure and for want of memory.
     ensures no_books { (files : List ℕ → Option (List ℕ)) → F.told shelf.old ≡ Some files → (said : ServeView)
         → IsServe (words_texts words.now) said → HasNoBooks files said.catalogue said.from
         → (result.status ≡ 1)

@@ -34,11 +34,11 @@ fn system_clocks<C: time::Clock + Copy + Drop>(
     Ok(clocks)
 }
 
-/// Serves the connections that a listener hands out, by the system's clock, and hands back the status of `serve`, the listener and the wall,
-/// with the export and the note in the notes.
+/// Serves the connections that a listener hands out, by the system's clock, and hands back the status of `serve`, the
+/// listener and the wall, with the export and the note in the notes.
 ///
-/// The program's listener stands before a port of this machine, and its streams tell no content: that a connection's bytes came from a client,
-/// and reached one, is said by no clause.
+/// The program's listener stands before a port of this machine, and its streams tell no content: that a connection's
+/// bytes came from a client, and reached one, is said by no clause.
 pub fn serve_port<
     R: Threads + Wait + Sync + time::Clock,
     F: Shelf,
@@ -59,15 +59,17 @@ where
     L::Output: Send,
     requires fresh { (L.told listener).handed ≡ 0 }
 
-    // Status 2 comes exactly where the words are refused, but for want of memory. Nothing is then fetched, and the listener isn't called.
+    // Status 2 comes exactly where the words are refused, but for want of memory. Nothing is then fetched, and the
+    // listener isn't called.
     ensures words { result.status ≡ 2 → IsNoServe (words_texts words.now) }
     ensures refused_words { IsNoServe (words_texts words.now) → (result.status ≡ 2) ⊎ (result.status ≡ 5) }
     ensures nothing_fetched { result.status ≡ 2 → shelf.new ≡ shelf.old }
     ensures nothing_heard { result.status ≡ 2 → result.listener ≡ listener }
     ensures refused_wall { result.status ≡ 2 → result.wall ≡ None }
 
-    // The status is that of the end, and the command ran so, over this listener, by this ticker and clocks that tell nothing. The notes took
-    // the export of the wall that is handed back, if it was asked for and there is one, and the note of the end.
+    // The status is that of the end, and the command ran so, over this listener, by this ticker and clocks that tell
+    // nothing. The notes took the export of the wall that is handed back, if it was asked for and there is one, and the
+    // note of the end.
     ensures ended { ServesPort (words_texts words.now) (F.told shelf.old)
         (left_by L.told L.faults L.becomes L.hands (replicate 17 None) (Asks T.ticked ticker)
         listener result.listener result.wall)

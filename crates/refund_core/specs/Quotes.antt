@@ -1,4 +1,5 @@
--- What a quote rests on: the booking as one look shows it, the phase that a code names, the age of a code, and the amount.
+-- What a quote rests on: the booking as one look shows it, the phase that a code names, the age of a code, and the
+-- amount.
 use Rattle.std.specs.Prelude.{◌≡◌, ◌≢◌, ◌⊎◌, ℕ, ◌-◌, ◌<◌, ◌≤◌, [], ◌||◌, nat_lt, Bool, List, if◌then◌else◌, Option, Some, None}
 use Rattle.history_model.specs.declared.entry.Step.{Step}
 use Rattle.history_model.specs.declared.phase.Phase.{Phase}
@@ -32,6 +33,7 @@ phase_named fulfilled = if fulfilled then Fulfilled else Confirmed
 abbrev pub is_stale : ℕ → ℕ → Bool
 is_stale made now = nat_lt now made || nat_lt valid_seconds (now - made)
 
--- what the booking is worth at this moment, in the phase named: by its total and the seconds to its least departure, 0 where that has passed
+-- what the booking is worth at this moment, in the phase named: by its total and the seconds to its least departure, 0
+-- where that has passed
 abbrev pub refund_at : CatalogueView → RowSeen → ℕ → Bool → ℕ
 refund_at cat v made fulfilled = refund_of cat.terms v.total (least_departure cat v.items - made) fulfilled

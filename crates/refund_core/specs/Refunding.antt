@@ -21,7 +21,8 @@ use Rattle.refund_core.specs.declared.refunding.Refunded.{Refunded}
 use Rattle.refund_core.specs.declared.refunding.Refunded.TheVariants as refunded
 use Rattle.refund_core.specs.Quotes.{SeesOwn, SeesNone, phase_named, is_stale, refund_at}
 
--- the steps of a quote, by what it answers: the booking was seen in the phase that the code names, and the code has what it is worth now
+-- the steps of a quote, by what it answers: the booking was seen in the phase that the code names, and the code has
+-- what it is worth now
 abbrev pub QuotesRefund : CatalogueView → ℕ → RowNo → ℕ → ℕ → Quoted → List Step → Type 0
 QuotesRefund cat rows row retailer now (quoted.Done code) es =
     (row.row < rows) × ((v : RowSeen) × SeesOwn row retailer v es × (v.phase ≡ phase_named code.fulfilled)

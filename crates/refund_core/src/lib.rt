@@ -1,7 +1,7 @@
 //! Releasing a prebooked booking, and refunding a confirmed one by a quote.
 //!
-//! Each call looks at the row, decides by one exchange on the row's phase, and then gives every item back before it answers. A quote
-//! spells all that it rests on, so nothing is kept of it.
+//! Each call looks at the row, decides by one exchange on the row's phase, and then gives every item back before it
+//! answers. A quote spells all that it rests on, so nothing is kept of it.
 //!
 //! No call takes memory, and none waits.
 #![tactic(auto)]

@@ -19,8 +19,8 @@ use rail_ids::{RetailerNo, RowNo};
 use rail_time::Moment;
 use tariff::refund_value;
 
-/// This retailer's booking, as looks at its row show it. `None` exactly where the row is past the last, the first look shows the booking
-/// free or in the making, the last one free, or its retailer is another.
+/// This retailer's booking, as looks at its row show it. `None` exactly where the row is past the last, the first look
+/// shows the booking free or in the making, the last one free, or its retailer is another.
 pub fn find_booking(
     books: &Books,
     desk: &mut Desk,
@@ -66,7 +66,8 @@ pub fn is_named(phase: Phase, fulfilled: bool) -> bool
     phase == phase_named(fulfilled)
 }
 
-/// Whether the ticket of a booking in this phase is collected. `None` exactly where it is neither confirmed nor fulfilled.
+/// Whether the ticket of a booking in this phase is collected. `None` exactly where it is neither confirmed nor
+/// fulfilled.
 pub fn is_collected(phase: Phase) -> Option<bool>
     ensures named { IfSome result (λ fulfilled. phase ≡ phase_named_of fulfilled) }
     ensures neither { IfNone result ((phase ≢ Confirmed) × (phase ≢ Fulfilled)) }
@@ -87,8 +88,8 @@ pub fn is_stale(made: Moment, now: Moment) -> bool
     made > now || now - made > u64::from(VALID_SECONDS)
 }
 
-/// What a booking is worth at a moment, in minor units, where its ticket is then collected or not: by its total, and by the seconds from
-/// that moment to its first departure, 0 where that has passed.
+/// What a booking is worth at a moment, in minor units, where its ticket is then collected or not: by its total, and by
+/// the seconds from that moment to its first departure, 0 where that has passed.
 pub fn refund_at(cat: &Catalogue, view: &RowView, made: Moment, fulfilled: bool) -> u64
     requires total { view.now.total ≤ greatest_amount }
     ensures value { result ≡ worth_at cat.now view.now made fulfilled }

@@ -21,15 +21,15 @@ use rail_time::Moment;
 pub enum Quoted {
     /// The quote.
     Done(RefundCode),
-    /// The row is past the last, or its look shows the booking free, in the making, or another retailer's; or its last look shows it
-    /// free.
+    /// The row is past the last, or its look shows the booking free, in the making, or another retailer's; or its last
+    /// look shows it free.
     Unknown,
     /// The look shows another phase than confirmed and fulfilled.
     WrongState { shown: Phase },
 }
 
-/// Quotes a refund of this retailer's confirmed or fulfilled booking: what it is worth now, in the phase that its look shows. The quote is
-/// in the ranges of its spelling. At most 57 entries are added.
+/// Quotes a refund of this retailer's confirmed or fulfilled booking: what it is worth now, in the phase that its look
+/// shows. The quote is in the ranges of its spelling. At most 57 entries are added.
 pub fn quote_refund(
     cat: &Catalogue,
     books: &Books,

@@ -21,8 +21,8 @@ use row_decisions::end_row;
 pub enum Refunded {
     /// The booking is refunded by this call, with the code's amount in minor units, and all its items are given back.
     Done { amount: u64 },
-    /// The row is past the last, or its look shows the booking free, in the making, or another retailer's; or the last look, or the
-    /// lost turn of this call, shows it free.
+    /// The row is past the last, or its look shows the booking free, in the making, or another retailer's; or the last
+    /// look, or the lost turn of this call, shows it free.
     Unknown,
     /// The look, or the lost turn of this call, shows another phase than the code names, and no look shows it free.
     WrongState { shown: Phase },
@@ -32,8 +32,9 @@ pub enum Refunded {
     QuoteWrong,
 }
 
-/// Refunds this retailer's booking by a quote, in just the phase that the quote names. Refusals are tried in this order: `QuoteStale`,
-/// `Unknown`, `QuoteWrong`, `WrongState`. The desk has no ending out. At most 159 entries are added.
+/// Refunds this retailer's booking by a quote, in just the phase that the quote names. Refusals are tried in this
+/// order: `QuoteStale`, `Unknown`, `QuoteWrong`, `WrongState`. The desk has no ending out. At most 159 entries are
+/// added.
 pub fn accept_refund(
     cat: &Catalogue,
     books: &Books,

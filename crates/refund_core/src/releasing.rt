@@ -18,14 +18,15 @@ use row_decisions::{end_row, find_owned};
 pub enum Released {
     /// The booking is released by this call, and all its items are given back.
     Done,
-    /// The row is past the last, or its look shows the booking free, in the making, or another retailer's; or the second look, or the
-    /// lost turn of this call, shows it free.
+    /// The row is past the last, or its look shows the booking free, in the making, or another retailer's; or the
+    /// second look, or the lost turn of this call, shows it free.
     Unknown,
     /// The look, or the lost turn of this call, shows another phase than prebooked, and no look shows it free.
     WrongState { shown: Phase },
 }
 
-/// Releases a prebooked booking of this retailer, also after its limit. The desk has no ending out. At most 105 entries are added.
+/// Releases a prebooked booking of this retailer, also after its limit. The desk has no ending out. At most 105 entries
+/// are added.
 pub fn release(
     books: &Books,
     desk: &mut Desk,

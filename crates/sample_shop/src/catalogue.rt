@@ -11,7 +11,8 @@ use rail_ids::RetailerNo;
 use rail_time::Moment;
 use std::alloc::Global;
 
-/// The text of `examples/k1.json`. Run 0 has the places 0 to 11 (coach 1 of first class, coach 2 of second), run 1 the places 12 to 17.
+/// The text of `examples/k1.json`. Run 0 has the places 0 to 11 (coach 1 of first class, coach 2 of second), run 1 the
+/// places 12 to 17.
 pub const CATALOGUE: &str = r#"{"currency":"EUR",
  "retailers":[{"number":1,"key":"north"},{"number":2,"key":"south"}],
  "stations":[{"code":"BASEL"},{"code":"OLTEN"},{"code":"BERN"},{"code":"THUN"}],

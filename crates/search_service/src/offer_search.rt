@@ -16,10 +16,11 @@ use osdm_texts::{Problem, Reply, Success, Written, write_reply};
 use rail_time::Moment;
 use shop::Shop;
 
-/// Searches for the offers of a wish from now on (OSDM's search of offers), each with its price and what is free, and answers them.
+/// Searches for the offers of a wish from now on (OSDM's search of offers), each with its price and what is free, and
+/// answers them.
 ///
-/// There are one to eight passengers, `wanted` is at most 31, and the books have the catalogue's places. Where there is no memory that is
-/// the answer, and the desk has made the looks of the first segments.
+/// There are one to eight passengers, `wanted` is at most 31, and the books have the catalogue's places. Where there is
+/// no memory that is the answer, and the desk has made the looks of the first segments.
 pub fn search_offers(
     shop: &Shop<'_>,
     desk: &mut Desk,

@@ -15,10 +15,11 @@ use osdm_texts::{Problem, Reply, Success, Written, write_reply};
 use rail_ids::RunNo;
 use shop::Shop;
 
-/// Answers all places of the segment's run, in order, and of each whether it is free on all legs of the segment, by a look of this
-/// call at each piece of each (OSDM's place map).
+/// Answers all places of the segment's run, in order, and of each whether it is free on all legs of the segment, by a
+/// look of this call at each piece of each (OSDM's place map).
 ///
-/// The books have the catalogue's places. Where there is no memory that is the answer: either no look was made, or all were.
+/// The books have the catalogue's places. Where there is no memory that is the answer: either no look was made, or all
+/// were.
 pub fn list_places(shop: &Shop<'_>, desk: &mut Desk, segment: Segment) -> Result<Written, Problem>
     requires own { IsOf shop.now.books.now desk.old }
     requires idle { IsIdle desk.old }

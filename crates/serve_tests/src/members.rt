@@ -115,7 +115,8 @@ fn keeper_of<'a>(
     }
 }
 
-/// Two members, each with one reservation and a sink that it keeps: both connections are done, and their bookings differ.
+/// Two members, each with one reservation and a sink that it keeps: both connections are done, and their bookings
+/// differ.
 #[test]
 fn two_members(rt: HostRuntime) -> Result<(), Fail> {
     let alloc = rt.alloc();
@@ -197,7 +198,8 @@ fn has_swept_twice(member: &Member<Sweeping<'_>>) -> bool {
     }
 }
 
-/// A member with a ticker of two and the mark not set sweeps twice and ends. The row that was booked before is late by then, and expires.
+/// A member with a ticker of two and the mark not set sweeps twice and ends. The row that was booked before is late by
+/// then, and expires.
 #[test]
 fn sweeps_twice(rt: HostRuntime) -> Result<(), Fail> {
     let alloc = rt.alloc();

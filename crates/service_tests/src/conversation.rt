@@ -18,8 +18,8 @@ use std::process::Abort;
 /// More bytes than any connection here has.
 pub const ALL: usize = 1_000_000;
 
-/// A connection: when its requests come, what comes, what is answered, and how it ends. Behind each request and each answer, how many bytes
-/// have come and gone.
+/// A connection: when its requests come, what comes, what is answered, and how it ends. Behind each request and each
+/// answer, how many bytes have come and gone.
 #[derive(Drop)]
 pub struct Talk {
     pub readings: Vec<Moment>,
@@ -111,7 +111,8 @@ fn clock_of(rt: &(impl Abort + AllocGlobal), talk: &Talk) -> ListClock {
     ListClock::new(readings)
 }
 
-/// Devices of a connection. Reads give and writes take at most so many bytes, and of each one call fails, or none where it is 0.
+/// Devices of a connection. Reads give and writes take at most so many bytes, and of each one call fails, or none where
+/// it is 0.
 pub fn devices_of<'a>(
     rt: &(impl Abort + AllocGlobal),
     talk: &'a Talk,

@@ -1,5 +1,5 @@
-//! Worked cases at given moments, each a connection of its own, as texts: for each request when it comes, in seconds after 06:00, its
-//! method and path, its body, and its answer's status and body.
+//! Worked cases at given moments, each a connection of its own, as texts: for each request when it comes, in seconds
+//! after 06:00, its method and path, its body, and its answer's status and body.
 
 /// The usual life: a search, a booking of its offer, the confirmation and the collected ticket.
 pub const USUAL: &str = r#"

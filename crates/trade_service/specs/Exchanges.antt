@@ -57,8 +57,8 @@ abbrev pub lost_problem : Phase → Problem
 lost_problem phase.Free = UnknownBooking
 lost_problem shown = WrongState shown
 
--- The detail is noted and the exchange made, with a booking that has just these items; or its turn was lost, and what was held is given
--- back.
+-- The detail is noted and the exchange made, with a booking that has just these items; or its turn was lost, and what
+-- was held is given back.
 abbrev pub Decides : ReadyView → RowNo → List Item → Detail → Replying
 Decides ready row items d old new reply =
     (noted : DeskView) × Shape old noted (detail_notes row.row d (length items))

@@ -84,11 +84,12 @@ pub fn quote_exchange_booking(
     }
 }
 
-/// Exchanges a booking for a new one by an offer (OSDM's exchange operation): the places of the new booking are held first, one for each
-/// passenger at each segment; then one turn of the old booking decides. All places of the old booking are given back before the answer.
+/// Exchanges a booking for a new one by an offer (OSDM's exchange operation): the places of the new booking are held
+/// first, one for each passenger at each segment; then one turn of the old booking decides. All places of the old
+/// booking are given back before the answer.
 ///
-/// The new booking is confirmed at once. The books have the catalogue's places, each segment's run holds its span, and the code is in the
-/// ranges of its spelling.
+/// The new booking is confirmed at once. The books have the catalogue's places, each segment's run holds its span, and
+/// the code is in the ranges of its spelling.
 pub fn accept_exchange_booking(
     shop: &Shop<'_>,
     desk: &mut Desk,
@@ -176,8 +177,8 @@ fn carry_out(
     }
 }
 
-// Decides the exchange for a hold with all its places, once the whole answer is written. Where there is no memory for it, or the turn of
-// the old booking is lost, all is given back.
+// Decides the exchange for a hold with all its places, once the whole answer is written. Where there is no memory for
+// it, or the turn of the old booking is lost, all is given back.
 fn decide(
     shop: &Shop<'_>,
     desk: &mut Desk,

@@ -97,8 +97,8 @@ fn refusal(refunded: Refunded) -> Option<Problem>
     }
 }
 
-/// Refunds a booking by an offer (OSDM's confirmation of a refund offer): all its places are given back before the answer. The offer is in
-/// the ranges of its spelling.
+/// Refunds a booking by an offer (OSDM's confirmation of a refund offer): all its places are given back before the
+/// answer. The offer is in the ranges of its spelling.
 pub fn accept_refund_booking(
     shop: &Shop<'_>,
     desk: &mut Desk,
