@@ -196,8 +196,8 @@ impl Catalogue {
         legs_of_places(alloc, self.places.all(), &self.runs)
     }
 
-    /// The least departure over the items' runs at the stops where the items begin. The last moment stands in for an item
-    /// that lies within no run of the catalogue, and for no item at all.
+    /// The least departure over the items' runs at the stops where the items begin. The last moment stands in for an
+    /// item that lies within no run of the catalogue, and for no item at all.
     pub fn first_departure(&self, items: &[Item]) -> Moment
         ensures value { result ≡ least_departure self.now items.now }
     {

@@ -12,8 +12,8 @@ use train_runs::RunFault;
 pub enum CatalogueFault {
     /// It is no JSON in UTF-8 (RFC 8259), or nests deeper than 127.
     NotJson,
-    /// The member at this path is missing, of another kind, out of its range or against its rule. A text that is no object
-    /// has the empty path.
+    /// The member at this path is missing, of another kind, out of its range or against its rule. A text that is no
+    /// object has the empty path.
     Field { path: String },
     /// The stops of a run are no run, or there are too many runs.
     Run(RunFault),

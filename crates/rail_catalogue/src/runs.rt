@@ -80,7 +80,8 @@ fn read_runs(alloc: Global, items: Items<'_>, runs: Runs) -> Result<Network, Cat
     requires empty { runs.runs ≡ [] }
     requires there { is_some (ahead items) ≡ true }
     requires few { length (all_ahead items) ≤ 9_223_372_036_854_775_807 }
-    ensures ok { IfOk result (λ n. network_from (start_of runs.stations) 0 (all_ahead items.entry) ≡ Ok (network_view n)) }
+    ensures ok { IfOk result
+        (λ n. network_from (start_of runs.stations) 0 (all_ahead items.entry) ≡ Ok (network_view n)) }
     ensures whole { IfOk result (λ n. IsWhole n.runs n.fares.items n.places) }
     ensures count { IfOk result (λ n. length n.runs.runs ≡ length (all_ahead items.entry)) }
     ensures err { Refuses (network_from (start_of runs.stations) 0 (all_ahead items.entry)) result }
