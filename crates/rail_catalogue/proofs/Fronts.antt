@@ -1,5 +1,5 @@
 -- A catalogue out of an outline and the runs beside it.
-use Rattle.std.proofs.Common.{◌≡◌, ℕ, suc, ◌≤◌, List, [], ◌∷◌, length, get_or, codes, Option, Some, None, MatchOption, IfSome, is_some, true, Result, Ok, Err, option_map, option_and_then, IsUtf8, refl, sym, ap, ◌∙◌, arith}
+use Rattle.std.proofs.Common.{◌≡◌, ℕ, suc, ◌≤◌, List, [], ◌∷◌, length, get_or, codes, Option, Some, None, MatchOption, IfSome, is_some, true, Result, Ok, Err, IfOk, option_map, option_and_then, IsUtf8, refl, sym, ap, ◌∙◌, arith}
 use Rattle.std.specs.Option.{option_map_or}
 use Rattle.serde_json.specs.Data.{Data, array, Items as DataItems, no_items, item}
 use Rattle.serde_json.specs.Events.{items_len}
@@ -9,7 +9,8 @@ use Rattle.json_text.specs.Ahead.{ahead, IsListOf}
 use Rattle.json_text.specs.Outlines.{IsOutline}
 use Rattle.tariff.specs.Refunds.{RefundTerms}
 use Rattle.train_runs.specs.Stations.{StationView}
-use Rattle.rail_catalogue.specs.Faults.{Fault, field, need, after}
+use Rattle.rail_catalogue.specs.declared.fault.CatalogueFault.{CatalogueFault}
+use Rattle.rail_catalogue.specs.Faults.{Fault, Refuses, fault_of, field, need, after}
 use Rattle.rail_catalogue.specs.Format.{HeadingView, NetworkView, heading_of, network_from, network_of, contents_in, catalogue_of}
 use Rattle.rail_catalogue.specs.Json.{data_of, list_of, if_so_many}
 use Rattle.rail_catalogue.specs.Listed.{all_ahead, AreListed}
@@ -113,6 +114,11 @@ found (Some l) member h e few = record {
   few = few_at (ahead l) few;
 }
 
+-- what holds of each answer, out of two things that do
+pub of_answer : {A E : Type 0} (P S Q : A → Type 0) → ((a : A) → P a → S a → Q a) → (r : Result A E) → IfOk r P → IfOk r S → IfOk r Q
+of_answer P S Q h (Ok a) p s = h a p s
+of_answer P S Q h (Err e) p s = tt
+
 pub none_left : (l : Items) → ahead l ≡ Some no_items → all_ahead l ≡ []
 none_left l e = ap (λ o. option_map_or data_of o []) e
 
@@ -159,6 +165,10 @@ network_refused stations member l f a e = network_all stations member l a (some_
 pub passes_on : (o : Option Fault) (P Q : Fault → Type 0) → ((f : Fault) → P f → Q f) → IfSome o P → IfSome o Q
 passes_on None P Q h p = tt
 passes_on (Some f) P Q h p = h f p
+
+pub refuses_on : {A B C : Type 0} (a : Result A Fault) (b : Result B Fault) → ((f : Fault) → a ≡ Err f → b ≡ Err f) → (r : Result C CatalogueFault) → Refuses a r → Refuses b r
+refuses_on a b h (Ok x) p = tt
+refuses_on a b h (Err e) p = passes_on (fault_of e) (λ f. a ≡ Err f) (λ f. b ≡ Err f) h p
 
 pub front_refused : {text : List ℕ} {kept : Data} {place : Option ℕ} (o : IsOutline (codes "runs") text kept place) → IsUtf8 text → (f : Fault) → front_in kept ≡ Err f → catalogue_of text ≡ Err f
 front_refused {text} {kept} {place} o utf8 f e = front_read o utf8 ∙ ap (λ r. after r (λ x. with_runs x (runs_at place text))) e

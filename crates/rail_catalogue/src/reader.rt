@@ -56,8 +56,7 @@ fn read_front(alloc: Global, text: &[u8], scratch: &mut Scratch) -> Result<Front
     ensures err { Refuses (catalogue_of text.now) result }
 {
     let outline = outline_of(alloc, text, scratch, "runs")?;
-    let front = front_of(alloc, &outline.kept, outline.place)?;
-    Ok(front)
+    front_of(alloc, &outline.kept, outline.place)
 }
 
 // Reads all but the runs, where the member of these has been left out.

@@ -71,8 +71,7 @@ fn find_runs<'a>(
     let Some(place) = place else {
         return Ok(None);
     };
-    let items = items_at(text, scratch, place)?;
-    Ok(items)
+    items_at(text, scratch, place)
 }
 
 // The network of these stations and items, one after another.
