@@ -1,6 +1,5 @@
-use Rattle.std.proofs.Common.{◌≡◌, ◌≤◌, is_some, true, IfSome, IsUtf8, MatchOption, None, Option, option_and_then}
+use Rattle.std.proofs.Common.{◌≡◌, ◌≤◌, is_some, true, IfSome, IsUtf8, MatchOption, None, option_and_then}
 use Rattle.serde_json.specs.Events.{items_len}
-use Rattle.json_text.specs.declared.items.Items.{Items}
 use Rattle.json_text.specs.Ahead.{ahead, IsListOf}
 use Rattle.json_text.specs.Outlines.{member_at}
 use Rattle.rail_catalogue.specs.Json.{list_of}
