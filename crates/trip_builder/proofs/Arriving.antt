@@ -12,7 +12,7 @@ use Rattle.trip_builder.specs.declared.trip.TripWish.{TripWish}
 use Rattle.trip_builder.specs.declared.reached.Times.{Times}
 use Rattle.trip_builder.specs.Segments.{stops_of, first_stop, last_stop}
 use Rattle.trip_builder.specs.Trips.{longest_wait, leaves, uses_run}
-use Rattle.trip_builder.specs.Best.{HasNoTrip}
+use Rattle.trip_builder.specs.Best.{IsTrip, HasNoTrip}
 use Rattle.trip_builder.specs.Bounds.{LeadsTo}
 use Rattle.trip_builder.specs.Reached.{Hold, HoldTrain, HoldWait, AreStretched, IsRidden}
 use Rattle.trip_builder.proofs.Ways.{trip_goes_on, both_true}
@@ -69,9 +69,12 @@ none_before r w trains before after ridden apart none s (t ∷ rest) few leads h
     none t rest (omega (arith, few)) on.0 (held after off.station.0 off.arrive (off.arrive + longest_wait) (first_stop r t) waits on.1.0 (omega (arith, low)) on.1.1.1)
 
 pub no_trip : (r : RunsView) (w : TripWish) (times : List Times) → Hold times w.origin.0 w.earliest w.latest → NoneFrom r w 3 times → HasNoTrip r w
-no_trip r w times start none [] trip = absurd (let some = trip.some in omega (arith, some))
-no_trip r w times start none (s ∷ rest) trip =
-    let few = trip.few in
-    let next = both_true (leaves w.origin w.earliest w.latest (first_stop r s)) (not (uses_run [] s)) (trip_goes_on r w [] s rest trip).next in
-    let its = left_within w.origin w.earliest w.latest (first_stop r s) next.0 in
-    none s rest (omega (arith, few)) (trip_leads r w [] s rest trip) (held times w.origin.0 w.earliest w.latest (first_stop r s) start its.0 its.1.0 its.1.1)
+no_trip r w times start none = record { none = not_one }
+  where
+    not_one : (t : List Segment) → ¬ IsTrip r w t
+    not_one [] trip = absurd (let some = trip.some in omega (arith, some))
+    not_one (s ∷ rest) trip =
+        let few = trip.few in
+        let next = both_true (leaves w.origin w.earliest w.latest (first_stop r s)) (not (uses_run [] s)) (trip_goes_on r w [] s rest trip).next in
+        let its = left_within w.origin w.earliest w.latest (first_stop r s) next.0 in
+        none s rest (omega (arith, few)) (trip_leads r w [] s rest trip) (held times w.origin.0 w.earliest w.latest (first_stop r s) start its.0 its.1.0 its.1.1)

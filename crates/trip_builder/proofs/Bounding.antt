@@ -19,7 +19,7 @@ use Rattle.trip_builder.specs.Trips.{change_at, longest_wait, leaves, connects, 
 use Rattle.trip_builder.specs.Best.{IsTrip, IsDecided}
 use Rattle.trip_builder.specs.Search.{has_run, leaves_after, IsWindowOf, AreAllLeaving, DepartFromKnown, AllArriveBefore, AreDecided, AreDecidedFrom}
 use Rattle.trip_builder.specs.Boards.{ArePosted}
-use Rattle.trip_builder.specs.Bounds.{never, no_rank, unknown, goes_to, LeadsTo, end_of, arrival_of, IsBound, RanksView, rank_of, IsPlaced, AreRanks, Precede, BoundsFresh, IsPosted, BoundsWindow, NarrowsWindow, IsBoardOf, AreBoards, LeavesLate, FirstsOfRide, AreFirsts, ReachView, IsReach, BoundsView, AreBounds, BoundsRide, BoundsLeaving, NarrowsLeaving, FirstsOfStop, PrecedeFrom, PrecedeAfter}
+use Rattle.trip_builder.specs.Bounds.{never, no_rank, unknown, goes_to, LeadsTo, end_of, arrival_of, IsBound, RanksView, rank_of, IsPlaced, AreRanks, Precede, BoundsFresh, IsPosted, BoundsWindow, NarrowsWindow, IsBoardOf, AreBoards, LeavesLate, AreFirsts, ReachView, IsReach, BoundsView, AreBounds, BoundsRide, BoundsLeaving, NarrowsLeaving, FirstsOfStop, PrecedeFrom, PrecedeAfter}
 use Rattle.trip_builder.proofs.Ways.{both_true, last_is, known_after, next_goes_on, trip_goes_on}
 use Rattle.trip_builder.proofs.Leaving.{is_station, leaves_there}
 use Rattle.trip_builder.proofs.Deciding.{behind_decided}
@@ -42,10 +42,6 @@ looked_level r w b seen k reach same small is are =
     let size : length seen ≡ length b.levels = ap (λ (l : List ReachView). length l) same in
     let inside = ltb-true k (length seen) (sym small) in
     subst (IsReach r w b.ranks k) (sym (is ∙ ap (λ (l : List ReachView). get_or l k reach) same)) (are k reach (omega (arith, inside, size)))
-
-pub ride_fresh : (r : RunsView) (w : TripWish) (v : RanksView) (changes : ℕ) (way : List Segment) (run stop bound : ℕ) (two : FirstTwo) → FirstsOfRide r w v changes run stop two → BoundsFresh r w v two way bound
-    → BoundsRide r w changes way run stop bound
-ride_fresh r w v changes way run stop bound two own fresh s rest is_run is_stop count leads apart = fresh s rest leads (own s rest is_run is_stop count leads) apart
 
 -- it leaves the station, within the window
 pub left_within : (station : StationNo) (from to : ℕ) (stop : Stop) → leaves station from to stop ≡ true → (stop.station.0 ≡ station.0) × ((from ≤ stop.depart) × (stop.depart ≤ to))

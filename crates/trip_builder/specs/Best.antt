@@ -43,8 +43,8 @@ pub record IsTrip (r : RunsView) (w : TripWish) (t : List Segment) : Type 0 wher
   pub trip : is_trip r w t ≡ true
 
 -- the wish has no trip at all
-abbrev pub HasNoTrip : RunsView → TripWish → Type 0
-HasNoTrip r w = (t : List Segment) → ¬ IsTrip r w t
+pub record HasNoTrip (r : RunsView) (w : TripWish) : Type 0 where
+  pub none : (t : List Segment) → ¬ IsTrip r w t
 
 -- up to sixteen trips of the wish, in order
 pub record AreBest (r : RunsView) (w : TripWish) (best : List (List Segment)) : Type 0 where

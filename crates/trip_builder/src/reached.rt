@@ -69,11 +69,7 @@ impl Reached {
             Hold reached wish.now.origin.0 wish.now.earliest wish.now.latest) }
     {
         let mut reached = Reached::nowhere(alloc, runs)?;
-        reached.note(
-            wish.origin,
-            wish.earliest.seconds(),
-            wish.latest.seconds(),
-        );
+        reached.note(wish.origin, wish.earliest.seconds(), wish.latest.seconds());
         Ok(reached)
     }
 

@@ -24,9 +24,9 @@ loop-stop-preserved c =
       aboard = one_further (λ j. HoldTrain before (stop_at its j) → c.stop_at-aboard.result ≡ true) i (λ j h holds. step.stays (was.aboard j h holds))
           (λ holds. step.boards (subst (λ (x : Stop). HoldTrain before x) here holds));
       ridden = λ j k less h.
-      one_further (λ n. j < n → HoldTrain before (stop_at its j) → HoldWait new (stop_at its n)) i
-      (λ n low more holds. step.stretched (stop_at its n).station.0 (stop_at its n).arrive ((stop_at its n).arrive + longest_wait) (was.ridden j n more low holds))
-      (λ more holds. subst (λ (x : Stop). HoldWait new x) (sym here) (step.off (was.aboard j more holds))) k h less;
+          one_further (λ n. j < n → HoldTrain before (stop_at its j) → HoldWait new (stop_at its n)) i
+          (λ n low more holds. step.stretched (stop_at its n).station.0 (stop_at its n).arrive ((stop_at its n).arrive + longest_wait) (was.ridden j n more low holds))
+          (λ more holds. subst (λ (x : Stop). HoldWait new x) (sym here) (step.off (was.aboard j more holds))) k h less;
     }
 
 pub returns-clause-ridden : goal.returns-clause-ridden
