@@ -2,7 +2,7 @@
 use Rattle.std.proofs.Common.{◌≡◌, ◌∙◌, ℕ, ◌+◌, ◌<◌, ◌≤◌, ◌==◌, ◌&&◌, ◌⊎◌, inl, inr, Bool, true, false, not, ◌||◌, ltb, true≢false, List, [], ◌∷◌, ◌++◌, length, length-append, append_assoc, refl, sym, ap, subst, arith, get_or, nat_le, eqb-true, ltb-true}
 use Rattle.std.proofs.lemmas.Bool.{cases_lt}
 use Rattle.std.proofs.lemmas.Bool.Decides.{nat_tests}
-use Rattle.std.proofs.lemmas.List.{get_or_default, get_or_append_left}
+use Rattle.std.proofs.lemmas.List.{get_or_append_left}
 use Rattle.std.proofs.Math.Seq.{get_or-append_seam}
 use Rattle.rail_ids.specs.declared.StationNo.{StationNo}
 use Rattle.offer_codes.specs.declared.code.Segment.{Segment}
@@ -19,7 +19,7 @@ use Rattle.trip_builder.specs.Trips.{change_at, longest_wait, leaves, connects, 
 use Rattle.trip_builder.specs.Best.{IsTrip, IsDecided}
 use Rattle.trip_builder.specs.Search.{has_run, leaves_after, IsWindowOf, AreAllLeaving, DepartFromKnown, AllArriveBefore, AreDecided, AreDecidedFrom}
 use Rattle.trip_builder.specs.Boards.{ArePosted}
-use Rattle.trip_builder.specs.Bounds.{never, no_rank, unknown, goes_to, LeadsTo, end_of, arrival_of, IsBound, RanksView, rank_of, IsPlaced, AreRanks, Precede, BoundsFresh, IsPosted, BoundsWindow, NarrowsWindow, IsBoardOf, AreBoards, LeavesLate, FirstsOfRide, AreFirsts, ReachView, IsReach, BoundsView, AreBounds, BoundsRide, BoundsLeaving, NarrowsLeaving, FirstsOfStop, PrecedeFrom, PrecedeAfter}
+use Rattle.trip_builder.specs.Bounds.{never, no_rank, unknown, goes_to, LeadsTo, end_of, arrival_of, IsBound, RanksView, rank_of, IsPlaced, AreRanks, Precede, BoundsFresh, IsPosted, BoundsWindow, NarrowsWindow, IsBoardOf, AreBoards, LeavesLate, AreFirsts, ReachView, IsReach, BoundsView, AreBounds, BoundsRide, BoundsLeaving, NarrowsLeaving, FirstsOfStop, PrecedeFrom, PrecedeAfter}
 use Rattle.trip_builder.proofs.Ways.{both_true, last_is, known_after, next_goes_on, trip_goes_on}
 use Rattle.trip_builder.proofs.Leaving.{is_station, leaves_there}
 use Rattle.trip_builder.proofs.Deciding.{behind_decided}
@@ -43,12 +43,8 @@ looked_level r w b seen k reach same small is are =
     let inside = ltb-true k (length seen) (sym small) in
     subst (IsReach r w b.ranks k) (sym (is ∙ ap (λ (l : List ReachView). get_or l k reach) same)) (are k reach (omega (arith, inside, size)))
 
-pub ride_fresh : (r : RunsView) (w : TripWish) (v : RanksView) (changes : ℕ) (way : List Segment) (run stop bound : ℕ) (two : FirstTwo) → FirstsOfRide r w v changes run stop two → BoundsFresh r w v two way bound
-    → BoundsRide r w changes way run stop bound
-ride_fresh r w v changes way run stop bound two own fresh s rest is_run is_stop count leads apart = fresh s rest leads (own s rest is_run is_stop count leads) apart
-
 -- it leaves the station, within the window
-left_within : (station : StationNo) (from to : ℕ) (stop : Stop) → leaves station from to stop ≡ true → (stop.station.0 ≡ station.0) × ((from ≤ stop.depart) × (stop.depart ≤ to))
+pub left_within : (station : StationNo) (from to : ℕ) (stop : Stop) → leaves station from to stop ≡ true → (stop.station.0 ≡ station.0) × ((from ≤ stop.depart) × (stop.depart ≤ to))
 left_within station from to stop says =
     let parts = both_true (stop.station.0 == station.0) (nat_le from stop.depart && nat_le stop.depart to) says in
     let times = both_true (nat_le from stop.depart) (nat_le stop.depart to) parts.1 in
@@ -105,7 +101,7 @@ narrowing_found r w v changes reach station from to first last are known other n
 -- ---- what goes on from a stop
 
 -- what goes on from a stop leaves it after the change
-goes_on_there : (r : RunsView) (w : TripWish) (off : Stop) (s t : Segment) (rest : List Segment) → last_stop r s ≡ off → LeadsTo r w s (t ∷ rest)
+pub goes_on_there : (r : RunsView) (w : TripWish) (off : Stop) (s t : Segment) (rest : List Segment) → last_stop r s ≡ off → LeadsTo r w s (t ∷ rest)
     → LeadsTo r w t rest × (((first_stop r t).station.0 ≡ off.station.0) × ((off.arrive + change_at r off.station ≤ (first_stop r t).depart) × ((first_stop r t).depart ≤ off.arrive + longest_wait)))
 goes_on_there r w off s t rest is leads =
     let parts = both_true (connects r (last_stop r s) t) (goes_to r w t rest) leads.goes in

@@ -21,3 +21,4 @@ pub mod Ranking
 pub mod Reaching
 pub mod Narrowing
 pub mod Riding
+pub mod Arriving

@@ -42,6 +42,10 @@ pub record IsTrip (r : RunsView) (w : TripWish) (t : List Segment) : Type 0 wher
   pub known : AllByRecursion (IsKnown r) t
   pub trip : is_trip r w t ≡ true
 
+-- the wish has no trip at all
+pub record HasNoTrip (r : RunsView) (w : TripWish) : Type 0 where
+  pub none : (t : List Segment) → ¬ IsTrip r w t
+
 -- up to sixteen trips of the wish, in order
 pub record AreBest (r : RunsView) (w : TripWish) (best : List (List Segment)) : Type 0 where
   pub few : length best ≤ most_trips

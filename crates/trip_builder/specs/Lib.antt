@@ -7,4 +7,5 @@ pub mod Bounds
 pub mod Boards
 pub mod Ends
 pub mod Shortest
+pub mod Reached
 pub mod Keeping

@@ -8,7 +8,7 @@ use crate::ranks::{FirstTwo, NONE, precede_all};
 use crate::rests::{Parts, settle};
 use std::alloc::{AllocError, Global};
 
-/// In how many parts the time is cut.
+/// In how many parts the time is cut at most.
 const MOST_PARTS: usize = 2_048;
 
 /// The first two by what leaves any station in a part of the time or later.

@@ -100,7 +100,8 @@ impl Bounds {
         self.levels.len()
     }
 
-    /// The bounds of all departures. Of what arrives after the limit they say no more than that.
+    /// The bounds of all departures. Of what arrives after the limit, or later than enough ways of the wish that were seen
+    /// while they were made, they say no more than that.
     pub(crate) fn of(
         alloc: Global,
         runs: &Runs,

@@ -23,13 +23,15 @@ use std::alloc::AllocError;
 use train_runs::{Departure, Runs};
 
 /// What a search has so far: the best trips, where runs come to the destination, how short a ride there is at least, the
-/// bounds from behind once they are made, how many tries come before that, and by when what is looked at ahead arrives.
+/// bounds from behind once they are made, whether it is known that there is no trip, how many tries come before both, and
+/// by when what is looked at ahead arrives.
 #[derive(Drop)]
 pub(crate) struct Found {
     pub best: Best,
     pub ends: Ends,
     pub shortest: Shortest,
     pub bounds: Bounds,
+    pub over: bool,
     pub left: u32,
     pub ceiling: u64,
 }

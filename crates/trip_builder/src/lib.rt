@@ -20,6 +20,7 @@ mod hints;
 mod order;
 mod probe;
 mod ranks;
+mod reached;
 mod rests;
 mod rides;
 mod search;

@@ -17,6 +17,10 @@ use Rattle.trip_builder.proofs.Outdoing.{window_outdone}
 use Rattle.trip_builder.proofs.search.+search.Goals as goal
 use Rattle.trip_builder.proofs.search.+search.Goals.{go_on-then-may_lead+in_ok-ride, go_on-else-may_lead, ride-then-not-are_all_before+in_ok-go_on, ride-else-not-are_all_before}
 
+pub go_on-returns-then-found-clause-decided : goal.go_on-returns-then-found-clause-decided
+go_on-returns-then-found-clause-decided t c =
+    λ s rest count trip. absurd ((c.in_ok-bound_long_search.ensures.search.over c.if-found.true).none (c.args.way.now ++ s ∷ rest) trip)
+
 pub go_on-returns-then-is_hopeless-clause-decided : goal.go_on-returns-then-is_hopeless-clause-decided
 go_on-returns-then-is_hopeless-clause-decided t c =
     let r = c.args.runs.now in
@@ -83,7 +87,7 @@ go_on-loop-departure-preserved t c =
           }
       | go_on-else-may_lead v ↦ record {
         grows = subst (λ b. Grows r w old b.best.trips.items) (sym v.found-is) c.loop-departure.invariant.grows;
-        search = subst (IsSearch r w) (sym v.found-is) (let was = c.loop-departure.invariant.search in record { kept = was.kept; ends = was.ends; bounds = was.bounds; shortest = was.shortest });
+        search = subst (IsSearch r w) (sym v.found-is) (let was = c.loop-departure.invariant.search in record { kept = was.kept; ends = was.ends; bounds = was.bounds; shortest = was.shortest; over = was.over });
         tried = subst (λ b. (k : ℕ) → k < i + 1 → P b.best.trips.items k) (sym v.found-is)
             (one_further (P best) i c.loop-departure.invariant.tried (here best (c.may_lead.ensures.decided v.if-may_lead.false)));
       }
@@ -106,7 +110,7 @@ go_on-ride-requires t c =
       omega (arith, c.decreases),
       (
         c.requires.few,
-        (c.requires.way, (record { kept = was.kept; ends = was.ends; bounds = was.bounds; shortest = was.shortest }, (c.leaving-departure-items.ensures.rise, taken))),
+        (c.requires.way, (record { kept = was.kept; ends = was.ends; bounds = was.bounds; shortest = was.shortest; over = was.over }, (c.leaving-departure-items.ensures.rise, taken))),
       ),
     )
 
@@ -157,7 +161,7 @@ ride-loop-to-init t c =
     let search = c.requires.search in
     record {
       grows = same_grows r w best search.kept.are;
-      search = record { kept = search.kept; ends = search.ends; shortest = search.shortest; bounds = search.bounds };
+      search = record { kept = search.kept; ends = search.ends; shortest = search.shortest; bounds = search.bounds; over = search.over };
       tried = λ k h. not_ridden r w best way c.args.changes (segment d.run.0 d.stop k) (λ known. (let up = known.rises in omega (arith, up, h)));
     }
 

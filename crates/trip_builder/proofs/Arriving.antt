@@ -1,0 +1,80 @@
+-- Where one may be after so many trains: a wish whose destination isn't reached with three has no trip.
+use Rattle.std.proofs.Common.{◌≡◌, ℕ, ◌+◌, ◌<◌, ◌≤◌, ◌⊎◌, inl, inr, List, [], ◌∷◌, length, refl, sym, ap, subst, arith, get_or, eqb-true, not}
+use Rattle.std.specs.Prelude.{Option}
+use Rattle.std.proofs.lemmas.Bool.{cases_lt}
+use Rattle.std.specs.Option.{option_map_or}
+use Rattle.std.proofs.lemmas.Option.{slice_get_past}
+use Rattle.offer_codes.specs.declared.code.Segment.{Segment}
+use Rattle.train_runs.specs.declared.run.Stop.{Stop}
+use Rattle.train_runs.specs.Stops.{RunView, stop_at}
+use Rattle.train_runs.specs.Runs.{RunsView}
+use Rattle.trip_builder.specs.declared.trip.TripWish.{TripWish}
+use Rattle.trip_builder.specs.declared.reached.Times.{Times}
+use Rattle.trip_builder.specs.Segments.{stops_of, first_stop, last_stop}
+use Rattle.trip_builder.specs.Trips.{longest_wait, leaves, uses_run}
+use Rattle.trip_builder.specs.Best.{IsTrip, HasNoTrip}
+use Rattle.trip_builder.specs.Bounds.{LeadsTo}
+use Rattle.trip_builder.specs.Reached.{Hold, HoldTrain, HoldWait, AreStretched, IsRidden}
+use Rattle.trip_builder.proofs.Ways.{trip_goes_on, both_true}
+use Rattle.trip_builder.proofs.Bounding.{trip_leads, left_within, goes_on_there}
+
+-- ---- runs
+
+pub still_ridden : (r : RunsView) (before old new : List Times) (run : ℕ) → AreStretched old new → IsRidden r before old run → IsRidden r before new run
+still_ridden r before old new run stretched was j k less inside holds =
+    let off = stop_at (stops_of r run) k in
+    stretched off.station.0 off.arrive (off.arrive + longest_wait) (was j k less inside holds)
+
+-- a run that isn't known has no stop
+pub past_ridden : (r : RunsView) (before after : List Times) (count : ℕ) → count ≡ length r.runs → ((run : ℕ) → run < count → IsRidden r before after run) → (run : ℕ) → IsRidden r before after run
+past_ridden r before after count is each run = by_place (cases_lt run count)
+  where
+    by_place : (run < count) ⊎ (count ≤ run) → IsRidden r before after run
+    by_place (inl less) = each run less
+    by_place (inr past) = λ j k less inside. absurd (
+        let none : length (stops_of r run) ≡ 0 = ap (λ (o : Option RunView). length (option_map_or (λ (it : RunView). it.stops) o [])) (slice_get_past r.runs run (omega (arith, is, past))) in
+        omega (arith, none, inside)
+        )
+
+-- ---- trains
+
+-- what leaves the station then may be taken
+held : (times : List Times) (station from to : ℕ) (stop : Stop) → Hold times station from to → stop.station.0 ≡ station → from ≤ stop.depart → stop.depart ≤ to → HoldTrain times stop
+held times station from to stop holds here low high none inside =
+    let its = holds none (subst (λ n. n < length times) here inside) in
+    let first = its.0 in
+    let last = its.1 in
+    subst (λ n. ((get_or times n none).from ≤ stop.depart) × (stop.depart ≤ (get_or times n none).to)) (sym here) (omega (arith, first, low), omega (arith, last, high))
+
+-- nothing that goes on by these times comes to the destination with so many trains
+abbrev pub NoneFrom : RunsView → TripWish → ℕ → List Times → Type 0
+NoneFrom r w trains times = (s : Segment) (rest : List Segment) → length rest < trains → LeadsTo r w s rest → ¬ HoldTrain times (first_stop r s)
+
+-- one train before
+pub none_before : (r : RunsView) (w : TripWish) (trains : ℕ) (before after : List Times) → ((run : ℕ) → IsRidden r before after run) → ((from to : ℕ) → Hold after w.destination.0 from to → to ≡ 0)
+    → NoneFrom r w trains after → NoneFrom r w (trains + 1) before
+none_before r w trains before after ridden apart none s [] few leads holds =
+    let known = leads.known.0 in
+    let off = last_stop r s in
+    let there : off.station.0 ≡ w.destination.0 = eqb-true off.station.0 w.destination.0 leads.goes in
+    let waits : HoldWait after off = ridden s.run.0 s.span.from s.span.to known.rises known.ends holds in
+    let zero = apart off.arrive (off.arrive + longest_wait) (subst (λ n. Hold after n off.arrive (off.arrive + longest_wait)) there waits) in
+    absurd (omega (arith, zero))
+none_before r w trains before after ridden apart none s (t ∷ rest) few leads holds =
+    let known = leads.known.0 in
+    let off = last_stop r s in
+    let waits : HoldWait after off = ridden s.run.0 s.span.from s.span.to known.rises known.ends holds in
+    let on = goes_on_there r w off s t rest refl leads in
+    let low = on.1.1.0 in
+    none t rest (omega (arith, few)) on.0 (held after off.station.0 off.arrive (off.arrive + longest_wait) (first_stop r t) waits on.1.0 (omega (arith, low)) on.1.1.1)
+
+pub no_trip : (r : RunsView) (w : TripWish) (times : List Times) → Hold times w.origin.0 w.earliest w.latest → NoneFrom r w 3 times → HasNoTrip r w
+no_trip r w times start none = record { none = not_one }
+  where
+    not_one : (t : List Segment) → ¬ IsTrip r w t
+    not_one [] trip = absurd (let some = trip.some in omega (arith, some))
+    not_one (s ∷ rest) trip =
+        let few = trip.few in
+        let next = both_true (leaves w.origin w.earliest w.latest (first_stop r s)) (not (uses_run [] s)) (trip_goes_on r w [] s rest trip).next in
+        let its = left_within w.origin w.earliest w.latest (first_stop r s) next.0 in
+        none s rest (omega (arith, few)) (trip_leads r w [] s rest trip) (held times w.origin.0 w.earliest w.latest (first_stop r s) start its.0 its.1.0 its.1.1)

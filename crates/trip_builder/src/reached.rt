@@ -1,0 +1,155 @@
+ghost use Rattle.std.specs.Prelude.{◌≡◌, ◌<◌, ◌≤◌, ◌+◌, ℕ, true, false, length, IfOk};
+ghost use Rattle.trip_builder.specs.Best.{HasNoTrip};
+ghost use Rattle.trip_builder.specs.Reached.{Hold, HoldTrain, HoldWait, AreStretched, IsRidden};
+
+use crate::departures::stops_of;
+use crate::search::MOST_SEGMENTS;
+use crate::trip::TripWish;
+use rail_ids::{RunNo, StationNo};
+use std::alloc::{AllocError, Global};
+use std::marker::Model;
+use train_runs::{Runs, Stop};
+
+/// The longest wait between two trains, in seconds.
+const LONGEST_WAIT: u64 = 14_400;
+
+/// From when to when a train may be taken at a station.
+#[derive(Clone, Copy)]
+pub(crate) struct Times {
+    from: u64,
+    to: u64,
+}
+
+/// One doesn't come to the station.
+const NOT_AT_ALL: Times = Times {
+    from: u64::MAX,
+    to: 0,
+};
+
+/// Where one may be after so many trains of a wish, and from when to when a train may be taken there. It may say more
+/// than there is: a time of change isn't asked for, nor what lies between the first moment and the last.
+#[derive(Drop)]
+struct Reached {
+    times: Vec<Times>,
+}
+
+impl Model for Reached {
+    ghost use Rattle.std.specs.Prelude.{List};
+    ghost use Rattle.trip_builder.specs.declared.reached.Times.{Times};
+
+    ghost Value = { List Times };
+
+    ghost view = { λ r. r.times.items };
+}
+
+/// Whether the wish may have a trip: it has none where its trains don't come to the destination.
+pub(crate) fn may_arrive(alloc: Global, runs: &Runs, wish: &TripWish) -> Result<bool, AllocError>
+    ensures { IfOk result (λ b. b ≡ false → HasNoTrip runs.now wish.now) }
+{
+    let mut reached = Reached::at_origin(alloc, runs, wish)?;
+    for _train in 0..MOST_SEGMENTS {
+        reached = reached.further(alloc, runs)?;
+        if reached.has(wish.destination) {
+            return Ok(true);
+        }
+    }
+    Ok(false)
+}
+
+impl Reached {
+    // Nowhere.
+    fn nowhere(alloc: Global, runs: &Runs) -> Result<Reached, AllocError> {
+        let times = Vec::from_elem(alloc, NOT_AT_ALL, runs.station_count() as usize)?;
+        Ok(Reached { times })
+    }
+
+    // Before the first train.
+    fn at_origin(alloc: Global, runs: &Runs, wish: &TripWish) -> Result<Reached, AllocError>
+        ensures { IfOk result (λ reached.
+            Hold reached wish.now.origin.0 wish.now.earliest wish.now.latest) }
+    {
+        let mut reached = Reached::nowhere(alloc, runs)?;
+        reached.note(wish.origin, wish.earliest.seconds(), wish.latest.seconds());
+        Ok(reached)
+    }
+
+    // After one train more.
+    fn further(&self, alloc: Global, runs: &Runs) -> Result<Reached, AllocError>
+        ensures { IfOk result (λ reached. (run : ℕ) → IsRidden runs.now self.now reached run) }
+    {
+        let mut reached = Reached::nowhere(alloc, runs)?;
+        reached.ride_all(runs, self);
+        Ok(reached)
+    }
+
+    // Notes where all runs go from there.
+    fn ride_all(&mut self, runs: &Runs, before: &Reached)
+        ensures { (run : ℕ) → IsRidden runs.now before.now self.new run }
+    {
+        for run in 0..runs.count() {
+            self.ride(runs, RunNo(run), before);
+        }
+    }
+
+    // Likewise one run.
+    fn ride(&mut self, runs: &Runs, run: RunNo, before: &Reached)
+        ensures stretched { AreStretched self.old self.new }
+        ensures ridden { IsRidden runs.now before.now self.new run.0 }
+    {
+        let mut aboard = false;
+        for stop in stops_of(runs, run) {
+            aboard = self.stop_at(stop, before, aboard);
+        }
+    }
+
+    // Gets off at the stop where one is aboard, and looks whether one is then.
+    fn stop_at(&mut self, stop: &Stop, before: &Reached, aboard: bool) -> bool
+        ensures stretched { AreStretched self.old self.new }
+        ensures stays { aboard ≡ true → result ≡ true }
+        ensures boards { HoldTrain before.now stop.now → result ≡ true }
+        ensures off { aboard ≡ true → HoldWait self.new stop.now }
+    {
+        if aboard {
+            let arrive = stop.arrive.seconds();
+            self.note(stop.station, arrive, arrive + LONGEST_WAIT);
+            return true;
+        }
+        before.may_board(stop)
+    }
+
+    // A train may be taken at the station from the one moment to the other.
+    fn note(&mut self, station: StationNo, from: u64, to: u64)
+        ensures stretched { AreStretched self.old self.new }
+        ensures here { Hold self.new station.0 from to }
+    {
+        let place = station.0 as usize;
+        if place < self.times.len() {
+            let times = self.times[place];
+            self.times[place] = Times {
+                from: times.from.min(from),
+                to: times.to.max(to),
+            };
+        }
+    }
+
+    // Whether the train may be taken at this stop.
+    fn may_board(&self, stop: &Stop) -> bool
+        ensures { HoldTrain self.now stop.now → result ≡ true }
+    {
+        let depart = stop.depart.seconds();
+        match self.times.get(stop.station.0 as usize) {
+            Some(times) => times.from <= depart && depart <= times.to,
+            None => true,
+        }
+    }
+
+    // Whether one comes to the station.
+    fn has(&self, station: StationNo) -> bool
+        ensures { result ≡ false → (from to : ℕ) → Hold self.now station.0 from to → to ≡ 0 }
+    {
+        match self.times.get(station.0 as usize) {
+            Some(times) => times.to > 0,
+            None => true,
+        }
+    }
+}
