@@ -56,15 +56,15 @@ fn behind(at: usize, byte: u8) -> Option<Found>
 }
 
 /// The byte behind those at the place and after it that tell no lines apart, if it isn't the piece's end. A step is
-/// one byte looked at: each of them once, and the one found. Four are looked at in a turn, so that a byte costs less;
-/// of the last three the first is found, whatever it is.
+/// one byte looked at: each of them once, and the one found. Two are looked at in a turn, so that a byte costs less;
+/// a last one is found, whatever it is.
 fn past_plain<L: Ledger>(piece: &[u8], from: usize, steps: &mut Steps<L>) -> Option<Found>
     requires { from ≤ length piece.now }
     ensures found { IsFoundFrom piece.now from result }
     ensures steps { steps.new + from ≡ steps.old + looked_until piece.now result }
 {
     let mut at = from;
-    'fours: while piece.len() - at >= 4 {
+    'twos: while piece.len() - at >= 2 {
         steps.tick();
         let first = piece[at];
         if first <= b'\r' {
@@ -75,17 +75,7 @@ fn past_plain<L: Ledger>(piece: &[u8], from: usize, steps: &mut Steps<L>) -> Opt
         if second <= b'\r' {
             return behind(at + 1, second);
         }
-        steps.tick();
-        let third = piece[at + 2];
-        if third <= b'\r' {
-            return behind(at + 2, third);
-        }
-        steps.tick();
-        let fourth = piece[at + 3];
-        if fourth <= b'\r' {
-            return behind(at + 3, fourth);
-        }
-        at += 4;
+        at += 2;
     }
     if at == piece.len() {
         return None;
