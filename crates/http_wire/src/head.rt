@@ -39,16 +39,7 @@ impl Named {
 pub fn same_name(a: &[u8], b: &[u8]) -> bool
     ensures { result ≡ same_name a.now b.now }
 {
-    if a.len() != b.len() {
-        return false;
-    }
-    for (i, byte) in a.iter().enumerate() {
-        // Most bytes are equal as they stand.
-        if *byte != b[i] && !byte.eq_ignore_ascii_case(&b[i]) {
-            return false;
-        }
-    }
-    true
+    a.eq_ignore_ascii_case(b)
 }
 
 /// The number that 1 to 10 digits spell.
