@@ -1,6 +1,8 @@
 pub mod Search
 pub mod Fronts
 pub mod NamedLemmas
+pub mod NameLemmas
+pub mod NoteLemmas
 pub mod RequestHeads
 pub mod Scanning
 pub mod StreamLemmas

@@ -2,7 +2,7 @@
 use Rattle.std.proofs.Common.{◌≡◌, ◌≢◌, ℕ, zero, suc, ◌+◌, ◌-◌, ◌^◌, ◌<◌, ◌≤◌, Bool, true, false, not, ◌&&◌, cond, List, [], ◌∷◌, ◌++◌, length, take, drop, get_or, Option, Some, None, refl, sym, ◌∙◌, ap, subst, arith, inl, inr, append_assoc, append-nil}
 use Rattle.std.specs.Prelude.{◌⊎◌, ◌==◌, slice_range, min, IfNone}
 use Rattle.std.specs.List.{flat_map, AllByRecursion}
-use Rattle.std.proofs.Math.Seq.{get_or-append_seam}
+use Rattle.std.proofs.Math.Seq.{get_or-append_seam, take-suc}
 use Rattle.std.proofs.lemmas.Bool.{false_from_ne_true}
 use Rattle.std.proofs.lemmas.Bool.Decides.{Decides-eqb}
 use Rattle.std.proofs.lemmas.List.{length-append, length-take, take-append-drop, take-append-le, take-take, take_all, drop-take}
@@ -10,7 +10,7 @@ use Rattle.httparse.specs.Grammar.{LineEnd, crlf, lf, print_blank, print_end}
 use Rattle.http_wire.specs.declared.scan.HeadScan.{HeadScan}
 use Rattle.http_wire.specs.Heads.{HasNoFeed, IsLine, print_line, print_lines, IsHeadOfLines, HasLines}
 use Rattle.http_wire.specs.Requests.{HeadAt, IsBlank}
-use Rattle.http_wire.specs.Scan.{IsLineEmpty, IsCarriageLast, HasBegun, IsOpenWith, IsOpen, StandsWith, StandsFor, is_blank, with_plain}
+use Rattle.http_wire.specs.Scan.{IsLineEmpty, IsCarriageLast, HasBegun, IsOpenWith, IsOpen, StandsWith, StandsFor, ArePlain, is_blank, with_plain}
 use Rattle.http_wire.specs.Stages.{IsSearched, IsSearchOver}
 use Rattle.http_wire.proofs.Search.{Nothing, search_head, only_ends}
 use Rattle.http_wire.proofs.Fronts.{not_blank}
@@ -437,3 +437,38 @@ plain_ended scan (suc n) = refl
 pub plain_at : (scan : HeadScan) (n : ℕ) → (with_plain scan n).at ≡ scan.at + n
 plain_at scan zero = omega arith
 plain_at scan (suc n) = refl
+
+-- one byte of a piece more
+one_more : (piece : List ℕ) (i : ℕ) → i < length piece → take (i + 1) piece ≡ take i piece ++ get_or piece i 0 ∷ []
+one_more piece i small =
+    let next : i + 1 ≡ suc i = omega arith in
+    ap (λ (k : ℕ). take k piece) next ∙ take-suc piece i 0 small
+
+-- the search stands for one byte more of the piece
+pub on_byte : (r : HeadScan) (piece bytes : List ℕ) (i : ℕ) → i < length piece → StandsFor r ((bytes ++ take i piece) ++ get_or piece i 0 ∷ [])
+    → StandsFor r (bytes ++ take (i + 1) piece)
+on_byte r piece bytes i small s =
+    subst (StandsFor r)
+    (append_assoc bytes (take i piece) (get_or piece i 0 ∷ []) ∙ ap (λ (l : List ℕ). bytes ++ l) (sym (one_more piece i small))) s
+
+-- the search with so many plain bytes of the piece more
+plain_run : (scan : HeadScan) (n from : ℕ) (bytes piece : List ℕ) → scan.ended ≡ None → from + n ≤ length piece
+    → ArePlain piece from (from + n) → StandsFor scan (bytes ++ take from piece) → StandsFor (with_plain scan n) (bytes ++ take (from + n) piece)
+plain_run scan zero from bytes piece live within plain s =
+    let same : from ≡ from + zero = omega arith in
+    subst (λ (k : ℕ). StandsFor scan (bytes ++ take k piece)) same s
+plain_run scan (suc n) from bytes piece live within plain s =
+    let next : from + n + 1 ≡ from + suc n = omega arith in
+    subst (λ (k : ℕ). StandsFor (with_plain scan (suc n)) (bytes ++ take k piece)) next
+    (on_byte (with_plain scan (suc n)) piece bytes (from + n) (omega (arith, within))
+    (plain_more scan n (bytes ++ take (from + n) piece) (get_or piece (from + n) 0) live (plain (from + n) (omega arith) (omega arith))
+    (plain_run scan n from bytes piece live (omega (arith, within)) (λ k after before. plain k after (omega (arith, before))) s)))
+
+-- the same up to a place
+pub plain_until : (scan : HeadScan) (from at : ℕ) (bytes piece : List ℕ) → scan.ended ≡ None → from ≤ at → at ≤ length piece
+    → ArePlain piece from at → StandsFor scan (bytes ++ take from piece) → StandsFor (with_plain scan (at - from)) (bytes ++ take at piece)
+plain_until scan from at bytes piece live after within plain s =
+    let back : from + (at - from) ≡ at = omega (arith, after) in
+    subst (λ (k : ℕ). StandsFor (with_plain scan (at - from)) (bytes ++ take k piece)) back
+    (plain_run scan (at - from) from bytes piece live (omega (arith, after, within))
+    (λ k low high. plain k low (omega (arith, high, after))) s)

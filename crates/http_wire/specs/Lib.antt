@@ -1,6 +1,7 @@
 pub mod Answers
 pub mod Heads
 pub mod Named
+pub mod Notes
 pub mod Next
 pub mod Pieces
 pub mod HeadLines

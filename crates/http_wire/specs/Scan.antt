@@ -1,9 +1,10 @@
 -- What a search for the end of a head stands for, by the rules on heads: where a head ends, and how many lines it has.
-use Rattle.std.specs.Prelude.{◌≡◌, ◌≢◌, ◌⊎◌, ℕ, zero, suc, ◌+◌, ◌-◌, ◌<◌, ◌≤◌, Bool, true, false, not, ◌&&◌, List, [], ◌∷◌, ◌++◌, length, take, Option, Some, None}
+use Rattle.std.specs.Prelude.{◌≡◌, ◌≢◌, ◌⊎◌, ℕ, zero, suc, ◌+◌, ◌-◌, ◌<◌, ◌≤◌, Bool, true, false, not, ◌&&◌, List, [], ◌∷◌, ◌++◌, length, take, slice_index, Option, Some, None}
 use Rattle.std.specs.List.{AllByRecursion}
 use Rattle.httparse.specs.Grammar.{LineEnd}
 use Rattle.http_wire.specs.Heads.{HasNoFeed, IsLine, print_lines, IsHeadOfLines}
 use Rattle.http_wire.specs.declared.scan.HeadScan.{HeadScan}
+use Rattle.http_wire.specs.declared.scan.Found.{Found}
 
 -- whether the line in progress has no byte, or one CR alone
 abbrev pub IsLineEmpty : Bool → List ℕ → Type 0
@@ -59,3 +60,24 @@ is_blank scan = scan.line_empty && not scan.begun && not scan.carriage
 abbrev pub with_plain : HeadScan → ℕ → HeadScan
 with_plain scan zero = scan
 with_plain scan (suc n) = record scan { at = scan.at + suc n; line_empty = false; carriage = false }
+
+-- the bytes from one place up to another tell no lines apart
+abbrev pub ArePlain : List ℕ → ℕ → ℕ → Type 0
+ArePlain bytes from at = (k : ℕ) → from ≤ k → k < at → 13 < slice_index bytes k
+
+-- The byte stands behind plain ones.
+pub record IsBehind (bytes : List ℕ) (from : ℕ) (found : Found) : Type 0 where
+  pub after : from ≤ found.at
+  pub within : found.at < length bytes
+  pub is : found.byte ≡ slice_index bytes found.at
+  pub plain : ArePlain bytes from found.at
+
+-- the byte is behind plain ones, or all are plain
+abbrev pub IsFoundFrom : List ℕ → ℕ → Option Found → Type 0
+IsFoundFrom bytes from None = ArePlain bytes from (length bytes)
+IsFoundFrom bytes from (Some found) = IsBehind bytes from found
+
+-- the place up to which bytes were looked at
+abbrev pub looked_until : List ℕ → Option Found → ℕ
+looked_until bytes None = length bytes
+looked_until bytes (Some found) = found.at + 1

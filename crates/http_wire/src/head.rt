@@ -1,12 +1,11 @@
 // Where a head ends, and the readers of its lines.
-ghost use Rattle.std.specs.Prelude.{◌≡◌, ◌<◌, ◌≤◌, ◌+◌, ℕ, All, length, IfSome, IfNone, ◌==◌, if◌then◌else◌};
+ghost use Rattle.std.specs.Prelude.{◌≡◌, ◌<◌, ◌≤◌, ◌+◌, ℕ, length, IfSome, IfNone, ◌==◌};
 ghost use Rattle.std.specs.List.{position_or_len};
-ghost use Rattle.httparse.specs.Spans.{IsWithin, IsHeaderWithin};
-ghost use Rattle.http_wire.specs.Named.{with_value, IsNamed, IsNamedWithin};
-ghost use Rattle.http_wire.specs.HeadLines.{same_name, values_named, IsNumeral, lines_at};
+ghost use Rattle.httparse.specs.Spans.{IsWithin};
+ghost use Rattle.http_wire.specs.Named.{with_value, IsNamedWithin};
+ghost use Rattle.http_wire.specs.HeadLines.{same_name, IsNumeral};
 
-use httparse::Status;
-use httparse::spans::{EMPTY_HEADER_SPAN, HeaderSpan, Span, parse_request};
+use httparse::spans::Span;
 
 /// The most bytes of a head.
 pub const HEAD_ROOM: usize = 16_384;
@@ -23,14 +22,11 @@ pub enum Named {
 }
 
 impl Named {
-    /// With one more value, where it has the name.
-    fn with_if(self, named: bool, value: Span) -> Named
-        ensures value { result ≡ (if named then with_value self value else self) }
+    /// With one more value.
+    pub fn with(self, value: Span) -> Named
+        ensures value { result ≡ with_value self value }
         ensures within { (n : ℕ) → IsNamedWithin n self → IsWithin n value → IsNamedWithin n result }
     {
-        if !named {
-            return self;
-        }
         match self {
             Named::None => Named::First(value),
             Named::First(first) | Named::Several(first) => Named::Several(first),
@@ -38,24 +34,12 @@ impl Named {
     }
 }
 
-/// Whether the names are the same, without regard to ASCII case.
+/// Whether the names are the same, without regard to ASCII case. It stands apart, since it is called for each name.
+#[inline(never)]
 pub fn same_name(a: &[u8], b: &[u8]) -> bool
     ensures { result ≡ same_name a.now b.now }
 {
     a.eq_ignore_ascii_case(b)
-}
-
-/// The values of the header lines with the name.
-pub fn values_named(head: &[u8], lines: &[HeaderSpan], name: &[u8]) -> Named
-    requires { All (IsHeaderWithin (length head.now)) lines.now }
-    ensures named { IsNamed head.now result (values_named name.now (lines_at head.now lines.now)) }
-    ensures within { IsNamedWithin (length head.now) result }
-{
-    let mut found = Named::None;
-    for line in lines {
-        found = found.with_if(same_name(line.name.of(head), name), line.value);
-    }
-    found
 }
 
 /// The number that 1 to 10 digits spell.

@@ -1,6 +1,6 @@
 // The search for the end of a head, which goes on from where it stood.
-ghost use Rattle.std.specs.Prelude.{◌≡◌, ◌<◌, ◌≤◌, ◌+◌, ◌-◌, ◌^◌, ℕ, List, [], ◌∷◌, ◌++◌, length, min, None, not, ◌&&◌, if◌then◌else◌};
-ghost use Rattle.http_wire.specs.Scan.{StandsFor, is_blank, with_plain as with_plain_bytes};
+ghost use Rattle.std.specs.Prelude.{◌≡◌, ◌<◌, ◌≤◌, ◌+◌, ◌-◌, ◌^◌, ℕ, List, [], ◌∷◌, ◌++◌, length, min, None, Some, not, ◌&&◌, if◌then◌else◌};
+ghost use Rattle.http_wire.specs.Scan.{StandsFor, IsFoundFrom, looked_until, is_blank, with_plain as with_plain_bytes};
 
 use std::sync::ledger::Ledger;
 use step_count::Steps;
@@ -40,6 +40,48 @@ fn still_empty(line_empty: bool, carriage: bool, byte_carriage: bool) -> bool
     ensures { result ≡ (line_empty && not carriage && byte_carriage) }
 {
     line_empty && !carriage && byte_carriage
+}
+
+/// A byte of a piece, and its place there.
+#[derive(Clone, Copy)]
+pub struct Found {
+    pub at: usize,
+    pub byte: u8,
+}
+
+fn behind(at: usize, byte: u8) -> Option<Found>
+    ensures { result ≡ Some (record { at = at; byte = byte }) }
+{
+    Some(Found { at, byte })
+}
+
+/// The byte behind those at the place and after it that tell no lines apart, if it isn't the piece's end. A step is
+/// one byte looked at: each of them once, and the one found. Two are looked at in a turn, so that a byte costs less;
+/// a last one is found, whatever it is.
+fn past_plain<L: Ledger>(piece: &[u8], from: usize, steps: &mut Steps<L>) -> Option<Found>
+    requires { from ≤ length piece.now }
+    ensures found { IsFoundFrom piece.now from result }
+    ensures steps { steps.new + from ≡ steps.old + looked_until piece.now result }
+{
+    let mut at = from;
+    'twos: while piece.len() - at >= 2 {
+        steps.tick();
+        let first = piece[at];
+        if first <= b'\r' {
+            return behind(at, first);
+        }
+        steps.tick();
+        let second = piece[at + 1];
+        if second <= b'\r' {
+            return behind(at + 1, second);
+        }
+        at += 2;
+    }
+    if at == piece.len() {
+        return None;
+    }
+    steps.tick();
+    behind(at, piece[at])
 }
 
 impl HeadScan {
@@ -138,21 +180,20 @@ impl HeadScan {
         if scan.ended.is_some() {
             return scan;
         }
-        // Most bytes are neither of the two that tell lines apart, and are only counted.
-        let mut plain = 0u32;
-        for byte in piece {
-            steps.tick();
-            if *byte > b'\r' {
-                plain += 1;
-            } else {
-                scan = scan.with_plain(plain).with_byte(*byte);
-                plain = 0;
-                if scan.ended.is_some() {
-                    return scan;
-                }
+        let mut from = 0;
+        'bytes: loop {
+            // Most bytes are neither of the two that tell lines apart, and are only counted.
+            let Some(next) = past_plain(piece, from, steps) else {
+                return scan.with_plain((piece.len() - from) as u32);
+            };
+            scan = scan
+                .with_plain((next.at - from) as u32)
+                .with_byte(next.byte);
+            from = next.at + 1;
+            if scan.ended.is_some() {
+                return scan;
             }
         }
-        scan.with_plain(plain)
     }
 
     /// Whether all bytes searched are empty lines.

@@ -1,15 +1,17 @@
 // What the head of a request says.
-ghost use Rattle.std.specs.Prelude.{◌≡◌, ◌<◌, ◌≤◌, ◌↔◌, ◌&&◌, ◌||◌, ◌==◌, ℕ, List, [], ◌∷◌, All, length, IfOk, IfErr, IfSome, IsTrue, option_map, codes, reverse, true};
+ghost use Rattle.std.specs.Prelude.{◌≡◌, ◌<◌, ◌≤◌, ◌↔◌, ◌&&◌, ◌||◌, ◌==◌, ℕ, List, [], ◌∷◌, All, length, IfOk, IfErr, IfSome, IsTrue, option_map, slice_get, codes, reverse, true};
 ghost use Rattle.std.specs.List.{AllByRecursion, position_or_len};
 ghost use Rattle.httparse.specs.Grammar.{trim_ows, skip_ows};
 ghost use Rattle.httparse.specs.Spans.{IsWithin, IsHeaderWithin, IsRequestOf, IsRequestWithin, span_bytes};
 ghost use Rattle.http_wire.specs.Heads.{IsHead, HasLines};
-ghost use Rattle.http_wire.specs.HeadLines.{same_name, values_named, IsNumeral, IsLength, lengths_in, closes_in, says_close, first_key, lines_at, IsFirstOf};
+ghost use Rattle.http_wire.specs.HeadLines.{same_name, IsNumeral, IsLength, lengths_in, says_close, lines_at, IsFirstOf};
 ghost use Rattle.http_wire.specs.HeadRead.{IsServedRead, IsServedWithin, IsHeadFault};
+ghost use Rattle.http_wire.specs.Named.{IsNamed, IsNamedWithin};
+ghost use Rattle.http_wire.specs.Notes.{AreNotesWithin, with_line, no_notes, notes_after};
 ghost use Rattle.http_wire.specs.ServedLines.{AreServedLines, IsLengthFault, IsLinesFault, Agrees, line_closes};
 
 use crate::head::{
-    HEAD_LINES, Named, ServedHead, ServedLines, long_number, path_length, same_name, values_named,
+    HEAD_LINES, Named, ServedHead, ServedLines, long_number, path_length, same_name,
 };
 use crate::request::WireFault;
 use httparse::Status;
@@ -60,6 +62,7 @@ fn word_length(text: &[u8]) -> usize
 }
 
 /// Whether the value has the word `close`.
+#[inline(never)]
 fn says_close(value: &[u8]) -> bool
     ensures { result ≡ says_close value.now }
 {
@@ -84,16 +87,69 @@ fn line_closes(head: &[u8], line: HeaderSpan) -> bool
     same_name(line.name.of(head), b"connection") && says_close(line.value.of(head))
 }
 
-fn closes(head: &[u8], lines: &[HeaderSpan]) -> bool
-    requires { All (IsHeaderWithin (length head.now)) lines.now }
-    ensures { result ≡ closes_in (lines_at head.now lines.now) }
-{
-    for line in lines {
-        if line_closes(head, *line) {
-            return true;
+/// What the lines say that were gone through.
+#[derive(Clone, Copy)]
+pub struct Notes {
+    /// Whether one gives a coding.
+    pub coded: bool,
+    /// The lengths.
+    pub lengths: Named,
+    /// The retailers' keys.
+    pub keys: Named,
+    /// Whether one says that the connection closes.
+    pub closes: bool,
+}
+
+impl Notes {
+    /// Notes what one more line says. Most names have none of these lengths.
+    fn note(&mut self, head: &[u8], line: HeaderSpan)
+        requires { IsHeaderWithin (length head.now) line }
+        ensures notes { self.new ≡ with_line head.now self.old line }
+        ensures within { AreNotesWithin (length head.now) self.old → AreNotesWithin (length head.now) self.new }
+    {
+        let name = line.name.of(head);
+        match name.len() {
+            17 => {
+                if same_name(name, b"transfer-encoding") {
+                    self.coded = true;
+                }
+            }
+            14 => {
+                if same_name(name, b"content-length") {
+                    self.lengths = self.lengths.with(line.value);
+                }
+            }
+            12 => {
+                if same_name(name, b"retailer-key") {
+                    self.keys = self.keys.with(line.value);
+                }
+            }
+            10 => {
+                if line_closes(head, line) {
+                    self.closes = true;
+                }
+            }
+            _ => {}
         }
     }
-    false
+}
+
+/// What all the lines say.
+fn notes_of(head: &[u8], lines: &[HeaderSpan]) -> Notes
+    requires { All (IsHeaderWithin (length head.now)) lines.now }
+    ensures notes { result ≡ notes_after head.now no_notes lines.now }
+    ensures within { AreNotesWithin (length head.now) result }
+{
+    let mut notes = Notes {
+        coded: false,
+        lengths: Named::None,
+        keys: Named::None,
+        closes: false,
+    };
+    for line in lines {
+        notes.note(head, *line);
+    }
+    notes
 }
 
 fn spells(digits: &[u8], number: u64) -> bool
@@ -128,6 +184,8 @@ fn all_agree(head: &[u8], lines: &[HeaderSpan], number: u64) -> bool
 }
 
 /// The body's length, where the first line that gives one is there.
+#[cold]
+#[inline(never)]
 fn length_of(head: &[u8], lines: &[HeaderSpan], first: Span) -> Result<u32, WireFault>
     requires lines { All (IsHeaderWithin (length head.now)) lines.now }
     requires within { IsWithin (length head.now) first }
@@ -166,13 +224,15 @@ fn only_length(head: &[u8], only: Span) -> Result<u32, WireFault>
 }
 
 /// The body's length.
-fn body_length(head: &[u8], lines: &[HeaderSpan]) -> Result<u32, WireFault>
-    requires { All (IsHeaderWithin (length head.now)) lines.now }
+fn body_length(head: &[u8], lines: &[HeaderSpan], lengths: Named) -> Result<u32, WireFault>
+    requires lines { All (IsHeaderWithin (length head.now)) lines.now }
+    requires named { IsNamed head.now lengths (lengths_in (lines_at head.now lines.now)) }
+    requires within { IsNamedWithin (length head.now) lengths }
     ensures ok { IfOk result (IsLength (lengths_in (lines_at head.now lines.now))) }
     ensures fits { IfOk result (λ n. n ≤ 262144) }
     ensures err { IfErr result (IsLengthFault (lines_at head.now lines.now)) }
 {
-    match values_named(head, lines, b"content-length") {
+    match lengths {
         Named::None => Ok(0),
         Named::First(only) => only_length(head, only),
         Named::Several(first) => length_of(head, lines, first),
@@ -185,12 +245,12 @@ fn is_last(version: u8, close: bool, number: u32) -> bool
     version == 0 || close || number == 65_536
 }
 
-fn first_key(head: &[u8], lines: &[HeaderSpan]) -> Option<Span>
-    requires { All (IsHeaderWithin (length head.now)) lines.now }
-    ensures key { option_map (span_bytes head.now) result ≡ first_key (lines_at head.now lines.now) }
-    ensures within { IfSome result (IsWithin (length head.now)) }
+fn first_of(named: Named) -> Option<Span>
+    ensures value { (head : List ℕ) (values : List (List ℕ)) → IsNamed head named values
+        → option_map (span_bytes head) result ≡ slice_get values 0 }
+    ensures within { (n : ℕ) → IsNamedWithin n named → IfSome result (IsWithin n) }
 {
-    match values_named(head, lines, b"retailer-key") {
+    match named {
         Named::None => None,
         Named::First(value) | Named::Several(value) => Some(value),
     }
@@ -202,14 +262,15 @@ fn read_lines(head: &[u8], lines: &[HeaderSpan]) -> Result<ServedLines, WireFaul
     ensures ok { IfOk result (AreServedLines head.now (lines_at head.now lines.now)) }
     ensures err { IfErr result (IsLinesFault (lines_at head.now lines.now)) }
 {
-    let Named::None = values_named(head, lines, b"transfer-encoding") else {
+    let notes = notes_of(head, lines);
+    if notes.coded {
         return Err(WireFault::Coding);
-    };
-    match body_length(head, lines) {
+    }
+    match body_length(head, lines, notes.lengths) {
         Ok(length) => Ok(ServedLines {
             length,
-            key: first_key(head, lines),
-            close: closes(head, lines),
+            key: first_of(notes.keys),
+            close: notes.closes,
         }),
         Err(fault) => Err(fault),
     }

@@ -1,9 +1,7 @@
-use Rattle.std.proofs.Common.{◌≤◌, ◌+◌, ◌||◌, Bool, ℕ, List, [], length, take, arith, sym, ◌∙◌, ap, subst, append-nil}
+use Rattle.std.proofs.Common.{◌≤◌, ◌+◌, ◌||◌, Bool, ℕ, List, length, take, arith, ◌∙◌, ap, subst}
 use Rattle.std.specs.Prelude.{◌==◌, slice_range}
 use Rattle.std.specs.List.{position_or_len, before_first}
-use Rattle.httparse.specs.Grammar.{print_request}
 use Rattle.httparse.specs.Spans.{IsRequestOf, IsRequestWithin}
-use Rattle.http_wire.specs.Heads.{HasLines}
 use Rattle.http_wire.specs.HeadLines.{first_key, closes_in, is_last}
 use Rattle.http_wire.proofs.RequestHeads.{whole_head}
 use Rattle.http_wire.proofs.NamedLemmas.{span_front, span_fits}

@@ -1,11 +1,15 @@
-use Rattle.std.proofs.Common.{◌≡◌, ◌+◌, List, ◌++◌, take, ℕ, None}
-use Rattle.http_wire.specs.Scan.{StandsFor, with_plain}
+use Rattle.std.proofs.Common.{◌≡◌, ◌≤◌, ◌+◌, ◌-◌, List, ◌++◌, length, take, ℕ, None}
+use Rattle.http_wire.specs.Scan.{StandsFor}
 use Rattle.http_wire.proofs.scan.HeadScan.feed.Given as goal
 
-abbrev pub invariant-loop-byte : goal.invariant-loop-byte
-invariant-loop-byte g l = record {
+abbrev pub invariant-bytes : goal.invariant-bytes
+invariant-bytes g l = record {
+  within : l.from ≤ length l.piece;
   live : l.scan.ended ≡ None;
-  stands : (bytes : List ℕ) → StandsFor l.fn.self bytes → StandsFor (with_plain l.scan l.plain) (bytes ++ take l.byte-index l.piece);
-  at : l.scan.at + l.plain ≡ l.fn.self.at + l.byte-index;
-  steps : l.steps ≡ l.fn.steps + l.byte-index;
+  stands : (bytes : List ℕ) → StandsFor l.fn.self bytes → StandsFor l.scan (bytes ++ take l.from l.piece);
+  at : l.scan.at ≡ l.fn.self.at + l.from;
+  steps : l.steps ≡ l.fn.steps + l.from;
 }
+
+abbrev pub decreases-bytes : goal.decreases-bytes
+decreases-bytes g l = length l.piece - l.from
