@@ -10,7 +10,6 @@ pub mod Spots
 pub mod Offers
 pub mod Reservations
 pub mod Bookings
-pub mod Seen
 pub mod Quotes
 pub mod Places
 pub mod PlaceTexts

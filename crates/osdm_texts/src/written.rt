@@ -5,18 +5,12 @@ ghost use Rattle.std.specs.Prelude.{◌≡◌, Ok, IfSome};
 ghost use Rattle.serde_json.specs.Written.{compact_text};
 ghost use Rattle.osdm_texts.specs.Replies.{tree_of as written_tree, CanBeWritten};
 ghost use Rattle.osdm_texts.specs.Sweeps.{swept_tree};
-ghost use Rattle.osdm_texts.specs.Answers.{status_told, telling, told_of, created, reply_told};
-ghost use Rattle.osdm_texts.specs.Ids.{HasId};
-ghost use Rattle.osdm_texts.specs.Seen.{prebooked_seen};
+ghost use Rattle.osdm_texts.specs.Answers.{status_told, telling, told_of};
 
-use crate::bookings::Shown;
-use crate::reply::{Reply, reply_text, shown_text};
+use crate::reply::{Reply, reply_text};
 use crate::small::swept_text;
-use booking_rows::{Detail, Swept};
-use history_model::phase::Phase;
-use leg_masks::Item;
+use booking_rows::Swept;
 use rail_catalogue::Catalogue;
-use rail_ids::RowNo;
 use std::alloc::Global;
 
 /// The status (RFC 9110) of a reply that is no problem.
@@ -71,36 +65,7 @@ pub fn write_reply(
     ensures told { IfSome result (λ written. told_of (Ok written)
         ≡ telling (status_told success) (compact_text (written_tree cat.now reply.now))) }
 {
-    written_of(success, reply_text(alloc, cat, reply).ok()?)
-}
-
-/// Writes the answer to a booking that is to be sealed as prebooked, with this detail and these items. `None` as
-/// `write_reply` answers it. No view of the booking is made for it, since that is large to copy.
-pub fn write_prebooked(
-    alloc: Global,
-    cat: &Catalogue,
-    row: RowNo,
-    detail: &Detail,
-    items: &[Item],
-) -> Option<Written>
-    requires id { HasId row }
-    ensures told { IfSome result (λ written. told_of (Ok written)
-        ≡ reply_told cat.now (created row (prebooked_seen detail.now items.now))) }
-{
-    let shown = Shown {
-        phase: Phase::Prebooked,
-        limit: detail.limit,
-        total: detail.total,
-        items,
-        ended: None,
-    };
-    written_of(Success::Created, shown_text(alloc, cat, row, &shown).ok()?)
-}
-
-// A text as it is told, where its length fits a head.
-fn written_of(success: Success, text: Vec<u8>) -> Option<Written>
-    ensures told { IfSome result (λ written. told_of (Ok written) ≡ telling (status_told success) text.items) }
-{
+    let text = reply_text(alloc, cat, reply).ok()?;
     let length = u32::try_from(text.len()).ok()?;
     Some(Written {
         success,
