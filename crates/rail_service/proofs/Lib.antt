@@ -10,3 +10,4 @@ pub mod Sparing
 pub mod Walking
 pub mod Pathways
 pub mod Handing
+pub mod Performed

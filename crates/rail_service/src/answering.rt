@@ -1,44 +1,20 @@
 //! Answers of HTTP/1.1 (RFC 9112) that tell what the services answered.
-ghost use Rattle.std.specs.Prelude.{◌≡◌, ◌++◌, Ok, IsTrue, false};
+ghost use Rattle.std.specs.Prelude.{◌≡◌, ◌++◌, IsTrue, false};
 ghost use Rattle.serde_json.specs.Written.{compact_text};
 ghost use Rattle.http_wire.specs.Answers.{is_status, head_text};
 ghost use Rattle.session_loop.specs.Answered.{answer_bytes};
-ghost use Rattle.osdm_texts.specs.Answers.{refused, told_of};
+ghost use Rattle.osdm_texts.specs.Answers.{refused};
 ghost use Rattle.osdm_texts.specs.Sweeps.{swept_tree};
 ghost use Rattle.rail_service.specs.Bytes.{told_bytes};
 
 use booking_rows::Swept;
 use http_wire::{Answer, Body, write_head};
-use osdm_texts::{Problem, Text, Written, small_text, swept_text};
+use osdm_texts::{Problem, small_text, swept_text};
 
-/// The answer that tells what a service answered: a head, and the text that was written; or a problem with its media type (RFC 9457). No
-/// memory is taken, so it may follow the decision.
-pub(crate) fn answer_of(said: Result<Written, Problem>, last: bool) -> Answer
-    ensures bytes { answer_bytes result ≡ told_bytes last (told_of said) }
-{
-    match said {
-        Ok(written) => written_answer(written, last),
-        Err(problem) => problem_answer(&problem, last),
-    }
-}
-
-fn written_answer(written: Written, last: bool) -> Answer
-    ensures bytes { answer_bytes result ≡ told_bytes last (told_of (Ok written)) }
-{
-    let status = written.success.status();
-    let length = written.length;
-    match written.text {
-        Text::Counts(swept) => counts_answer(status, length, swept, last),
-        Text::Large(text) => Answer {
-            head: write_head(status, false, length, last),
-            body: Body::Large(text),
-        },
-    }
-}
-
-// The answer to a sweep. It stands apart, like one that refuses, since room for a small text is dear to clear for each answer.
+/// The answer to a sweep. No memory is taken. It stands apart, like one that refuses, since room for a small text is
+/// dear to clear for each answer.
 #[inline(never)]
-fn counts_answer(status: u16, length: u32, swept: Swept, last: bool) -> Answer
+pub(crate) fn counts_answer(status: u16, length: u32, swept: Swept, last: bool) -> Answer
     requires known { IsTrue (is_status status) }
     ensures bytes { answer_bytes result ≡ head_text status false length last ++ compact_text (swept_tree swept) }
 {

@@ -13,14 +13,14 @@ ghost use Rattle.rail_service.specs.Bytes.{reply_bytes};
 ghost use Rattle.rail_service.specs.Commands.{Says, GoesOn};
 ghost use Rattle.rail_service.specs.Sparing.{MakesFor};
 
-use crate::answering::answer_of;
+use crate::answering::{counts_answer, problem_answer};
 use booking_service::{
     confirm_booking, fulfil_booking, release_booking, show_booking, sweep_bookings,
 };
 use claim_rule::{Books, Desk};
-use http_wire::Answer;
+use http_wire::{Answer, Body, write_head};
 use osdm_json::{Command, Problem};
-use osdm_texts::Written;
+use osdm_texts::{Text, Written};
 use rail_catalogue::Catalogue;
 use rail_ids::RetailerNo;
 use rail_time::Moment;
@@ -35,8 +35,10 @@ use trade_service::{
 
 /// Does what a retailer's command asks at this moment, and answers it.
 ///
-/// The answer is the command's defined reply, by the desk's own entries in this very call, whatever other desks do meanwhile. The books
-/// have the catalogue's places and rows, and the command is one that was read.
+/// The answer is the command's defined reply, by the desk's own entries in this very call, whatever other desks do
+/// meanwhile. The books have the catalogue's places and rows, and the command is one that was read. Inlined, since an
+/// answer is large to hand on.
+#[inline(always)]
 pub fn perform(
     alloc: Global,
     cat: &Catalogue,
@@ -63,8 +65,23 @@ pub fn perform(
         × (answer_bytes result ≡ reply_bytes cat.now last reply) }
 {
     let shop = Shop { alloc, cat, books };
-    let said = say(&shop, desk, retailer, command, now);
-    answer_of(said, last)
+    let Written {
+        success,
+        length,
+        text,
+    } = match say(&shop, desk, retailer, command, now) {
+        Ok(written) => written,
+        Err(problem) => return problem_answer(&problem, last),
+    };
+    let status = success.status();
+    let text = match text {
+        Text::Large(text) => text,
+        Text::Counts(swept) => return counts_answer(status, length, swept, last),
+    };
+    Answer {
+        head: write_head(status, false, length, last),
+        body: Body::Large(text),
+    }
 }
 
 // What the services answer to a command.

@@ -47,12 +47,13 @@ impl<C: Clock> Responder for Service<'_, '_, '_, C> {
         let admitted = admit(self.first, retailer);
         let asking = asked(self.room, self.cat, self.router, admitted, intake, request);
         self.first = first_after(self.first, retailer);
-        match asking {
-            Ok((retailer, command)) => perform(
-                self.alloc, self.cat, self.books, self.desk, retailer, &command, now, last,
-            ),
-            Err(problem) => problem_answer(&problem, last),
-        }
+        let (retailer, command) = match asking {
+            Ok(asked) => asked,
+            Err(problem) => return problem_answer(&problem, last),
+        };
+        perform(
+            self.alloc, self.cat, self.books, self.desk, retailer, &command, now, last,
+        )
     }
 
     fn refuse(&mut self, fault: WireFault) -> Answer {

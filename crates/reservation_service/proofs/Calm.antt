@@ -1,5 +1,5 @@
 -- Booking an offer turns nothing to an exchange, and leaves a tidy desk tidy.
-use Rattle.std.proofs.Common.{◌≡◌, Bool, false, inl, inr, ℕ, suc, ◌+◌, List, [], ◌∷◌, ◌++◌, length, Option, Some, None, refl, sym, subst}
+use Rattle.std.proofs.Common.{◌≡◌, Bool, false, inl, inr, ℕ, suc, List, [], ◌∷◌, ◌++◌, length, Option, Some, None, refl, sym, subst}
 use Rattle.rail_ids.specs.declared.RowNo.{RowNo}
 use Rattle.leg_masks.specs.Interval.{PlacedSpan as Item}
 use Rattle.history_model.specs.declared.entry.Step.{Step}

@@ -15,13 +15,14 @@ use Rattle.claim_rule.specs.Rule.{BooksView, DeskView}
 use Rattle.claim_rule.specs.Holds.{HoldView}
 use Rattle.claim_rule.specs.Desks.{IsOf, Shape}
 use Rattle.claim_rule.proofs.Shapes.{shape_then}
+use Rattle.claim_rule.specs.Calls.{ShapeBy}
+use Rattle.booking_rows.specs.Starts.{StartsHold}
 use Rattle.booking_rows.specs.declared.notes.Detail.{Detail}
 use Rattle.booking_rows.specs.Views.{RowSeen, MaySucceed}
-use Rattle.booking_rows.proofs.ViewLemmas.{generation_of_hold}
 use Rattle.osdm_texts.specs.Ids.{HasId}
 use Rattle.osdm_texts.specs.Bookings.{HasIds}
 use Rattle.booking_rows.specs.Notes.{detail_notes}
-use Rattle.claim_rule.specs.Out.{IsHolding, MakesEmpty, IsSealedAs, SealsItems, IsIdle, IsTidy}
+use Rattle.claim_rule.specs.Out.{MakesEmpty, IsSealedAs, SealsItems, IsIdle, IsTidy}
 use Rattle.offer_codes.specs.Offers.{OfferView}
 use Rattle.rail_catalogue.specs.Contents.{CatalogueView}
 use Rattle.osdm_texts.specs.declared.problem.Problem.{Problem}
@@ -30,8 +31,8 @@ use Rattle.osdm_texts.specs.Answers.{Reply, created, problem, Told, refused, rep
 use Rattle.osdm_texts.proofs.Telling.{of_problem}
 use Rattle.reservation_service.specs.declared.holding.Placing.{Placing}
 use Rattle.reservation_service.specs.declared.holding.Placing.TheVariants.{Whole, Short, Contended, NoMemory}
-use Rattle.reservation_service.specs.Holding.{count_of, HoldsPlaces, FindsNoRow, GivesUp, HasAllPlaces, problem_of}
-use Rattle.reservation_service.specs.Reserving.{detail_of, made_view, Reserves, SealsHold, FailsToHold, HasAllOrNone, AnswersReserving}
+use Rattle.reservation_service.specs.Holding.{count_of, PlacesAll, HoldsPlaces, FindsNoRow, GivesUp, HasAllPlaces, problem_of}
+use Rattle.reservation_service.specs.Reserving.{detail_of, made_view, Reserves, MakesReady, FallsShort, SealsHold, FailsToHold, HasAllOrNone, AnswersReserving}
 use Rattle.reservation_service.proofs.Placed.{apart_has_memory, whole_places, places_many}
 use Rattle.reservation_service.proofs.Calm.{held_calmly, reserves_tidy}
 
@@ -42,9 +43,8 @@ whole_of Contended e = absurd (let no : ◌≡◌ {A = Option Problem} (Some rea
 whole_of NoMemory e = absurd (let no : ◌≡◌ {A = Option Problem} (Some reason.NoMemory) None = e in cc)
 
 -- the ids of a new booking
-pub made_ids : (books : BooksView) (desk : DeskView) (hold : HoldView) (row : RowNo) (v : RowSeen) (phase : Phase) (d : Detail) (items : List Item) → IsOf books desk → IsHolding desk hold → row ≡ hold.row → v ≡ made_view phase d items → HasIds row v
-made_ids books desk hold row v phase d items of out same is =
-    (subst HasId (sym same) (generation_of_hold books desk hold of out), subst (λ (s : RowSeen). MaySucceed s.ended) (sym is) tt)
+pub made_ids : (hold : HoldView) (row : RowNo) (v : RowSeen) (phase : Phase) (d : Detail) (items : List Item) → HasId hold.row → row ≡ hold.row → v ≡ made_view phase d items → HasIds row v
+made_ids hold row v phase d items has same is = (subst HasId (sym same) has, subst (λ (s : RowSeen). MaySucceed s.ended) (sym is) tt)
 
 pub no_row : (cat : CatalogueView) (retailer now : ℕ) (o : OfferView) (together : Bool) (old new : DeskView) → FindsNoRow old new → MakesEmpty new
     → AnswersReserving cat retailer now o together old new (refused reason.RowsFull)
@@ -57,10 +57,14 @@ given_up cat retailer now o together row p why items old mid new placed is gave 
     (problem why, inr (inl (inr (row, p, why, items, mid, placed, is, gave, refl))), none, of_problem cat why)
 
 -- a whole placing of some segments holds some items
+pub some_placed : (cat : CatalogueView) (o : OfferView) (together : Bool) (row : RowNo) (p : Placing) (items : List Item) (old mid : DeskView) → PlacesAll cat o together row [] o.segments p items old mid → problem_of p ≡ None → 1 ≤ count_of o → count_of o ≤ 8 → 1 ≤ length o.segments
+    → 1 ≤ length items
+some_placed cat o together row p items old mid placed none some few segments =
+    let m = (places_many cat o together row [] o.segments p items old mid placed (whole_of p none) some few).0 in omega arith
+
 pub some_held : (cat : CatalogueView) (o : OfferView) (together : Bool) (row : RowNo) (p : Placing) (items : List Item) (old mid : DeskView) → HoldsPlaces cat o together o.segments row p items old mid → problem_of p ≡ None → 1 ≤ count_of o → count_of o ≤ 8 → 1 ≤ length o.segments
     → 1 ≤ length items
-some_held cat o together row p items old mid (start, started, placed) none some few segments =
-    let m = (places_many cat o together row [] o.segments p items start mid placed (whole_of p none) some few).0 in omega arith
+some_held cat o together row p items old mid (start, started, placed) = some_placed cat o together row p items start mid placed
 
 -- a seal as an earlier view of the desk has it
 abbrev SealsBy : List Entry → Layout → ℕ → DeskView → RowNo → Phase → List Item → Type 0
@@ -113,6 +117,43 @@ prebooked cat retailer now o together row p items old mid new reply written plac
     let whole = subst (λ (q : Placing). HoldsPlaces cat o together o.segments row q items old mid) (whole_of p whole_is) placed in
     let s = sealed cat retailer now o together row items old mid new reply whole did none in
     (reply, s.0, s.1, bytes)
+
+-- a booking that was made ready and sealed, and one that fell short and was given up
+
+pub readied : (cat : CatalogueView) (retailer now : ℕ) (o : OfferView) (together : Bool) (row : RowNo) (hold : HoldView) (old start mid new : DeskView) (said : Told)
+    → ShapeBy (StartsHold old start (Some row)) old start → hold.row ≡ row → MakesReady cat retailer now o together hold.row hold.items start mid said
+    → Shape mid new (Seal hold.row.row phase.Prebooked ∷ []) → SealsItems mid new hold.row phase.Prebooked hold.items → MakesEmpty new
+    → AnswersReserving cat retailer now o together old new said
+readied cat retailer now o together row hold old start mid new said started same (placed, did, notes, is) seal items none =
+    let by_row = subst (λ (r : RowNo). ShapeBy (StartsHold old start (Some r)) old start) (sym same) started in
+    let d = detail_of cat o retailer now in
+    let reply = created hold.row (made_view phase.Prebooked d hold.items) in
+    prebooked cat retailer now o together hold.row Whole hold.items old placed new reply said (start, by_row, did) refl
+    (seals_hold hold hold d placed mid new reply refl notes seal items refl) none is
+
+pub fell_short : (cat : CatalogueView) (retailer now : ℕ) (o : OfferView) (together : Bool) (row held : RowNo) (items : List Item) (why : Problem) (old start mid new : DeskView)
+    → ShapeBy (StartsHold old start (Some row)) old start → held ≡ row → FallsShort cat o together held items why start mid → GivesUp held items mid new → MakesEmpty new
+    → AnswersReserving cat retailer now o together old new (refused why)
+fell_short cat retailer now o together row held items why old start mid new started same (p, did, inl wrong) gave none =
+    let by_row = subst (λ (r : RowNo). ShapeBy (StartsHold old start (Some r)) old start) (sym same) started in
+    given_up cat retailer now o together held p why items old mid new (start, by_row, did) wrong gave none
+fell_short cat retailer now o together row held items why old start mid new started same (p, did, inr (whole, is)) gave none =
+    let by_row = subst (λ (r : RowNo). ShapeBy (StartsHold old start (Some r)) old start) (sym same) started in
+    let all = subst (λ (q : Placing). PlacesAll cat o together held [] o.segments q items start mid) whole did in
+    subst (λ (p : Problem). AnswersReserving cat retailer now o together old new (refused p)) (sym is)
+    (problem reason.NoMemory, inr (inr ((held, items, mid, (start, by_row, all), gave), refl)), none, of_problem cat reason.NoMemory)
+
+pub made_by : (cat : CatalogueView) (retailer now : ℕ) (o : OfferView) (together : Bool) (held noted : HoldView) (row : RowNo) (p : Placing) (d : Detail) (old mid new : DeskView) (said : Told)
+    → PlacesAll cat o together row [] o.segments p held.items old mid → problem_of p ≡ None → held.row ≡ row → noted ≡ held → d ≡ detail_of cat o retailer now
+    → Shape mid new (detail_notes held.row.row d (length held.items)) → said ≡ reply_told cat (created held.row (made_view phase.Prebooked d held.items))
+    → MakesReady cat retailer now o together noted.row noted.items old new said
+made_by cat retailer now o together held noted row p d old mid new said placed none same kept is notes told =
+    let by_row = subst (λ (r : RowNo). PlacesAll cat o together r [] o.segments p held.items old mid) (sym same) placed in
+    let whole = subst (λ (q : Placing). PlacesAll cat o together held.row [] o.segments q held.items old mid) (whole_of p none) by_row in
+    let made : MakesReady cat retailer now o together held.row held.items old new said =
+    subst (λ (e : Detail). (m : DeskView) × PlacesAll cat o together held.row [] o.segments Whole held.items old m × Shape m new (detail_notes held.row.row e (length held.items)) × (said ≡ reply_told cat (created held.row (made_view phase.Prebooked e held.items))))
+    is (mid, whole, notes, told) in
+    subst (λ (h : HoldView). MakesReady cat retailer now o together h.row h.items old new said) (sym kept) made
 
 pub answered_tidy : (cat : CatalogueView) (retailer now : ℕ) (o : OfferView) (together : Bool) (old new : DeskView) (written : Told) (books : BooksView) → IsOf books new → AnswersReserving cat retailer now o together old new written → IsIdle new → IsTidy old → IsTidy new
 answered_tidy cat retailer now o together old new written books of a = reserves_tidy cat retailer now o together books old new a.0 of a.1

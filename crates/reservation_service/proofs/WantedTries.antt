@@ -1,12 +1,11 @@
 -- Places with wanted traits, tried one by one.
-use Rattle.std.proofs.Common.{◌≡◌, ◌≢◌, ◌∙◌, Bool, true, false, ℕ, zero, suc, ◌+◌, ◌<◌, ◌≤◌, cond, List, [], ◌∷◌, ◌++◌, length, map, take, drop, get_or, filter, Option, Some, None, IfSome, IfNone, refl, sym, ap, subst, arith, append-nil, length-append, take-append-drop}
+use Rattle.std.proofs.Common.{◌≡◌, ◌≢◌, ◌∙◌, Bool, true, false, ℕ, ◌+◌, ◌<◌, cond, List, [], ◌∷◌, ◌++◌, length, map, take, drop, get_or, filter, Option, Some, None, IfSome, IfNone, refl, sym, ap, subst, arith, append-nil, length-append, take-append-drop}
 use mathlib.Core.List.{map-append}
 use Rattle.std.specs.List.{AllByRecursion}
 use Rattle.std.proofs.lemmas.List.{take_more}
 use Rattle.std.proofs.lemmas.List.Elements.{filter-append}
 use Rattle.rail_ids.specs.declared.PlaceNo.{PlaceNo}
-use Rattle.leg_masks.specs.Interval.{Interval, pieces}
-use Rattle.history_model.specs.declared.entry.Step.{Step}
+use Rattle.leg_masks.specs.Interval.{Interval}
 use Rattle.claim_rule.specs.Rule.{DeskView}
 use Rattle.claim_rule.specs.Desks.{Shape}
 use Rattle.claim_rule.specs.Holds.{HoldView}
@@ -14,8 +13,8 @@ use Rattle.hold_core.specs.declared.tries.Outcome.{Outcome}
 use Rattle.hold_core.specs.declared.tries.Outcome.TheVariants.{Won, Refused, Contended}
 use Rattle.hold_core.specs.declared.adds.Added.{Added}
 use Rattle.hold_core.specs.declared.adds.Added.TheVariants as added
-use Rattle.hold_core.specs.Tries.{Try, AreParts, IsTry, try_steps, items_tried, with_items, place_number, TriesPlace}
-use Rattle.hold_core.specs.Places.{items_won, place_won, places_won, tries_steps, tried, AllSettled, EndsWith, IsAdding, Adds, AddsPlaces}
+use Rattle.hold_core.specs.Tries.{Try, IsTry, try_steps, items_tried, with_items, place_number, TriesPlace}
+use Rattle.hold_core.specs.Places.{items_won, place_won, places_won, tries_steps, tried, EndsWith, IsAdding, AddsPlaces}
 use Rattle.hold_core.proofs.Adding.{TriedSettled, TriedLast, tried_last, still_settled}
 
 -- ---- one candidate alone

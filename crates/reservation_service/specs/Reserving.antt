@@ -22,7 +22,7 @@ use Rattle.osdm_texts.specs.declared.problem.Problem.TheVariants.{RowsFull, NoMe
 use Rattle.osdm_texts.specs.Answers.{Reply, created, exchanged, problem, Told, reply_told}
 use Rattle.reservation_service.specs.declared.holding.Placing.{Placing}
 use Rattle.reservation_service.specs.declared.holding.Placing.TheVariants.{Whole}
-use Rattle.reservation_service.specs.Holding.{HoldsPlaces, FindsNoRow, GivesUp, problem_of, HasAllPlaces}
+use Rattle.reservation_service.specs.Holding.{PlacesAll, HoldsPlaces, FindsNoRow, GivesUp, problem_of, HasAllPlaces}
 
 -- what a reservation asks for: one segment, for so many adults
 abbrev pub reserved : Segment → Class → ℕ → ℕ → ℕ → OfferView
@@ -57,6 +57,19 @@ FailsToHold cat o together old new reply =
 abbrev pub Falters : CatalogueView → OfferView → Bool → DeskView → DeskView → Type 0
 Falters cat o together old new =
     (row : RowNo) × (items : List Item) × (mid : DeskView) × HoldsPlaces cat o together o.segments row Whole items old mid × GivesUp row items mid new
+
+-- all places were added to a hold of the row, and then the detail noted; and this is told of the booking that it will be
+abbrev pub MakesReady : CatalogueView → ℕ → ℕ → OfferView → Bool → RowNo → List Item → DeskView → DeskView → Told → Type 0
+MakesReady cat retailer now o together row items old new said =
+    (mid : DeskView) × PlacesAll cat o together row [] o.segments Whole items old mid
+    × Shape mid new (detail_notes row.row (detail_of cat o retailer now) (length items))
+    × (said ≡ reply_told cat (created row (made_view phase.Prebooked (detail_of cat o retailer now) items)))
+
+-- places were added to a hold of the row, but not all; or all were, and there was no memory for the answer
+abbrev pub FallsShort : CatalogueView → OfferView → Bool → RowNo → List Item → Problem → DeskView → DeskView → Type 0
+FallsShort cat o together row items why old new =
+    (placing : Placing) × PlacesAll cat o together row [] o.segments placing items old new
+    × ((problem_of placing ≡ Some why) ⊎ ((placing ≡ Whole) × (why ≡ NoMemory)))
 
 -- a hold with all its places is sealed with this detail; or given back, since there was no memory for the answer
 abbrev pub SealsHold : RowNo → List Item → Detail → DeskView → DeskView → Reply → Type 0

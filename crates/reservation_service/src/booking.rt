@@ -1,23 +1,22 @@
 //! Booking an offer, and reserving places of one segment.
-ghost use Rattle.std.specs.Prelude.{◌≡◌, ◌≤◌, true, length, Ok, IfSome};
+ghost use Rattle.std.specs.Prelude.{◌≡◌, ◌≤◌, [], true, length, Ok, IfSome, IfOk, IfErr};
 ghost use Rattle.std.specs.List.{list_all};
 ghost use Rattle.offer_codes.specs.Offers.{is_party, offer_view};
 ghost use Rattle.rail_catalogue.specs.Contents.{legs_in};
 ghost use Rattle.offer_engine.specs.Codes.{is_of_runs};
-ghost use Rattle.history_model.specs.Booking.{greatest_amount, most_items};
+ghost use Rattle.history_model.specs.Booking.{most_items};
 ghost use Rattle.history_model.specs.declared.phase.Phase.TheVariants as phase;
 ghost use Rattle.leg_masks.specs.Interval.{PlacedSpan};
 ghost use Rattle.claim_rule.specs.Desks.{IsOf};
-ghost use Rattle.claim_rule.specs.Out.{IsHolding, HasNotedItems, HoldsNone, IsIdle, IsTidy, KeepsEndings};
-ghost use Rattle.osdm_texts.specs.Answers.{Reply as Replied, created, reply_told, told_of};
-ghost use Rattle.osdm_texts.specs.Bookings.{HasIds};
-ghost use Rattle.reservation_service.specs.Holding.{GivesUp};
-ghost use Rattle.reservation_service.specs.Reserving.{SealsHold, AnswersReserving, made_view, reserved};
+ghost use Rattle.claim_rule.specs.Out.{IsHolding, HasNotedItems, IsToBeSealed, IsIdle, IsTidy, KeepsEndings};
+ghost use Rattle.osdm_texts.specs.Answers.{created, reply_told, told_of};
+ghost use Rattle.osdm_texts.specs.Ids.{HasId};
+ghost use Rattle.reservation_service.specs.Reserving.{MakesReady, FallsShort, AnswersReserving, made_view, reserved};
 
 use crate::details::detail_for;
-use crate::holding::{Held, hold_places};
+use crate::holding::place_segments;
 use arrayvec::ArrayVec;
-use booking_rows::{Detail, RowView, Sealed, note_detail, seal};
+use booking_rows::{Detail, RowView, Sealed, note_detail, seal, start_hold};
 use claim_rule::{Desk, Hold};
 use history_model::booking::MOST_ITEMS;
 use history_model::phase::Phase;
@@ -26,7 +25,6 @@ use leg_masks::Item;
 use offer_codes::{OfferCode, Segment};
 use osdm_texts::{Problem, Reply, Success, Written, write_reply};
 use place_map::Class;
-use rail_ids::RowNo;
 use shop::{Asker, Shop};
 
 /// Books the places of an offer for a retailer (OSDM's prebooking): one for each passenger at each segment, or none. Where they are to
@@ -54,17 +52,17 @@ pub fn book_offer(
     ensures answer { AnswersReserving shop.now.cat.now asker.retailer.0 asker.moment (offer_view offer.now) together
         desk.old desk.new (told_of result) }
 {
-    let Some(Held { hold, placing }) = hold_places(shop, desk, offer, together) else {
+    let Some(mut hold) = start_hold(shop.books, desk) else {
         return Err(Problem::RowsFull);
     };
-    match placing.problem() {
-        Some(problem) => {
+    match make_ready(shop, desk, &mut hold, asker, offer, together) {
+        Ok(ready) => {
+            let _row = seal(shop.books, desk, hold, Sealed::Prebooked);
+            Ok(ready)
+        }
+        Err(problem) => {
             abandon(shop.books, desk, hold);
             Err(problem)
-        }
-        None => {
-            let detail = detail_for(shop.cat, offer, asker);
-            prebook(shop, desk, hold, detail)
         }
     }
 }
@@ -118,45 +116,58 @@ pub fn reserve_places(
     book_offer(shop, desk, asker, &offer, reservation.together)
 }
 
-// Seals the hold's booking with this detail, once its whole answer is written. Where there is no memory for it, all is given back.
-fn prebook(
+// Adds the places of an offer to a hold without items, and notes the booking's detail once its whole answer is written.
+// A hold keeps what it won: where this fails the caller abandons it. It is handed in, since it is large to hand on.
+fn make_ready(
     shop: &Shop<'_>,
     desk: &mut Desk,
-    mut hold: Hold,
-    detail: Detail,
+    hold: &mut Hold,
+    asker: Asker,
+    offer: &OfferCode,
+    together: bool,
 ) -> Result<Written, Problem>
     requires own { IsOf shop.now.books.now desk.old }
-    requires hold { IsHolding desk.old hold }
-    requires noted { HasNotedItems desk.old hold }
-    requires some { 1 ≤ length hold.items }
-    requires total { detail.total ≤ greatest_amount }
+    requires legs { shop.now.books.now.layout.legs ≡ legs_in shop.now.cat.now }
+    requires hold { IsHolding desk.old hold.old }
+    requires noted { HasNotedItems desk.old hold.old }
+    requires empty { hold.old.items ≡ [] }
+    requires party { is_party offer.now.adults offer.now.children ≡ true }
+    requires some { 1 ≤ length offer.now.segments.items }
+    requires runs { list_all (is_of_runs shop.now.cat.now.runs) offer.now.segments.items ≡ true }
     ensures own { IsOf shop.now.books.now desk.new }
-    ensures none { HoldsNone desk.new }
+    ensures row { hold.new.row ≡ hold.old.row }
+    ensures hold { IsHolding desk.new hold.new }
     ensures endings { KeepsEndings desk.old desk.new }
-    ensures answer { (reply : Replied) × SealsHold hold.row hold.items detail desk.old desk.new reply
-        × (told_of result ≡ reply_told shop.now.cat.now reply) }
+    ensures sealable { IfOk result (λ written. IsToBeSealed desk.new hold.new) }
+    ensures made { IfOk result (λ written. MakesReady shop.now.cat.now asker.retailer.0 asker.moment
+        (offer_view offer.now) together hold.new.row hold.new.items desk.old desk.new
+        (told_of (Ok written))) }
+    ensures failed { IfErr result (λ why. FallsShort shop.now.cat.now (offer_view offer.now) together
+        hold.new.row hold.new.items why desk.old desk.new) }
 {
-    let view = new_view(Phase::Prebooked, hold.items(), &detail);
-    let Some(ready) = created_answer(shop, hold.row(), view) else {
-        abandon(shop.books, desk, hold);
+    match place_segments(shop, desk, hold, offer, together).problem() {
+        Some(problem) => return Err(problem),
+        None => {}
+    }
+    let detail = detail_for(shop.cat, offer, asker);
+    let Some(ready) = created_answer(shop, hold, &detail) else {
         return Err(Problem::NoMemory);
     };
-    note_detail(shop.books, desk, &mut hold, detail);
-    let _row = seal(shop.books, desk, hold, Sealed::Prebooked);
+    note_detail(shop.books, desk, hold, detail);
     Ok(ready)
 }
 
-// The text that shows a new booking, or `None` where there is no memory for it.
-fn created_answer(shop: &Shop<'_>, row: RowNo, view: RowView) -> Option<Written>
-    requires ids { HasIds row view }
-    ensures told { IfSome result (λ written. told_of (Ok written) ≡ reply_told shop.now.cat.now (created row view)) }
+// The text that shows the booking that a hold will be with this detail, or `None` where there is no memory for it.
+fn created_answer(shop: &Shop<'_>, hold: &Hold, detail: &Detail) -> Option<Written>
+    requires id { HasId hold.now.row }
+    ensures told { IfSome result (λ written. told_of (Ok written) ≡ reply_told shop.now.cat.now
+        (created hold.now.row (made_view phase.Prebooked detail.now hold.now.items))) }
 {
-    write_reply(
-        shop.alloc,
-        shop.cat,
-        Success::Created,
-        &Reply::Booking { row, view },
-    )
+    let reply = Reply::Booking {
+        row: hold.row(),
+        view: new_view(Phase::Prebooked, hold.items(), detail),
+    };
+    write_reply(shop.alloc, shop.cat, Success::Created, &reply)
 }
 
 /// The new booking in this phase, as its answer shows it.

@@ -86,8 +86,8 @@ pub fn hold_places(
     Some(Held { hold, placing })
 }
 
-// Adds places for each segment to a hold without items.
-fn place_segments(
+/// Adds places for each segment to a hold without items.
+pub(crate) fn place_segments(
     shop: &Shop<'_>,
     desk: &mut Desk,
     hold: &mut Hold,

@@ -82,8 +82,8 @@ fn try_wanted(
     Some(try_one(books, desk, hold, place, wanted.span))
 }
 
-/// Goes through the places in order, and adds to the hold those that have the traits and are won on all legs of the span,
-/// until as many are won as are wanted. It does what `add_places` does with a list of those that have the traits.
+/// Goes through the places in order, and adds to the hold those that have the traits and are won on all legs of the
+/// span, until as many are won as are wanted. It does what `add_places` does with a list of those that have the traits.
 pub(crate) fn add_wanted(
     shop: &Shop<'_>,
     desk: &mut Desk,

@@ -1,9 +1,8 @@
-use Rattle.std.proofs.Common.{◌≡◌, ℕ, ◌+◌, ◌<◌, Bool, true, false, List, length, take, drop, get_or, Option, Some, None, sym, ap, ◌∙◌, subst, arith, add-zero}
+use Rattle.std.proofs.Common.{◌≡◌, ℕ, ◌+◌, ◌<◌, true, false, List, take, drop, get_or, Some, sym, ap, ◌∙◌, subst, arith, add-zero}
 use Rattle.rail_ids.specs.declared.PlaceNo.{PlaceNo}
 use Rattle.place_map.specs.declared.coach.Place.{Place}
 use Rattle.place_map.specs.ByClass.{has_traits}
 use Rattle.claim_rule.proofs.Out.{endings_same, endings_then}
-use Rattle.hold_core.specs.declared.tries.Outcome.{Outcome}
 use Rattle.hold_core.specs.declared.tries.Outcome.TheVariants.{Won, Refused, Contended}
 use Rattle.hold_core.proofs.Adding.{TriedSettled, tried_none, tried_last, has_room}
 use Rattle.reservation_service.proofs.WantedTries.{passing, passing_at, wanted_next, wanted_same, tried_so, let_be_so, wanted_won, wanted_contended}

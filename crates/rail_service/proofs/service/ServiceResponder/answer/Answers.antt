@@ -12,18 +12,18 @@ use Rattle.rail_service.specs.Responding.{view_of}
 use Rattle.rail_service.proofs.Replying.{reading_of, answer_by}
 use Rattle.rail_service.proofs.service.ServiceResponder.answer.Goals as goal
 
-pub returns-in-Ok-clause-answers : goal.returns-in-Ok-clause-answers
-returns-in-Ok-clause-answers g c =
+pub returns-clause-answers : goal.returns-clause-answers
+returns-clause-answers g c =
     let cat = c.args.self.now.cat.now in
     let did = c.perform.ensures.answer in
     let first = c.args.self.now.first in
     let request = request_text c.args.intake.now.taken c.args.request.now in
     let may = c.admit-admitted.ensures.value ∙ ap (λ (retailer : Option RetailerNo). admitted first retailer) c.retailer_of-retailer.ensures.value in
-    let asks = subst (λ (a : Result RetailerNo Problem). AsksAdmitted cat request a (Ok (c.in-Ok.retailer, c.in-Ok.command))) may c.in-Ok.ensures.asks in
+    let asks = subst (λ (a : Result RetailerNo Problem). AsksAdmitted cat request a (Ok (c.in-Ok.asked.0, c.in-Ok.asked.1))) may c.in-Ok.ensures.asks in
     record {
       answer = answer_by cat (view_of g.C.Clock.told c.args.self.now) (request_text c.args.intake.now.taken c.args.request.now) _ _ c.now-now.result did.0
           c.requires.ready.own.legal (reading_of _ _ _ c.now-now.ensures.first c.now-now.ensures.rest)
-          (Ok (c.in-Ok.retailer, c.in-Ok.command), asks, (did.1, did.2))
+          (Ok (c.in-Ok.asked.0, c.in-Ok.asked.1), asks, (did.1, did.2))
           (did.4 ∙ ap (λ (last : Bool). reply_bytes cat last did.0) c.requires.last)
           (c.first_after-self.ensures.value ∙ ap (λ (retailer : Option RetailerNo). first_after c.args.self.now.first retailer) c.retailer_of-retailer.ensures.value)
           c.perform.ensures.idle c.perform.ensures.no_item;
