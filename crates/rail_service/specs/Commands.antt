@@ -13,7 +13,8 @@ abbrev pub Says : CatalogueView → ℕ → ℕ → Result order.Ordered Problem
 Says cat retailer now o old new said =
     (reply : Reply) × AnswersBy cat retailer now o old new reply × BooksBy cat now o old new reply × (said ≡ reply_told cat reply)
 
--- what the desk had seen begins what it has seen, and it stays with its number and with the desks that it has parted and joined
+-- what the desk had seen begins what it has seen, and it stays with its number and with the desks that it has parted
+-- and joined
 pub record GoesOn (old new : DeskView) : Type 0 where
   pub front : IsPrefix old.seen new.seen
   pub number : new.number ≡ old.number

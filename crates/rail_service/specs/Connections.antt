@@ -22,8 +22,8 @@ use Rattle.rail_service.specs.Sparing.{SparesBookings}
 use Rattle.rail_service.specs.Refusals.{problem_of_wire}
 use Rattle.rail_service.specs.Serving.{retailer_of, first_after, AnswersRequest}
 
--- what a connection's service stands at: its desk, the retailer of its first known key, and the clock's readings to come, where the
--- clock tells them
+-- what a connection's service stands at: its desk, the retailer of its first known key, and the clock's readings to
+-- come, where the clock tells them
 pub record ServiceView : Type 0 where
   pub desk : DeskView
   pub first : Option RetailerNo
@@ -60,8 +60,8 @@ refusals_of cat = λ service fault written. written ≡ reply_bytes cat true (pr
 abbrev pub NeverDouble : DeskView → Type 0
 NeverDouble desk = (history : List Entry) → IsPrefix history desk.seen → NoDouble (state_of desk.layout history)
 
--- The bytes written are the replies to the requests of the bytes taken, in order, each by the desk's own entries, in one legal history
--- that begins with what the desk had seen and holds of the desk nothing else.
+-- The bytes written are the replies to the requests of the bytes taken, in order, each by the desk's own entries, in
+-- one legal history that begins with what the desk had seen and holds of the desk nothing else.
 pub record IsServed (cat : CatalogueView) (before after : ServiceView) (taken : List ℕ) (told : Option (List ℕ)) (written : List ℕ) (end : ConnEnd) : Type 0 where
   pub answered : IsEnd (answers_of cat) (refusals_of cat) before after taken told written end
   pub steps : List Step

@@ -17,7 +17,8 @@ abbrev pub Binds : ListenerView → ℕ → ListenerView → Bound → Type 0
 Binds old port new Ready = new ≡ record old { port = port }
 Binds old port new NotBound = new ≡ old
 
--- an accept hands out one stream more below the limit, or changes nothing. It answers Closed exactly where the limit is reached
+-- an accept hands out one stream more below the limit, or changes nothing. It answers Closed exactly where the limit is
+-- reached
 abbrev pub Accepts : {I O : Type 0} → ListenerView → ListenerView → Accepted I O → Type 0
 Accepts old new (Stream waiting) = (old.handed < old.limit) × (new ≡ record old { handed = old.handed + 1 })
 Accepts old new Failed = (old.handed < old.limit) × (new ≡ old)
@@ -44,7 +45,8 @@ Reaches {L} becomes (suc n) first last = (next : L) × becomes first next × Rea
 abbrev pub Handing : Type 1
 Handing = Option (List ℕ) → Option (List ℕ) → Type 0
 
--- what a call shows that hands out a stream: the one that was called, what the stream's source and its sink told, and the one behind the call
+-- what a call shows that hands out a stream: the one that was called, what the stream's source and its sink told, and
+-- the one behind the call
 abbrev pub HandingBy : Type 0 → Type 1
 HandingBy L = L → Option (List ℕ) → Option (List ℕ) → L → Type 0
 

@@ -21,7 +21,8 @@ use Rattle.rail_service.specs.Refusals.{problem_of_wire}
 use Rattle.rail_service.specs.Serving.{retailer_of, first_after, AsksFor}
 use Rattle.rail_service.specs.Connections.{ServiceView, ConnectionView, IsReading}
 
--- what a connection's host stands at: its list of bookings, the retailer of its first known key, and the clock's readings to come
+-- what a connection's host stands at: its list of bookings, the retailer of its first known key, and the clock's
+-- readings to come
 pub record PlainView : Type 0 where
   pub plain : Plain
   pub first : Option RetailerNo
@@ -59,7 +60,8 @@ plain_answers_of cat = λ before request written after. IsPlainAnswer cat before
 abbrev pub plain_refusals_of : CatalogueView → Refusing PlainView
 plain_refusals_of cat = λ host fault written. written ≡ reply_bytes cat true (problem (problem_of_wire fault))
 
--- How a connection of such a host ended: without memory to begin with, and nothing done, or with its requests answered from the list.
+-- How a connection of such a host ended: without memory to begin with, and nothing done, or with its requests answered
+-- from the list.
 abbrev pub IsOneThread : CatalogueView → PlainView → PlainView → List ℕ → Option (List ℕ) → List ℕ → ConnEnd → Type 0
 IsOneThread cat before after taken told written end =
     ((end ≡ NoMemory) × (taken ≡ []) × (written ≡ []))

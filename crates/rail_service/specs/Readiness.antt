@@ -6,7 +6,8 @@ use Rattle.claim_rule.specs.Desks.{IsOf}
 use Rattle.claim_rule.specs.Out.{IsIdle}
 use Rattle.rail_service.specs.Paths.{Rows, all_rows}
 
--- the books have the catalogue's places and rows, the desk is of these books with nothing out, and the router has the paths
+-- the books have the catalogue's places and rows, the desk is of these books with nothing out, and the router has the
+-- paths
 pub record IsReady (cat : CatalogueView) (books : BooksView) (rows : Rows) (desk : DeskView) : Type 0 where
   pub own : IsOf books desk
   pub idle : IsIdle desk

@@ -54,12 +54,13 @@ AsksAdmitted cat request (Err p) asked = asked ≡ Err p
 AsksAdmitted cat request (Ok retailer) asked =
     (found : Result Route Problem) × FindsRoute request.method request.path found × AsksAt cat retailer request.body found asked
 
--- What a request asks for, on a connection with this first retailer so far: a retailer's command, or why it asks for none, by its key,
--- by its route and last by its body.
+-- What a request asks for, on a connection with this first retailer so far: a retailer's command, or why it asks for
+-- none, by its key, by its route and last by its body.
 abbrev pub AsksFor : CatalogueView → Option RetailerNo → RequestText → Result (RetailerNo × Command) Problem → Type 0
 AsksFor cat first request asked = AsksAdmitted cat request (admitted first (retailer_of cat request)) asked
 
--- what was asked is carried out, and a booking has all its places or none; or the request is refused, with no step of the desk
+-- what was asked is carried out, and a booking has all its places or none; or the request is refused, with no step of
+-- the desk
 abbrev pub AnswersAsked : CatalogueView → ℕ → Result (RetailerNo × Command) Problem → DeskView → DeskView → Reply → Type 0
 AnswersAsked cat now (Ok a) old new reply = Answers cat a.0.0 now a.1 old new reply × BooksAllOrNone cat now a.1 old new reply
 AnswersAsked cat now (Err p) old new reply = DoesNothing old new × (reply ≡ problem p)

@@ -60,8 +60,8 @@ fn read(
     }
 }
 
-/// What a request asks for, where its retailer may ask: a retailer's command, or why it asks for none. No memory is taken
-/// before a body is read.
+/// What a request asks for, where its retailer may ask: a retailer's command, or why it asks for none. No memory is
+/// taken before a body is read.
 pub fn asked(
     room: &mut BodyRoom,
     cat: &Catalogue,

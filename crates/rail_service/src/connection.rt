@@ -49,15 +49,15 @@ fn serve<S: Source, K: Sink, C: Clock>(
     run_session(intake, source, sink, service)
 }
 
-/// Serves one connection at a desk of the books: its requests are read from the source, each is answered at the clock's next reading, and
-/// the answers are written to the sink, until an end.
+/// Serves one connection at a desk of the books: its requests are read from the source, each is answered at the clock's
+/// next reading, and the answers are written to the sink, until an end.
 ///
-/// All memory of the wire and of the routes is taken first; where there is none, the end is `NoMemory`, and nothing is read, written or
-/// done. Later want of memory is answered 500, and changes no booking's fate.
+/// All memory of the wire and of the routes is taken first; where there is none, the end is `NoMemory`, and nothing is
+/// read, written or done. Later want of memory is answered 500, and changes no booking's fate.
 ///
 /// Where source and sink don't tell their bytes, as those of a socket don't, `served` names none that came or went:
-/// what is left of it there is safety (the desk's entries are those of some requests, answered in order, and no place is
-/// sold twice), beside the cause of each end.
+/// what is left of it there is safety (the desk's entries are those of some requests, answered in order, and no place
+/// is sold twice), beside the cause of each end.
 pub fn serve_connection<S: Source, K: Sink, C: Clock>(
     alloc: Global,
     cat: &Catalogue,
@@ -80,12 +80,14 @@ pub fn serve_connection<S: Source, K: Sink, C: Clock>(
         (connection_at desk.old (C.told clock.old) (S.told source.old) (K.told sink.old))
         (connection_at desk.new (C.told clock.new) (S.told source.new) (K.told sink.new)) result }
 
-    // At a desk that is alone, whatever it has done, they are those of a host of one thread, which begins with the desk's bookings.
+    // At a desk that is alone, whatever it has done, they are those of a host of one thread, which begins with the
+    // desk's bookings.
     ensures one_thread { IsAlone desk.old → ServesAlone cat.now
         (connection_at desk.old (C.told clock.old) (S.told source.old) (K.told sink.old))
         (connection_at desk.new (C.told clock.new) (S.told source.new) (K.told sink.new)) result }
 
-    // A device's failure is the end where its count of faults rose in this call, and at every other end that count is as it was.
+    // A device's failure is the end where its count of faults rose in this call, and at every other end that count is
+    // as it was.
     ensures read_cause { result ≡ ReadFault → Rose (S.faults source.old) (S.faults source.new) }
     ensures write_cause { result ≡ WriteFault → Rose (K.faults sink.old) (K.faults sink.new) }
     ensures read_steady { (result ≡ ReadFault → ⊥) → S.faults source.new ≡ S.faults source.old }

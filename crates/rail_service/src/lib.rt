@@ -1,8 +1,9 @@
 //! The service of one connection, and where connections come from.
 //!
-//! A listener always tells its port, its limit and how many streams it has handed out, and counts its failures: it answers
-//! `Failed` only where that count rose in the call. Each stream that it hands out stands in a `Waiting`, which can't be dropped, and
-//! `serve_waiting` alone spends it: no stream that was handed out is dropped unserved. `ListListener` stands in memory.
+//! A listener always tells its port, its limit and how many streams it has handed out, and counts its failures: it
+//! answers `Failed` only where that count rose in the call. Each stream that it hands out stands in a `Waiting`, which
+//! can't be dropped, and `serve_waiting` alone spends it: no stream that was handed out is dropped unserved.
+//! `ListListener` stands in memory.
 #![tactic(auto)]
 
 mod answering;

@@ -37,15 +37,17 @@ pub trait Listener {
     /// Its port, its limit, and how many streams it has handed out.
     ghost told: { Self → ListenerView };
 
-    /// How often it has failed. The count stands still at the last value of 64 bits, and at every call that doesn't fail.
+    /// How often it has failed. The count stands still at the last value of 64 bits, and at every call that doesn't
+    /// fail.
     ghost faults: { Self → ℕ };
 
-    /// That one call made the second listener of the first. Who knows nothing of a listener but this trait can show that of it only by a
-    /// call.
+    /// That one call made the second listener of the first. Who knows nothing of a listener but this trait can show
+    /// that of it only by a call.
     ghost becomes: { Self → Self → Type 0 };
 
-    /// That an accept handed out a stream: the listener before it, what the stream's source and its sink told, and the listener behind it.
-    /// Who knows nothing of a listener but this trait can show that of it only by an accept that gave such a stream.
+    /// That an accept handed out a stream: the listener before it, what the stream's source and its sink told, and the
+    /// listener behind it. Who knows nothing of a listener but this trait can show that of it only by an accept that
+    /// gave such a stream.
     ghost hands: { HandingBy Self };
 
     /// Listens at a port, from 1 to 65,535, from now on. Ready sets the port alone.

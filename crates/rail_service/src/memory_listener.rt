@@ -7,8 +7,8 @@ use rail_io::{BytesSource, VecSink};
 use std::alloc::Global;
 use std::collections::VecDeque;
 
-/// Hands out listed byte streams, each with a sink of its own. `fails` lists the calls of bind and accept that are to fail,
-/// counted together from 1. An accept below the limit fails as well where no stream is left.
+/// Hands out listed byte streams, each with a sink of its own. `fails` lists the calls of bind and accept that are to
+/// fail, counted together from 1. An accept below the limit fails as well where no stream is left.
 #[derive(Drop)]
 pub struct ListListener {
     alloc: Global,

@@ -16,8 +16,8 @@ use rail_io::{Clock, Sink, Source};
 use session_loop::ConnEnd;
 use std::alloc::Global;
 
-/// A stream that a listener handed out and that isn't served yet. It can't be dropped: whoever has it has to spend it, which only
-/// `serve_waiting` does. Contracts see its source and its sink.
+/// A stream that a listener handed out and that isn't served yet. It can't be dropped: whoever has it has to spend it,
+/// which only `serve_waiting` does. Contracts see its source and its sink.
 pub struct Waiting<I, O> {
     input: I,
     output: O,
@@ -53,8 +53,8 @@ pub struct Finished<I, O> {
     pub output: O,
 }
 
-/// Serves the connection of a stream that was handed out, at a desk of the books, as `serve_connection` does over the stream's source and
-/// sink, and hands both back beside the connection's end. This call alone spends a waiting stream.
+/// Serves the connection of a stream that was handed out, at a desk of the books, as `serve_connection` does over the
+/// stream's source and sink, and hands both back beside the connection's end. This call alone spends a waiting stream.
 pub fn serve_waiting<I: Source, O: Sink, C: Clock>(
     alloc: Global,
     cat: &Catalogue,
@@ -76,12 +76,14 @@ pub fn serve_waiting<I: Source, O: Sink, C: Clock>(
         (connection_at desk.old (C.told clock.old) (I.told waiting.input) (O.told waiting.output))
         (connection_at desk.new (C.told clock.new) (I.told result.input) (O.told result.output)) result.end }
 
-    // At a desk that is alone, whatever it has done, they are those of a host of one thread, which begins with the desk's bookings.
+    // At a desk that is alone, whatever it has done, they are those of a host of one thread, which begins with the
+    // desk's bookings.
     ensures one_thread { IsAlone desk.old → ServesAlone cat.now
         (connection_at desk.old (C.told clock.old) (I.told waiting.input) (O.told waiting.output))
         (connection_at desk.new (C.told clock.new) (I.told result.input) (O.told result.output)) result.end }
 
-    // A device's failure is the end where its count of faults rose in this call, and at every other end that count is as it was.
+    // A device's failure is the end where its count of faults rose in this call, and at every other end that count is
+    // as it was.
     ensures read_cause { result.end ≡ ReadFault → Rose (I.faults waiting.input) (I.faults result.input) }
     ensures write_cause { result.end ≡ WriteFault → Rose (O.faults waiting.output) (O.faults result.output) }
     ensures read_steady { (result.end ≡ ReadFault → ⊥) → I.faults result.input ≡ I.faults waiting.input }

@@ -61,8 +61,8 @@ party_at cat o row items s = record {
   candidates = candidates_in cat o s;
 }
 
--- Places were added for this segment to a hold of the row that had these items: as for a party where that was asked for, which sits apart only
--- where each stretch of the candidates was spoilt; else one by one
+-- Places were added for this segment to a hold of the row that had these items: as for a party where that was asked
+-- for, which sits apart only where each stretch of the candidates was spoilt; else one by one
 abbrev pub AddsSegment : CatalogueView → OfferView → Bool → RowNo → List Item → Segment → Placing → List Item → DeskView → DeskView → Type 0
 AddsSegment cat o false row items s placing won old new =
     (answer : Added) × (placing ≡ placing_of answer)
@@ -72,9 +72,10 @@ AddsSegment cat o true row items s placing won old new =
     × ShapeBy (SeatsParty (party_at cat o row (length items) s) answer won) old new
     × ShapeBy (SpoilsAll (party_at cat o row (length items) s) answer) old new
 
--- From a hold of the row with `items` to one with `all`: places are added for each segment in order. That ends early at a
--- segment that doesn't get all its places, of which those that were won stay on the hold; or at one for which there is no
--- memory, and at which nothing is done. Memory is taken only for passengers who want traits and are to sit together.
+-- From a hold of the row with `items` to one with `all`: places are added for each segment in order. That ends early at
+-- a segment that doesn't get all its places, of which those that were won stay on the hold; or at one for which there
+-- is no memory, and at which nothing is done. Memory is taken only for passengers who want traits and are to sit
+-- together.
 abbrev pub PlacesAll : CatalogueView → OfferView → Bool → RowNo → List Item → List Segment → Placing → List Item → DeskView → DeskView → Type 0
 PlacesAll cat o together row items [] placing all old new = (placing ≡ Whole) × (all ≡ items) × (new ≡ old)
 PlacesAll cat o together row items (s ∷ rest) placing all old new =
@@ -106,8 +107,8 @@ abbrev pub In : ℕ → List ℕ → Type 0
 In p [] = ⊥
 In p (q ∷ rest) = (p ≡ q) ⊎ In p rest
 
--- the items of so many passengers at a segment: each has a place of the candidates, all of these are different, and at each in turn there
--- are exactly the pieces of the segment's span
+-- the items of so many passengers at a segment: each has a place of the candidates, all of these are different, and at
+-- each in turn there are exactly the pieces of the segment's span
 pub record AreOf (s : Segment) (count : ℕ) (candidates : List ℕ) (items : List Item) : Type 0 where
   pub places : List ℕ
   pub many : length places ≡ count

@@ -44,8 +44,8 @@ Prebooks cat retailer now o together old new reply =
     × Shape mid new (detail_notes row.row (detail_of cat o retailer now) (length items) ++ Seal row.row phase.Prebooked ∷ [])
     × (reply ≡ created row (made_view phase.Prebooked (detail_of cat o retailer now) items))
 
--- No row was free or could be started again; or there were too few places for a segment, or one was contended, or no memory to go on, and what was held is given
--- back
+-- No row was free or could be started again; or there were too few places for a segment, or one was contended, or no
+-- memory to go on, and what was held is given back
 abbrev pub FailsToHold : CatalogueView → OfferView → Bool → DeskView → DeskView → Reply → Type 0
 FailsToHold cat o together old new reply =
     (FindsNoRow old new × (reply ≡ problem RowsFull))
@@ -58,7 +58,8 @@ abbrev pub Falters : CatalogueView → OfferView → Bool → DeskView → DeskV
 Falters cat o together old new =
     (row : RowNo) × (items : List Item) × (mid : DeskView) × HoldsPlaces cat o together o.segments row Whole items old mid × GivesUp row items mid new
 
--- all places were added to a hold of the row, and then the detail noted; and this is told of the booking that it will be
+-- all places were added to a hold of the row, and then the detail noted; and this is told of the booking that it will
+-- be
 abbrev pub MakesReady : CatalogueView → ℕ → ℕ → OfferView → Bool → RowNo → List Item → DeskView → DeskView → Told → Type 0
 MakesReady cat retailer now o together row items old new said =
     (mid : DeskView) × PlacesAll cat o together row [] o.segments Whole items old mid

@@ -27,12 +27,13 @@ use osdm_texts::{Problem, Reply, Success, Written, write_reply};
 use place_map::Class;
 use shop::{Asker, Shop};
 
-/// Books the places of an offer for a retailer (OSDM's prebooking): one for each passenger at each segment, or none. Where they are to
-/// sit together, they sit apart at a segment only where each stretch of its candidates had a place with a leg that was taken or contended when
-/// it was looked at or tried.
+/// Books the places of an offer for a retailer (OSDM's prebooking): one for each passenger at each segment, or none.
+/// Where they are to sit together, they sit apart at a segment only where each stretch of its candidates had a place
+/// with a leg that was taken or contended when it was looked at or tried.
 ///
-/// The booking can be confirmed from the asker's moment on for the time that the catalogue gives. The books have the catalogue's places,
-/// each segment's run holds its span, and there are one to eight passengers and one to three segments.
+/// The booking can be confirmed from the asker's moment on for the time that the catalogue gives. The books have the
+/// catalogue's places, each segment's run holds its span, and there are one to eight passengers and one to three
+/// segments.
 pub fn book_offer(
     shop: &Shop<'_>,
     desk: &mut Desk,
@@ -76,15 +77,15 @@ pub struct Reservation {
     pub count: u8,
     /// The traits that each place has, as a mask.
     pub traits: u8,
-    /// Whether the places are to lie side by side. They lie apart only where each stretch of places had one with a leg that was taken or
-    /// contended when it was looked at or tried.
+    /// Whether the places are to lie side by side. They lie apart only where each stretch of places had one with a leg
+    /// that was taken or contended when it was looked at or tried.
     pub together: bool,
 }
 
 /// Reserves places of one segment, without an offer.
 ///
-/// It is the booking of an offer of this segment alone, made at the asker's moment, with all passengers as adults. The books have the
-/// catalogue's places, the segment's run holds its span, and the count is one to eight.
+/// It is the booking of an offer of this segment alone, made at the asker's moment, with all passengers as adults. The
+/// books have the catalogue's places, the segment's run holds its span, and the count is one to eight.
 pub fn reserve_places(
     shop: &Shop<'_>,
     desk: &mut Desk,

@@ -10,8 +10,8 @@ use offer_engine::price_of_offer;
 use rail_catalogue::Catalogue;
 use shop::Asker;
 
-/// The detail of a booking of the offer that is made at the asker's moment: its retailer, the sum of the prices of its segments, and the moment up to which
-/// it can be confirmed. There are one to eight passengers.
+/// The detail of a booking of the offer that is made at the asker's moment: its retailer, the sum of the prices of its
+/// segments, and the moment up to which it can be confirmed. There are one to eight passengers.
 pub fn detail_for(cat: &Catalogue, offer: &OfferCode, asker: Asker) -> Detail
     requires party { is_party offer.now.adults offer.now.children ≡ true }
     ensures detail { result ≡ detail_of cat.now (offer_view offer.now) asker.retailer.0 asker.moment }
