@@ -61,7 +61,7 @@ abbrev pub with_plain : HeadScan → ℕ → HeadScan
 with_plain scan zero = scan
 with_plain scan (suc n) = record scan { at = scan.at + suc n; line_empty = false; carriage = false }
 
--- the bytes from one place up to another tell no lines apart
+-- the bytes from one place up to another are behind CR in value: none ends a line, or is part of an empty one
 abbrev pub ArePlain : List ℕ → ℕ → ℕ → Type 0
 ArePlain bytes from at = (k : ℕ) → from ≤ k → k < at → 13 < slice_index bytes k
 

@@ -34,7 +34,7 @@ impl Named {
     }
 }
 
-/// Whether the names are the same, without regard to ASCII case. It stands apart, since it is called for each name.
+/// Whether the names are the same, without regard to ASCII case. It stands apart, since it is called in many places.
 #[inline(never)]
 pub fn same_name(a: &[u8], b: &[u8]) -> bool
     ensures { result ≡ same_name a.now b.now }

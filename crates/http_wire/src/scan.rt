@@ -55,9 +55,9 @@ fn behind(at: usize, byte: u8) -> Option<Found>
     Some(Found { at, byte })
 }
 
-/// The byte behind those at the place and after it that tell no lines apart, if it isn't the piece's end. A step is
-/// one byte looked at: each of them once, and the one found. Two are looked at in a turn, so that a byte costs less;
-/// a last one is found, whatever it is.
+/// The byte behind those at the place and after it that are behind CR in value; `None` where all are, up to the piece's
+/// end. A step is one byte looked at: each of them once, and the one found. Two are looked at in a turn, so that a byte
+/// costs less; where one is left over at the end, it is found, whatever it is.
 fn past_plain<L: Ledger>(piece: &[u8], from: usize, steps: &mut Steps<L>) -> Option<Found>
     requires { from ≤ length piece.now }
     ensures found { IsFoundFrom piece.now from result }

@@ -101,7 +101,7 @@ pub struct Notes {
 }
 
 impl Notes {
-    /// Notes what one more line says. Most names have none of these lengths.
+    /// Notes what one more line says. Its name is compared with the one of its length alone.
     fn note(&mut self, head: &[u8], line: HeaderSpan)
         requires { IsHeaderWithin (length head.now) line }
         ensures notes { self.new ≡ with_line head.now self.old line }

@@ -1,4 +1,4 @@
-//! Answers of HTTP/1.1 (RFC 9112) that tell what the services answered.
+//! Answers of HTTP/1.1 (RFC 9112) with a small text: to a sweep, and those that refuse.
 ghost use Rattle.std.specs.Prelude.{◌≡◌, ◌++◌, IsTrue, false};
 ghost use Rattle.serde_json.specs.Written.{compact_text};
 ghost use Rattle.http_wire.specs.Answers.{is_status, head_text};
