@@ -187,6 +187,9 @@ def main():
             said, status = run_page("docs/retailers.md", program, name, change=with_trial)
         found = list(faults_of_life(said, status)) + list(missing([r"run=fault proved=no"], said))
     elif sys.argv[2:] == ["--operators"]:
+        if not shutil.which("nginx"):
+            print("pages: %s needs nginx: apt-get install nginx" % OPERATORS)
+            return 1
         tried, found = OPERATORS, list(faults_of_page(program, OPERATORS, 0, OPERATION))
     else:
         tried, found = "docs/retailers.md at %d clocks and over serve, and %d pages more" % (len(CLOCKS), len(PLAIN_PAGES)), list(faults_of_retailers(program))
