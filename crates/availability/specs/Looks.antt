@@ -8,7 +8,8 @@ use Rattle.claim_rule.specs.Rule.{DeskView}
 use Rattle.claim_rule.specs.Calls.{ShapeBy}
 use Rattle.claim_rule.specs.Desks.{Shape}
 
--- one look at each of the pieces at a place, in order, and whether all the words that they showed are free on their piece
+-- one look at each of the pieces at a place, in order, and whether all the words that they showed are free on their
+-- piece
 abbrev pub LooksPieces : ℕ → List Interval → Bool → List Step → Type 0
 LooksPieces place [] free es = (free ≡ true) × (es ≡ [])
 LooksPieces place (piece ∷ rest) free es =

@@ -1,7 +1,7 @@
 //! Which places are free on legs of their run, as looks of this call show it.
 //!
-//! Each call looks at each piece of the legs at each place once, in the order of the list. What it answers is what those looks showed: between two of them
-//! other desks may take and give.
+//! Each call looks at each piece of the legs at each place once, in the order of the list. What it answers is what
+//! those looks showed: between two of them other desks may take and give.
 #![tactic(auto)]
 
 mod looks;

@@ -58,8 +58,8 @@ pub fn free_in_row(books: &Books, desk: &mut Desk, first: PlaceNo, count: u32, s
     free_by_fours(books, desk, first.0, count, &parts)
 }
 
-/// Whether each of the places was free on all legs of the span, by one look at each piece of the span at each place in order,
-/// half 0 first. The memory is taken before the first look: where there is none, the desk has made no step.
+/// Whether each of the places was free on all legs of the span, by one look at each piece of the span at each place in
+/// order, half 0 first. The memory is taken before the first look: where there is none, the desk has made no step.
 ///
 /// Each place is one of the books.
 pub fn place_states(
@@ -136,8 +136,8 @@ impl Parts {
     }
 }
 
-// How many of so many places from the first one up are free. Inlined, since behind a reference the parts would be loaded
-// again at each look.
+// How many of so many places from the first one up are free. Inlined, since behind a reference the parts would be
+// loaded again at each look.
 #[inline(always)]
 fn free_one_by_one(books: &Books, desk: &mut Desk, first: u32, count: u32, parts: &Parts) -> u32
     requires own { IsOf books.now desk.old }
@@ -156,8 +156,8 @@ fn free_one_by_one(books: &Books, desk: &mut Desk, first: u32, count: u32, parts
     free
 }
 
-// The same, but from one multiple of four to another four places are looked at in each turn. There no place's number needs to
-// be worked out again at its look, since none of them can be past the greatest one.
+// The same, but from one multiple of four to another four places are looked at in each turn. There no place's number
+// needs to be worked out again at its look, since none of them can be past the greatest one.
 #[inline(always)]
 fn free_by_fours(books: &Books, desk: &mut Desk, first: u32, count: u32, parts: &Parts) -> u32
     requires own { IsOf books.now desk.old }

@@ -28,12 +28,12 @@ pub fn keep_row(desk: &mut Desk, hold: Hold)
     desk.keep(hold);
 }
 
-/// A hold without items: on the desk's kept row where it keeps one, else on the first free row in rising number, else on
-/// the first row whose ended booking gives way to the next generation.
+/// A hold without items: on the desk's kept row where it keeps one, else on the first free row in rising number, else
+/// on the first row whose ended booking gives way to the next generation.
 ///
-/// `None` only where in what the desk has then seen no row is free, the desk kept none, and each row showed in this call no
-/// ended booking before the last generation, or another word when it was tried. A desk remembers up to which row all are
-/// taken, and looks for a free one from there: no row is ever free again.
+/// `None` only where in what the desk has then seen no row is free, the desk kept none, and each row showed in this
+/// call no ended booking before the last generation, or another word when it was tried. A desk remembers up to which
+/// row all are taken, and looks for a free one from there: no row is ever free again.
 pub fn start_hold(books: &Books, desk: &mut Desk) -> Option<Hold>
     requires own { IsOf books.now desk.old }
     requires none { HoldsNone desk.old }

@@ -1,8 +1,8 @@
 //! Booking rows as a desk's calls see them: started, noted, sealed, kept, turned, read and closed.
 //!
-//! Each call says which entries of its own it adds to what its desk has seen, by its answer, and in which state it leaves the desk's
-//! hold and ending. A row is started and turned by one compare and exchange on its phase word, so of all turns of a booking from
-//! one phase the first decides.
+//! Each call says which entries of its own it adds to what its desk has seen, by its answer, and in which state it
+//! leaves the desk's hold and ending. A row is started and turned by one compare and exchange on its phase word, so of
+//! all turns of a booking from one phase the first decides.
 //!
 //! No call takes memory, and none waits.
 #![tactic(auto)]

@@ -14,7 +14,8 @@ use leg_masks::write_item;
 use rail_ids::{RetailerNo, RowNo};
 use rail_time::Moment;
 
-/// What a maker notes of a booking beside its items: its retailer, its limit of confirmation, and its total in minor units.
+/// What a maker notes of a booking beside its items: its retailer, its limit of confirmation, and its total in minor
+/// units.
 #[derive(Clone, Copy, Debug, PartialEq, Eq)]
 pub struct Detail {
     pub retailer: RetailerNo,
@@ -58,8 +59,8 @@ pub fn note_item(books: &Books, desk: &mut Desk, hold: &mut Hold)
     books.step_note(desk, hold, FIRST_ITEM_WORD as u8 + last as u8, word);
 }
 
-/// Notes retailer, limit, total and the number of items. Where there is an item, all items are noted and the total is in
-/// range, the hold may then be sealed.
+/// Notes retailer, limit, total and the number of items. Where there is an item, all items are noted and the total is
+/// in range, the hold may then be sealed.
 pub fn note_detail(books: &Books, desk: &mut Desk, hold: &mut Hold, detail: Detail)
     requires own { IsOf books.now desk.old }
     requires hold { IsHolding desk.old hold.old }
@@ -77,8 +78,8 @@ pub fn note_detail(books: &Books, desk: &mut Desk, hold: &mut Hold, detail: Deta
     books.step_note(desk, hold, COUNT_WORD, count);
 }
 
-/// Seals the hold's row, where its items and its detail are noted. As confirmed only where the row is the successor of a booking that
-/// this desk turned to an exchange. It can't fail, since nobody else changes a row in the making.
+/// Seals the hold's row, where its items and its detail are noted. As confirmed only where the row is the successor of
+/// a booking that this desk turned to an exchange. It can't fail, since nobody else changes a row in the making.
 pub fn seal(books: &Books, desk: &mut Desk, hold: Hold, sealed: Sealed) -> RowNo
     requires own { IsOf books.now desk.old }
     requires hold { IsHolding desk.old hold }

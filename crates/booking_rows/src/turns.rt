@@ -47,7 +47,8 @@ pub enum Turned {
     Won,
     /// The row is ending, and its items are read.
     Ending(Ending),
-    /// The row's word showed another phase than the one that the turn was to start from, or another generation: then `Free`.
+    /// The row's word showed another phase than the one that the turn was to start from, or another generation: then
+    /// `Free`.
     Lost { shown: Phase },
 }
 
@@ -123,11 +124,11 @@ impl Aim {
     }
 }
 
-/// Turns a booking from this phase. In what the desk has seen it is sealed, and the turn is one that may be; for an ending
-/// the desk has none out, and a successor is the booking of its hold.
+/// Turns a booking from this phase. In what the desk has seen it is sealed, and the turn is one that may be; for an
+/// ending the desk has none out, and a successor is the booking of its hold.
 ///
-/// `Won` for a confirmation and a fulfilment, `Ending` for the rest; `Lost` exactly where word 0 of the row showed another
-/// phase, or another generation, of which it shows this booking as free.
+/// `Won` for a confirmation and a fulfilment, `Ending` for the rest; `Lost` exactly where word 0 of the row showed
+/// another phase, or another generation, of which it shows this booking as free.
 pub fn turn(books: &Books, desk: &mut Desk, row: RowNo, from: Phase, to: Aim) -> Turned
     requires own { IsOf books.now desk.old }
     requires turn { MayAim books.now.layout desk.old row from to }

@@ -28,8 +28,8 @@ use rail_ids::{RetailerNo, RowNo};
 use rail_time::Moment;
 use std::marker::Model;
 
-/// How a booking ended: its amount in minor units, when, and its successor. Of a refund the amount is what was paid back, of an
-/// exchange what the new booking cost more, and else 0.
+/// How a booking ended: its amount in minor units, when, and its successor. Of a refund the amount is what was paid
+/// back, of an exchange what the new booking cost more, and else 0.
 #[derive(Clone, Copy, Debug, PartialEq, Eq)]
 pub struct EndView {
     pub amount: i64,

@@ -1,4 +1,5 @@
--- Items that are taken one by one: the words that they leave, and the least place where one meets an item that was there.
+-- Items that are taken one by one: the words that they leave, and the least place where one meets an item that was
+-- there.
 use Rattle.std.proofs.Common.{◌≡◌, ◌≢◌, ◌⊎◌, ⊎_elim, ℕ, ◌+◌, ◌*◌, ◌<◌, ◌≤◌, min, Bool, true, false, bit_and, bit_or, nat_eq, List, [], ◌∷◌, ◌++◌, length, map, append_assoc, append-nil, Option, Some, None, cond, get_or, set, length-set, get_or-set_same, get_or-set_other, IfSome, IfNone, refl, sym, ap, ◌∙◌, subst, arith, slice_index}
 use Rattle.std.specs.List.{AllByRecursion}
 use Rattle.std.proofs.lemmas.Bool.{cases_eq, cases_lt, cases_Bool, eqb-true, eq-eqb}

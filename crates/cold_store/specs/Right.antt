@@ -36,8 +36,8 @@ AreClear i j = i.place ≡ j.place → ¬ Meet (span_of i) (span_of j)
 abbrev pub AreClearAt : ℕ → SaidItem → SaidItem → Type 0
 AreClearAt place i j = i.place ≡ place → j.place ≡ place → ¬ Meet (span_of i) (span_of j)
 
--- An end of this kind, where the booking has this limit, that a turn could have given. An exchange has a successor, and no other
--- end has one
+-- An end of this kind, where the booking has this limit, that a turn could have given. An exchange has a successor, and
+-- no other end has one
 pub record IsEndIn (kind : EndKind) (limit : ℕ) (end : SaidEnd) : Type 0 where
   pub moment : end.moment ≤ last_moment
   pub amount : IsAmountOf kind end.amount

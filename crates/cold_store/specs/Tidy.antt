@@ -27,8 +27,8 @@ HasSuccessor s b =
 abbrev pub AreSucceeded : State → Type 0
 AreSucceeded s = AllByRecursion (HasSuccessor s) s
 
--- The desks are between two calls of the service: none is ending a booking, and what one makes has no items. Each exchange of theirs has its
--- new booking, and so has each that the books opened with.
+-- The desks are between two calls of the service: none is ending a booking, and what one makes has no items. Each
+-- exchange of theirs has its new booking, and so has each that the books opened with.
 pub record IsTidyWall (w : WallView) : Type 0 where
   pub none_ending : AllByRecursion (λ b. (kind : EndKind) → b.phase ≡ Ending kind → ⊥) (state_on w)
   pub empty : AllByRecursion (λ b. b.phase ≡ Making → b.items ≡ []) (state_on w)

@@ -42,7 +42,8 @@ pub struct Follows {
 }
 
 /// What the lines so far come to: the words of the books, as long as no line was wrong; which rows have a line, and
-/// which a successor; the row of the first line that is wrong by itself; and the least place where live bookings overlap.
+/// which a successor; the row of the first line that is wrong by itself; and the least place where live bookings
+/// overlap.
 #[derive(Drop)]
 pub(crate) struct Draft {
     pub(crate) places: u32,

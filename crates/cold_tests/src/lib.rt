@@ -1,5 +1,5 @@
-//! Tests of exports and imports: the worked texts, the faults, and desks that were given up in the middle. A room of its own, so that
-//! `cold_store` is proved once, without tests.
+//! Tests of exports and imports: the worked texts, the faults, and desks that were given up in the middle. A room of
+//! its own, so that `cold_store` is proved once, without tests.
 #![tactic(auto)]
 
 #[cfg(test)]

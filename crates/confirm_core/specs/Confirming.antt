@@ -22,8 +22,8 @@ FindsTerms rows row retailer None es = IsUnknown rows row retailer (SawTerms row
 FindsTerms rows row retailer (Some t) es =
     (row.row < rows) × (is_sealed t.shown ≡ true) × ((last : ℕ) × IsKept row last × (es ≡ saw_terms row t.shown retailer t.limit last))
 
--- the same looks, of which the last shows that the row wasn't given away; prebooked they are followed by a turn only where now isn't
--- after the limit
+-- the same looks, of which the last shows that the row wasn't given away; prebooked they are followed by a turn only
+-- where now isn't after the limit
 abbrev pub SawInTime : RowNo → ℕ → ℕ → ℕ → Phase → List Step → Type 0
 SawInTime row retailer now limit was es =
     (was ≡ Prebooked → now ≤ limit) × ((last : ℕ) × IsKept row last × (es ≡ saw_terms row was retailer limit last))

@@ -21,8 +21,8 @@ use row_decisions::{is_sealed, look_phase, look_word};
 pub enum Confirmed {
     /// The booking is confirmed by this call.
     Done,
-    /// The row is past the last, or its look shows the booking free, in the making, or another retailer's; or the second look, or the
-    /// lost turn of this call, shows it free.
+    /// The row is past the last, or its look shows the booking free, in the making, or another retailer's; or the
+    /// second look, or the lost turn of this call, shows it free.
     Unknown,
     /// The look shows the booking prebooked, and now is after its limit.
     TooLate { limit: Moment },

@@ -17,8 +17,8 @@ use row_decisions::find_owned;
 pub enum Fulfilment {
     /// The ticket is collected by this call.
     Done,
-    /// The row is past the last, or its look shows the booking free, in the making, or another retailer's; or the second look, or the
-    /// lost turn of this call, shows it free.
+    /// The row is past the last, or its look shows the booking free, in the making, or another retailer's; or the
+    /// second look, or the lost turn of this call, shows it free.
     Unknown,
     /// The look, or the lost turn of this call, shows another phase than confirmed, and no look shows it free.
     WrongState { shown: Phase },

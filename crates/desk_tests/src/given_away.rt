@@ -51,8 +51,8 @@ fn give_away(rt: &impl Abort, books: &Books, desk: &mut Desk, row: RowNo) -> Row
     book(rt, books, desk, PlaceNo(0), leg, moment(rt, 900))
 }
 
-// The first desk looks at a booking. The second gives its row away, and then the first confirms the booking: the phase that it showed
-// where the turn is lost, and the row's next booking.
+// The first desk looks at a booking. The second gives its row away, and then the first confirms the booking: the phase
+// that it showed where the turn is lost, and the row's next booking.
 fn confirm_late(
     rt: &impl Abort,
     books: &Books,
@@ -84,8 +84,8 @@ fn confirm_late(
     }
 }
 
-/// A booking whose row another desk has ended and started again is seen no more, and no turn of it is won. Where no row is free the next
-/// booking is on the row that was ended, in its next generation.
+/// A booking whose row another desk has ended and started again is seen no more, and no turn of it is won. Where no row
+/// is free the next booking is on the row that was ended, in its next generation.
 #[test]
 fn another_desk_starts_the_row_again(rt: HostRuntime) -> Result<(), Fail> {
     let (books, mut first, mut second) = two_desks(rt.alloc())?;

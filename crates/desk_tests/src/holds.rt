@@ -38,8 +38,8 @@ fn takes_all_or_none(rt: HostRuntime) -> Result<(), Fail> {
     Ok(())
 }
 
-// Places 0 and 1 of 126 legs, leg 63 of place 0 taken: legs 62 and 63 are taken at place 1, an item in each half, and both words
-// of place 0 are as before.
+// Places 0 and 1 of 126 legs, leg 63 of place 0 taken: legs 62 and 63 are taken at place 1, an item in each half, and
+// both words of place 0 are as before.
 #[test]
 fn takes_both_halves(rt: HostRuntime) -> Result<(), Fail> {
     let alloc = rt.alloc();

@@ -132,8 +132,8 @@ pub(crate) fn moment(rt: &impl Abort, seconds: u64) -> Moment
     }
 }
 
-/// Each of two desks books, and neither wins a row where none is free. After they met, the first sees the second's booking, and of two
-/// turns from its phase the first decides.
+/// Each of two desks books, and neither wins a row where none is free. After they met, the first sees the second's
+/// booking, and of two turns from its phase the first decides.
 #[test]
 fn two_desks_by_part(rt: HostRuntime) -> Result<(), Fail> {
     let front = span(&rt, 0, 1);
@@ -179,7 +179,8 @@ fn two_desks_by_part(rt: HostRuntime) -> Result<(), Fail> {
     Ok(())
 }
 
-// Looks at a row and turns it from prebooked to confirmed, at the first of all moments: the phase that it showed where the turn is lost.
+// Looks at a row and turns it from prebooked to confirmed, at the first of all moments: the phase that it showed where
+// the turn is lost.
 fn confirm_first(rt: &impl Abort, books: &Books, desk: &mut Desk, row: RowNo) -> Option<Phase>
     requires own { IsOf books.now desk.old }
     requires row { row.row < books.now.layout.rows }
@@ -236,7 +237,8 @@ fn try_on(
     try_take(books, desk, hold, PlaceNo(0), span, expected)
 }
 
-// The second desk takes legs between the first one's look at the place and its try, which is told the word that it finds.
+// The second desk takes legs between the first one's look at the place and its try, which is told the word that it
+// finds.
 fn contend(
     rt: &impl Abort,
     books: &Books,
@@ -294,8 +296,8 @@ fn start(rt: &impl Abort, books: &Books, desk: &mut Desk) -> Hold
     start_hold(books, desk).expect(rt, "a row")
 }
 
-/// A try on a word that moved on names the word found, and the next try on that word is won. What is undone leaves no leg taken, and the
-/// rows stay in the making.
+/// A try on a word that moved on names the word found, and the next try on that word is won. What is undone leaves no
+/// leg taken, and the rows stay in the making.
 #[test]
 fn undone_beside_another_desk(rt: HostRuntime) -> Result<(), Fail> {
     let (books, mut first, mut second) = two_desks(rt.alloc())?;

@@ -1,4 +1,5 @@
--- The law of a drill's totals: whatever the threads did, over the eight legs the lesser of the requests for the leg and the places is sold.
+-- The law of a drill's totals: whatever the threads did, over the eight legs the lesser of the requests for the leg and
+-- the places is sold.
 use Rattle.std.proofs.Common.{◌≡◌, ◌∙◌, ◌+◌, ◌*◌, ◌<◌, ◌≤◌, ◌⊎◌, inl, inr, ℕ, zero, suc, List, [], ◌∷◌, Bool, false, min, length, replicate, refl, sym, ap, subst, ⊎_elim, arith}
 use Rattle.std.specs.List.{AllByRecursion}
 use Rattle.std.proofs.lemmas.Bool.{cases_eq, cases_lt}
@@ -185,8 +186,8 @@ module _ (g : Layout) (history : List Entry) (seed size workers places : ℕ) (o
     none_busy = all_none_busy places final seed size 0 outcomes settled;
   }
 
--- Let the workers' entries in a legal history be those of their requests, the first desk's be its meetings, and no other desk have any. Then the
--- live bookings and the outcomes are those of a whole count.
+-- Let the workers' entries in a legal history be those of their requests, the first desk's be its meetings, and no
+-- other desk have any. Then the live bookings and the outcomes are those of a whole count.
 pub law : (g : Layout) (history : List Entry) (seed size workers places : ℕ) (outcomes : List (List Outcome))
     → g.legs ≡ replicate places drill_legs → g.rows ≡ drill_rows → g.opening ≡ []
     → size ≤ 2000 → workers ≤ 16 → IsLegal g history

@@ -52,7 +52,8 @@ StartsWith first (b ∷ text) = b ≡ first
 abbrev pub has : ℕ → List ℕ → Bool
 has byte line = list_any (λ a. a == byte) line
 
--- A line with a byte that the text lacks doesn't begin it; nor does it go on behind it, where only a byte that the line lacks comes next.
+-- A line with a byte that the text lacks doesn't begin it; nor does it go on behind it, where only a byte that the line
+-- lacks comes next.
 cut : (stop first : ℕ) (line text rest : List ℕ) → has stop line ≡ true → has first line ≡ false → AllByRecursion (λ b. (stop == b) ≡ false) text
     → StartsWith first rest → begins line (text ++ rest) ≡ false
 cut stop first [] text rest stops lacks h starts = cc

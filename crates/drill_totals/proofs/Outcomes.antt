@@ -81,7 +81,8 @@ among : (P : Step → Type 0) (st : Step) (sts : List Step) → AllByRecursion P
 among P st [] all found = absurd found
 among P st (e ∷ es) all found = ⊎_elim (λ (is : e ≡ st). subst P is all.0) (λ (more : Among st es). among P st es all.1 more) found
 
--- as many looks at one place as may be, each unlike the one before and free on one leg, don't come about: with each the place has a leg more
+-- as many looks at one place as may be, each unlike the one before and free on one leg, don't come about: with each the
+-- place has a leg more
 
 -- k of the looks are over, and these are left
 record Waits (s : State) (p l : ℕ) (shown : List ℕ) (k : ℕ) : Type 0 where

@@ -15,6 +15,7 @@ asked_at_7 = refl
 sold_of_160 : most_sold 7 160 30 ≡ 90
 sold_of_160 = refl
 
--- of 32000 requests from number 0 on, legs 0, 1 and 4 are asked for more often than there are places, and no other leg is asked for
+-- of 32000 requests from number 0 on, legs 0, 1 and 4 are asked for more often than there are places, and no other leg
+-- is asked for
 sold_of_32000 : most_sold 0 32000 1200 ≡ 3600
 sold_of_32000 = refl

@@ -17,7 +17,8 @@ use Rattle.row_decisions.specs.Ends.{ends_as}
 use Rattle.expiry_sweeper.specs.declared.rows.RowSwept.{RowSwept}
 use Rattle.expiry_sweeper.specs.declared.rows.RowSwept.TheVariants as came
 
--- what looks at a booking showed that the first showed prebooked: its generation, its limit, and word 0 of its row again
+-- what looks at a booking showed that the first showed prebooked: its generation, its limit, and word 0 of its row
+-- again
 pub record SeenPrebooked : Type 0 where
   pub generation : ℕ
   pub limit : ℕ

@@ -1,7 +1,7 @@
 //! Ending bookings whose limit of confirmation has passed.
 //!
-//! A sweep looks at every row. A row that it saw prebooked with a limit before now it turns by one exchange, so that a confirmation
-//! that comes first wins; and it gives all legs of each row that it expired back.
+//! A sweep looks at every row. A row that it saw prebooked with a limit before now it turns by one exchange, so that a
+//! confirmation that comes first wins; and it gives all legs of each row that it expired back.
 //!
 //! No call takes memory, and none waits.
 #![tactic(auto)]

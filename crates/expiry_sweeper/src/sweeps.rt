@@ -11,8 +11,9 @@ use booking_rows::Swept;
 use claim_rule::{Books, Desk};
 use rail_time::Moment;
 
-/// Looks at every row, in rising number, and expires those bookings seen prebooked with a limit before now. A row whose last look shows
-/// that it was given away meanwhile is in no count. The desk has no ending out. At most 105 entries are added for each row.
+/// Looks at every row, in rising number, and expires those bookings seen prebooked with a limit before now. A row whose
+/// last look shows that it was given away meanwhile is in no count. The desk has no ending out. At most 105 entries are
+/// added for each row.
 pub fn sweep(books: &Books, desk: &mut Desk, now: Moment) -> Swept
     requires own { IsOf books.now desk.old }
     requires none { EndsNone desk.old }

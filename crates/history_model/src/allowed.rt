@@ -100,7 +100,8 @@ fn may_seal_as(bookings: &[BookingRow], desk: u32, b: &BookingRow, phase: Phase)
     }
 }
 
-/// Whether the row's booking is the desk's in the making, with all that a seal asks of it, and may be sealed in the phase.
+/// Whether the row's booking is the desk's in the making, with all that a seal asks of it, and may be sealed in the
+/// phase.
 pub(crate) fn may_seal(bookings: &[BookingRow], desk: u32, row: u32, phase: Phase) -> bool
     ensures { IsTrue result ↔ OnRow bookings.now row (IsSealableAs bookings.now desk phase) }
 {

@@ -1,14 +1,16 @@
 //! The booking machine: what a booking is, which atomic step may come when, and what a legal history is.
 //!
 //! A booking stands in a row, where it is of a generation: each row serves one booking after another, and its present
-//! one is that of the highest generation. A booking has an owner, a phase, items (spans at places), the words of its row
-//! and an end. A state is a list of bookings. An entry is a desk's step: one atomic operation on one word of the host's table. It is allowed
-//! in a state or it isn't, and an allowed one makes the next state. A history is a list of entries, and legal where each
-//! is allowed after those before it. These definitions stand in `specs/`, and everything above speaks of them.
+//! one is that of the highest generation. A booking has an owner, a phase, items (spans at places), the words of its
+//! row and an end. A state is a list of bookings. An entry is a desk's step: one atomic operation on one word of the
+//! host's table. It is allowed in a state or it isn't, and an allowed one makes the next state. A history is a list of
+//! entries, and legal where each is allowed after those before it. These definitions stand in `specs/`, and everything
+//! above speaks of them.
 //!
 //! `list_host::ListHost` is the plain program that computes them. The functions of `laws` say what holds of every legal
-//! history: no two live bookings share a place on a leg, an owner alone changes what it owns, a booking's phases go only
-//! forward, of all turns from one phase the first decides, and an ended booking has given back what it was sealed with.
+//! history: no two live bookings share a place on a leg, an owner alone changes what it owns, a booking's phases go
+//! only forward, of all turns from one phase the first decides, and an ended booking has given back what it was sealed
+//! with.
 #![tactic(auto)]
 
 mod allowed;

@@ -69,8 +69,8 @@ impl ListHost {
         }
     }
 
-    /// Applies an entry: `NotAllowed` exactly where it is not allowed in the present list, `NoMemory` only at a start or
-    /// a take. After either the list is as before.
+    /// Applies an entry: `NotAllowed` exactly where it is not allowed in the present list, `NoMemory` only at a start
+    /// or a take. After either the list is as before.
     pub fn apply(&mut self, entry: Entry) -> Result<(), ApplyFault>
         ensures not_allowed { (result ≡ Err ApplyFault.NotAllowed) ↔ (¬ IsAllowedIn self.old entry) }
         ensures allowed { OnOk result (IsAllowedIn self.old entry) }
@@ -94,8 +94,8 @@ impl ListHost {
         Ok(())
     }
 
-    /// The occupied legs of a half of a place as bits, by a look at every booking. Half 0 has legs 0 to 62, half 1 legs 63
-    /// to 125.
+    /// The occupied legs of a half of a place as bits, by a look at every booking. Half 0 has legs 0 to 62, half 1 legs
+    /// 63 to 125.
     pub fn occupied(&self, place: PlaceNo, half: u8) -> u64
         requires half { half < halves }
         ensures word { result ≡ place_word self.now.bookings place.0 half }

@@ -12,8 +12,8 @@ IsChangedByAnother g history place half desk entries =
     (front : List Entry) × (change : Entry) × (back : List Entry) × (entries ≡ front ++ change ∷ back) × (change.desk ≢ desk)
     × (place_word (state_of g ((history ++ front) ++ change ∷ [])) place half ≢ place_word (state_of g (history ++ front)) place half)
 
--- after this history the entries hold the desk's looks at this half of the place, which show these words in turn; between each two neighbouring looks
--- stands an entry of another desk that changes the word
+-- after this history the entries hold the desk's looks at this half of the place, which show these words in turn;
+-- between each two neighbouring looks stands an entry of another desk that changes the word
 abbrev pub ChangesBetween : Layout → List Entry → ℕ → ℕ → ℕ → List Entry → List ℕ → Type 0
 ChangesBetween g history place half desk entries [] = Unit {0}
 ChangesBetween g history place half desk entries (a ∷ []) = Unit {0}

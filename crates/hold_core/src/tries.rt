@@ -28,8 +28,8 @@ pub enum Outcome {
     Contended,
 }
 
-/// Tries one candidate: each piece of the span in turn, until one isn't won. Then what was won of it is given back. Inlined,
-/// so that the loop over the candidates works out a piece's half and mask once.
+/// Tries one candidate: each piece of the span in turn, until one isn't won. Then what was won of it is given back.
+/// Inlined, so that the loop over the candidates works out a piece's half and mask once.
 #[inline(always)]
 pub(crate) fn try_place(
     books: &Books,
@@ -118,9 +118,9 @@ fn try_second(
     }
 }
 
-// Looks at a piece, and takes its legs by one exchange on the very word that a look showed free there; where the word has
-// moved on and still is free, once more. Most looks of a full run show a taken leg, so what follows one that doesn't
-// stands apart.
+// Looks at a piece, and takes its legs by one exchange on the very word that a look showed free there; where the word
+// has moved on and still is free, once more. Most looks of a full run show a taken leg, so what follows one that
+// doesn't stands apart.
 #[inline(always)]
 fn try_piece(
     books: &Books,

@@ -1,10 +1,11 @@
 //! The commands of the program: their names, and what their words say.
 //!
-//! `tiny LEGS PLACES` and `settle CATALOGUE EXPORT` are read by hand. `replay CATALOGUE --start MOMENT --tick N --from EXPORT`, `export` with
-//! the same words, `drill --seed N --workers N --size N --places N` and `serve CATALOGUE --port N --workers N --connections N --sweep N
-//! --from EXPORT --export` are each read as a simple command by `clap`, and their contract is `clap`'s stated reading: the values are exactly
-//! those that it gives, and the words are refused exactly where it refuses them for another cause than memory, where a number is out of its
-//! range, or where the text of a moment is none. A wish for help or for a version is refused as well.
+//! `tiny LEGS PLACES` and `settle CATALOGUE EXPORT` are read by hand. `replay CATALOGUE --start MOMENT --tick N --from
+//! EXPORT`, `export` with the same words, `drill --seed N --workers N --size N --places N` and `serve CATALOGUE --port
+//! N --workers N --connections N --sweep N --from EXPORT --export` are each read as a simple command by `clap`, and
+//! their contract is `clap`'s stated reading: the values are exactly those that it gives, and the words are refused
+//! exactly where it refuses them for another cause than memory, where a number is out of its range, or where the text
+//! of a moment is none. A wish for help or for a version is refused as well.
 //!
 //! It is a room of its own since every command and the program above them ask it which words are meant.
 #![tactic(auto)]

@@ -12,7 +12,8 @@ pub struct SettleWords<'a> {
     pub export: &'a str,
 }
 
-/// What the words say, of which the first is `settle` itself. `None` exactly where they are other words, or more or fewer.
+/// What the words say, of which the first is `settle` itself. `None` exactly where they are other words, or more or
+/// fewer.
 pub fn read_settle(words: &[String]) -> Option<SettleWords<'_>>
     ensures some { IfSome result (λ said. IsSettle (words_texts words.now) said.catalogue.now said.export.now) }
     ensures none { IfNone result ((catalogue export : List ℕ) → IsSettle (words_texts words.now) catalogue export → ⊥) }

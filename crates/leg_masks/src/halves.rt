@@ -23,8 +23,8 @@ pub fn half_of(span: Span) -> u8
     span.from / WORD_LEGS
 }
 
-/// The parts of a span that each lie in one half, in order: the span itself where it does, else its legs in half 0 and its
-/// legs in half 1.
+/// The parts of a span that each lie in one half, in order: the span itself where it does, else its legs in half 0 and
+/// its legs in half 1.
 pub fn pieces(span: Span) -> ArrayVec<Span, 2>
     ensures value { result.items ≡ spec_pieces span }
     ensures each { AllByRecursion IsPiece result.items }

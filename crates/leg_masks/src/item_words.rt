@@ -11,7 +11,8 @@ pub fn write_item(item: Item) -> u64
     item_word_of(item.place, item.span)
 }
 
-/// The item of a word: `None` exactly where the word is no item's, as where its legs don't lie in one half. The item is the only one of that word.
+/// The item of a word: `None` exactly where the word is no item's, as where its legs don't lie in one half. The item is
+/// the only one of that word.
 pub fn read_item(word: u64) -> Option<Item>
     ensures some { IfSome result (λ item. IsItemOf item.place item.span word) }
     ensures only { IfSome result (λ item. IsWordOfNoOther item.place item.span word) }

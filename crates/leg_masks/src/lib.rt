@@ -1,10 +1,10 @@
 //! Legs of a run as bits of a word, and items as words.
 //!
-//! A run of n stops has n - 1 legs, numbered from 0, and at most 126. A place has two words, one for each half of the legs:
-//! legs 0 to 62 are the bits of the first, legs 63 to 125 those of the second. A stretch of a run lies in one half, or has
-//! a piece in each; a piece is a mask over the word of its half. What that word says of a piece is answered here: whether
-//! it is free, and if not, where it is taken first. A booking's row keeps each of its items, a piece at a place, in a word;
-//! no word is read as two items.
+//! A run of n stops has n - 1 legs, numbered from 0, and at most 126. A place has two words, one for each half of the
+//! legs: legs 0 to 62 are the bits of the first, legs 63 to 125 those of the second. A stretch of a run lies in one
+//! half, or has a piece in each; a piece is a mask over the word of its half. What that word says of a piece is
+//! answered here: whether it is free, and if not, where it is taken first. A booking's row keeps each of its items, a
+//! piece at a place, in a word; no word is read as two items.
 //!
 //! No call takes memory.
 #![tactic(auto)]

@@ -27,9 +27,9 @@ ghost use Rattle.lone_desk.specs.Decided.{IsDecided, IsFreeAt, HasClearWords, Fi
 
 /// The laws of a lone desk: a call's own steps are all that it then has seen more; each try of unlike places has one
 /// look at each piece that it comes to, and ends by what was free before it, so one place wanted of all is the least
-/// that is free; a hold starts on the row in the making, or on the least row not in use, or, where all are, on the least
-/// whose booking may be followed by another; and the words of a place are clear on the pieces of a span exactly where no
-/// item of the place that is not given back meets it.
+/// that is free; a hold starts on the row in the making, or on the least row not in use, or, where all are, on the
+/// least whose booking may be followed by another; and the words of a place are clear on the pieces of a span exactly
+/// where no item of the place that is not given back meets it.
 pub fn lone_laws()
     ensures follows { (old new : DeskView) (steps : List Step) → IsAlone old → Shape old new steps
         → Follows old new steps }

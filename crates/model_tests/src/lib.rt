@@ -1,9 +1,11 @@
-//! Tests of the booking machine's steps on a plain list of bookings (`ListHost`). A room of its own, so that the crates that it tests are
-//! proved once, without tests.
+//! Tests of the booking machine's steps on a plain list of bookings (`ListHost`). A room of its own, so that the crates
+//! that it tests are proved once, without tests.
 //!
-//! - `entries`: each kind of step once allowed and, but for a meeting, once refused, in five tables of entries, and the words of places
-//!   behind each. The words of phases, rows, items, successors and amounts, and the masks of spans stand in these tables as numbers.
-//! - `lines`: the columns of a line. A table is a text, since a table of values is proved value by value, and a text isn't.
+//! - `entries`: each kind of step once allowed and, but for a meeting, once refused, in five tables of entries, and the
+//!   words of places behind each. The words of phases, rows, items, successors and amounts, and the masks of spans
+//!   stand in these tables as numbers.
+//! - `lines`: the columns of a line. A table is a text, since a table of values is proved value by value, and a text
+//!   isn't.
 #![tactic(auto)]
 
 #[cfg(test)]

@@ -80,7 +80,8 @@ abbrev pub exchange_again : Bool → Bool → ℕ → List ℕ → Option Exchan
 exchange_again fulfilled less row (generation ∷ rest) = option_and_then (exchange_behind fulfilled less rest) (row_value row generation)
 exchange_again fulfilled less row [] = None
 
--- the exchange offer of its numbers: behind the row are seven and three for each segment, and the generation where it stands there
+-- the exchange offer of its numbers: behind the row are seven and three for each segment, and the generation where it
+-- stands there
 abbrev pub exchange_from : Bool → Bool → List ℕ → Option ExchangeView
 exchange_from fulfilled less (row ∷ ns) = if length ns % 3 == 2 then exchange_again fulfilled less row ns else option_and_then (exchange_behind fulfilled less ns) (row_value row 0)
 exchange_from fulfilled less [] = None

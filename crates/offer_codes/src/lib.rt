@@ -1,8 +1,8 @@
 //! The ids of offers and of quotes, as retailers see them.
 //!
-//! An id spells all that the host needs to know of what it offered, so nothing is kept until it is booked. Each value has
-//! one spelling. A reader gives a value exactly where the text is the spelling of one, and then that one; a writer gives
-//! the spelling. No call takes memory.
+//! An id spells all that the host needs to know of what it offered, so nothing is kept until it is booked. Each value
+//! has one spelling. A reader gives a value exactly where the text is the spelling of one, and then that one; a writer
+//! gives the spelling. No call takes memory.
 #![tactic(auto)]
 
 mod code;

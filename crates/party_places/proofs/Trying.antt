@@ -21,7 +21,8 @@ use Rattle.party_places.specs.Searches.{Looked, places_looked, Finds, FindsAt, F
 use Rattle.party_places.specs.Parties.{Party, EndsTries, Fails, GivesUpAt, Loses, SeatsFrom, SitsApart, TakesEach, answer_apart}
 use Rattle.party_places.proofs.Rows.{same_parts}
 
--- the tries that failed so far, of which the last left these candidates: what follows from these on is what follows from the first
+-- the tries that failed so far, of which the last left these candidates: what follows from these on is what follows
+-- from the first
 pub record Tried (g : Party) (start now : DeskView) (here : List ℕ) : Type 0 where
   pub steps : List Step
   pub seen : Shape start now steps

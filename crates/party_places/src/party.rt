@@ -22,8 +22,8 @@ use rail_ids::PlaceNo;
 pub enum PartyAdded {
     /// As many as were asked for are won, side by side; this is the first of them.
     Together { first: PlaceNo },
-    /// As many as were asked for are won, as `add_places` wins them. Each stretch of the candidates had a place with a leg
-    /// that was taken or contended when it was looked at or tried.
+    /// As many as were asked for are won, as `add_places` wins them. Each stretch of the candidates had a place with a
+    /// leg that was taken or contended when it was looked at or tried.
     Apart,
     /// Fewer places were won by this call, and every other candidate showed it a taken leg of the span.
     NoPlace { won: u8 },
@@ -64,14 +64,14 @@ fn behind(candidates: &[PlaceNo], from: usize) -> &[PlaceNo]
 /// Adds to the hold `count` of the candidates for the span, side by side if a stretch is found free and won: in one
 /// coach, each with the number one above the one before.
 ///
-/// It looks at the candidates in order, once at each piece of the span, until `count` of them in a row stand side by side
-/// and showed free. Those are taken one by one, each as `add_places` takes it. Where one isn't won, what was won is given
-/// back, and the next try begins behind that place. Where the list ends, places are added of all candidates, as by
-/// `add_places`.
+/// It looks at the candidates in order, once at each piece of the span, until `count` of them in a row stand side by
+/// side and showed free. Those are taken one by one, each as `add_places` takes it. Where one isn't won, what was won
+/// is given back, and the next try begins behind that place. Where the list ends, places are added of all candidates,
+/// as by `add_places`.
 ///
-/// The candidates are places of one run in rising number, all of these books. `count` is at least 1, and the hold's items
-/// and those of `count` places are together at most 48. A hold keeps what it won: after `NoPlace` and `Contended` the
-/// caller abandons it.
+/// The candidates are places of one run in rising number, all of these books. `count` is at least 1, and the hold's
+/// items and those of `count` places are together at most 48. A hold keeps what it won: after `NoPlace` and `Contended`
+/// the caller abandons it.
 pub fn add_party(
     places: &PlaceMap,
     books: &Books,

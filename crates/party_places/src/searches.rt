@@ -56,8 +56,8 @@ fn grown(together: u8, is_free: bool, follows: bool) -> u8
     }
 }
 
-// Looks at the candidates in order, until the last `count` of them stand side by side and showed free: how many it looked
-// at.
+// Looks at the candidates in order, until the last `count` of them stand side by side and showed free: how many it
+// looked at.
 pub(crate) fn find_stretch(
     places: &PlaceMap,
     books: &Books,

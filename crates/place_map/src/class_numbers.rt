@@ -72,8 +72,8 @@ fn push_numbers(numbers: &mut Vec<PlaceNo>, from: usize, count: usize) -> Result
     Ok(())
 }
 
-/// The numbers from the first to before the end. They stand from the one guess to the other, where these are right; else
-/// they are found by two binary searches.
+/// The numbers from the first to before the end. They stand from the one guess to the other, where these are right;
+/// else they are found by two binary searches.
 pub(crate) fn numbers_between(
     numbers: &[PlaceNo],
     first: usize,

@@ -343,7 +343,8 @@ fn first_repeat(places: &[Place], fresh: &[Place]) -> Option<Place>
     None
 }
 
-// Whether the fresh places are of one coach that none of the others has, in rising number: then none of them stood before.
+// Whether the fresh places are of one coach that none of the others has, in rising number: then none of them stood
+// before.
 fn are_apart(places: &[Place], fresh: &[Place]) -> bool
     ensures { result ≡ true → first_repeat_of places.now fresh.now ≡ None }
 {

@@ -12,8 +12,8 @@ use std::str;
 /// that isn't 0.
 pub type BookingId = ArrayVec<u8, 17>;
 
-/// The one spelling of a booking's id: `B`, then the row's number in decimal digits, with zeros before it up to six, and
-/// for a further booking of the row `-` and its generation.
+/// The one spelling of a booking's id: `B`, then the row's number in decimal digits, with zeros before it up to six,
+/// and for a further booking of the row `-` and its generation.
 pub fn write_booking_id(row: RowNo) -> BookingId
     requires generation { row.generation ≤ last_generation }
     ensures spelling { result.items ≡ booking_id_text row.row row.generation }

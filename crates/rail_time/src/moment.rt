@@ -66,11 +66,11 @@ impl Moment {
     }
 }
 
-/// The moment of a text of RFC 3339 with any offset, as the instant reader of `jiff` reads it. A fraction of a second is
-/// cut off downwards.
+/// The moment of a text of RFC 3339 with any offset, as the instant reader of `jiff` reads it. A fraction of a second
+/// is cut off downwards.
 ///
-/// `NotAMoment` comes exactly where that reader refuses the text, and `OutOfYears` exactly where the whole seconds are not
-/// those of a moment. No memory is taken.
+/// `NotAMoment` comes exactly where that reader refuses the text, and `OutOfYears` exactly where the whole seconds are
+/// not those of a moment. No memory is taken.
 pub fn read_moment(_alloc: Global, text: &str) -> Result<Moment, MomentFault>
     ensures { result ≡ moment_of text.now }
 {

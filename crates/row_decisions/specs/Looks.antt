@@ -19,7 +19,8 @@ SawPhase row phase es = (n : ℕ) × (phase_shown row.generation n ≡ phase) ×
 abbrev pub IsKept : RowNo → ℕ → Type 0
 IsKept row last = phase_shown row.generation last ≢ Free
 
--- the looks at a booking that the first shows sealed: at its retailer; and at its limit too. The last one is at word 0 again
+-- the looks at a booking that the first shows sealed: at its retailer; and at its limit too. The last one is at word 0
+-- again
 abbrev pub saw_owner : RowNo → Phase → ℕ → ℕ → List Step
 saw_owner row phase retailer last =
     saw_phase row phase ∷ SawRow row.row retailer_word retailer ∷ SawRow row.row standing_word last ∷ []
@@ -36,8 +37,8 @@ HasWordAt desk row w n = OnBooking (state_seen desk) row (λ b. n ≡ word_at b 
 abbrev pub HasLimit : DeskView → RowNo → ℕ → Type 0
 HasLimit desk row limit = OnBooking (state_seen desk) row (λ b. (is_sealed b.phase ≡ true) × (limit_of b ≡ limit))
 
--- No booking of this retailer. The row is past the last, or the first look shows the booking free or in the making; or, as `Saw`
--- shows, the last look shows it free, or its retailer is another
+-- No booking of this retailer. The row is past the last, or the first look shows the booking free or in the making; or,
+-- as `Saw` shows, the last look shows it free, or its retailer is another
 abbrev pub IsUnknown : ℕ → RowNo → ℕ → (Phase → ℕ → ℕ → List Step → Type 0) → List Step → Type 0
 IsUnknown rows row retailer Saw es =
     ((rows ≤ row.row) × (es ≡ []))

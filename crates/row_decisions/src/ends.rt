@@ -33,8 +33,9 @@ pub fn finish_end(books: &Books, desk: &mut Desk, mut ending: Ending)
     close_end(books, desk, ending);
 }
 
-/// Turns a booking from this phase to an end, gives all of its items back, and closes its row. `Some` is the phase that its row
-/// showed it exactly where that was another than this one, free where the row was given away: then nothing else is done.
+/// Turns a booking from this phase to an end, gives all of its items back, and closes its row. `Some` is the phase that
+/// its row showed it exactly where that was another than this one, free where the row was given away: then nothing else
+/// is done.
 pub fn end_row(books: &Books, desk: &mut Desk, row: RowNo, from: Phase, to: Aim) -> Option<Phase>
     requires own { IsOf books.now desk.old }
     requires turn { MayAim books.now.layout desk.old row from to }

@@ -55,8 +55,9 @@ pub fn look_word(books: &Books, desk: &mut Desk, row: RowNo, word: u8) -> u64
     books.step_read(desk, row, word)
 }
 
-/// The phase of this retailer's booking, by looks at its phase, its retailer and its phase again. `None` exactly where the row is
-/// past the last, the first look shows the booking free or in the making, the last one free, or its retailer is another.
+/// The phase of this retailer's booking, by looks at its phase, its retailer and its phase again. `None` exactly where
+/// the row is past the last, the first look shows the booking free or in the making, the last one free, or its retailer
+/// is another.
 pub fn find_owned(books: &Books, desk: &mut Desk, row: RowNo, retailer: RetailerNo) -> Option<Phase>
     requires own { IsOf books.now desk.old }
     ensures own { IsOf books.now desk.new }

@@ -15,7 +15,8 @@ pub struct SlowSink {
 }
 
 impl SlowSink {
-    /// An empty sink, of which a write takes at most `size` bytes. Write number `fails` fails, counted from 1; none where it is 0.
+    /// An empty sink, of which a write takes at most `size` bytes. Write number `fails` fails, counted from 1; none
+    /// where it is 0.
     pub fn new(alloc: Global, size: usize, fails: u64) -> Self {
         SlowSink {
             bytes: Vec::new(alloc),

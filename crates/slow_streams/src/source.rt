@@ -14,7 +14,8 @@ pub struct SlowSource<'a> {
 }
 
 impl<'a> SlowSource<'a> {
-    /// A source of these bytes, of which a read gives at most `size`. Read number `fails` fails, counted from 1; none where it is 0.
+    /// A source of these bytes, of which a read gives at most `size`. Read number `fails` fails, counted from 1; none
+    /// where it is 0.
     pub fn new(bytes: &'a [u8], size: usize, fails: u64) -> Self {
         SlowSource {
             left: bytes,

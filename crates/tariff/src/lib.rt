@@ -1,8 +1,8 @@
 //! What travel costs and what a refund pays: prices of segments, refunds of bookings, differences of exchanges.
 //!
 //! Amounts are whole minor units of the catalogue's one currency. Each function gives exactly its formula, with each
-//! division rounded down. `Terms` holds only terms that a catalogue may have: refund steps that fall to 0, fees of at most
-//! the whole amount. Nothing here takes memory.
+//! division rounded down. `Terms` holds only terms that a catalogue may have: refund steps that fall to 0, fees of at
+//! most the whole amount. Nothing here takes memory.
 #![tactic(auto)]
 
 mod crossing;

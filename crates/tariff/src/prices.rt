@@ -3,8 +3,8 @@ ghost use Rattle.tariff.specs.Prices.{greatest_price, most_priced_legs, most_pri
 
 use crate::Fare;
 
-/// The price of these many legs of one run for all passengers. An adult pays the base and the amount for each leg; a child
-/// pays half of that, rounded down.
+/// The price of these many legs of one run for all passengers. An adult pays the base and the amount for each leg; a
+/// child pays half of that, rounded down.
 pub fn price(fare: Fare, legs: u8, adults: u8, children: u8) -> u64
     requires legs { legs ≤ most_priced_legs }
     requires passengers { adults + children ≤ most_priced_passengers }

@@ -133,9 +133,9 @@ fn fee(steps: &[RefundStep], seconds_before: u64) -> u32
     0
 }
 
-/// What a refund pays of a total, this many seconds before the first departure: the total less the fee of the first step
-/// whose `before` is at most `seconds_before`, rounded down, and for a collected ticket also less the ticket fee, though
-/// never below 0.
+/// What a refund pays of a total, this many seconds before the first departure: the total less the fee of the first
+/// step whose `before` is at most `seconds_before`, rounded down, and for a collected ticket also less the ticket fee,
+/// though never below 0.
 pub fn refund_value(terms: &Terms, total: u64, seconds_before: u64, fulfilled: bool) -> u64
     requires { total ≤ 99_999_999_999 }
     ensures value { result ≡ refund_of terms.now total seconds_before fulfilled }
@@ -150,8 +150,8 @@ pub fn refund_value(terms: &Terms, total: u64, seconds_before: u64, fulfilled: b
     }
 }
 
-/// What a retailer owes for an exchange: the new total and the exchange fee, less what the old booking's refund pays. Less
-/// than 0 is paid back.
+/// What a retailer owes for an exchange: the new total and the exchange fee, less what the old booking's refund pays.
+/// Less than 0 is paid back.
 pub fn exchange_difference(terms: &Terms, refund: u64, new_total: u64) -> i64
     requires refund { refund ≤ 99_999_999_999 }
     requires new_total { new_total ≤ 99_999_999_999 }
