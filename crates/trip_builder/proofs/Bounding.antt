@@ -24,12 +24,21 @@ use Rattle.trip_builder.proofs.Ways.{both_true, last_is, known_after, next_goes_
 use Rattle.trip_builder.proofs.Leaving.{is_station, leaves_there}
 use Rattle.trip_builder.proofs.Deciding.{behind_decided}
 
+-- what leads to the destination does so from its next segment
+pub leads_on : (r : RunsView) (w : TripWish) (s t : Segment) (rest : List Segment) → LeadsTo r w s (t ∷ rest) → LeadsTo r w t rest
+leads_on r w s t rest leads = record {
+  known = leads.known.1;
+  goes = (both_true (connects r (last_stop r s) t) (goes_to r w t rest) leads.goes).1;
+  before = leads.before ++ s ∷ [];
+  trip = subst (IsTrip r w) (sym (append_assoc leads.before (s ∷ []) (t ∷ rest))) leads.trip;
+}
+
 -- ---- ranks
 
 -- what leads to the destination ends with a run that has its place
 pub leading_placed : (r : RunsView) (w : TripWish) (v : RanksView) → AreRanks r w v → (s : Segment) (rest : List Segment) → LeadsTo r w s rest → IsPlaced r v (end_of s rest).run.0 (end_of s rest).span.to
 leading_placed r w v are s [] leads = are.placed s.run.0 s.span.to leads.known.0.ends (eqb-true (last_stop r s).station.0 w.destination.0 leads.goes)
-leading_placed r w v are s (t ∷ rest) leads = leading_placed r w v are t rest (record { known = leads.known.1; goes = (both_true (connects r (last_stop r s) t) (goes_to r w t rest) leads.goes).1 })
+leading_placed r w v are s (t ∷ rest) leads = leading_placed r w v are t rest (leads_on r w s t rest leads)
 
 pub unknown_precede : (r : RunsView) (w : TripWish) (v : RanksView) → AreRanks r w v → (s : Segment) (rest : List Segment) → LeadsTo r w s rest → Precede unknown (rank_of v s rest)
 unknown_precede r w v are s rest leads = let few = (leading_placed r w v are s rest leads).few in (few, (omega arith, inr (omega arith)))
@@ -106,7 +115,7 @@ pub goes_on_there : (r : RunsView) (w : TripWish) (off : Stop) (s t : Segment) (
 goes_on_there r w off s t rest is leads =
     let parts = both_true (connects r (last_stop r s) t) (goes_to r w t rest) leads.goes in
     let there : connects r off t ≡ true = subst (λ (o : Stop). connects r o t ≡ true) is parts.0 in
-    (record { known = leads.known.1; goes = parts.1 }, left_within off.station (off.arrive + change_at r off.station) (off.arrive + longest_wait) (first_stop r t) there)
+    (leads_on r w s t rest leads, left_within off.station (off.arrive + change_at r off.station) (off.arrive + longest_wait) (first_stop r t) there)
 
 -- where the two precede all that leaves the station from a moment on
 pub rest_found : (r : RunsView) (w : TripWish) (v : RanksView) (changes : ℕ) (reach : ReachView) (off : Stop) (from : ℕ) (two : FirstTwo) → IsReach r w v changes reach
@@ -241,6 +250,8 @@ trip_leads r w way s rest trip =
     record {
       known = known_after r way (s ∷ rest) trip.known;
       goes = chain_goes r w way s rest (next_goes_on r w way s rest parts.0).1 (ap (λ (x : Segment). (last_stop r x).station.0 == w.destination.0) (sym (end_is way s rest)) ∙ parts.1);
+      before = way;
+      trip = trip;
     }
 
 -- nothing arrives, or sixteen arrive before

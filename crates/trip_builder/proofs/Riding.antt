@@ -22,7 +22,7 @@ use Rattle.trip_builder.specs.Bounds.{goes_to, arrival_of}
 use Rattle.trip_builder.specs.Shortest.{ride_from, AreLowered, IsRide, AreRidesTo, AreFromDepartures, AreShortest, TakesAtLeast}
 use Rattle.trip_builder.proofs.Ways.{both_true, departs_after, trip_goes_on}
 use Rattle.trip_builder.proofs.Deciding.{behind_decided}
-use Rattle.trip_builder.proofs.Bounding.{trip_leads, end_is}
+use Rattle.trip_builder.proofs.Bounding.{trip_leads, end_is, leads_on}
 use Rattle.trip_builder.proofs.Boarding.{stop_is}
 
 -- ---- rides that are taken in
@@ -162,7 +162,7 @@ change_late r w best way n more seconds m s is takes late at (t ∷ rest) count 
     let parts = both_true (connects r off t) (goes_to r w t rest) leads.goes in
     let tests = both_true (on.station.0 == off.station.0) (nat_le (off.arrive + change_at r off.station) on.depart && nat_le on.depart (off.arrive + longest_wait)) parts.0 in
     let after = departs_after off.arrive (change_at r off.station) (off.arrive + longest_wait) on.depart (on.station.0 == off.station.0) parts.0 in
-    let low = takes t rest (omega (arith, is, count)) (record { known = leads.known.1; goes = parts.1 }) (eqb-true on.station.0 off.station.0 tests.0) in
+    let low = takes t rest (omega (arith, is, count)) (leads_on r w s t rest leads) (eqb-true on.station.0 off.station.0 tests.0) in
     too_late r best way s (t ∷ rest) m late (omega (arith, low, at, after))
 
 -- a train comes to a further stop no earlier

@@ -14,7 +14,7 @@ use Rattle.train_runs.specs.declared.departure.Departure.{Departure}
 use Rattle.train_runs.specs.declared.run.Stop.{Stop}
 use Rattle.trip_builder.specs.Segments.{stops_of, first_stop, last_stop}
 use Rattle.trip_builder.specs.Trips.{connects, leaves}
-use Rattle.trip_builder.specs.Best.{IsKnown}
+use Rattle.trip_builder.specs.Best.{IsKnown, IsTrip}
 use Rattle.trip_builder.specs.Search.{has_run}
 use Rattle.trip_builder.specs.Ends.{IsThere}
 
@@ -29,9 +29,12 @@ abbrev pub goes_to : RunsView → TripWish → Segment → List Segment → Bool
 goes_to r w s [] = (last_stop r s).station.0 == w.destination.0
 goes_to r w s (t ∷ rest) = connects r (last_stop r s) t && goes_to r w t rest
 
+-- likewise at the end of a trip of the wish, which begins with these
 pub record LeadsTo (r : RunsView) (w : TripWish) (s : Segment) (rest : List Segment) : Type 0 where
   pub known : AllByRecursion (IsKnown r) (s ∷ rest)
   pub goes : goes_to r w s rest ≡ true
+  pub before : List Segment
+  pub trip : IsTrip r w (before ++ s ∷ rest)
 
 abbrev pub end_of : Segment → List Segment → Segment
 end_of s [] = s

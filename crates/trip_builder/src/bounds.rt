@@ -12,6 +12,7 @@ use crate::departures::{Window, all_leaving, leaving, stop_of, stops_of, window_
 use crate::ends::Ends;
 use crate::probe::probed_rank;
 use crate::ranks::{FirstTwo, NO_RANK, Ranks, join};
+use crate::reached::Near;
 use crate::rides::Rides;
 use crate::trip::TripWish;
 use offer_codes::Segment;
@@ -132,8 +133,10 @@ impl Bounds {
         ensures { OnOk result (AreBounds runs.now wish.now self.new) }
     {
         let alloc = *self.levels.allocator();
+        let near = Near::of(alloc, runs, wish)?;
         for changes in 0..BOUNDED_CHANGES {
-            let rides = rides_of(alloc, runs, wish, self)?;
+            let mut rides = rides_of(alloc, runs, wish, self)?;
+            rides.leave_far(runs.station_count(), near.before(changes));
             self.narrow(alloc, runs, wish, &rides)?;
             let reach = reach_of(alloc, runs, &self.ranks, rides, changes)?;
             self.levels.push(reach)?;

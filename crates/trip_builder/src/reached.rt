@@ -1,6 +1,8 @@
-ghost use Rattle.std.specs.Prelude.{◌≡◌, ◌<◌, ◌≤◌, ◌+◌, ℕ, true, false, length, IfOk};
+ghost use Rattle.std.specs.Prelude.{◌≡◌, ◌<◌, ◌≤◌, ◌+◌, ◌-◌, ℕ, true, false, length, IfOk};
+ghost use Rattle.train_runs.specs.Runs.{RunsView};
+ghost use Rattle.trip_builder.specs.declared.trip.TripWish.{TripWish};
 ghost use Rattle.trip_builder.specs.Best.{HasNoTrip};
-ghost use Rattle.trip_builder.specs.Reached.{Hold, HoldTrain, HoldWait, AreStretched, IsRidden};
+ghost use Rattle.trip_builder.specs.Reached.{Hold, HoldTrain, HoldWait, AreStretched, IsRidden, AreReached, IsNear};
 
 use crate::departures::stops_of;
 use crate::search::MOST_SEGMENTS;
@@ -26,10 +28,10 @@ const NOT_AT_ALL: Times = Times {
     to: 0,
 };
 
-/// Where one may be after so many trains of a wish, and from when to when a train may be taken there. It may say more
+/// Where one may be after so many trains of a wish at most, and from when to when a train may be taken there. It may say more
 /// than there is: a time of change isn't asked for, nor what lies between the first moment and the last.
 #[derive(Drop)]
-struct Reached {
+pub(crate) struct Reached {
     times: Vec<Times>,
 }
 
@@ -48,7 +50,7 @@ pub(crate) fn may_arrive(alloc: Global, runs: &Runs, wish: &TripWish) -> Result<
 {
     let mut reached = Reached::at_origin(alloc, runs, wish)?;
     for _train in 0..MOST_SEGMENTS {
-        reached = reached.further(alloc, runs)?;
+        reached = reached.further(alloc, runs, wish)?;
         if reached.has(wish.destination) {
             return Ok(true);
         }
@@ -73,18 +75,45 @@ impl Reached {
         Ok(reached)
     }
 
-    // After one train more.
-    fn further(&self, alloc: Global, runs: &Runs) -> Result<Reached, AllocError>
-        ensures { IfOk result (λ reached. (run : ℕ) → IsRidden runs.now self.now reached run) }
+    // After one train more, or none.
+    fn further(&self, alloc: Global, runs: &Runs, wish: &TripWish) -> Result<Reached, AllocError>
+        ensures start { IfOk result (λ reached.
+            Hold reached wish.now.origin.0 wish.now.earliest wish.now.latest) }
+        ensures ridden { IfOk result (λ reached. (run : ℕ) → IsRidden runs.now self.now reached run) }
     {
-        let mut reached = Reached::nowhere(alloc, runs)?;
+        let mut reached = Reached::at_origin(alloc, runs, wish)?;
         reached.ride_all(runs, self);
         Ok(reached)
     }
 
+    // After two trains at most, where this is after one: nothing is left out where that is most stations already.
+    fn second(&self, alloc: Global, runs: &Runs, wish: &TripWish) -> Result<Reached, AllocError>
+        ensures { IfOk result (λ two. AreReached runs.now wish.now 1 self.now → AreReached runs.now wish.now 2 two) }
+    {
+        if self.count() > self.times.len() / 2 {
+            return Ok(Reached {
+                times: Vec::new(alloc),
+            });
+        }
+        let two = self.further(alloc, runs, wish)?;
+        Ok(two)
+    }
+
+    // How many stations one comes to.
+    fn count(&self) -> usize {
+        let mut count: usize = 0;
+        for times in self.times.as_slice() {
+            if times.from <= times.to {
+                count = count.saturating_add(1);
+            }
+        }
+        count
+    }
+
     // Notes where all runs go from there.
     fn ride_all(&mut self, runs: &Runs, before: &Reached)
-        ensures { (run : ℕ) → IsRidden runs.now before.now self.new run }
+        ensures stretched { AreStretched self.old self.new }
+        ensures ridden { (run : ℕ) → IsRidden runs.now before.now self.new run }
     {
         for run in 0..runs.count() {
             self.ride(runs, RunNo(run), before);
@@ -143,13 +172,39 @@ impl Reached {
         }
     }
 
-    // Whether one comes to the station.
-    fn has(&self, station: StationNo) -> bool
-        ensures { result ≡ false → (from to : ℕ) → Hold self.now station.0 from to → to ≡ 0 }
+    /// Whether one comes to the station.
+    pub(crate) fn has(&self, station: StationNo) -> bool
+        ensures { result ≡ false → (from to : ℕ) → Hold self.now station.0 from to → to < from }
     {
         match self.times.get(station.0 as usize) {
-            Some(times) => times.to > 0,
+            Some(times) => times.from <= times.to,
             None => true,
         }
+    }
+}
+
+/// Where one may be after one train of a wish at most, and after two.
+#[derive(Drop)]
+pub(crate) struct Near {
+    one: Reached,
+    two: Reached,
+}
+
+impl Near {
+    /// By the trains of the wish.
+    pub(crate) fn of(alloc: Global, runs: &Runs, wish: &TripWish) -> Result<Near, AllocError>
+        ensures { IfOk result (IsNear runs.now wish.now) }
+    {
+        let none = Reached::at_origin(alloc, runs, wish)?;
+        let one = none.further(alloc, runs, wish)?;
+        let two = one.second(alloc, runs, wish)?;
+        Ok(Near { one, two })
+    }
+
+    /// Where a trip may take a train that so many changes come after.
+    pub(crate) fn before(&self, changes: usize) -> &Reached
+        ensures { (r : RunsView) (w : TripWish) → IsNear r w self.now → AreReached r w (2 - changes) result.now }
+    {
+        if changes == 0 { &self.two } else { &self.one }
     }
 }

@@ -1,9 +1,11 @@
-ghost use Rattle.std.specs.Prelude.{◌≡◌, ◌<◌, ◌+◌, ◌*◌, ℕ, true, false, length, IfOk, slice_index_or};
+ghost use Rattle.std.specs.Prelude.{◌≡◌, ◌<◌, ◌+◌, ◌-◌, ◌*◌, ℕ, true, false, length, IfOk, slice_index_or};
 ghost use Rattle.train_runs.specs.Runs.{RunsView};
 ghost use Rattle.trip_builder.specs.declared.trip.TripWish.{TripWish};
 ghost use Rattle.trip_builder.specs.Bounds.{RanksView, AreRides, AreUnknown, FirstsOfRide, IsMarkedRun, LeavesLate, firsts_in};
+ghost use Rattle.trip_builder.specs.Reached.{AreReached, StayMarked};
 
 use crate::ranks::{FirstTwo, UNKNOWN};
+use crate::reached::Reached;
 use rail_ids::{RunNo, StationNo};
 use std::alloc::{AllocError, Global};
 use train_runs::Runs;
@@ -136,6 +138,14 @@ impl Rides {
         true
     }
 
+    /// Takes the marks of so many stations away where one doesn't come before.
+    pub(crate) fn leave_far(&mut self, stations: u32, reached: &Reached)
+        ensures { (r : RunsView) (w : TripWish) (v : RanksView) (changes : ℕ)
+            → AreReached r w (2 - changes) reached.now → AreRides r w v changes self.old → AreRides r w v changes self.new }
+    {
+        unmark_far(self.marks.as_mut_slice(), stations, reached);
+    }
+
     /// Whether something may leave the station that comes to the destination in time.
     pub(crate) fn is_marked(&self, station: StationNo) -> bool
         ensures { (r : RunsView) (w : TripWish) (v : RanksView) (changes : ℕ) → AreRides r w v changes self.now
@@ -148,6 +158,28 @@ impl Rides {
             Some(mark) => *mark,
             None => true,
         }
+    }
+}
+
+// Takes the marks of so many stations away where one doesn't come.
+fn unmark_far(marks: &mut [bool], stations: u32, reached: &Reached)
+    ensures { StayMarked reached.now marks.old marks.new }
+{
+    for station in 0..stations {
+        unmark(marks, StationNo(station), reached);
+    }
+}
+
+// Likewise of one station.
+fn unmark(marks: &mut [bool], station: StationNo, reached: &Reached)
+    ensures { StayMarked reached.now marks.old marks.new }
+{
+    if reached.has(station) {
+        return;
+    }
+    let place = station.0 as usize;
+    if place < marks.len() {
+        marks[place] = false;
     }
 }
 

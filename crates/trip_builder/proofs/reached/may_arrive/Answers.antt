@@ -14,7 +14,7 @@ loop-train-preserved c =
     let one : (3 - (i + 1)) + 1 ≡ 3 - i = omega (arith, high) in
     let old = c.loop-train.reached in
     let new = c.in_ok-reached-2.reached in
-    λ none. c.loop-train.invariant (subst (λ n. NoneFrom r w n old) one (none_before r w (3 - (i + 1)) old new c.in_ok-reached-2.ensures (c.has.ensures c.if-has.false) none))
+    λ none. c.loop-train.invariant (subst (λ n. NoneFrom r w n old) one (none_before r w (3 - (i + 1)) old new c.in_ok-reached-2.ensures.ridden (c.has.ensures c.if-has.false) none))
 
 pub returns : goal.returns
 returns c = λ says. c.loop-train.invariant (λ s rest few. absurd (let ended = c.loop-train-test.false in omega (arith, few, ended)))
