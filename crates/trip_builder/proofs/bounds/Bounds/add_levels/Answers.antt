@@ -14,7 +14,7 @@ loop-changes-preserved c =
     let narrow = c.narrow.new.self in
     let so = c.in_ok-narrow.ensures in
     let inside = c.self-in-loop-changes.inside in
-    let rides = c.in_ok-rides.rides in
+    let rides = c.leave_far.new.self in
     let reach = c.in_ok-reach.reach in
     let old : BoundsView = record { ranks = inside.ranks; levels = inside.levels.items } in
     let new : BoundsView = record { ranks = inside.ranks; levels = c.push.new.self.items } in
@@ -23,7 +23,8 @@ loop-changes-preserved c =
     let count = subst (λ (b : BoundsView). length b.levels ≡ changes) back size in
     let ranks = subst (λ (b : BoundsView). AreRanks r w b.ranks) back (narrowed_ranks r w wide.ranks narrow.ranks so.narrowed was.ranks) in
     let are = subst (AreBounds r w) back (narrowed_bounds r w wide narrow so was.are) in
-    let its = subst (λ n. AreRides r w wide.ranks n rides) was.count c.in_ok-rides.ensures in
+    let all = subst (λ n. AreRides r w wide.ranks n c.in_ok-rides.rides) was.count c.in_ok-rides.ensures in
+    let its = c.leave_far.ensures r w wide.ranks changes (c.before-in-loop-changes.ensures r w c.in_ok-near.ensures) all in
     let own = subst (λ (b : BoundsView). AreRides r w b.ranks changes rides) back (narrowed_rides r w wide.ranks narrow.ranks changes rides so.narrowed its) in
     let more = bounds_more r w old new reach changes refl c.in_ok-push.ensures.items count are (c.in_ok-reach.ensures w ranks own) in
     record {
