@@ -43,7 +43,8 @@ part_taken r w way station part from to first last d is here starts ends window 
       fresh = fresh;
     }
 
--- each segment that goes on from the way is a ride from one of the departures of the part in which all leave that lead to the destination
+-- each segment that goes on from the way is a ride from one of the departures of the part in which all leave that lead
+-- to the destination
 pub all_covered : (r : RunsView) (w : TripWish) (best : List (List Segment)) (way : List Segment) (more : ℕ) (station part : StationNo) (from to first last : ℕ) (ds : List Departure) (none : Departure)
     → AreLeaving r part first last ds → part ≡ station → NarrowsLeaving r w more station from to first last → ((stop : Stop) → leaves station from to stop ≡ leaves_after r w way stop)
     → ((k : ℕ) → k < length ds → (to : ℕ) → AreDecidedWith r w best way more (ride_of ds k none to)) → AreDecided r w best way more

@@ -1,4 +1,5 @@
--- The first sixteen of the trips are determined by which trips there are: the order in which they are found doesn't matter.
+-- The first sixteen of the trips are determined by which trips there are: the order in which they are found doesn't
+-- matter.
 use Rattle.std.proofs.Common.{◌≡◌, ◌∙◌, ℕ, zero, suc, ◌≤◌, ◌⊎◌, inl, inr, ⊎_elim, Bool, true, false, List, [], ◌∷◌, length, refl, sym, ap₂, subst, arith, true≢false, take, if◌then◌else◌}
 use Rattle.std.specs.List.{fold, AllByRecursion}
 use Rattle.offer_codes.specs.declared.code.Segment.{Segment}

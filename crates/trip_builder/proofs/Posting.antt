@@ -1,4 +1,5 @@
--- A board of departures: what is put behind the others, what each is told of the later ones, and what a search in it finds.
+-- A board of departures: what is put behind the others, what each is told of the later ones, and what a search in it
+-- finds.
 use Rattle.std.proofs.Common.{◌≡◌, ◌∙◌, ℕ, ◌+◌, ◌-◌, ◌<◌, ◌≤◌, ◌⊎◌, inl, inr, List, [], ◌∷◌, ◌++◌, length, length-append, refl, sym, ap, subst, arith, get_or, set, length-set, All}
 use Rattle.std.specs.List.{AllWithin}
 use Rattle.std.proofs.lemmas.Bool.{cases_lt}

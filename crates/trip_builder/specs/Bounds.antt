@@ -29,7 +29,7 @@ abbrev pub goes_to : RunsView → TripWish → Segment → List Segment → Bool
 goes_to r w s [] = (last_stop r s).station.0 == w.destination.0
 goes_to r w s (t ∷ rest) = connects r (last_stop r s) t && goes_to r w t rest
 
--- likewise at the end of a trip of the wish, which begins with these
+-- likewise as the last segments of a trip of the wish, whose first ones are those before
 pub record LeadsTo (r : RunsView) (w : TripWish) (s : Segment) (rest : List Segment) : Type 0 where
   pub known : AllByRecursion (IsKnown r) (s ∷ rest)
   pub goes : goes_to r w s rest ≡ true
@@ -127,7 +127,8 @@ pub record HasPosted (old : List Useful) (moment : ℕ) (least : FirstTwo) (new 
   pub moment_is : it.moment ≡ moment
   pub follows : Follows old least it
 
--- one of that rank leaves at this moment: it has its place, and those of its block that leave no earlier say no later one
+-- one of that rank leaves at this moment: it has its place, and those of its block that leave no earlier say no later
+-- one
 pub record IsNoted (board : List Useful) (depart rank : ℕ) : Type 0 where
   pub place : ℕ
   pub within : place < length board
@@ -253,7 +254,8 @@ PrecedeFrom boards station from two = (station < length boards)
 abbrev pub PrecedeAfter : List (List Useful) → ℕ → ℕ → FirstTwo → Type 0
 PrecedeAfter boards stations from two = (n : ℕ) → n < stations → PrecedeFrom boards n from two
 
--- what takes the run at the stop after the way, and goes on with so many changes and a last run that the way doesn't have, arrives no earlier
+-- what takes the run at the stop after the way, and goes on with so many changes and a last run that the way doesn't
+-- have, arrives no earlier
 abbrev pub BoundsRide : RunsView → TripWish → ℕ → List Segment → ℕ → ℕ → ℕ → Type 0
 BoundsRide r w changes way run stop bound = (s : Segment) (rest : List Segment) → s.run.0 ≡ run → s.span.from ≡ stop → length rest ≡ changes → LeadsTo r w s rest
     → has_run way (end_of s rest).run.0 ≡ false → IsBound bound (arrival_of r s rest)

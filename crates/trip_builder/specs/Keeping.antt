@@ -34,7 +34,8 @@ pub record IsSearch (r : RunsView) (w : TripWish) (found : Found) : Type 0 where
 
 -- ---- what can't come among the best
 
--- what begins so and has so many more segments stands behind the trip, if it arrives with it: it departs earlier, or then has more segments, or then higher ones
+-- what begins so and has so many more segments stands behind the trip, if it arrives with it: it departs earlier, or
+-- then has more segments, or then higher ones
 abbrev pub BeginsBehind : RunsView → List Segment → List Segment → ℕ → Type 0
 BeginsBehind r trip begun more = (first_departure r begun < first_departure r trip) ⊎ ((first_departure r begun ≡ first_departure r trip)
     × ((length trip < length begun + more) ⊎ ((length begun + more ≡ length trip) × (exceeds begun trip ≡ true))))

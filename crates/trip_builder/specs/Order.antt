@@ -32,7 +32,8 @@ exceeds [] trip = false
 exceeds (s ∷ begun) [] = false
 exceeds (s ∷ begun) (t ∷ trip) = if is_same t s then exceeds begun trip else is_lower t s
 
--- the one trip stands before the other: it arrives earlier, or then departs later, or then has fewer segments, or then lower ones
+-- the one trip stands before the other: it arrives earlier, or then departs later, or then has fewer segments, or then
+-- lower ones
 abbrev pub stands_before : RunsView → List Segment → List Segment → Bool
 stands_before r a b =
     if last_arrival r a == last_arrival r b then

@@ -11,7 +11,8 @@ use Rattle.trip_builder.specs.Segments.{stops_of, first_stop}
 use Rattle.trip_builder.specs.Trips.{longest_wait}
 use Rattle.trip_builder.specs.Best.{IsTrip}
 
--- the station's times go from the one moment or earlier to the other or later; where there are none for it, nothing is left out
+-- the station's times go from the one moment or earlier to the other or later; where there are none for it, nothing is
+-- left out
 abbrev pub Hold : List Times → ℕ → ℕ → ℕ → Type 0
 Hold times station from to = (none : Times) → station < length times → ((slice_index_or times station none).from ≤ from) × (to ≤ (slice_index_or times station none).to)
 
@@ -35,7 +36,7 @@ IsRidden r before after run = (j k : ℕ) → j < k → k < length (stops_of r r
 abbrev pub AreReached : RunsView → TripWish → ℕ → List Times → Type 0
 AreReached r w trains times = (way : List Segment) (s : Segment) (rest : List Segment) → length way ≤ trains → IsTrip r w (way ++ s ∷ rest) → HoldTrain times (first_stop r s)
 
--- with one train, and with two
+-- after one train at most, and after two
 pub record IsNear (r : RunsView) (w : TripWish) (near : Near) : Type 0 where
   pub one : AreReached r w 1 near.one
   pub two : AreReached r w 2 near.two

@@ -22,7 +22,8 @@ pub record IsWay (r : RunsView) (w : TripWish) (way : List Segment) : Type 0 whe
   pub known : AllByRecursion (IsKnown r) way
   pub so_far : is_way r w way ≡ true
 
--- a train may be taken at the stop after the way: as the first within the wish's window, later within that of the change
+-- a train may be taken at the stop after the way: as the first within the wish's window, later within that of the
+-- change
 abbrev pub leaves_after : RunsView → TripWish → List Segment → Stop → Bool
 leaves_after r w [] stop = leaves w.origin w.earliest w.latest stop
 leaves_after r w (s ∷ rest) stop =

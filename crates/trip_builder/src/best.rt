@@ -75,7 +75,8 @@ impl Best {
         self.limit < seconds
     }
 
-    /// Whether what begins so, has so many more segments and arrives no earlier than the bound doesn't come among the best.
+    /// Whether what begins so, has so many more segments and arrives no earlier than the bound doesn't come among the
+    /// best.
     pub(crate) fn outdo(&self, runs: &Runs, bound: u64, begun: &[Segment], more: usize) -> bool
         requires few { length begun.now + more ≤ 3 }
         ensures { (w : TripWish) → IsKept runs.now w self.now → result ≡ true

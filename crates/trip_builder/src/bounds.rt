@@ -101,8 +101,8 @@ impl Bounds {
         self.levels.len()
     }
 
-    /// The bounds of all departures. Of what arrives after the limit, or later than enough ways of the wish that were seen
-    /// while they were made, they say no more than that.
+    /// The bounds of all departures. Of what arrives after the limit, or later than enough ways of the wish that were
+    /// seen while they were made, they say no more than that.
     pub(crate) fn of(
         alloc: Global,
         runs: &Runs,
@@ -126,7 +126,8 @@ impl Bounds {
         Ok(bounds)
     }
 
-    // Adds those with each number of changes.
+    // Adds those with each number of changes. They speak of the wish's trips alone: a station that its trains don't
+    // reach needs no board.
     fn add_levels(&mut self, runs: &Runs, wish: &TripWish) -> Result<(), AllocError>
         requires ranks { AreRanks runs.now wish.now self.old.ranks }
         requires none { self.old.levels ≡ [] }

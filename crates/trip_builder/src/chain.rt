@@ -7,8 +7,8 @@ use offer_codes::Segment;
 use rail_ids::RunNo;
 use train_runs::Runs;
 
-/// Whether each of the segments but the first is reached from those before it: at the station where the one before ended, from the
-/// change time to 14,400 seconds after it, on a run that none of them has.
+/// Whether each of the segments but the first is reached from those before it: at the station where the one before
+/// ended, from the change time to 14,400 seconds after it, on a run that none of them has.
 pub fn are_connected(runs: &Runs, segments: &[Segment]) -> bool
     ensures { result ≡ are_connected_of runs.now segments.now }
 {

@@ -14,7 +14,7 @@ use step_count::Steps;
 use train_runs::{Departure, Runs, Stop};
 
 /// The longest wait between two trains, in seconds.
-const LONGEST_WAIT: u64 = 14_400;
+pub(crate) const LONGEST_WAIT: u64 = 14_400;
 
 /// Where and when a segment may depart: at a station, and in these seconds, with both ends.
 #[derive(Debug, Clone, Copy, PartialEq, Eq)]

@@ -22,9 +22,9 @@ use offer_codes::Segment;
 use std::alloc::AllocError;
 use train_runs::{Departure, Runs};
 
-/// What a search has so far: the best trips, where runs come to the destination, how short a ride there is at least, the
-/// bounds from behind once they are made, whether it is known that there is no trip, how many tries come before both, and
-/// by when what is looked at ahead arrives.
+/// What a search has so far: the best trips, where runs come to the destination, how short a ride there is at least,
+/// the bounds from behind once they are made, whether it is known that there is no trip, how many tries come before
+/// both, and by when what is looked at ahead arrives.
 #[derive(Drop)]
 pub(crate) struct Found {
     pub best: Best,

@@ -1,9 +1,9 @@
 //! The trips of a wish: how to go from one station to another with up to three trains.
 //!
-//! A trip is one to three segments on different runs. Each begins where the one before ended, after the change time of the
-//! station and at most four hours later; the first departs within the wish's window. `trips` answers exactly the first
-//! sixteen of all trips of the wish, by their last arrival, then the later first departure, then fewer segments, then
-//! their runs and stops.
+//! A trip is one to three segments on different runs. Each begins where the one before ended, after the change time of
+//! the station and at most four hours later; the first departs within the wish's window. `trips` answers exactly the
+//! first sixteen of all trips of the wish, by their last arrival, then the later first departure, then fewer segments,
+//! then their runs and stops.
 #![tactic(auto)]
 
 mod afters;

@@ -4,16 +4,13 @@ ghost use Rattle.trip_builder.specs.declared.trip.TripWish.{TripWish};
 ghost use Rattle.trip_builder.specs.Best.{HasNoTrip};
 ghost use Rattle.trip_builder.specs.Reached.{Hold, HoldTrain, HoldWait, AreStretched, IsRidden, AreReached, IsNear};
 
-use crate::departures::stops_of;
+use crate::departures::{LONGEST_WAIT, stops_of};
 use crate::search::MOST_SEGMENTS;
 use crate::trip::TripWish;
 use rail_ids::{RunNo, StationNo};
 use std::alloc::{AllocError, Global};
 use std::marker::Model;
 use train_runs::{Runs, Stop};
-
-/// The longest wait between two trains, in seconds.
-const LONGEST_WAIT: u64 = 14_400;
 
 /// From when to when a train may be taken at a station.
 #[derive(Clone, Copy)]
@@ -28,8 +25,8 @@ const NOT_AT_ALL: Times = Times {
     to: 0,
 };
 
-/// Where one may be after so many trains of a wish at most, and from when to when a train may be taken there. It may say more
-/// than there is: a time of change isn't asked for, nor what lies between the first moment and the last.
+/// Where one may be after so many trains of a wish at most, and from when to when a train may be taken there. It may
+/// say more than there is: a time of change isn't asked for, nor what lies between the first moment and the last.
 #[derive(Drop)]
 pub(crate) struct Reached {
     times: Vec<Times>,

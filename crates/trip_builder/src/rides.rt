@@ -138,10 +138,11 @@ impl Rides {
         true
     }
 
-    /// Takes the marks of so many stations away where one doesn't come before.
+    /// Takes the marks of those of so many stations away to which one doesn't come: no trip of the wish goes on there.
     pub(crate) fn leave_far(&mut self, stations: u32, reached: &Reached)
         ensures { (r : RunsView) (w : TripWish) (v : RanksView) (changes : ℕ)
-            → AreReached r w (2 - changes) reached.now → AreRides r w v changes self.old → AreRides r w v changes self.new }
+            → AreReached r w (2 - changes) reached.now → AreRides r w v changes self.old
+            → AreRides r w v changes self.new }
     {
         unmark_far(self.marks.as_mut_slice(), stations, reached);
     }
@@ -161,7 +162,7 @@ impl Rides {
     }
 }
 
-// Takes the marks of so many stations away where one doesn't come.
+// Takes the marks of those of so many stations away to which one doesn't come.
 fn unmark_far(marks: &mut [bool], stations: u32, reached: &Reached)
     ensures { StayMarked reached.now marks.old marks.new }
 {

@@ -28,12 +28,13 @@ const SHORT_SEARCH: u32 = 50_000;
 /// A train with so many stops is a try more: each of them is looked at.
 const STOPS_OF_A_TRY: u32 = 16;
 
-/// The first sixteen trips of the wish: by their last arrival, then the later first departure, then fewer segments, then the
-/// list of run, first stop and last stop.
+/// The first sixteen trips of the wish: by their last arrival, then the later first departure, then fewer segments,
+/// then the list of run, first stop and last stop.
 ///
-/// A trip is one to three segments on different runs, from the origin to the destination. Each begins at the station where the
-/// one before ended, no earlier than the station's change time after it and no later than 14,400 seconds; the first departs
-/// from the wish's earliest to its latest moment, both included. A trip may pass through its origin and destination.
+/// A trip is one to three segments on different runs, from the origin to the destination. Each begins at the station
+/// where the one before ended, no earlier than the station's change time after it and no later than 14,400 seconds; the
+/// first departs from the wish's earliest to its latest moment, both included. A trip may pass through its origin and
+/// destination.
 ///
 /// Trips with fewer segments are tried first: the best sixteen so far bound what is tried of the others.
 pub fn trips(alloc: Global, runs: &Runs, wish: &TripWish) -> Result<Vec<Trip>, AllocError>
@@ -152,8 +153,8 @@ fn ride(
     Ok(())
 }
 
-// Counts a try. Where the search has got long, it looks whether there may be a trip; if so, it makes the bounds, and looks
-// ahead by them.
+// Counts a try. Where the search has got long, it looks whether there may be a trip; if so, it makes the bounds, and
+// looks ahead by them.
 fn bound_long_search(runs: &Runs, wish: &TripWish, found: &mut Found) -> Result<(), AllocError>
     requires { IsSearch runs.now wish.now found.old }
     ensures search { OnOk result (IsSearch runs.now wish.now found.new) }

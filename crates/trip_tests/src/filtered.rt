@@ -43,8 +43,8 @@ fn compare_pair(
     Ok(())
 }
 
-// Run r stops at the stations (r + 3 * i) mod 8 for i from 0 to 5, and leaves them 600 * r + 1200 * i + 60 seconds after six, a
-// minute after it arrived.
+// Run r stops at the stations (r + 3 * i) mod 8 for i from 0 to 5, and leaves them 600 * r + 1200 * i + 60 seconds
+// after six, a minute after it arrived.
 #[test]
 fn trips_of_twelve_runs_over_eight_stations(rt: HostRuntime) -> Result<(), Fail> {
     let alloc = rt.alloc();
@@ -61,8 +61,8 @@ fn trips_of_twelve_runs_over_eight_stations(rt: HostRuntime) -> Result<(), Fail>
     Ok(())
 }
 
-// Twelve runs in pairs: both of a pair stop at the same stations and arrive in the same seconds, and in every other pair they depart
-// together too. So the later departure, fewer trains and the lower numbers decide.
+// Twelve runs in pairs: both of a pair stop at the same stations and arrive in the same seconds, and in every other
+// pair they depart together too. So the later departure, fewer trains and the lower numbers decide.
 #[test]
 fn trips_of_runs_that_arrive_together(rt: HostRuntime) -> Result<(), Fail> {
     let alloc = rt.alloc();

@@ -19,11 +19,11 @@ firsts_pushed : (r : RunsView) (w : TripWish) (v : RanksView) (ds : List Departu
 firsts_pushed r w v ds old new it n is size was own =
     one_further (FirstsAt r w v ds new) n
     (λ k less d two.
-        (let same : get_or new k two ≡ get_or old k two = ap (λ (l : List FirstTwo). get_or l k two) is ∙ get_or_append_left old (it ∷ []) two k (omega (arith, less, size)) in
-        subst (FirstsOfRide r w v 0 (get_or ds k d).run.0 (get_or ds k d).stop) (sym same) (was k less d two)))
+    (let same : get_or new k two ≡ get_or old k two = ap (λ (l : List FirstTwo). get_or l k two) is ∙ get_or_append_left old (it ∷ []) two k (omega (arith, less, size)) in
+    subst (FirstsOfRide r w v 0 (get_or ds k d).run.0 (get_or ds k d).stop) (sym same) (was k less d two)))
     (λ d two.
-        (let same : get_or new n two ≡ it = ap (λ (l : List FirstTwo). get_or l n two) is ∙ ap (λ (m : ℕ). get_or (old ++ it ∷ []) m two) (sym size) ∙ get_or-append_seam old it [] two in
-        subst (FirstsOfRide r w v 0 (get_or ds n d).run.0 (get_or ds n d).stop) (sym same) (own d)))
+    (let same : get_or new n two ≡ it = ap (λ (l : List FirstTwo). get_or l n two) is ∙ ap (λ (m : ℕ). get_or (old ++ it ∷ []) m two) (sym size) ∙ get_or-append_seam old it [] two in
+    subst (FirstsOfRide r w v 0 (get_or ds n d).run.0 (get_or ds n d).stop) (sym same) (own d)))
 
 pub loop-departure-preserved : goal.loop-departure-preserved
 loop-departure-preserved c =
