@@ -11,10 +11,20 @@ use booking_rows::Swept;
 use http_wire::{Answer, Body, write_head};
 use osdm_texts::{Problem, small_text, swept_text};
 
-/// The answer to a sweep. No memory is taken. It stands apart, like one that refuses, since room for a small text is
-/// dear to clear for each answer.
-#[inline(never)]
+/// The answer to a sweep. No memory is taken.
+#[inline(always)]
 pub(crate) fn counts_answer(status: u16, length: u32, swept: Swept, last: bool) -> Answer
+    requires known { IsTrue (is_status status) }
+    ensures bytes { answer_bytes result ≡ head_text status false length last ++ compact_text (swept_tree swept) }
+{
+    small_counts(status, length, swept, last)
+}
+
+// It stands apart, like one that refuses, since room for a small text is dear to clear for each answer; and its callers
+// inline what calls it, so that room for what it answers is cleared only where it is called.
+#[cold]
+#[inline(never)]
+fn small_counts(status: u16, length: u32, swept: Swept, last: bool) -> Answer
     requires known { IsTrue (is_status status) }
     ensures bytes { answer_bytes result ≡ head_text status false length last ++ compact_text (swept_tree swept) }
 {
@@ -25,8 +35,16 @@ pub(crate) fn counts_answer(status: u16, length: u32, swept: Swept, last: bool) 
 }
 
 /// The answer that refuses a request. No memory is taken.
-#[inline(never)]
+#[inline(always)]
 pub(crate) fn problem_answer(problem: &Problem, last: bool) -> Answer
+    ensures bytes { answer_bytes result ≡ told_bytes last (refused problem.now) }
+{
+    small_problem(problem, last)
+}
+
+#[cold]
+#[inline(never)]
+fn small_problem(problem: &Problem, last: bool) -> Answer
     ensures bytes { answer_bytes result ≡ told_bytes last (refused problem.now) }
 {
     let text = small_text(problem);

@@ -1,15 +1,31 @@
 // One connection, request by request.
-ghost use Rattle.std.specs.Prelude.{◌≡◌, ◌≤◌, ◌<◌, ◌++◌, ◌+◌, ℕ, List, Some, [], IfNone};
+ghost use Rattle.std.specs.Prelude.{◌≡◌, ◌≤◌, ◌<◌, ◌++◌, ◌+◌, ℕ, List, Some, [], IfNone, true, false};
 ghost use Rattle.rail_io.specs.Faults.{Rose};
 ghost use Rattle.rail_io.specs.Told.{with_front, with_end};
 ghost use Rattle.session_loop.specs.declared.end.ConnEnd.TheVariants.{ReadFault, WriteFault};
 ghost use Rattle.session_loop.specs.Session.{IsStep, IsEnd};
+ghost use Rattle.session_loop.specs.Writes.{Writes};
 
 use crate::end::ConnEnd;
 use crate::responder::Responder;
 use crate::writing::write_answer;
-use http_wire::{Intake, Next};
+use http_wire::{Intake, Next, WireFault};
 use rail_io::{Sink, Source};
+
+/// Answers what stands in a request's place, and writes that. It stands apart, since room for an answer is dear to clear.
+#[cold]
+#[inline(never)]
+fn refuse<K: Sink, R: Responder>(sink: &mut K, responder: &mut R, fault: WireFault) -> bool
+    ensures writes { (answer : List ℕ) × R.refuses responder.old fault answer
+        × Writes (K.told sink.old) (K.told sink.new) answer result }
+    ensures same { responder.new ≡ responder.old }
+    ensures never_falls { K.faults sink.old ≤ K.faults sink.new }
+    ensures cause { result ≡ false → Rose (K.faults sink.old) (K.faults sink.new) }
+    ensures steady { result ≡ true → K.faults sink.new ≡ K.faults sink.old }
+{
+    let answer = responder.refuse(fault);
+    write_answer(sink, answer)
+}
 
 /// Reads, answers and writes one request, or ends.
 fn step<S: Source, K: Sink, R: Responder>(
@@ -37,7 +53,7 @@ fn step<S: Source, K: Sink, R: Responder>(
     match intake.next_request(source) {
         Next::Request(request) => {
             let answer = responder.answer(intake, &request, request.last);
-            if !write_answer(sink, &answer) {
+            if !write_answer(sink, answer) {
                 return Some(ConnEnd::WriteFault);
             }
             if request.last {
@@ -49,8 +65,7 @@ fn step<S: Source, K: Sink, R: Responder>(
         Next::Cut => Some(ConnEnd::Cut),
         Next::ReadFault => Some(ConnEnd::ReadFault),
         Next::Bad(fault) => {
-            let answer = responder.refuse(fault);
-            if !write_answer(sink, &answer) {
+            if !refuse(sink, responder, fault) {
                 return Some(ConnEnd::WriteFault);
             }
             Some(ConnEnd::Refused(fault))

@@ -1,7 +1,7 @@
 // Whole pieces into a sink.
 ghost use Rattle.std.specs.Prelude.{◌≡◌, ◌≤◌, ◌+◌, ◌++◌, ◌⊎◌, drop, length, true, false};
 ghost use Rattle.rail_io.specs.Faults.{Rose};
-ghost use Rattle.session_loop.specs.Answered.{answer_bytes, body_bytes};
+ghost use Rattle.session_loop.specs.Answered.{answer_bytes};
 ghost use Rattle.session_loop.specs.Writes.{Writes};
 
 use http_wire::{Answer, Body};
@@ -37,6 +37,7 @@ fn behind<'a>(first: &'a [u8], second: &'a [u8], count: usize) -> (&'a [u8], &'a
 }
 
 /// Writes both pieces, one behind the other, without joining them: together where the sink can.
+#[inline(never)]
 fn write_two<K: Sink>(sink: &mut K, first: &[u8], second: &[u8]) -> bool
     ensures writes { Writes (K.told sink.old) (K.told sink.new) (first.now ++ second.now) result }
     ensures never_falls { K.faults sink.old ≤ K.faults sink.new }
@@ -54,21 +55,18 @@ fn write_two<K: Sink>(sink: &mut K, first: &[u8], second: &[u8]) -> bool
     write_all(sink, left)
 }
 
-fn body(answer: &Answer) -> &[u8]
-    ensures { result.now ≡ body_bytes answer.now.body }
-{
-    match &answer.body {
-        Body::Small(text) => text.as_slice(),
-        Body::Large(text) => text.as_slice(),
-    }
-}
-
-/// Writes head and body one after the other, without joining them.
-pub fn write_answer<K: Sink>(sink: &mut K, answer: &Answer) -> bool
-    ensures writes { Writes (K.told sink.old) (K.told sink.new) (answer_bytes answer.now) result }
+/// Writes head and body one after the other, without joining them, and lets the answer go. It is taken apart, so that an
+/// answer made in a call that is inlined stands nowhere as a whole: it is large to clear and to copy.
+#[inline(always)]
+pub fn write_answer<K: Sink>(sink: &mut K, answer: Answer) -> bool
+    ensures writes { Writes (K.told sink.old) (K.told sink.new) (answer_bytes answer) result }
     ensures never_falls { K.faults sink.old ≤ K.faults sink.new }
     ensures cause { result ≡ false → Rose (K.faults sink.old) (K.faults sink.new) }
     ensures steady { result ≡ true → K.faults sink.new ≡ K.faults sink.old }
 {
-    write_two(sink, answer.head.as_slice(), body(answer))
+    let Answer { head, body } = answer;
+    match body {
+        Body::Small(text) => write_two(sink, head.as_slice(), text.as_slice()),
+        Body::Large(text) => write_two(sink, head.as_slice(), text.as_slice()),
+    }
 }

@@ -43,10 +43,11 @@ returns-then-request-clause-step g c =
       ),
     )
 
-pub returns-then-not-write_answer-2-clause-step : goal.returns-then-not-write_answer-2-clause-step
-returns-then-not-write_answer-2-clause-step g c =
+pub returns-then-not-refuse-clause-step : goal.returns-then-not-refuse-clause-step
+returns-then-not-refuse-clause-step g c =
     let next = c.in-Bad.ensures.next in
-    let w = c.if-not-write_answer-2.ensures.writes in (
+    let refused = c.if-not-refuse.ensures.writes in
+    let w = refused.2 in (
       next.0,
       w.written,
       next.1,
@@ -56,8 +57,8 @@ returns-then-not-write_answer-2-clause-step g c =
         inr (
           c.in-Bad.fault,
           next.2.0,
-          subst (λ (a : List ℕ). g.R.Responder.refuses c.args.responder.now c.in-Bad.fault a) w.is c.refuse-answer.ensures.refuses,
-          c.refuse-answer.ensures.same,
+          subst (λ (a : List ℕ). g.R.Responder.refuses c.args.responder.now c.in-Bad.fault a) w.is refused.1,
+          c.if-not-refuse.ensures.same,
         ),
       ),
     )
