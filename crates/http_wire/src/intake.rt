@@ -101,27 +101,17 @@ pub enum Stage {
     Body(usize, ServedHead),
 }
 
-/// What stands at the front of some bytes, and how far their reading has come.
-#[derive(Clone, Copy)]
-pub struct Examined {
-    pub front: Front,
-    pub stage: Stage,
-}
-
 /// What stands at the front of the text, which isn't known to be all of the stream. A step is one byte looked at.
-fn examine<L: Ledger>(text: &[u8], number: u32, stage: Stage, steps: &mut Steps<L>) -> Examined
-    requires { IsStage number text.now stage }
-    ensures front { IsFront number text.now result.front }
-    ensures stage { IsStage number text.now result.stage }
-    ensures ends { EndsAtRequest result.front result.stage }
-    ensures steps { steps.new + searched stage ≤ steps.old + searched result.stage }
+fn examine<L: Ledger>(text: &[u8], number: u32, stage: &mut Stage, steps: &mut Steps<L>) -> Front
+    requires { IsStage number text.now stage.old }
+    ensures front { IsFront number text.now result }
+    ensures stage { IsStage number text.now stage.new }
+    ensures ends { EndsAtRequest result stage.new }
+    ensures steps { steps.new + searched stage.old ≤ steps.old + searched stage.new }
 {
-    match stage {
-        Stage::Head(scan) => search_on(text, number, scan, steps),
-        Stage::Body(end, head) => Examined {
-            front: body_after(text, number, end, head),
-            stage,
-        },
+    match *stage {
+        Stage::Head(before) => search_on(text, number, before, stage, steps),
+        Stage::Body(end, head) => body_after(text, number, end, head),
     }
 }
 
@@ -130,40 +120,37 @@ fn search_on<L: Ledger>(
     text: &[u8],
     number: u32,
     before: HeadScan,
+    stage: &mut Stage,
     steps: &mut Steps<L>,
-) -> Examined
+) -> Front
     requires { IsStage number text.now (Head before) }
-    ensures front { IsFront number text.now result.front }
-    ensures stage { IsStage number text.now result.stage }
-    ensures ends { EndsAtRequest result.front result.stage }
-    ensures steps { steps.new + before.at ≤ steps.old + searched result.stage }
+    ensures front { IsFront number text.now result }
+    ensures stage { IsStage number text.now stage.new }
+    ensures ends { EndsAtRequest result stage.new }
+    ensures steps { steps.new + before.at ≤ steps.old + searched stage.new }
 {
     let room = text.len().min(HEAD_ROOM);
     let scan = before.feed(&text[before.at as usize..room], steps);
-    after_search(text, number, scan)
+    *stage = Stage::Head(scan);
+    after_search(text, number, scan, stage)
 }
 
 /// The same, where the search stands behind all bytes that a head may have, or behind the head's end.
-fn after_search(text: &[u8], number: u32, scan: HeadScan) -> Examined
+fn after_search(text: &[u8], number: u32, scan: HeadScan, stage: &mut Stage) -> Front
     requires stage { IsStage number text.now (Head scan) }
     requires all { IsSearchOver text.now scan }
-    ensures front { IsFront number text.now result.front }
-    ensures stage { IsStage number text.now result.stage }
-    ensures ends { EndsAtRequest result.front result.stage }
-    ensures searched { searched result.stage ≡ scan.at }
+    requires kept { stage.old ≡ Head scan }
+    ensures front { IsFront number text.now result }
+    ensures stage { IsStage number text.now stage.new }
+    ensures ends { EndsAtRequest result stage.new }
+    ensures searched { searched stage.new ≡ scan.at }
 {
     if scan.lines as usize > HEAD_LINES {
-        return Examined {
-            front: Front::Fault(WireFault::HeadTooLarge),
-            stage: Stage::Head(scan),
-        };
+        return Front::Fault(WireFault::HeadTooLarge);
     }
     match scan.ended {
-        Some(end) => after_head(text, number, end as usize, scan),
-        None => Examined {
-            front: without_head(text, number, scan),
-            stage: Stage::Head(scan),
-        },
+        Some(end) => after_head(text, number, end as usize, stage),
+        None => without_head(text, number, scan),
     }
 }
 
@@ -186,26 +173,25 @@ fn without_head(text: &[u8], number: u32, scan: HeadScan) -> Front
     }
 }
 
-/// The same, where the head ends.
-fn after_head(text: &[u8], number: u32, end: usize, scan: HeadScan) -> Examined
+/// The same, where the head ends. What it says is kept only where the body isn't there yet.
+fn after_head(text: &[u8], number: u32, end: usize, stage: &mut Stage) -> Front
     requires at { HeadAt text.now (take end text.now) (drop end text.now) }
     requires within { end ≤ length text.now }
-    requires stage { IsStage number text.now (Head scan) }
-    requires searched { scan.at ≡ end }
-    ensures front { IsFront number text.now result.front }
-    ensures stage { IsStage number text.now result.stage }
-    ensures ends { EndsAtRequest result.front result.stage }
-    ensures searched { searched result.stage ≡ end }
+    requires stage { IsStage number text.now stage.old }
+    requires searched { searched stage.old ≡ end }
+    ensures front { IsFront number text.now result }
+    ensures stage { IsStage number text.now stage.new }
+    ensures ends { EndsAtRequest result stage.new }
+    ensures searched { searched stage.new ≡ end }
 {
     match served_head(&text[..end], number) {
-        Ok(head) => Examined {
-            front: body_after(text, number, end, head),
-            stage: Stage::Body(end, head),
-        },
-        Err(fault) => Examined {
-            front: Front::Fault(fault),
-            stage: Stage::Head(scan),
-        },
+        Ok(head) => {
+            if text.len() - end < head.length as usize {
+                *stage = Stage::Body(end, head);
+            }
+            body_after(text, number, end, head)
+        }
+        Err(fault) => Front::Fault(fault),
     }
 }
 
@@ -312,14 +298,8 @@ impl Intake {
         self.at = start;
         let number = self.given + 1;
         'reads: loop {
-            let examined = examine(
-                &self.memory[self.at..self.filled],
-                number,
-                self.stage,
-                steps,
-            );
-            self.stage = examined.stage;
-            let blank = match examined.front {
+            let text = &self.memory[self.at..self.filled];
+            let blank = match examine(text, number, &mut self.stage, steps) {
                 Front::Whole(request, size) => {
                     self.at += size;
                     self.given = number;

@@ -80,6 +80,16 @@ fn says_close(value: &[u8]) -> bool
     }
 }
 
+/// Whether a line's name is this one, without regard to ASCII case. The spelling of most clients is compared first, as it
+/// stands, which is cheap.
+#[inline(always)]
+fn is_named(name: &[u8], usual: &[u8], lower: &[u8]) -> bool
+    requires { same_name usual.now lower.now ≡ true }
+    ensures { result ≡ same_name name.now lower.now }
+{
+    name == usual || same_name(name, lower)
+}
+
 fn line_closes(head: &[u8], line: HeaderSpan) -> bool
     requires { IsHeaderWithin (length head.now) line }
     ensures { result ≡ line_closes head.now line }
@@ -115,12 +125,12 @@ impl Notes {
                 }
             }
             14 => {
-                if same_name(name, b"content-length") {
+                if is_named(name, b"Content-Length", b"content-length") {
                     self.lengths = self.lengths.with(line.value);
                 }
             }
             12 => {
-                if same_name(name, b"retailer-key") {
+                if is_named(name, b"Retailer-Key", b"retailer-key") {
                     self.keys = self.keys.with(line.value);
                 }
             }

@@ -1,4 +1,4 @@
-use Rattle.std.proofs.Common.{◌≡◌, ℕ, List, ◌++◌, length, take, subst, arith}
+use Rattle.std.proofs.Common.{◌≡◌, ℕ, List, ◌++◌, length, take, refl, subst, arith}
 use Rattle.std.specs.Prelude.{slice_range, min}
 use Rattle.http_wire.specs.declared.scan.HeadScan.{HeadScan}
 use Rattle.http_wire.specs.Scan.{StandsFor}
@@ -18,4 +18,4 @@ after_search-requires g c =
     let room = c.min-room.result in
     let all = fed text c.args.before c.feed-scan.result room c.min-room.ensures c.requires c.feed-scan.ensures.stands in
     let found = search_stands text c.feed-scan.result room c.min-room.ensures all in
-    record { stage = found.0; all = found.1 }
+    record { stage = found.0; all = found.1; kept = refl }

@@ -91,7 +91,7 @@ invariant_of-self g c =
     let same = text_is c.deref.result.now inside.memory.items inside.at inside.start inside.filled c.deref.ensures.value inv.front in
     let whole : IsFront (c.self.inside.given + 1) text (Whole c.in-Whole.request c.in-Whole.size) =
     subst (IsFront (c.self.inside.given + 1) text) c.in-Whole.is
-    (subst (λ (t : List ℕ). IsFront (c.self.inside.given + 1) t c.examine-examined.result.front) same c.examine-examined.ensures.front) in
+    (subst (λ (t : List ℕ). IsFront (c.self.inside.given + 1) t c.examine.result) same c.examine.ensures.front) in
     let size = length-take (inside.filled - inside.start) (drop inside.start inside.memory.items) in
     let given = ap (λ (v : IntakeView). v.given) c.self.view_is in
     record {
@@ -113,17 +113,17 @@ returns-in-Whole-clause-next g c =
     let same = text_is c.deref.result.now inside.memory.items inside.at inside.start inside.filled c.deref.ensures.value inv.front in
     let whole : IsFront number text (Whole c.in-Whole.request c.in-Whole.size) =
     subst (IsFront number text) c.in-Whole.is
-    (subst (λ (t : List ℕ). IsFront number t c.examine-examined.result.front) same c.examine-examined.ensures.front) in
-    let stage : IsStage number text c.examine-examined.result.stage =
-    subst (λ (t : List ℕ). IsStage number t c.examine-examined.result.stage) same c.examine-examined.ensures.stage in
+    (subst (λ (t : List ℕ). IsFront number t c.examine.result) same c.examine.ensures.front) in
+    let stage : IsStage number text c.examine.new.stage =
+    subst (λ (t : List ℕ). IsStage number t c.examine.new.stage) same c.examine.ensures.stage in
     let found = next_in_range (c.args.self.now.given + 1) inside.start inside.filled c.in-Whole.size inside.memory.items (unread ++ inv.pulled)
     c.in-Whole.request inv.ordered (omega (arith, inv.within, inv.room)) inv.held
     (subst (λ (n : ℕ). IsWhole n text c.in-Whole.request c.in-Whole.size) inv.number whole) in
     let end : inside.start + c.in-Whole.size ≡ inside.at + c.in-Whole.size = omega (arith, inv.front) in (
       inv.pulled,
       inv.told,
-      few_steps number c.examine-examined.new.steps c.reads.steps c.args.steps.now c.args.self.now.looked inside.stage c.examine-examined.result.stage text unread inv.pulled
-          c.examine-examined.ensures.steps inv.steps stage inv.held,
+      few_steps number c.examine.new.steps c.reads.steps c.args.steps.now c.args.self.now.looked inside.stage c.examine.new.stage text unread inv.pulled
+          c.examine.ensures.steps inv.steps stage inv.held,
       (
         inv.number,
         subst (λ (e : ℕ). ArePiecesWithin (length (slice_range inside.memory.items inside.start e)) c.in-Whole.request) end found.0,
@@ -181,14 +181,14 @@ reads-preserved g c =
     ∙ d.3
     ∙ ap (λ (m : List ℕ). slice_range m inside.start inside.filled ++ more) c.deref_mut.ensures.value in
     let same = text_is c.deref.result.now inside.memory.items inside.at inside.start inside.filled c.deref.ensures.value inv.front in
-    let stage : IsStage number text c.examine-examined.result.stage =
-    subst (λ (t : List ℕ). IsStage number t c.examine-examined.result.stage) same c.examine-examined.ensures.stage in
+    let stage : IsStage number text c.examine.new.stage =
+    subst (λ (t : List ℕ). IsStage number t c.examine.new.stage) same c.examine.ensures.stage in
     let unread = c.args.self.now.unread in
     let bytes = unread ++ inv.pulled in
-    let front : IsFront number bytes c.examine-examined.result.front =
-    subst (λ (t : List ℕ). IsFront number t c.examine-examined.result.front) (same ∙ inv.held) c.examine-examined.ensures.front in
+    let front : IsFront number bytes c.examine.result =
+    subst (λ (t : List ℕ). IsFront number t c.examine.result) (same ∙ inv.held) c.examine.ensures.front in
     let rest : IsBlank bytes ⊎ IsUnfinished bytes =
-    (elim c.match-examined.branch [
+    (elim c.match-examine.branch [
       | in-Blank w ↦ inl (subst (IsFront number bytes) w.in-Blank.is front)
       | in-Open w ↦ inr ((subst (IsFront number bytes) w.in-Open.is front).0)
     ]) in
@@ -201,13 +201,13 @@ reads-preserved g c =
       within = grind (arith, common_steps);
       room = search rules;
       number = inv.number;
-      stage = subst (λ (t : List ℕ). IsStage number t c.examine-examined.result.stage) (sym got)
-          (stage_more number text more c.examine-examined.result.stage stage);
+      stage = subst (λ (t : List ℕ). IsStage number t c.examine.new.stage) (sym got)
+          (stage_more number text more c.examine.new.stage stage);
       given = inv.given;
       faults = search rules;
       steady = search rules;
       waits = waits_on unread inv.pulled (inv.pulled ++ more) inv.waits rest;
-      steps = omega (arith, c.examine-examined.ensures.steps, inv.steps);
+      steps = omega (arith, c.examine.ensures.steps, inv.steps);
     }
 
 pub returns-in-Failed-clause-next : goal.returns-in-Failed-clause-next
@@ -225,12 +225,12 @@ returns-in-Failed-clause-next g c =
     let now = slice_range c.draw-drawn.new.memory drawn.start drawn.filled in
     let d : Draws before after held now Failed = subst (Draws before after held now) c.in-Failed.is c.draw-drawn.ensures.draws in
     let same = text_is c.deref.result.now inside.memory.items inside.at inside.start inside.filled c.deref.ensures.value inv.front in
-    let front : IsFront number bytes c.examine-examined.result.front =
-    subst (λ (t : List ℕ). IsFront number t c.examine-examined.result.front) (same ∙ inv.held) c.examine-examined.ensures.front in
-    let stage : IsStage number text c.examine-examined.result.stage =
-    subst (λ (t : List ℕ). IsStage number t c.examine-examined.result.stage) same c.examine-examined.ensures.stage in
+    let front : IsFront number bytes c.examine.result =
+    subst (λ (t : List ℕ). IsFront number t c.examine.result) (same ∙ inv.held) c.examine.ensures.front in
+    let stage : IsStage number text c.examine.new.stage =
+    subst (λ (t : List ℕ). IsStage number t c.examine.new.stage) same c.examine.ensures.stage in
     let rest : IsBlank bytes ⊎ IsUnfinished bytes =
-    (elim c.match-examined.branch [
+    (elim c.match-examine.branch [
       | in-Blank w ↦ inl (subst (IsFront number bytes) w.in-Blank.is front)
       | in-Open w ↦ inr ((subst (IsFront number bytes) w.in-Open.is front).0)
     ]) in
@@ -243,8 +243,8 @@ returns-in-Failed-clause-next g c =
     ∙ inv.held in (
       inv.pulled,
       inv.told ∙ ap (with_front inv.pulled) (sym d.0),
-      few_steps number c.examine-examined.new.steps c.reads.steps c.args.steps.now c.args.self.now.looked inside.stage c.examine-examined.result.stage text unread inv.pulled
-          c.examine-examined.ensures.steps inv.steps stage inv.held,
+      few_steps number c.examine.new.steps c.reads.steps c.args.steps.now c.args.self.now.looked inside.stage c.examine.new.stage text unread inv.pulled
+          c.examine.ensures.steps inv.steps stage inv.held,
       (rest, record { unread = kept; given = ap (λ (n : ℕ). n + 1) inv.given }),
     )
 
@@ -257,10 +257,10 @@ returns-in-Failed-clause-at_once g c =
     let unread = c.args.self.now.unread in
     let bytes = unread ++ inv.pulled in
     let same = text_is c.deref.result.now inside.memory.items inside.at inside.start inside.filled c.deref.ensures.value inv.front in
-    let front : IsFront number bytes c.examine-examined.result.front =
-    subst (λ (t : List ℕ). IsFront number t c.examine-examined.result.front) (same ∙ inv.held) c.examine-examined.ensures.front in
+    let front : IsFront number bytes c.examine.result =
+    subst (λ (t : List ℕ). IsFront number t c.examine.result) (same ∙ inv.held) c.examine.ensures.front in
     let rest : IsBlank bytes ⊎ IsUnfinished bytes =
-    (elim c.match-examined.branch [
+    (elim c.match-examine.branch [
       | in-Blank w ↦ inl (subst (IsFront number bytes) w.in-Blank.is front)
       | in-Open w ↦ inr ((subst (IsFront number bytes) w.in-Open.is front).0)
     ]) in
@@ -275,10 +275,10 @@ returns-in-End-clause-at_once g c =
     let unread = c.args.self.now.unread in
     let bytes = unread ++ inv.pulled in
     let same = text_is c.deref.result.now inside.memory.items inside.at inside.start inside.filled c.deref.ensures.value inv.front in
-    let front : IsFront number bytes c.examine-examined.result.front =
-    subst (λ (t : List ℕ). IsFront number t c.examine-examined.result.front) (same ∙ inv.held) c.examine-examined.ensures.front in
+    let front : IsFront number bytes c.examine.result =
+    subst (λ (t : List ℕ). IsFront number t c.examine.result) (same ∙ inv.held) c.examine.ensures.front in
     let rest : IsBlank bytes ⊎ IsUnfinished bytes =
-    (elim c.match-examined.branch [
+    (elim c.match-examine.branch [
       | in-Blank w ↦ inl (subst (IsFront number bytes) w.in-Blank.is front)
       | in-Open w ↦ inr ((subst (IsFront number bytes) w.in-Open.is front).0)
     ]) in
@@ -295,7 +295,7 @@ returns-in-Whole-clause-at_once g c =
     let same = text_is c.deref.result.now inside.memory.items inside.at inside.start inside.filled c.deref.ensures.value inv.front in
     let whole : IsFront number text (Whole c.in-Whole.request c.in-Whole.size) =
     subst (IsFront number text) c.in-Whole.is
-    (subst (λ (t : List ℕ). IsFront number t c.examine-examined.result.front) same c.examine-examined.ensures.front) in
+    (subst (λ (t : List ℕ). IsFront number t c.examine.result) same c.examine.ensures.front) in
     let size = length-take (inside.filled - inside.start) (drop inside.start inside.memory.items) in
     λ (decided : IsDecided unread).
     parts_of_range inside.memory.items inside.start (inside.at + c.in-Whole.size) c.in-Whole.size inside.filled (omega (arith, inv.front))

@@ -6,23 +6,23 @@ use Rattle.http_wire.specs.ServedLines.{line_closes}
 use Rattle.http_wire.proofs.NameLemmas.{no_more, no_value, length_line, key_line, close_line}
 use Rattle.http_wire.proofs.served.Notes.note.Goals as goal
 
-pub returns-else-same_name-2-clause-notes : goal.returns-else-same_name-2-clause-notes
-returns-else-same_name-2-clause-notes c =
+pub returns-else-is_named-clause-notes : goal.returns-else-is_named-clause-notes
+returns-else-is_named-clause-notes c =
     let notes = c.args.self.now in
     let line = c.args.line in
     let name = span_bytes c.args.head.now line.name in
     let other : same_name name (codes "content-length") ≡ false =
-    ap (λ (l : List ℕ). same_name l (codes "content-length")) (sym c.of-name.ensures) ∙ sym c.same_name-in-14.ensures ∙ c.if-same_name-2.false in
+    ap (λ (l : List ℕ). same_name l (codes "content-length")) (sym c.of-name.ensures) ∙ sym c.is_named.ensures ∙ c.if-is_named.false in
     length_line c.args.head.now notes line notes.lengths (sym (ap length c.of-name.ensures) ∙ c.in-14.is)
     (no_value notes.lengths line.value (same_name name (codes "content-length")) other)
 
-pub returns-else-same_name-3-clause-notes : goal.returns-else-same_name-3-clause-notes
-returns-else-same_name-3-clause-notes c =
+pub returns-else-is_named-2-clause-notes : goal.returns-else-is_named-2-clause-notes
+returns-else-is_named-2-clause-notes c =
     let notes = c.args.self.now in
     let line = c.args.line in
     let name = span_bytes c.args.head.now line.name in
     let other : same_name name (codes "retailer-key") ≡ false =
-    ap (λ (l : List ℕ). same_name l (codes "retailer-key")) (sym c.of-name.ensures) ∙ sym c.same_name-in-12.ensures ∙ c.if-same_name-3.false in
+    ap (λ (l : List ℕ). same_name l (codes "retailer-key")) (sym c.of-name.ensures) ∙ sym c.is_named-in-12.ensures ∙ c.if-is_named-2.false in
     key_line c.args.head.now notes line notes.keys (sym (ap length c.of-name.ensures) ∙ c.in-12.is)
     (no_value notes.keys line.value (same_name name (codes "retailer-key")) other)
 
