@@ -193,6 +193,16 @@ impl HeadScan {
             if scan.ended.is_some() {
                 return scan;
             }
+            // A line feed stands behind most carriage returns.
+            if from == piece.len() || piece[from] != b'\n' {
+                continue;
+            }
+            steps.tick();
+            scan = scan.with_feed();
+            from += 1;
+            if scan.ended.is_some() {
+                return scan;
+            }
         }
     }
 

@@ -1,8 +1,9 @@
-use Rattle.std.proofs.Common.{◌≡◌, ◌+◌, ◌-◌, List, [], ◌∷◌, ◌++◌, length, take, drop, ℕ, sym, ◌∙◌, ap, subst, arith, append_assoc, Option, Some, None, true, false, refl}
-use Rattle.std.specs.Prelude.{is_some}
+use Rattle.std.proofs.Common.{◌≡◌, ◌<◌, ◌+◌, ◌-◌, List, [], ◌∷◌, ◌++◌, length, take, drop, ℕ, sym, ◌∙◌, ap, subst, arith, append_assoc, Option, Some, None, true, false, refl}
+use Rattle.std.specs.Prelude.{is_some, slice_index}
 use Rattle.std.proofs.lemmas.List.{take_all, take-append-drop}
 use Rattle.http_wire.specs.declared.scan.HeadScan.{HeadScan}
-use Rattle.http_wire.specs.Scan.{StandsFor, with_plain}
+use Rattle.http_wire.specs.declared.scan.Found.{Found}
+use Rattle.http_wire.specs.Scan.{StandsFor, IsBehind, with_plain}
 use Rattle.http_wire.proofs.ScanLemmas.{stands_ended, plain_until, plain_at, on_byte}
 use Rattle.http_wire.proofs.scan.HeadScan.feed.Goals as goal
 
@@ -21,33 +22,44 @@ returns-in_default-clause-stands g c =
     (subst (λ (l : List ℕ). StandsFor (with_plain c.bytes.scan (length piece - from)) (bytes ++ l)) all
     (plain_until c.bytes.scan from (length piece) bytes piece inv.live inv.within (omega arith) c.in_default.ensures.found (inv.stands bytes s)))
 
-pub returns-then-is_some-2-clause-stands : goal.returns-then-is_some-2-clause-stands
-returns-then-is_some-2-clause-stands g c =
-    let piece = c.args.piece.now in
-    let from = c.bytes.from in
-    let next = c.in-Some.next in
-    let found = c.in-Some.ensures.found in
-    let inv = c.bytes.invariant in
-    let r = c.with_byte-scan.result in
-    let yes : is_some r.ended ≡ true = sym c.is_some-in-bytes.ensures ∙ c.if-is_some-2.true in
-    let some : r.ended ≡ None → ⊥ = λ none. let no = ap is_some none in absurd cc in
-    λ bytes s.
-    let stood : StandsFor c.with_plain-in-bytes.result (bytes ++ take next.at piece) =
-    subst (λ (t : HeadScan). StandsFor t (bytes ++ take next.at piece)) (sym c.with_plain-in-bytes.ensures)
-    (plain_until c.bytes.scan from next.at bytes piece inv.live found.after (omega (arith, found.within)) found.plain (inv.stands bytes s)) in
-    let here : StandsFor r (bytes ++ take (next.at + 1) piece) =
+-- the search stands for a byte found behind plain ones
+byte_stands : (before r : HeadScan) (next : Found) (from : ℕ) (bytes piece : List ℕ) → before.ended ≡ None → IsBehind piece from next
+    → ((searched : List ℕ) → StandsFor (with_plain before (next.at - from)) searched → StandsFor r (searched ++ next.byte ∷ []))
+    → StandsFor before (bytes ++ take from piece) → StandsFor r (bytes ++ take (next.at + 1) piece)
+byte_stands before r next from bytes piece live found more s =
     on_byte r piece bytes next.at found.within
     (subst (λ (b : ℕ). StandsFor r ((bytes ++ take next.at piece) ++ b ∷ [])) found.is
-    (c.with_byte-scan.ensures.stands (bytes ++ take next.at piece) stood)) in
-    subst (StandsFor r)
-    (append_assoc bytes (take (next.at + 1) piece) (drop (next.at + 1) piece)
-    ∙ ap (λ (l : List ℕ). bytes ++ l) (take-append-drop (next.at + 1) piece))
-    (stands_ended r (bytes ++ take (next.at + 1) piece) (drop (next.at + 1) piece) some here)
+    (more (bytes ++ take next.at piece)
+    (plain_until before from next.at bytes piece live found.after (omega (arith, found.within)) found.plain s)))
 
-pub bytes-preserved : goal.bytes-preserved
-bytes-preserved g c =
-    let piece = c.args.piece.now in
-    let from = c.bytes.from in
+-- and for a line feed at this place
+feed_stands : (r last : HeadScan) (at : ℕ) (bytes piece : List ℕ) → at < length piece → slice_index piece at ≡ 10
+    → ((searched : List ℕ) → StandsFor r searched → StandsFor last (searched ++ 10 ∷ []))
+    → StandsFor r (bytes ++ take at piece) → StandsFor last (bytes ++ take (at + 1) piece)
+feed_stands r last at bytes piece within is more s =
+    on_byte last piece bytes at within
+    (subst (λ (b : ℕ). StandsFor last ((bytes ++ take at piece) ++ b ∷ [])) (sym is) (more (bytes ++ take at piece) s))
+
+-- nothing of the piece is searched past a head's end
+ends_there : (r : HeadScan) (at : ℕ) (bytes piece : List ℕ) → is_some r.ended ≡ true → StandsFor r (bytes ++ take at piece) → StandsFor r (bytes ++ piece)
+ends_there r at bytes piece over s =
+    let some : r.ended ≡ None → ⊥ = λ none. let no = sym over ∙ ap is_some none in absurd cc in
+    subst (StandsFor r)
+    (append_assoc bytes (take at piece) (drop at piece) ∙ ap (λ (l : List ℕ). bytes ++ l) (take-append-drop at piece))
+    (stands_ended r (bytes ++ take at piece) (drop at piece) some s)
+
+pub returns-then-is_some-2-clause-stands : goal.returns-then-is_some-2-clause-stands
+returns-then-is_some-2-clause-stands g c =
+    let next = c.in-Some.next in
+    let inv = c.bytes.invariant in
+    λ bytes s.
+    ends_there c.with_byte-scan.result (next.at + 1) bytes c.args.piece.now (sym c.is_some-in-bytes.ensures ∙ c.if-is_some-2.true)
+    (byte_stands c.bytes.scan c.with_byte-scan.result next c.bytes.from bytes c.args.piece.now inv.live c.in-Some.ensures.found
+    (λ searched t. c.with_byte-scan.ensures.stands searched (subst (λ (h : HeadScan). StandsFor h searched) (sym c.with_plain-in-bytes.ensures) t))
+    (inv.stands bytes s))
+
+pub bytes-preserved-then-from-piece : goal.bytes-preserved-then-from-piece
+bytes-preserved-then-from-piece g c =
     let next = c.in-Some.next in
     let found = c.in-Some.ensures.found in
     let inv = c.bytes.invariant in
@@ -56,18 +68,58 @@ bytes-preserved g c =
       within = omega (arith, found.within);
       live = none_of r.ended (sym c.is_some-in-bytes.ensures ∙ c.if-is_some-2.false);
       stands = λ bytes s.
-          on_byte r piece bytes next.at found.within
-          (subst (λ (b : ℕ). StandsFor r ((bytes ++ take next.at piece) ++ b ∷ [])) found.is
-          (c.with_byte-scan.ensures.stands (bytes ++ take next.at piece)
-          (subst (λ (t : HeadScan). StandsFor t (bytes ++ take next.at piece)) (sym c.with_plain-in-bytes.ensures)
-          (plain_until c.bytes.scan from next.at bytes piece inv.live found.after (omega (arith, found.within)) found.plain (inv.stands bytes s)))));
+          byte_stands c.bytes.scan r next c.bytes.from bytes c.args.piece.now inv.live found
+          (λ searched t. c.with_byte-scan.ensures.stands searched (subst (λ (h : HeadScan). StandsFor h searched) (sym c.with_plain-in-bytes.ensures) t))
+          (inv.stands bytes s);
       at = omega (
         arith,
         c.with_byte-scan.ensures.at,
         ap (λ (t : HeadScan). t.at) c.with_plain-in-bytes.ensures,
-        plain_at c.bytes.scan (next.at - from),
+        plain_at c.bytes.scan (next.at - c.bytes.from),
         inv.at,
         found.after,
       );
       steps = omega (arith, c.in-Some.ensures.steps, inv.steps, found.after);
+    }
+
+pub returns-then-is_some-3-clause-stands : goal.returns-then-is_some-3-clause-stands
+returns-then-is_some-3-clause-stands g c =
+    let next = c.in-Some.next in
+    let inv = c.bytes.invariant in
+    let piece = c.args.piece.now in
+    let last = c.with_feed-scan.result in
+    λ bytes s.
+    ends_there last (next.at + 1 + 1) bytes piece (sym c.is_some-in-bytes-2.ensures ∙ c.if-is_some-3.true)
+    (feed_stands c.with_byte-scan.result last (next.at + 1) bytes piece (omega (arith, c.in-Some.ensures.found.within, c.if-from-piece.false)) c.if-piece-from-ne10.false
+    c.with_feed-scan.ensures.stands
+    (byte_stands c.bytes.scan c.with_byte-scan.result next c.bytes.from bytes piece inv.live c.in-Some.ensures.found
+    (λ searched t. c.with_byte-scan.ensures.stands searched (subst (λ (h : HeadScan). StandsFor h searched) (sym c.with_plain-in-bytes.ensures) t))
+    (inv.stands bytes s)))
+
+pub bytes-preserved : goal.bytes-preserved
+bytes-preserved g c =
+    let next = c.in-Some.next in
+    let found = c.in-Some.ensures.found in
+    let inv = c.bytes.invariant in
+    let piece = c.args.piece.now in
+    let last = c.with_feed-scan.result in
+    let there : next.at + 1 < length piece = omega (arith, found.within, c.if-from-piece.false) in
+    record {
+      within = omega (arith, there);
+      live = none_of last.ended (sym c.is_some-in-bytes-2.ensures ∙ c.if-is_some-3.false);
+      stands = λ bytes s.
+          feed_stands c.with_byte-scan.result last (next.at + 1) bytes piece there c.if-piece-from-ne10.false c.with_feed-scan.ensures.stands
+          (byte_stands c.bytes.scan c.with_byte-scan.result next c.bytes.from bytes piece inv.live found
+          (λ searched t. c.with_byte-scan.ensures.stands searched (subst (λ (h : HeadScan). StandsFor h searched) (sym c.with_plain-in-bytes.ensures) t))
+          (inv.stands bytes s));
+      at = omega (
+        arith,
+        c.with_feed-scan.ensures.at,
+        c.with_byte-scan.ensures.at,
+        ap (λ (t : HeadScan). t.at) c.with_plain-in-bytes.ensures,
+        plain_at c.bytes.scan (next.at - c.bytes.from),
+        inv.at,
+        found.after,
+      );
+      steps = omega (arith, c.in-Some.ensures.steps, inv.steps, found.after, c.tick.ensures);
     }
