@@ -10,6 +10,7 @@ pub mod Spots
 pub mod Offers
 pub mod Reservations
 pub mod Bookings
+pub mod Seen
 pub mod Quotes
 pub mod Places
 pub mod PlaceTexts

@@ -6,6 +6,7 @@ ghost use Rattle.booking_rows.specs.Views.{MaySucceed};
 ghost use Rattle.osdm_texts.specs.Ids.{HasId};
 ghost use Rattle.osdm_texts.specs.Bookings.{is_settled as is_settled_of, succeeding, successor_members, HasIds, booking_tree, seen_end};
 ghost use Rattle.osdm_texts.specs.EndTokens.{end_tokens};
+ghost use Rattle.osdm_texts.specs.Seen.{seen_of};
 ghost use Rattle.osdm_texts.specs.Appends.{Appends, tokens_of, members_of};
 
 use crate::members::{put_amount, put_booking_id, put_flag, put_price, put_text, put_time};
@@ -14,9 +15,21 @@ use crate::reservations::put_reservations;
 use booking_rows::{EndView, RowView};
 use history_model::phase::{EndKind, Phase};
 use json::Writer;
+use leg_masks::Item;
 use rail_catalogue::Catalogue;
 use rail_ids::RowNo;
+use rail_time::Moment;
 use std::alloc::AllocError;
+
+// What is shown of a booking: all but whose it is.
+#[derive(Clone, Copy)]
+pub(crate) struct Shown<'v> {
+    pub(crate) phase: Phase,
+    pub(crate) limit: Moment,
+    pub(crate) total: u64,
+    pub(crate) items: &'v [Item],
+    pub(crate) ended: Option<EndView>,
+}
 
 pub(crate) fn put_booking(
     out: &mut Writer,
@@ -27,18 +40,37 @@ pub(crate) fn put_booking(
     requires ids { HasIds row view.now }
     ensures { OnOk result (Appends out.old out.new (tokens_of (booking_tree cat.now row view.now))) }
 {
+    let shown = Shown {
+        phase: view.phase,
+        limit: view.limit,
+        total: view.total,
+        items: view.items.as_slice(),
+        ended: view.ended,
+    };
+    put_shown(out, cat, row, &shown)
+}
+
+pub(crate) fn put_shown(
+    out: &mut Writer,
+    cat: &Catalogue,
+    row: RowNo,
+    shown: &Shown<'_>,
+) -> Result<(), AllocError>
+    requires ids { HasIds row (seen_of shown.now) }
+    ensures { OnOk result (Appends out.old out.new (tokens_of (booking_tree cat.now row (seen_of shown.now)))) }
+{
     out.begin_object()?;
-    put_time(out, "confirmableUntil", view.limit)?;
-    put_end(out, cat, view.ended)?;
+    put_time(out, "confirmableUntil", shown.limit)?;
+    put_end(out, cat, shown.ended)?;
     put_booking_id(out, "id", row)?;
-    put_price(out, "price", cat.currency_text(), view.total)?;
+    put_price(out, "price", cat.currency_text(), shown.total)?;
     out.key("reservations")?;
     out.begin_array()?;
-    put_reservations(out, cat, view.items.as_slice())?;
+    put_reservations(out, cat, shown.items)?;
     out.end_array()?;
-    put_flag(out, "settled", is_settled(view.phase))?;
-    put_text(out, "status", phase_text(view.phase))?;
-    put_successor(out, view.phase, view.ended)
+    put_flag(out, "settled", is_settled(shown.phase))?;
+    put_text(out, "status", phase_text(shown.phase))?;
+    put_successor(out, shown.phase, shown.ended)
 }
 
 fn is_settled(phase: Phase) -> bool

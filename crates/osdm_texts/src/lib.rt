@@ -26,4 +26,4 @@ pub use problem::Problem;
 pub use reply::{Reply, reply_text};
 pub use reservations::places_are_shown_once;
 pub use small::{small_text, swept_text};
-pub use written::{Success, Text, Written, write_reply, write_swept};
+pub use written::{Success, Text, Written, write_prebooked, write_reply, write_swept};

@@ -3,13 +3,14 @@ ghost use Rattle.serde_json.specs.Data.{Data};
 ghost use Rattle.serde_json.specs.Written.{compact_text};
 ghost use Rattle.osdm_texts.specs.Offers.{IsWritable};
 ghost use Rattle.osdm_texts.specs.Ids.{HasId};
-ghost use Rattle.osdm_texts.specs.Bookings.{HasIds};
+ghost use Rattle.osdm_texts.specs.Bookings.{HasIds, booking_tree};
+ghost use Rattle.osdm_texts.specs.Seen.{seen_of};
 ghost use Rattle.osdm_texts.specs.Replies.{offers_tree, exchanged_tree, tree_of, CanBeWritten};
 ghost use Rattle.osdm_texts.specs.Problems.{problem_tree};
 ghost use Rattle.osdm_texts.specs.Sweeps.{swept_tree};
 ghost use Rattle.osdm_texts.specs.Appends.{Appends, tokens_of};
 
-use crate::bookings::put_booking;
+use crate::bookings::{Shown, put_booking, put_shown};
 use crate::members::{put_amount, put_booking_id};
 use crate::offers::put_offers;
 use crate::places::places_text;
@@ -105,6 +106,21 @@ pub fn reply_text(alloc: Global, cat: &Catalogue, reply: &Reply<'_>) -> Result<V
         Reply::Swept(swept) => counts_copy(alloc, *swept),
         Reply::Problem(problem) => problem_copy(alloc, problem),
     }
+}
+
+/// The text of a booking that is shown so.
+pub(crate) fn shown_text(
+    alloc: Global,
+    cat: &Catalogue,
+    row: RowNo,
+    shown: &Shown<'_>,
+) -> Result<Vec<u8>, AllocError>
+    requires ids { HasIds row (seen_of shown.now) }
+    ensures { IfOk result (λ text. text.items ≡ compact_text (booking_tree cat.now row (seen_of shown.now))) }
+{
+    let mut out = start(alloc)?;
+    put_shown(&mut out, cat, row, shown)?;
+    Ok(finish(out))
 }
 
 // A sweep's text. It stands apart, like a problem's, since room for a small text is dear to clear for each reply.

@@ -3,14 +3,21 @@
 //! none, and is written where it is told.
 ghost use Rattle.std.specs.Prelude.{◌≡◌, Ok, IfSome};
 ghost use Rattle.serde_json.specs.Written.{compact_text};
+ghost use Rattle.history_model.specs.declared.phase.Phase.TheVariants as phase;
 ghost use Rattle.osdm_texts.specs.Replies.{tree_of as written_tree, CanBeWritten};
 ghost use Rattle.osdm_texts.specs.Sweeps.{swept_tree};
-ghost use Rattle.osdm_texts.specs.Answers.{status_told, telling, told_of};
+ghost use Rattle.osdm_texts.specs.Answers.{status_told, telling, told_of, created, reply_told};
+ghost use Rattle.osdm_texts.specs.Ids.{HasId};
+ghost use Rattle.osdm_texts.specs.Seen.{made_view};
 
-use crate::reply::{Reply, reply_text};
+use crate::bookings::Shown;
+use crate::reply::{Reply, reply_text, shown_text};
 use crate::small::swept_text;
-use booking_rows::Swept;
+use booking_rows::{Detail, Swept};
+use history_model::phase::Phase;
+use leg_masks::Item;
 use rail_catalogue::Catalogue;
+use rail_ids::RowNo;
 use std::alloc::Global;
 
 /// The status (RFC 9110) of a reply that is no problem.
@@ -65,7 +72,38 @@ pub fn write_reply(
     ensures told { IfSome result (λ written. told_of (Ok written)
         ≡ telling (status_told success) (compact_text (written_tree cat.now reply.now))) }
 {
-    let text = reply_text(alloc, cat, reply).ok()?;
+    written_of(success, reply_text(alloc, cat, reply).ok()?)
+}
+
+/// Writes the answer to a new booking that is to be sealed as prebooked with this detail and these items. `None` where
+/// there is no memory for its text, or where its length doesn't fit a head.
+///
+/// The row has an id. No view of the booking is made, since one is large to copy.
+pub fn write_prebooked(
+    alloc: Global,
+    cat: &Catalogue,
+    row: RowNo,
+    detail: &Detail,
+    items: &[Item],
+) -> Option<Written>
+    requires id { HasId row }
+    ensures told { IfSome result (λ written. told_of (Ok written)
+        ≡ reply_told cat.now (created row (made_view phase.Prebooked detail.now items.now))) }
+{
+    let shown = Shown {
+        phase: Phase::Prebooked,
+        limit: detail.limit,
+        total: detail.total,
+        items,
+        ended: None,
+    };
+    written_of(Success::Created, shown_text(alloc, cat, row, &shown).ok()?)
+}
+
+// A text as it is told, where its length fits a head.
+fn written_of(success: Success, text: Vec<u8>) -> Option<Written>
+    ensures told { IfSome result (λ written. told_of (Ok written) ≡ telling (status_told success) text.items) }
+{
     let length = u32::try_from(text.len()).ok()?;
     Some(Written {
         success,
