@@ -1,14 +1,20 @@
 -- What is found of lines with a name, and where a head ends in its target.
 use Rattle.std.proofs.Common.{◌≡◌, ℕ, ◌+◌, ◌-◌, ◌≤◌, Bool, true, false, cond, List, [], ◌∷◌, ◌++◌, length, map, take, drop, refl, sym, ◌∙◌, ap, subst, arith, append_assoc}
-use Rattle.std.specs.Prelude.{filter, slice_range}
+use Rattle.std.specs.Prelude.{filter, slice_range, if◌then◌else◌}
 use Rattle.std.proofs.lemmas.List.{append-nil, length-append, length-take, take-take}
 use Rattle.httparse.specs.declared.spans.Span.{Span}
 use Rattle.httparse.specs.declared.spans.HeaderSpan.{HeaderSpan}
 use Rattle.httparse.specs.Spans.{span_bytes, header_bytes}
 use Rattle.http_wire.specs.declared.head.Named.{Named}
 use Rattle.http_wire.specs.declared.head.Named.TheVariants.{None, First, Several}
-use Rattle.http_wire.specs.Named.{with_value, found_after, IsNamed}
+use Rattle.http_wire.specs.Named.{with_value, IsNamed}
 use Rattle.http_wire.specs.HeadLines.{same_name, values_named}
+
+-- what is found, after these lines too
+abbrev pub found_after : List ℕ → List ℕ → Named → List HeaderSpan → Named
+found_after head name found [] = found
+found_after head name found (line ∷ lines) =
+    found_after head name (if same_name (span_bytes head line.name) name then with_value found line.value else found) lines
 
 -- one value more
 named_more : (head : List ℕ) (found : Named) (values : List (List ℕ)) (value : Span) → IsNamed head found values

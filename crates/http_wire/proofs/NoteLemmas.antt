@@ -9,11 +9,21 @@ use Rattle.http_wire.specs.declared.request.WireFault.{WireFault}
 use Rattle.http_wire.specs.declared.request.WireFault.TheVariants.{BadHead, HeadTooLarge, BodyTooLarge, Coding, BadLength}
 use Rattle.http_wire.specs.declared.served.Notes.{Notes}
 use Rattle.http_wire.specs.HeadLines.{same_name, values_named, lengths_in, codings_in, closes_in}
-use Rattle.http_wire.specs.Named.{found_after, IsNamed}
-use Rattle.http_wire.specs.Notes.{no_notes, with_line, notes_after}
+use Rattle.http_wire.specs.Named.{IsNamed}
+use Rattle.http_wire.specs.Notes.{with_line, AreNotesOf}
 use Rattle.http_wire.specs.ServedLines.{line_closes, closes_after, IsLengthFault, IsLinesFault}
-use Rattle.http_wire.proofs.NamedLemmas.{found_values}
+use Rattle.http_wire.proofs.NamedLemmas.{found_after, found_values}
 use Rattle.http_wire.proofs.ServedLemmas.{closes_is}
+
+-- ---- the notes, line by line
+
+abbrev pub no_notes : Notes
+no_notes = record { coded = false; lengths = None; keys = None; closes = false }
+
+-- what is noted after these lines too
+abbrev pub notes_after : List ℕ → Notes → List HeaderSpan → Notes
+notes_after head notes [] = notes
+notes_after head notes (line ∷ lines) = notes_after head (with_line head notes line) lines
 
 or_false : (b : Bool) → (b || false) ≡ b
 or_false true = refl
@@ -35,14 +45,14 @@ keys_after : (head : List ℕ) (notes : Notes) (lines : List HeaderSpan)
 keys_after head notes [] = refl
 keys_after head notes (line ∷ lines) = keys_after head (with_line head notes line) lines
 
-pub lengths_noted : (head : List ℕ) (notes : Notes) (lines : List HeaderSpan) → notes ≡ notes_after head no_notes lines
+lengths_noted : (head : List ℕ) (notes : Notes) (lines : List HeaderSpan) → notes ≡ notes_after head no_notes lines
     → IsNamed head notes.lengths (lengths_in (map (header_bytes head) lines))
 lengths_noted head notes lines is =
     subst (λ (n : Named). IsNamed head n (lengths_in (map (header_bytes head) lines)))
     (sym (ap (λ (t : Notes). t.lengths) is ∙ lengths_after head no_notes lines))
     (found_values lines head (codes "content-length") None [] refl)
 
-pub keys_noted : (head : List ℕ) (notes : Notes) (lines : List HeaderSpan) → notes ≡ notes_after head no_notes lines
+keys_noted : (head : List ℕ) (notes : Notes) (lines : List HeaderSpan) → notes ≡ notes_after head no_notes lines
     → IsNamed head notes.keys (values_named (codes "retailer-key") (map (header_bytes head) lines))
 keys_noted head notes lines is =
     subst (λ (n : Named). IsNamed head n (values_named (codes "retailer-key") (map (header_bytes head) lines)))
@@ -58,7 +68,7 @@ closes_from head notes (line ∷ lines) =
     closes_from head (with_line head notes line) lines
     ∙ or_more notes.closes (line_closes head line) (closes_after head lines)
 
-pub closes_noted : (head : List ℕ) (notes : Notes) (lines : List HeaderSpan) → notes ≡ notes_after head no_notes lines
+closes_noted : (head : List ℕ) (notes : Notes) (lines : List HeaderSpan) → notes ≡ notes_after head no_notes lines
     → notes.closes ≡ closes_in (map (header_bytes head) lines)
 closes_noted head notes lines is =
     ap (λ (t : Notes). t.closes) is ∙ closes_from head no_notes lines ∙ closes_is head lines
@@ -92,15 +102,41 @@ one_of : (values : List (List ℕ)) → has_any values ≡ true → 0 < length v
 one_of [] e = absurd cc
 one_of (value ∷ values) e = omega arith
 
-pub uncoded_noted : (head : List ℕ) (notes : Notes) (lines : List HeaderSpan) → notes ≡ notes_after head no_notes lines → notes.coded ≡ false
+uncoded_noted : (head : List ℕ) (notes : Notes) (lines : List HeaderSpan) → notes ≡ notes_after head no_notes lines → notes.coded ≡ false
     → codings_in (map (header_bytes head) lines) ≡ []
 uncoded_noted head notes lines is un =
     none_of (codings_in (map (header_bytes head) lines)) (sym (ap (λ (t : Notes). t.coded) is ∙ coded_from head no_notes lines) ∙ un)
 
-pub coded_noted : (head : List ℕ) (notes : Notes) (lines : List HeaderSpan) → notes ≡ notes_after head no_notes lines → notes.coded ≡ true
+coded_noted : (head : List ℕ) (notes : Notes) (lines : List HeaderSpan) → notes ≡ notes_after head no_notes lines → notes.coded ≡ true
     → 0 < length (codings_in (map (header_bytes head) lines))
 coded_noted head notes lines is coded =
     one_of (codings_in (map (header_bytes head) lines)) (sym (ap (λ (t : Notes). t.coded) is ∙ coded_from head no_notes lines) ∙ coded)
+
+some_true : (b : Bool) → (b ≡ false → ⊥) → b ≡ true
+some_true true other = refl
+some_true false other = absurd (other refl)
+
+-- what was noted line by line is what the lines say
+pub are_notes : (head : List ℕ) (notes : Notes) (lines : List HeaderSpan) → notes ≡ notes_after head no_notes lines
+    → AreNotesOf head (map (header_bytes head) lines) notes
+are_notes head notes lines is = record {
+  coded = (
+    coded_noted head notes lines is,
+    λ some. some_true notes.coded (λ un. omega (arith, some, ap length (uncoded_noted head notes lines is un))),
+  );
+  lengths = lengths_noted head notes lines is;
+  keys = keys_noted head notes lines is;
+  closes = closes_noted head notes lines is;
+}
+
+no_value_of : (values : List (List ℕ)) → (0 < length values → ⊥) → values ≡ []
+no_value_of [] none = refl
+no_value_of (value ∷ values) none = absurd (none (omega arith))
+
+-- where no coding is noted, no line gives one
+pub uncoded : (head : List ℕ) (lines : List (List ℕ × List ℕ)) (notes : Notes) → AreNotesOf head lines notes → notes.coded ≡ false
+    → codings_in lines ≡ []
+uncoded head lines notes are un = no_value_of (codings_in lines) (λ some. let coded = are.coded.1 some in cc)
 
 -- ---- faults
 

@@ -1,22 +1,14 @@
 -- What is found of the lines with a name.
-use Rattle.std.specs.Prelude.{◌≡◌, ℕ, ◌<◌, List, [], ◌∷◌, length, if◌then◌else◌, ⊤}
+use Rattle.std.specs.Prelude.{◌≡◌, ℕ, ◌<◌, List, [], ◌∷◌, length, ⊤}
 use Rattle.httparse.specs.declared.spans.Span.{Span}
-use Rattle.httparse.specs.declared.spans.HeaderSpan.{HeaderSpan}
 use Rattle.httparse.specs.Spans.{span_bytes, IsWithin}
 use Rattle.http_wire.specs.declared.head.Named.{Named}
 use Rattle.http_wire.specs.declared.head.Named.TheVariants.{None, First, Several}
-use Rattle.http_wire.specs.HeadLines.{same_name}
 
 abbrev pub with_value : Named → Span → Named
 with_value None value = First value
 with_value (First first) value = Several first
 with_value (Several first) value = Several first
-
--- what is found, after these lines too
-abbrev pub found_after : List ℕ → List ℕ → Named → List HeaderSpan → Named
-found_after head name found [] = found
-found_after head name found (line ∷ lines) =
-    found_after head name (if same_name (span_bytes head line.name) name then with_value found line.value else found) lines
 
 -- none, one or several of these values
 abbrev pub IsNamed : List ℕ → Named → List (List ℕ) → Type 0

@@ -1,16 +1,12 @@
 -- What is noted of a head's lines, gone through once.
-use Rattle.std.specs.Prelude.{ℕ, false, ◌||◌, List, [], ◌∷◌, if◌then◌else◌, codes}
+use Rattle.std.specs.Prelude.{◌≡◌, ℕ, ◌<◌, ◌↔◌, ◌||◌, List, length, if◌then◌else◌, IsTrue, codes}
 use Rattle.httparse.specs.declared.spans.HeaderSpan.{HeaderSpan}
 use Rattle.httparse.specs.Spans.{span_bytes}
 use Rattle.http_wire.specs.declared.head.Named.{Named}
-use Rattle.http_wire.specs.declared.head.Named.TheVariants.{None}
 use Rattle.http_wire.specs.declared.served.Notes.{Notes}
-use Rattle.http_wire.specs.Named.{with_value, IsNamedWithin}
-use Rattle.http_wire.specs.HeadLines.{same_name}
+use Rattle.http_wire.specs.Named.{with_value, IsNamed, IsNamedWithin}
+use Rattle.http_wire.specs.HeadLines.{same_name, values_named, lengths_in, codings_in, closes_in}
 use Rattle.http_wire.specs.ServedLines.{line_closes}
-
-abbrev pub no_notes : Notes
-no_notes = record { coded = false; lengths = None; keys = None; closes = false }
 
 -- the values found, with that of this line where it has the name
 abbrev pub found_with : List ℕ → List ℕ → Named → HeaderSpan → Named
@@ -25,10 +21,13 @@ with_line head notes line = record {
   closes = notes.closes || line_closes head line;
 }
 
--- what is noted after these lines too
-abbrev pub notes_after : List ℕ → Notes → List HeaderSpan → Notes
-notes_after head notes [] = notes
-notes_after head notes (line ∷ lines) = notes_after head (with_line head notes line) lines
+-- these are the notes of lines as pairs of name and value
+pub record AreNotesOf (head : List ℕ) (lines : List (List ℕ × List ℕ)) (notes : Notes) : Type 0 where
+  -- some line gives a coding
+  pub coded : IsTrue notes.coded ↔ (0 < length (codings_in lines))
+  pub lengths : IsNamed head notes.lengths (lengths_in lines)
+  pub keys : IsNamed head notes.keys (values_named (codes "retailer-key") lines)
+  pub closes : notes.closes ≡ closes_in lines
 
 -- what was found lies in the first n bytes
 pub record AreNotesWithin (n : ℕ) (notes : Notes) : Type 0 where

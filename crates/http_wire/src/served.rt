@@ -7,7 +7,7 @@ ghost use Rattle.http_wire.specs.Heads.{IsHead, HasLines};
 ghost use Rattle.http_wire.specs.HeadLines.{same_name, IsNumeral, IsLength, lengths_in, says_close, lines_at, IsFirstOf};
 ghost use Rattle.http_wire.specs.HeadRead.{IsServedRead, IsServedWithin, IsHeadFault};
 ghost use Rattle.http_wire.specs.Named.{IsNamed, IsNamedWithin};
-ghost use Rattle.http_wire.specs.Notes.{AreNotesWithin, with_line, no_notes, notes_after};
+ghost use Rattle.http_wire.specs.Notes.{AreNotesOf, AreNotesWithin, with_line};
 ghost use Rattle.http_wire.specs.ServedLines.{AreServedLines, IsLengthFault, IsLinesFault, Agrees, line_closes};
 
 use crate::head::{
@@ -147,7 +147,7 @@ impl Notes {
 /// What all the lines say.
 fn notes_of(head: &[u8], lines: &[HeaderSpan]) -> Notes
     requires { All (IsHeaderWithin (length head.now)) lines.now }
-    ensures notes { result ≡ notes_after head.now no_notes lines.now }
+    ensures notes { AreNotesOf head.now (lines_at head.now lines.now) result }
     ensures within { AreNotesWithin (length head.now) result }
 {
     let mut notes = Notes {

@@ -1,5 +1,6 @@
 use Rattle.std.proofs.Common.{◌≡◌, drop, length}
-use Rattle.http_wire.specs.Notes.{AreNotesWithin, no_notes, notes_after}
+use Rattle.http_wire.specs.Notes.{AreNotesWithin}
+use Rattle.http_wire.proofs.NoteLemmas.{no_notes, notes_after}
 use Rattle.http_wire.proofs.served.notes_of.Given as goal
 
 -- the lines that are left are still to be noted
