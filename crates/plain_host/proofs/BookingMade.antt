@@ -31,7 +31,8 @@ use Rattle.lone_desk.proofs.Following.{shape_follows}
 use Rattle.reservation_service.specs.declared.holding.Placing.{Placing}
 use Rattle.reservation_service.specs.declared.holding.Placing.TheVariants.{Whole, Short, Contended, NoMemory}
 use Rattle.reservation_service.specs.Holding.{HoldsPlaces, GivesUp, problem_of}
-use Rattle.reservation_service.specs.Reserving.{detail_of, made_view, Prebooks, FailsToHold, Reserves}
+use Rattle.osdm_texts.specs.Seen.{made_view}
+use Rattle.reservation_service.specs.Reserving.{detail_of, Prebooks, FailsToHold, Reserves}
 use Rattle.plain_host.specs.Plain.{Standing, Plain, Outcome, Choice, choice_for, chosen, keeping, with_new}
 use Rattle.plain_host.specs.Outcomes.{refusing, placed, placed_in, with_places_for, prebooked}
 use Rattle.plain_host.specs.PlainOf.{row_of, standing_of, standings_of, kept_of, plain_in, plain_of}

@@ -28,7 +28,8 @@ use Rattle.osdm_texts.specs.declared.problem.Problem.TheVariants.{UnknownBooking
 use Rattle.osdm_texts.specs.Answers.{offer_list, created, booking, refund_offer, exchange_offer, exchanged, place_list, swept, problem}
 use Rattle.osdm_json.specs.declared.command.Command.{Command}
 use Rattle.booking_service.specs.Deciding.{in_phase, at_end}
-use Rattle.reservation_service.specs.Reserving.{reserved, detail_of, made_view}
+use Rattle.osdm_texts.specs.Seen.{made_view}
+use Rattle.reservation_service.specs.Reserving.{reserved, detail_of}
 use Rattle.search_service.specs.Searching.{numbers_on}
 use Rattle.service_rules.specs.Ordered as order
 use Rattle.service_rules.specs.Checks.{ordered}

@@ -18,9 +18,6 @@ use Rattle.claim_rule.proofs.Shapes.{shape_then}
 use Rattle.claim_rule.specs.Calls.{ShapeBy}
 use Rattle.booking_rows.specs.Starts.{StartsHold}
 use Rattle.booking_rows.specs.declared.notes.Detail.{Detail}
-use Rattle.booking_rows.specs.Views.{RowSeen, MaySucceed}
-use Rattle.osdm_texts.specs.Ids.{HasId}
-use Rattle.osdm_texts.specs.Bookings.{HasIds}
 use Rattle.booking_rows.specs.Notes.{detail_notes}
 use Rattle.claim_rule.specs.Out.{MakesEmpty, IsSealedAs, SealsItems, IsIdle, IsTidy}
 use Rattle.offer_codes.specs.Offers.{OfferView}
@@ -28,11 +25,12 @@ use Rattle.rail_catalogue.specs.Contents.{CatalogueView}
 use Rattle.osdm_texts.specs.declared.problem.Problem.{Problem}
 use Rattle.osdm_texts.specs.declared.problem.Problem.TheVariants as reason
 use Rattle.osdm_texts.specs.Answers.{Reply, created, problem, Told, refused, reply_told}
+use Rattle.osdm_texts.specs.Seen.{made_view}
 use Rattle.osdm_texts.proofs.Telling.{of_problem}
 use Rattle.reservation_service.specs.declared.holding.Placing.{Placing}
 use Rattle.reservation_service.specs.declared.holding.Placing.TheVariants.{Whole, Short, Contended, NoMemory}
 use Rattle.reservation_service.specs.Holding.{count_of, PlacesAll, HoldsPlaces, FindsNoRow, GivesUp, HasAllPlaces, problem_of}
-use Rattle.reservation_service.specs.Reserving.{detail_of, made_view, Reserves, MakesReady, FallsShort, SealsHold, FailsToHold, HasAllOrNone, AnswersReserving}
+use Rattle.reservation_service.specs.Reserving.{detail_of, Reserves, MakesReady, FallsShort, SealsHold, FailsToHold, HasAllOrNone, AnswersReserving}
 use Rattle.reservation_service.proofs.Placed.{apart_has_memory, whole_places, places_many}
 use Rattle.reservation_service.proofs.Calm.{held_calmly, reserves_tidy}
 
@@ -41,10 +39,6 @@ whole_of Whole e = refl
 whole_of Short e = absurd (let no : ◌≡◌ {A = Option Problem} (Some reason.NoPlace) None = e in cc)
 whole_of Contended e = absurd (let no : ◌≡◌ {A = Option Problem} (Some reason.Contended) None = e in cc)
 whole_of NoMemory e = absurd (let no : ◌≡◌ {A = Option Problem} (Some reason.NoMemory) None = e in cc)
-
--- the ids of a new booking
-pub made_ids : (hold : HoldView) (row : RowNo) (v : RowSeen) (phase : Phase) (d : Detail) (items : List Item) → HasId hold.row → row ≡ hold.row → v ≡ made_view phase d items → HasIds row v
-made_ids hold row v phase d items has same is = (subst HasId (sym same) has, subst (λ (s : RowSeen). MaySucceed s.ended) (sym is) tt)
 
 pub no_row : (cat : CatalogueView) (retailer now : ℕ) (o : OfferView) (together : Bool) (old new : DeskView) → FindsNoRow old new → MakesEmpty new
     → AnswersReserving cat retailer now o together old new (refused reason.RowsFull)

@@ -1,5 +1,5 @@
 -- Booking the places of an offer, and what is answered.
-use Rattle.std.specs.Prelude.{◌≡◌, ◌⊎◌, ℕ, ◌+◌, min, Bool, List, [], ◌∷◌, ◌++◌, length, Some, None}
+use Rattle.std.specs.Prelude.{◌≡◌, ◌⊎◌, ℕ, ◌+◌, min, Bool, List, [], ◌∷◌, ◌++◌, length, Some}
 use Rattle.leg_masks.specs.Interval.{PlacedSpan as Item}
 use Rattle.rail_ids.specs.declared.RowNo.{RowNo}
 use Rattle.rail_time.specs.Moments.{last_second}
@@ -9,17 +9,16 @@ use Rattle.offer_codes.specs.Offers.{OfferView}
 use Rattle.rail_catalogue.specs.Contents.{CatalogueView}
 use Rattle.offer_engine.specs.Offers.{offer_price}
 use Rattle.history_model.specs.declared.entry.Step.TheVariants.{Seal}
-use Rattle.history_model.specs.declared.phase.Phase.{Phase}
 use Rattle.history_model.specs.declared.phase.Phase.TheVariants as phase
 use Rattle.claim_rule.specs.Rule.{DeskView}
 use Rattle.claim_rule.specs.Desks.{Shape}
 use Rattle.claim_rule.specs.Out.{MakesEmpty, SealsItems}
 use Rattle.booking_rows.specs.declared.notes.Detail.{Detail}
 use Rattle.booking_rows.specs.Notes.{detail_notes}
-use Rattle.booking_rows.specs.Views.{RowSeen}
 use Rattle.osdm_texts.specs.declared.problem.Problem.{Problem}
 use Rattle.osdm_texts.specs.declared.problem.Problem.TheVariants.{RowsFull, NoMemory}
 use Rattle.osdm_texts.specs.Answers.{Reply, created, exchanged, problem, Told, reply_told}
+use Rattle.osdm_texts.specs.Seen.{made_view}
 use Rattle.reservation_service.specs.declared.holding.Placing.{Placing}
 use Rattle.reservation_service.specs.declared.holding.Placing.TheVariants.{Whole}
 use Rattle.reservation_service.specs.Holding.{PlacesAll, HoldsPlaces, FindsNoRow, GivesUp, problem_of, HasAllPlaces}
@@ -32,10 +31,6 @@ reserved s class count wanted now = record { made = now; adults = count; childre
 abbrev pub detail_of : CatalogueView → OfferView → ℕ → ℕ → Detail
 detail_of cat o retailer now =
     record { retailer = record { 0 = retailer }; limit = min (now + cat.terms.confirm_seconds) last_second; total = offer_price cat o }
-
-abbrev pub made_view : Phase → Detail → List Item → RowSeen
-made_view phase d items =
-    record { phase = phase; retailer = d.retailer.0; limit = d.limit; total = d.total; items = items; ended = None }
 
 -- all places are held, noted and sealed
 abbrev pub Prebooks : CatalogueView → ℕ → ℕ → OfferView → Bool → DeskView → DeskView → Reply → Type 0

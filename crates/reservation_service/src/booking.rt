@@ -11,7 +11,8 @@ ghost use Rattle.claim_rule.specs.Desks.{IsOf};
 ghost use Rattle.claim_rule.specs.Out.{IsHolding, HasNotedItems, IsToBeSealed, IsIdle, IsTidy, KeepsEndings};
 ghost use Rattle.osdm_texts.specs.Answers.{created, reply_told, told_of};
 ghost use Rattle.osdm_texts.specs.Ids.{HasId};
-ghost use Rattle.reservation_service.specs.Reserving.{MakesReady, FallsShort, AnswersReserving, made_view, reserved};
+ghost use Rattle.osdm_texts.specs.Seen.{made_view};
+ghost use Rattle.reservation_service.specs.Reserving.{MakesReady, FallsShort, AnswersReserving, reserved};
 
 use crate::details::detail_for;
 use crate::holding::place_segments;
@@ -23,7 +24,7 @@ use history_model::phase::Phase;
 use hold_core::abandon;
 use leg_masks::Item;
 use offer_codes::{OfferCode, Segment};
-use osdm_texts::{Problem, Reply, Success, Written, write_reply};
+use osdm_texts::{Problem, Written, write_prebooked};
 use place_map::Class;
 use shop::{Asker, Shop};
 
@@ -164,11 +165,7 @@ fn created_answer(shop: &Shop<'_>, hold: &Hold, detail: &Detail) -> Option<Writt
     ensures told { IfSome result (λ written. told_of (Ok written) ≡ reply_told shop.now.cat.now
         (created hold.now.row (made_view phase.Prebooked detail.now hold.now.items))) }
 {
-    let reply = Reply::Booking {
-        row: hold.row(),
-        view: new_view(Phase::Prebooked, hold.items(), detail),
-    };
-    write_reply(shop.alloc, shop.cat, Success::Created, &reply)
+    write_prebooked(shop.alloc, shop.cat, hold.row(), detail, hold.items())
 }
 
 /// The new booking in this phase, as its answer shows it.

@@ -34,7 +34,8 @@ use Rattle.history_model.specs.declared.phase.Phase.TheVariants as phase
 use Rattle.reservation_service.specs.declared.holding.Placing.{Placing}
 use Rattle.reservation_service.specs.declared.holding.Placing.TheVariants.{Whole}
 use Rattle.reservation_service.specs.Holding.{HoldsPlaces, FindsNoRow, GivesUp, problem_of}
-use Rattle.reservation_service.specs.Reserving.{detail_of, made_view, HasAllOrNone}
+use Rattle.osdm_texts.specs.Seen.{made_view}
+use Rattle.reservation_service.specs.Reserving.{detail_of, HasAllOrNone}
 use Rattle.reservation_service.proofs.Calm.{held_calmly}
 use Rattle.reservation_service.proofs.Placed.{both}
 use Rattle.reservation_service.proofs.Replying.{whole_of, seals_since, has_places, fails_with_memory}

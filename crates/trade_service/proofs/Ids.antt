@@ -23,7 +23,7 @@ use Rattle.exchange_core.specs.Ready.{ReadyView, IsReadyFor}
 use Rattle.osdm_texts.specs.Ids.{HasId}
 use Rattle.osdm_texts.specs.Bookings.{HasIds}
 use Rattle.booking_service.specs.Deciding.{at_end}
-use Rattle.reservation_service.specs.Reserving.{made_view}
+use Rattle.osdm_texts.specs.Seen.{made_view}
 
 pub refunded_ids : (row : RowNo) (now amount : ℕ) (v ended : RowSeen) → row.generation ≤ last_generation → ended ≡ at_end kind.Refund (end_of (aim.Refund now amount)) v → HasIds row ended
 refunded_ids row now amount v ended id is = (id, subst (λ (w : RowSeen). MaySucceed w.ended) (sym is) (omega arith))

@@ -27,7 +27,8 @@ use Rattle.osdm_texts.specs.declared.problem.Problem.TheVariants.{UnknownBooking
 use Rattle.osdm_texts.specs.Answers.{Reply, exchange_offer, exchanged, problem, Told, reply_told}
 use Rattle.booking_service.specs.Deciding.{Replying}
 use Rattle.reservation_service.specs.Holding.{HoldsPlaces, GivesUp}
-use Rattle.reservation_service.specs.Reserving.{detail_of, made_view, FailsToHold, HasAllOrNone}
+use Rattle.osdm_texts.specs.Seen.{made_view}
+use Rattle.reservation_service.specs.Reserving.{detail_of, FailsToHold, HasAllOrNone}
 use Rattle.reservation_service.specs.declared.holding.Placing.TheVariants.{Whole}
 
 -- the quote, or that there is no memory for it; a refusal takes none

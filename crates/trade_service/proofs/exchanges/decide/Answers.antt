@@ -7,7 +7,7 @@ use Rattle.osdm_texts.specs.declared.problem.Problem.{Problem}
 use Rattle.osdm_texts.specs.declared.problem.Problem.TheVariants.{NoMemory}
 use Rattle.osdm_texts.specs.Answers.{exchanged, problem, refused, reply_told}
 use Rattle.osdm_texts.proofs.Telling.{of_problem}
-use Rattle.reservation_service.specs.Reserving.{made_view}
+use Rattle.osdm_texts.specs.Seen.{made_view}
 use Rattle.trade_service.specs.Exchanges.{lost_problem}
 use Rattle.trade_service.proofs.Ids.{exchanged_ids}
 use Rattle.trade_service.proofs.Settling.{gave_settles, notes_settles}
