@@ -1,5 +1,5 @@
-use Rattle.std.proofs.Common.{◌≡◌, ◌≤◌, ap, arith}
-use Rattle.trip_builder.specs.Bounds.{BoundsView, no_rank}
+use Rattle.std.proofs.Common.{◌≡◌, ap, arith}
+use Rattle.trip_builder.specs.Bounds.{BoundsView}
 use Rattle.trip_builder.proofs.bounds.Bounds.narrowed.Goals as goal
 
 pub returns-clause-leading : goal.returns-clause-leading

@@ -1,5 +1,4 @@
 use Rattle.std.proofs.Common.{◌≡◌, ◌∙◌, sym, ap, subst}
-use Rattle.trip_builder.specs.declared.rides.Rides.{Rides}
 use Rattle.trip_builder.specs.Bounds.{RanksView, AreRanks, AreRides, BoundsView, ReachView}
 use Rattle.trip_builder.proofs.Bounding.{looked_level}
 use Rattle.trip_builder.proofs.bounds.Bounds.of_ride.Goals as goal
