@@ -11,9 +11,9 @@ use Rattle.http_wire.specs.declared.served.Notes.{Notes}
 use Rattle.http_wire.specs.HeadLines.{same_name, values_named, lengths_in, codings_in, closes_in}
 use Rattle.http_wire.specs.Named.{IsNamed}
 use Rattle.http_wire.specs.Notes.{with_line, AreNotesOf}
-use Rattle.http_wire.specs.ServedLines.{line_closes, closes_after, IsLengthFault, IsLinesFault}
+use Rattle.http_wire.specs.ServedLines.{line_closes, IsLengthFault, IsLinesFault}
 use Rattle.http_wire.proofs.NamedLemmas.{found_after, found_values}
-use Rattle.http_wire.proofs.ServedLemmas.{closes_is}
+use Rattle.http_wire.proofs.ServedLemmas.{closes_after, closes_is}
 
 -- ---- the notes, line by line
 

@@ -11,10 +11,15 @@ use Rattle.http_wire.specs.declared.request.WireFault.{WireFault}
 use Rattle.http_wire.specs.declared.request.WireFault.TheVariants.{BadHead, HeadTooLarge, BodyTooLarge, Coding, BadLength}
 use Rattle.http_wire.specs.HeadRead.{IsHeadFault}
 use Rattle.http_wire.specs.HeadLines.{same_name, says_close, closes_in, lengths_in, codings_in, lines_of, IsHeadOf, IsServedHead, IsNumeral, IsLength}
-use Rattle.http_wire.specs.ServedLines.{Agrees, line_closes, closes_after, AreServedLines, IsLinesFault}
+use Rattle.http_wire.specs.ServedLines.{Agrees, line_closes, AreServedLines, IsLinesFault}
 use Rattle.http_wire.proofs.Fronts.{numeral_once}
 
 -- ---- close
+
+-- some line says close
+abbrev pub closes_after : List ℕ → List HeaderSpan → Bool
+closes_after head [] = false
+closes_after head (line ∷ lines) = line_closes head line || closes_after head lines
 
 closes_line : (t c : Bool) (value : List ℕ) (rest : List (List ℕ)) → c ≡ says_close value
     → (t && c || list_any says_close rest) ≡ list_any says_close (cond t (value ∷ rest) rest)

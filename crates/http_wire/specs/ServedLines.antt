@@ -1,5 +1,5 @@
 -- What is read of a head's lines.
-use Rattle.std.specs.Prelude.{◌≡◌, ℕ, ◌<◌, ◌≤◌, Bool, true, false, ◌&&◌, ◌||◌, List, [], ◌∷◌, length, option_map, IfSome, codes}
+use Rattle.std.specs.Prelude.{◌≡◌, ℕ, ◌<◌, ◌≤◌, Bool, true, ◌&&◌, List, [], length, option_map, IfSome, codes}
 use Rattle.httparse.specs.declared.spans.HeaderSpan.{HeaderSpan}
 use Rattle.httparse.specs.Spans.{IsWithin, span_bytes}
 use Rattle.http_wire.specs.declared.head.ServedLines.{ServedLines}
@@ -39,7 +39,3 @@ Agrees head number line = same_name (span_bytes head line.name) (codes "content-
 -- the line says close
 abbrev pub line_closes : List ℕ → HeaderSpan → Bool
 line_closes head line = same_name (span_bytes head line.name) (codes "connection") && says_close (span_bytes head line.value)
-
-abbrev pub closes_after : List ℕ → List HeaderSpan → Bool
-closes_after head [] = false
-closes_after head (line ∷ lines) = line_closes head line || closes_after head lines
