@@ -6,6 +6,7 @@
 //! does is trusted there, and what is made of each answer is proved.
 #![tactic(auto)]
 
+mod line;
 mod outbox;
 mod socket;
 mod tcp_port;

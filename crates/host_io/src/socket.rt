@@ -1,11 +1,12 @@
 // A connection of a port: a reader and a sink that share its stream.
-ghost use Rattle.std.specs.Prelude.{◌≡◌, ◌≤◌, ◌<◌, ◌++◌, None, IfOk, length};
+ghost use Rattle.std.specs.Prelude.{◌≡◌, ◌<◌, ◌++◌, None, length};
 ghost use Rattle.std.specs.Io.Slices.{io_slices_bytes};
 ghost use Rattle.rail_io.specs.Told.{Pushes, PushesBoth};
 ghost use Rattle.host_io.specs.Tcp.{seconds_of};
 
+use crate::line::Line;
 use crate::outbox::Outbox;
-use rail_io::{Pushed, PushedBoth, RETRIES, Sink, WriterSink, pushed_of};
+use rail_io::{Pushed, PushedBoth, Sink, pushed_of};
 use std::alloc::Global;
 use std::io::{ErrorKind, IoSlice, Read};
 use std::net::{Shutdown, TcpStream};
@@ -45,20 +46,6 @@ pub fn make_ready(stream: &TcpStream) -> io::Result<()> {
     stream.set_write_timeout(Some(Duration::from_secs(STALLED_SECONDS)))
 }
 
-/// Writes some of the pieces, one behind the other, by one call of the system, which is made once more where a signal
-/// interrupted it.
-fn send_some(stream: &TcpStream, pieces: &[IoSlice<'_>]) -> io::Result<usize>
-    ensures { IfOk result (λ count. count ≤ length (io_slices_bytes pieces.now)) }
-{
-    for _ in 0..RETRIES {
-        match stream.write_vectored(pieces) {
-            Err(error) if error.kind() == ErrorKind::Interrupted => {}
-            outcome => return outcome,
-        }
-    }
-    stream.write_vectored(pieces)
-}
-
 /// Two pieces for one call of the system: the second stands behind the first.
 fn pieces_of<'a>(first: &'a [u8], second: &'a [u8]) -> [IoSlice<'a>; 2]
     ensures { io_slices_bytes result ≡ first.now ++ second.now }
@@ -70,13 +57,13 @@ fn pieces_of<'a>(first: &'a [u8], second: &'a [u8]) -> [IoSlice<'a>; 2]
 /// pieces, which costs the system more.
 #[derive(Drop)]
 struct StreamSink<'a> {
-    stream: &'a TcpStream,
+    line: &'a Line,
     faults: u64,
 }
 
 impl<'a> StreamSink<'a> {
-    fn new(stream: &'a TcpStream) -> StreamSink<'a> {
-        StreamSink { stream, faults: 0 }
+    fn new(line: &'a Line) -> StreamSink<'a> {
+        StreamSink { line, faults: 0 }
     }
 }
 
@@ -88,7 +75,7 @@ impl Sink for StreamSink<'_> {
     ghost faults = { λ s. s.faults };
 
     fn write(&mut self, piece: &[u8]) -> Pushed {
-        let pushed = WriterSink::new(self.stream).write(piece);
+        let pushed = pushed_of(self.line.send(piece));
         if let Pushed::Failed = pushed {
             self.faults = self.faults.saturating_add(1);
         }
@@ -96,8 +83,8 @@ impl Sink for StreamSink<'_> {
     }
 
     fn write_both(&mut self, first: &[u8], second: &[u8]) -> PushedBoth {
-        let Pushed::Took(count) = pushed_of(send_some(self.stream, &pieces_of(first, second)))
-        else {
+        let pieces = pieces_of(first, second);
+        let Pushed::Took(count) = pushed_of(self.line.send_pieces(&pieces)) else {
             self.faults = self.faults.saturating_add(1);
             return PushedBoth::Failed(0);
         };
@@ -108,7 +95,7 @@ impl Sink for StreamSink<'_> {
 /// What both halves of a connection share.
 #[derive(Drop)]
 struct Shared {
-    stream: TcpStream,
+    line: Line,
     /// What was answered and isn't sent yet. Each half has the lock for a moment only, and one thread has both halves.
     outbox: Mutex<Outbox>,
     /// Whether something was answered since the last call of `send_answers`.
@@ -122,7 +109,7 @@ impl Shared {
         if !self.answered.swap(false, Ordering::SeqCst) {
             return Ok(false);
         }
-        let mut sink = StreamSink::new(&self.stream);
+        let mut sink = StreamSink::new(&self.line);
         let Some(mut outbox) = self.outbox.try_lock() else {
             return Err(io::Error::from(ErrorKind::BrokenPipe));
         };
@@ -138,7 +125,7 @@ impl Shared {
         requires { 0 < length piece.now }
         ensures { Pushes None None piece.now result }
     {
-        let mut sink = StreamSink::new(&self.stream);
+        let mut sink = StreamSink::new(&self.line);
         let Some(mut outbox) = self.outbox.try_lock() else {
             return Pushed::Failed;
         };
@@ -153,7 +140,7 @@ impl Shared {
         requires { 0 < length first.now }
         ensures { PushesBoth None None (first.now ++ second.now) result }
     {
-        let mut sink = StreamSink::new(&self.stream);
+        let mut sink = StreamSink::new(&self.line);
         let Some(mut outbox) = self.outbox.try_lock() else {
             return PushedBoth::Failed(0);
         };
@@ -199,7 +186,7 @@ pub(crate) fn halves_of<C: time::Clock + Drop>(
         return Err(io::Error::from(ErrorKind::OutOfMemory));
     };
     let shared = Shared {
-        stream,
+        line: Line::of(stream),
         outbox: Mutex::new(outbox),
         answered: AtomicBool::new(false),
     };
@@ -231,7 +218,7 @@ impl<C: time::Clock + Drop> SocketReader<C> {
         }
         let limit = read_seconds(self.idle);
         if limit != self.limit {
-            let stream = &self.shared.stream;
+            let stream = &self.shared.line.stream;
             stream.set_read_timeout(Some(Duration::from_secs(limit)))?;
             self.limit = limit;
         }
@@ -242,7 +229,7 @@ impl<C: time::Clock + Drop> SocketReader<C> {
 impl<C: time::Clock + Drop> Read for SocketReader<C> {
     fn read(&mut self, buf: &mut [u8]) -> io::Result<usize> {
         let answer = match self.prepare() {
-            Ok(()) => (&self.shared.stream).read(buf),
+            Ok(()) => self.shared.line.read(buf),
             Err(error) => Err(error),
         };
         match &answer {
@@ -290,14 +277,14 @@ impl Drop for SocketSink {
 }
 
 /// Tells the other side that no more comes, and reads away what it still sends, for about two seconds at most.
-fn drain<C: time::Clock>(clock: &C, stream: &TcpStream) -> io::Result<()> {
+fn drain<C: time::Clock>(clock: &C, line: &Line) -> io::Result<()> {
     let start = Instant::now(clock)?;
-    stream.shutdown(Shutdown::Write)?;
-    stream.set_read_timeout(Some(Duration::from_millis(DRAIN_MILLISECONDS)))?;
+    line.stream.shutdown(Shutdown::Write)?;
+    line.stream
+        .set_read_timeout(Some(Duration::from_millis(DRAIN_MILLISECONDS)))?;
     let mut room = [0u8; DRAIN_ROOM];
-    let mut reader = stream;
     for _piece in 0..DRAIN_PIECES {
-        let none_left = reader.read(&mut room)? == 0;
+        let none_left = line.read(&mut room)? == 0;
         if none_left || start.elapsed(clock)? >= Duration::from_secs(DRAIN_SECONDS) {
             return Ok(());
         }
@@ -309,7 +296,7 @@ impl<C: time::Clock + Drop> Drop for SocketReader<C> {
     fn drop(self) {
         let _sent = self.shared.send_answers();
         if self.open {
-            let _drained = drain(&self.clock, &self.shared.stream);
+            let _drained = drain(&self.clock, &self.shared.line);
         }
         let SocketReader {
             clock: _,
