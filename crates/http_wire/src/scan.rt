@@ -193,12 +193,12 @@ impl HeadScan {
             if scan.ended.is_some() {
                 return scan;
             }
-            // A line feed stands behind most carriage returns.
-            if from == piece.len() || piece[from] != b'\n' {
+            // Behind a carriage return stands most often a line feed: it is looked at in the same turn.
+            if from == piece.len() || next.byte != b'\r' {
                 continue;
             }
             steps.tick();
-            scan = scan.with_feed();
+            scan = scan.with_byte(piece[from]);
             from += 1;
             if scan.ended.is_some() {
                 return scan;

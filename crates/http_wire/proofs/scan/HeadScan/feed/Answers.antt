@@ -32,13 +32,11 @@ byte_stands before r next from bytes piece live found more s =
     (more (bytes ++ take next.at piece)
     (plain_until before from next.at bytes piece live found.after (omega (arith, found.within)) found.plain s)))
 
--- and for a line feed at this place
-feed_stands : (r last : HeadScan) (at : ℕ) (bytes piece : List ℕ) → at < length piece → slice_index piece at ≡ 10
-    → ((searched : List ℕ) → StandsFor r searched → StandsFor last (searched ++ 10 ∷ []))
+-- and for the byte at this place
+next_stands : (r last : HeadScan) (at : ℕ) (bytes piece : List ℕ) → at < length piece
+    → ((searched : List ℕ) → StandsFor r searched → StandsFor last (searched ++ slice_index piece at ∷ []))
     → StandsFor r (bytes ++ take at piece) → StandsFor last (bytes ++ take (at + 1) piece)
-feed_stands r last at bytes piece within is more s =
-    on_byte last piece bytes at within
-    (subst (λ (b : ℕ). StandsFor last ((bytes ++ take at piece) ++ b ∷ [])) (sym is) (more (bytes ++ take at piece) s))
+next_stands r last at bytes piece within more s = on_byte last piece bytes at within (more (bytes ++ take at piece) s)
 
 -- nothing of the piece is searched past a head's end
 ends_there : (r : HeadScan) (at : ℕ) (bytes piece : List ℕ) → is_some r.ended ≡ true → StandsFor r (bytes ++ take at piece) → StandsFor r (bytes ++ piece)
@@ -87,11 +85,11 @@ returns-then-is_some-3-clause-stands g c =
     let next = c.in-Some.next in
     let inv = c.bytes.invariant in
     let piece = c.args.piece.now in
-    let last = c.with_feed-scan.result in
+    let last = c.with_byte-scan-in-bytes.result in
     λ bytes s.
     ends_there last (next.at + 1 + 1) bytes piece (sym c.is_some-in-bytes-2.ensures ∙ c.if-is_some-3.true)
-    (feed_stands c.with_byte-scan.result last (next.at + 1) bytes piece (omega (arith, c.in-Some.ensures.found.within, c.if-from-piece.false)) c.if-piece-from-ne10.false
-    c.with_feed-scan.ensures.stands
+    (next_stands c.with_byte-scan.result last (next.at + 1) bytes piece (omega (arith, c.in-Some.ensures.found.within, c.if-from-piece.false))
+    c.with_byte-scan-in-bytes.ensures.stands
     (byte_stands c.bytes.scan c.with_byte-scan.result next c.bytes.from bytes piece inv.live c.in-Some.ensures.found
     (λ searched t. c.with_byte-scan.ensures.stands searched (subst (λ (h : HeadScan). StandsFor h searched) (sym c.with_plain-in-bytes.ensures) t))
     (inv.stands bytes s)))
@@ -102,19 +100,19 @@ bytes-preserved g c =
     let found = c.in-Some.ensures.found in
     let inv = c.bytes.invariant in
     let piece = c.args.piece.now in
-    let last = c.with_feed-scan.result in
+    let last = c.with_byte-scan-in-bytes.result in
     let there : next.at + 1 < length piece = omega (arith, found.within, c.if-from-piece.false) in
     record {
       within = omega (arith, there);
       live = none_of last.ended (sym c.is_some-in-bytes-2.ensures ∙ c.if-is_some-3.false);
       stands = λ bytes s.
-          feed_stands c.with_byte-scan.result last (next.at + 1) bytes piece there c.if-piece-from-ne10.false c.with_feed-scan.ensures.stands
+          next_stands c.with_byte-scan.result last (next.at + 1) bytes piece there c.with_byte-scan-in-bytes.ensures.stands
           (byte_stands c.bytes.scan c.with_byte-scan.result next c.bytes.from bytes piece inv.live found
           (λ searched t. c.with_byte-scan.ensures.stands searched (subst (λ (h : HeadScan). StandsFor h searched) (sym c.with_plain-in-bytes.ensures) t))
           (inv.stands bytes s));
       at = omega (
         arith,
-        c.with_feed-scan.ensures.at,
+        c.with_byte-scan-in-bytes.ensures.at,
         c.with_byte-scan.ensures.at,
         ap (λ (t : HeadScan). t.at) c.with_plain-in-bytes.ensures,
         plain_at c.bytes.scan (next.at - c.bytes.from),
