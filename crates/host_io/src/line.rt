@@ -8,15 +8,15 @@ use std::net::TcpStream;
 use std::sync::atomic::{AtomicBool, AtomicU32, Ordering};
 use std::{io, thread};
 
-/// How often a read looks whether more has come before it waits for it. Other threads run between two looks.
+/// How often a read looks whether more has come before it waits for it. Between two looks it lets other threads run.
 const LOOKS: u32 = 32;
 
-/// How many reads wait at once after one whose looks found nothing.
+/// How many reads wait without looking first after one whose looks found nothing.
 const READS_WITHOUT: u32 = 32;
 
-/// A stream that is read and written by one thread. A client that is near answers within some microseconds: a read that
-/// looks so long spares both sides to be put to sleep and woken. Where the looks find nothing, the client is far or
-/// idle, and the next reads do without.
+/// A stream that is read and written by one thread. A client that is near asks again within some microseconds: a read
+/// that looks so long spares both sides a sleep and a wake-up. Where the looks find nothing, the client is far or idle,
+/// and the next reads do without. Both halves of a connection have the line, so what changes in it is atomic.
 #[derive(Drop)]
 pub(crate) struct Line {
     pub(crate) stream: TcpStream,
@@ -36,12 +36,14 @@ impl Line {
         }
     }
 
-    // Sets whether calls of the system wait.
+    // Sets whether calls of the system wait. Where the system refuses it, they do as before.
     fn set_waits(&self, waits: bool) -> io::Result<()> {
-        if self.waits.swap(waits, Ordering::SeqCst) == waits {
+        if self.waits.load(Ordering::SeqCst) == waits {
             return Ok(());
         }
-        self.stream.set_nonblocking(!waits)
+        self.stream.set_nonblocking(!waits)?;
+        self.waits.store(waits, Ordering::SeqCst);
+        Ok(())
     }
 
     /// Reads some of what has come, or waits for it as long as the stream's time limit says.
@@ -62,11 +64,13 @@ impl Line {
         (&self.stream).read(room)
     }
 
-    // Looks a few times whether something has come.
+    // Looks a few times whether something has come; an error says that nothing has, as one of the system does.
     fn look(&self, room: &mut [u8]) -> io::Result<usize>
         ensures { IfOk result (λ count. count ≤ length room.new) }
     {
-        self.set_waits(false)?;
+        if self.set_waits(false).is_err() {
+            return Err(io::Error::from(ErrorKind::WouldBlock));
+        }
         for _ in 0..LOOKS {
             match (&self.stream).read(room) {
                 Err(error) if error.kind() == ErrorKind::WouldBlock => thread::yield_now(),
@@ -76,8 +80,8 @@ impl Line {
         Err(io::Error::from(ErrorKind::WouldBlock))
     }
 
-    // Whether a write is made again that failed so: one that a signal interrupted, or one that would have to wait, which
-    // it does from now on.
+    // Whether a write that failed so is made again: one that a signal interrupted, or one that would have had to wait.
+    // From then on the stream waits.
     fn tries_again(&self, error: &io::Error) -> bool {
         match error.kind() {
             ErrorKind::Interrupted => true,

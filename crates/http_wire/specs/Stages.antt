@@ -1,5 +1,5 @@
 -- How far the reading of a request has come.
-use Rattle.std.specs.Prelude.{◌≡◌, ℕ, ◌≤◌, List, length, take, drop, min, IfNone, ⊤}
+use Rattle.std.specs.Prelude.{◌≡◌, ℕ, ◌≤◌, List, length, take, drop, min, IfNone, None, ⊤}
 use Rattle.http_wire.specs.declared.head.ServedHead.{ServedHead}
 use Rattle.http_wire.specs.declared.intake.Front.{Front}
 use Rattle.http_wire.specs.declared.intake.Front.TheVariants.{Whole, Fault, Blank, Open}
@@ -42,3 +42,11 @@ EndsAtRequest (Whole request n) stage = searched stage ≤ n
 EndsAtRequest (Fault fault) stage = ⊤
 EndsAtRequest Blank stage = ⊤
 EndsAtRequest Open stage = ⊤
+
+-- where more of a request is to come, a head that has ended isn't read again: what it says is kept
+abbrev pub KeepsHead : Front → Stage → Type 0
+KeepsHead (Whole request n) stage = ⊤
+KeepsHead (Fault fault) stage = ⊤
+KeepsHead Blank stage = ⊤
+KeepsHead Open (Head scan) = scan.ended ≡ None
+KeepsHead Open (Body end head) = ⊤

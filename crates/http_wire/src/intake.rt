@@ -7,7 +7,7 @@ ghost use Rattle.http_wire.specs.declared.request.Next.TheVariants.{ReadFault};
 ghost use Rattle.http_wire.specs.Pieces.{piece_bytes, IsPieceWithin, IsFront};
 ghost use Rattle.http_wire.specs.Next.{IsNext, ReadsAtNeed, looked_at};
 ghost use Rattle.http_wire.specs.Requests.{HeadAt};
-ghost use Rattle.http_wire.specs.Stages.{IsStage, IsSearchOver, searched, EndsAtRequest};
+ghost use Rattle.http_wire.specs.Stages.{IsStage, IsSearchOver, searched, EndsAtRequest, KeepsHead};
 ghost use Rattle.http_wire.specs.declared.intake.Stage.TheVariants.{Head, Body};
 
 use crate::head::{HEAD_LINES, HEAD_ROOM, ServedHead};
@@ -107,6 +107,7 @@ fn examine<L: Ledger>(text: &[u8], number: u32, stage: &mut Stage, steps: &mut S
     ensures front { IsFront number text.now result }
     ensures stage { IsStage number text.now stage.new }
     ensures ends { EndsAtRequest result stage.new }
+    ensures kept { KeepsHead result stage.new }
     ensures steps { steps.new + searched stage.old ≤ steps.old + searched stage.new }
 {
     match *stage {
@@ -127,6 +128,7 @@ fn search_on<L: Ledger>(
     ensures front { IsFront number text.now result }
     ensures stage { IsStage number text.now stage.new }
     ensures ends { EndsAtRequest result stage.new }
+    ensures kept { KeepsHead result stage.new }
     ensures steps { steps.new + before.at ≤ steps.old + searched stage.new }
 {
     let room = text.len().min(HEAD_ROOM);
@@ -143,6 +145,7 @@ fn after_search(text: &[u8], number: u32, scan: HeadScan, stage: &mut Stage) -> 
     ensures front { IsFront number text.now result }
     ensures stage { IsStage number text.now stage.new }
     ensures ends { EndsAtRequest result stage.new }
+    ensures kept { KeepsHead result stage.new }
     ensures searched { searched stage.new ≡ scan.at }
 {
     if scan.lines as usize > HEAD_LINES {
@@ -182,14 +185,16 @@ fn after_head(text: &[u8], number: u32, end: usize, stage: &mut Stage) -> Front
     ensures front { IsFront number text.now result }
     ensures stage { IsStage number text.now stage.new }
     ensures ends { EndsAtRequest result stage.new }
+    ensures kept { KeepsHead result stage.new }
     ensures searched { searched stage.new ≡ end }
 {
     match served_head(&text[..end], number) {
         Ok(head) => {
-            if text.len() - end < head.length as usize {
+            let front = body_after(text, number, end, head);
+            if let Front::Open = front {
                 *stage = Stage::Body(end, head);
             }
-            body_after(text, number, end, head)
+            front
         }
         Err(fault) => Front::Fault(fault),
     }

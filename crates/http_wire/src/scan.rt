@@ -193,7 +193,7 @@ impl HeadScan {
             if scan.ended.is_some() {
                 return scan;
             }
-            // Behind a carriage return stands most often a line feed: it is looked at in the same turn.
+            // Behind a carriage return mostly stands a line feed: the byte there is looked at in the same turn.
             if from == piece.len() || next.byte != b'\r' {
                 continue;
             }

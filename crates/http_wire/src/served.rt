@@ -80,8 +80,8 @@ fn says_close(value: &[u8]) -> bool
     }
 }
 
-/// Whether a line's name is this one, without regard to ASCII case. The spelling of most clients is compared first, as it
-/// stands, which is cheap.
+/// Whether a line's name is this one, without regard to ASCII case. Its usual spelling is compared first, as it stands,
+/// which is cheap.
 #[inline(always)]
 fn is_named(name: &[u8], usual: &[u8], lower: &[u8]) -> bool
     requires { same_name usual.now lower.now ≡ true }

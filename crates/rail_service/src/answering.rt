@@ -20,8 +20,7 @@ pub(crate) fn counts_answer(status: u16, length: u32, swept: Swept, last: bool) 
     small_counts(status, length, swept, last)
 }
 
-// It stands apart, like one that refuses, since room for a small text is dear to clear for each answer; and its callers
-// inline what calls it, so that room for what it answers is cleared only where it is called.
+// It stands apart, and its callers are inlined, so that room for its answer is cleared only where it is made.
 #[cold]
 #[inline(never)]
 fn small_counts(status: u16, length: u32, swept: Swept, last: bool) -> Answer
@@ -42,6 +41,7 @@ pub(crate) fn problem_answer(problem: &Problem, last: bool) -> Answer
     small_problem(problem, last)
 }
 
+// Likewise.
 #[cold]
 #[inline(never)]
 fn small_problem(problem: &Problem, last: bool) -> Answer

@@ -55,8 +55,8 @@ fn write_two<K: Sink>(sink: &mut K, first: &[u8], second: &[u8]) -> bool
     write_all(sink, left)
 }
 
-/// Writes head and body one after the other, without joining them, and lets the answer go. It is taken apart, so that an
-/// answer made in a call that is inlined stands nowhere as a whole: it is large to clear and to copy.
+/// Writes head and body one after the other, without joining them, and drops the answer. It takes the answer apart, so
+/// that one that an inlined call made never stands in memory as a whole: it is large to clear and to copy.
 #[inline(always)]
 pub fn write_answer<K: Sink>(sink: &mut K, answer: Answer) -> bool
     ensures writes { Writes (K.told sink.old) (K.told sink.new) (answer_bytes answer) result }
