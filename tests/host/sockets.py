@@ -202,29 +202,41 @@ def largest_run() -> dict:
             "runs": [{"train": 1, "stops": stops, "fares": {"first": fare, "second": fare}, "coaches": [coach]}]}
 
 
-def long_answers(program: str):
-    """A body that is too long to be held goes out behind its head and the answers that are, by one call for both pieces."""
-    asked = ASKS + PLACES * 4 + ASKS
+def as_replay(program: str, asked: bytes, lists: int, late: float = 0):
+    """The answers to requests that come together, so many lists of all places among them, are those of replay. The client
+    may read late."""
     with tempfile.TemporaryDirectory() as folder:
         catalogue = os.path.join(folder, "largest.json")
         with open(catalogue, "w") as file:
             json.dump(largest_run(), file)
         replay = [program, "replay", catalogue]
         wanted = subprocess.run(replay, input=asked, stdout=subprocess.PIPE, timeout=SECONDS, check=True).stdout
-        expect(wanted.count(b'"free":true') == 4 * MOST_PLACES, "replay gives other lists: %r" % wanted[:200])
-        expect(len(wanted) > 4 * MOST_HELD, "the lists are too short to pass what is held")
+        expect(wanted.count(b'"free":true') == lists * MOST_PLACES, "replay gives other lists: %r" % wanted[:200])
+        expect(len(wanted) > lists * MOST_HELD, "the lists are too short to pass what is held")
         with Host(program, 1, 1, catalogue=catalogue) as host:
             client = host.connect()
             client.sendall(asked)
             client.shutdown(socket.SHUT_WR)
-            answers = b""
+            time.sleep(late)
+            pieces = []
             while piece := client.recv(65_536):
-                answers += piece
+                pieces.append(piece)
+            answers = b"".join(pieces)
             same = os.path.commonprefix([answers, wanted])
             expect(answers == wanted, "the answers differ from those of replay behind byte %d: %r for %r" %
                    (len(same), answers[len(same):][:80], wanted[len(same):][:80]))
             client.close()
             host.end()
+
+
+def long_answers(program: str):
+    """A body that is too long to be held goes out behind its head and the answers that are, by one call for both pieces."""
+    as_replay(program, ASKS + PLACES * 4 + ASKS, 4)
+
+
+def late_reader(program: str):
+    """Where more is answered than the system holds for a client that reads late, the host waits to write the rest."""
+    as_replay(program, (ASKS * 20 + PLACES) * 80, 80, late=1)
 
 
 def handles(program: str):
@@ -268,7 +280,7 @@ def ticks(program: str):
 
 def main() -> int:
     program = os.path.abspath(sys.argv[1])
-    parts = [ticks, refusals, ahead, long_answers, handles, time_limits]
+    parts = [ticks, refusals, ahead, long_answers, late_reader, handles, time_limits]
     for part in parts:
         try:
             part(program)
