@@ -3,6 +3,7 @@
 
   bench/gate.py [--save FILE] [--edits]               starts `rt ci` here and goes along with it
   bench/gate.py [--save FILE] [--edits] --pid PID     goes along with a run that is on its way (PID is that of `rt ci`)
+  bench/gate.py --join RUN.. --save FILE              the saved runs of one tree, of which each goes on where the one before was ended, as one
   bench/gate.py --compare BEFORE AFTER                two saved runs, crate by crate
 
 The processes of the run are looked up in /proc five times a second, so a process counts up to a fifth of a second too little. The seconds are
@@ -188,6 +189,20 @@ def show(saved, with_edits):
         table(["edit", "crate", "s"], [[edit, name, "%.0f" % seconds] for seconds, name, edit in sorted(every, reverse=True)])
 
 
+def join(runs):
+    """What one tree cost over several runs: a run takes what an earlier one proved as it is, so each proof and each edit stands in one of them."""
+    whole = {"rt": 0.0, "total": 0.0, "wall": 0.0, "crates": {}}
+    for run in runs:
+        for part in ("rt", "total", "wall"):
+            whole[part] += run[part]
+        for name, row in run["crates"].items():
+            crate = whole["crates"].setdefault(name, {"seconds": collections.Counter(), "memory": collections.Counter(), "edits": collections.Counter()})
+            crate["seconds"].update(row["seconds"])
+            crate["edits"].update(row["edits"])
+            crate["memory"] |= collections.Counter(row["memory"])  # the greater of two
+    return whole
+
+
 def compare(before, after):
     def cells(row):
         return [row["seconds"].get(part, 0) for part in PARTS[:4]] + [sum_of(row)] if row else [0.0] * 5
@@ -203,15 +218,28 @@ def compare(before, after):
     print("\nafter by before: %.2f" % (sums[9] / sums[8] if sums[8] else 0))
 
 
+def read_run(name):
+    return json.loads(pathlib.Path(name).read_text())
+
+
+def finish(run, given):
+    if given.save:
+        pathlib.Path(given.save).write_text(json.dumps(run, indent=1))
+    show(run, given.edits)
+
+
 def main():
     words = argparse.ArgumentParser(description=__doc__, formatter_class=argparse.RawDescriptionHelpFormatter)
     words.add_argument("--pid", type=int)
     words.add_argument("--save", metavar="FILE")
     words.add_argument("--edits", action="store_true", help="list each edit")
+    words.add_argument("--join", nargs="+", metavar="RUN")
     words.add_argument("--compare", nargs=2, metavar=("BEFORE", "AFTER"))
     given = words.parse_args()
     if given.compare:
-        return compare(*(json.loads(pathlib.Path(name).read_text()) for name in given.compare))
+        return compare(*map(read_run, given.compare))
+    if given.join:
+        return finish(join(map(read_run, given.join)), given)
     if given.pid:
         root = given.pid
         started, top = None, Process(root).folder()
@@ -222,10 +250,7 @@ def main():
     run, began = Run(root, top / "crates"), time.time()
     while run.sample() and (started is None or started.poll() is None):
         time.sleep(EACH_SECONDS)
-    saved = {"rt": run.own, "total": run.total, "wall": time.time() - began, "crates": run.rows()}
-    if given.save:
-        pathlib.Path(given.save).write_text(json.dumps(saved, indent=1))
-    show(saved, given.edits)
+    finish({"rt": run.own, "total": run.total, "wall": time.time() - began, "crates": run.rows()}, given)
     return started.wait() if started else 0
 
 
