@@ -10,7 +10,8 @@ somewhere in the crates. Each check that it names is one of tests/run.
 Where else the crates have that number is counted by file in tests/house/numbers.json (comments, proofs and crates of tests aside): a file
 may have it no oftener than the list says. Where it has it less often, that is said, and --write shortens the list; it never adds to it.
 
-ARCHITECTURE.md: each name in backticks is one of the crates, of their files or of what stands in them.
+ARCHITECTURE.md, and the README.md of a crate: each name in backticks, and in an example, is one of the crates, of their files or of what
+stands in them.
 """
 import argparse
 import json
@@ -180,16 +181,21 @@ def number_faults(write):
         NUMBERS.write_text(json.dumps(shorter, indent=1, sort_keys=True) + "\n")
 
 
-def architecture_faults(code):
-    crates = {path.name for path in CRATES.iterdir()}
-    for name in sorted(set(names_in(re.sub(r"```.*?```", "", ARCHITECTURE.read_text(), flags=re.S)))):
-        if is_path(name):
-            if not (ROOT / name).exists() and not re.match(r"[A-Z]+ /|specs/$", name):
-                yield "ARCHITECTURE.md: there is no %s" % name
-        else:
-            for word in re.findall(r"[A-Za-z_]\w+", name):
-                if word not in code.words and word not in crates and word not in ("txt", "py", "tests", "step_"):
-                    yield "ARCHITECTURE.md: nothing is named %s" % word
+def page_faults(code):
+    """What ARCHITECTURE.md and the crates' pages name that isn't there."""
+    known = {path.name for path in CRATES.iterdir()} | checks_there() | {"txt", "py", "tests", "step_", "run", "bench"}
+    for page in [ARCHITECTURE, *sorted(CRATES.glob("*/README.md"))]:
+        for name in sorted(set(names_in(re.sub(r"```.*?```", "", page.read_text(), flags=re.S)))):
+            if is_path(name) and not name.startswith("tests/run "):
+                if not (ROOT / name).exists() and not (page.parent / name).exists() and not re.match(r"[A-Z]+ /|(src|specs)/$", name):
+                    yield "%s: there is no %s" % (page.relative_to(ROOT), name)
+            else:
+                for word in re.findall(r"[A-Za-z_]\w+", name):
+                    if word not in code.words and word not in known:
+                        yield "%s: nothing is named %s" % (page.relative_to(ROOT), word)
+        for example in re.findall(r"```rust\n(.*?)```", page.read_text(), re.S):
+            for word in sorted(set(re.findall(r"[A-Za-z_]\w+", re.sub(r'//.*|"[^"\n]*"', "", example))) - code.words):
+                yield "%s: nothing is named %s, which an example has" % (page.relative_to(ROOT), word)
 
 
 def main():
@@ -197,7 +203,7 @@ def main():
     words.add_argument("--write", action="store_true", help="shorten the list of numbers")
     given = words.parse_args()
     code = Code()
-    said = [*where_faults(code), *limit_faults(code), *number_faults(given.write), *architecture_faults(code)]
+    said = [*where_faults(code), *limit_faults(code), *number_faults(given.write), *page_faults(code)]
     for fault in said:
         print(fault)
     text = CONTRIBUTING.read_text()
