@@ -10,7 +10,7 @@ somewhere in the crates. Each check that it names is one of tests/run.
 Where else the crates have that number is counted by file in tests/house/numbers.json (comments, proofs and crates of tests aside): a file
 may have it no oftener than the list says. Where it has it less often, that is said, and --write shortens the list; it never adds to it.
 
-ARCHITECTURE.md, and the README.md of a crate: each name in backticks, and in an example, is one of the crates, of their files or of what
+ARCHITECTURE.md, and the README.md of a crate: each name in backticks, and each call of an example, is one of the crates, of their files or of what
 stands in them.
 """
 import argparse
@@ -194,7 +194,8 @@ def page_faults(code):
                     if word not in code.words and word not in known:
                         yield "%s: nothing is named %s" % (page.relative_to(ROOT), word)
         for example in re.findall(r"```rust\n(.*?)```", page.read_text(), re.S):
-            for word in sorted(set(re.findall(r"[A-Za-z_]\w+", re.sub(r'//.*|"[^"\n]*"', "", example))) - code.words):
+            bare_example = re.sub(r'//.*|r#".*?"#|"[^"\n]*"', "", example)
+            for word in sorted(set(re.findall(r"\b([A-Za-z]\w+)(?=\(|::| \{)", bare_example)) - code.words):
                 yield "%s: nothing is named %s, which an example has" % (page.relative_to(ROOT), word)
 
 
