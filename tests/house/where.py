@@ -122,11 +122,12 @@ def limit_faults(code):
         yield from cell_faults(code, said, source)
         yield from cell_faults(code, said, definition)
         wanted = numbers_said(number)
+        yield from (fault for name in names_in(documents) if not is_path(name) for fault in cell_faults(code, said, "`%s`" % name))
         for cell in (source, definition):
             path, *name = names_in(cell)
             if file_of(path).exists() and not stands_named(file_of(path), name[0] if name else None, wanted):
                 yield "%s: %s has no %s" % (said, cell, number)
-        for name in names_in(documents):
+        for name in filter(is_path, names_in(documents)):
             if not file_of(name).exists():
                 yield "%s: there is no %s" % (said, name)
             elif not wanted & numbers_said(file_of(name).read_text()):
