@@ -20,6 +20,9 @@ PAGE = ROOT / "docs" / "trust.md"
 TEMPLATE = ROOT / "tests" / "house" / "trust_page.md"
 SERVED = [("rail_service/src/connection.rt", "serve_connection"), ("rail_service/src/performing.rt", "perform")]
 WHOLE = SERVED + [("host_serve/src/run.rt", "run_serve")]
+DEVICES = [("rail_io/src/source.rt", "read"), ("rail_io/src/sink.rt", "write"), ("rail_io/src/sink.rt", "write_both"),
+           ("rail_io/src/shelf.rt", "fetch"), ("rail_io/src/clock.rt", "now"), ("rail_io/src/ticker.rt", "next_tick"),
+           ("rail_service/src/listener.rt", "bind"), ("rail_service/src/listener.rt", "accept")]
 ROW = re.compile(r"^\| `([\w/]+)` \| (\d+) \| (\d+) \|")
 
 # The subjects in reading order, each with the crates whose definitions belong to it. A crate that isn't named has the last one.
@@ -122,6 +125,11 @@ class Page:
     def show_kit(self, _):
         names = [crate for crate, _ in self.house.kit_names(self.whole)]
         return ", ".join("%s %d" % (crate, names.count(crate)) for crate in sorted(set(names), key=lambda crate: (-names.count(crate), crate)))
+
+    def show_devices(self, _):
+        keys = self.house.unfold(self.cites(DEVICES)) - self.whole
+        files = "; ".join("`%s` %s" % (name_of(file), self.said(file, names)) for file, names in self.in_order(keys))
+        return "%d definitions, %s lines: %s" % (len(keys), number(self.house.lines(keys)), files)
 
     def show_effort(self, _):
         rows = ["| | code | contracts | definitions | proofs |", "|---|---|---|---|---|"]
@@ -264,6 +272,9 @@ def main():
     try:
         page = Page()
         text = page.fill(TEMPLATE.read_text())
+        of_readme = re.findall(r"^\d+\. ", (ROOT / "README.md").read_text().partition("## What is proved")[2], re.M)
+        if len(of_readme) != len(re.findall(r"^\| \d+ \|", text, re.M)):
+            raise KeyError("README.md has %d sentences on what is proved, and the page others" % len(of_readme))
     except (KeyError, FileNotFoundError) as fault:
         print("trust: %s" % (fault.args[0] if isinstance(fault, KeyError) else fault))
         return 1
