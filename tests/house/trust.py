@@ -9,6 +9,7 @@ edits and checks (each has to be there), lines of effort, and the list of all de
 comes into what the headline rests on unnoticed. --write makes the page anew.
 """
 import argparse
+import difflib
 import json
 import re
 import sys
@@ -24,6 +25,7 @@ DEVICES = [("rail_io/src/source.rt", "read"), ("rail_io/src/sink.rt", "write"), 
            ("rail_io/src/shelf.rt", "fetch"), ("rail_io/src/clock.rt", "now"), ("rail_io/src/ticker.rt", "next_tick"),
            ("rail_service/src/listener.rt", "bind"), ("rail_service/src/listener.rt", "accept")]
 ROW = re.compile(r"^\| `([\w/]+)` \| (\d+) \| (\d+) \|")
+UNTOLD = re.compile(r"^impl\b[^{]*? for (\w+)[^{]*\{(?:(?!^\}).)*?ghost told = \{ λ _\. None \};", re.M | re.S)
 
 # The subjects in reading order, each with the crates whose definitions belong to it. A crate that isn't named has the last one.
 SUBJECTS = [
@@ -57,7 +59,11 @@ class Page:
         return {key for path, function in functions for key in Contract(self.house, path, function).cites()}
 
     def fill(self, text):
-        return wrapped(re.sub(r"\{\{(\w+)(?: ([^}]*))?\}\}", lambda found: getattr(self, "show_" + found.group(1))(found.group(2) or ""), text))
+        """The template with what stands in double braces filled in: a word that names one of the `show_` functions, and its words."""
+        def shown(found):
+            return getattr(self, "show_" + found.group(1))(found.group(2) or "")
+
+        return wrapped(re.sub(r"\{\{(\w+)(?: ([^}]*))?\}\}", shown, text))
 
     def show_at(self, words):
         path, function, *clause = words.split()
@@ -83,7 +89,8 @@ class Page:
 
     def show_edit(self, words):
         crate, edit = words.split()
-        if not any(path.exists() for path in (CRATES / crate / "must-fail" / (edit + ".edit"), ROOT / "edits" / crate / (edit + ".edit"))):
+        places = [CRATES / crate / "must-fail", ROOT / "edits" / crate]
+        if not any((place / (edit + ".edit")).exists() for place in places):
             raise KeyError("%s has no must-fail edit %s" % (crate, edit))
         return "`%s` (%s)" % (edit, crate)
 
@@ -98,8 +105,7 @@ class Page:
             crate = path.relative_to(CRATES).parts[0]
             if crate not in self.layer_of_tests:
                 text = path.read_text()
-                for found in re.finditer(r"^impl\b[^{]*? for (\w+)[^{]*\{(?:(?!^\}).)*?ghost told = \{ λ _\. None \};", text, re.M | re.S):
-                    shown.append("`%s` (%s)" % (found.group(1), crate))
+                shown += ["`%s` (%s)" % (found.group(1), crate) for found in UNTOLD.finditer(text)]
         return ", ".join(shown)
 
     def show_gate(self, words):
@@ -146,7 +152,7 @@ class Page:
         files = {}
         for crate, module, name in sorted(keys):
             files.setdefault((crate, module), []).append(name)
-        above = {file: {key[:2] for name in names for key in self.house.cites((*file, name)) if key in keys} - {file} for file, names in files.items()}
+        above = {file: {key[:2] for name in names for key in self.house.cites((*file, name)) & keys} - {file} for file, names in files.items()}
         done = []
 
         def visit(file, on_the_way=()):
@@ -285,7 +291,9 @@ def main():
     if given.write:
         PAGE.write_text(text)
     elif text != old:
-        print("docs/trust.md isn't what the crates say (%d rows of its list changed): read them, then tests/house/trust.py --write" % len(said))
+        for line in difflib.unified_diff(old.splitlines(), text.splitlines(), "docs/trust.md", "what the crates say", n=0, lineterm=""):
+            print("%.300s" % line)
+        print("docs/trust.md isn't what the crates say: %d rows of its list changed. tests/house/trust.py --write makes it anew" % len(said))
         return 1
     print("%s definitions, of which %s for a connection" % (page.show_count("all"), page.show_count("serve")))
     return 0
