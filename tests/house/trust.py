@@ -9,6 +9,7 @@ edits and checks (each has to be there), lines of effort, and the list of all de
 comes into what the headline rests on unnoticed. --write makes the page anew.
 """
 import argparse
+import collections
 import difflib
 import json
 import re
@@ -129,8 +130,8 @@ class Page:
         return number(counts[what]) if isinstance(counts[what], int) else counts[what]
 
     def show_kit(self, _):
-        names = [crate for crate, _ in self.house.kit_names(self.whole)]
-        return ", ".join("%s %d" % (crate, names.count(crate)) for crate in sorted(set(names), key=lambda crate: (-names.count(crate), crate)))
+        counts = collections.Counter(crate for crate, _ in self.house.kit_names(self.whole))
+        return ", ".join("%s %d" % pair for pair in sorted(counts.items(), key=lambda pair: (-pair[1], pair[0])))
 
     def show_devices(self, _):
         keys = self.house.unfold(self.cites(DEVICES)) - self.whole
@@ -152,7 +153,8 @@ class Page:
         files = {}
         for crate, module, name in sorted(keys):
             files.setdefault((crate, module), []).append(name)
-        above = {file: {key[:2] for name in names for key in self.house.cites((*file, name)) & keys} - {file} for file, names in files.items()}
+        above = {file: {key[:2] for name in names for key in self.house.cites((*file, name)) & keys} - {file}
+                 for file, names in files.items()}
         done = []
 
         def visit(file, on_the_way=()):
@@ -293,7 +295,7 @@ def main():
     elif text != old:
         for line in difflib.unified_diff(old.splitlines(), text.splitlines(), "docs/trust.md", "what the crates say", n=0, lineterm=""):
             print("%.300s" % line)
-        print("docs/trust.md isn't what the crates say: %d rows of its list changed. tests/house/trust.py --write makes it anew" % len(said))
+        print("docs/trust.md isn't what the crates say: %d rows of its list changed; trust.py --write makes it anew" % len(said))
         return 1
     print("%s definitions, of which %s for a connection" % (page.show_count("all"), page.show_count("serve")))
     return 0

@@ -10,8 +10,8 @@ somewhere in the crates. Each check that it names is one of tests/run.
 Where else the crates have that number is counted by file in tests/house/numbers.json (comments, proofs and crates of tests aside): a file
 may have it no oftener than the list says. Where it has it less often, that is said, and --write shortens the list; it never adds to it.
 
-ARCHITECTURE.md, and the README.md of a crate: each name in backticks, and each call of an example, is one of the crates, of their files or of what
-stands in them.
+ARCHITECTURE.md, and the README.md of a crate: each name in backticks, and each call of an example, is one of the crates, of their files
+or of what stands in them.
 """
 import argparse
 import json
@@ -33,7 +33,7 @@ SMALL = 48  # numbers below it mean too much else to be counted
 def table(text, heading):
     """The rows of the table under a heading, each as its cells."""
     rows = []
-    for line in text[text.index(heading):].splitlines()[1:]:
+    for line in text.partition(heading)[2].splitlines()[1:]:
         if line.startswith("#") and rows:
             break
         if line.startswith("| ") and not line.startswith(("| to change", "| limit |")):
@@ -175,7 +175,7 @@ def number_faults(write):
             if now > may:
                 yield "%s stands %d times unnamed in crates/%s, and may %d times" % (number, now, file, may)
             elif now < may and not write:
-                print("%s stands %d times unnamed in crates/%s, and the list says %d: where.py --write shortens it" % (number, now, file, may))
+                print("%s stands %d times unnamed in crates/%s, not %d: where.py --write shortens the list" % (number, now, file, may))
             if min(now, may):
                 shorter.setdefault(number, {})[file] = min(now, may)
     if write:
@@ -205,7 +205,8 @@ def main():
     words.add_argument("--write", action="store_true", help="shorten the list of numbers")
     given = words.parse_args()
     code = Code()
-    said = [*where_faults(code), *limit_faults(code), *number_faults(given.write), *page_faults(code)]
+    said = ["CONTRIBUTING.md has no table under %s" % heading for heading in TABLES.values() if not table(CONTRIBUTING.read_text(), heading)]
+    said += [*where_faults(code), *limit_faults(code), *number_faults(given.write), *page_faults(code)]
     for fault in said:
         print(fault)
     text = CONTRIBUTING.read_text()
