@@ -205,11 +205,11 @@ def main():
     words.add_argument("--write", action="store_true", help="shorten the list of numbers")
     given = words.parse_args()
     code = Code()
-    said = ["CONTRIBUTING.md has no table under %s" % heading for heading in TABLES.values() if not table(CONTRIBUTING.read_text(), heading)]
+    text = CONTRIBUTING.read_text()
+    said = ["CONTRIBUTING.md has no table under %s" % heading for heading in TABLES.values() if not table(text, heading)]
     said += [*where_faults(code), *limit_faults(code), *number_faults(given.write), *page_faults(code)]
     for fault in said:
         print(fault)
-    text = CONTRIBUTING.read_text()
     unnamed = sum(sum(files.values()) for files in json.loads(NUMBERS.read_text()).values()) if NUMBERS.exists() else 0
     print("%d rows, %d limits, %d numbers unnamed, %d faults" % (
         len(table(text, TABLES["where"])), len(table(text, TABLES["limits"])), unnamed, len(said)))
