@@ -115,9 +115,6 @@ class Page:
         each = [round(seconds[crate]["seconds"]["proof"]) for crate in crates]
         return "%s = %d" % (" + ".join(map(str, each)), sum(each))
 
-    def show_twice(self, _):
-        return TWICE
-
     def show_count(self, what):
         counts = {
             "serve": len(self.served),
@@ -189,9 +186,6 @@ class Page:
                 lines = self.house.lines((*file, name) for name in names)
                 parts.append("| `%s` | %d | %d | %s |" % (name_of(file), len(names), lines, self.said(file, names)))
         return "\n".join(parts[1:])
-
-
-TWICE = "Builds without proofs were."
 
 
 def wrapped(text):
