@@ -14,6 +14,21 @@ TOKEN = re.compile(r"[^\s(){}\[\],;λ]+")
 WORDS_BEFORE = re.compile(r"^(abbrev |unfoldable |opaque |pub |record |data )+")
 
 
+def crate_order():
+    """The crates in the order of crates.txt, with the name of the layer of each."""
+    order, layer = {}, ""
+    for line in (ROOT / "crates.txt").read_text().splitlines():
+        if found := re.match(r"# \d+ (.+)", line):
+            layer = found.group(1)
+        elif found := re.match(r"(\w+)[^:#]*:", line):
+            order[found.group(1)] = layer
+    return order
+
+
+def crates_of_tests():
+    return {crate for crate, layer in crate_order().items() if layer == "tests"}
+
+
 class Module:
     """A file of specs/: its definitions, each with its lines, and what its names mean."""
 

@@ -16,7 +16,7 @@ import re
 import sys
 import textwrap
 
-from definitions import CRATES, ROOT, Contract, House
+from definitions import CRATES, ROOT, Contract, House, crate_order, crates_of_tests
 
 PAGE = ROOT / "docs" / "trust.md"
 TEMPLATE = ROOT / "tests" / "house" / "trust_page.md"
@@ -51,8 +51,8 @@ class Page:
 
     def __init__(self):
         self.house = House()
-        self.order = crate_order()
-        self.layer_of_tests = tests_crates()
+        self.order = list(crate_order())
+        self.layer_of_tests = crates_of_tests()
         self.served = self.house.unfold(self.cites(SERVED))
         self.whole = self.house.unfold(self.cites(WHOLE))
 
@@ -221,16 +221,6 @@ def name_of(file):
 
 def number(count):
     return format(count, ",")
-
-
-def crate_order():
-    """The crates in the order of crates.txt."""
-    return [line.split(":")[0].split()[0] for line in (ROOT / "crates.txt").read_text().splitlines() if re.match(r"\w", line)]
-
-
-def tests_crates():
-    text = (ROOT / "crates.txt").read_text()
-    return {line.split(":")[0].split()[0] for line in text[text.index("# 10 tests"):].splitlines() if re.match(r"\w", line)}
 
 
 def effort(crate):

@@ -18,7 +18,7 @@ import json
 import re
 import sys
 
-from definitions import CRATES, ROOT
+from definitions import CRATES, ROOT, crates_of_tests
 
 CONTRIBUTING = ROOT / "CONTRIBUTING.md"
 ARCHITECTURE = ROOT / "ARCHITECTURE.md"
@@ -159,14 +159,9 @@ def counts(limits, of_tests):
     return found
 
 
-def tests_crates():
-    text = (ROOT / "crates.txt").read_text()
-    return set(re.findall(r"^(\w+)[^:\n]*:", text[text.index("# 10 tests"):], re.M))
-
-
 def number_faults(write):
     limits = table(CONTRIBUTING.read_text(), TABLES["limits"])
-    found = counts(limits, tests_crates())
+    found = counts(limits, crates_of_tests())
     allowed = json.loads(NUMBERS.read_text()) if NUMBERS.exists() else found
     shorter = {}
     for number in sorted(set(found) | set(allowed), key=int):
