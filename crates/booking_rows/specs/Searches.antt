@@ -23,7 +23,8 @@ pub data Searches (first : DeskView) : DeskView → ℕ → Type 0 where
 -- however many searches a desk of these books has made, all of them together have at most one entry for each row
 abbrev pub AreFew : Type 0
 AreFew =
-    (books : BooksView) (first last : DeskView) (n : ℕ) → IsOf books last → Searches first last n → n ≤ books.layout.rows
+    (books : BooksView) (first last : DeskView) (n : ℕ) → IsOf books last → Searches first last n
+    → n ≤ books.layout.rows
 
 -- the misses of one search are at most as many as the rows from its first one on
 abbrev pub MissesAreFew : Type 0

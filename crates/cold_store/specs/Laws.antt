@@ -35,4 +35,5 @@ pub record IsReadBack (w : WallView) (text : List ℕ) : Type 0 where
 
 abbrev pub ExportsAreReadBack : Type 0
 ExportsAreReadBack =
-    (w : WallView) (text : List ℕ) → HasSizes w.layout → HasBegun w.layout → IsClosed w → IsExport w text → IsReadBack w text
+    (w : WallView) (text : List ℕ) → HasSizes w.layout → HasBegun w.layout → IsClosed w → IsExport w text
+    → IsReadBack w text

@@ -23,4 +23,6 @@ pub record IsReadyFor (desk : DeskView) (ready : ReadyView) : Type 0 where
 
 -- what is ready stays so, whatever the desk does
 abbrev pub ReadyStays : Type 0
-ReadyStays = (old new : DeskView) (steps : List Step) (ready : ReadyView) → Shape old new steps → IsReadyFor old ready → IsReadyFor new ready
+ReadyStays =
+    (old new : DeskView) (steps : List Step) (ready : ReadyView) → Shape old new steps → IsReadyFor old ready
+    → IsReadyFor new ready

@@ -65,7 +65,8 @@ IsAdding span count candidates tries (added.Contended place) =
     × (length (places_won tries) < count) × ((left : List ℕ) × (candidates ≡ tried tries ++ left))
 
 -- the steps of adding places to a hold of the row that has so many items, with the items won
-pub record Adds (row k : ℕ) (span : Interval) (count : ℕ) (candidates : List ℕ) (answer : Added) (won : List Item) (es : List Step) : Type 0 where
+pub record Adds (row k : ℕ) (span : Interval) (count : ℕ) (candidates : List ℕ) (answer : Added) (won : List Item)
+    (es : List Step) : Type 0 where
   pub tries : List Try
   pub each : AllByRecursion (IsTry span) tries
   pub adding : IsAdding span count candidates tries answer

@@ -51,7 +51,8 @@ AllClear piece shown = AllByRecursion (λ word. IsClear word piece) shown
 
 -- all but the last free on the piece, and that one not
 abbrev pub EndsTaken : Interval → List ℕ → Type 0
-EndsTaken piece shown = (front : List ℕ) × (last : ℕ) × AllClear piece front × (¬ IsClear last piece) × (shown ≡ front ++ last ∷ [])
+EndsTaken piece shown =
+    (front : List ℕ) × (last : ℕ) × AllClear piece front × (¬ IsClear last piece) × (shown ≡ front ++ last ∷ [])
 
 abbrev pub IsOutcome : Interval → List ℕ → Outcome → Type 0
 IsOutcome piece shown Won = (length shown ≤ most_takes) × AllClear piece shown
@@ -119,14 +120,16 @@ with_items hold more = record { row = hold.row; items = hold.items ++ more }
 abbrev pub TriesPiece : DeskView → HoldView → ℕ → Interval → DeskView → HoldView → Outcome → Type 0
 TriesPiece old hold place piece new held outcome =
     (shown : List ℕ) × IsPart (record { piece = piece; shown = shown; outcome = outcome })
-    × Shape old new (part_steps hold.row.row (length hold.items) place (record { piece = piece; shown = shown; outcome = outcome }))
+    × Shape old new (part_steps hold.row.row (length hold.items) place
+    (record { piece = piece; shown = shown; outcome = outcome }))
     × (held ≡ with_items hold (piece_won place piece outcome))
 
 -- the same of all pieces of the span
 abbrev pub TriesPlace : DeskView → HoldView → ℕ → Interval → DeskView → HoldView → Outcome → Type 0
 TriesPlace old hold place span new held outcome =
     (parts : List Part) × AreParts (pieces span) parts outcome
-    × Shape old new (try_steps hold.row.row (length hold.items) (record { place = place; parts = parts; outcome = outcome }))
+    × Shape old new (try_steps hold.row.row (length hold.items)
+    (record { place = place; parts = parts; outcome = outcome }))
     × (held ≡ with_items hold (items_tried place span outcome))
 
 -- where the second piece isn't won, the hold's last item is given back
@@ -145,5 +148,6 @@ HasSecond hold place piece Contended held = (first : Item) × (hold ≡ with_one
 abbrev pub TriesSecond : DeskView → HoldView → ℕ → Interval → DeskView → HoldView → Outcome → Type 0
 TriesSecond old hold place piece new held outcome =
     (shown : List ℕ) × IsPart (record { piece = piece; shown = shown; outcome = outcome })
-    × Shape old new (part_steps hold.row.row (length hold.items) place (record { piece = piece; shown = shown; outcome = outcome }) ++ given_first hold outcome)
+    × Shape old new (part_steps hold.row.row (length hold.items) place
+    (record { piece = piece; shown = shown; outcome = outcome }) ++ given_first hold outcome)
     × HasSecond hold place piece outcome held

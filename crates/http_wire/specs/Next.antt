@@ -50,7 +50,8 @@ abbrev pub PullsBehind : Option (List ℕ) → Option (List ℕ) → List ℕ �
 PullsBehind before after old new filled (Got n) =
     (pulled : List ℕ) × (0 < n) × (filled + n ≤ length new)
     × (before ≡ with_front pulled after) × (take (filled + n) new ≡ take filled old ++ pulled)
-PullsBehind before after old new filled SourceEnd = (after ≡ before) × AtEnd before × (take filled new ≡ take filled old)
+PullsBehind before after old new filled SourceEnd =
+    (after ≡ before) × AtEnd before × (take filled new ≡ take filled old)
 PullsBehind before after old new filled Failed = (after ≡ before) × (take filled new ≡ take filled old)
 
 -- where the bytes held end behind a read

@@ -27,7 +27,8 @@ pub record HeadAt (stream head rest : List ℕ) : Type 0 where
   pub is : stream ≡ head ++ rest
 
 -- The stream begins with this request, the one of that number on its connection.
-pub record IsRequestWith (number : ℕ) (stream : List ℕ) (request : RequestText) (rest head : List ℕ) (h : RequestHead) (body : List ℕ) : Type 0 where
+pub record IsRequestWith (number : ℕ) (stream : List ℕ) (request : RequestText) (rest head : List ℕ) (h : RequestHead)
+    (body : List ℕ) : Type 0 where
   pub at : HeadAt stream head (body ++ rest)
   pub served : IsServedHead head h (length body)
   pub is : request ≡ request_of h body (is_last number h)

@@ -22,7 +22,8 @@ HasBegun true lines = 0 < length lines
 HasBegun false lines = lines ≡ []
 
 -- The bytes are empty lines, lines that aren't empty, and a line in progress: no head has ended in them.
-pub record IsOpenWith (scan : HeadScan) (bytes : List ℕ) (blank : List LineEnd) (lines : List (List ℕ)) (part : List ℕ) : Type 0 where
+pub record IsOpenWith (scan : HeadScan) (bytes : List ℕ) (blank : List LineEnd) (lines : List (List ℕ))
+    (part : List ℕ) : Type 0 where
   pub is : bytes ≡ print_lines blank lines ++ part
   pub each : AllByRecursion IsLine lines
   pub one : HasNoFeed part
@@ -33,7 +34,8 @@ pub record IsOpenWith (scan : HeadScan) (bytes : List ℕ) (blank : List LineEnd
   pub at : scan.at ≡ length bytes
 
 abbrev pub IsOpen : HeadScan → List ℕ → Type 0
-IsOpen scan bytes = (blank : List LineEnd) × (lines : List (List ℕ)) × (part : List ℕ) × IsOpenWith scan bytes blank lines part
+IsOpen scan bytes =
+    (blank : List LineEnd) × (lines : List (List ℕ)) × (part : List ℕ) × IsOpenWith scan bytes blank lines part
 
 -- The first bytes are a head, and nothing was searched past it.
 pub record IsEnded (scan : HeadScan) (bytes : List ℕ) (end : ℕ) : Type 0 where

@@ -13,4 +13,5 @@ ahead l = items_ahead l.reader
 -- Where the list was opened, the value is the list of what is to come, and there is no value where that is no end of a
 -- list. Where none was, the value is no list, or there is none.
 abbrev pub IsListOf : Option Data → Option Items → Type 0
-IsListOf value items = MatchOption items (option_and_then as_array value ≡ None) (λ l. value ≡ option_map array (ahead l))
+IsListOf value items =
+    MatchOption items (option_and_then as_array value ≡ None) (λ l. value ≡ option_map array (ahead l))

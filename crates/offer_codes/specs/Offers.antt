@@ -18,7 +18,9 @@ pub record OfferView : Type 0 where
   pub segments : List Segment
 
 abbrev pub offer_view : OfferCode → OfferView
-offer_view c = record { made = c.made; adults = c.adults; children = c.children; class = c.class; wanted = c.wanted; segments = c.segments.items }
+offer_view c =
+    record { made = c.made; adults = c.adults; children = c.children; class = c.class; wanted = c.wanted;
+    segments = c.segments.items }
 
 -- a run of the greatest catalogue, and legs of it
 abbrev pub is_segment : Segment → Bool
@@ -56,7 +58,8 @@ segments_marks mark (s ∷ rest) = segment_marks mark s ++ segments_marks (codes
 
 abbrev pub offer_marks : List ℕ → OfferView → List (List ℕ × ℕ)
 offer_marks mark o =
-    (mark, o.made) ∷ (codes "-", o.adults) ∷ (codes "-", o.children) ∷ (codes "-", class_number o.class) ∷ (codes "-", o.wanted)
+    (mark, o.made) ∷ (codes "-", o.adults) ∷ (codes "-", o.children) ∷ (codes "-", class_number o.class)
+    ∷ (codes "-", o.wanted)
     ∷ segments_marks (codes "-") o.segments
 
 -- `O` made `-` adults `-` children `-` class `-` wanted `-` segments

@@ -37,8 +37,11 @@ traits_text traits =
 -- the first three traits
 abbrev pub first_line : Bool → Bool → Bool → List ℕ
 first_line a b c =
-    codes ",\"traits\":[" ++ (named_line false a (codes "\"WINDOW\"") ++ (named_line a b (codes "\"AISLE\"") ++ named_line (a || b) c (codes "\"TABLE\"")))
+    codes ",\"traits\":["
+    ++ (named_line false a (codes "\"WINDOW\"")
+    ++ (named_line a b (codes "\"AISLE\"") ++ named_line (a || b) c (codes "\"TABLE\"")))
 
 -- the last two, and the end of the place
 abbrev pub last_line : Bool → Bool → Bool → List ℕ
-last_line later d e = named_line later d (codes "\"QUIET\"") ++ (named_line (later || d) e (codes "\"POWER\"") ++ codes "]}")
+last_line later d e =
+    named_line later d (codes "\"QUIET\"") ++ (named_line (later || d) e (codes "\"POWER\"") ++ codes "]}")

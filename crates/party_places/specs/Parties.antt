@@ -85,7 +85,8 @@ LosesOne hold span stretch n old new held =
 -- and what was won is given back
 abbrev pub GivesUpAt : ℕ → ℕ → Interval → List ℕ → ℕ → Calls
 GivesUpAt row k span stretch n es =
-    (won : List Item) × (tries : List Step) × LosesAt row k span stretch n won tries × (es ≡ tries ++ gives_down row k (length won))
+    (won : List Item) × (tries : List Step) × LosesAt row k span stretch n won tries
+    × (es ≡ tries ++ gives_down row k (length won))
 
 -- so that the hold has what it had
 abbrev pub GivesUp : HoldView → Interval → List PlaceNo → ℕ → DeskView → DeskView → HoldView → Type 0
@@ -144,7 +145,8 @@ EndsTries g here answer won es = SitsApart g here answer won es
 abbrev pub TriesFrom : Party → List ℕ → List (List ℕ) → PartyAdded → List Item → List Step → Type 0
 TriesFrom g here [] answer won es = EndsTries g here answer won es
 TriesFrom g here (left ∷ lefts) answer won es =
-    (mine : List Step) × (more : List Step) × Fails g here left mine × TriesFrom g left lefts answer won more × (es ≡ mine ++ more)
+    (mine : List Step) × (more : List Step) × Fails g here left mine × TriesFrom g left lefts answer won more
+    × (es ≡ mine ++ more)
 
 -- the steps of tries from these candidates on, with the items won
 abbrev pub SeatsFrom : Party → List ℕ → PartyAdded → List Item → Calls

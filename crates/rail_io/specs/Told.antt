@@ -37,7 +37,8 @@ HasFailed (TookBoth n) = ⊥
 HasFailed (FailedBoth n) = ⊤
 
 -- Where both tell their bytes, and this holds, some bytes are written: this of those to come.
-abbrev pub WritesWhere : Type 0 → Option (List ℕ) → Option (List ℕ) → Option (List ℕ) → (List ℕ → List ℕ → Type 0) → Type 0
+abbrev pub WritesWhere : Type 0 → Option (List ℕ) → Option (List ℕ) → Option (List ℕ) → (List ℕ → List ℕ → Type 0)
+    → Type 0
 WritesWhere Holds input output sent Of =
     (stream before : List ℕ) → input ≡ Some stream → output ≡ Some before → Holds
     → (written : List ℕ) × (sent ≡ Some (before ++ written)) × Of stream written

@@ -35,7 +35,8 @@ IsReading before moment after =
     IfSome before (λ readings. (moment ≡ readings 0) × IsSomeAnd after (λ later. (i : ℕ) → later i ≡ readings (i + 1)))
 
 -- A request is answered at the clock's next reading, by the bytes of its defined reply.
-pub record IsAnswer (cat : CatalogueView) (before : ServiceView) (request : RequestText) (written : List ℕ) (after : ServiceView) : Type 0 where
+pub record IsAnswer (cat : CatalogueView) (before : ServiceView) (request : RequestText) (written : List ℕ)
+    (after : ServiceView) : Type 0 where
   pub moment : ℕ
   pub reading : IsReading before.clock moment after.clock
   pub reply : Reply
@@ -62,7 +63,8 @@ NeverDouble desk = (history : List Entry) → IsPrefix history desk.seen → NoD
 
 -- The bytes written are the replies to the requests of the bytes taken, in order, each by the desk's own entries, in
 -- one legal history that begins with what the desk had seen and holds of the desk nothing else.
-pub record IsServed (cat : CatalogueView) (before after : ServiceView) (taken : List ℕ) (told : Option (List ℕ)) (written : List ℕ) (end : ConnEnd) : Type 0 where
+pub record IsServed (cat : CatalogueView) (before after : ServiceView) (taken : List ℕ) (told : Option (List ℕ))
+    (written : List ℕ) (end : ConnEnd) : Type 0 where
   pub answered : IsEnd (answers_of cat) (refusals_of cat) before after taken told written end
   pub steps : List Step
   pub shape : Shape before.desk after.desk steps

@@ -55,7 +55,8 @@ abbrev pub IsGiven : Handing → Handing
 IsGiven Given stream sent = ∥ Given stream sent ∥₁
 
 -- Behind some calls of this listener, an accept of it handed out a stream whose source and whose sink told this.
-pub record HandsOn {L : Type 0} (becomes : L → L → Type 0) (hands : HandingBy L) (first : L) (stream sent : Option (List ℕ)) : Type 0 where
+pub record HandsOn {L : Type 0} (becomes : L → L → Type 0) (hands : HandingBy L) (first : L)
+    (stream sent : Option (List ℕ)) : Type 0 where
   pub calls : ℕ
   pub before : L
   pub after : L

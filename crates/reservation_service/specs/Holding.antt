@@ -63,7 +63,8 @@ party_at cat o row items s = record {
 
 -- Places were added for this segment to a hold of the row that had these items: as for a party where that was asked
 -- for, which sits apart only where each stretch of the candidates was spoilt; else one by one
-abbrev pub AddsSegment : CatalogueView → OfferView → Bool → RowNo → List Item → Segment → Placing → List Item → DeskView → DeskView → Type 0
+abbrev pub AddsSegment : CatalogueView → OfferView → Bool → RowNo → List Item → Segment → Placing → List Item → DeskView
+    → DeskView → Type 0
 AddsSegment cat o false row items s placing won old new =
     (answer : Added) × (placing ≡ placing_of answer)
     × ShapeBy (Adds row.row (length items) s.span (count_of o) (candidates_in cat o s) answer won) old new
@@ -76,7 +77,8 @@ AddsSegment cat o true row items s placing won old new =
 -- a segment that doesn't get all its places, of which those that were won stay on the hold; or at one for which there
 -- is no memory, and at which nothing is done. Memory is taken only for passengers who want traits and are to sit
 -- together.
-abbrev pub PlacesAll : CatalogueView → OfferView → Bool → RowNo → List Item → List Segment → Placing → List Item → DeskView → DeskView → Type 0
+abbrev pub PlacesAll : CatalogueView → OfferView → Bool → RowNo → List Item → List Segment → Placing → List Item
+    → DeskView → DeskView → Type 0
 PlacesAll cat o together row items [] placing all old new = (placing ≡ Whole) × (all ≡ items) × (new ≡ old)
 PlacesAll cat o together row items (s ∷ rest) placing all old new =
     ((mine : Placing) × (won : List Item) × (mid : DeskView) × AddsSegment cat o together row items s mine won old mid
@@ -85,9 +87,11 @@ PlacesAll cat o together row items (s ∷ rest) placing all old new =
     ⊎ ((placing ≡ NoMemory) × (all ≡ items) × (new ≡ old) × (together ≡ true) × (o.wanted ≢ 0))
 
 -- a hold was started on the row, and places added for these segments
-abbrev pub HoldsPlaces : CatalogueView → OfferView → Bool → List Segment → RowNo → Placing → List Item → DeskView → DeskView → Type 0
+abbrev pub HoldsPlaces : CatalogueView → OfferView → Bool → List Segment → RowNo → Placing → List Item → DeskView
+    → DeskView → Type 0
 HoldsPlaces cat o together segments row placing items old new =
-    (mid : DeskView) × ShapeBy (StartsHold old mid (Some row)) old mid × PlacesAll cat o together row [] segments placing items mid new
+    (mid : DeskView) × ShapeBy (StartsHold old mid (Some row)) old mid
+    × PlacesAll cat o together row [] segments placing items mid new
 
 abbrev pub FindsNoRow : DeskView → DeskView → Type 0
 FindsNoRow old new = ShapeBy (StartsHold old new None) old new

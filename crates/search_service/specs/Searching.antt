@@ -30,5 +30,6 @@ numbers_on cat run = numbers_of (λ p. p.run.0 == run) 0 cat.places
 -- of each place of the segment's run whether it is free on the segment's span, or, without memory for them, no look
 abbrev pub ListsPlaces : CatalogueView → Segment → DeskView → DeskView → Reply → Type 0
 ListsPlaces cat s old new reply =
-    ((free : List Bool) × ShapeBy (LooksAt (numbers_on cat s.run.0) s.span free) old new × ToldOr (place_list s.run.0 free) reply)
+    ((free : List Bool) × ShapeBy (LooksAt (numbers_on cat s.run.0) s.span free) old new
+    × ToldOr (place_list s.run.0 free) reply)
     ⊎ ((new ≡ old) × (reply ≡ problem NoMemory))

@@ -12,7 +12,8 @@ use Rattle.seat_words.specs.declared.Take.TheVariants.{Won, Taken, Moving}
 -- won: the legs are the hold's; else one look showed another word than the one expected, taken on the span or not
 abbrev pub HasTried : DeskView → HoldView → ℕ → Interval → ℕ → DeskView → HoldView → Take → Type 0
 HasTried old hold place span expected new held Won =
-    Shape old new (TakeStep hold.row.row place span ∷ []) × (held ≡ with_one hold (record { place = place; span = span }))
+    Shape old new (TakeStep hold.row.row place span ∷ [])
+    × (held ≡ with_one hold (record { place = place; span = span }))
 HasTried old hold place span expected new held (Taken n) =
     Shape old new (look_at place span n ∷ []) × (n ≢ expected) × (held ≡ hold) × (¬ IsClear n span)
 HasTried old hold place span expected new held (Moving n) =

@@ -102,7 +102,8 @@ entry_line e = line_of (account_fields e.0 e.1)
 
 -- the table of these accounts
 abbrev pub text_of : Accounts → List ℕ
-text_of a = line_of head_fields ++ (flat_map entry_line a.by_retailer.entries ++ line_of (forgotten_fields a.given_away))
+text_of a =
+    line_of head_fields ++ (flat_map entry_line a.by_retailer.entries ++ line_of (forgotten_fields a.given_away))
 
 -- the writer has written this text, which ends with a record
 pub record HasText (w : Writer (Vec ℕ Global)) (text : List ℕ) : Type 0 where

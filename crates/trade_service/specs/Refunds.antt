@@ -42,7 +42,8 @@ unless (Some p) reply = problem p
 
 -- the booking at its end, unless it was refused
 abbrev pub refund_reply : RefundCode → ℕ → RowSeen → Refunded → Reply
-refund_reply code now v a = unless (refusal_of a) (booking code.row (at_end kind.Refund (end_of (aim.Refund now code.amount)) v))
+refund_reply code now v a =
+    unless (refusal_of a) (booking code.row (at_end kind.Refund (end_of (aim.Refund now code.amount)) v))
 
 abbrev pub RefundsIt : CatalogueView → ℕ → ℕ → RefundCode → ℕ → RowSeen → Replying
 RefundsIt cat rows retailer code now v old new reply =

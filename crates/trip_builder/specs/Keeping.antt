@@ -37,11 +37,13 @@ pub record IsSearch (r : RunsView) (w : TripWish) (found : Found) : Type 0 where
 -- what begins so and has so many more segments stands behind the trip, if it arrives with it: it departs earlier, or
 -- then has more segments, or then higher ones
 abbrev pub BeginsBehind : RunsView → List Segment → List Segment → ℕ → Type 0
-BeginsBehind r trip begun more = (first_departure r begun < first_departure r trip) ⊎ ((first_departure r begun ≡ first_departure r trip)
+BeginsBehind r trip begun more =
+    (first_departure r begun < first_departure r trip) ⊎ ((first_departure r begun ≡ first_departure r trip)
     × ((length trip < length begun + more) ⊎ ((length begun + more ≡ length trip) × (exceeds begun trip ≡ true))))
 
 -- likewise behind the sixteenth, if it arrives no earlier than the bound
-pub record IsBehindLast (r : RunsView) (best : List (List Segment)) (bound : ℕ) (begun : List Segment) (more : ℕ) : Type 0 where
+pub record IsBehindLast (r : RunsView) (best : List (List Segment)) (bound : ℕ) (begun : List Segment)
+    (more : ℕ) : Type 0 where
   pub full : length best ≡ most_trips
   pub some : 1 ≤ length begun
   pub arrival : last_arrival r (sixteenth best) ≤ bound
