@@ -24,7 +24,7 @@ detail_notes row detail count =
     Note row retailer_word detail.retailer.0 ∷ Note row limit_word detail.limit ∷ Note row total_word detail.total
     ∷ Note row count_word count ∷ []
 
--- the one step is the note of the hold's last item, in the word behind those of the items before it
+-- the one step is the note of the hold's last item, in the word after those of the items before it
 abbrev pub NotesLastItem : HoldView → DeskView → DeskView → Type 0
 NotesLastItem hold old new = (front : List Item) (last : Item) → hold.items ≡ front ++ last ∷ []
     → Shape old new (Note hold.row.row (first_item_word + length front) (item_word last.place last.span) ∷ [])

@@ -67,7 +67,7 @@ abbrev pub search_steps : ℕ → List Passed → List Step
 search_steps row [] = []
 search_steps row (p ∷ ps) = passed_steps row p ++ search_steps (suc row) ps
 
--- the row is started in its next generation, behind the look that showed it ended
+-- the row is started in its next generation, after the look that showed it ended
 abbrev pub StartsAgain : RowNo → List Step → Type 0
 StartsAgain row es = (n : ℕ) × (is_startable n ≡ true) × (row.generation ≡ n / generation_words + 1)
     × ((passed : List Passed) × (length passed ≡ row.row) × AllByRecursion IsPassed passed

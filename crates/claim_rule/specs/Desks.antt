@@ -39,7 +39,7 @@ pub record IsNew (desk : DeskView) (its : ℕ) (history : List Entry) : Type 0 w
   pub parted : desk.parted ≡ 0
   pub kept : desk.kept ≡ None
 
--- the desk has made this one step behind all that it had seen, and has now seen no more than that
+-- the desk has made this one step after all that it had seen, and has now seen no more than that
 pub record Stepped (step : Step) (old new : DeskView) : Type 0 where
   pub between : List Entry
   pub seen : new.seen ≡ (old.seen ++ between) ++ entry old.number step ∷ []

@@ -93,7 +93,7 @@ abbrev pub end_words_of : Phase → SaidEnd → List ℕ
 end_words_of (Ended kind) end = drafted_successor end.successor ∷ amount_word kind end.amount ∷ end.moment ∷ []
 end_words_of _ end = 0 ∷ 0 ∷ 0 ∷ []
 
--- the words of a line, without the zeros behind those of its items
+-- the words of a line, without the zeros after those of its items
 abbrev pub words_of_line : Head → SaidEnd → List Item → List ℕ
 words_of_line h end items =
     (row_word_of h.phase h.generation ∷ h.retailer ∷ h.limit ∷ h.total ∷ h.count ∷ end_words_of h.phase end)

@@ -21,7 +21,7 @@ pub struct SaidEnd {
 }
 
 impl<'a> Reader<'a> {
-    // The amount that is the next field: `p` or `m` and a number, which behind `m` isn't 0.
+    // The amount that is the next field: `p` or `m` and a number, which after `m` isn't 0.
     fn amount(&mut self) -> Option<i128>
         ensures { Reads amount_field IsAmountNumber self.old.rest.now self.new.rest.now result }
     {

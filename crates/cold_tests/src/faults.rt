@@ -21,7 +21,7 @@ struct Edit {
     fault: ImportFault,
 }
 
-// The successor and its row, within the books and behind them.
+// The successor and its row, within the books and after them.
 const FAR: &[u8] = b"2.0
 row 1 0 P 1 1780294500 3600 6 12.0.1 13.0.1 14.0.1 15.0.1 16.0.1 17.0.1
 row 2";

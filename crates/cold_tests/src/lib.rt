@@ -1,4 +1,4 @@
-//! Tests of exports and imports: the worked texts, the faults, and desks that were given up in the middle. A room of
+//! Tests of exports and imports: the worked texts, the faults, and desks that were given up in the middle. A crate of
 //! its own, so that `cold_store` is proved once, without tests.
 #![tactic(auto)]
 

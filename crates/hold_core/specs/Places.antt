@@ -73,7 +73,7 @@ pub record Adds (row k : ℕ) (span : Interval) (count : ℕ) (candidates : List
   pub items : won ≡ items_won span tries
   pub steps : es ≡ tries_steps row k span tries
 
--- the steps that add places to the hold, and the hold with the items won behind those that it had
+-- the steps that add places to the hold, and the hold with the items won after those that it had
 abbrev pub AddsPlaces : DeskView → HoldView → Interval → ℕ → List ℕ → Added → DeskView → HoldView → Type 0
 AddsPlaces old hold span count candidates answer new held =
     (won : List Item)

@@ -17,7 +17,7 @@ use Rattle.hold_core.specs.declared.tries.Outcome.TheVariants.{Won, Refused, Con
 abbrev pub place_number : PlaceNo → ℕ
 place_number p = p.0
 
--- how many looks at one piece there are at most: a take is tried behind each but the last
+-- how many looks at one piece there are at most: a take is tried after each but the last
 abbrev pub most_looks : ℕ
 most_looks = 9
 
@@ -138,13 +138,13 @@ given_first hold Won = []
 given_first hold Refused = Give hold.row.row (length hold.items - 1) ∷ []
 given_first hold Contended = Give hold.row.row (length hold.items - 1) ∷ []
 
--- what the hold has behind the second piece: its item too, or no more the first one's
+-- what the hold has after the second piece: its item too, or no more the first one's
 abbrev pub HasSecond : HoldView → ℕ → Interval → Outcome → HoldView → Type 0
 HasSecond hold place piece Won held = held ≡ with_one hold (record { place = place; span = piece })
 HasSecond hold place piece Refused held = (first : Item) × (hold ≡ with_one held first)
 HasSecond hold place piece Contended held = (first : Item) × (hold ≡ with_one held first)
 
--- the try of the second piece, behind the first that was won: where it isn't won, the first is given back
+-- the try of the second piece, after the first that was won: where it isn't won, the first is given back
 abbrev pub TriesSecond : DeskView → HoldView → ℕ → Interval → DeskView → HoldView → Outcome → Type 0
 TriesSecond old hold place piece new held outcome =
     (shown : List ℕ) × IsPart (record { piece = piece; shown = shown; outcome = outcome })

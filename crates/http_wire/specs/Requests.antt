@@ -88,7 +88,7 @@ IsRest stream closed = ⊥
 IsRest stream (refused fault) = IsFault fault stream
 
 -- The stream spells these requests, of which the first has the number, and then the rest.
--- Behind a last request nothing more is read.
+-- After a last request nothing more is read.
 abbrev pub Spells : ℕ → List ℕ → List RequestText → Rest → Type 0
 Spells number stream [] rest = IsRest stream rest
 Spells number stream (request ∷ requests) rest =

@@ -5,7 +5,7 @@ use Rattle.serde_json.specs.Find.{as_array}
 use Rattle.json_text.specs.Outlines.{items_ahead}
 use Rattle.json_text.specs.declared.items.Items.{Items}
 
--- the items up to the bracket that closes their list, whatever stands behind it; none where an item is no JSON or that
+-- the items up to the bracket that closes their list, whatever stands after it; none where an item is no JSON or that
 -- bracket is missing
 abbrev pub ahead : Items → Option DataItems
 ahead l = items_ahead l.reader

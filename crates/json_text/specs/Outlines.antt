@@ -49,7 +49,7 @@ behind_members depth ts =
     option_map (λ p. p.1) (converted (λ ms. of_members ms no_members) (members (value depth) (length ts) ts))
 
 -- What follows so many members, whatever their names, and however large their numbers. A closing brace passes for a
--- name too: a value that stands behind it counts as one more member. Behind the outermost object of a text that is JSON
+-- name too: a value that stands after it counts as one more member. After the outermost object of a text that is JSON
 -- none stands, so there it has no more members than are written.
 unfoldable pub behind_so_many : ℕ → ℕ → List Token → Option (List Token)
 behind_so_many depth zero ts = Some ts
@@ -58,7 +58,7 @@ behind_so_many depth (suc n) ts =
 
 -- ---- the members of the outermost object
 
--- What follows the name of the member at this place. At the place behind the last member it is what follows the closing
+-- What follows the name of the member at this place. At the place after the last member it is what follows the closing
 -- brace, and so no value where the text is JSON and the object its outermost.
 abbrev pub value_tokens : ℕ → List Token → Option (List Token)
 value_tokens place ts = option_map (λ k. k.1) (option_and_then read_key (behind_so_many 126 place ts))

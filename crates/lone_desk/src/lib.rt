@@ -1,4 +1,4 @@
-//! What a desk sees between whose steps no other desk's stand. It is a room of its own since `tiny`, which
+//! What a desk sees between whose steps no other desk's stand. It is a crate of its own since `tiny`, which
 //! rests on no service, needs it as the plain host does.
 //!
 //! A desk that parted no other has all entries there are, so each call adds just the call's own. On such a desk a try

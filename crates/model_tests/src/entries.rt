@@ -1,4 +1,4 @@
-// Entries of desks, each with whether it is allowed behind those before it.
+// Entries of desks, each with whether it is allowed after those before it.
 use crate::lines::{amount, byte, columns, number, word};
 use history_model::entry::{Entry, Step};
 use history_model::list_host::{ApplyFault, ListHost};
@@ -247,7 +247,7 @@ fn apply_all(rt: &impl Abort, host: &mut ListHost, text: &str) {
     }
 }
 
-/// The words of the first places' halves behind the entries of a text.
+/// The words of the first places' halves after the entries of a text.
 fn check(rt: &(impl Abort + AllocGlobal), text: &str, words: &[(u32, u8, u64)]) {
     let mut host = ListHost::new(rt.alloc(), 3, 3);
     apply_all(rt, &mut host, text);

@@ -78,7 +78,7 @@ exchange_at row made fulfilled difference offer =
     let x : ExchangeView = record { row = row; made = made; fulfilled = fulfilled; difference = difference;
     offer = offer } in if is_exchange x then Some x else None
 
--- the exchange offer for a row, of the numbers behind it
+-- the exchange offer for a row, of the numbers after it
 abbrev pub exchange_behind : Bool → Bool → List ℕ → RowNo → Option ExchangeView
 exchange_behind fulfilled less (made ∷ amount ∷ rest) row =
     option_and_then (exchange_at row made fulfilled (signed less amount)) (offer_from rest)
@@ -89,7 +89,7 @@ exchange_again fulfilled less row (generation ∷ rest) =
     option_and_then (exchange_behind fulfilled less rest) (row_value row generation)
 exchange_again fulfilled less row [] = None
 
--- the exchange offer of its numbers: behind the row are seven and three for each segment, and the generation where it
+-- the exchange offer of its numbers: after the row are seven and three for each segment, and the generation where it
 -- stands there
 abbrev pub exchange_from : Bool → Bool → List ℕ → Option ExchangeView
 exchange_from fulfilled less (row ∷ ns) =

@@ -1,7 +1,7 @@
--- A text of numbers, each behind a mark.
+-- A text of numbers, each after a mark.
 use Rattle.std.specs.Prelude.{ℕ, ◌+◌, ◌-◌, ◌*◌, ◌&&◌, min, nat_le, Bool, List, [], ◌∷◌, ◌++◌, if◌then◌else◌, Option, Some, None, decimal, ◌≡◌, true}
 
--- each number in decimal digits, behind its mark
+-- each number in decimal digits, after its mark
 abbrev pub marked : List (List ℕ × ℕ) → List ℕ
 marked [] = []
 marked ((mark, n) ∷ rest) = mark ++ (decimal n ++ marked rest)

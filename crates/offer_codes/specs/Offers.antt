@@ -51,7 +51,7 @@ class_number Second = 2
 abbrev pub segment_marks : List ℕ → Segment → List (List ℕ × ℕ)
 segment_marks mark s = (mark, s.run.0) ∷ (codes ".", s.span.from) ∷ (codes ".", s.span.to) ∷ []
 
--- the first segment behind its mark, and each later one behind `_`
+-- the first segment after its mark, and each later one after `_`
 abbrev pub segments_marks : List ℕ → List Segment → List (List ℕ × ℕ)
 segments_marks mark [] = []
 segments_marks mark (s ∷ rest) = segment_marks mark s ++ segments_marks (codes "_") rest

@@ -16,7 +16,7 @@ free_line free = if free then codes ",\"free\":true,\"place\":" else codes ",\"f
 abbrev pub front_line : Bool → Class → ℕ → Bool → List ℕ
 front_line later class coach free = class_line later class ++ (decimal coach ++ free_line free)
 
--- a quoted name that is given, behind a comma where another stands before
+-- a quoted name that is given, after a comma where another stands before
 abbrev pub named_line : Bool → Bool → List ℕ → List ℕ
 named_line later given name = if given then comma_if later ++ name else []
 

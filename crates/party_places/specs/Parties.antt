@@ -94,7 +94,7 @@ GivesUp hold span stretch n old new held =
     ShapeBy (GivesUpAt hold.row.row (length hold.items) span (map place_number stretch) n) old new × (held ≡ hold)
 
 -- A try from these candidates on that failed: a free stretch was found, and its places taken up to one that wasn't won;
--- what was won is given back, and the candidates behind that one are left.
+-- what was won is given back, and the candidates after that one are left.
 pub record Fails (g : Party) (here left : List ℕ) (es : List Step) : Type 0 where
   pub looked : List Looked
   pub found : Finds g.places g.count here looked

@@ -66,7 +66,7 @@ fn behind(candidates: &[PlaceNo], from: usize) -> &[PlaceNo]
 ///
 /// It looks at the candidates in order, once at each piece of the span, until `count` of them in a row stand side by
 /// side and showed free. Those are taken one by one, each as `add_places` takes it. Where one isn't won, what was won
-/// is given back, and the next try begins behind that place. Where the list ends, places are added of all candidates,
+/// is given back, and the next try begins after that place. Where the list ends, places are added of all candidates,
 /// as by `add_places`.
 ///
 /// The candidates are places of one run in rising number, all of these books. `count` is at least 1, and the hold's

@@ -14,7 +14,7 @@ pub(crate) struct Sizes {
     pub second: usize,
 }
 
-/// The sizes before the first coach of a run, and behind its last.
+/// The sizes before the first coach of a run, and after its last.
 #[derive(Debug, Clone, Copy)]
 pub(crate) struct Mark {
     pub start: Sizes,
@@ -22,7 +22,7 @@ pub(crate) struct Mark {
 }
 
 impl Mark {
-    /// How many numbers of the class stand before the run's, and behind which its last one stands.
+    /// How many numbers of the class stand before the run's, and after which its last one stands.
     pub(crate) fn of_class(self, class: Class) -> (usize, usize) {
         match class {
             Class::First => (self.start.first, self.end.first),
@@ -64,7 +64,7 @@ impl Marks {
         }
     }
 
-    /// Marks the sizes before and behind a coach of the run. Where there is no memory for it, the run has no mark.
+    /// Marks the sizes before and after a coach of the run. Where there is no memory for it, the run has no mark.
     pub(crate) fn note(&mut self, run: RunNo, start: Sizes, end: Sizes) {
         let at = run.0 as usize;
         if at < self.of_runs.len() {

@@ -1,4 +1,4 @@
-//! What a service of one thread answers: a plain list of bookings, and what each command makes of it. It is a room of
+//! What a service of one thread answers: a plain list of bookings, and what each command makes of it. It is a crate of
 //! its own since no command is carried out by it: it says what a connection that is alone may count on.
 //!
 //! A desk that is alone at its books answers each command as this plain host does at the list of the desk's bookings,

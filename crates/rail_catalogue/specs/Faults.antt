@@ -15,7 +15,7 @@ pub data Fault : Type 0 where
   unknown_station : List ℕ → Fault
   double_key : Fault
 
--- the fault of the text; want of memory is none
+-- the fault of the text; lack of memory is none
 abbrev pub fault_of : CatalogueFault → Option Fault
 fault_of variants.NotJson = Some not_json
 fault_of (variants.Field path) = Some (field (string_bytes path))

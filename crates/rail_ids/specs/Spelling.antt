@@ -34,7 +34,7 @@ HasNumbers text numbers =
     (row generation : ℕ) → row < 2 ^ 32 → generation ≤ last_generation → text ≡ booking_id_text row generation
     → numbers ≡ Some (record { row = row; generation = generation })
 
--- where the text is that of a row, with zeros before it, and of a generation behind it, these are the digits of both
+-- where the text is that of a row, with zeros before it, and of a generation after it, these are the digits of both
 abbrev pub HasParts : List ℕ → List ℕ → List ℕ → Type 0
 HasParts text first second =
     (k row generation : ℕ) → row < 2 ^ 32 → text ≡ replicate k 48 ++ (decimal row ++ generation_text generation)

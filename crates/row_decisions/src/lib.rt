@@ -1,5 +1,5 @@
 //! What the calls that decide a booking's fate share: looks at the phase and at other words of its row, and a turn to
-//! an end with all that follows it. It is a room of its own since confirming, releasing, refunding, exchanging and
+//! an end with all that follows it. It is a crate of its own since confirming, releasing, refunding, exchanging and
 //! sweeping all stand on it.
 //!
 //! No call takes memory, and none waits.

@@ -54,19 +54,19 @@ pub fn after_six(seconds: u32) -> Moment
     six.later(seconds)
 }
 
-/// The sample's catalogue, with as many booking rows as a catalogue without that member has. `None` for want of memory.
+/// The sample's catalogue, with as many booking rows as a catalogue without that member has. `None` for lack of memory.
 pub fn sample(alloc: Global) -> Option<Catalogue> {
     read_catalogue(alloc, CATALOGUE.as_bytes()).ok()
 }
 
-/// The sample's catalogue with so many booking rows. `None` where it may not have as many, or for want of memory.
+/// The sample's catalogue with so many booking rows. `None` where it may not have as many, or for lack of memory.
 pub fn sample_with_rows(alloc: Global, rows: u32) -> Option<Catalogue> {
     let members = CATALOGUE.strip_prefix("{")?;
     let text = format!(in alloc; "{{\"rows\":{rows},{members}").ok()?;
     read_catalogue(alloc, text.as_str().as_bytes()).ok()
 }
 
-/// New books of the catalogue's places and rows, and their first desk. `None` for want of memory.
+/// New books of the catalogue's places and rows, and their first desk. `None` for lack of memory.
 pub fn open_books(alloc: Global, cat: &Catalogue) -> Option<(Books, Desk)>
     ensures own { IfSome result (λ t. IsOf t.0 t.1) }
     ensures legs { IfSome result (λ t. t.0.layout.legs ≡ legs_in cat.now) }

@@ -1,7 +1,7 @@
 //! The sample catalogue of `examples/k1.json` and what tests of every layer make of it: its books, its moments, its
 //! retailers, and requests of a connection beside their answers.
 //!
-//! It is a room of its own so that the sample stands once: crates of tests use it, and no crate of the host does.
+//! It is a crate of its own so that the sample stands once: crates of tests use it, and no crate of the host does.
 #![tactic(auto)]
 
 mod catalogue;

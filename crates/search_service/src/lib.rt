@@ -1,4 +1,4 @@
-//! What a retailer may ask of the whole timetable: offers of a wish, and the places of a run. It is a room of its own
+//! What a retailer may ask of the whole timetable: offers of a wish, and the places of a run. It is a crate of its own
 //! since none of this is asked of one booking, and no other service needs it.
 //!
 //! Every answer is the defined reply of the command, by the desk's own entries in this very call, whatever other desks

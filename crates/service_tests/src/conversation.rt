@@ -18,7 +18,7 @@ use std::process::Abort;
 /// More bytes than any connection here has.
 pub const ALL: usize = 1_000_000;
 
-/// A connection: when its requests come, what comes, what is answered, and how it ends. Behind each request and each
+/// A connection: when its requests come, what comes, what is answered, and how it ends. After each request and each
 /// answer, how many bytes have come and gone.
 #[derive(Drop)]
 pub struct Talk {
@@ -170,7 +170,7 @@ pub fn check(
     assert!(rt; devices.sink.taken() == talk.output.as_bytes());
 }
 
-/// A connection at new books: its end, and the words behind it.
+/// A connection at new books: its end, and the words after it.
 pub fn live(
     rt: &(impl Abort + AllocGlobal),
     cat: &Catalogue,

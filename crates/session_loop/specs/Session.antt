@@ -21,7 +21,7 @@ Chain {R} answers before (request ∷ requests) written after =
     (next : R) × (answer : List ℕ) × (more : List ℕ)
     × answers before request answer next × (written ≡ answer ++ more) × Chain answers next requests more after
 
--- the answer to what stands behind the requests
+-- the answer to what stands after the requests
 abbrev pub IsRefusal : {R : Type 0} → Refusing R → R → Rest → List ℕ → Type 0
 IsRefusal refuses after empty text = text ≡ []
 IsRefusal refuses after unfinished text = text ≡ []

@@ -2,7 +2,7 @@
 //!
 //! `run_session` is told by a `Responder` how a request is answered. It promises that the bytes
 //! written are the answers of the requests that the connection's bytes spell, each request answered
-//! once, in order, and last the answer to a wire fault where one stands behind them. Each end has its
+//! once, in order, and last the answer to a wire fault where one stands after them. Each end has its
 //! cause in the bytes, or in a count of faults that rose. It takes no memory.
 #![tactic(auto)]
 

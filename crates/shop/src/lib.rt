@@ -1,6 +1,6 @@
 //! What a service works with, and who asks it.
 //!
-//! It is a room of its own so that the services stand beside each other on it, each with no more than it needs.
+//! It is a crate of its own so that the services stand beside each other on it, each with no more than it needs.
 #![tactic(auto)]
 
 use claim_rule::Books;

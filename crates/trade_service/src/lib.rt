@@ -1,4 +1,4 @@
-//! Refunds and exchanges: quoted and carried out. It is a room of its own, since of all services it alone needs others:
+//! Refunds and exchanges: quoted and carried out. It is a crate of its own, since of all services it alone needs others:
 //! that of bookings, and that of coming to places.
 //!
 //! Every answer is the defined reply of the command, by the desk's own entries in this very call, whatever other desks

@@ -1,5 +1,5 @@
 //! Tests of the trips of a wish, by public calls alone: a comparison with a plain filter of all lists of segments.
-//! A room of its own, so that `trip_builder` is proved once, without tests.
+//! A crate of its own, so that `trip_builder` is proved once, without tests.
 #![tactic(auto)]
 
 #[cfg(test)]

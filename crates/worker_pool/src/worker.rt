@@ -1,4 +1,4 @@
-// Who takes turns on a desk.
+// What takes turns on a desk.
 ghost use Rattle.std.specs.Prelude.{◌≡◌, ◌↔◌};
 ghost use Rattle.claim_rule.specs.Rule.{BooksView, DeskView};
 ghost use Rattle.claim_rule.specs.Desks.{IsOf};
