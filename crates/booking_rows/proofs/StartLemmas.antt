@@ -408,9 +408,6 @@ startable ph n word e ended low =
     let s = said ph n word e in
     ((λ i. is_ended (s.1 i) && nat_lt (s.0 i) last_generation) ∙ (ap (λ (t : Bool). t && nat_lt n last_generation) ended ∙ lt-ltb n last_generation low), sym s.0)
 
-pub not_ended : (ph : Phase) (n word : ℕ) → row_word_of ph n ≡ word → is_ended ph ≡ false → is_startable word ≡ false
-not_ended ph n word e other = let s = said ph n word e in ap (λ (p : Phase). is_ended p && nat_lt (word / 16) last_generation) s.1 ∙ ap (λ (t : Bool). t && nat_lt (word / 16) last_generation) other
-
 not_below : (n m : ℕ) → m ≤ n → nat_lt n m ≡ false
 not_below n m high = false_from_ne_true (nat_lt n m) (λ t. let low = ltb-true n m t in omega (arith, high, low))
 

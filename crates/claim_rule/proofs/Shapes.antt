@@ -83,9 +83,6 @@ stands_through old new es hold did quiet is = record {
   within = subst (λ (l : Layout). Each (IsItem l) hold.items) (sym did.same.1) is.within;
 }
 
-pub hold_through : (old new : DeskView) (es : List Step) (hold : HoldView) → Shape old new es → new.kept ≡ old.kept → AllQuiet hold.row.row es → IsHoldOf old hold → IsHoldOf new hold
-hold_through old new es hold did kept quiet is = (stands_through old new es hold did quiet is.0, kept ∙ is.1)
-
 pub shape_none : (a : DeskView) → IsLegal a.layout a.seen → Shape a a []
 shape_none a legal = record {
   front = ([], append-nil a.seen);

@@ -85,18 +85,6 @@ Seals seen new number layout row phase items =
     × (new.seen ≡ before ++ entry number (Seal row.row phase) ∷ after)
     × OnRow (state_of layout (before ++ entry number (Seal row.row phase) ∷ [])) row.row (IsSealedAs row.generation number phase items)
 
-pub seals_within : (a b c d : DeskView) (row : RowNo) (phase : Phase) (items : List Item) (xs ys : List Step) → Shape a b xs → SealsItems b c row phase items → Shape c d ys → SealsItems a d row phase items
-seals_within a b c d row phase items xs ys first is after =
-    let s : Seals b.seen c a.number a.layout row phase items = subst (λ (x : ℕ × Layout). Seals b.seen c x.0 x.1 row phase items) (λ i. (first.same.2 i, first.same.1 i)) is in
-    let start = first.front.0 in
-    let rest = after.front.0 in (
-      s.0,
-      s.1 ++ rest,
-      (start ++ s.2.0, sym (append_assoc a.seen start s.2.0) ∙ (ap (λ (l : List Entry). l ++ s.2.0) first.front.1 ∙ s.2.1)),
-      sym after.front.1 ∙ (ap (λ (l : List Entry). l ++ rest) s.3 ∙ append_assoc s.0 (entry a.number (Seal row.row phase) ∷ s.1) rest),
-      s.4,
-    )
-
 -- the exchange has its new booking
 
 unsealed_looks : (q row w : ℕ) (items : List Item) → NoStep (seals q) (item_looks row w items)

@@ -19,19 +19,6 @@ use Rattle.hold_core.specs.Tries.{Part, AreParts, part_steps, undone, items_trie
 
 -- the pieces of a span, one by one
 
--- it ends where the span does, or before
-pub first_ends : (span x : Interval) (rest : List Interval) → pieces span ≡ x ∷ rest → x.to ≤ span.to
-first_ends span x rest are = ⊎_elim
-    (λ (p : IsPiece span). let e : x ≡ span = head_same x span rest [] (sym are ∙ pieces-whole span p) in subst (λ (y : Interval). y.to ≤ span.to) (sym e) (omega arith))
-    (λ (b : is_piece span ≡ false). let e = head_same x _ rest _ (sym are ∙ pieces-border span b) in subst (λ (y : Interval). y.to ≤ span.to) (sym e) (let l = ends-border span b in omega (arith, l.1)))
-    (cases_piece span)
-
-pub first_piece : (span x : Interval) (rest ps : List Interval) → ps ≡ pieces span → AllByRecursion IsPiece ps → pieces span ≡ x ∷ rest → IsPiece x
-first_piece span x rest ps same all are = (subst (AllByRecursion IsPiece) (same ∙ are) all).0
-
-pub first_room : (span x : Interval) (rest : List Interval) (n : ℕ) → pieces span ≡ x ∷ rest → n + length (pieces span) ≤ 48 → n < 48
-first_room span x rest n are room = let s = pieces_some span in omega (arith, s.0)
-
 abbrev no_parts : List Part
 no_parts = []
 
@@ -162,10 +149,3 @@ second_contended b c d mid after less place y i did one gave =
 -- where all items are noted, all but the last are
 pub noted_but_last : (desk : DeskView) (hold less : HoldView) (i : Item) → hold ≡ with_one less i → HasNotedItems desk hold → HasNotedButLast desk hold
 noted_but_last desk hold less i one on = (less.items, i, ap (λ (h : HoldView). h.items) one, noted_front desk hold.row.row less.items (i ∷ []) (subst (HasNoted desk hold.row.row) (ap (λ (h : HoldView). h.items) one) on))
-
--- how many items the hold has behind a piece
-pub after_won : (mid held : HoldView) (place : ℕ) (x : Interval) → held ≡ with_items mid (piece_won place x Won) → length held.items ≡ length mid.items + 1
-after_won mid held place x e = ap (λ (h : HoldView). length h.items) e ∙ length-append mid.items (piece_won place x Won)
-
-pub after_none : (mid held : HoldView) → held ≡ with_items mid [] → length held.items ≡ length mid.items
-after_none mid held e = ap (λ (h : HoldView). length h.items) e ∙ ap length (append-nil mid.items)

@@ -21,18 +21,9 @@ use Rattle.party_places.proofs.Sides.{Running, running_none, running_next, shows
 
 -- the looks at one place, as they are counted
 
-abbrev pub LooksOnce : ℕ → Interval → ℕ → List Step → Type 0
-LooksOnce place span count es = (free : Bool) × LooksPieces place (pieces span) free es × (count ≡ cond free 1 0)
-
 counts_one : (free : Bool) (count : ℕ) → count ≡ count_by (λ (state : Bool). state) (free ∷ []) → count ≡ cond free 1 0
 counts_one true count e = e
 counts_one false count e = e
-
-pub looks_once : (place : PlaceNo) (span : Interval) (count : ℕ) (es : List Step) → CountsFree (place ∷ []) span count es → LooksOnce place.0 span count es
-looks_once place span count es ([], at, many) = absurd at
-looks_once place span count es (free ∷ [], (looks, rest, one, none, is), many) =
-    (free, subst (LooksPieces place.0 (pieces span) free) (sym (is ∙ (ap (λ (l : List Step). looks ++ l) none ∙ append-nil looks))) one, counts_one free count many)
-looks_once place span count es (free ∷ other ∷ more, (looks, rest, one, at, is), many) = absurd at
 
 pub free_is : (free : Bool) (count : ℕ) → count ≡ cond free 1 0 → nat_lt 0 count ≡ free
 free_is true count e = ap (nat_lt 0) e
@@ -150,15 +141,6 @@ module _ (places : List Place) (count : ℕ) (span : Interval) (cs : List PlaceN
       by true true = omega (arith, few)
       by true false = omega (arith, few)
       by false follows = omega arith
-
--- at the list's end
-pub found_none : (places : List Place) (count : ℕ) (span : Interval) (cs : List PlaceNo) (a b : DeskView) (at together : ℕ) (before : PlaceNo) → length cs ≤ at
-    → Searched places count span cs a b at together before → ShapeBy (FindsNothing places count span (map place_number cs)) a b
-found_none places count span cs a b at together before end so = (
-  so.seen.0,
-  (so.looked, so.seen.1, record { none = so.none; all = sym (so.are ∙ ap (map place_number) (take_all at cs end)) }),
-  so.seen.2,
-)
 
 -- how many candidates a search that finds looks at
 pub found_within : (places : List Place) (count : ℕ) (span : Interval) (cs : List PlaceNo) (n : ℕ) (a b : DeskView) → ShapeBy (FindsAt places count span (map place_number cs) n) a b

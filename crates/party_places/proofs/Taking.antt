@@ -119,26 +119,6 @@ took_more a b c hold mid held span stretch n p d mine so inside is did held_is =
     sum : (n l : ℕ) → n * l + l ≡ (n + 1) * l
     sum n l = sym (add-mul n 1 l ∙ ap (λ (k : ℕ). n * l + k) (one-mul l))
 
--- there is room for one place more
-pub room_more : (a b : DeskView) (hold held : HoldView) (span : Interval) (stretch : List PlaceNo) (n : ℕ) → Took a b hold held span stretch n → n < length stretch
-    → length hold.items + length stretch * length (pieces span) ≤ 48 → length held.items + 1 * length (pieces span) ≤ 48
-room_more a b hold held span stretch n so inside room =
-    let l = length (pieces span) in
-    let items : length held.items ≡ length hold.items + n * l = ap (λ (h : HoldView). length h.items) so.held_is ∙ (length-append hold.items so.won ∙ ap (λ (k : ℕ). length hold.items + k) so.many) in
-    let more : n * l + l ≡ suc n * l = sym (suc-mul n l) in
-    let most : suc n * l ≤ length stretch * l = mul-le-mul_right l inside in
-    let one : 1 * l ≡ l = one-mul l in
-    within (length held.items) (length hold.items) (n * l) l (1 * l) (length stretch * l) items (subst (λ (x : ℕ). x ≤ length stretch * l) (sym more) most) one room
-  where
-    within : (h b w l o c : ℕ) → h ≡ b + w → w + l ≤ c → o ≡ l → b + c ≤ 48 → h + o ≤ 48
-    within h b w l o c e m f r = omega (arith, e, m, f, r)
-
--- all are taken
-pub took_all : (a b : DeskView) (hold held : HoldView) (span : Interval) (stretch : List PlaceNo) (n : ℕ) → length stretch ≤ n → Took a b hold held span stretch n
-    → (won : List Item) × ShapeBy (TakesEach hold.row.row (length hold.items) span (map place_number stretch) won) a b × (held ≡ with_items hold won)
-took_all a b hold held span stretch n end so =
-    (so.won, subst (λ (ps : List PlaceNo). ShapeBy (TakesEach hold.row.row (length hold.items) span (map place_number ps) so.won) a b) (take_all n stretch end) so.takes, so.held_is)
-
 -- or one isn't won
 pub took_not : (a b c : DeskView) (hold mid held : HoldView) (span : Interval) (stretch : List PlaceNo) (n : ℕ) (p d : PlaceNo) (answer : Added) (mine : List Item) → Took a b hold mid span stretch n → n < length stretch
     → p ≡ get_or stretch n d → answer ≢ added.All → mine ≡ [] → ShapeBy (Adds mid.row.row (length mid.items) span 1 (map place_number (p ∷ [])) answer mine) b c → held ≡ with_items mid mine

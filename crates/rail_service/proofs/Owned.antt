@@ -128,13 +128,3 @@ pub answers_own : (cat : CatalogueView) (retailer now : ℕ) (o : Result order.O
     → AnswersBy cat retailer now o old new reply → Own old new
 answers_own cat retailer now (Err p) old new reply legal did = (_, did.0)
 answers_own cat retailer now (Ok o) old new reply legal did = performs_own cat retailer now o old new reply legal did
-
-asked_own : (cat : CatalogueView) (now : ℕ) (asked : Result (RetailerNo × Command) Problem) (old new : DeskView) (reply : Reply) → IsLegal old.layout old.seen
-    → AnswersAsked cat now asked old new reply → Own old new
-asked_own cat now (Ok a) old new reply legal did = answers_own cat a.0.0 now (ordered cat now a.1) old new reply legal did.0
-asked_own cat now (Err p) old new reply legal did = (_, did.0)
-
--- all that the desk does for a request is of its reply
-pub request_own : (cat : CatalogueView) (first : Option RetailerNo) (request : RequestText) (now : ℕ) (old new : DeskView) (reply : Reply) → IsLegal old.layout old.seen
-    → AnswersRequest cat first request now old new reply → Own old new
-request_own cat first request now old new reply legal (asked, asks, did) = asked_own cat now asked old new reply legal did

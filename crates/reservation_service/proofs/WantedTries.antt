@@ -193,22 +193,3 @@ wanted_contended a b hold held span count places cs more place won l few e = (
   ),
   l.tried.held,
 )
-
-pub wanted_short : (a b : DeskView) (hold held : HoldView) (span : Interval) (count won : ℕ) (places cs : List ℕ)
-    → TriedSettled a b hold held span places won → won < count → cs ≡ places
-    → AddsPlaces a hold span count cs (added.NoPlace won) b held
-wanted_short a b hold held span count won places cs so few e = (
-  items_won span so.tried.tries,
-  (
-    tries_steps hold.row.row (length hold.items) span so.tried.tries,
-    record {
-      tries = so.tried.tries;
-      each = so.tried.each;
-      adding = (so.settled, so.many, few, e ∙ so.tried.are);
-      items = refl;
-      steps = refl;
-    },
-    so.tried.seen,
-  ),
-  so.tried.held,
-)
