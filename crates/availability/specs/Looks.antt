@@ -5,8 +5,8 @@ use Rattle.rail_ids.specs.declared.PlaceNo.{PlaceNo}
 use Rattle.history_model.specs.declared.entry.Step.{Step}
 use Rattle.history_model.specs.Looks.{look_at}
 use Rattle.claim_rule.specs.Rule.{DeskView}
-use Rattle.claim_rule.specs.Calls.{ShapeBy}
-use Rattle.claim_rule.specs.Desks.{Shape}
+use Rattle.claim_rule.specs.Calls.{AddsStepsBy}
+use Rattle.claim_rule.specs.Desks.{AddsSteps}
 
 -- one look at each of the pieces at a place, in order, and whether all the words that they showed are free on their
 -- piece
@@ -32,12 +32,12 @@ CountsFree places span free es =
 
 -- the looks at one place that a desk made
 abbrev pub HasLooked : PlaceNo → Interval → Bool → DeskView → DeskView → Type 0
-HasLooked place span free old new = ShapeBy (LooksPieces place.0 (pieces span) free) old new
+HasLooked place span free old new = AddsStepsBy (LooksPieces place.0 (pieces span) free) old new
 
 -- the look at one piece of a place that a desk made
 abbrev pub HasLookedAt : PlaceNo → Interval → Bool → DeskView → DeskView → Type 0
 HasLookedAt place piece free old new =
-    (word : ℕ) × (IsTrue free ↔ IsClear word piece) × Shape old new (look_at place.0 piece word ∷ [])
+    (word : ℕ) × (IsTrue free ↔ IsClear word piece) × AddsSteps old new (look_at place.0 piece word ∷ [])
 
 -- one piece, or two
 abbrev pub listed : Interval → Option Interval → List Interval

@@ -8,7 +8,7 @@ use Rattle.history_model.specs.declared.phase.EndKind.TheVariants.{Expire}
 use Rattle.history_model.specs.Phase.{generation_words, phase_shown, row_word_of, said_phase}
 use Rattle.history_model.specs.Booking.{most_items, standing_word, limit_word}
 use Rattle.claim_rule.specs.Rule.{DeskView}
-use Rattle.claim_rule.specs.Desks.{Shape}
+use Rattle.claim_rule.specs.Desks.{AddsSteps}
 use Rattle.booking_rows.specs.declared.turns.Aim.TheVariants as aim
 use Rattle.booking_rows.specs.Aims.{end_of}
 use Rattle.booking_rows.specs.Ends.{IsEndedAs}
@@ -75,5 +75,5 @@ HasExpired desk now row _ = Unit {0}
 -- the sweep of a row that a desk made, by what came of it
 abbrev pub SweepsRow : ℕ → ℕ → DeskView → DeskView → RowSwept → Type 0
 SweepsRow now row old new answer =
-    (s : RowSweep) × IsRowSweep now s × (outcome_of s ≡ answer) × Shape old new (row_sweep_steps now row s)
+    (s : RowSweep) × IsRowSweep now s × (outcome_of s ≡ answer) × AddsSteps old new (row_sweep_steps now row s)
     × HasExpired new now row s

@@ -7,7 +7,7 @@ use Rattle.leg_masks.proofs.InPieces.{head_same}
 use Rattle.history_model.specs.declared.entry.Step.{Step}
 use Rattle.history_model.specs.declared.entry.Step.TheVariants.{Give}
 use Rattle.claim_rule.specs.Rule.{DeskView}
-use Rattle.claim_rule.specs.Desks.{Shape}
+use Rattle.claim_rule.specs.Desks.{AddsSteps}
 use Rattle.claim_rule.specs.Holds.{HoldView, with_one}
 use Rattle.claim_rule.specs.Out.{HasNoted, HasNotedItems, HasNotedButLast}
 use Rattle.claim_rule.proofs.Holding.{take_front}
@@ -40,7 +40,7 @@ one_part a b hold held place span x rest o are last did =
     let k = length hold.items in (
       t ∷ [],
       subst (λ (l : List Interval). AreParts l (t ∷ []) o) (sym are) (refl, did.1, ends o refl),
-      subst (Shape a b) (sym (steps o t row k)) did.2,
+      subst (AddsSteps a b) (sym (steps o t row k)) did.2,
       did.3 ∙ ap (with_items hold) (items o last),
     )
   where
@@ -109,8 +109,8 @@ two_parts a b c hold mid held place span x y o are first second =
     (λ i. second_steps hold mid place (placed place x) u first.3 i ++ given_back hold mid (placed place x) o t u first.3 i) in (
       t ∷ u ∷ [],
       subst (λ (l : List Interval). AreParts l (t ∷ u ∷ []) o) (sym are) (refl, first.1, inl (refl, (refl, second.1, ends o refl))),
-      subst (Shape a c) (sym (append_assoc p (q ++ []) back ∙ ap (λ (l : List Step). p ++ (l ++ back)) (append-nil q)))
-          (shape_then a b c p (q ++ back) first.2 (subst (Shape b c) rest second.2)),
+      subst (AddsSteps a c) (sym (append_assoc p (q ++ []) back ∙ ap (λ (l : List Step). p ++ (l ++ back)) (append-nil q)))
+          (shape_then a b c p (q ++ back) first.2 (subst (AddsSteps b c) rest second.2)),
       has_all hold mid held place span x y o are first.3 second.3,
     )
   where
@@ -122,7 +122,7 @@ two_parts a b c hold mid held place span x y o are first second =
 -- the try of a second piece
 
 pub second_won : (b c : DeskView) (mid held : HoldView) (place : ℕ) (y : Interval) → TriesPiece b mid place y c held Won → TriesSecond b mid place y c held Won
-second_won b c mid held place y did = (did.0, did.1, subst (Shape b c) (sym (append-nil _)) did.2, did.3)
+second_won b c mid held place y did = (did.0, did.1, subst (AddsSteps b c) (sym (append-nil _)) did.2, did.3)
 
 same_after : (mid held : HoldView) (is : List Item) → held ≡ with_items mid is → is ≡ [] → held ≡ mid
 same_after mid held is e none = e ∙ (ap (with_items mid) none ∙ sym (none_more mid))
@@ -134,17 +134,17 @@ less_one mid after less i same one =
 give_is : (mid after less : HoldView) (i : Item) → after ≡ mid → after ≡ with_one less i → Give after.row.row (length less.items) ∷ [] ≡ Give mid.row.row (length mid.items - 1) ∷ []
 give_is mid after less i same one = λ k. Give (ap (λ (h : HoldView). h.row.row) same k) (less_one mid after less i same one k) ∷ []
 
-pub second_refused : (b c d : DeskView) (mid after less : HoldView) (place : ℕ) (y : Interval) (i : Item) → TriesPiece b mid place y c after Refused → after ≡ with_one less i → Shape c d (Give after.row.row (length less.items) ∷ []) → TriesSecond b mid place y d less Refused
+pub second_refused : (b c d : DeskView) (mid after less : HoldView) (place : ℕ) (y : Interval) (i : Item) → TriesPiece b mid place y c after Refused → after ≡ with_one less i → AddsSteps c d (Give after.row.row (length less.items) ∷ []) → TriesSecond b mid place y d less Refused
 second_refused b c d mid after less place y i did one gave =
     let same = same_after mid after [] did.3 refl in
     let t : Part = record { piece = y; shown = did.0; outcome = Refused } in
-    (did.0, did.1, shape_then b c d (part_steps mid.row.row (length mid.items) place t) _ did.2 (subst (Shape c d) (give_is mid after less i same one) gave), (i, sym same ∙ one))
+    (did.0, did.1, shape_then b c d (part_steps mid.row.row (length mid.items) place t) _ did.2 (subst (AddsSteps c d) (give_is mid after less i same one) gave), (i, sym same ∙ one))
 
-pub second_contended : (b c d : DeskView) (mid after less : HoldView) (place : ℕ) (y : Interval) (i : Item) → TriesPiece b mid place y c after Contended → after ≡ with_one less i → Shape c d (Give after.row.row (length less.items) ∷ []) → TriesSecond b mid place y d less Contended
+pub second_contended : (b c d : DeskView) (mid after less : HoldView) (place : ℕ) (y : Interval) (i : Item) → TriesPiece b mid place y c after Contended → after ≡ with_one less i → AddsSteps c d (Give after.row.row (length less.items) ∷ []) → TriesSecond b mid place y d less Contended
 second_contended b c d mid after less place y i did one gave =
     let same = same_after mid after [] did.3 refl in
     let t : Part = record { piece = y; shown = did.0; outcome = Contended } in
-    (did.0, did.1, shape_then b c d (part_steps mid.row.row (length mid.items) place t) _ did.2 (subst (Shape c d) (give_is mid after less i same one) gave), (i, sym same ∙ one))
+    (did.0, did.1, shape_then b c d (part_steps mid.row.row (length mid.items) place t) _ did.2 (subst (AddsSteps c d) (give_is mid after less i same one) gave), (i, sym same ∙ one))
 
 -- where all items are noted, all but the last are
 pub noted_but_last : (desk : DeskView) (hold less : HoldView) (i : Item) → hold ≡ with_one less i → HasNotedItems desk hold → HasNotedButLast desk hold

@@ -7,7 +7,7 @@ use Rattle.history_model.specs.declared.entry.Step.{Step}
 use Rattle.history_model.specs.declared.entry.Step.TheVariants.{Give}
 use Rattle.claim_rule.specs.Rule.{DeskView}
 use Rattle.claim_rule.specs.Holds.{HoldView}
-use Rattle.claim_rule.specs.Calls.{ShapeBy}
+use Rattle.claim_rule.specs.Calls.{AddsStepsBy}
 use Rattle.hold_core.specs.declared.tries.Outcome.{Outcome}
 use Rattle.hold_core.specs.declared.tries.Outcome.TheVariants.{Won, Refused, Contended}
 use Rattle.hold_core.specs.declared.adds.Added.{Added}
@@ -77,7 +77,7 @@ pub record Adds (row k : ℕ) (span : Interval) (count : ℕ) (candidates : List
 abbrev pub AddsPlaces : DeskView → HoldView → Interval → ℕ → List ℕ → Added → DeskView → HoldView → Type 0
 AddsPlaces old hold span count candidates answer new held =
     (won : List Item)
-    × ShapeBy (Adds hold.row.row (length hold.items) span count candidates answer won) old new
+    × AddsStepsBy (Adds hold.row.row (length hold.items) span count candidates answer won) old new
     × (held ≡ with_items hold won)
 
 -- how many entries there are at most for one candidate: for each of two pieces eight looks, a take and a note

@@ -9,7 +9,7 @@ use Rattle.history_model.specs.declared.entry.Step.TheVariants.{Take, Give, Note
 use Rattle.history_model.specs.Booking.{first_item_word}
 use Rattle.history_model.specs.Looks.{look_at}
 use Rattle.claim_rule.specs.Rule.{DeskView}
-use Rattle.claim_rule.specs.Desks.{Shape}
+use Rattle.claim_rule.specs.Desks.{AddsSteps}
 use Rattle.claim_rule.specs.Holds.{HoldView, with_one}
 use Rattle.hold_core.specs.declared.tries.Outcome.{Outcome}
 use Rattle.hold_core.specs.declared.tries.Outcome.TheVariants.{Won, Refused, Contended}
@@ -120,7 +120,7 @@ with_items hold more = record { row = hold.row; items = hold.items ++ more }
 abbrev pub TriesPiece : DeskView → HoldView → ℕ → Interval → DeskView → HoldView → Outcome → Type 0
 TriesPiece old hold place piece new held outcome =
     (shown : List ℕ) × IsPart (record { piece = piece; shown = shown; outcome = outcome })
-    × Shape old new (part_steps hold.row.row (length hold.items) place
+    × AddsSteps old new (part_steps hold.row.row (length hold.items) place
     (record { piece = piece; shown = shown; outcome = outcome }))
     × (held ≡ with_items hold (piece_won place piece outcome))
 
@@ -128,7 +128,7 @@ TriesPiece old hold place piece new held outcome =
 abbrev pub TriesPlace : DeskView → HoldView → ℕ → Interval → DeskView → HoldView → Outcome → Type 0
 TriesPlace old hold place span new held outcome =
     (parts : List Part) × AreParts (pieces span) parts outcome
-    × Shape old new (try_steps hold.row.row (length hold.items)
+    × AddsSteps old new (try_steps hold.row.row (length hold.items)
     (record { place = place; parts = parts; outcome = outcome }))
     × (held ≡ with_items hold (items_tried place span outcome))
 
@@ -148,6 +148,6 @@ HasSecond hold place piece Contended held = (first : Item) × (hold ≡ with_one
 abbrev pub TriesSecond : DeskView → HoldView → ℕ → Interval → DeskView → HoldView → Outcome → Type 0
 TriesSecond old hold place piece new held outcome =
     (shown : List ℕ) × IsPart (record { piece = piece; shown = shown; outcome = outcome })
-    × Shape old new (part_steps hold.row.row (length hold.items) place
+    × AddsSteps old new (part_steps hold.row.row (length hold.items) place
     (record { piece = piece; shown = shown; outcome = outcome }) ++ given_first hold outcome)
     × HasSecond hold place piece outcome held

@@ -6,7 +6,7 @@ use Rattle.place_map.specs.declared.coach.Place.{Place}
 use Rattle.history_model.specs.declared.entry.Step.{Step}
 use Rattle.history_model.specs.declared.entry.Step.TheVariants.{Give}
 use Rattle.claim_rule.specs.Rule.{DeskView}
-use Rattle.claim_rule.specs.Calls.{Calls, ShapeBy}
+use Rattle.claim_rule.specs.Calls.{Calls, AddsStepsBy}
 use Rattle.claim_rule.specs.Holds.{HoldView}
 use Rattle.hold_core.specs.declared.adds.Added.{Added}
 use Rattle.hold_core.specs.declared.adds.Added.TheVariants as added
@@ -69,7 +69,7 @@ pub record Loses (row k : ℕ) (span : Interval) (stretch : List ℕ) (won : Lis
 -- all of them are taken so for a hold, which has their items then
 abbrev pub Takes : HoldView → Interval → List PlaceNo → DeskView → DeskView → HoldView → Type 0
 Takes hold span stretch old new held =
-    (won : List Item) × ShapeBy (TakesEach hold.row.row (length hold.items) span (map place_number stretch) won) old new
+    (won : List Item) × AddsStepsBy (TakesEach hold.row.row (length hold.items) span (map place_number stretch) won) old new
     × (held ≡ with_items hold won)
 
 -- the one that isn't won is the n-th
@@ -79,7 +79,7 @@ LosesAt row k span stretch n won es = (loses : Loses row k span stretch won es) 
 -- they are taken up to that one for a hold, which has the items won then
 abbrev pub LosesOne : HoldView → Interval → List PlaceNo → ℕ → DeskView → DeskView → HoldView → Type 0
 LosesOne hold span stretch n old new held =
-    (won : List Item) × ShapeBy (LosesAt hold.row.row (length hold.items) span (map place_number stretch) n won) old new
+    (won : List Item) × AddsStepsBy (LosesAt hold.row.row (length hold.items) span (map place_number stretch) n won) old new
     × (held ≡ with_items hold won)
 
 -- and what was won is given back
@@ -91,7 +91,7 @@ GivesUpAt row k span stretch n es =
 -- so that the hold has what it had
 abbrev pub GivesUp : HoldView → Interval → List PlaceNo → ℕ → DeskView → DeskView → HoldView → Type 0
 GivesUp hold span stretch n old new held =
-    ShapeBy (GivesUpAt hold.row.row (length hold.items) span (map place_number stretch) n) old new × (held ≡ hold)
+    AddsStepsBy (GivesUpAt hold.row.row (length hold.items) span (map place_number stretch) n) old new × (held ≡ hold)
 
 -- A try from these candidates on that failed: a free stretch was found, and its places taken up to one that wasn't won;
 -- what was won is given back, and the candidates after that one are left.

@@ -10,8 +10,8 @@ use Rattle.offer_codes.specs.Offers.{OfferView}
 use Rattle.rail_catalogue.specs.Contents.{CatalogueView}
 use Rattle.history_model.specs.Lists.{Pairwise}
 use Rattle.claim_rule.specs.Rule.{DeskView}
-use Rattle.claim_rule.specs.Desks.{Shape}
-use Rattle.claim_rule.specs.Calls.{ShapeBy}
+use Rattle.claim_rule.specs.Desks.{AddsSteps}
+use Rattle.claim_rule.specs.Calls.{AddsStepsBy}
 use Rattle.booking_rows.specs.Starts.{StartsHold}
 use Rattle.hold_core.specs.declared.adds.Added.{Added}
 use Rattle.hold_core.specs.declared.adds.Added.TheVariants as added
@@ -67,11 +67,11 @@ abbrev pub AddsSegment : CatalogueView → OfferView → Bool → RowNo → List
     → DeskView → Type 0
 AddsSegment cat o false row items s placing won old new =
     (answer : Added) × (placing ≡ placing_of answer)
-    × ShapeBy (Adds row.row (length items) s.span (count_of o) (candidates_in cat o s) answer won) old new
+    × AddsStepsBy (Adds row.row (length items) s.span (count_of o) (candidates_in cat o s) answer won) old new
 AddsSegment cat o true row items s placing won old new =
     (answer : PartyAdded) × (placing ≡ placing_of_party answer)
-    × ShapeBy (SeatsParty (party_at cat o row (length items) s) answer won) old new
-    × ShapeBy (SpoilsAll (party_at cat o row (length items) s) answer) old new
+    × AddsStepsBy (SeatsParty (party_at cat o row (length items) s) answer won) old new
+    × AddsStepsBy (SpoilsAll (party_at cat o row (length items) s) answer) old new
 
 -- From a hold of the row with `items` to one with `all`: places are added for each segment in order. That ends early at
 -- a segment that doesn't get all its places, of which those that were won stay on the hold; or at one for which there
@@ -90,15 +90,15 @@ PlacesAll cat o together row items (s ∷ rest) placing all old new =
 abbrev pub HoldsPlaces : CatalogueView → OfferView → Bool → List Segment → RowNo → Placing → List Item → DeskView
     → DeskView → Type 0
 HoldsPlaces cat o together segments row placing items old new =
-    (mid : DeskView) × ShapeBy (StartsHold old mid (Some row)) old mid
+    (mid : DeskView) × AddsStepsBy (StartsHold old mid (Some row)) old mid
     × PlacesAll cat o together row [] segments placing items mid new
 
 abbrev pub FindsNoRow : DeskView → DeskView → Type 0
-FindsNoRow old new = ShapeBy (StartsHold old new None) old new
+FindsNoRow old new = AddsStepsBy (StartsHold old new None) old new
 
 -- what was held is given back
 abbrev pub GivesUp : RowNo → List Item → DeskView → DeskView → Type 0
-GivesUp row items old new = Shape old new (gives_back row.row (length items))
+GivesUp row items old new = AddsSteps old new (gives_back row.row (length items))
 
 -- what is wrong with a placing that is not whole
 abbrev pub problem_of : Placing → Option Problem

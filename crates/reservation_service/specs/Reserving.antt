@@ -11,7 +11,7 @@ use Rattle.offer_engine.specs.Offers.{offer_price}
 use Rattle.history_model.specs.declared.entry.Step.TheVariants.{Seal}
 use Rattle.history_model.specs.declared.phase.Phase.TheVariants as phase
 use Rattle.claim_rule.specs.Rule.{DeskView}
-use Rattle.claim_rule.specs.Desks.{Shape}
+use Rattle.claim_rule.specs.Desks.{AddsSteps}
 use Rattle.claim_rule.specs.Out.{MakesEmpty, SealsItems}
 use Rattle.booking_rows.specs.declared.notes.Detail.{Detail}
 use Rattle.booking_rows.specs.Notes.{detail_notes}
@@ -39,7 +39,7 @@ abbrev pub Prebooks : CatalogueView → ℕ → ℕ → OfferView → Bool → D
 Prebooks cat retailer now o together old new reply =
     (row : RowNo) × (items : List Item) × (mid : DeskView)
     × HoldsPlaces cat o together o.segments row Whole items old mid
-    × Shape mid new (detail_notes row.row (detail_of cat o retailer now) (length items) ++ Seal row.row phase.Prebooked
+    × AddsSteps mid new (detail_notes row.row (detail_of cat o retailer now) (length items) ++ Seal row.row phase.Prebooked
     ∷ [])
     × (reply ≡ created row (made_view phase.Prebooked (detail_of cat o retailer now) items))
 
@@ -65,7 +65,7 @@ abbrev pub MakesReady : CatalogueView → ℕ → ℕ → OfferView → Bool →
     → Type 0
 MakesReady cat retailer now o together row items old new said =
     (mid : DeskView) × PlacesAll cat o together row [] o.segments Whole items old mid
-    × Shape mid new (detail_notes row.row (detail_of cat o retailer now) (length items))
+    × AddsSteps mid new (detail_notes row.row (detail_of cat o retailer now) (length items))
     × (said ≡ reply_told cat (created row (made_view phase.Prebooked (detail_of cat o retailer now) items)))
 
 -- places were added to a hold of the row, but not all; or all were, and there was no memory for the answer
@@ -77,7 +77,7 @@ FallsShort cat o together row items why old new =
 -- a hold with all its places is sealed with this detail; or given back, since there was no memory for the answer
 abbrev pub SealsHold : RowNo → List Item → Detail → DeskView → DeskView → Reply → Type 0
 SealsHold row items d old new reply =
-    (Shape old new (detail_notes row.row d (length items) ++ Seal row.row phase.Prebooked ∷ [])
+    (AddsSteps old new (detail_notes row.row d (length items) ++ Seal row.row phase.Prebooked ∷ [])
     × SealsItems old new row phase.Prebooked items
     × (reply ≡ created row (made_view phase.Prebooked d items)))
     ⊎ (GivesUp row items old new × (reply ≡ problem NoMemory))

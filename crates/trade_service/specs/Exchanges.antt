@@ -5,8 +5,8 @@ use Rattle.rail_ids.specs.declared.RowNo.{RowNo}
 use Rattle.history_model.specs.declared.phase.Phase.{Phase}
 use Rattle.history_model.specs.declared.phase.Phase.TheVariants as phase
 use Rattle.claim_rule.specs.Rule.{DeskView}
-use Rattle.claim_rule.specs.Desks.{Shape}
-use Rattle.claim_rule.specs.Calls.{ShapeBy}
+use Rattle.claim_rule.specs.Desks.{AddsSteps}
+use Rattle.claim_rule.specs.Calls.{AddsStepsBy}
 use Rattle.claim_rule.specs.Holds.{HoldView}
 use Rattle.claim_rule.specs.Out.{SealsItems}
 use Rattle.booking_rows.specs.declared.notes.Detail.{Detail}
@@ -37,9 +37,9 @@ IsExchangeQuote (quoted.Done code) reply = (reply ≡ exchange_offer code) ⊎ (
 IsExchangeQuote quoted.Unknown reply = reply ≡ problem UnknownBooking
 IsExchangeQuote (quoted.WrongState shown) reply = reply ≡ problem (WrongState shown)
 
-abbrev pub QuotesExchangeOfIt : CatalogueView → ℕ → RowNo → ℕ → OfferView → ℕ → Replying
-QuotesExchangeOfIt cat rows row retailer offer now old new reply =
-    (a : QuotedExchange) × ShapeBy (QuotesExchange cat rows row retailer offer now a) old new × IsExchangeQuote a reply
+abbrev pub AnswersExchangeQuote : CatalogueView → ℕ → RowNo → ℕ → OfferView → ℕ → Replying
+AnswersExchangeQuote cat rows row retailer offer now old new reply =
+    (a : QuotedExchange) × AddsStepsBy (QuotesExchange cat rows row retailer offer now a) old new × IsExchangeQuote a reply
 
 -- why a quote isn't carried out
 abbrev pub IsUnready : Readied → Problem → Type 0
@@ -62,13 +62,13 @@ lost_problem shown = WrongState shown
 -- was held is given back.
 abbrev pub Decides : ReadyView → RowNo → List Item → Detail → Replying
 Decides ready row items d old new reply =
-    (noted : DeskView) × Shape old noted (detail_notes row.row d (length items))
+    (noted : DeskView) × AddsSteps old noted (detail_notes row.row d (length items))
     × (((made : RowNo) × (difference : ℤ)
-    × ShapeBy (AcceptsExchange ready row (accepted.Done made difference)) noted new
+    × AddsStepsBy (AcceptsExchange ready row (accepted.Done made difference)) noted new
     × SealsItems old new row phase.Confirmed items
     × (reply ≡ exchanged row (made_view phase.Confirmed d items) ready.code.difference ready.code.row))
     ⊎ ((shown : Phase) × (hold : HoldView) × (lost : DeskView)
-    × ShapeBy (AcceptsExchange ready row (accepted.WrongState shown hold)) noted lost × GivesUp row items lost new
+    × AddsStepsBy (AcceptsExchange ready row (accepted.WrongState shown hold)) noted lost × GivesUp row items lost new
     × (reply ≡ problem (lost_problem shown))))
 
 -- with all places held: the exchange is decided; or there is no memory for the answer, and what was held is given back
@@ -85,11 +85,11 @@ CarriesOut cat ready old new reply =
     × DecidesOrNot ready row items (detail_of cat ready.code.offer ready.retailer ready.moment) held new reply)
 
 -- the quote is checked, and refused or carried out
-abbrev pub ExchangesIt : CatalogueView → ℕ → ℕ → ExchangeView → ℕ → Replying
-ExchangesIt cat rows retailer code now old new reply =
-    ((a : Readied) × (p : Problem) × ShapeBy (Readies cat rows retailer code now a) old new × IsUnready a p
+abbrev pub AnswersAcceptedExchange : CatalogueView → ℕ → ℕ → ExchangeView → ℕ → Replying
+AnswersAcceptedExchange cat rows retailer code now old new reply =
+    ((a : Readied) × (p : Problem) × AddsStepsBy (Readies cat rows retailer code now a) old new × IsUnready a p
     × (reply ≡ problem p))
-    ⊎ ((mid : DeskView) × ShapeBy
+    ⊎ ((mid : DeskView) × AddsStepsBy
     (Readies cat rows retailer code now (readied.Fine (ready_of retailer code now))) old mid
     × CarriesOut cat (ready_of retailer code now) mid new reply)
 
@@ -102,5 +102,5 @@ AnswersReady cat ready old new said =
 -- the same of the whole command
 abbrev pub AnswersExchange : CatalogueView → ℕ → ℕ → ExchangeView → ℕ → DeskView → DeskView → Told → Type 0
 AnswersExchange cat rows retailer code now old new said =
-    (reply : Reply) × ExchangesIt cat rows retailer code now old new reply × HasAllOrNone cat code.offer old new reply
+    (reply : Reply) × AnswersAcceptedExchange cat rows retailer code now old new reply × HasAllOrNone cat code.offer old new reply
     × (said ≡ reply_told cat reply)
