@@ -16,7 +16,7 @@ use rail_time::Moment;
 
 /// What a maker notes of a booking beside its items: its retailer, its limit of confirmation, and its total in minor
 /// units.
-#[derive(Clone, Copy, Debug, PartialEq, Eq)]
+#[derive(Clone, Copy, PartialEq, Eq)]
 pub struct Detail {
     pub retailer: RetailerNo,
     pub limit: Moment,
@@ -24,7 +24,7 @@ pub struct Detail {
 }
 
 /// How a booking is sealed.
-#[derive(Clone, Copy, Debug, PartialEq, Eq)]
+#[derive(Clone, Copy, PartialEq, Eq)]
 pub enum Sealed {
     Prebooked,
     Confirmed,

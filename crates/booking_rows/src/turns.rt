@@ -18,7 +18,7 @@ use rail_ids::RowNo;
 use rail_time::Moment;
 
 /// What a turn aims at. Amounts are in minor units; a difference is what the new booking costs more.
-#[derive(Clone, Copy, Debug, PartialEq, Eq)]
+#[derive(Clone, Copy, PartialEq, Eq)]
 pub enum Aim {
     Confirm {
         now: Moment,

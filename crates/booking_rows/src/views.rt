@@ -38,7 +38,7 @@ pub struct EndView {
 }
 
 /// A sealed row as its words showed it. `ended` is there exactly where its phase word showed that it is ended.
-#[derive(Debug, Drop)]
+#[derive(Drop)]
 pub struct RowView {
     pub phase: Phase,
     pub retailer: RetailerNo,

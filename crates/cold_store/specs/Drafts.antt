@@ -195,7 +195,7 @@ noted d line =
     record d {
       lines = d.lines ++ record { row = line.head.row; generation = line.head.generation } ∷ [];
       follows = d.follows ++ option_to_list
-      (option_map (λ s. record { row = line.head.row; successor = s }) line.end.successor);
+          (option_map (λ s. record { row = line.head.row; successor = s }) line.end.successor);
     }
 
 -- the least row that is its own successor's

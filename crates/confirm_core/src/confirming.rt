@@ -17,7 +17,7 @@ use rail_time::Moment;
 use row_decisions::{is_sealed, look_phase, look_word};
 
 /// What came of confirming.
-#[derive(Clone, Copy, Debug, PartialEq, Eq)]
+#[derive(Clone, Copy, PartialEq, Eq)]
 pub enum Confirmed {
     /// The booking is confirmed by this call.
     Done,
@@ -67,7 +67,7 @@ pub fn confirm(
 }
 
 // What looks at a booking showed.
-#[derive(Clone, Copy, Debug, PartialEq, Eq)]
+#[derive(Clone, Copy, PartialEq, Eq)]
 struct Terms {
     shown: Phase,
     limit: Moment,

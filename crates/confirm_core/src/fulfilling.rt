@@ -13,7 +13,7 @@ use rail_ids::{RetailerNo, RowNo};
 use row_decisions::find_owned;
 
 /// What came of fulfilling.
-#[derive(Clone, Copy, Debug, PartialEq, Eq)]
+#[derive(Clone, Copy, PartialEq, Eq)]
 pub enum Fulfilment {
     /// The ticket is collected by this call.
     Done,

@@ -27,8 +27,13 @@ abbrev pub QuotesExchange : CatalogueView → ℕ → RowNo → ℕ → OfferVie
 QuotesExchange cat rows row retailer offer now (quoted.Done code) es =
     (row.row < rows) × ((v : RowSeen) × SeesOwn row retailer v es × (v.phase ≡ phase_named code.fulfilled)
     × (exchange_view code
-    ≡ record { row = row; made = now; fulfilled = code.fulfilled;
-    difference = difference_at cat v now code.fulfilled offer; offer = offer }))
+    ≡ record {
+      row = row;
+      made = now;
+      fulfilled = code.fulfilled;
+      difference = difference_at cat v now code.fulfilled offer;
+      offer = offer;
+    }))
 QuotesExchange cat rows row retailer offer now quoted.Unknown es = SeesNone rows row retailer es
 QuotesExchange cat rows row retailer offer now (quoted.WrongState shown) es =
     (row.row < rows) × (shown ≢ Confirmed) × (shown ≢ Fulfilled)

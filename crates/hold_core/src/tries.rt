@@ -18,7 +18,7 @@ use seat_words::{Take, glance, try_take, undo_last};
 const MOST_TRIES: u8 = 8;
 
 /// How a try of one candidate, or of one piece of it, ended.
-#[derive(Clone, Copy, Debug, PartialEq, Eq)]
+#[derive(Clone, Copy, PartialEq, Eq)]
 pub enum Outcome {
     /// It is won, and its items are noted.
     Won,

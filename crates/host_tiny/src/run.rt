@@ -21,7 +21,7 @@ use std::marker::Model;
 const ROWS: u32 = 1_024;
 
 /// What a wish for a place comes to.
-#[derive(Clone, Copy, Debug, PartialEq, Eq)]
+#[derive(Clone, Copy, PartialEq, Eq)]
 pub enum Reservation {
     /// The place is reserved on the legs.
     Place(u16),

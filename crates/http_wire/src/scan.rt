@@ -7,7 +7,7 @@ use step_count::Steps;
 
 /// Where the search for the end of a head (RFC 9112, section 2.1) stands: each byte is looked at once, whatever
 /// pieces the bytes come in. Empty lines before the request line are skipped.
-#[derive(Clone, Copy, Debug, PartialEq, Eq)]
+#[derive(Clone, Copy, PartialEq, Eq)]
 pub struct HeadScan {
     /// The place after the head's end, which is that of the first empty line after a line that isn't empty.
     /// Nothing is searched past it.

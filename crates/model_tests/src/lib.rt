@@ -1,5 +1,5 @@
-//! Tests of the booking machine's steps on a plain list of bookings (`ListHost`). A crate of its own, so that the crates
-//! that it tests are proved once, without tests.
+//! Tests of the booking machine's steps on a plain list of bookings (`ListHost`). They stand in a crate of their own, so
+//! that the crates that they test are proved once, without tests.
 //!
 //! - `entries`: each kind of step once allowed and, but for a meeting, once refused, in five tables of entries, and the
 //!   words of places after each. The words of phases, rows, items, successors and amounts, and the masks of spans

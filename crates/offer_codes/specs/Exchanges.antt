@@ -17,8 +17,13 @@ pub record ExchangeView : Type 0 where
 
 abbrev pub exchange_view : ExchangeCode → ExchangeView
 exchange_view c =
-    record { row = c.row; made = c.made; fulfilled = c.fulfilled; difference = c.difference;
-    offer = offer_view c.offer }
+    record {
+      row = c.row;
+      made = c.made;
+      fulfilled = c.fulfilled;
+      difference = c.difference;
+      offer = offer_view c.offer;
+    }
 
 abbrev pub magnitude : ℤ → ℕ
 magnitude (pos n) = n

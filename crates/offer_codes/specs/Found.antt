@@ -75,8 +75,13 @@ signed true n = neg_ℤ (pos n)
 
 abbrev pub exchange_at : RowNo → ℕ → Bool → ℤ → OfferView → Option ExchangeView
 exchange_at row made fulfilled difference offer =
-    let x : ExchangeView = record { row = row; made = made; fulfilled = fulfilled; difference = difference;
-    offer = offer } in if is_exchange x then Some x else None
+    let x : ExchangeView = record {
+      row = row;
+      made = made;
+      fulfilled = fulfilled;
+      difference = difference;
+      offer = offer;
+    } in if is_exchange x then Some x else None
 
 -- the exchange offer for a row, of the numbers after it
 abbrev pub exchange_behind : Bool → Bool → List ℕ → RowNo → Option ExchangeView

@@ -19,8 +19,14 @@ pub record OfferView : Type 0 where
 
 abbrev pub offer_view : OfferCode → OfferView
 offer_view c =
-    record { made = c.made; adults = c.adults; children = c.children; class = c.class; wanted = c.wanted;
-    segments = c.segments.items }
+    record {
+      made = c.made;
+      adults = c.adults;
+      children = c.children;
+      class = c.class;
+      wanted = c.wanted;
+      segments = c.segments.items;
+    }
 
 -- a run of the greatest catalogue, and legs of it
 abbrev pub is_segment : Segment → Bool

@@ -37,8 +37,14 @@ offer_price cat o = sum_by (segment_price cat o.class o.adults o.children) o.seg
 
 abbrev pub code_for : OfferWish → ℕ → List Segment → OfferView
 code_for w now segments =
-    record { made = now; adults = w.adults; children = w.children; class = w.class; wanted = w.wanted;
-    segments = segments }
+    record {
+      made = now;
+      adults = w.adults;
+      children = w.children;
+      class = w.class;
+      wanted = w.wanted;
+      segments = segments;
+    }
 
 -- the places of the segment's run that the wish may have
 abbrev pub wanted_places : CatalogueView → OfferWish → Segment → List PlaceNo

@@ -21,7 +21,7 @@ use rail_ids::RowNo;
 use std::alloc::Global;
 
 /// The status (RFC 9110) of a reply that is no problem.
-#[derive(Debug, Clone, Copy, PartialEq, Eq)]
+#[derive(Clone, Copy, PartialEq, Eq)]
 pub enum Success {
     /// 200 OK.
     Done,

@@ -18,7 +18,7 @@ use place_map::PlaceMap;
 use rail_ids::PlaceNo;
 
 /// What came of adding places for a party.
-#[derive(Clone, Copy, Debug, PartialEq, Eq)]
+#[derive(Clone, Copy, PartialEq, Eq)]
 pub enum PartyAdded {
     /// As many as were asked for are won, side by side; this is the first of them.
     Together { first: PlaceNo },

@@ -9,7 +9,7 @@ use std::alloc::{AllocError, Global};
 use std::marker::Model;
 
 /// The numbers of the places of each class.
-#[derive(Debug, Drop)]
+#[derive(Drop)]
 pub(crate) struct ClassNumbers {
     first: Vec<PlaceNo>,
     second: Vec<PlaceNo>,

@@ -7,7 +7,7 @@ use std::alloc::Global;
 const MOST_MARKS: usize = 65_536;
 
 /// How many places there are, and how many numbers of each class.
-#[derive(Debug, Clone, Copy)]
+#[derive(Clone, Copy)]
 pub(crate) struct Sizes {
     pub places: usize,
     pub first: usize,
@@ -15,7 +15,7 @@ pub(crate) struct Sizes {
 }
 
 /// The sizes before the first coach of a run, and after its last.
-#[derive(Debug, Clone, Copy)]
+#[derive(Clone, Copy)]
 pub(crate) struct Mark {
     pub start: Sizes,
     pub end: Sizes,
@@ -43,7 +43,7 @@ const UNMARKED: Mark = Mark {
 };
 
 /// The marks of runs, by their numbers.
-#[derive(Debug, Drop)]
+#[derive(Drop)]
 pub(crate) struct Marks {
     of_runs: Vec<Mark>,
 }

@@ -75,8 +75,15 @@ contents_of d =
     after (stations_of (get (codes "stations") d)) (λ stations.
     after (terms_of heading.confirm_seconds d) (λ terms.
     after (network_of stations (get (codes "runs") d)) (λ network.
-    Ok (record { currency = heading.currency; rows = heading.rows; retailers = retailers; runs = network.runs;
-    fares = network.fares; places = network.places; terms = terms }))))))
+    Ok (record {
+      currency = heading.currency;
+      rows = heading.rows;
+      retailers = retailers;
+      runs = network.runs;
+      fares = network.fares;
+      places = network.places;
+      terms = terms;
+    }))))))
 
 abbrev pub contents_in : Option Data → Result CatalogueView Fault
 contents_in None = Err not_json

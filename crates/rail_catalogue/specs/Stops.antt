@@ -116,5 +116,7 @@ fares_of i d = let at : List ℕ → List ℕ = item_path (codes "runs") i in
     need (at (codes ".fares.first.perLeg")) (amount_at (codes "first") (codes "perLeg") d) (λ first_leg.
     need (at (codes ".fares.second.base")) (amount_at (codes "second") (codes "base") d) (λ second_base.
     need (at (codes ".fares.second.perLeg")) (amount_at (codes "second") (codes "perLeg") d) (λ second_leg.
-    Ok (record { first = record { base = first_base; per_leg = first_leg };
-    second = record { base = second_base; per_leg = second_leg } })))))
+    Ok (record {
+      first = record { base = first_base; per_leg = first_leg };
+      second = record { base = second_base; per_leg = second_leg };
+    })))))

@@ -5,7 +5,7 @@ ghost use Rattle.rail_io.specs.Faults.{Rose};
 ghost use Rattle.rail_io.specs.Told.{Pushes, PushesBoth, HasFailed};
 
 /// What a write answers.
-#[derive(Clone, Copy, Debug, PartialEq, Eq)]
+#[derive(Clone, Copy, PartialEq, Eq)]
 pub enum Pushed {
     /// So many bytes of the piece were taken, at least one.
     Took(usize),
@@ -14,7 +14,7 @@ pub enum Pushed {
 }
 
 /// What a write of two pieces answers.
-#[derive(Clone, Copy, Debug, PartialEq, Eq)]
+#[derive(Clone, Copy, PartialEq, Eq)]
 pub enum PushedBoth {
     /// So many bytes of the front of both were taken, at least one.
     Took(usize),

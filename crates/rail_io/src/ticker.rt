@@ -13,7 +13,7 @@ pub trait Ticker {
 }
 
 /// Ticks so many times, at once.
-#[derive(Debug, Drop)]
+#[derive(Drop)]
 pub struct CountTicker {
     /// How many ticks are left.
     pub left: u32,

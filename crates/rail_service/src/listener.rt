@@ -8,7 +8,7 @@ use crate::waiting::Waiting;
 use rail_io::{Sink, Source};
 
 /// What a bind answers.
-#[derive(Clone, Copy, Debug, PartialEq, Eq)]
+#[derive(Clone, Copy, PartialEq, Eq)]
 pub enum Bound {
     /// The listener listens at the port.
     Ready,

@@ -26,8 +26,12 @@ use Rattle.refund_core.specs.Quotes.{SeesOwn, SeesNone, phase_named, is_stale, r
 abbrev pub QuotesRefund : CatalogueView → ℕ → RowNo → ℕ → ℕ → Quoted → List Step → Type 0
 QuotesRefund cat rows row retailer now (quoted.Done code) es =
     (row.row < rows) × ((v : RowSeen) × SeesOwn row retailer v es × (v.phase ≡ phase_named code.fulfilled)
-    × (code ≡ record { row = row; made = now; fulfilled = code.fulfilled;
-    amount = refund_at cat v now code.fulfilled }))
+    × (code ≡ record {
+      row = row;
+      made = now;
+      fulfilled = code.fulfilled;
+      amount = refund_at cat v now code.fulfilled;
+    }))
 QuotesRefund cat rows row retailer now quoted.Unknown es = SeesNone rows row retailer es
 QuotesRefund cat rows row retailer now (quoted.WrongState shown) es =
     (row.row < rows) × (shown ≢ Confirmed) × (shown ≢ Fulfilled)

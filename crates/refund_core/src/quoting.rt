@@ -17,7 +17,7 @@ use rail_ids::{RetailerNo, RowNo};
 use rail_time::Moment;
 
 /// What came of quoting a refund.
-#[derive(Clone, Copy, Debug, PartialEq, Eq)]
+#[derive(Clone, Copy, PartialEq, Eq)]
 pub enum Quoted {
     /// The quote.
     Done(RefundCode),

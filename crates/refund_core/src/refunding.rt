@@ -17,7 +17,7 @@ use rail_time::Moment;
 use row_decisions::end_row;
 
 /// What came of accepting a refund.
-#[derive(Clone, Copy, Debug, PartialEq, Eq)]
+#[derive(Clone, Copy, PartialEq, Eq)]
 pub enum Refunded {
     /// The booking is refunded by this call, with the code's amount in minor units, and all its items are given back.
     Done { amount: u64 },

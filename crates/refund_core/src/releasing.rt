@@ -14,7 +14,7 @@ use rail_time::Moment;
 use row_decisions::{end_row, find_owned};
 
 /// What came of releasing.
-#[derive(Clone, Copy, Debug, PartialEq, Eq)]
+#[derive(Clone, Copy, PartialEq, Eq)]
 pub enum Released {
     /// The booking is released by this call, and all its items are given back.
     Done,

@@ -31,8 +31,11 @@ reserved s class count wanted now =
 -- the detail of a booking made at this moment: it can be confirmed for the catalogue's time
 abbrev pub detail_of : CatalogueView → OfferView → ℕ → ℕ → Detail
 detail_of cat o retailer now =
-    record { retailer = record { 0 = retailer }; limit = min (now + cat.terms.confirm_seconds) last_second;
-    total = offer_price cat o }
+    record {
+      retailer = record { 0 = retailer };
+      limit = min (now + cat.terms.confirm_seconds) last_second;
+      total = offer_price cat o;
+    }
 
 -- all places are held, noted and sealed
 abbrev pub Prebooks : CatalogueView → ℕ → ℕ → OfferView → Bool → DeskView → DeskView → Reply → Type 0

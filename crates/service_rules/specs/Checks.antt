@@ -61,8 +61,13 @@ ordered cat now (command.Offers trip adults children class wanted) =
     Ok (order.offers (record { trip = trip; adults = adults; children = children; class = class; wanted = wanted }))
 ordered cat now (command.Book offer together) = and_then (offer_checked cat now offer) (λ c. Ok (order.book c together))
 ordered cat now (command.Reserve segment class count wanted together) =
-    Ok (order.reserve (record { segment = segment; class = class; count = count; traits = wanted;
-    together = together }))
+    Ok (order.reserve (record {
+      segment = segment;
+      class = class;
+      count = count;
+      traits = wanted;
+      together = together;
+    }))
 ordered cat now (command.Show row) = and_then (row_checked row) (λ r. Ok (order.show r))
 ordered cat now (command.Release row) = and_then (row_checked row) (λ r. Ok (order.release r))
 ordered cat now (command.Confirm row) = and_then (row_checked row) (λ r. Ok (order.confirm r))

@@ -18,7 +18,7 @@ pub struct Shop<'s> {
 }
 
 /// A retailer that asks, and the moment of its command.
-#[derive(Clone, Copy, Debug, PartialEq, Eq)]
+#[derive(Clone, Copy, PartialEq, Eq)]
 pub struct Asker {
     pub retailer: RetailerNo,
     pub moment: Moment,

@@ -115,8 +115,14 @@ rest_in rests h n = slice_index_or rests (h.hints + n) unknown
 -- of a station without a board
 abbrev pub no_head : Head
 no_head =
-    record { begin = 0; end = 0; hints = 0; parts = record { start = 0; shift = 0 }; last = 0;
-    best = record { first = 65_535; second = 65_535 } }
+    record {
+      begin = 0;
+      end = 0;
+      hints = 0;
+      parts = record { start = 0; shift = 0 };
+      last = 0;
+      best = record { first = 65_535; second = 65_535 };
+    }
 
 abbrev pub board_of : List Useful → Head → List Useful
 board_of useful h = slice_range useful h.begin h.end

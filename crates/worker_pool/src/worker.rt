@@ -9,7 +9,7 @@ ghost use Rattle.worker_pool.specs.Turns.{KeepsDesk};
 use claim_rule::{Books, Desk};
 
 /// What a turn answers.
-#[derive(Clone, Copy, Debug, PartialEq, Eq)]
+#[derive(Clone, Copy, PartialEq, Eq)]
 pub enum TurnEnd {
     /// The worker wants another turn.
     Again,
