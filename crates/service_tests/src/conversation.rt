@@ -9,11 +9,13 @@ use rail_catalogue::Catalogue;
 use rail_io::ListClock;
 use rail_service::serve_connection;
 use rail_time::Moment;
-use sample_shop::{Asked, Wanted, after_six, answer_text, open_books, refused, request_text, told};
 use session_loop::ConnEnd;
-use slow_streams::{SlowSink, SlowSource};
 use std::alloc::{AllocError, Global};
 use std::process::Abort;
+use test_kit::{
+    Asked, SlowSink, SlowSource, Wanted, after_six, answer_text, open_books, refused, request_text,
+    told,
+};
 
 /// More bytes than any connection here has.
 pub const ALL: usize = 1_000_000;

@@ -4,10 +4,10 @@ use crate::texts::USUAL;
 use claim_rule::Wall;
 use rail_catalogue::Catalogue;
 use rail_ids::PlaceNo;
-use sample_shop::sample_with_rows;
 use session_loop::ConnEnd;
 use std::process::Abort;
 use std::test::Fail;
+use test_kit::sample_with_rows;
 
 /// More calls than any device here gets.
 const CALLS: u16 = 1_000;

@@ -2,11 +2,11 @@
 use crate::conversation::{Talk, check_alone, no_talk, wanted_of};
 use http_wire::WireFault;
 use rail_catalogue::Catalogue;
-use sample_shop::{Wanted, after_six, answer_text, sample_with_rows};
 use session_loop::ConnEnd;
 use std::alloc::{AllocError, Global};
 use std::process::Abort;
 use std::test::Fail;
+use test_kit::{Wanted, after_six, answer_text, sample_with_rows};
 
 /// What comes (a front, a piece so many times, an end), and why the connection is closed, with its one answer. What
 /// stands in a request's place is refused. After the last request of a connection the rest is left unread.

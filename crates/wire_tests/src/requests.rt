@@ -3,10 +3,10 @@ ghost use Rattle.std.specs.Prelude.{◌≡◌};
 
 use http_wire::{Intake, Next, WireFault};
 use rail_io::BytesSource;
-use slow_streams::SlowSource;
 use std::alloc::{AllocError, Global};
 use std::process::Abort;
 use std::test::Fail;
+use test_kit::SlowSource;
 
 /// Streams: a front, a piece so many times, an end; how many requests are given, and what comes after them, unless the
 /// last of them is the last of its connection.
