@@ -9,6 +9,9 @@
 //! hands out the list that such a member is, item by item.
 //!
 //! It is a crate of its own since catalogues and the bodies of requests are read by it alike.
+//!
+//! Memory is taken for a list for each array and each object, and for the `Scratch`. Running out of it is the one
+//! answer that no definition determines.
 #![tactic(auto)]
 
 mod fault;

@@ -7,6 +7,9 @@
 //! piece at a place, in a word; no word is read as two items.
 //!
 //! No call takes memory.
+//!
+//! A `Span` and an `Item` can't be made out of their ranges, nor an `Item` over the border between the halves:
+//! whoever writes one down proves them.
 #![tactic(auto)]
 
 mod halves;

@@ -3,6 +3,8 @@
 //!
 //! Every answer is the defined reply of the command, by the desk's own entries in this very call, whatever other desks
 //! do meanwhile. None of these commands takes a place: what is free is what this call's looks showed.
+//!
+//! Each call requires that nothing is out at the desk, and leaves it so; a tidy desk stays tidy.
 #![tactic(auto)]
 
 mod offer_search;

@@ -2,8 +2,8 @@
 //! counts: its number is seen by contracts alone. It is a crate of its own since runs, trips, the wire and searches
 //! all count by it.
 //!
-//! A call that takes `steps: &mut Steps<L>` says what its step is, and by how much the count may rise at most. Who
-//! counts nothing opens a counter of its own and lets it go.
+//! A call that takes `steps: &mut Steps<L>` says what its step is, and by how much the count may rise at most. A
+//! caller that wants no count opens a counter and drops it.
 #![tactic(auto)]
 
 ghost use Rattle.std.specs.Prelude.{◌≡◌, ◌<◌, ◌+◌, ℕ};

@@ -3,6 +3,8 @@
 //!
 //! Every answer is the defined reply of the command, by the desk's own entries in this very call, whatever other desks
 //! do meanwhile. A command that ends a booking has its whole answer ready before the exchange that decides.
+//!
+//! Each call requires that nothing is out at the desk, and leaves it so; a tidy desk stays tidy.
 #![tactic(auto)]
 
 mod exchanges;

@@ -6,6 +6,9 @@
 //! and nothing is said of when they end.
 //!
 //! It is a crate of its own since it knows threads and desks, and nothing of what the members do there.
+//!
+//! `Gate` has calls round each turn, of which no clause speaks; `Open` does nothing there. `proofs/Chains`: what
+//! holds of no turn, of one, and of one run followed by another, holds of the whole run.
 #![tactic(auto)]
 
 mod gate;
