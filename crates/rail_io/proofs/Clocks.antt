@@ -3,6 +3,9 @@ use Rattle.std.proofs.Common.{◌≡◌, ◌<◌, ℕ, zero, suc, ◌+◌, min, 
 use Rattle.rail_time.specs.Moments.{last_second}
 use Rattle.rail_io.specs.Clocks.{script_reading, listed_reading}
 
+pub script_moves : (next tick i : ℕ) → script_reading (min (next + tick) last_second) tick i ≡ script_reading next tick (i + 1)
+script_moves next tick i = omega arith
+
 pub list_moves : (ms : List ℕ) (at i : ℕ) → at + 1 < length ms → listed_reading (drop (at + 1) ms) i ≡ listed_reading (drop at ms) (i + 1)
 list_moves [] at i h = absurd (omega (arith, h))
 list_moves (m ∷ []) zero i h = absurd (omega (arith, h))
