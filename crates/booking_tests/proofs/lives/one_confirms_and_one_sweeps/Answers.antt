@@ -1,7 +1,7 @@
 use Rattle.std.proofs.Common.{◌≡◌, ◌<◌, ◌∷◌, [], ℕ, zero, suc, List, length, slice_index_or, sym, subst, arith}
 use Rattle.claim_rule.specs.Desks.{IsOf}
 use Rattle.claim_rule.specs.Out.{EndsNone}
-use Rattle.booking_tests.specs.declared.tests.Member.{Member}
+use Rattle.booking_tests.specs.declared.lives.Member.{Member}
 use Rattle.booking_tests.proofs.lives.one_confirms_and_one_sweeps.Goals as goal
 
 both : (P : Member → Type 0) (a b : Member) → P a → P b → (k : ℕ) (d : Member) → k < 2 → P (slice_index_or (a ∷ b ∷ []) k d)

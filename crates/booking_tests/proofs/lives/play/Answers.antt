@@ -1,7 +1,7 @@
 use Rattle.std.proofs.Common.{sym, subst}
 use Rattle.claim_rule.specs.Desks.{IsOf}
 use Rattle.claim_rule.specs.Out.{EndsNone}
-use Rattle.booking_tests.specs.declared.tests.Member.{Member}
+use Rattle.booking_tests.specs.declared.lives.Member.{Member}
 use Rattle.booking_tests.proofs.lives.play.Goals as goal
 
 pub for_each_mut-requires-clause-accepts : goal.for_each_mut-requires-clause-accepts
