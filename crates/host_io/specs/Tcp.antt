@@ -33,7 +33,7 @@ seconds_of false = 30
 abbrev pub most_spent : ℕ
 most_spent = 60000
 
--- the milliseconds that a read may wait, so many milliseconds after its request began; none where it has taken them all
+-- the milliseconds that a read may wait whose request has taken these; none where it has taken all that it may
 abbrev pub limit_of : Bool → ℕ → Option ℕ
 limit_of idle spent = if nat_le most_spent spent then None else Some (min (1000 * seconds_of idle) (most_spent - spent))
 
@@ -55,4 +55,4 @@ IsVersion4 bytes (V6 _) = ⊥
 
 -- the port at 127.0.0.1
 abbrev pub IsLocal : SocketAddr → ℕ → Type 0
-IsLocal address port = IsVersion4 (127 ∷ 0 ∷ 0 ∷ 1 ∷ []) (socket_ip address) × (socket_port address ≡ port)
+IsLocal address port = IsVersion4 (0x7f ∷ 0 ∷ 0 ∷ 1 ∷ []) (socket_ip address) × (socket_port address ≡ port)

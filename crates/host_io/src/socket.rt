@@ -41,8 +41,8 @@ fn read_seconds(idle: bool) -> u64
     if idle { IDLE_SECONDS } else { STALLED_SECONDS }
 }
 
-/// How many milliseconds a read may wait whose request began so many milliseconds ago: no longer than until the request
-/// has taken 60 seconds. None where it has taken them.
+/// How many milliseconds a read may wait, with those that its request has taken: no longer than until the request has
+/// taken 60 seconds. None where it has taken them.
 fn read_limit(idle: bool, spent: u64) -> Option<u64>
     ensures { result ≡ limit_of idle spent }
 {
@@ -60,7 +60,7 @@ pub fn make_ready(stream: &TcpStream) -> io::Result<()> {
     stream.set_write_timeout(Some(Duration::from_secs(STALLED_SECONDS)))
 }
 
-/// Two pieces for one call of the system: the second stands behind the first.
+/// Two pieces for one call of the system: the second follows the first.
 fn pieces_of<'a>(first: &'a [u8], second: &'a [u8]) -> [IoSlice<'a>; 2]
     ensures { io_slices_bytes result ≡ first.now ++ second.now }
 {
@@ -165,11 +165,14 @@ impl Shared {
     }
 }
 
-/// The reading half of a connection. What was answered is sent before it waits for more. A read fails that waits for
-/// more than 5 seconds where nothing has come since the last answer, or for more than 30 inside a request, or until 60
-/// have gone by since its first byte, and so does one before which the answers can't be sent. Where the other side
-/// hasn't ended the connection when it is let go, it is told that no more answers come, and what it still sends is read
-/// away for a moment, so that it gets to read the last answer.
+/// The reading half of a connection. What was answered is sent before it waits for more.
+///
+/// A read fails that waits for more than 5 seconds where nothing has come since the last answer. Inside a request it
+/// waits for 30 at most, and not past the 60th second after the request's first byte. A read fails too before which the
+/// answers can't be sent.
+///
+/// Where the other side hasn't ended the connection when it is let go, it is told that no more answers come. What it
+/// still sends is read away for a moment, so that it gets to read the last answer.
 pub struct SocketReader<C: time::Clock + Drop> {
     clock: C,
     shared: Arc<Shared, Global>,
