@@ -29,9 +29,13 @@ abbrev pub seconds_of : Bool → ℕ
 seconds_of true = 5
 seconds_of false = 30
 
--- the milliseconds that a request may take until it is whole
+-- the seconds that a request may take until it is whole
+abbrev pub request_seconds : ℕ
+request_seconds = 60
+
+-- and the milliseconds
 abbrev pub most_spent : ℕ
-most_spent = 60000
+most_spent = 1000 * request_seconds
 
 -- the milliseconds that a read may wait whose request has taken these; none where it has taken all that it may
 abbrev pub limit_of : Bool → ℕ → Option ℕ

@@ -21,8 +21,8 @@ const IDLE_SECONDS: u64 = 5;
 /// How many seconds a read waits inside a request, and a write.
 const STALLED_SECONDS: u64 = 30;
 
-/// How many milliseconds a request may take from the first byte that came since the last answer until it is whole.
-const REQUEST_MILLISECONDS: u64 = 60_000;
+/// How many seconds a request may take from the first byte that came since the last answer until it is whole.
+const REQUEST_SECONDS: u64 = 60;
 
 /// How long a drain waits for each piece, how long it takes as a whole, and how many pieces it reads at most.
 const DRAIN_MILLISECONDS: u64 = 250;
@@ -46,10 +46,11 @@ fn read_seconds(idle: bool) -> u64
 fn read_limit(idle: bool, spent: u64) -> Option<u64>
     ensures { result ≡ limit_of idle spent }
 {
-    if spent >= REQUEST_MILLISECONDS {
+    let most = 1_000 * REQUEST_SECONDS;
+    if spent >= most {
         return None;
     }
-    Some((1_000 * read_seconds(idle)).min(REQUEST_MILLISECONDS - spent))
+    Some((1_000 * read_seconds(idle)).min(most - spent))
 }
 
 /// Makes an accepted stream ready to be served: it sends without delay, a write of more than 30 seconds fails, and so
