@@ -14,8 +14,8 @@ use claim_rule::{Books, Desk};
 use host_words::Serving;
 use rail_io::{Clock, Ticker};
 use rail_service::Listener;
-use std::sync::ledger::Share;
 use std::sync::Wait;
+use std::sync::ledger::Share;
 use worker_pool::Member;
 
 /// The members at the streams of a shared listener.

@@ -3,9 +3,9 @@ ghost use Rattle.std.specs.Prelude.{◌≡◌, ◌+◌, ℕ, IfSome, IfNone, IsS
 ghost use Rattle.rail_service.specs.Listeners.{HandingBy, IsGiven};
 ghost use Rattle.host_serve.specs.Turns.{LettingGo};
 
+use crate::letting::drop_stream;
 use crate::mark::{Mark, Over};
 use crate::shared_listener::{Named, SharedListener};
-use crate::letting::drop_stream;
 use rail_io::{Sink, Source};
 use rail_service::{Finished, Listener, Waiting};
 use std::sync::ledger::Share;
