@@ -15,7 +15,7 @@ use std::{io, thread, time};
 const PAUSE_MILLISECONDS: u64 = 100;
 
 /// What an accept does that the system gave no stream.
-#[derive(Clone, Copy, Debug, PartialEq, Eq)]
+#[derive(Clone, Copy, PartialEq, Eq)]
 pub enum AfterRefusal {
     /// It fails: the listener is gone.
     Fail,

@@ -2,7 +2,7 @@
 use Rattle.std.specs.Prelude.{◌≡◌, ◌<◌, ◌≤◌, ◌+◌, ◌-◌, ℕ, zero, suc, Bool, true, false, List, [], ◌∷◌, Option, None, length, slice_index_or}
 use Rattle.session_loop.specs.declared.end.ConnEnd.{ConnEnd}
 use Rattle.claim_rule.specs.Rule.{BooksView, DeskView}
-use Rattle.claim_rule.specs.Calls.{ShapeBy}
+use Rattle.claim_rule.specs.Calls.{AddsStepsBy}
 use Rattle.rail_catalogue.specs.Contents.{CatalogueView, legs_in}
 use Rattle.expiry_sweeper.specs.AllRows.{Sweeps}
 use Rattle.booking_rows.specs.declared.swept.Swept.{Swept}
@@ -78,7 +78,7 @@ pub record SweepsOnce (clock : Readings) (old : DeskView) (later : Readings) (ne
   pub moment : ℕ
   pub reading : IsReading clock moment later
   pub swept : Swept
-  pub entries : ShapeBy (Sweeps old.layout.rows moment swept) old new
+  pub entries : AddsStepsBy (Sweeps old.layout.rows moment swept) old new
 
 -- nothing was done
 pub record Rests (clock : Readings) (old : DeskView) (later : Readings) (new : DeskView) : Type 0 where

@@ -32,7 +32,7 @@ impl Named for Brand {
 }
 
 /// How a shared listener ended.
-#[derive(Clone, Copy, Debug, PartialEq, Eq)]
+#[derive(Clone, Copy, PartialEq, Eq)]
 pub enum ListenerEnd {
     /// It hasn't ended.
     Open,

@@ -4,7 +4,7 @@ ghost use Rattle.std.specs.Prelude.{◌≡◌, ℕ};
 /// Ticks, and ends at some time.
 pub trait Ticker {
     /// That it was asked once for a tick, after so many seconds: the ticker before it, the seconds, and the ticker
-    /// behind it. Who knows nothing of a ticker but this trait can show that of it only by asking it.
+    /// after it. Whoever knows nothing of a ticker but this trait can show that of it only by asking it.
     ghost ticked: { Self → ℕ → Self → Type 0 };
 
     /// True at the next tick, for which it may wait about so many seconds. False ends the sweeping.
@@ -13,7 +13,7 @@ pub trait Ticker {
 }
 
 /// Ticks so many times, at once.
-#[derive(Debug, Drop)]
+#[derive(Drop)]
 pub struct CountTicker {
     /// How many ticks are left.
     pub left: u32,

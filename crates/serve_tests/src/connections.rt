@@ -7,12 +7,12 @@ use history_model::phase::{Phase, phase_word};
 use host_serve::run_serve;
 use rail_io::{CountTicker, MapShelf, ScriptClock, VecSink};
 use rail_service::{ListListener, Listener};
-use sample_shop::{CATALOGUE, after_six};
 use std::alloc::{AllocError, Global};
 use std::sync::Wait;
 use std::sync::atomic::AtomicBool;
 use std::test::Fail;
 use std::thread::Threads;
+use test_kit::{CATALOGUE, after_six};
 
 /// A request for a place from Basel to Bern.
 pub const RESERVES: &str =

@@ -12,11 +12,11 @@ use host_serve::{Post, Streams, Sweeper};
 use rail_catalogue::Catalogue;
 use rail_io::{BytesSource, CountTicker, ScriptClock, VecSink};
 use rail_service::{Finished, Waiting, serve_waiting};
-use sample_shop::{after_six, open_books, sample_with_rows};
 use session_loop::ConnEnd;
 use std::alloc::{AllocError, Global};
 use std::sync::atomic::AtomicBool;
 use std::test::Fail;
+use test_kit::{after_six, open_books, sample_with_rows};
 use worker_pool::{Member, Open, TurnEnd, Worker, run_workers};
 
 // A stream with one reservation.
