@@ -23,6 +23,7 @@ UNKNOWN = b'{"code":"UnknownBooking","status":404,"title":"Unknown booking"}'
 CHUNKED = b"POST /offers HTTP/1.1\r\nTransfer-Encoding: chunked\r\n\r\n"
 CODING = b'{"code":"Coding","status":501,"title":"Coding not supported"}'
 LONG = b"POST /offers HTTP/1.1\r\nContent-Length: 5000000\r\n\r\n"
+LONG_ENOUGH = b"POST /offers HTTP/1.1\r\nRetailer-Key: north\r\nContent-Length: 500\r\n\r\n"
 TOO_LARGE = b'{"code":"BodyTooLarge","status":413,"title":"Body too large"}'
 PLACES = b"GET /runs/0/places/A/B HTTP/1.1\r\nRetailer-Key: north\r\n\r\n"
 MOST_PLACES = 1_200
@@ -147,6 +148,65 @@ def time_limits(program: str):
         for thread in threads:
             thread.join()
         expect(not failures, "; ".join(failures))
+        host.end()
+
+
+def drip(client: socket.socket, asked: bytes, pause: float):
+    """Sends a byte at a time, until the other side has ended the connection."""
+    for byte in asked:
+        try:
+            client.sendall(bytes([byte]))
+            client.settimeout(pause)
+            expect(client.recv(65_536) == b"", "something was answered to a request that isn't whole")
+            return
+        except ConnectionError:  # it had ended before the byte came
+            return
+        except socket.timeout:
+            client.settimeout(SECONDS)
+    raise Wrong("the request is longer than the host waits")
+
+
+def dripped(program: str):
+    """A request that isn't whole 60 seconds after its first byte ends its connection, however often a byte comes, in its
+    head and in its body, also where an answer went before it; a worker is free again then. One that is whole before is
+    answered."""
+    ends = {"a head": (b"", b"GET /" + b"x" * 500), "a body": (LONG_ENOUGH, b"{" * 500),
+            "a second request": (ASKS, HALF + b"y" * 500)}
+    failures = []
+
+    def play(host: Host, what: str, first: bytes, asked: bytes):
+        try:
+            client = host.connect()
+            begin = time.monotonic()
+            client.sendall(first)
+            if first == ASKS:
+                read_answer(client, UNKNOWN)
+                time.sleep(3)
+                begin = time.monotonic()
+            drip(client, asked, 0.25)
+            took = time.monotonic() - begin
+            expect(58 <= took <= 75, "%s ended after %.1f seconds" % (what, took))
+            client.close()
+        except (Wrong, OSError) as failure:
+            failures.append("%s: %r" % (what, failure))
+
+    with Host(program, len(ends) + 2, len(ends) + 1) as host:
+        threads = [threading.Thread(target=play, args=(host, what, *said)) for what, said in ends.items()]
+        for thread in threads:
+            thread.start()
+        client = host.connect()
+        for at in range(len(ASKS)):
+            client.sendall(ASKS[at:at + 1])
+            time.sleep(0.8)
+        read_answer(client, UNKNOWN)
+        client.close()
+        for thread in threads:
+            thread.join()
+        expect(not failures, "; ".join(failures))
+        last = host.connect()
+        last.sendall(ASKS)
+        read_answer(last, UNKNOWN)
+        last.close()
         host.end()
 
 
@@ -280,7 +340,7 @@ def ticks(program: str):
 
 def main() -> int:
     program = os.path.abspath(sys.argv[1])
-    parts = [ticks, refusals, ahead, long_answers, late_reader, handles, time_limits]
+    parts = [ticks, refusals, ahead, long_answers, late_reader, handles, time_limits, dripped]
     for part in parts:
         try:
             part(program)
