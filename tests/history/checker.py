@@ -4,14 +4,17 @@
   tests/history/checker.py HISTORY.json..
 
 It searches one order of the deciding points of all calls. A point lies between the begin and the end of its call; a call whose client was
-gone before its answer has no end, and may have been done at any time or never. What an order explains, rule by rule:
+gone before its answer has no end, and may have been done at any time or never. What needs no order is tried before, in `calls.py`. It
+prints the order, and of each call that found no place what was in its way. What an order explains, rule by rule (spans lie on one side of
+the border between the halves):
 
 ROWS. Each row is free, or its present booking is being made, lives (prebooked, confirmed, fulfilled), is ending, or has ended.
 - A booking of an answer 201 has two points: it starts its row, and it is sealed. It starts the least free row in generation 0. Where none is
   free it starts the next generation of a row whose booking has ended, the least one, but for lower rows that at some moment of the call
   had a booking that hadn't ended. From the start on the booking before it is unknown.
-- A call that is refused for want of places starts its row too, and that row stays with the worker of its connection: the next booking of
-  that connection is made in it, or of one that came after the connection was closed. Nobody else has it.
+- A call that is refused for want of places, or an exchange whose turn is lost, starts its row too, and that row stays with the worker of
+  its connection: the next booking of that connection is made in it, or of one that came after the connection was closed. Nobody else has
+  it.
 - Rows full: the worker keeps no row, and row after row had, at some moment of the call, a booking that hadn't ended.
 
 PLACES, leg by leg.
@@ -48,7 +51,7 @@ from bookings import Item
 import wire
 from export import booking_line, stub
 
-MOST_STATES, MOST_SECONDS = 400_000, 60
+MOST_STATES, MOST_SECONDS = 200_000, 30  # the seconds are of the processor
 NEVER = 1 << 80
 
 # A row's present booking. `holder` is the connection that makes it, or the call that ends it (HOST where the host does).
@@ -590,7 +593,7 @@ class Makes(Script):
 
 
 class Search:
-    """One order of all points, found by going back from each end that leads nowhere."""
+    """One order of all points, found by going back wherever it leads nowhere. What was found to lead nowhere isn't tried again."""
 
     def __init__(self, history: History):
         self.history = history
@@ -603,7 +606,7 @@ class Search:
         self.least_end = list(itertools.accumulate(reversed(self.ends + [NEVER]), min))[::-1]
         self.gone = [call for call in self.calls if not call.answered]
         self.seen, self.states, self.deepest, self.blocked = set(), 0, -1, Counter()
-        self.until = time.monotonic() + MOST_SECONDS
+        self.until = time.process_time() + MOST_SECONDS
 
     # What the facts allow
 
@@ -694,7 +697,7 @@ class Search:
                 continue
             self.seen.add(key)
             self.states += 1
-            if self.states > MOST_STATES or time.monotonic() > self.until:
+            if self.states > MOST_STATES or time.process_time() > self.until:
                 raise Refused("not decided: %d states were tried, up to %s" % (self.states, self.calls[min(self.deepest, len(self.calls) - 1)]))
             stack.append(Frame(point, pending, moment, self.moves(at, rows, pending, moment)))
             if at == len(self.calls) and self.is_end(rows, pending):
