@@ -247,7 +247,8 @@ class History:
         for now in call.now:
             found = trips(self.catalogue, body["origin"], body["destination"], max(seconds(body["earliest"]), now),
                           seconds(body["earliest"]) + 86_400)
-            codes = [OfferCode(now, body["adults"], 0, service.class_field(body), service.wanted_field(body), tuple(trip)) for trip in found]
+            wish = body["adults"], 0, service.class_field(body), service.wanted_field(body)
+            codes = [OfferCode(now, *wish, tuple(trip)) for trip in found]
             wanted = {"offers": [self.host.offer_reply(code) for code in codes]}
             if without_free(wanted) == without_free(call.answer):
                 call.made = tuple((segment, self.wish_of(code, False).candidates[at], said["free"])
@@ -322,14 +323,18 @@ class History:
 
     def judge_quote_exchange(self, call: Call) -> tuple:
         code = read_exchange(call.answer["id"])
-        self.need(call, code is not None and code.row == call.row and code.offer == call.code and code.made in call.now, "the code is wrong")
+        is_of_call = code is not None and (code.row, code.offer) == (call.row, call.code) and code.made in call.now
+        self.need(call, is_of_call, "the code is wrong")
         self.need(call, is_offered(self.catalogue, call.code), "the offer is none")
         known = self.values.get(call.row)
-        refund = self.worth(known, code.made, code.fulfilled) if known else None
-        difference = code.difference if refund is None else exchange_difference(self.catalogue.terms, refund, offer_price(self.catalogue, code.offer))
+        difference = code.difference
+        if known:
+            refund = self.worth(known, code.made, code.fulfilled)
+            difference = exchange_difference(self.catalogue.terms, refund, offer_price(self.catalogue, code.offer))
         wanted = ExchangeCode(call.row, code.made, code.fulfilled, difference, code.offer)
         call.code = code
-        return 201, {"difference": self.host.amount(difference), "id": service.write_exchange(wanted), "validUntil": service.valid_until(code.made)}
+        return 201, {"difference": self.host.amount(difference), "id": service.write_exchange(wanted),
+                     "validUntil": service.valid_until(code.made)}
 
     def judge_reserve(self, call: Call) -> tuple:
         return 201, self.observe_new(call, call.answer, "PREBOOKED")

@@ -12,8 +12,9 @@ import pathlib
 import sys
 
 import checker
-from calls import Refused
+from calls import SECOND, Refused
 from storm import catalogue_of
+import wire
 
 HERE = pathlib.Path(__file__).resolve().parent
 EXCHANGES, RESETS = "recorded_exchanges.json", "recorded_resets.json"
@@ -29,7 +30,7 @@ def recorded(name: str) -> dict:
 def problem(number: int, code: str, detail: str = None):
     """The call is answered by this problem."""
     def change(record: dict):
-        status, title = checker.wire.PROBLEMS[code]
+        status, title = wire.PROBLEMS[code]
         answer = {"code": code, "status": status, "title": title}
         if detail:
             answer["detail"] = detail
@@ -94,7 +95,7 @@ def later(number: int, seconds: int):
     """The call was made and answered so much later."""
     def change(record: dict):
         for name in ("begin", "end"):
-            record["calls"][number][name] += seconds * checker.SECOND
+            record["calls"][number][name] += seconds * SECOND
     return change
 
 
@@ -102,7 +103,7 @@ def later(number: int, seconds: int):
 PLANTED = [
     (EXCHANGES, seated("B000001-1", 1, 1), "place 1 is sold on a leg on which a booking that lives has it", "no order explains call 18 "),
     (EXCHANGES, seated("B000001-2", 1, 3), "places 1 and 2 were free, and nothing could hold them", "no order explains call 24 "),
-    (EXCHANGES, seated("B000000-1", 1, 2), "the exchange's new place is the old booking's, which it still has", "no order explains call 16 "),
+    (EXCHANGES, seated("B000000-1", 1, 2), "the exchange's new place is the old booking's", "no order explains call 16 "),
     (EXCHANGES, problem(47, "NoPlace"), "both rows' bookings live, so no row could be had for it", "no order explains call 47 "),
     (EXCHANGES, problem(33, "RowsFull"), "a row's booking had ended, and nobody else asked for one", "no order explains call 33 "),
     (EXCHANGES, answered_as(21, 11), "its row was given to the next booking before", "no order explains call 21 "),
@@ -129,8 +130,8 @@ def refusals(*wants) -> dict:
     """Reservations on a new host, each refused for want of places."""
     answer = {"code": "NoPlace", "status": 409, "title": "No place"}
     calls = [{"client": client, "connection": client, "key": "north", "method": "POST", "path": "/reservations",
-              "body": json.dumps({"run": 0, "from": "A", "to": "D", "count": count}), "begin": begin * 1_000_000 + checker.SECOND,
-              "end": end * 1_000_000 + checker.SECOND, "status": 409, "answer": answer}
+              "body": json.dumps({"run": 0, "from": "A", "to": "D", "count": count}), "begin": begin * 1_000_000 + SECOND,
+              "end": end * 1_000_000 + SECOND, "status": 409, "answer": answer}
              for client, (begin, end, count) in enumerate(wants)]
     return {"catalogue": catalogue_of(False, 900), "closed": {}, "export": "rail-export 1 3 2\nend 0\n", "calls": calls}
 

@@ -24,11 +24,13 @@ CLIENTS, ROWS, RESETS = 8, 2, 4
 KEYS = ["north"] * 5 + ["south"] * 3
 HOST_SECONDS = 60
 DAY = "2099-06-01T"
-# How often each command is asked: where all ask for places at once; of a retailer that knows of no booking that lives, and else, by the status of the newest.
+# How often each command is asked: where all ask for places at once; by a retailer that knows of no booking that lives; and by one that
+# does, by its status.
 RUSH = {"reserve": 60, "book": 30, "places": 5, "offers": 5}
 FRESH = {"reserve": 60, "book": 30, "places": 6, "offers": 6, "sweep": 2, "show": 4}
 AIMED = {
-    "PREBOOKED": {"confirm": 30, "release": 30, "show": 8, "reserve": 14, "book": 8, "places": 5, "offers": 5, "fulfil": 2, "quote_refund": 1},
+    "PREBOOKED": {"confirm": 30, "release": 30, "show": 8, "reserve": 14, "book": 8, "places": 5, "offers": 5, "fulfil": 2,
+                  "quote_refund": 1},
     "CONFIRMED": {"fulfil": 6, "accept_refund": 25, "accept_exchange": 25, "show": 6, "reserve": 14, "book": 8, "places": 5, "offers": 5,
                   "quote_refund": 3, "quote_exchange": 3, "release": 2},
     "FULFILLED": {"accept_refund": 25, "accept_exchange": 25, "show": 6, "reserve": 14, "book": 8, "places": 5, "offers": 5},
@@ -145,7 +147,8 @@ class Storm:
 
     def ask_reserve(self) -> tuple:
         run, start, end = self.segment()
-        body = {"run": run.number, "from": run.stops[start].station, "to": run.stops[end].station, "count": 1 if self.last == "NoPlace" else self.rng.choice([1, 1, 2, 2, 3])}
+        count = 1 if self.last == "NoPlace" else self.rng.choice([1, 1, 2, 2, 3])
+        body = {"run": run.number, "from": run.stops[start].station, "to": run.stops[end].station, "count": count}
         if self.rng.random() < 0.3:
             body["together"] = True
         if self.rng.random() < 0.2:
@@ -329,7 +332,8 @@ class Storm:
             with open(os.path.join(folder, "k.json"), "w", encoding="utf-8") as file:
                 json.dump(self.text, file)
             self.port = free_port()
-            words = ["serve", "k.json", "--port", self.port, "--workers", CLIENTS, "--connections", CLIENTS + RESETS, "--sweep", 1, "--export"]
+            words = ["serve", "k.json", "--port", self.port, "--workers", CLIENTS, "--connections", CLIENTS + RESETS, "--sweep", 1,
+                     "--export"]
             host = subprocess.Popen([program] + [str(word) for word in words], cwd=folder, stdout=subprocess.PIPE, stderr=subprocess.PIPE)
             try:
                 self.play()

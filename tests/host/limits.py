@@ -190,7 +190,8 @@ class Runs:
         with open(self.path("in"), "wb") as file:
             file.write(data)
         with open(self.path("in"), "rb") as source, open(self.path("out"), "wb") as sink:
-            done = subprocess.run([self.program] + words, cwd=self.folder, stdin=source, stdout=sink, stderr=subprocess.PIPE, timeout=SECONDS)
+            done = subprocess.run([self.program] + words, cwd=self.folder, stdin=source, stdout=sink, stderr=subprocess.PIPE,
+                                  timeout=SECONDS)
         if (done.returncode, done.stderr) != (status, note):
             raise Wrong("%s: status %d, note %r" % (what, done.returncode, done.stderr[:200]))
         with open(self.path("out"), "rb") as file:
@@ -222,7 +223,8 @@ def greatest_table(runs: Runs, sizes: Sizes):
     runs.write("k.json", plan.text())
     last, places = len(plan.runs) - 1, MOST_OF_A_RUN
     requests = [reserve(0, 0, 1), reserve(last, 0, LEGS), reserve(last, 62, 64, count=8, together=True),
-                request("GET", "/bookings/B000000"), request("GET", "/bookings/B%06d" % (sizes.rows - 1)), listed(last, 0, 1), listed(last, 63, 64)]
+                request("GET", "/bookings/B000000"), request("GET", "/bookings/B%06d" % (sizes.rows - 1)),
+                listed(last, 0, 1), listed(last, 63, 64)]
     host = service.Host(plan.model())
     runs.expect_answers("%d rows, %d places" % (sizes.rows, plan.places), [], host, requests)
     line = b"".join((booking_line(booking) + "\n").encode() for booking in host.books.bookings)
@@ -231,7 +233,8 @@ def greatest_table(runs: Runs, sizes: Sizes):
     return "%d rows and %d places, the last run of %d" % (sizes.rows, plan.places, places)
 
 
-PHASES = [Phase.PREBOOKED, Phase.CONFIRMED, Phase.FULFILLED, Phase.RELEASED, Phase.EXPIRED, Phase.REFUNDED, Phase.EXCHANGED, Phase.CONFIRMED]
+PHASES = [Phase.PREBOOKED, Phase.CONFIRMED, Phase.FULFILLED, Phase.RELEASED, Phase.EXPIRED, Phase.REFUNDED, Phase.EXCHANGED,
+          Phase.CONFIRMED]
 GREATEST = 99_999_999_999
 
 
@@ -263,7 +266,8 @@ class Sold:
 
     def booking(self, row: int) -> Booking:
         items = [self.item(row * ITEMS + at) for at in range(ITEMS)]
-        return Booking(Row(row, self.generation(row)), self.retailer(row), LAST_MOMENT - 1, GREATEST - row, items, self.phase(row), self.ending(row))
+        return Booking(Row(row, self.generation(row)), self.retailer(row), LAST_MOMENT - 1, GREATEST - row, items, self.phase(row),
+                       self.ending(row))
 
     def item(self, number: int) -> Item:
         leg, at = divmod(number, self.width)
@@ -287,8 +291,8 @@ class Sold:
             if ending is not None:
                 amount = "m%d" % -ending.amount if ending.amount < 0 else "p%d" % ending.amount
                 end = " %s %d %s" % (amount, ending.moment, "%d.%d" % (ending.successor.number, 0) if ending.successor else "-")
-            yield "row %d %d %s %d %d %d %d %s%s\n" % (row, self.generation(row), LETTERS[self.phase(row)], self.retailer(row), LAST_MOMENT - 1,
-                                                       GREATEST - row, ITEMS, " ".join(items), end)
+            yield "row %d %d %s %d %d %d %d %s%s\n" % (row, self.generation(row), LETTERS[self.phase(row)], self.retailer(row),
+                                                       LAST_MOMENT - 1, GREATEST - row, ITEMS, " ".join(items), end)
         yield "end %d\n" % self.bookings
 
     def table(self) -> bytes:
