@@ -12,9 +12,9 @@ ROWS. Each row is free, or its present booking is being made, lives (prebooked, 
 - A booking of an answer 201 has two points: it starts its row, and it is sealed. It starts the least free row in generation 0. Where none
   is free it starts the next generation of a row whose booking has ended, the least one, but for lower rows that at some moment of the call
   had a booking that hadn't ended. From the start on the booking before it is unknown.
-- A call that is refused for want of places, or an exchange whose turn is lost, starts its row too, and that row stays with the worker of
-  its connection: the next booking of that connection is made in it, or of one that came after the connection was closed. Nobody else has
-  it.
+- A call that is refused because too few places were free, or an exchange whose turn is lost, starts its row too, and that row stays with
+  the worker of its connection: the next booking of that connection is made in it, or of one that came after the connection was closed.
+  Nobody else has it.
 - Rows full: the worker keeps no row, and row after row had, at some moment of the call, a booking that hadn't ended.
 
 PLACES, leg by leg.
@@ -92,17 +92,17 @@ class Search:
         """The row was kept for this connection, which was closed in this call or before, and this one had none of its own before."""
         before = [other for other in self.calls[:call.number] if other.connection == call.connection and other.kind in KINDS_OF_BOOKINGS]
         had_row = any(other.status == 201 or other.problem in ("NoPlace", "Contended") for other in before)
-        return self.may_be_served_behind(holder, call) and not had_row
+        return self.may_be_served_after(holder, call) and not had_row
 
-    def may_be_sealed_behind(self, row: Row, call: Call) -> bool:
+    def may_be_sealed_after(self, row: Row, call: Call) -> bool:
         """Where the booking is known to be sealed, it is by a call that this call's worker may serve."""
         if row not in self.history.values:
             return True
         maker = self.history.makers.get(row)
         makers = [maker] if maker else [other for other in self.gone if other.kind in KINDS_OF_BOOKINGS]
-        return any(other.connection == call.connection or self.may_be_served_behind(call.connection, other) for other in makers)
+        return any(other.connection == call.connection or self.may_be_served_after(call.connection, other) for other in makers)
 
-    def may_be_served_behind(self, connection: int, call: Call) -> bool:
+    def may_be_served_after(self, connection: int, call: Call) -> bool:
         """The worker of the connection may serve this call on another one: it was closed before the call was over."""
         return connection != call.connection and self.history.closed.get(connection, NEVER) <= self.ends[call.number]
 
@@ -135,7 +135,7 @@ class Search:
     # The order
 
     def settle(self, rows: tuple, pending: dict) -> tuple:
-        """The pending calls behind all that they read at this moment. One that is done and holds nothing is pending no more."""
+        """The pending calls after all that they read at this moment. One that is done is no longer pending."""
         while True:
             moment = Moment(rows, pending, self)
             after = {}
@@ -148,7 +148,7 @@ class Search:
             pending = after
 
     def run(self) -> list:
-        """The points in their order, each with what stands behind it; or Refused."""
+        """The points in their order, each with the state after it; or Refused."""
         moment = Moment(self.first, {}, self)
         stack = [Frame(None, {}, moment, self.moves(0, self.first, {}, moment))]
         while stack:
@@ -252,7 +252,7 @@ class Search:
         return "no order explains %s" % self.calls[worst]
 
 
-# A point (the number of its call, or None where the host makes it, and what it does), what is pending behind it, and what may come next.
+# A point (the number of its call, or None where the host makes it, and what it does), what is pending after it, and what may come next.
 Frame = namedtuple("Frame", "point pending moment moves")
 
 

@@ -1,5 +1,5 @@
 #!/usr/bin/env python3
-"""Wrong histories, each of which the checker has to refuse, and right ones beside them.
+"""Wrong histories, each of which the checker has to refuse, and right ones that it has to take.
 
   tests/history/planted.py
 
@@ -127,7 +127,7 @@ PLANTED = [
 
 
 def refusals(*wants) -> dict:
-    """Reservations on a new host, each refused for want of places."""
+    """Reservations on a new host, each refused because too few places were free."""
     answer = {"code": "NoPlace", "status": 409, "title": "No place"}
     calls = [{"client": client, "connection": client, "key": "north", "method": "POST", "path": "/reservations",
               "body": json.dumps({"run": 0, "from": "A", "to": "D", "count": count}), "begin": begin * 1_000_000 + SECOND,
@@ -144,7 +144,7 @@ MADE = [
     (refusals((0, 4, 3), (5, 9, 3)), "they didn't meet, so neither could hold what the other wants"),
     (refusals((0, 5, 2), (4, 9, 2)), "of three places one of two who want two each gets them"),
     (refusals((0, 5, 3), (4, 9, 1)), "who wants one place finds it among the two at most that the other may hold"),
-    (refusals((0, 9, 3), (1, 9, 3), (2, 9, 3)), "there are two rows, so the third can't have been refused for want of places"),
+    (refusals((0, 9, 3), (1, 9, 3), (2, 9, 3)), "there are two rows, so the third could have none to try places with"),
 ]
 
 

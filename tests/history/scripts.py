@@ -87,7 +87,7 @@ class Moment:
                 self.holders[number] = holding
 
     def held(self, own: int) -> tuple:
-        """The bits of places that others surely or likely hold, and the calls that may hold others beside."""
+        """The bits of places that others hold or come to hold, and the calls that may hold some of others."""
         firm, softs = self.maybe, []
         for number, holding in self.holders.items():
             if number != own:
@@ -488,7 +488,7 @@ class Makes(Script):
         row = Row(number, generation)
         if self.result == "made":
             return self.call.made[0] == row
-        return self.search.may_be_sealed_behind(row, self.call)
+        return self.search.may_be_sealed_after(row, self.call)
 
     def turns(self, local, moment) -> list:
         """The exchange's turn of the old booking, with all new places taken, for each that the new booking may have."""

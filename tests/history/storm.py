@@ -2,7 +2,7 @@
 
 The clients are played by one thread, which sends the requests of some of them one right after the other and reads the answers as they
 come. So a call's begin is taken before its first byte is sent, and its end when its last byte was read. Some clients reset their
-connection in the middle of a request, or behind a whole one whose answer they don't wait for, and come again.
+connection in the middle of a request, or after a whole one whose answer they don't wait for, and come again.
 """
 import json
 import os
@@ -326,7 +326,7 @@ class Storm:
             raise EOFError("an answer never came")
 
     def run(self, program: str) -> dict:
-        """The record of the storm, with the host's own export behind it."""
+        """The record of the storm, with the host's own export at its end."""
         steps = time.time_ns() - time.monotonic_ns()
         with tempfile.TemporaryDirectory() as folder, selectors.DefaultSelector() as self.selector:
             with open(os.path.join(folder, "k.json"), "w", encoding="utf-8") as file:

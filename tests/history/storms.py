@@ -91,7 +91,7 @@ def main() -> int:
     if missing:
         print("never met: " + ", ".join(missing))
     holds = ", ".join("%d %s" % (total["no place: " + kind], kind) for kind in checker.KINDS)
-    print("%d storms, %d calls, %d without an order; places refused for want of what was %s; %d planted answers refused" %
+    print("%d storms, %d calls, %d without an order; what was in the way of refusals: %s; %d planted answers refused" %
           (total["storms"], total["calls"], wrong, holds, refused))
     return 1 if wrong or missing else 0
 

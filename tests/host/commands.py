@@ -222,7 +222,7 @@ def long_words(runs: Runs):
         runs.check("a catalogue's name of %d letters" % len(name), runs.run("replay " + name, RESERVES), sold)
         runs.check("the same by --from", runs.run("replay k1.json --from " + name), (1, b"", "rail_host: export fault 1\n"))
         runs.check("the same, missing", runs.run("replay %s.x" % name), (1, b"", "rail_host: catalogue missing\n"))
-        runs.check("the same behind a whole command", runs.run("tiny 3 2 " + name, TINY), (2, b"", REFUSED))
+        runs.check("the same after a whole command", runs.run("tiny 3 2 " + name, TINY), (2, b"", REFUSED))
         runs.check("the same in a number", runs.run("drill --seed %s7 --workers 1 --size 1 --places 1" % ("0" * len(name))),
                    (0, b"requests 1 sold 1 refused 0 busy 0 double 0\n", ""))
 

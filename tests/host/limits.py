@@ -147,7 +147,7 @@ class PlainCatalogue(Catalogue):
 
 
 def plan_of(sizes: Sizes) -> Plan:
-    """Runs of two stops with the most places, one with what is left, and behind them as many runs of 127 stops as the items want."""
+    """Runs of two stops with the most places, one with what is left, and after them as many runs of 127 stops as the items want."""
     long_runs = -(-sizes.bookings * ITEMS // (MOST_OF_A_RUN * LEGS))
     whole, left = divmod(sizes.places - long_runs * MOST_OF_A_RUN, MOST_OF_A_RUN)
     return Plan(sizes.rows, [(2, MOST_OF_A_RUN)] * whole + [(2, left)] * (left > 0) + [(LONG_STOPS, MOST_OF_A_RUN)] * long_runs)
@@ -210,7 +210,7 @@ def same_bytes(what: str, got: bytes, wanted: bytes):
     if got == wanted:
         return
     at = next((at for at, (one, other) in enumerate(zip(got, wanted)) if one != other), min(len(got), len(wanted)))
-    raise Wrong("%s: %d bytes for %d, which differ behind byte %d: %r for %r" %
+    raise Wrong("%s: %d bytes for %d, which differ after byte %d: %r for %r" %
                 (what, len(got), len(wanted), at, got[max(0, at - 40):at + 60], wanted[max(0, at - 40):at + 60]))
 
 
@@ -312,7 +312,7 @@ class Sold:
 
 
 class SoldBooks(Books):
-    """The model's books where these bookings stand beside those that it keeps."""
+    """The model's books with these bookings besides those that it keeps."""
 
     def __init__(self, catalogue: Catalogue, sold: Sold):
         super().__init__(catalogue)
@@ -533,7 +533,7 @@ def sell_all(plan: Plan, rows: int, port: int) -> list:
         if first + OF_A_CONNECTION >= rows:
             refused = json.loads(client.answers(reserve(0, 0, 1), 1)[0])
             if refused.get("code") != "RowsFull":
-                raise Wrong("behind the last row a reservation was answered %s" % refused)
+                raise Wrong("after the last row a reservation was answered %s" % refused)
         client.socket.close()
     return lines
 

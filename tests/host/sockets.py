@@ -316,7 +316,7 @@ def expiry(program: str):
         while booking["status"] == "PREBOOKED" and time.monotonic() < until:
             time.sleep(0.2)
             booking = asked(client, b"GET /bookings/" + booking["id"].encode())
-        expect(booking["status"] == "EXPIRED", "half a minute behind its limit of a second it is %r" % booking)
+        expect(booking["status"] == "EXPIRED", "half a minute after its limit of a second it is %r" % booking)
         expect(booking["endedAt"] > booking["confirmableUntil"], "it has expired before its limit was over: %r" % booking)
         client.close()
         host.end()
