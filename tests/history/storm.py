@@ -137,7 +137,7 @@ class Storm:
         if self.last == "NoPlace":
             weights.update(reserve=40, book=20)
         if self.slow:
-            weights.update(confirm=weights.get("confirm", 0) // 8, release=weights.get("release", 0) // 8)
+            weights.update(confirm=weights.get("confirm", 0) // 6, release=weights.get("release", 0) // 8, sweep=4)
         return weights
 
     def segment(self) -> tuple:
@@ -311,7 +311,7 @@ class Storm:
             self.send_and_reset(*prepared[0])
         self.read(self.rng.choice([0, 0.001, 0.01]))
         if self.slow and prepared:
-            time.sleep(self.rng.choice([0, 0, 0, 0.2]))
+            time.sleep(self.rng.choice([0, 0, 0.25]))
 
     def play(self):
         self.clients = []
@@ -327,11 +327,12 @@ class Storm:
 
     def run(self, program: str) -> dict:
         """The record of the storm, with the host's own export at its end."""
-        steps = time.time_ns() - time.monotonic_ns()
+        ahead = clock_ahead()
         with tempfile.TemporaryDirectory() as folder, selectors.DefaultSelector() as self.selector:
             with open(os.path.join(folder, "k.json"), "w", encoding="utf-8") as file:
                 json.dump(self.text, file)
-            self.port = free_port()
+            own = own_port()
+            self.port = own.getsockname()[1]
             words = ["serve", "k.json", "--port", self.port, "--workers", CLIENTS, "--connections", CLIENTS + RESETS, "--sweep", 1,
                      "--export"]
             host = subprocess.Popen([program] + [str(word) for word in words], cwd=folder, stdout=subprocess.PIPE, stderr=subprocess.PIPE)
@@ -345,13 +346,22 @@ class Storm:
             finally:
                 host.kill()
                 host.communicate()
+                own.close()
         if (host.returncode, output) != (0, b""):
             raise EOFError("the host ended with %s, %r, %r" % (host.returncode, output, notes))
-        if abs(time.time_ns() - time.monotonic_ns() - steps) > 2_000_000:
+        if abs(clock_ahead() - ahead) > 2_000_000:
             raise EOFError("the clock was set while the storm lasted")
         return {"catalogue": self.text, "calls": self.calls, "closed": self.closed, "export": notes.decode("ascii"), "half": self.half}
 
 
-def free_port() -> int:
-    with socket.create_server(("127.0.0.1", 0)) as free:
-        return free.getsockname()[1]
+def clock_ahead() -> int:
+    """How far the clock of the day is ahead of the one that nobody sets. The greatest of some readings, since pauses make it less."""
+    return max(time.time_ns() - time.monotonic_ns() for _ in range(20))
+
+
+def own_port() -> socket.socket:
+    """A port that nobody else is given while this socket is open; the host may still listen there."""
+    own = socket.socket()
+    own.setsockopt(socket.SOL_SOCKET, socket.SO_REUSEADDR, 1)
+    own.bind(("127.0.0.1", 0))
+    return own
