@@ -4,7 +4,7 @@
   tests/history/planted.py
 
 Two storms were recorded (`recorded_exchanges.json`, `recorded_resets.json`), which have an order; each line of PLANTED changes what one
-call was answered, or what is said of one booking, so that they have none. MADE are short histories that were written by hand.
+call was answered, or what is said of one booking, so that they have none. The stories of `stories.py` are short and written by hand.
 """
 import copy
 import json
@@ -13,7 +13,7 @@ import sys
 
 import checker
 from calls import SECOND, Refused
-from storm import catalogue_of
+from stories import STORIES
 import wire
 
 HERE = pathlib.Path(__file__).resolve().parent
@@ -123,31 +123,6 @@ PLANTED = [
 ]
 
 
-# Histories that were written by hand: (client, begin and end in milliseconds, how many places it wants of three, or None for the next)
-
-
-def refusals(*wants) -> dict:
-    """Reservations on a new host, each refused because too few places were free."""
-    answer = {"code": "NoPlace", "status": 409, "title": "No place"}
-    calls = [{"client": client, "connection": client, "key": "north", "method": "POST", "path": "/reservations",
-              "body": json.dumps({"run": 0, "from": "A", "to": "D", "count": count}), "begin": begin * 1_000_000 + SECOND,
-              "end": end * 1_000_000 + SECOND, "status": 409, "answer": answer}
-             for client, (begin, end, count) in enumerate(wants)]
-    return {"catalogue": catalogue_of(False, 900), "closed": {}, "export": "rail-export 1 3 2\nend 0\n", "calls": calls}
-
-
-# The history, and why it has no order, or None where it has one.
-MADE = [
-    (refusals((0, 9, 4)), None),
-    (refusals((0, 5, 3), (4, 9, 3)), None),
-    (refusals((0, 9, 1)), "all places are free, and nobody else asks"),
-    (refusals((0, 4, 3), (5, 9, 3)), "they didn't meet, so neither could hold what the other wants"),
-    (refusals((0, 5, 2), (4, 9, 2)), "of three places one of two who want two each gets them"),
-    (refusals((0, 5, 3), (4, 9, 1)), "who wants one place finds it among the two at most that the other may hold"),
-    (refusals((0, 9, 3), (1, 9, 3), (2, 9, 3)), "there are two rows, so the third could have none to try places with"),
-]
-
-
 def is_refused(record: dict) -> str:
     """What the checker says, or nothing where it finds an order."""
     try:
@@ -168,10 +143,10 @@ def wrong_lines():
         said = is_refused(record)
         if not said.startswith(told):
             yield "%s, where %s: %s" % (name, why, said or "the checker found an order")
-    for number, (record, why) in enumerate(MADE):
-        said = is_refused(record)
+    for told, story, why in STORIES:
+        said = is_refused(story.record())
         if bool(said) != bool(why) or said.startswith("not decided"):
-            yield "made history %d, where %s: %s" % (number, why or "nothing is wrong", said or "the checker found an order")
+            yield "%s, where %s: %s" % (told, why or "nothing is wrong", said or "the checker found an order")
 
 
 def refused() -> int:
@@ -179,7 +154,7 @@ def refused() -> int:
     lines = list(wrong_lines())
     for line in lines:
         print(line)
-    return None if lines else len(PLANTED) + sum(why is not None for _record, why in MADE)
+    return None if lines else len(PLANTED) + sum(why is not None for _told, _story, why in STORIES)
 
 
 if __name__ == "__main__":
