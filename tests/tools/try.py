@@ -12,7 +12,7 @@ import time
 
 import kit
 
-PARTS = ["texts", "seats"]
+PARTS = ["texts", "seats", "manifest"]
 
 
 def main():
