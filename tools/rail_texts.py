@@ -17,7 +17,10 @@ MOST_ROWS, MOST_LISTED, MOST_STEPS, MOST_ITEMS, LAST_GENERATION = 262_144, 65_53
 MOST_STOPS, MOST_RUNS, MOST_PLACES_OF_A_RUN, MOST_PLACES = 127, 4_096, 1_200, 4_194_304
 LARGEST_NUMBER, LARGEST_FARE, LARGEST_FEE, WHOLE_FEE = 4_294_967_295, 10_000_000, 10_000_000, 10_000
 LARGEST_WORD, LARGEST_AMOUNT, LARGEST_DIFFERENCE = 18_446_744_073_709_551_615, 99_999_999_999, 100_009_999_999
-LAST_MOMENT, BORDER, CODES_LAST = 4_102_444_799, 63, 900
+LAST_MOMENT, BORDER, CODES_LAST, LONGEST_WAIT = 4_102_444_799, 63, 900, 14_400
+# A run that is shut stands on one of these days, where no search looks: one that is cancelled is far away, so that a booking left on it is worth
+# what it is long before departure, and one that is closed has departed.
+CANCELLED_DAY, CLOSED_DAY = "2099-12-31", "1970-01-01"
 TRAITS = ("WINDOW", "AISLE", "TABLE", "QUIET", "POWER")
 STATES = {
     "P": "PREBOOKED", "C": "CONFIRMED", "F": "FULFILLED",
@@ -176,6 +179,10 @@ class Run:
     def day(self):
         """The day of its first departure, as the catalogue writes it."""
         return self.stops[0].depart.day()
+
+    def is_shut(self):
+        """Its times are not those of a train."""
+        return self.day() in (CANCELLED_DAY, CLOSED_DAY)
 
     def codes(self):
         return [stop.station for stop in self.stops]
@@ -660,6 +667,11 @@ def line_of(booking):
         successor = "-" if end.successor is None else "%d.%d" % end.successor
         fields += ["p%d" % end.amount if end.amount >= 0 else "m%d" % -end.amount, end.moment, successor]
     return " ".join(map(str, fields))
+
+
+def same_day(old, new):
+    """The two runs leave on one day: as both catalogues write it, or since they leave at the same moment."""
+    return old.stops[0].depart.seconds == new.stops[0].depart.seconds or old.day() == new.day()
 
 
 # Programs

@@ -12,7 +12,7 @@ import time
 
 import kit
 
-PARTS = ["texts", "seats", "manifest"]
+PARTS = ["texts", "seats", "manifest", "amend"]
 
 
 def main():
