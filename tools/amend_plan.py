@@ -3,7 +3,7 @@ import copy
 import re
 from dataclasses import dataclass, field
 
-from rail_texts import CANCELLED_DAY, CLOSED_DAY, Refusal, same_day
+from rail_texts import CANCELLED_DAY, CLOSED_DAY, PLANNED, Refusal, same_day
 
 FORMS = [
     ("cancel", r"cancel run (\d+)", "cancel run N"),
@@ -165,6 +165,8 @@ def _day_misfits(one, other, plan):
         yield "run %d is closed, and its times in NEW are neither on %s nor on the day they were" % (number, CLOSED_DAY)
     elif number in plan.opened and other.is_shut():
         yield "run %d is opened, and its times in NEW are those of a run that is shut" % number
+    elif number in plan.opened and one.real_stops() and one.real_stops()[0].depart.day() != other.day():
+        yield "run %d is %s in OLD and of %s in NEW" % (number, one.title(), other.day())
     elif number not in plan.shut() | plan.opened and not same_day(one, other):
         yield "run %d is %s in OLD and of %s in NEW" % (number, one.title(), other.day())
 
@@ -185,13 +187,26 @@ def _coach_misfits(one, other, plan):
 
 
 def amended_tree(old, plan):
-    """The old catalogue with the runs that the plan cancels or closes on the days of such runs. Coaches are as they were."""
+    """The old catalogue with the runs that the plan cancels or closes on the days of such runs, and those that it opens at the times they had.
+
+    Coaches are as they were. What a run's times were stays in it as `planned`.
+    """
     tree = copy.deepcopy(old.tree)
-    for number in plan.shut():
-        stops, day = tree["runs"][number]["stops"], CANCELLED_DAY if number in plan.cancelled else CLOSED_DAY
-        for at, stop in enumerate(stops):
-            text = "%sT%02d:%02d:00Z" % (day, at // 60, at % 60)
-            for part, is_there in (("arrive", at > 0), ("depart", at < len(stops) - 1)):
-                stop.pop(part, None)
-                stop.update({part: text} if is_there else {})
+    for number in sorted(plan.shut()):
+        run = tree["runs"][number]
+        if not old.runs[number].is_shut():
+            run[PLANNED] = run["stops"]
+        run["stops"] = _shut_stops(run["stops"], CANCELLED_DAY if number in plan.cancelled else CLOSED_DAY)
+    for number in sorted(plan.opened):
+        if old.runs[number].is_shut() and old.runs[number].planned:
+            tree["runs"][number]["stops"] = tree["runs"][number].pop(PLANNED)
     return tree
+
+
+def _shut_stops(stops, day):
+    """The stations, minute after minute of the day."""
+    shut = []
+    for at, stop in enumerate(stops):
+        text = "%sT%02d:%02d:00Z" % (day, at // 60, at % 60)
+        shut.append(dict({"station": stop["station"]}, **({"arrive": text} if at > 0 else {}), **({"depart": text} if at < len(stops) - 1 else {})))
+    return shut

@@ -19,8 +19,8 @@ LARGEST_NUMBER, LARGEST_FARE, LARGEST_FEE, WHOLE_FEE = 4_294_967_295, 10_000_000
 LARGEST_WORD, LARGEST_AMOUNT, LARGEST_DIFFERENCE = 18_446_744_073_709_551_615, 99_999_999_999, 100_009_999_999
 LAST_MOMENT, BORDER, CODES_LAST, LONGEST_WAIT = 4_102_444_799, 63, 900, 14_400
 # A run that is shut stands on one of these days, where no search looks: one that is cancelled is far away, so that a booking left on it is worth
-# what it is long before departure, and one that is closed has departed.
-CANCELLED_DAY, CLOSED_DAY = "2099-12-31", "1970-01-01"
+# what it is long before departure, and one that is closed has departed. Its member `planned`, which the host ignores, has the stops that it had.
+CANCELLED_DAY, CLOSED_DAY, PLANNED = "2099-12-31", "1970-01-01", "planned"
 TRAITS = ("WINDOW", "AISLE", "TABLE", "QUIET", "POWER")
 STATES = {
     "P": "PREBOOKED", "C": "CONFIRMED", "F": "FULFILLED",
@@ -171,18 +171,23 @@ class Run:
     fares: dict
     first: int
     seats: tuple
+    planned: Optional[list] = None
     _index: dict = None
 
     def legs(self):
         return len(self.stops) - 1
 
     def day(self):
-        """The day of its first departure, as the catalogue writes it."""
+        """The day of its first departure, as the catalogue writes it. For one that is shut it is that of no train."""
         return self.stops[0].depart.day()
 
     def is_shut(self):
         """Its times are not those of a train."""
         return self.day() in (CANCELLED_DAY, CLOSED_DAY)
+
+    def real_stops(self):
+        """The stops with the times of the train, or None where it is shut and they aren't known."""
+        return self.planned if self.is_shut() else self.stops
 
     def codes(self):
         return [stop.station for stop in self.stops]
@@ -208,9 +213,15 @@ class Run:
         start, end = codes.index(origin), codes.index(destination)
         return (start, end) if start < end else None
 
+    def real_day(self):
+        """The day of its first departure, or the empty text where it is shut and that isn't known."""
+        stops = self.real_stops()
+        return stops[0].depart.day() if stops else ""
+
     def title(self):
-        """`train 501 of 2026-06-01`"""
-        return "train %d of %s" % (self.train, self.day())
+        """`train 501 of 2026-06-01`, and whether it is shut."""
+        day, shut = self.real_day(), {CANCELLED_DAY: ", cancelled", CLOSED_DAY: ", closed"}.get(self.day(), "")
+        return "train %d%s%s" % (self.train, " of " + day if day else "", shut)
 
 
 @dataclass
@@ -340,7 +351,8 @@ class _CatalogueReader:
             fare = fares.get(name) if isinstance(fares.get(name), dict) else {}
             read[name] = tuple(self.number(fare, part, "%sfares.%s." % (path, name), 0, LARGEST_FARE)
                                for part in ("base", "perLeg"))
-        self.kept.add_run(Run(len(self.kept.runs), train, stops, read, self.kept.places, self.seats(item, path)))
+        seats, planned = self.seats(item, path), self.planned(item, stops)
+        self.kept.add_run(Run(len(self.kept.runs), train, stops, read, self.kept.places, seats, planned))
         self.kept.places += len(self.kept.runs[-1].seats)
 
     def stops(self, item, path):
@@ -355,6 +367,15 @@ class _CatalogueReader:
             depart = None if lacks_departure else self.moment(stop, "depart", at)
             stops.append(Stop(station, arrive or depart, depart or arrive))
         return stops
+
+    def planned(self, item, stops):
+        """The stops that a run had which is shut. The host ignores them, so they are no fault where they are none."""
+        try:
+            planned = self.stops({"stops": item.get(PLANNED)}, "")
+            self.course(planned, "planned.")
+        except Refusal:
+            return None
+        return planned if [stop.station for stop in planned] == [stop.station for stop in stops] else None
 
     def moment(self, holder, name, path):
         moment = read_moment(self.text(holder, name, path))

@@ -34,6 +34,8 @@ class Change:
 
     def shut(self, number, day):
         stops = self.tree["runs"][number]["stops"]
+        if self.rng.random() < 0.5:
+            self.tree["runs"][number]["planned"] = copy.deepcopy(stops)
         for at, stop in enumerate(stops):
             text = "%sT%02d:%02d:00Z" % (day, at // 60, at % 60)
             stop.update({part: text for part in ("arrive", "depart") if part in stop})
