@@ -116,6 +116,42 @@ def try_open(found, program, folder, text):
     found.need([line.phase for line in lines] == [Phase.FULFILLED, Phase.RELEASED], "opened: %s", opened)
 
 
+# What a retailer sees of run 0 once it is shut: the plan, whether its times in NEW stay as they are, and what comes of a search from BASEL to BERN
+# (the free places of each offer), of an offer for it, of one that goes on to THUN, of a reservation, of a refund of who is left (it was 11.00), and
+# how many of its places are free.
+SEEN = [
+    ("", True, [5], 201, 201, 201, 825, 9),
+    ("cancel run 0", False, [], "NoPlace", "UnknownOffer", "NoPlace", 1100, 0),
+    ("close run 0", False, [], "UnknownOffer", "UnknownOffer", "NoPlace", 0, 0),
+    ("close run 0", True, [0], "NoPlace", "NoPlace", "NoPlace", 825, 0),
+]
+
+
+def try_seen(found, program, folder, text):
+    """The page's table of what a retailer sees, over the host. Two hours before departure 25 % of a refund are kept."""
+    old, new, now = folder / "old.json", folder / "new.json", "2026-06-01T05:59:00Z"
+    sold = [kit.request("POST", "/reservations", "north", {"run": 0, "from": "BASEL", "to": "BERN", "count": count}) for count in (1, 2)]
+    sold += [kit.request("POST", "/bookings/B000000/fulfillments", "north"), kit.request("POST", "/bookings/B000001/fulfillments", "north")]
+    (folder / "sold.export").write_bytes(kit.host(program, "export", old, "--start", now, data=b"".join(sold))[1])
+    for plan, stays, search, direct, onward, reserved, worth, free in SEEN:
+        (folder / "plan").write_text(plan)
+        new.write_text(text if stays else kit.run_tool("amend", "--catalogue", old, folder / "plan")[1])
+        status, said, notes = kit.run_tool("amend", old, new, folder / "sold.export", folder / "plan", "--affected", folder / "affected.csv")
+        (folder / "shut.export").write_text(said)
+        made = 1_780_293_540 - 60
+        asked = [kit.request("POST", "/offers", "north", {"adults": 1, "origin": "BASEL", "destination": "BERN", "earliest": now}),
+                 kit.request("GET", "/runs/0/places/BASEL/BERN", "north"),
+                 kit.request("POST", "/bookings", "north", {"offerId": "O%d-1-0-2-0-0.0.2" % made}),
+                 kit.request("POST", "/bookings", "north", {"offerId": "O%d-1-0-2-0-0.0.2_1.0.1" % made}),
+                 kit.request("POST", "/reservations", "north", {"run": 0, "from": "BASEL", "to": "OLTEN"}),
+                 kit.request("POST", "/bookings/B000000/refund-offers", "north")]
+        bodies = kit.answers(kit.host(program, "replay", new, "--from", folder / "shut.export", "--start", now, data=b"".join(asked))[1])
+        came = [[segment["free"] for offer in bodies[0][1]["offers"] for segment in offer["segments"]]]
+        came += [body.get("code", number) for number, body in bodies[2:5]] + [bodies[5][1]["amount"]["amount"]]
+        came.append(sum(place["free"] for place in bodies[1][1]["places"]))
+        found.need(status == 0 and came == [search, direct, onward, reserved, worth, free], "%r: a retailer sees %s %s", plan, came, notes)
+
+
 def faults(program):
     found = kit.Faults()
     text = (kit.ROOT / "examples" / "k1.json").read_text()
@@ -129,6 +165,7 @@ def faults(program):
             try_case(found, folder, text, case)
         try_catalogue(found, folder, text)
         try_open(found, program, folder, text)
+        try_seen(found, program, folder, text)
     for words, wanted in ((("--help",), 0), (("a",), 2), (("a", "b", "c", "d", "--now", "x"), 2), (("/no", "/no", "/no", "/no"), 3)):
         status, _, notes = kit.run_tool("amend", *words)
         found.need(status == wanted, "amend %s: status %d, %s", words, status, notes)
