@@ -1,4 +1,6 @@
-"""The plan of an amendment: its lines, how the new catalogue has to stand to the old one, and the new catalogue of a plan."""
+"""The plan of an amendment: its lines, how the new catalogue has to stand to the old one, and the new catalogue of a
+plan.
+"""
 import copy
 import re
 from dataclasses import dataclass, field
@@ -18,7 +20,8 @@ FORMS = [
 
 @dataclass
 class Plan:
-    """What a plan says. Runs are numbers; `replaced` has for each run and coach the coaches that take its passengers."""
+    """What a plan says. Runs are numbers; `replaced` has for each run and coach the coaches that take its passengers.
+    """
     cancelled: set = field(default_factory=set)
     closed: set = field(default_factory=set)
     opened: set = field(default_factory=set)
@@ -125,7 +128,8 @@ def misfits(old, new, plan):
     if old.currency != new.currency:
         yield "the currency is %s in OLD and %s in NEW" % (old.currency, new.currency)
     if len(new.runs) < len(old.runs):
-        yield "NEW has %d runs and OLD %d: a run may be cancelled or closed, but its number stays" % (len(new.runs), len(old.runs))
+        yield "NEW has %d runs and OLD %d: a run may be cancelled or closed, but its number stays" % (
+            len(new.runs), len(old.runs))
     for one, other in zip(old.runs, new.runs):
         yield from _run_misfits(one, other, plan)
     for run, coach, first, last in plan.blocked:
@@ -151,16 +155,17 @@ def _run_misfits(one, other, plan):
             continue
         there = other.place_of(seat.coach, seat.number)
         if there is None or other.seat(there) != seat:
-            yield "run %d: coach %d seat %d is %s in OLD and %s in NEW; is `replace coach %d of run %d by ..` meant?" % (
-                number, seat.coach, seat.number, seat.words(), "not there" if there is None else other.seat(there).words(),
-                seat.coach, number)
+            words = "not there" if there is None else other.seat(there).words()
+            yield "run %d: coach %d seat %d is %s in OLD and %s in NEW; is `replace coach %d of run %d by ..` meant?" \
+                % (number, seat.coach, seat.number, seat.words(), words, seat.coach, number)
             return
 
 
 def _day_misfits(one, other, plan):
     number = one.number
     if number in plan.cancelled and other.day() != CANCELLED_DAY:
-        yield "run %d is cancelled, and its times in NEW are not on %s: `amend --catalogue` writes them" % (number, CANCELLED_DAY)
+        yield "run %d is cancelled, and its times in NEW are not on %s: `amend --catalogue` writes them" % (
+            number, CANCELLED_DAY)
     elif number in plan.closed and other.day() != CLOSED_DAY and not same_day(one, other):
         yield "run %d is closed, and its times in NEW are neither on %s nor on the day they were" % (number, CLOSED_DAY)
     elif number in plan.opened and other.is_shut():
@@ -187,7 +192,8 @@ def _coach_misfits(one, other, plan):
 
 
 def amended_tree(old, plan):
-    """The old catalogue with the runs that the plan cancels or closes on the days of such runs, and those that it opens at the times they had.
+    """The old catalogue with the runs that the plan cancels or closes on the days of such runs, and those that it opens
+    at the times they had.
 
     Coaches are as they were. What a run's times were stays in it as `planned`.
     """
@@ -208,5 +214,8 @@ def _shut_stops(stops, day):
     shut = []
     for at, stop in enumerate(stops):
         text = "%sT%02d:%02d:00Z" % (day, at // 60, at % 60)
-        shut.append(dict({"station": stop["station"]}, **({"arrive": text} if at > 0 else {}), **({"depart": text} if at < len(stops) - 1 else {})))
+        made = {"station": stop["station"]}
+        made.update({"arrive": text} if at > 0 else {})
+        made.update({"depart": text} if at < len(stops) - 1 else {})
+        shut.append(made)
     return shut

@@ -1,7 +1,8 @@
-"""Catalogues and exports of a rail host: read, checked and written as docs/catalogue.md and docs/definitions.md have them.
+"""Catalogues and exports of a rail host: read, checked and written as docs/catalogue.md and docs/definitions.md have
+them.
 
-The programs beside this file use it, and other scripts may. `read_catalogue` and `read_export` take just what the host takes. What it refuses
-is a Refusal, with the host's note and the place.
+The programs beside this file use it, and other scripts may. `read_catalogue` and `read_export` take just what the host
+takes. What it refuses is a Refusal, with the host's note and the place.
 """
 import bisect
 import datetime
@@ -18,8 +19,9 @@ MOST_STOPS, MOST_RUNS, MOST_PLACES_OF_A_RUN, MOST_PLACES = 127, 4_096, 1_200, 4_
 LARGEST_NUMBER, LARGEST_FARE, LARGEST_FEE, WHOLE_FEE = 4_294_967_295, 10_000_000, 10_000_000, 10_000
 LARGEST_WORD, LARGEST_AMOUNT, LARGEST_DIFFERENCE = 18_446_744_073_709_551_615, 99_999_999_999, 100_009_999_999
 LAST_MOMENT, BORDER, CODES_LAST, LONGEST_WAIT = 4_102_444_799, 63, 900, 14_400
-# A run that is shut stands on one of these days, where no search looks: one that is cancelled is far away, so that a booking left on it is worth
-# what it is long before departure, and one that is closed has departed. Its member `planned`, which the host ignores, has the stops that it had.
+# A run that is shut stands on one of these days, where no search looks: one that is cancelled is far away, so that a
+# booking left on it is worth what it is long before departure, and one that is closed has departed. Its member
+# `planned`, which the host ignores, has the stops that it had.
 CANCELLED_DAY, CLOSED_DAY, PLANNED = "2099-12-31", "1970-01-01", "planned"
 TRAITS = ("WINDOW", "AISLE", "TABLE", "QUIET", "POWER")
 STATES = {
@@ -30,7 +32,7 @@ LIVE = "PCF"
 
 
 class Refusal(Exception):
-    """Why a text, a plan or two texts together are not taken. Each is one line, but a list of reasons may be given."""
+    """Why a text is not taken, in one line or more."""
 
     def __init__(self, *lines):
         super().__init__(*lines)
@@ -96,7 +98,9 @@ def write_moment(seconds):
 
 
 def read_json(data):
-    """The value of the bytes, as the host reads them: whole numbers are int, all others float. A Refusal where they are no JSON."""
+    """The value of the bytes, as the host reads them: whole numbers are int, all others float. A Refusal where they are
+    no JSON.
+    """
     try:
         text = data.decode("utf-8")
         value = json.loads(text, parse_constant=_no_constant, parse_int=_whole, parse_float=_fraction)
@@ -568,7 +572,8 @@ def read_export(catalogue, data):
         raise Refusal("export fault 4: two live bookings overlap at place %d" % overlap)
     for booking in bookings:
         if booking.end and booking.end.successor and booking.end.successor.number == booking.row.number:
-            raise Refusal("export fault 5 at row %d: it was exchanged for a booking of its own row" % booking.row.number)
+            raise Refusal("export fault 5 at row %d: it was exchanged for a booking of its own row"
+                          % booking.row.number)
     return bookings
 
 
@@ -633,7 +638,8 @@ def _read_end(found, line):
 def _is_right(catalogue, booking, said):
     """Its numbers are in range, its items are pieces that don't meet, and its end could have come."""
     in_range = (booking.row.number < catalogue.rows and booking.row.generation <= LAST_GENERATION
-                and booking.retailer <= LARGEST_NUMBER and booking.limit <= LAST_MOMENT and booking.total <= LARGEST_AMOUNT)
+                and booking.retailer <= LARGEST_NUMBER and booking.limit <= LAST_MOMENT
+                and booking.total <= LARGEST_AMOUNT)
     return (in_range and 1 <= len(booking.items) <= MOST_ITEMS
             and all(is_piece(catalogue, item) for item in booking.items)
             and first_overlap([replace(booking, phase="C")]) is None
@@ -682,7 +688,8 @@ def write_export(places, rows, bookings):
 
 def line_of(booking):
     row, end = booking.row, booking.end
-    fields = ["row", row.number, row.generation, booking.phase, booking.retailer, booking.limit, booking.total, len(booking.items)]
+    fields = ["row", row.number, row.generation, booking.phase, booking.retailer, booking.limit, booking.total,
+              len(booking.items)]
     fields += ["%d.%d.%d" % item for item in booking.items]
     if end is not None:
         successor = "-" if end.successor is None else "%d.%d" % end.successor

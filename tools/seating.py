@@ -53,7 +53,9 @@ def common_traits(seats):
 
 
 def same_numbers(run, coach, seats, span, taken):
-    """The places of the coach that have the numbers of these seats, where they have their class and common traits too and are free; else None."""
+    """The places of the coach that have the numbers of these seats, where they have their class and common traits too
+    and are free; else None.
+    """
     places, common = [run.place_of(coach, seat.number) for seat in seats], common_traits(seats)
     if None in places or len(set(places)) < len(places):
         return None
@@ -65,8 +67,8 @@ def same_numbers(run, coach, seats, span, taken):
 def places_for(run, coaches, seats, span, taken):
     """Places on the run for passengers who had these seats, all of one class, or None where there are too few.
 
-    They are as close together as the seats were where that can be had, else as close as can be, and with the traits that all seats had where that
-    can be had as close. `coaches` are those that count; None stands for all.
+    They are as close together as the seats were where that can be had, else as close as can be, and with the traits
+    that all seats had where that can be had as close. `coaches` are those that count; None stands for all.
     """
     common, kind = common_traits(seats), seats[0].kind
     free = [place for place in run.places()
@@ -97,5 +99,7 @@ def pick_one_coach(run, places, wished, count):
 
 
 def wished_first(places, wished, count):
-    """So many of the places, in rising number: the least that are wished, and where these are too few the least of the others."""
+    """So many of the places, in rising number: the least that are wished, and where these are too few the least of the
+    others.
+    """
     return sorted(sorted(places, key=lambda place: place not in wished)[:count])

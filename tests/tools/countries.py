@@ -48,7 +48,9 @@ def run(rng: random.Random, train: int, codes: list, begin: int, coaches: list) 
 
 
 def country(rng: random.Random, runs: int = None) -> dict:
-    """A line of stations with runs both ways over some part of it, a few hours after START. Some are longer than a place's first half."""
+    """A line of stations with runs both ways over some part of it, a few hours after START. Some are longer than a
+    place's first half.
+    """
     long = rng.random() < 0.08
     codes = ["S%d" % index for index in range(rng.choice([66, 100, 127]) if long else rng.randint(3, 6))]
     layouts = [layout(rng) for _ in range(2)]
@@ -68,7 +70,9 @@ def country(rng: random.Random, runs: int = None) -> dict:
 
 
 class Seller:
-    """Sells by the model, as retailers do. `ledger` keeps what became of each booking, also of those whose row was given away."""
+    """Sells by the model, as retailers do. `ledger` keeps what became of each booking, also of those whose row was
+    given away.
+    """
 
     def __init__(self, rng: random.Random, catalogue: Catalogue, kept: list = ()):
         self.rng, self.catalogue, self.books = rng, catalogue, Books(catalogue)
@@ -107,7 +111,8 @@ class Seller:
         adults = self.rng.choice([1, 1, 2, 2, 3, 4, 6, 8])
         wanted = self.rng.choice([0, 0, 0, 1, 2, 4, 8, 16, 3])
         kind = self.rng.choice([TravelClass.FIRST, TravelClass.SECOND, TravelClass.SECOND])
-        return offers.OfferCode(now, adults, self.rng.choice([0, 8 - adults, 1]) if adults < 8 else 0, kind, wanted, tuple(trip))
+        return offers.OfferCode(now, adults, self.rng.choice([0, 8 - adults, 1]) if adults < 8 else 0, kind, wanted,
+                                tuple(trip))
 
     def life(self, now: int):
         """One booking, as far as chance brings it."""

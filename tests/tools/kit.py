@@ -31,7 +31,8 @@ def run_tool(name, *words):
 
 def host(program, *words, data=b""):
     """The host's status, output and notes."""
-    done = subprocess.run([str(program)] + [str(word) for word in words], input=data, capture_output=True, timeout=LIMIT)
+    done = subprocess.run([str(program)] + [str(word) for word in words], input=data, capture_output=True,
+                          timeout=LIMIT)
     return done.returncode, done.stdout, done.stderr.decode()
 
 
@@ -46,7 +47,8 @@ def answers(data):
     found = []
     while data:
         head, _, data = data.partition(b"\r\n\r\n")
-        length = next(int(line.split(b":")[1]) for line in head.split(b"\r\n") if line.lower().startswith(b"content-length:"))
+        length = next(int(line.split(b":")[1]) for line in head.split(b"\r\n")
+                      if line.lower().startswith(b"content-length:"))
         found.append((int(head.split(b" ")[1]), json.loads(data[:length])))
         data = data[length:]
     return found

@@ -1,4 +1,5 @@
-"""tools/amend on exports and plans of chance, each held against the rules and the host; and what is refused, and why."""
+"""tools/amend on exports and plans of chance, each held against the rules and the host; and what is refused, and why.
+"""
 import copy
 import csv
 import io
@@ -55,7 +56,8 @@ class Change:
         old = self.tree["runs"][number]
         codes = [stop["station"] for stop in old["stops"]]
         begin = countries.START + 60 * self.rng.randint(30, 500)
-        self.tree["runs"].append(countries.run(self.rng, old["train"] % 99_999 + 1, codes, begin, countries.layout(self.rng)))
+        self.tree["runs"].append(countries.run(self.rng, old["train"] % 99_999 + 1, codes, begin,
+                                               countries.layout(self.rng)))
 
     def move_all(self):
         for number in self.cancelled:
@@ -74,7 +76,8 @@ class Change:
     def replace(self):
         number, rng = self.untouched.pop(), self.rng
         run = self.tree["runs"][number]
-        coach = rng.choice([item["coach"] for item in run["coaches"] if item["class"] == "SECOND"] or [run["coaches"][0]["coach"]])
+        coach = rng.choice([item["coach"] for item in run["coaches"] if item["class"] == "SECOND"]
+                           or [run["coaches"][0]["coach"]])
         old = [item for item in run["coaches"] if item["coach"] == coach]
         rest = [item for item in run["coaches"] if item["coach"] != coach]
         names = [coach] if rng.random() < 0.5 else rng.sample(range(20, 40), rng.choice([1, 2]))
@@ -91,10 +94,13 @@ class Change:
         coach = self.rng.choice(self.tree["runs"][number]["coaches"])
         group = self.rng.choice(coach["places"])
         self.blocked.append((number, coach["coach"], group["first"], group["last"]))
-        self.lines.append("block places %d-%d of coach %d of run %d" % (group["first"], group["last"], coach["coach"], number))
+        self.lines.append("block places %d-%d of coach %d of run %d"
+                          % (group["first"], group["last"], coach["coach"], number))
 
     def besides(self):
-        """What the plan doesn't say and NEW may have: other fares, times of the day, coaches in another order, a coach and a row more."""
+        """What the plan doesn't say and NEW may have: other fares, times of the day, coaches in another order, a coach
+        and a row more.
+        """
         rng, tree = self.rng, self.tree
         tree["rows"] += rng.choice([0, 0, 5, 200])
         tree["exchangeFee"] = 11
@@ -123,7 +129,8 @@ def other_coach(rng, coach):
         group = rng.choice(new["places"])
         group["last"] = group["first"]
     elif kind < 0.75:
-        new["places"] = [{"first": 50 + at, "last": 50 + at + rng.randint(0, 5), "traits": rng.sample(countries.TRAITS, rng.randint(0, 2))}
+        new["places"] = [{"first": 50 + at, "last": 50 + at + rng.randint(0, 5),
+                          "traits": rng.sample(countries.TRAITS, rng.randint(0, 2))}
                          for at in (0, 10, 30)]
     elif kind < 0.8:
         new["places"].append({"first": 200, "last": 205, "traits": ["WINDOW"]})
@@ -137,7 +144,8 @@ def other_coach(rng, coach):
 def change_of(rng, tree):
     change = Change(rng, tree)
     for step in rng.choice([["cancel"], ["cancel", "cancel"], ["replace"], ["replace", "cancel"], ["close"], ["block"],
-                            ["cancel", "close", "replace"], ["block", "block", "close"], ["replace", "replace", "block"], []]):
+                            ["cancel", "close", "replace"], ["block", "block", "close"],
+                            ["replace", "replace", "block"], []]):
         if len(change.untouched) > 1:
             getattr(change, step)()
     change.move_all()
@@ -182,10 +190,12 @@ def try_lines(found, held):
         after = held.after.get(number)
         if not found.need(after is not None, "plan %d: row %d is gone", held.seed, number):
             continue
-        same = (after.row, after.retailer, after.limit, after.total) == (line.row, line.retailer, line.limit, line.total)
+        same = (after.row, after.retailer, after.limit, after.total) == (line.row, line.retailer, line.limit,
+                                                                         line.total)
         found.need(same, "plan %d: row %d is another booking", held.seed, number)
         if not line.is_live():
-            found.need((after.phase, after.ending) == (line.phase, line.ending), "plan %d: row %d ended otherwise", held.seed, number)
+            found.need((after.phase, after.ending) == (line.phase, line.ending), "plan %d: row %d ended otherwise",
+                       held.seed, number)
             try_ended(found, held, line, after)
         elif after.is_live():
             found.need(after.phase is line.phase, "plan %d: row %d is in another state", held.seed, number)
@@ -195,10 +205,12 @@ def try_lines(found, held):
             amount = 0 if line.phase is Phase.PREBOOKED else line.total
             wanted = Phase.RELEASED if line.phase is Phase.PREBOOKED else Phase.REFUNDED
             found.need(runs & held.change.refunded and after.phase is wanted and after.ending.amount == amount
-                       and after.ending.moment == held.now, "plan %d: row %d was ended so: %s", held.seed, number, after)
+                       and after.ending.moment == held.now, "plan %d: row %d was ended so: %s", held.seed, number,
+                       after)
     for number, line in held.after.items():
         if number not in held.before:
-            found.need(line.retailer == 0 and line.phase is Phase.CONFIRMED and line.total == 0 and line.row.generation == 0,
+            found.need(line.retailer == 0 and line.phase is Phase.CONFIRMED and line.total == 0
+                       and line.row.generation == 0,
                        "plan %d: row %d is new", held.seed, number)
 
 
@@ -212,7 +224,9 @@ def try_ended(found, held, line, after):
 
 
 def try_places(found, held, line, after):
-    """As many passengers in the same class on each train, from and to the same stations; those whom no line moves at their own seats."""
+    """As many passengers in the same class on each train, from and to the same stations; those whom no line moves at
+    their own seats.
+    """
     ones, others = held.parts(held.old, line), held.parts(held.new, after)
     name = offers.write_booking_id(line.row)
     if not found.need(len(ones) == len(others), "plan %d: %s has other trains", held.seed, name):
@@ -229,7 +243,8 @@ def try_places(found, held, line, after):
         for place, new_place in zip(places, new_places):
             by = held.change.replaced.get((run, place.coach))
             fine = new_place.coach in by if by else seat_of(place) == seat_of(new_place)
-            found.need(fine, "plan %d: %s sat at %s, and sits at %s", held.seed, name, seat_of(place), seat_of(new_place))
+            found.need(fine, "plan %d: %s sat at %s, and sits at %s", held.seed, name, seat_of(place),
+                       seat_of(new_place))
     try_connections(found, held, name, list(ones), list(others.items()))
 
 
@@ -252,14 +267,16 @@ def try_money(found, held):
     for retailer in set(before) | set(after) | set(owed):
         sold, refunded, exchanged = before.get(retailer, (0, 0, 0))
         wanted = (sold, refunded + owed.get(retailer, 0), exchanged)
-        found.need(after.get(retailer) == wanted, "plan %d: retailer %d has %s, not %s", held.seed, retailer, after.get(retailer), wanted)
+        found.need(after.get(retailer) == wanted, "plan %d: retailer %d has %s, not %s", held.seed, retailer,
+                   after.get(retailer), wanted)
 
 
 def try_shut(found, held):
     """Nobody can be sold a place that is shut, and no search tells a train that is."""
     places = [place for place in held.new.places if place.run in held.change.cancelled + held.change.closed]
     for run, coach, first, last in held.change.blocked:
-        places += [place for place in held.new.places if (place.run, place.coach) == (run, coach) and first <= place.label <= last]
+        places += [place for place in held.new.places if (place.run, place.coach) == (run, coach)
+                   and first <= place.label <= last]
     taken = {}
     for line in held.after.values():
         for item in line.items if line.is_live() else []:
@@ -270,7 +287,9 @@ def try_shut(found, held):
 
 
 def try_records(found, held):
-    """A record says what became of a booking, and where its passengers sit now; who is moved, reseated or ended has one."""
+    """A record says what became of a booking, and where its passengers sit now; who is moved, reseated or ended has
+    one.
+    """
     told = {}
     for record in held.records:
         row = offers.read_booking_id(record["booking"])
@@ -279,7 +298,8 @@ def try_records(found, held):
         told.setdefault(row.number, {})[record["run"]] = record["became"]
         ends, _, places = held.parts(held.old, line)[record["run"]]
         names = " ".join("%d/%d" % (place.coach, place.label) for place in places)
-        found.need((record["from"], record["to"]) == ends and record["places"] == names and record["retailer"] == line.retailer
+        found.need((record["from"], record["to"]) == ends and record["places"] == names
+                   and record["retailer"] == line.retailer
                    and record["status"] == line.phase.value, "plan %d: a record says %s", held.seed, record)
         if record["new_run"] != "":
             new = " ".join("%d/%d" % (place.coach, place.label) for place in parts[record["new_run"]][2])
@@ -296,14 +316,18 @@ def try_records(found, held):
                 found.need(became in ("moved", "reseated", "same numbers", "refunded", "released"),
                            "plan %d: row %d is told as %s", held.seed, number, became)
             elif run in held.change.cancelled:
-                found.need(became == "no place", "plan %d: row %d is left on a cancelled train as %s", held.seed, number, became)
+                found.need(became == "no place", "plan %d: row %d is left on a cancelled train as %s", held.seed,
+                           number, became)
                 try_no_place(found, held, after, run)
 
 
 def try_no_place(found, held, booking, run):
-    """For whom there is no place there is none: on no train of the line enough of the class are free, in time for the others."""
+    """For whom there is no place there is none: on no train of the line enough of the class are free, in time for the
+    others.
+    """
     parts = list(held.parts(held.new, booking).items())
-    if sum(number in held.change.cancelled for number, _ in parts) > 1 or {n for n, _ in parts} & set(held.change.closed):
+    if sum(number in held.change.cancelled for number, _ in parts) > 1 or {n for n,
+                                                                           _ in parts} & set(held.change.closed):
         return
     at = [number for number, _ in parts].index(run)
     (start, end), _, places = parts[at][1]
@@ -337,7 +361,8 @@ def try_comfort(found, held):
         better = [n for n in range(shape, new_shape) if has_shape([held.new.places[p] for p in free], len(places), n)]
         found.need(not better, "plan %d: %s sits %d and could sit %s", held.seed, record["booking"], new_shape, better)
         lacks = any(place.traits & common != common for place in places)
-        found.need(not (lacks and max(shape, new_shape) == new_shape and has_shape([held.new.places[p] for p in free], len(places), new_shape)),
+        found.need(not (lacks and max(shape, new_shape) == new_shape
+                        and has_shape([held.new.places[p] for p in free], len(places), new_shape)),
                    "plan %d: %s lacks a trait that is free: %s", held.seed, record["booking"], record)
 
 
@@ -363,25 +388,30 @@ def has_shape(places, count, shape):
 
 
 def try_host(found, program, held, folder, rng):
-    """The host begins with the result, gives it back as it is, finds no train that is shut, and sells no place of it."""
+    """The host begins with the result, gives it back as it is, finds no train that is shut, and sells no place of it.
+    """
     said = kit.host(program, "export", folder / "new.json", "--from", folder / "new.export")
     found.need(said == (0, (folder / "new.export").read_bytes(), ""), "plan %d: the host says %s", held.seed, said[2])
     shut = held.change.cancelled + held.change.closed
     if not shut or rng.random() < 0.7:
         return 0
-    hidden = [number for number in shut if moments.write_moment(held.new.runs[number].stops[0].depart)[:10] in (CANCELLED, CLOSED)]
+    hidden = [number for number in shut
+              if moments.write_moment(held.new.runs[number].stops[0].depart)[:10] in (CANCELLED, CLOSED)]
     asked = []
     for number in shut:
         codes = [stop.station for stop in held.new.runs[number].stops]
         wish = {"adults": 1, "origin": codes[0], "destination": codes[-1], "earliest": moments.write_moment(held.now)}
-        asked += [kit.request("POST", "/offers", "north", dict(wish, **{"class": kind})) for kind in ("FIRST", "SECOND")]
-        asked += [kit.request("POST", "/reservations", "north", {"run": number, "class": kind, "from": codes[0], "to": codes[1]})
+        asked += [kit.request("POST", "/offers", "north", dict(wish, **{"class": kind}))
+                  for kind in ("FIRST", "SECOND")]
+        asked += [kit.request("POST", "/reservations", "north",
+                              {"run": number, "class": kind, "from": codes[0], "to": codes[1]})
                   for kind in ("FIRST", "SECOND")]
     status, text, _ = kit.host(program, "replay", folder / "new.json", "--from", folder / "new.export",
                                "--start", moments.write_moment(held.now), data=b"".join(asked))
     for number, body in kit.answers(text):
         offered = {segment["run"] for offer in body.get("offers", []) for segment in offer["segments"]}
-        found.need(number in (200, 409) and not offered & set(hidden), "plan %d: the host answers %d %s", held.seed, number, body)
+        found.need(number in (200, 409) and not offered & set(hidden), "plan %d: the host answers %d %s", held.seed,
+                   number, body)
         found.need(number == 200 or body["code"] == "NoPlace", "plan %d: the host answers %s", held.seed, body)
     found.need(status == 0, "plan %d: the host ends with %d", held.seed, status)
     return 1
@@ -423,7 +453,8 @@ def try_seed(found, program, seed, counts):
         return
     if without:
         counts["without"] = counts.get("without", 0) + 1
-        found.need(all(group.part.run.number not in change.refunded for group in without), "plan %d: not refunded", seed)
+        found.need(all(group.part.run.number not in change.refunded for group in without), "plan %d: not refunded",
+                   seed)
         return
     held = Held(seed, change, seller, model, export.read_export(model, text), records, now)
     for check in (try_lines, try_money, try_shut, try_records, try_comfort):
@@ -446,7 +477,8 @@ def try_files(found, seed, folder, data, sold, plan, text, now):
     for name, content in (("old.json", data), ("old.export", sold), ("plan", plan.encode())):
         (folder / name).write_bytes(content)
     files = [folder / name for name in ("old.json", "new.json", "old.export", "plan")]
-    status, said, notes = kit.run_tool("amend", *files, "--now", moments.write_moment(now), "--affected", folder / "affected.csv")
+    status, said, notes = kit.run_tool("amend", *files, "--now", moments.write_moment(now), "--affected",
+                                       folder / "affected.csv")
     found.need(status == 0 and said.encode() == text, "plan %d by files: status %d, %s", seed, status, notes)
     with open(folder / "affected.csv", newline="") as file:
         found.need(next(csv.reader(file)) == kit.tool("amend").COLUMNS, "plan %d: affected.csv has other columns", seed)
@@ -456,8 +488,10 @@ def faults(program):
     found, counts = kit.Faults(), {}
     for seed in range(SEEDS):
         try_seed(found, program, seed, counts)
-    for what, least in (("moved", 100), ("reseated", 40), ("same numbers", 40), ("refunded", 100), ("released", 10), ("no place", 40),
+    for what, least in (("moved", 100), ("reseated", 40), ("same numbers", 40), ("refunded", 100), ("released", 10),
+                        ("no place", 40),
                         ("stays", 100), ("without", 5), ("searched", 30), ("connection lost", 1)):
         found.need(counts.get(what, 0) >= least, "of %d plans only %d came to %s", SEEDS, counts.get(what, 0), what)
-    found.need(counts.get("without", 0) + counts.get("no rows", 0) < SEEDS // 4, "too many plans without a result: %s", counts)
+    found.need(counts.get("without", 0) + counts.get("no rows", 0) < SEEDS // 4, "too many plans without a result: %s",
+               counts)
     return found

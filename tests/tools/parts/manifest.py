@@ -1,4 +1,6 @@
-"""tools/manifest on countries of chance: who sits where against the host's list of places for every stretch, and the page's counts against the rules."""
+"""tools/manifest on countries of chance: who sits where against the host's list of places for every stretch, and the
+page's counts against the rules.
+"""
 import csv
 import io
 import json
@@ -34,10 +36,12 @@ def wanted_lines(seller, run):
         for item in reservations(booking.items) if booking.is_live() else []:
             place = seller.catalogue.places[item.place]
             if place.run == run.number:
-                who = ["", "", "BLOCKED"] if booking.retailer == 0 else [write_booking_id(booking.row), str(booking.retailer),
+                who = ["", "", "BLOCKED"] if booking.retailer == 0 else [write_booking_id(booking.row),
+                                                                         str(booking.retailer),
                                                                          booking.phase.value]
                 traits = " ".join(trait for number, trait in enumerate(countries.TRAITS) if place.traits >> number & 1)
-                lines.append((item.place, item.span.start, [str(place.coach), str(place.label), place.travel_class.value, traits,
+                lines.append((item.place, item.span.start,
+                              [str(place.coach), str(place.label), place.travel_class.value, traits,
                                                             codes[item.span.start], codes[item.span.end]] + who))
     return [fields for _, _, fields in sorted(lines)]
 
@@ -90,7 +94,8 @@ def try_page(found, seed, run, page, lines, lists):
         mine = [line for line in riders if line[2] == kind]
         wanted = [len({line[6] for line in mine}), len(mine)]
         wanted += [sum(line[8] == state for line in mine) for state in ("PREBOOKED", "CONFIRMED", "FULFILLED")]
-        found.need([int(number) for number in numbers[1:]] == wanted, "manifest %d: totals %s, not %s", seed, row, wanted)
+        found.need([int(number) for number in numbers[1:]] == wanted, "manifest %d: totals %s, not %s", seed, row,
+                   wanted)
     told = [row.split() for name, rows in tables.items() if name.startswith("Coach ") for row in rows[1:]]
     wanted = sorted([line[1], line[2], line[4], line[5]] + [line[6]] * (line[6] != "") + [line[8]] for line in lines)
     found.need(sorted(told) == wanted, "manifest %d: the page's coaches say %s", seed, sorted(told))
@@ -101,7 +106,8 @@ def try_run(found, program, seed, folder, seller, run):
     mine = catalogue.runs[run.number]
     sittings = tool.sittings_of(mine, bookings)
     lines = list(csv.reader(io.StringIO(tool.csv_text(mine, sittings))))
-    found.need(lines[0] == tool.COLUMNS and lines[1:] == wanted_lines(seller, run), "manifest %d: lines %s", seed, lines)
+    found.need(lines[0] == tool.COLUMNS and lines[1:] == wanted_lines(seller, run), "manifest %d: lines %s", seed,
+               lines)
     stretches = stretches_of(run, 30)
     asked = b"".join(kit.request("GET", "/runs/%d/places/%s/%s" % (run.number, a, b), "north") for a, b in stretches)
     status, said, notes = kit.host(program, "replay", folder / "k.json", "--from", folder / "k.export", data=asked)
@@ -110,7 +116,8 @@ def try_run(found, program, seed, folder, seller, run):
     for (origin, destination), places in lists.items():
         seats = [(place["coach"], place["place"]) for place in places]
         free = free_by_lines(run, seats, lines[1:], origin, destination)
-        found.need(free == [place["free"] for place in places], "manifest %d: run %d from %s to %s", seed, run.number, origin, destination)
+        found.need(free == [place["free"] for place in places], "manifest %d: run %d from %s to %s", seed, run.number,
+                   origin, destination)
     try_page(found, seed, run, tool.page_text(mine, sittings), lines[1:], lists)
     return len(lists), len(lines) - 1
 
@@ -142,7 +149,9 @@ def faults(program):
 def try_words(found, folder):
     good, csv_of = (folder / "k.json", folder / "k.export"), json.loads((folder / "k.json").read_text())["runs"]
     for words, wanted, note in [((*good, "--run", 0), 0, ""), ((*good, "--run", 0, "--csv"), 0, ""), (good, 2, "--run"),
-                                ((*good, "--run", len(csv_of)), 3, "there is no run"), ((*good, "--run", -1), 3, "there is no run"),
+                                ((*good, "--run", len(csv_of)), 3, "there is no run"),
+                                ((*good, "--run", -1), 3, "there is no run"),
                                 ((good[0], good[0], "--run", 0), 3, "export fault 1"), (("--help",), 0, "")]:
         status, said, notes = kit.run_tool("manifest", *words)
-        found.need(status == wanted and note in notes and bool(said) == (wanted == 0), "manifest %s: %d %s", words, status, notes)
+        found.need(status == wanted and note in notes and bool(said) == (wanted == 0), "manifest %s: %d %s", words,
+                   status, notes)

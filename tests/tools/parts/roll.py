@@ -1,4 +1,6 @@
-"""tools/roll through a month of thirty days, with sales over each change, twice: with rows for all of it, and with rows that have to serve again."""
+"""tools/roll through a month of thirty days, with sales over each change, twice: with rows for all of it, and with rows
+that have to serve again.
+"""
 import copy
 import csv
 import io
@@ -19,23 +21,32 @@ DAYS, HORIZON, DAY = 30, 3, countries.DAY
 MIDNIGHT = countries.START - 6 * 3_600
 # When the day changes: after the last trains of the evening, while the night train is on its way.
 CHANGE = 2 * 3_600
+# It has left its last stop but one more than 900 seconds before the change, and has not arrived.
+LONG_ON_ITS_WAY = 107
 
 
 class Timetable:
-    """The same trains each day, on two layouts: some by day, one that departs just before the change, and one over it."""
+    """The same trains each day, on two layouts: some by day, one that departs just before the change, and one over it.
+    """
 
     def __init__(self, rng, rows):
         self.rng, self.rows = rng, rows
         self.codes = ["S%d" % number for number in range(4)]
         layouts = [[{"coach": 1, "class": "FIRST", "places": [{"first": 1, "last": 3}]},
                     {"coach": 2, "class": "SECOND", "places": [{"first": 11, "last": 18, "traits": ["WINDOW"]}]}],
-                   [{"coach": 5, "class": "SECOND", "places": [{"first": 1, "last": 6}, {"first": 8, "last": 9, "traits": ["QUIET"]}]}]]
-        hours = [7 * 60, 12 * 60, 18 * 60, 23 * 60 + 30, 24 * 60 + 90, 24 * 60 + 110, 24 * 60 + 117]
-        self.trains = [(100 + at, minutes, layouts[at % 2], self.codes if at % 3 else self.codes[::-1]) for at, minutes in enumerate(hours)]
+                   [{"coach": 5, "class": "SECOND",
+                     "places": [{"first": 1, "last": 6}, {"first": 8, "last": 9, "traits": ["QUIET"]}]}]]
+        hours = [7 * 60, 12 * 60, 18 * 60, 23 * 60 + 30, 24 * 60 + 90, 24 * 60 + 110, 24 * 60 + 117, 24 * 60 + 60]
+        self.trains = [(100 + at, minutes, layouts[at % 2], self.codes if at % 3 else self.codes[::-1]) for at,
+                       minutes in enumerate(hours)]
 
     def run(self, day, train, minutes, coaches, codes):
         rng = random.Random(train)
-        return countries.run(rng, train, codes, MIDNIGHT + day * DAY + minutes * 60, copy.deepcopy(coaches))
+        run = countries.run(rng, train, codes, MIDNIGHT + day * DAY + minutes * 60, copy.deepcopy(coaches))
+        if train == LONG_ON_ITS_WAY:
+            last = run["stops"][-1]
+            last["arrive"] = moments.write_moment(moments.read_moment(last["arrive"]) + 3_000)
+        return run
 
     def catalogue(self, day):
         """The days to come from this one on, as a catalogue."""
@@ -50,7 +61,8 @@ class Timetable:
 
 def trains_of(catalogue, code):
     """The trains of an offer, whatever their numbers."""
-    return [(catalogue.runs[s.run].train, catalogue.runs[s.run].stops[0].depart, offers.origin(catalogue, s), offers.destination(catalogue, s))
+    return [(catalogue.runs[s.run].train, catalogue.runs[s.run].stops[0].depart, offers.origin(catalogue, s),
+             offers.destination(catalogue, s))
             for s in code.segments]
 
 
@@ -99,7 +111,8 @@ class Month:
                 pass
 
     def offers_before(self, now):
-        """What a search of the last 900 seconds may have told, also of the train that departs last before the change."""
+        """What a search of the last 900 seconds may have told, also of the train that departs last before the change.
+        """
         found = []
         for made in (now - 900, now - 880, now - 180, now - 1):
             found += [offer for offer in (self.seller.offer(made) for _ in range(12)) if offer]
@@ -115,7 +128,8 @@ class Month:
                            ("coming.json", json.dumps(self.timetable.catalogue(day + 1)).encode())):
             (self.folder / name).write_bytes(text)
         words = [self.folder / name for name in ("old.json", "coming.json", "old.export")]
-        words += ["--catalogue", self.folder / "new.json", "--archive", self.folder / "archive.csv", "--now", moments.write_moment(now)]
+        words += ["--catalogue", self.folder / "new.json", "--archive", self.folder / "archive.csv", "--now",
+                  moments.write_moment(now)]
         status, said, notes = kit.run_tool("roll", *words)
         if not self.found.need(status == 0, "day %d: status %d, %s", day, status, notes):
             raise SystemExit("\n".join(self.found))
@@ -134,7 +148,9 @@ class Month:
         self.try_missing(day, notes, lines)
 
     def try_change(self, day, now, old, new, lines, kept):
-        """No booking is kept that is of runs that are over alone; all others are as they were, on the same train and places."""
+        """No booking is kept that is of runs that are over alone; all others are as they were, on the same train and
+        places.
+        """
         after = {line.row.number: line for line in kept}
         self.found.need(set(after) == {line.row.number for line in lines}, "day %d: other rows have lines", day)
         for line in lines:
@@ -142,14 +158,19 @@ class Month:
             self.found.need(now_so.row == line.row, "day %d: row %s is %s", day, line.row, now_so.row)
             over = all(is_over(old.runs[old.places[item.place].run], now) for item in line.items)
             if over and line.retailer:
-                self.found.need(now_so.retailer == 0 and now_so.phase is Phase.RELEASED, "day %d: %s is kept", day, line.row)
+                self.found.need(now_so.retailer == 0 and now_so.phase is Phase.RELEASED, "day %d: %s is kept", day,
+                                line.row)
             elif line.retailer:
-                same = (now_so.retailer, now_so.phase, now_so.total, now_so.limit) == (line.retailer, line.phase, line.total, line.limit)
-                self.found.need(same and places_of(old, line) == places_of(new, now_so), "day %d: %s is another booking", day, line.row)
+                same = (now_so.retailer, now_so.phase, now_so.total, now_so.limit) == (line.retailer, line.phase,
+                                                                                       line.total, line.limit)
+                self.found.need(same and places_of(old, line) == places_of(new, now_so),
+                                "day %d: %s is another booking", day, line.row)
         wanted = {(run["train"], run["stops"][0]["depart"]) for run in self.timetable.catalogue(day + 1)["runs"]}
         there = [(run.train, moments.write_moment(run.stops[0].depart)) for run in new.runs]
-        self.found.need(wanted <= set(there) and len(set(there)) == len(there), "day %d: runs to come are missing, or stand twice", day)
-        self.found.need(len(new.runs) <= (HORIZON + 2) * len(self.timetable.trains), "day %d: %d slots are used", day, len(new.runs))
+        self.found.need(wanted <= set(there) and len(set(there)) == len(there),
+                        "day %d: runs to come are missing, or stand twice", day)
+        self.found.need(len(new.runs) <= (HORIZON + 2) * len(self.timetable.trains), "day %d: %d slots are used", day,
+                        len(new.runs))
 
     def try_offers(self, day, now, old, new, told):
         """An offer of before the change is of the same trains after it, or is refused."""
@@ -158,7 +179,8 @@ class Month:
             if later - code.made > 900 or not offers.is_offered(old, code):
                 continue
             if offers.is_offered(new, code):
-                self.found.need(trains_of(old, code) == trains_of(new, code), "day %d: an offer is of another train", day)
+                self.found.need(trains_of(old, code) == trains_of(new, code), "day %d: an offer is of another train",
+                                day)
                 self.over_change += 1
             else:
                 self.found.need(False, "day %d: an offer is lost", day)
@@ -167,14 +189,18 @@ class Month:
         """What roll says of bookings that came to no archive is what is known of."""
         archived = set(archive_of(self.folder))
         present = {line.row.number: line.row.generation for line in lines}
-        gone = [row for row in self.ledger if row.generation < present.get(row.number, 0) and offers.write_booking_id(row) not in archived]
-        unused = sum(generation for generation in present.values()) - sum(row.generation < present.get(row.number, 0) for row in self.ledger)
+        gone = [row for row in self.ledger if row.generation < present.get(row.number, 0)
+                and offers.write_booking_id(row) not in archived]
+        unused = sum(generation for generation in present.values()) - sum(row.generation < present.get(row.number, 0)
+                                                                          for row in self.ledger)
         self.told = int(notes.split(" ended bookings gave")[0].split()[-1]) if " ended bookings gave" in notes else 0
-        self.found.need(len(gone) <= self.told <= len(gone) + unused, "day %d: roll misses %d, and %d are gone", day, self.told, len(gone))
+        self.found.need(len(gone) <= self.told <= len(gone) + unused, "day %d: roll misses %d, and %d are gone", day,
+                        self.told, len(gone))
 
     def gone(self):
         """The bookings that are neither in the archive nor in the last export."""
-        there = set(archive_of(self.folder)) | {offers.write_booking_id(b.row) for b in self.seller.books.bookings if b.retailer}
+        there = set(archive_of(self.folder)) | {offers.write_booking_id(b.row) for b in self.seller.books.bookings
+                                                if b.retailer}
         return [booking for row, booking in self.ledger.items() if offers.write_booking_id(row) not in there]
 
 
@@ -219,7 +245,8 @@ def try_month(found, program, seed, rows):
         wanted = countries.money(month.ledger.values())
         sums = together(table_of(settled.decode()), table_of(table[1]), countries.money(gone))
         found.need(sums == wanted, "archive and settlement have %s, and sold was %s", sums, wanted)
-        found.need(len(month.ledger) > 300 and month.over_change > 100, "%d bookings, %d offers over a change", len(month.ledger), month.over_change)
+        found.need(len(month.ledger) > 300 and month.over_change > 100, "%d bookings, %d offers over a change",
+                   len(month.ledger), month.over_change)
         found.need(min(total for total, _, _ in wanted.values()) > 10_000, "too little is sold: %s", wanted)
         return month.reused, len(gone)
 
@@ -227,7 +254,8 @@ def try_month(found, program, seed, rows):
 def faults(program):
     found = kit.Faults()
     reused, gone = try_month(found, program, 1, 5_000)
-    found.need(reused == 0 and gone == 0, "with rows for all %d were used again, and %d bookings are lost", reused, gone)
+    found.need(reused == 0 and gone == 0, "with rows for all %d were used again, and %d bookings are lost", reused,
+               gone)
     reused, _ = try_month(found, program, 2, 150)
     found.need(reused > 100, "with few rows %d were used again", reused)
     return found

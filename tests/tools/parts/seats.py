@@ -1,4 +1,6 @@
-"""tools/same-seats on pairs of catalogues of chance: which places are told, and what the host says of an export of the one with the other."""
+"""tools/same-seats on pairs of catalogues of chance: which places are told, and what the host says of an export of the
+one with the other.
+"""
 import copy
 import json
 import pathlib
@@ -147,7 +149,8 @@ def try_files(found, program, seed, data, changed, seller, lines):
             (folder / file).write_bytes(text)
         status, said, notes = kit.run_tool("same-seats", folder / "old", folder / "new")
         found.need(status == (1 if lines else 0) and not notes, "pair %d: status %d, %s", seed, status, notes)
-        found.need("north" not in said and "changed: retailer 1: another key\n" in said, "pair %d: keys: %s", seed, said)
+        found.need("north" not in said and "changed: retailer 1: another key\n" in said, "pair %d: keys: %s", seed,
+                   said)
         if lines:
             return 0
         taken = kit.host(program, "replay", folder / "new", "--from", folder / "export")

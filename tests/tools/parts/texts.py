@@ -64,16 +64,19 @@ def try_catalogues(found, count):
 
 
 def try_contents(found, seed, said, wanted):
-    places = [(run.number, seat.coach, seat.number, seat.kind, sum(1 << rail_texts.TRAITS.index(t) for t in seat.traits))
+    places = [(run.number, seat.coach, seat.number, seat.kind,
+               sum(1 << rail_texts.TRAITS.index(t) for t in seat.traits))
               for run in said.runs for seat in run.seats]
     found.need(places == [(p.run, p.coach, p.label, p.travel_class.value, p.traits) for p in wanted.places],
                "catalogue %d: other places", seed)
     stops = [[(s.station, s.arrive.seconds, s.depart.seconds) for s in run.stops] for run in said.runs]
     found.need(stops == [[(s.station, s.arrive, s.depart) for s in run.stops] for run in wanted.runs],
                "catalogue %d: other stops", seed)
-    found.need(all(said.run_of(p.number).number == p.run for p in wanted.places), "catalogue %d: places of other runs", seed)
+    found.need(all(said.run_of(p.number).number == p.run for p in wanted.places), "catalogue %d: places of other runs",
+               seed)
     terms = ([tuple(step) for step in said.steps], said.ticket_fee, said.exchange_fee, said.confirm_seconds, said.rows)
-    found.need(terms == ([(s.before, s.fee) for s in wanted.terms.steps], wanted.terms.ticket_fee, wanted.terms.exchange_fee,
+    found.need(terms == ([(s.before, s.fee) for s in wanted.terms.steps], wanted.terms.ticket_fee,
+                         wanted.terms.exchange_fee,
                          wanted.terms.confirm_seconds, wanted.rows), "catalogue %d: other terms", seed)
     again = rail_texts.read_catalogue(rail_texts.write_catalogue(said.tree).encode())
     found.need(again.tree == said.tree and again.places == said.places, "catalogue %d: written otherwise", seed)
@@ -88,7 +91,8 @@ def try_exports(found, count):
         pieces = random_requests.random_pieces(rng, model, start, tick)
         text, _ = random_exports.export_of(model, b"".join(pieces), start, tick)
         for tried in [text] + [random_exports.changed_export(rng, text) for _ in range(3)]:
-            mine, wanted = first_fault(rail_texts.read_export, said, tried), model_fault(export.read_export, model, tried)
+            mine, wanted = first_fault(rail_texts.read_export, said, tried), model_fault(export.read_export, model,
+                                                                                         tried)
             found.need(mine == wanted, "export %d: %s, the model says %s: %r", seed, mine, wanted, tried)
             if mine is None:
                 read = rail_texts.read_export(said, tried)
