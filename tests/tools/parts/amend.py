@@ -344,26 +344,41 @@ def try_no_place(found, held, booking, run):
 
 
 def try_comfort(found, held):
-    """Who was moved sits no farther apart, and lacks no trait, than what is free on that train would have allowed."""
-    if held.change.refunded:
-        return
+    """Who was moved or seated anew sits no farther apart, and lacks no trait, than what is free would have allowed.
+
+    What is free in the end was free before, where nobody was ended.
+    """
+    if any(record["became"] in ("refunded", "released") for record in held.records):
+        return 0
+    told = 0
     for record in held.records:
-        if record["became"] != "moved":
-            continue
         row = offers.read_booking_id(record["booking"])
         _, _, before = held.parts(held.old, held.before[row.number])[record["run"]]
+        coaches = {place.coach for place in before}
+        if record["became"] not in ("moved", "reseated") or record["became"] == "reseated" and len(coaches) > 1:
+            continue
         _, span, places = held.parts(held.new, held.after[row.number])[record["new_run"]]
-        common = ~0
-        for place in before:
-            common &= place.traits
-        free = held.books.free_candidates(offers.Segment(record["new_run"], span), places[0].travel_class, common)
-        shape, new_shape = closeness(before), closeness(places)
-        better = [n for n in range(shape, new_shape) if has_shape([held.new.places[p] for p in free], len(places), n)]
-        found.need(not better, "plan %d: %s sits %d and could sit %s", held.seed, record["booking"], new_shape, better)
-        lacks = any(place.traits & common != common for place in places)
-        found.need(not (lacks and max(shape, new_shape) == new_shape
-                        and has_shape([held.new.places[p] for p in free], len(places), new_shape)),
-                   "plan %d: %s lacks a trait that is free: %s", held.seed, record["booking"], record)
+        free = held.books.free_candidates(offers.Segment(record["new_run"], span), places[0].travel_class, 0)
+        free = sorted({held.new.places[number] for number in free} | set(places), key=lambda place: place.number)
+        if record["became"] == "reseated":
+            free = [place for place in free if place.coach in held.change.replaced[record["run"], before[0].coach]]
+        try_closeness(found, held, record, before, places, free)
+        told += len(places) > 1
+    return told
+
+
+def try_closeness(found, held, record, before, places, free):
+    """`free` are the places that the group could have had, its own among them."""
+    common = ~0
+    for place in before:
+        common &= place.traits
+    wished = [place for place in free if place.traits & common == common]
+    shape, new_shape = closeness(before), closeness(places)
+    better = [closer for closer in range(shape, new_shape) if has_shape(free, len(places), closer)]
+    found.need(not better, "plan %d: %s sits %d and could sit %s", held.seed, record["booking"], new_shape, better)
+    lacks = any(place.traits & common != common for place in places)
+    found.need(not (lacks and has_shape(wished, len(places), max(shape, new_shape))),
+               "plan %d: %s lacks a trait that is free: %s", held.seed, record["booking"], record)
 
 
 def closeness(places):
@@ -457,8 +472,9 @@ def try_seed(found, program, seed, counts):
                    seed)
         return
     held = Held(seed, change, seller, model, export.read_export(model, text), records, now)
-    for check in (try_lines, try_money, try_shut, try_records, try_comfort):
+    for check in (try_lines, try_money, try_shut, try_records):
         check(found, held)
+    counts["groups"] = counts.get("groups", 0) + try_comfort(found, held)
     again, records, _ = amended(tool, new, rail_texts.read_export(new, text), new, plan, now)
     found.need(again == text, "plan %d: a second time it changes something", seed)
     found.need(not sum(record[-1] for record in records), "plan %d: a second time it owes something", seed)
@@ -490,7 +506,7 @@ def faults(program):
         try_seed(found, program, seed, counts)
     for what, least in (("moved", 100), ("reseated", 40), ("same numbers", 40), ("refunded", 100), ("released", 10),
                         ("no place", 40),
-                        ("stays", 100), ("without", 5), ("searched", 30), ("connection lost", 1)):
+                        ("stays", 100), ("without", 5), ("searched", 30), ("connection lost", 1), ("groups", 40)):
         found.need(counts.get(what, 0) >= least, "of %d plans only %d came to %s", SEEDS, counts.get(what, 0), what)
     found.need(counts.get("without", 0) + counts.get("no rows", 0) < SEEDS // 4, "too many plans without a result: %s",
                counts)

@@ -19,8 +19,8 @@ TWO_SEATS = (
 )
 # The plan, what is another text in NEW, the status, and what is said.
 CASES = [
-    ("", (), 0, "0 bookings are touched"),
-    ("# nothing\n\n   \n", (), 0, "0 bookings are touched"),
+    ("", (), 0, "bookings touched: 0; owed: 0.00 EUR"),
+    ("# nothing\n\n   \n", (), 0, "bookings touched: 0; owed: 0.00 EUR"),
     ("cancle run 0", (), 3, 'plan line 1: "cancle run 0" is no line of a plan. Lines are: cancel run N;'),
     ("\ncancel run\nclose run x", (), 3, 'plan line 3: "close run x" is no line'),
     ("block places 12-11 of coach 2 of run 0", (), 3, "plan line 1: the last place is before the first"),
@@ -53,8 +53,8 @@ CASES = [
      "coach 2 seat 11 is SECOND WINDOW in OLD and SECOND QUIET in NEW"),
     ("", ('"first":15,"last":18', '"first":15,"last":17'), 1,
      "run 0: coach 2 seat 18 is SECOND AISLE in OLD and not there in NEW"),
-    ("", ('"first":15,"last":18', '"first":15,"last":19'), 0, "0 bookings are touched"),
-    ("", ('"currency":"EUR"', '"currency":"EUR","rows":1'), 0, "0 bookings are touched"),
+    ("", ('"first":15,"last":18', '"first":15,"last":19'), 0, "bookings touched: 0; owed: 0.00 EUR"),
+    ("", ('"currency":"EUR"', '"currency":"EUR","rows":1'), 0, "bookings touched: 0; owed: 0.00 EUR"),
     ("block places 15-16 of coach 2 of run 0", ('"currency":"EUR"', '"currency":"EUR","rows":1'), 1,
      "NEW has too few rows for what is blocked: 1 more are needed"),
     ("block places 15-26 of coach 2 of run 0", (), 1, "coach 2 of run 0 has no places 15 to 26 in NEW"),
@@ -69,7 +69,7 @@ CASES = [
     ("replace coach 2 of run 0 by 2", ('"coach":2,"class":"SECOND"', '"coach":2,"class":"FIRST"'), 1,
      "booking B000000 has no place in run 0"),
     ("replace coach 2 of run 0 by 2\nrefund run 0", ('"coach":2,"class":"SECOND"', '"coach":2,"class":"FIRST"'), 0,
-     "owed are 42.50 EUR"),
+     "owed: 42.50 EUR"),
 ]
 
 

@@ -193,7 +193,7 @@ class Month:
                 and offers.write_booking_id(row) not in archived]
         unused = sum(generation for generation in present.values()) - sum(row.generation < present.get(row.number, 0)
                                                                           for row in self.ledger)
-        self.told = int(notes.split(" ended bookings gave")[0].split()[-1]) if " ended bookings gave" in notes else 0
+        self.told = int(notes.split("came to the archive: ")[1].split(";")[0]) if "came to the archive: " in notes else 0
         self.found.need(len(gone) <= self.told <= len(gone) + unused, "day %d: roll misses %d, and %d are gone", day,
                         self.told, len(gone))
 
