@@ -63,7 +63,7 @@ def country(rng: random.Random, runs: int = None) -> dict:
     return {
         "currency": "EUR", "rows": rng.choice([40, 60, 400]), "confirmSeconds": 900,
         "retailers": [{"number": number, "key": key} for number, key in KEYS],
-        "stations": [{"code": code, "change": rng.choice([60, 300, 600])} for code in codes],
+        "stations": [{"code": code, "change": rng.choice([60, 900, 2_400])} for code in codes],
         "refundSteps": [{"before": before, "fee": fee} for before, fee in rng.choice(STEPS)],
         "ticketFee": rng.choice([0, 500]), "exchangeFee": rng.choice([0, 300]), "runs": made,
     }

@@ -182,6 +182,41 @@ def try_seen(found, program, folder, text):
                    plan, came, notes)
 
 
+# A train that is put on: from and to with its times, which of the two trains of a booking is cancelled, and what
+# becomes of it. At BERN a change takes 300 seconds; train 501 arrives there at 09:00 and train 812 departs at 09:10.
+# Nobody waits for more than four hours.
+PUT_ON = [
+    ("BERN 09:05 THUN 09:40", 1, "moved"),
+    ("BERN 09:04 THUN 09:40", 1, "no place"),
+    ("BERN 13:00 THUN 13:30", 1, "moved"),
+    ("BERN 13:01 THUN 13:30", 1, "no place"),
+    ("BASEL 08:10 BERN 09:05", 0, "moved"),
+    ("BASEL 08:10 BERN 09:06", 0, "no place"),
+    ("BASEL 04:50 BERN 05:30", 0, "no place"),
+    ("BASEL 06:04 BERN 06:30", 0, "no place"),
+    ("BASEL 06:05 BERN 06:30", 0, "moved"),
+    ("BASEL 08:10 OLTEN 09:00", 0, "no place"),
+]
+
+
+def try_put_on(found, folder, text):
+    """Time for the change to the other train is kept, to the minute; and no train is taken that has left by now, 06:05.
+    """
+    for train, cancelled, wanted in PUT_ON:
+        origin, departs, destination, arrives = train.split()
+        tree = json.loads(text)
+        stops = [{"station": origin, "depart": "2026-06-01T%s:00Z" % departs},
+                 {"station": destination, "arrive": "2026-06-01T%s:00Z" % arrives}]
+        tree["runs"].append(dict(tree["runs"][1 if cancelled else 0], train=900, stops=stops))
+        (folder / "more.json").write_text(json.dumps(tree))
+        (folder / "plan").write_text("cancel run %d\nmove run %d to 2\n" % (cancelled, cancelled))
+        _, changed, _ = kit.run_tool("amend", "--catalogue", folder / "more.json", folder / "plan")
+        (folder / "new.json").write_text(changed)
+        files = [folder / name for name in ("old.json", "new.json", "old.export", "plan")]
+        status, _, notes = kit.run_tool("amend", *files, "--now", NOW, "--affected", folder / "affected.csv")
+        found.need(status == 0 and "1 %s\n" % wanted in notes, "with a train %s: status %d, %s", train, status, notes)
+
+
 def faults(program):
     found = kit.Faults()
     text = (kit.ROOT / "examples" / "k1.json").read_text()
@@ -196,6 +231,7 @@ def faults(program):
         try_catalogue(found, folder, text)
         try_open(found, program, folder, text)
         try_seen(found, program, folder, text)
+        try_put_on(found, folder, text)
     for words, wanted in ((("--help",), 0), (("a",), 2), (("a", "b", "c", "d", "--now", "x"), 2),
                           (("/no", "/no", "/no", "/no"), 3)):
         status, _, notes = kit.run_tool("amend", *words)

@@ -7,6 +7,7 @@ import io
 import json
 import pathlib
 import random
+import re
 import tempfile
 
 import countries
@@ -191,9 +192,10 @@ class Month:
         present = {line.row.number: line.row.generation for line in lines}
         gone = [row for row in self.ledger if row.generation < present.get(row.number, 0)
                 and offers.write_booking_id(row) not in archived]
-        unused = sum(generation for generation in present.values()) - sum(row.generation < present.get(row.number, 0)
-                                                                          for row in self.ledger)
-        self.told = int(notes.split("came to the archive: ")[1].split(";")[0]) if "came to the archive: " in notes else 0
+        before = sum(row.generation < present.get(row.number, 0) for row in self.ledger)
+        unused = sum(present.values()) - before
+        told = re.search("came to the archive: ([0-9]+);", notes)
+        self.told = int(told.group(1)) if told else 0
         self.found.need(len(gone) <= self.told <= len(gone) + unused, "day %d: roll misses %d, and %d are gone", day,
                         self.told, len(gone))
 
