@@ -69,6 +69,14 @@ def another_way(rng, tree):
         stop["station"] = code
 
 
+def a_run_in_two(_rng, tree):
+    """The last coach runs as a train of its own, under the same number and at the same times."""
+    at, run = next(((at, run) for at, run in enumerate(tree["runs"]) if len(run["coaches"]) > 1), (0, tree["runs"][0]))
+    coaches = run["coaches"]
+    run["coaches"] = coaches[:1]
+    tree["runs"].insert(at + 1, dict(copy.deepcopy(run), coaches=coaches[1:] or coaches))
+
+
 def one_run_more(_rng, tree):
     tree["runs"].append(copy.deepcopy(tree["runs"][0]))
 
@@ -92,7 +100,7 @@ def what_may_change(rng, tree):
 
 
 CHANGES = [swap_runs, swap_coaches, swap_groups, move_seats, another_coach, another_class, other_traits, another_day,
-           a_train_renamed, another_way, one_run_more, fewer_rows]
+           a_train_renamed, another_way, a_run_in_two, one_run_more, fewer_rows]
 
 
 def seats_of(catalogue):

@@ -104,8 +104,59 @@ def try_exports(found, count):
     found.need(right > count and bookings > count, "only %d exports were right, with %d bookings", right, bookings)
 
 
+WORKED = """rail-export 1 18 65536
+row 0 0 x 1 1780294500 2200 1 0.0.2 m550 1780293600 2.0
+row 1 0 P 1 1780294500 3600 6 12.0.1 13.0.1 14.0.1 15.0.1 16.0.1 17.0.1
+row 2 0 C 1 1780294500 800 1 4.1.2
+end 3
+"""
+# What is changed in the worked export, and what it is refused for.
+EDITS = [
+    ("", "", None),
+    (" 2.0\n", " 0.0\n", "export fault 5 at row 0: it was exchanged for a booking of its own row"),
+    (" 4.1.2\n", " 12.0.1\n", "export fault 4: two live bookings overlap at place 12"),
+    ("end 3\n", "", "export fault 1 at line 5: this is no export, or it was cut off or changed by hand"),
+    ("end 3\n", "end 3", "export fault 1 at line 5: this is no export, or it was cut off or changed by hand"),
+    ("end 3\n", "end 3\n\n", "export fault 1 at line 6: this is no export, or it was cut off or changed by hand"),
+    ("end 3", "end 4", "export fault 1 at line 5: this is no export, or it was cut off or changed by hand"),
+    (" 65536\n", " 65535\n", "export fault 2: it is of 18 places and 65535 rows, and the catalogue has 18 and 65536"),
+    ("m550", "m0", "export fault 1 at line 2: this is no export, or it was cut off or changed by hand"),
+    ("row 1 0", "row 0 0", "export fault 1 at line 3: this is no export, or it was cut off or changed by hand"),
+    (" 4.1.2\n", " 4.1.3\n", "export fault 3 at row 2: its numbers can't be"),
+]
+
+
+def try_worked(found):
+    """The worked export of the definitions with one text changed, and items on both sides of the border between the
+    halves of a place.
+    """
+    catalogue = rail_texts.named(kit.ROOT / "examples" / "k1.json", rail_texts.read_catalogue)
+    for old, new, wanted in EDITS:
+        found.need(said_of(catalogue, WORKED.replace(old, new, 1)) == wanted, "%r for %r: %s", new, old,
+                   said_of(catalogue, WORKED.replace(old, new, 1)))
+    tree = kit.json.loads((kit.ROOT / "examples" / "k1.json").read_text())
+    tree["stations"] = [{"code": "S%d" % at} for at in range(127)]
+    del tree["runs"][1]
+    tree["runs"][0]["stops"] = [{"station": "S%d" % at, "arrive": kit.moment(60 * at), "depart": kit.moment(60 * at)}
+                                for at in range(127)]
+    catalogue = rail_texts.read_catalogue(kit.json.dumps(tree).encode())
+    for items, wanted in (("1 0.0.63", None), ("1 0.63.126", None), ("2 0.0.63 0.63.126", None),
+                          ("1 0.62.64", "export fault 3 at row 0: its numbers can't be")):
+        said = said_of(catalogue, "rail-export 1 12 65536\nrow 0 0 C 1 5 5 %s\nend 1\n" % items)
+        found.need(said == wanted, "the items %s: %s", items, said)
+
+
+def said_of(catalogue, text):
+    try:
+        rail_texts.read_export(catalogue, text.encode())
+    except rail_texts.Refusal as refusal:
+        return refusal.lines[0]
+    return None
+
+
 def faults(_program):
     found = kit.Faults()
+    try_worked(found)
     try_moments(found, 4_000)
     try_catalogues(found, 500)
     try_exports(found, 150)
