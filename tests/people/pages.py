@@ -62,6 +62,7 @@ OPERATION = [
     r"pool=unkept .*\n.*pool=retailer_1 .*\n.*pool=retailer_2 ",
     r'"id":"B000000".*"status":"PREBOOKED"',
     r'"id":"B000000".*"status":"CONFIRMED"',
+    r"closed: 502\n",
     r"end 1\n",
     r'"id":"B000000".*"status":"CONFIRMED"',
     r"the same bookings\nretailer,bookings,live,sold,refunded,exchanged\n1,1,1,1400,0,0\nforgotten,0,0,0,0,0",
