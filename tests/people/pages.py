@@ -9,6 +9,8 @@ The commands are those of the page's blocks marked `sh`, together one script of 
 folder /tmp and the program's path are others. By a set clock, `serve` is played by a `replay` whose clock the test sets (bridge.py), and
 `date` says that clock. What the page says that comes of it is looked for in the output.
 """
+import concurrent.futures
+import contextlib
 import os
 import pathlib
 import re
@@ -60,6 +62,8 @@ OPERATION = [
     r"[0-9a-f]{64}  ",
     r"north 404\nsouth 404\neast 401\nnorth 404\nsouth 404\n",
     r"pool=unkept .*\n.*pool=retailer_1 .*\n.*pool=retailer_2 ",
+    r"release .* 200 +RELEASED",
+    r"Ticket B000002, CONFIRMED, 23.00 EUR\n  20..-..-..  train ",
     r'"id":"B000000".*"status":"PREBOOKED"',
     r'"id":"B000000".*"status":"CONFIRMED"',
     r"closed: 502\n",
@@ -111,16 +115,23 @@ def run_page(page, program, folder, path=None, change=lambda commands: commands)
     # The workers of an nginx that root has started are another user's, and have to reach the page.
     folder.chmod(0o755)
     env = dict(os.environ, PATH="%s:%s" % (path, os.environ["PATH"]) if path else os.environ["PATH"])
-    # A group of its own, so that nothing that a failing page has started is left.
-    done = subprocess.Popen(["bash", "-c", "set -eu\n" + text], cwd=tree, env=env, stdout=subprocess.PIPE, stderr=subprocess.STDOUT, text=True, start_new_session=True)
-    try:
-        said, _ = done.communicate(timeout=900)
-        return said, done.returncode
-    finally:
+    # A group of its own, so that nothing that a failing page has started is left, and keeps the pipe open.
+    done = subprocess.Popen(["bash", "-c", "set -eu\n" + text], cwd=tree, env=env, stdin=subprocess.DEVNULL, stdout=subprocess.PIPE, stderr=subprocess.STDOUT, text=True, start_new_session=True)
+    with concurrent.futures.ThreadPoolExecutor(1) as reader:
+        said = reader.submit(done.stdout.read)
         try:
-            os.killpg(done.pid, signal.SIGKILL)
-        except ProcessLookupError:
-            pass
+            done.wait(timeout=900)
+        finally:
+            end_all(done.pid, folder / "proxy" / "nginx.pid")
+        return said.result(timeout=60), done.returncode
+
+
+def end_all(group, nginx):
+    """Ends what a failing page has left: its group, and an nginx, which has a group of its own."""
+    with contextlib.suppress(ProcessLookupError):
+        os.killpg(group, signal.SIGKILL)
+    with contextlib.suppress(ProcessLookupError, FileNotFoundError):
+        os.kill(int(nginx.read_text()), signal.SIGTERM)
 
 
 def faults_of_life(said, status):

@@ -9,6 +9,7 @@ It needs nginx (`apt-get install nginx`) and openssl.
 import concurrent.futures
 import datetime
 import http.client
+import json
 import pathlib
 import re
 import shutil
@@ -62,6 +63,9 @@ class Proxy:
         self.day = (datetime.date.today() + datetime.timedelta(days=2)).isoformat()
         catalogue = folder / "country.json"
         catalogue.write_bytes(subprocess.run([sys.executable, str(ROOT / "examples" / "country.py"), "--day", self.day], check=True, capture_output=True).stdout)
+        trains = json.loads(catalogue.read_bytes())
+        del trains["retailers"]
+        (folder / "for_retailers.json").write_text(json.dumps(trains))
         self.host = subprocess.Popen([str(program), "serve", str(catalogue), "--port", str(self.host_port), "--workers", str(workers)], stdin=subprocess.DEVNULL)
         try:
             assert until(lambda: listens(self.host_port)), "the host doesn't listen"
@@ -129,6 +133,9 @@ def faults_of(proxy):
     status, page = proxy.ask("", path="/counter.html")
     if status != 200 or page != (ROOT / "examples" / "counter.html").read_bytes():
         yield "the page is answered %d" % status
+    status, trains = proxy.ask("", path="/for_retailers.json")
+    if status != 200 or len(json.loads(trains)["runs"]) != 288 or b"north" in trains:
+        yield "the trains are answered %d" % status
     if proxy.ask("north", "HEAD")[0] != 405:
         yield "HEAD is not refused"
     lines = (proxy.folder / "access.log").read_text().splitlines()
@@ -174,7 +181,7 @@ def main():
             proxy.close()
     for fault in found:
         print("proxy: " + fault)
-    print("proxy: %d keys, 240 requests at once, idle connections, the log, the page, and closed for a restart: %d wrong" % (len(KEYS), len(found)))
+    print("proxy: %d keys, 240 requests at once, idle connections, the log, the page, the trains, and closed for a restart: %d wrong" % (len(KEYS), len(found)))
     return 1 if found else 0
 
 
