@@ -56,8 +56,6 @@ MOST_OFFERS = 16
 # Ids that are looked at for a booking whose answer was lost: so many before the newest one that is known, since each
 # of the host's workers may have kept one row back, and so many after it, since others book too.
 LOOK_BACK, LOOK_AHEAD = 16, 200
-# What never changes in a booking, whatever becomes of it.
-FIXED = ("confirmableUntil", "price", "reservations")
 
 
 class Refused(Exception):
@@ -216,8 +214,15 @@ def is_of(booking, offer, passengers):
 
 
 def is_same(kept, shown):
-    """Whether the host shows the booking that was kept, and not another one that has its id now."""
-    return all(kept[name] == shown[name] for name in FIXED)
+    """Whether the host shows the booking that was kept, and not another one that has its id now.
+
+    Its limit, its price and its number of places never change. An operator may have moved passengers to other places.
+    """
+    return (
+        kept["confirmableUntil"] == shown["confirmableUntil"]
+        and kept["price"] == shown["price"]
+        and len(kept["reservations"]) == len(shown["reservations"])
+    )
 
 
 class Retailer:

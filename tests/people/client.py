@@ -1,6 +1,7 @@
 #!/usr/bin/env python3
 """Runs examples/client.py over a host that a fault stands before: each fault at each of its first requests, TLS, and
-nothing that listens; and what it makes of a day's offers, of bookings that it kept, and of the operator's trains.
+nothing that listens; what it makes of a day's offers, of bookings that it kept, and of the operator's trains; and codes
+that nobody was answered.
 
   tests/people/client.py PROGRAM
 
@@ -178,6 +179,46 @@ def day_of_offers(program):
         yield "a day's offers: %d are shown where there are %d: %s" % (len(shown), len(wanted), done.stderr.strip())
 
 
+def made_up_codes(program):
+    """Codes that were never answered, as docs/retailers.md has them under "Ids and limits"."""
+    train, seat = {"run": 0, "from": "BASEL", "to": "BERN"}, {"run": 1, "from": "BERN", "to": "THUN"}
+    # At 07:10:00 and one second later with each request: 11.00 paid, and nothing worth since 07:00.
+    bridge = Bridge(program, ROOT / "examples" / "k1.json", "2026-06-01T07:10:00Z")
+    try:
+        ask(bridge, "POST", "/reservations", train)
+        ask(bridge, "POST", "/bookings/B000000/fulfillments")
+        quoted = ask(bridge, "POST", "/bookings/B000000/refund-offers")[1]["amount"]["amount"]
+        made_up = "/bookings/B000000/refund-offers/R0-1780297199-C-825"
+        paid = ask(bridge, "PATCH", made_up, {"status": "CONFIRMED"})[1]["endAmount"]["amount"]
+        if (quoted, paid) != (0, 825):
+            yield "a quote of %d, and %d paid for one that was never asked for" % (quoted, paid)
+    finally:
+        bridge.close()
+    # The train leaves at 08:00. At 08:15:00 its offer of 08:00:00 is 900 seconds old, and a second later too old.
+    bridge = Bridge(program, ROOT / "examples" / "k1.json", "2026-06-01T08:15:00Z")
+    try:
+        offer = {"offerId": "O1780300800-1-0-2-0-0.0.2"}
+        said = [ask(bridge, "POST", "/bookings", offer)[0], ask(bridge, "POST", "/bookings", offer)[0]]
+        sold = ask(bridge, "POST", "/reservations", train)[0]
+        if (said, sold) != ([201, 410], 201):
+            yield "offers of a train that has left are answered %s, and a reservation %d" % (said, sold)
+    finally:
+        bridge.close()
+    # At 08:29:58 a seat for 6.00 is reserved and confirmed. At 08:30:00 it is exchanged, by a quote of 08:15:00, when
+    # nothing was paid back, for an offer of 08:00:00: three adults and a child, on a train that has left.
+    bridge = Bridge(program, ROOT / "examples" / "k1.json", "2026-06-01T08:29:58Z")
+    try:
+        ask(bridge, "POST", "/reservations", seat)
+        ask(bridge, "POST", "/bookings/B000000/fulfillments")
+        quote = "X0-1780301700-C-p%d-O1780300800-3-1-2-0-0.0.2" % (3 * 1100 + 550 + 300)
+        accepted = {"exchangeOfferId": quote}
+        status, said = ask(bridge, "POST", "/bookings/B000000/exchange-operations", accepted)
+        if status != 201 or len(said["booking"]["reservations"]) != 4:
+            yield "an exchange for four on a train that left 1,800 seconds ago is answered %d: %s" % (status, said)
+    finally:
+        bridge.close()
+
+
 def ticket_lines(program):
     catalogue = ROOT / "examples" / "k1.json"
     words = ["--program", program, "--catalogue", catalogue, *TRIP]
@@ -241,9 +282,10 @@ def main():
     found += ["nothing listens: %s" % fault for fault in nothing_listens()]
     found += ["%s" % fault for fault in day_of_offers(program)]
     found += ["%s" % fault for fault in ticket_lines(program)]
+    found += ["%s" % fault for fault in made_up_codes(program)]
     for fault in found:
         print("client: " + fault)
-    said = "%d lives with a fault, one over TLS, one of nothing, a lost booking far away, kept ones, a day and a ticket"
+    said = "%d lives with a fault, one over TLS, one of nothing, a lost booking far away, kept ones, a day, a ticket and codes"
     print("client: " + said % len(cases) + ": %d wrong" % len(found))
     return 1 if found else 0
 

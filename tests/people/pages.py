@@ -35,6 +35,8 @@ LIFE = [
     r"exchange .* 201 +CONFIRMED",
     r"release .* 200 +RELEASED",
     r'\{"offers":\[\{"id":"O',
+    r"departs +arrives +price +free +trains\n.*\n20..-..-..T06:04:00Z  20..-..-..T08:07:00Z  57.50 EUR ",
+    r"\n3\d of 1\d\d offers, in 12 searches",
     r'"settled":false,"status":"PREBOOKED"',
     r'"settled":false,"status":"CONFIRMED"',
     r'"settled":true,"status":"RELEASED"',
@@ -44,8 +46,10 @@ LIFE = [
     r'"settled":false,"status":"FULFILLED"',
     r'\{"amount":.*"id":"R',
     r'"settled":true,"status":"REFUNDED"',
+    r"Ticket B000009, CONFIRMED, 23.00 EUR\n  20..-..-..  train 1007  06:34Z HARBOUR - 07:22Z CAPITAL  second class, coach 2, place 2\n",
     r'"status":"REFUNDED"',
     r'\{"places":\[\{"class":"FIRST","coach":1,"free":',
+    r"kept +GET /bookings/B0000\d\d +CONFIRMED",
 ]
 # Pages whose commands end with the status beside them.
 PLAIN_PAGES = [("examples/README.md", 6), ("docs/catalogue.md", 0)]
