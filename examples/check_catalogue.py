@@ -1,21 +1,30 @@
 #!/usr/bin/env python3
-"""Says what is wrong with a catalogue: the place, the line, and what to do.
+"""Says what is wrong with a catalogue: the place, the line, and what to do; and what a note of the host means.
 
   examples/check_catalogue.py CATALOGUE [--now MOMENT]
+  examples/check_catalogue.py CATALOGUE --explain NOTE [--port N]
 
 The host tells the first fault, and of faults 3 to 7 only the number. This goes through the whole file in the host's order and tells all of
 them, each as `FILE:LINE: fault N at PATH: what is wrong. What to do.` It also gives hints (`FILE:LINE: hint at PATH: ..`) on what the host takes
 and what is seldom meant: members that it ignores, runs that have departed by --now (the system's clock where it is left out), fees that look like
 percent or whole units, and members that stand twice. The last line is what the host says of the file.
 
-It ends with status 0 where the host takes the catalogue, 1 where it refuses it, and 2 for refused words or a file that can't be read. It reads
-moments as RFC 3339 has them; the host takes a few spellings more.
+The second form tells what a note of the host, as "rail_host: read fault", most likely means on this machine, with this file and this port. It looks
+as the user that runs it: run it as the host's user, and with the host stopped.
+
+It ends with status 0 where the host takes the catalogue, or where the cause of the note was found; with 1 where the host refuses it, or where no
+cause is to be seen any more; and with 2 for refused words or a file that can't be read. It reads moments as RFC 3339 has them; the host takes a
+few spellings more.
 """
 import argparse
 import datetime
 import difflib
+import errno
 import json
+import os
+import pathlib
 import re
+import socket
 import sys
 
 LARGEST_FILE, DEEPEST = 33_554_432, 127
@@ -37,6 +46,8 @@ KINDS = {
     "coach": ["coach", "class", "places"],
     "group": ["first", "last", "traits"],
 }
+# How a file begins that has a byte order mark; the longer ones first.
+MARKS = [("UTF-8", b"\xef\xbb\xbf"), ("UTF-32", b"\xff\xfe\x00\x00"), ("UTF-32", b"\x00\x00\xfe\xff"), ("UTF-16", b"\xff\xfe"), ("UTF-16", b"\xfe\xff")]
 DEFAULTS = {"rows": "65,536", "confirmSeconds": "900", "ticketFee": "0", "exchangeFee": "0", "change": "300", "traits": "none", "arrive": "the departure", "depart": "the arrival"}
 
 
@@ -435,6 +446,14 @@ class Checker:
 def checked(data, now):
     """What is found in the bytes of a catalogue, in the host's order."""
     checker, text = Checker(now), ""
+    if not data.strip(b" \t\r\n"):
+        why = "the file is empty" if not data else "the file has nothing but space"
+        checker.fault(NOT_JSON, "", 1, why, "Look whether the program that writes it failed, or the disk is full; begin with examples/k1.json")
+        return checker
+    mark = next((name for name, first in MARKS if data.startswith(first)), None)
+    if mark:
+        checker.fault(NOT_JSON, "", 1, "the file begins with a byte order mark of %s, as some editors write it" % mark, "Save it as UTF-8 without a byte order mark")
+        return checker
     try:
         text = data.decode("utf-8")
         reader = Reader(text)
@@ -450,14 +469,147 @@ def checked(data, now):
     return checker
 
 
+# What a note means
+
+
+NOTES = {
+    "words refused": "a word isn't known, a value is out of its range, or a word that must be there is missing; --help and --version are refused too. "
+    "serve takes CATALOGUE --port N (1 to 65,535), and --workers (1 to 16), --connections, --sweep (1 to 86,400), --from FILE, --export: docs/commands.md",
+    "write fault": "the output failed: a full disk, or a reader that went away. For serve it is the standard error, to which the export is written",
+    "input cut": "the input ended inside a request: its Content-Length says more than came",
+    "input refused": "the input has something that is no request, and the connection ended there. The answers before it stand",
+    "export missing": "no file has the name that --from or settle gives, or this user may not look into its folder",
+    "export too large": "the export is over 268,435,456 bytes",
+    "export fault": "1: no export, or one that was cut off or changed. 2: it is of another number of places or rows than the catalogue. 3: a line is wrong. "
+    "4: two live bookings overlap. 5: a booking was exchanged for one of its own row. docs/operators.md has them",
+}
+
+
+class Unseen(Exception):
+    """No cause of the note is to be seen now."""
+
+
+def explained(note, path, port, now):
+    """What the note most likely means with this file and this port."""
+    note = note.strip().removeprefix("rail_host:").strip()
+    if note == "catalogue missing":
+        return missing_file(path)
+    if note.startswith("catalogue"):
+        return refused_file(path, now)
+    if note == "read fault":
+        return read_fault(path, port)
+    if note == "no memory":
+        return memory_needed(path, now)
+    known = next((text for name, text in NOTES.items() if note.startswith(name)), None)
+    if known is None:
+        raise Unseen("the host has no such note. Its notes: catalogue .., read fault, no memory, " + ", ".join(NOTES))
+    return known
+
+
+def missing_file(path):
+    if not path.exists():
+        there = next((folder for folder in path.absolute().parents if folder.exists()), path)
+        return "there is no file %s; of its path %s is the last part that is there" % (path, there)
+    raise Unseen("%s is there. The host may run as another user, who may not look into a folder of its path, or in another folder, from which this path names another file" % path)
+
+
+def refused_file(path, now):
+    if not path.is_file():
+        raise Unseen("%s is no file now" % path)
+    if path.stat().st_size > LARGEST_FILE:
+        return "%s has %s bytes, and a catalogue may have 33,554,432: write places in groups from first to last" % (path, format(path.stat().st_size, ","))
+    found = [one for one in checked(path.read_bytes(), now).found if one[0] != "hint"]
+    if not found:
+        raise Unseen("the host takes this file. Did it read another one, or an older one?")
+    kind, where, line, why = found[0]
+    return "%s in line %d%s: %s" % (kind, line, " at " + where if where else "", why)
+
+
+def read_fault(path, port):
+    """The file can't be read, or the port can't be had; the host reads the file first."""
+    if path.is_dir():
+        return "%s is a folder" % path
+    try:
+        with open(path, "rb") as file:
+            file.read(1)
+    except PermissionError:
+        return "this user (number %d) may not read %s: its rights are %s, and it is user %d's" % (os.geteuid(), path, oct(path.stat().st_mode & 0o777)[2:], path.stat().st_uid)
+    except OSError as error:
+        return "%s can't be read: %s" % (path, error.strerror)
+    if port is None:
+        raise Unseen("the file can be read. For serve, name its port too (--port N). For the other commands, the standard input or an export's file failed")
+    return port_fault(port)
+
+
+def port_fault(port):
+    with socket.socket(socket.AF_INET, socket.SOCK_STREAM) as tried:
+        tried.setsockopt(socket.SOL_SOCKET, socket.SO_REUSEADDR, 1)
+        try:
+            tried.bind(("127.0.0.1", port))
+            tried.listen(1)
+        except OSError as error:
+            if error.errno == errno.EADDRINUSE:
+                return "port %d is taken, by %s" % (port, holder_of(port))
+            if error.errno == errno.EACCES:
+                first = pathlib.Path("/proc/sys/net/ipv4/ip_unprivileged_port_start").read_text().strip()
+                return "port %d is below %s, and this user (number %d) may not listen there. Take a higher port, and let a proxy listen at the low one" % (port, first, os.geteuid())
+            return "port %d can't be had: %s" % (port, error.strerror)
+    raise Unseen("the file can be read and port %d is free now. It was taken when the host began, or the host lost its listener later; just start it again" % port)
+
+
+def holder_of(port):
+    """Which process listens at the port, as far as this user may see it."""
+    sockets = set()
+    for table in ("/proc/net/tcp", "/proc/net/tcp6"):
+        for line in pathlib.Path(table).read_text().splitlines()[1:]:
+            fields = line.split()
+            if int(fields[1].rsplit(":", 1)[1], 16) == port and fields[3] == "0A":
+                sockets.add("socket:[%s]" % fields[9])
+    for process in pathlib.Path("/proc").glob("[0-9]*"):
+        try:
+            if any(os.readlink(handle) in sockets for handle in (process / "fd").iterdir()):
+                return "process %s (%s)" % (process.name, (process / "cmdline").read_bytes().replace(b"\0", b" ").decode(errors="replace").strip())
+        except OSError:
+            continue
+    return "a process of another user, which root sees by: ss -ltnp 'sport = :%d'" % port if sockets else "a connection that isn't quite over, or another network namespace"
+
+
+def memory_needed(path, now):
+    """What the catalogue takes, by docs/operators.md under "Sizing"."""
+    if not path.is_file():
+        raise Unseen("%s is no file now" % path)
+    data = path.read_bytes()
+    checker = checked(data, now)
+    if checker.note():
+        raise Unseen("the host refuses this file, so it read another one")
+    rows = json.loads(data).get("rows", 65_536)
+    megabytes = (rows * 512 + checker.places * 36 + len(data) * 5) / 1_000_000
+    return "the process may have too little memory (ulimit -v, MemoryMax of its unit, or the machine's). %s rows, %s places and the text take some %d megabytes at the start, and the workers more: see Sizing in docs/operators.md" % (format(rows, ","), format(checker.places, ","), megabytes + 1)
+
+
+def explain(given, now):
+    try:
+        print("%s: %s" % (given.explain, explained(given.explain, pathlib.Path(given.catalogue), given.port, now)))
+        return 0
+    except Unseen as why:
+        print("%s: %s" % (given.explain, why))
+        return 1
+
+
 def main():
     words = argparse.ArgumentParser(description=__doc__, formatter_class=argparse.RawDescriptionHelpFormatter)
     words.add_argument("catalogue")
     words.add_argument("--now", help="the moment by which runs have departed")
+    words.add_argument("--explain", metavar="NOTE", help="what this note of the host most likely means, with this file and port")
+    words.add_argument("--port", type=int, metavar="N", help="the port of serve, 1 to 65,535, for --explain")
     given = words.parse_args()
+    if given.port is not None and not 1 <= given.port <= 65_535:
+        words.error("--port wants 1 to 65,535, and the host refuses any other")
     now = moment_of(given.now) if given.now else int(datetime.datetime.now(datetime.timezone.utc).timestamp())
     if now is None:
         words.error("--now wants a moment, as 2026-06-01T08:00:00Z")
+    if given.explain is not None:
+        return explain(given, now)
     try:
         with open(given.catalogue, "rb") as file:
             data = file.read()

@@ -3,13 +3,16 @@
 
   tests/people/catalogues.py PROGRAM
 
-Each is examples/k1.json with one text in the place of another. docs/catalogue.schema.json has to take the two examples and to refuse those of
+Each is examples/k1.json with one text in the place of another; files with a byte order mark, and empty ones; and notes of the host with what
+the checker makes of them. docs/catalogue.schema.json has to take the two examples and to refuse those of
 the table that a schema can see. Last, what the checker holds to be the host's first fault is compared with the model of the host
 beside this folder, on catalogues of chance.
 """
 import json
+import os
 import pathlib
 import random
+import socket
 import subprocess
 import sys
 import tempfile
@@ -95,6 +98,86 @@ def faults_of_hints(path, text):
             yield "hints: no %r in\n%s" % (wanted, twice)
 
 
+def faults_of_starts(program, path, text):
+    """Files that are no text of JSON from their first byte on: the host's note, and the checker's cause."""
+    said = [
+        ("an empty file", b"", "the file is empty"),
+        ("a file of space", b" \r\n\t", "the file has nothing but space"),
+        ("a mark of UTF-8", b"\xef\xbb\xbf" + text.encode(), "the file begins with a byte order mark of UTF-8"),
+        ("a mark of UTF-16", text.encode("utf-16"), "the file begins with a byte order mark of UTF-16"),
+        ("a mark of UTF-32", text.encode("utf-32"), "the file begins with a byte order mark of UTF-32"),
+    ]
+    for what, data, cause in said:
+        path.write_bytes(data)
+        replay, checker = run(program, "replay", path), run(sys.executable, CHECKER, path)
+        if (replay.returncode, replay.stderr) != (1, "rail_host: catalogue fault 1\n"):
+            yield "%s: replay says %r and ends with %d" % (what, replay.stderr, replay.returncode)
+        if checker.returncode != 1 or "%s:1: fault 1: %s" % (path, cause) not in checker.stdout:
+            yield "%s: the checker says\n%s" % (what, checker.stdout)
+
+
+def as_nobody(path, port):
+    """What the checker explains to a user who is not root, as which this process sees the machine for a moment."""
+    sys.path.insert(0, str(ROOT / "examples"))
+    import check_catalogue
+
+    root = os.geteuid() == 0
+    try:
+        if root:
+            os.seteuid(65534)
+        return check_catalogue.explained("rail_host: read fault", path, port, 0)
+    finally:
+        if root:
+            os.seteuid(0)
+
+
+def faults_of_notes(program, folder, text):
+    """--explain beside a host that refuses: a taken port, a folder, a file of another user, a low port, no file."""
+    path = folder / "notes.json"
+    path.write_text(text)
+
+    def explained(note, *words, file=path):
+        done = run(sys.executable, CHECKER, file, "--explain", note, *words)
+        return done.returncode, done.stdout
+
+    with socket.create_server(("127.0.0.1", 0)) as taken:
+        port = taken.getsockname()[1]
+        host = run(program, "serve", path, "--port", port)
+        if (host.returncode, host.stderr) != (3, "rail_host: read fault\n"):
+            yield "serve at a taken port says %r" % host.stderr
+        status, said = explained(host.stderr.strip(), "--port", port)
+        if status or "port %d is taken, by process %d (" % (port, os.getpid()) not in said:
+            yield "a taken port: %s" % said
+    status, said = explained("read fault", "--port", port)
+    if status != 1 or "port %d is free now" % port not in said:
+        yield "a free port: %s" % said
+    host = run(program, "serve", folder, "--port", port)
+    status, said = explained(host.stderr.strip(), "--port", port, file=folder)
+    if status or "is a folder" not in said:
+        yield "a folder: %r, %s" % (host.stderr, said)
+    host = run(program, "replay", folder / "nothing")
+    status, said = explained(host.stderr.strip(), file=folder / "nothing")
+    if status or "there is no file" not in said:
+        yield "no file: %r, %s" % (host.stderr, said)
+    path.write_text(text.replace('"EUR"', '"eur"'))
+    host = run(program, "replay", path)
+    status, said = explained(host.stderr.strip())
+    if status or 'fault 2 in line 1 at currency: "eur" is not' not in said:
+        yield "a refused file: %r, %s" % (host.stderr, said)
+    for note in ("no memory", "words refused", "write fault", "input cut", "export fault 2"):
+        path.write_text(text)
+        if explained(note)[0]:
+            yield "%s is not explained" % note
+    if explained("read error")[0] != 1:
+        yield "a note that the host doesn't have is explained"
+    folder.chmod(0o755)
+    path.chmod(0o644)
+    low = as_nobody(path, 80)
+    path.chmod(0o000)
+    if not ("may not read" in as_nobody(path, None) and "port 80 is below" in low):
+        yield "to another user: %s; %s" % (as_nobody(path, None), low)
+
+
 def faults_of_schema(text):
     schema = json.loads((ROOT / "docs" / "catalogue.schema.json").read_text())
     jsonschema.Draft202012Validator.check_schema(schema)
@@ -152,6 +235,8 @@ def main():
             path.write_text(text.replace(case[1], case[2], 1))
             found += faults_of_case(program, path, case)
         found += faults_of_hints(path, text)
+        found += faults_of_starts(program, path, text)
+        found += faults_of_notes(program, pathlib.Path(name), text)
         written = run(sys.executable, ROOT / "examples" / "k1.py").stdout
         moved = run(sys.executable, ROOT / "examples" / "k1.py", "--day", "2031-02-03").stdout
         if written != text or moved != text.replace("2026-06-01", "2031-02-03"):
@@ -160,7 +245,7 @@ def main():
     found += faults_of_chance()
     for fault in found:
         print("catalogues: " + fault)
-    print("catalogues: %d wrong ones, the schema, and %d of chance: %d wrong" % (len(CASES), SEEDS, len(found)))
+    print("catalogues: %d wrong ones, the schema, beginnings, notes, and %d of chance: %d wrong" % (len(CASES), SEEDS, len(found)))
     return 1 if found else 0
 
 

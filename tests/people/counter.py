@@ -1,10 +1,11 @@
 #!/usr/bin/env python3
-"""Clicks through examples/counter.html in a headless Chromium, beside a host behind the example proxy: search, book, confirm, refund, and a
-train whose places are coloured leg by leg.
+"""Clicks through examples/counter.html in a headless Chromium, behind the example proxy: search, book, confirm, exchange, refund,
+a reload, and a train whose places are coloured leg by leg; and looks whether the page fits screens of 390 and 1,280 pixels.
 
-  tests/people/counter.py PROGRAM [--picture FILE]
+  tests/people/counter.py PROGRAM [--pictures FOLDER]
 
-It needs chromium and nginx (`apt-get install chromium nginx`), and fails where they aren't there. With --picture it writes what the page shows.
+It needs chromium and nginx (`apt-get install chromium nginx`), and fails where they aren't there. With --pictures it writes what the page
+shows, as 390.png and 1280.png.
 """
 import argparse
 import base64
@@ -22,6 +23,7 @@ from proxy import Proxy
 ROOT = pathlib.Path(__file__).resolve().parents[2]
 FLAGS = "--headless=new --no-sandbox --disable-gpu --disable-dev-shm-usage --no-first-run --ignore-certificate-errors --remote-debugging-pipe --hide-scrollbars".split()
 WIDTH, HEIGHT = 1280, 1150
+NARROW = 390
 # The train from HARBOUR to CAPITAL goes on to SUMMIT: seven stops, six legs, 184 places.
 LEGS, PLACES = 6, 184
 
@@ -50,7 +52,10 @@ class Browser:
         self.session = self.ask("Target.attachToTarget", targetId=target, flatten=True)["sessionId"]
         for name in ("Page", "Runtime", "Log", "Network"):
             self.ask(name + ".enable")
-        self.ask("Emulation.setDeviceMetricsOverride", width=WIDTH, height=HEIGHT, deviceScaleFactor=1, mobile=False)
+        self.resize(WIDTH)
+
+    def resize(self, width):
+        self.ask("Emulation.setDeviceMetricsOverride", width=width, height=HEIGHT, deviceScaleFactor=1, mobile=width == NARROW)
 
     def ask(self, method, **words):
         self.number += 1
@@ -95,13 +100,19 @@ class Browser:
         self.value("by('%s').select()" % name)
         self.ask("Input.insertText", text=text)
 
-    def outside(self):
+    def outside(self, home):
         """What the page asked of others than the host that it came from, and what went wrong in it."""
         for event in self.said:
-            if event.get("method") == "Network.requestWillBeSent":
-                yield event["params"]["request"]["url"]
+            words = event.get("params", {})
+            if event.get("method") == "Network.requestWillBeSent" and not words["request"]["url"].startswith((home, "data:")):
+                yield "it asked for " + words["request"]["url"]
             if event.get("method") == "Runtime.exceptionThrown":
-                yield "exception " + json.dumps(event["params"]["exceptionDetails"])[:300]
+                yield "exception " + json.dumps(words["exceptionDetails"])[:300]
+
+    def refused(self):
+        """What was answered with a refusal."""
+        answers = [event["params"]["response"] for event in self.said if event.get("method") == "Network.responseReceived"]
+        return ["%d of %s" % (answer["status"], answer["url"]) for answer in answers if answer["status"] >= 400]
 
     def close(self):
         self.session = None
@@ -113,26 +124,32 @@ def button(text, inside="document"):
     return "[...%s.querySelectorAll('button')].find(b => b.textContent.startsWith(%s))" % (inside, json.dumps(text))
 
 
-def cells(kind):
-    return "document.querySelectorAll('.map td.%s').length" % kind
+def cells(kind=""):
+    return "document.querySelectorAll('#map i%s').length" % (kind and "." + kind)
 
 
-def walk(proxy, browser, picture):
-    """The clicks; what is wrong with what they show is answered."""
+def begin(proxy, browser):
+    """The page is open, has the operator's trains, and shows a train of the first offer."""
     browser.ask("Page.navigate", url="https://localhost:%d/counter.html" % proxy.port)
-    browser.until("document.readyState === 'complete' && typeof by === 'function'")
-    day = browser.value("by('earliest').value")[:10]
+    browser.until("document.readyState === 'complete' && trains?.runs.length === 288")
+    find(proxy, browser)
+
+
+def find(proxy, browser):
     # The catalogue is that of the day after tomorrow, where the page begins with tomorrow.
     browser.write("earliest", proxy.day + "T06:00:00Z")
     browser.click("by('find')")
-    browser.until("by('offers').rows.length > 0 && document.querySelectorAll('.map td').length > 0", 60)
-    if browser.value("document.querySelectorAll('.map td').length") != LEGS * PLACES:
-        yield "the map has %s places and legs" % browser.value("document.querySelectorAll('.map td').length")
+    browser.until("by('offers').children.length > 0 && %s > 0" % cells(), 60)
+
+
+def sell(proxy, browser):
+    """Two bookings of this counter, and one of another retailer on the same train."""
+    if browser.value(cells()) != LEGS * PLACES:
+        yield "the map has %s places and legs" % browser.value(cells())
     if browser.value(cells("sold")) or browser.value(cells("mine")):
         yield "places are sold before any was booked"
     # Another retailer sells on the same train meanwhile: its places turn red by themselves.
-    run = browser.value("shown.run")
-    other = json.dumps({"run": run, "class": "SECOND", "count": 8, "from": "DUNES", "to": "SUMMIT"})
+    other = json.dumps({"run": browser.value("shown.run"), "class": "SECOND", "count": 8, "from": "DUNES", "to": "SUMMIT"})
     proxy.ask("south", "POST", "/reservations", other.encode())
     browser.until(cells("sold") + " === 8 * 5", 20)
     browser.click(button("Book", "by('offers')"))
@@ -141,40 +158,95 @@ def walk(proxy, browser, picture):
     browser.until(cells("mine") + " === 3 * 3", 20)
     browser.click(button("Confirm", "by('B000001')"))
     browser.until("by('B000001').innerText.includes('CONFIRMED')")
+    if proxy.day + " 1005 HARBOUR 06:04 – CAPITAL 06:52, second class" not in browser.value("by('B000001').innerText"):
+        yield "no day, times and class: %s" % browser.value("by('B000001').innerText")
+    browser.click("by('together')")
     browser.click(button("Book", "by('offers')"))
     browser.until("by('B000002')?.innerText.includes('PREBOOKED')")
     browser.until(cells("mine") + " === 2 * 3 * 3", 20)
-    if picture:
-        browser.value("window.scrollTo(0, 0)")
-        time.sleep(2)
-        data = browser.ask("Page.captureScreenshot", format="png", captureBeyondViewport=False)["data"]
-        picture.write_bytes(base64.b64decode(data))
+    seats = browser.value("bookings.get('B000002').reservations.filter(r => r.train === 1005).map(r => r.place)")
+    if [seat - seats[0] for seat in seats] != [0, 1, 2]:
+        yield "side by side is %s" % seats
+
+
+def look_at(browser, width, pictures):
+    """The page fits the width, and nothing in it but the lists that scroll by themselves is wider."""
+    browser.resize(width)
+    browser.value("window.scrollTo(0, 0)")
+    time.sleep(2)
+    wide = browser.value("document.documentElement.scrollWidth")
+    if wide > width:
+        yield "at %d pixels the page is %d wide" % (width, wide)
+    if pictures:
+        shot = {"clip": {"x": 0, "y": 0, "width": width, "height": browser.value("document.documentElement.scrollHeight"), "scale": 1}}
+        data = browser.ask("Page.captureScreenshot", format="png", captureBeyondViewport=True, **shot)["data"]
+        (pictures / ("%d.png" % width)).write_bytes(base64.b64decode(data))
+
+
+def reload(proxy, browser):
+    """The bookings are there after a reload; one that isn't what was kept is told and dropped."""
+    browser.ask("Page.reload")
+    browser.until("document.readyState === 'complete' && by('B000001')?.innerText.includes('CONFIRMED') && by('B000002')?.innerText.includes('PREBOOKED')")
+    browser.value("localStorage.setItem(store(), localStorage.getItem(store()).replace('\"confirmableUntil\":\"', '\"confirmableUntil\":\"1'))")
+    browser.ask("Page.reload")
+    browser.until("document.readyState === 'complete' && by('said').innerText.startsWith('B000001: no longer a booking of this counter')")
+    if browser.value("!!by('B000001') || !by('B000002')"):
+        yield "the bookings after a reload are %s" % browser.value("by('bookings').innerText")
+    browser.write("id", "B000001")
+    browser.click(button("Look", "by('look')"))
+    browser.until("by('B000001')?.innerText.includes('CONFIRMED')")
+    find(proxy, browser)
+
+
+def trade(browser):
+    """The one booking is exchanged for another offer, and that is refunded; the other one is released."""
+    browser.click(button("Exchange", "by('B000001')"))
+    browser.until("by('offers').innerText.includes('Exchange')")
+    browser.click(button("Exchange", "by('offers').children[1]"))
+    browser.until("!!(%s)" % button("Take", "by('offers')"))
+    # The same price, so the exchange fee of 3.00 alone.
+    if "Take 3.00 EUR" not in browser.value("by('offers').innerText"):
+        yield "the exchange costs %s" % browser.value("by('said').innerText")
+    browser.click(button("Take", "by('offers')"))
+    browser.until("by('B000001').innerText.includes('EXCHANGED') && by('B000003')?.innerText.includes('CONFIRMED')")
     browser.click(button("Release", "by('B000002')"))
     browser.until("by('B000002').innerText.includes('RELEASED')")
-    browser.click(button("Refund", "by('B000001')"))
-    browser.until("!!(%s)" % button("Pay back", "by('B000001')"))
-    browser.click(button("Pay back", "by('B000001')"))
-    browser.until("by('B000001').innerText.includes('REFUNDED')")
+    browser.click(button("Refund", "by('B000003')"))
+    browser.until("!!(%s)" % button("Pay back", "by('B000003')"))
+    browser.click(button("Pay back", "by('B000003')"))
+    browser.until("by('B000003').innerText.includes('REFUNDED')")
     # What was sold here is free again, and what the other retailer sold stands.
+    browser.click("by('offers').querySelector('button.train')")
     browser.until(cells("mine") + " === 0 && " + cells("sold") + " === 8 * 5", 20)
-    # Refusals are told.
+
+
+def refusals(browser):
     browser.write("origin", "NOWHERE")
     browser.click("by('find')")
     browser.until("by('said').innerText.includes('UnknownStation (origin)')")
     browser.write("key", "east")
     browser.click("by('find')")
     browser.until("by('said').innerText.includes('401 NoRetailer')")
-    for asked in browser.outside():
-        if not asked.startswith("https://localhost:%d/" % proxy.port):
-            yield "it asked for %s" % asked
-    if not day:
-        yield "no day stands in the form"
+
+
+def walk(proxy, browser, pictures):
+    """The clicks; what is wrong with what they show is answered."""
+    begin(proxy, browser)
+    yield from sell(proxy, browser)
+    for width in (NARROW, WIDTH):
+        yield from look_at(browser, width, pictures)
+    yield from reload(proxy, browser)
+    yield from trade(browser)
+    # Up to here the page has asked for nothing that is refused: it guesses no stops, and there is no icon to miss.
+    yield from browser.refused()
+    refusals(browser)
+    yield from browser.outside("https://localhost:%d/" % proxy.port)
 
 
 def main():
     words = argparse.ArgumentParser(description=__doc__, formatter_class=argparse.RawDescriptionHelpFormatter)
     words.add_argument("program", type=pathlib.Path)
-    words.add_argument("--picture", type=pathlib.Path)
+    words.add_argument("--pictures", type=pathlib.Path)
     given = words.parse_args()
     for name in ("chromium", "nginx"):
         if not shutil.which(name):
@@ -186,7 +258,7 @@ def main():
         browser = None
         try:
             browser = Browser(profile)
-            found = list(walk(proxy, browser, given.picture))
+            found = list(walk(proxy, browser, given.pictures))
         finally:
             if browser:
                 browser.close()
@@ -194,7 +266,7 @@ def main():
             proxy.close()
     for fault in found:
         print("counter: " + fault)
-    print("counter: a search, two bookings, a confirmation, a release, a refund and two refusals clicked: %d wrong" % len(found))
+    print("counter: two bookings, a confirmation, an exchange, a release, a refund, two reloads and two refusals clicked, at two widths: %d wrong" % len(found))
     return 1 if found else 0
 
 

@@ -9,6 +9,8 @@ The commands are those of the page's blocks marked `sh`, together one script of 
 folder /tmp and the program's path are others. By a set clock, `serve` is played by a `replay` whose clock the test sets (bridge.py), and
 `date` says that clock. What the page says that comes of it is looked for in the output.
 """
+import concurrent.futures
+import contextlib
 import os
 import pathlib
 import re
@@ -33,6 +35,8 @@ LIFE = [
     r"exchange .* 201 +CONFIRMED",
     r"release .* 200 +RELEASED",
     r'\{"offers":\[\{"id":"O',
+    r"departs +arrives +price +free +trains\n.*\n20..-..-..T06:04:00Z  20..-..-..T08:07:00Z  57.50 EUR ",
+    r"\n3\d of 1\d\d offers, in 12 searches",
     r'"settled":false,"status":"PREBOOKED"',
     r'"settled":false,"status":"CONFIRMED"',
     r'"settled":true,"status":"RELEASED"',
@@ -42,8 +46,10 @@ LIFE = [
     r'"settled":false,"status":"FULFILLED"',
     r'\{"amount":.*"id":"R',
     r'"settled":true,"status":"REFUNDED"',
+    r"Ticket B000009, CONFIRMED, 23.00 EUR\n  20..-..-..  train 1007  06:34Z HARBOUR - 07:22Z CAPITAL  second class, coach 2, place 2\n",
     r'"status":"REFUNDED"',
     r'\{"places":\[\{"class":"FIRST","coach":1,"free":',
+    r"kept +GET /bookings/B0000\d\d +CONFIRMED",
 ]
 # Pages whose commands end with the status beside them.
 PLAIN_PAGES = [("examples/README.md", 6), ("docs/catalogue.md", 0)]
@@ -60,10 +66,13 @@ OPERATION = [
     r"[0-9a-f]{64}  ",
     r"north 404\nsouth 404\neast 401\nnorth 404\nsouth 404\n",
     r"pool=unkept .*\n.*pool=retailer_1 .*\n.*pool=retailer_2 ",
+    r"release .* 200 +RELEASED",
+    r"Ticket B000002, CONFIRMED, 23.00 EUR\n  20..-..-..  train ",
     r"changed: ticketFee: 200 -> 250\nchanged: retailer 3: another key\nsame-seats: the 52992 places of 288 runs are the same seats\nstatus 1\n",
     r"place 24: .*coach 2 seat 1 SECOND WINDOW QUIET -> .*coach 7 seat 1 SECOND WINDOW QUIET\nsame-seats: the seats are not the same: 48 lines\n",
     r'"id":"B000000".*"status":"PREBOOKED"',
     r'"id":"B000000".*"status":"CONFIRMED"',
+    r"closed: 502\n",
     r"end 1\n",
     r'"id":"B000000".*"status":"CONFIRMED"',
     r"the same bookings\nretailer,bookings,live,sold,refunded,exchanged\n1,1,1,1400,0,0\nforgotten,0,0,0,0,0",
@@ -123,16 +132,23 @@ def run_page(page, program, folder, path=None, change=lambda commands: commands)
     # The workers of an nginx that root has started are another user's, and have to reach the page.
     folder.chmod(0o755)
     env = dict(os.environ, PATH="%s:%s" % (path, os.environ["PATH"]) if path else os.environ["PATH"])
-    # A group of its own, so that nothing that a failing page has started is left.
-    done = subprocess.Popen(["bash", "-c", "set -eu\n" + text], cwd=tree, env=env, stdout=subprocess.PIPE, stderr=subprocess.STDOUT, text=True, start_new_session=True)
-    try:
-        said, _ = done.communicate(timeout=900)
-        return said, done.returncode
-    finally:
+    # A group of its own, so that nothing that a failing page has started is left, and keeps the pipe open.
+    done = subprocess.Popen(["bash", "-c", "set -eu\n" + text], cwd=tree, env=env, stdin=subprocess.DEVNULL, stdout=subprocess.PIPE, stderr=subprocess.STDOUT, text=True, start_new_session=True)
+    with concurrent.futures.ThreadPoolExecutor(1) as reader:
+        said = reader.submit(done.stdout.read)
         try:
-            os.killpg(done.pid, signal.SIGKILL)
-        except ProcessLookupError:
-            pass
+            done.wait(timeout=900)
+        finally:
+            end_all(done.pid, folder / "proxy" / "nginx.pid")
+        return said.result(timeout=60), done.returncode
+
+
+def end_all(group, nginx):
+    """Ends what a failing page has left: its group, and an nginx, which has a group of its own."""
+    with contextlib.suppress(ProcessLookupError):
+        os.killpg(group, signal.SIGKILL)
+    with contextlib.suppress(ProcessLookupError, FileNotFoundError):
+        os.kill(int(nginx.read_text()), signal.SIGTERM)
 
 
 def faults_of_life(said, status):

@@ -1,5 +1,6 @@
 #!/usr/bin/env python3
-"""Runs examples/nginx.conf before a host, with other ports: pools by key, what is kept open while idle, the log, and the page.
+"""Runs examples/nginx.conf before a host, with other ports: pools by key, what is kept open while idle, the log,
+the page, and a proxy that is closed while the host is started again.
 
   tests/people/proxy.py PROGRAM
 
@@ -8,6 +9,7 @@ It needs nginx (`apt-get install nginx`) and openssl.
 import concurrent.futures
 import datetime
 import http.client
+import json
 import pathlib
 import re
 import shutil
@@ -61,6 +63,9 @@ class Proxy:
         self.day = (datetime.date.today() + datetime.timedelta(days=2)).isoformat()
         catalogue = folder / "country.json"
         catalogue.write_bytes(subprocess.run([sys.executable, str(ROOT / "examples" / "country.py"), "--day", self.day], check=True, capture_output=True).stdout)
+        trains = json.loads(catalogue.read_bytes())
+        del trains["retailers"]
+        (folder / "for_retailers.json").write_text(json.dumps(trains))
         self.host = subprocess.Popen([str(program), "serve", str(catalogue), "--port", str(self.host_port), "--workers", str(workers)], stdin=subprocess.DEVNULL)
         try:
             assert until(lambda: listens(self.host_port)), "the host doesn't listen"
@@ -73,6 +78,17 @@ class Proxy:
 
     def nginx(self, *words):
         subprocess.run(["nginx", "-p", str(self.folder), "-c", "nginx.conf", *words], check=True, capture_output=True)
+
+    def reload(self, change):
+        """The changed file in the place of the one that nginx was started with, as docs/operators.md does it."""
+        file = self.folder / "nginx.conf"
+        file.write_text(change(file.read_text()))
+        self.nginx("-s", "reload")
+
+    def crew(self):
+        """How many worker processes nginx has: one more while an old one finishes what it has begun."""
+        said = subprocess.run(["pgrep", "-c", "-P", (self.folder / "nginx.pid").read_text().strip()], capture_output=True, text=True)
+        return int(said.stdout)
 
     def ask(self, key, method="GET", path="/bookings/B000000", body=None):
         connection = http.client.HTTPSConnection("localhost", self.port, timeout=60, context=ssl.create_default_context(cafile=str(self.folder / "cert.pem")))
@@ -117,6 +133,9 @@ def faults_of(proxy):
     status, page = proxy.ask("", path="/counter.html")
     if status != 200 or page != (ROOT / "examples" / "counter.html").read_bytes():
         yield "the page is answered %d" % status
+    status, trains = proxy.ask("", path="/for_retailers.json")
+    if status != 200 or len(json.loads(trains)["runs"]) != 288 or b"north" in trains:
+        yield "the trains are answered %d" % status
     if proxy.ask("north", "HEAD")[0] != 405:
         yield "HEAD is not refused"
     lines = (proxy.folder / "access.log").read_text().splitlines()
@@ -131,6 +150,23 @@ def faults_of(proxy):
         yield "pools by the log: %s" % pools[: len(KEYS)]
 
 
+def faults_of_closing(proxy):
+    """The proxy is closed for a restart of the host, and opened again."""
+    open_line, closed_line = "127.0.0.1:%d;" % proxy.host_port, "127.0.0.1:%d down;" % proxy.host_port
+    proxy.ask("north")
+    proxy.reload(lambda text: text.replace(open_line, closed_line))
+    if not until(lambda: proxy.ask("north")[0] == 502 and proxy.crew() == 1, 20):
+        yield "a closed proxy answers %d, with %d worker processes" % (proxy.ask("north")[0], proxy.crew())
+    statuses = {proxy.ask(key)[0] for key, _, _ in KEYS for _ in range(5)}
+    if statuses != {502}:
+        yield "a closed proxy answers %s" % sorted(statuses)
+    if not until(lambda: established(proxy.host_port) == 0, 15):
+        yield "a closed proxy keeps %d connections to the host" % established(proxy.host_port)
+    proxy.reload(lambda text: text.replace(closed_line, open_line))
+    if not until(lambda: proxy.ask("north")[0] == 404, 20):
+        yield "a proxy that was opened again answers %d" % proxy.ask("north")[0]
+
+
 def main():
     program, found = pathlib.Path(sys.argv[1]).resolve(), []
     if not shutil.which("nginx") or not shutil.which("openssl"):
@@ -140,11 +176,12 @@ def main():
         proxy = Proxy(program, pathlib.Path(folder))
         try:
             found += faults_of(proxy)
+            found += faults_of_closing(proxy)
         finally:
             proxy.close()
     for fault in found:
         print("proxy: " + fault)
-    print("proxy: %d keys, 240 requests at once, idle connections, the log and the page: %d wrong" % (len(KEYS), len(found)))
+    print("proxy: %d keys, 240 requests at once, idle connections, the log, the page, the trains, and closed for a restart: %d wrong" % (len(KEYS), len(found)))
     return 1 if found else 0
 
 
