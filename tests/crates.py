@@ -4,7 +4,9 @@
   tests/crates.py [--unused] [--write]
 
 The map is the first table of docs/layers.md. Each crate of crates.txt has to stand there once, in a layer that is none above those of the
-crates that stand on it, and crates.txt has to name them in the map's order, layer by layer. The last line tells the longest chain of crates.
+crates that stand on it, and crates.txt has to name them in the map's order, layer by layer. The picture in ARCHITECTURE.md has each crate
+of the map once, but for those of the tests, and no other. The invariants there that are about names are held here too (`KEPT`): which
+crates alone may name something, and which must not. The last line tells the longest chain of crates.
 --unused fails where a line names a crate that its crate never uses. --write puts crates.txt into the map's order; no line's names change.
 """
 import argparse
@@ -15,6 +17,20 @@ import sys
 ROOT = pathlib.Path(__file__).resolve().parent.parent
 ROW = re.compile(r"^\| (\d+) ([^|]+?) *\| `(\w+)` *\|")
 LINE = re.compile(r"^(\w+)[^:#]*:([^#]*)")
+PICTURE = re.compile(r"## The picture\s+```text\n(.*?)```", re.S)
+TESTS = "tests"  # the layer whose crates have tests alone
+SERVICES = {"shop", "service_rules", "booking_service", "reservation_service", "trade_service", "search_service"}
+
+# What an invariant is about: its words, a pattern of names in the code, and the crates that alone may have them (the tests aside).
+KEPT = [
+    ("only one crate touches words", r"\batomic_table\b", {"claim_rule"}),
+    ("the system is touched at the edge alone", r"\bstd::(fs|net|env|process|io|time)\b", {"rail_io", "host_io", "rail_host"}),
+    ("no call waits, but where its type says Wait", r"\bWait\b", {"worker_pool", "host_serve", "rail_host"}),
+    ("threads start in two crates", r"\bstd::thread;", {"worker_pool", "host_drill"}),
+    ("no check of the compiler is passed by", r"\bunsafe\b", {"osdm_texts"}),
+]
+# And the names that a group of crates must not have at all.
+SHUNNED = [("services name no HTTP and no device", r"\b(http_wire|session_loop|rail_io|httparse|matchit)\b", SERVICES)]
 
 
 def read_lines():
@@ -38,10 +54,10 @@ def read_map():
     return crates
 
 
-def text_of(crate):
+def text_of(crate, parts=("src", "specs", "proofs")):
     """All that a crate's files say, without comments."""
     texts = []
-    for part in ("src", "specs", "proofs"):
+    for part in parts:
         for path in sorted((ROOT / "crates" / crate / part).rglob("*")):
             if path.suffix in (".rt", ".antt"):
                 texts.append(re.sub(r"(?m)(^|\s)(//|--).*$", "", path.read_text()))
@@ -82,6 +98,31 @@ def faults(names, crates):
                 yield "%s is in layer %d, and stands on %s of layer %d" % (crate, layer[crate], library, layer[library])
 
 
+def picture_faults(crates):
+    """Where the picture of ARCHITECTURE.md isn't of the map's crates."""
+    found = PICTURE.search((ROOT / "ARCHITECTURE.md").read_text())
+    shown = re.findall(r"\b[a-z]+(?:_[a-z]+)+\b|\bshop\b|\btariff\b|\bavailability\b", found.group(1)) if found else []
+    wanted = [crate for crate, _, layer in crates if layer != TESTS]
+    for crate in sorted(set(wanted) - set(shown)):
+        yield "%s isn't in the picture of ARCHITECTURE.md" % crate
+    for crate in sorted(set(shown) - set(wanted)):
+        yield "the picture of ARCHITECTURE.md has %s, which is no crate of layers 1 to 9" % crate
+    for crate in sorted({crate for crate in shown if shown.count(crate) > 1}):
+        yield "%s stands twice in the picture of ARCHITECTURE.md" % crate
+
+
+def name_faults(crates):
+    """Where a crate names what an invariant of ARCHITECTURE.md keeps from it."""
+    for crate, _, layer in crates:
+        code = "" if layer == TESTS else text_of(crate, ["src"])
+        for said, pattern, may in KEPT:
+            if crate not in may and (found := re.search(pattern, code)):
+                yield "%s names %s: %s (%s)" % (crate, found.group(0), said, " ".join(sorted(may)))
+        for said, pattern, group in SHUNNED:
+            if crate in group and (found := re.search(pattern, code)):
+                yield "%s names %s: %s" % (crate, found.group(0), said)
+
+
 def in_order(lines, crates):
     """crates.txt in the map's order."""
     text, last = ["# The crates, layer by layer, lowest first; docs/layers.md says what each is for."], None
@@ -99,7 +140,7 @@ def main():
     words.add_argument("--write", action="store_true")
     given = words.parse_args()
     (lines, names), crates = read_lines(), read_map()
-    said = list(faults(names, crates))
+    said = list(faults(names, crates)) + list(picture_faults(crates)) + list(name_faults(crates))
     if not said and given.write:
         (ROOT / "crates.txt").write_text(in_order(lines, crates))
     if not said and (ROOT / "crates.txt").read_text() != in_order(lines, crates):

@@ -94,6 +94,9 @@ DRILLS = [
      "requests 32000 sold 3600 refused 28400 busy 0 double 0\n"),
 ]
 
+# Names as long as a shell's word often is, and longer.
+LONG_NAMES = ["k" * 64, "k" * 65, "folder/" + "k" * 200, "./" * 900 + "k1.json"]
+
 # What stands in the example's place, once, and the note on it.
 CATALOGUES = [
     ("{\"currency\"", "[\"currency\"", "catalogue fault 1"),
@@ -209,6 +212,21 @@ def words(runs: Runs):
     runs.check("the most of tiny", runs.run("tiny 126 1200", TINY), (0, SOLD, ""))
 
 
+def long_words(runs: Runs):
+    """Words of 64 letters and more: a catalogue's and an export's name, and names of nothing."""
+    sold = runs.run("replay k1.json", RESERVES)
+    with open(EXAMPLE, "rb") as file:
+        example = file.read()
+    for name in LONG_NAMES:
+        runs.write(name, example)
+        runs.check("a catalogue's name of %d letters" % len(name), runs.run("replay " + name, RESERVES), sold)
+        runs.check("the same by --from", runs.run("replay k1.json --from " + name), (1, b"", "rail_host: export fault 1\n"))
+        runs.check("the same, missing", runs.run("replay %s.x" % name), (1, b"", "rail_host: catalogue missing\n"))
+        runs.check("the same after a whole command", runs.run("tiny 3 2 " + name, TINY), (2, b"", REFUSED))
+        runs.check("the same in a number", runs.run("drill --seed %s7 --workers 1 --size 1 --places 1" % ("0" * len(name))),
+                   (0, b"requests 1 sold 1 refused 0 busy 0 double 0\n", ""))
+
+
 def drills(runs: Runs):
     for line, printed in DRILLS:
         runs.check(line, runs.run(line), (0, printed.encode(), ""))
@@ -228,9 +246,19 @@ def catalogues(runs: Runs):
         text = example.replace("\"runs\":", name, 1).rstrip()[:-1] + end
         runs.write("wrong.json", text.encode())
         runs.check("runs %d" % number, runs.run("replay wrong.json", RESERVES), (1, b"", "rail_host: %s\n" % note) if note else sold)
+    largest(runs, example, sold)
     os.mkdir(os.path.join(runs.folder, "folder"))
     for line in ("replay folder", "serve folder --port 8080"):
         runs.check(line + ", which is no file", runs.run(line, RESERVES), (3, b"", READ_FAULT))
+
+
+def largest(runs: Runs, example: str, sold: tuple):
+    """Catalogues whose last byte counts, of up to three bytes less than the most, of the most, and of one byte more."""
+    text = example.rstrip()
+    for size in range(LARGEST - 3, LARGEST + 2):
+        runs.write("large.json", text[:-1].encode() + b" " * (size - len(text)) + text[-1:].encode())
+        wanted = sold if size <= LARGEST else (1, b"", "rail_host: catalogue too large\n")
+        runs.check("a catalogue of %d bytes" % size, runs.run("replay large.json", RESERVES), wanted)
 
 
 def exports(runs: Runs):
@@ -239,9 +267,10 @@ def exports(runs: Runs):
         runs.write("wrong.txt", text.encode("ascii"))
         for line in ("serve k1.json --port 8080 --from wrong.txt --export", "replay k1.json --from wrong.txt"):
             runs.check("export %d: %s" % (number, line), runs.run(line), (1, b"", "rail_host: %s\n" % note))
-    os.truncate(os.path.join(runs.folder, "wrong.txt"), LARGEST_EXPORT + 1)
     line = "serve k1.json --port 8080 --from wrong.txt"
-    runs.check("a large export", runs.run(line), (1, b"", "rail_host: export too large\n"))
+    for size, note in [(LARGEST_EXPORT, "export fault 1"), (LARGEST_EXPORT + 1, "export too large")]:
+        os.truncate(os.path.join(runs.folder, "wrong.txt"), size)
+        runs.check("an export of %d bytes" % size, runs.run(line), (1, b"", "rail_host: %s\n" % note))
     runs.check("a folder as an export", runs.run("serve k1.json --port 8080 --from folder"), (3, b"", READ_FAULT))
     text = FIRST_LINE + SOLD_LINE + "end 1\n"
     runs.write("x.txt", text.encode("ascii"))
@@ -363,7 +392,7 @@ def memories(runs: Runs):
 def main() -> int:
     with tempfile.TemporaryDirectory() as folder:
         runs = Runs(sys.argv[1], folder)
-        for part in (catalogues, words, exports, drills, inputs, outputs, broken_input, listeners, memories):
+        for part in (catalogues, words, long_words, exports, drills, inputs, outputs, broken_input, listeners, memories):
             part(runs)
     for difference in runs.differences:
         print(difference)

@@ -1,10 +1,13 @@
 """`serve` over real sockets: idle and stalled connections, requests sent ahead, long answers, refusals of long bodies,
-want of file handles, and its end.
+want of file handles, a booking that comes to its limit, members side by side, a listener that goes, and its end.
 
   sockets.py PROGRAM
 
 Time limits are held against wide bounds, so that a busy machine changes nothing.
 """
+import calendar
+import contextlib
+import ctypes
 import json
 import os
 import resource
@@ -23,6 +26,7 @@ UNKNOWN = b'{"code":"UnknownBooking","status":404,"title":"Unknown booking"}'
 CHUNKED = b"POST /offers HTTP/1.1\r\nTransfer-Encoding: chunked\r\n\r\n"
 CODING = b'{"code":"Coding","status":501,"title":"Coding not supported"}'
 LONG = b"POST /offers HTTP/1.1\r\nContent-Length: 5000000\r\n\r\n"
+LONG_ENOUGH = b"POST /offers HTTP/1.1\r\nRetailer-Key: north\r\nContent-Length: 500\r\n\r\n"
 TOO_LARGE = b'{"code":"BodyTooLarge","status":413,"title":"Body too large"}'
 PLACES = b"GET /runs/0/places/A/B HTTP/1.1\r\nRetailer-Key: north\r\n\r\n"
 MOST_PLACES = 1_200
@@ -43,12 +47,13 @@ class Host:
     """The program, serving so many connections at a free port."""
 
     def __init__(self, program: str, connections: int, workers: int, sweep: int = 1, handles: int = None,
-                 catalogue: str = EXAMPLE):
+                 catalogue: str = EXAMPLE, more: list = ()):
         free = socket.create_server(("127.0.0.1", 0))
         self.port = free.getsockname()[1]
         free.close()
         limit = (lambda: resource.setrlimit(resource.RLIMIT_NOFILE, (handles, handles))) if handles else None
-        words = ["serve", catalogue, "--port", self.port, "--connections", connections, "--workers", workers, "--sweep", sweep]
+        words = ["serve", catalogue, "--port", self.port, "--connections", connections, "--workers", workers, "--sweep", sweep,
+                 *more]
         self.process = subprocess.Popen([program] + [str(word) for word in words], stdin=subprocess.DEVNULL,
                                         stdout=subprocess.PIPE, stderr=subprocess.PIPE, preexec_fn=limit)
 
@@ -147,6 +152,65 @@ def time_limits(program: str):
         for thread in threads:
             thread.join()
         expect(not failures, "; ".join(failures))
+        host.end()
+
+
+def drip(client: socket.socket, asked: bytes, pause: float):
+    """Sends a byte at a time, until the other side has ended the connection."""
+    for byte in asked:
+        try:
+            client.sendall(bytes([byte]))
+            client.settimeout(pause)
+            expect(client.recv(65_536) == b"", "something was answered to a request that isn't whole")
+            return
+        except ConnectionError:  # it had ended before the byte came
+            return
+        except socket.timeout:
+            client.settimeout(SECONDS)
+    raise Wrong("the request is longer than the host waits")
+
+
+def dripped(program: str):
+    """A request that isn't whole 60 seconds after its first byte ends its connection, however often a byte comes, in its
+    head and in its body, also where an answer went before it; a worker is free again then. One that is whole before is
+    answered."""
+    ends = {"a head": (b"", b"GET /" + b"x" * 500), "a body": (LONG_ENOUGH, b"{" * 500),
+            "a second request": (ASKS, HALF + b"y" * 500)}
+    failures = []
+
+    def play(host: Host, what: str, first: bytes, asked: bytes):
+        try:
+            client = host.connect()
+            begin = time.monotonic()
+            client.sendall(first)
+            if first == ASKS:
+                read_answer(client, UNKNOWN)
+                time.sleep(3)
+                begin = time.monotonic()
+            drip(client, asked, 0.25)
+            took = time.monotonic() - begin
+            expect(58 <= took <= 75, "%s ended after %.1f seconds" % (what, took))
+            client.close()
+        except (Wrong, OSError) as failure:
+            failures.append("%s: %r" % (what, failure))
+
+    with Host(program, len(ends) + 2, len(ends) + 1) as host:
+        threads = [threading.Thread(target=play, args=(host, what, *said)) for what, said in ends.items()]
+        for thread in threads:
+            thread.start()
+        client = host.connect()
+        for at in range(len(ASKS)):
+            client.sendall(ASKS[at:at + 1])
+            time.sleep(0.8)
+        read_answer(client, UNKNOWN)
+        client.close()
+        for thread in threads:
+            thread.join()
+        expect(not failures, "; ".join(failures))
+        last = host.connect()
+        last.sendall(ASKS)
+        read_answer(last, UNKNOWN)
+        last.close()
         host.end()
 
 
@@ -278,9 +342,116 @@ def ticks(program: str):
         expect(time.monotonic() - begin > 3, "the host ended before its tick")
 
 
+@contextlib.contextmanager
+def catalogue_with(**members):
+    """The name of a file with the example's catalogue, in which these members are others."""
+    with tempfile.TemporaryDirectory() as folder, open(EXAMPLE, encoding="utf-8") as file:
+        name = os.path.join(folder, "k.json")
+        with open(name, "w", encoding="utf-8") as changed:
+            json.dump(dict(json.load(file), **members), changed)
+        yield name
+
+
+def asked(client: socket.socket, head: bytes, body: bytes = b"") -> dict:
+    """The body of the answer to one request of the retailer north."""
+    client.sendall(head + b" HTTP/1.1\r\nRetailer-Key: north\r\nContent-Length: %d\r\n\r\n" % len(body) + body)
+    got = b""
+    while b"\r\n\r\n" not in got:
+        got += client.recv(65_536)
+    head, got = got.split(b"\r\n\r\n", 1)
+    length = int(head.split(b"Content-Length: ")[1].split(b"\r\n")[0])
+    while len(got) < length:
+        got += client.recv(65_536)
+    return json.loads(got)
+
+
+def expiry(program: str):
+    """A booking that nobody confirms comes to its limit, and the host's own member ends it: nobody asks for a sweep."""
+    wish = b'{"from":"BERN","run":1,"to":"THUN"}'
+    with catalogue_with(confirmSeconds=1) as name, Host(program, 1, 1, catalogue=name) as host:
+        client = host.connect()
+        booking = asked(client, b"POST /reservations", wish)
+        expect(booking.get("status") == "PREBOOKED", "a reservation was answered %r" % booking)
+        until = time.monotonic() + 30
+        while booking["status"] == "PREBOOKED" and time.monotonic() < until:
+            time.sleep(0.2)
+            booking = asked(client, b"GET /bookings/" + booking["id"].encode())
+        expect(booking["status"] == "EXPIRED", "half a minute after its limit of a second it is %r" % booking)
+        expect(booking["endedAt"] > booking["confirmableUntil"], "it has expired before its limit was over: %r" % booking)
+        client.close()
+        host.end()
+
+
+def side_by_side(program: str):
+    """While clients hold all workers but one in the middle of a request, that one serves others; then the halves are answered."""
+    for workers in (2, 4):
+        with Host(program, workers + 2, workers) as host:
+            held = [host.connect() for _ in range(workers - 1)]
+            for client in held:
+                client.sendall(HALF)
+            time.sleep(0.3)
+            for _ in range(3):
+                begin = time.monotonic()
+                client = host.connect()
+                client.sendall(ASKS)
+                read_answer(client, UNKNOWN)
+                client.close()
+                expect(time.monotonic() - begin < 15, "a connection waited for another worker's client")
+            for client in held:
+                client.sendall(REST)
+                read_answer(client, UNKNOWN)
+                client.close()
+            host.end()
+
+
+PIDFD_GETFD = 438  # the number of this call of Linux
+
+
+def listening_socket(host: Host) -> socket.socket:
+    """The host's own listening socket."""
+    libc = ctypes.CDLL(None, use_errno=True)
+    process = os.pidfd_open(host.process.pid)
+    for number in range(3, 64):
+        handle = libc.syscall(PIDFD_GETFD, process, number, 0)
+        if handle >= 0:
+            ours = socket.socket(fileno=handle) if is_socket(handle) else os.close(handle)
+            if ours and ours.getsockopt(socket.SOL_SOCKET, socket.SO_ACCEPTCONN):
+                os.close(process)
+                return ours
+            if ours:
+                ours.close()
+    raise Wrong("the host's listening socket isn't found, error %d" % ctypes.get_errno())
+
+
+def is_socket(handle: int) -> bool:
+    return os.readlink("/proc/self/fd/%d" % handle).startswith("socket:")
+
+
+def listener_that_goes(program: str):
+    """The accept fails for good: the host ends with status 3, and what it sold stands in its notes, before the word of it."""
+    example = "rail-export 1 18 65536\nrow 0 0 C 1 1780294500 800 1 4.1.2\n"
+    wish = b'{"from":"BERN","run":1,"to":"THUN"}'
+    with tempfile.NamedTemporaryFile("w", suffix=".txt") as export:
+        export.write(example + "end 1\n")
+        export.flush()
+        with Host(program, 4, 2, more=["--from", export.name, "--export"]) as host:
+            client = host.connect()
+            booking = asked(client, b"POST /reservations", wish)
+            listener = listening_socket(host)
+            listener.shutdown(socket.SHUT_RDWR)
+            listener.close()
+            client.close()
+            output, notes = host.process.communicate(timeout=SECONDS)
+    limit = calendar.timegm(time.strptime(booking["confirmableUntil"], "%Y-%m-%dT%H:%M:%SZ"))
+    wanted = example + "row 1 0 P 1 %d 600 1 12.0.1\nend 2\nrail_host: read fault\n" % limit
+    got = (host.process.returncode, output, notes.decode())
+    expect(got == (3, b"", wanted), "it ended with %r and not with the export and the note %r" % (got, wanted))
+
+
 def main() -> int:
     program = os.path.abspath(sys.argv[1])
-    parts = [ticks, refusals, ahead, long_answers, late_reader, handles, time_limits]
+    parts = [ticks, refusals, ahead, long_answers, late_reader, handles, expiry, side_by_side, listener_that_goes]
+    parts += [time_limits, dripped]
     for part in parts:
         try:
             part(program)

@@ -68,12 +68,25 @@ OPERATION = [
     r"pool=unkept .*\n.*pool=retailer_1 .*\n.*pool=retailer_2 ",
     r"release .* 200 +RELEASED",
     r"Ticket B000002, CONFIRMED, 23.00 EUR\n  20..-..-..  train ",
+    r"changed: ticketFee: 200 -> 250\nchanged: retailer 3: another key\nsame-seats: the 52992 places of 288 runs are the same seats\nstatus 1\n",
+    r"place 24: .*coach 2 seat 1 SECOND WINDOW QUIET -> .*coach 7 seat 1 SECOND WINDOW QUIET\nsame-seats: the seats are not the same: 48 lines\n",
     r'"id":"B000000".*"status":"PREBOOKED"',
     r'"id":"B000000".*"status":"CONFIRMED"',
     r"closed: 502\n",
     r"end 1\n",
     r'"id":"B000000".*"status":"CONFIRMED"',
     r"the same bookings\nretailer,bookings,live,sold,refunded,exchanged\n1,1,1,1400,0,0\nforgotten,0,0,0,0,0",
+    r"Train 1001 of .*, run 0: HARBOUR 05:04 to SUMMIT ",
+    r"2,1,SECOND,WINDOW QUIET,HARBOUR,DUNES,B000000,1,CONFIRMED\n2,2,SECOND,WINDOW QUIET,HARBOUR,DUNES,B000000,1,CONFIRMED\n",
+    r"amend: bookings touched: 1; owed: 0.00 EUR\n",
+    r"B000000,1,CONFIRMED,moved,0,1001,.*,HARBOUR,DUNES,2/1 2/2,1,1003,.*,.*T05:34:00Z,2/1 2/2,0\n",
+    r'"id":"B000000",.*"run":1,"to":"DUNES","train":1003\}.*"status":"CONFIRMED"',
+    r"B000000,reseated,2/1 2/2,2/101 2/102\nthe host takes it\n",
+    r"roll: runs over: 288; coming runs in their slots: 288, at the end: 0, there already: 0\n",
+    r"roll: bookings archived: 1, kept: 0 live and 0 ended; rows never used: 65535 of 65536\n",
+    r"B000000,1,CONFIRMED,1400,,,,train 1001 of .* HARBOUR to DUNES 2/1 2/2\n",
+    r"row 0 0 r 0 0 0 1 0.0.1 p0 0 -\nend 1\n",
+    r"retailer,bookings,live,sold,refunded,exchanged\n1,1,0,1400,0,0\nthe host begins with the next day\n",
 ]
 
 
@@ -109,7 +122,7 @@ def run_page(page, program, folder, path=None, change=lambda commands: commands)
     # The examples with the same other ports, beside what else a page's commands look at.
     tree = folder / "tree"
     shutil.copytree(ROOT / "examples", tree / "examples")
-    for name in ("bench", "crates"):
+    for name in ("bench", "crates", "tools"):
         (tree / name).symlink_to(ROOT / name)
     proxy = tree / "examples" / "nginx.conf"
     settings = proxy.read_text()

@@ -12,8 +12,8 @@ use Rattle.history_model.proofs.ListLemmas.{All-append}
 use Rattle.history_model.specs.History.{IsLegal}
 use Rattle.history_model.specs.Work.{NoStep}
 use Rattle.claim_rule.specs.Rule.{BooksView, DeskView}
-use Rattle.claim_rule.specs.Calls.{ShapeBy}
-use Rattle.claim_rule.specs.Desks.{IsOf, Shape}
+use Rattle.claim_rule.specs.Calls.{AddsStepsBy}
+use Rattle.claim_rule.specs.Desks.{IsOf, AddsSteps}
 use Rattle.claim_rule.specs.Out.{KeepsHolds, KeepsEndings, IsTidy, exchanges}
 use Rattle.claim_rule.proofs.Shapes.{shape_then, shape_none}
 use Rattle.claim_rule.proofs.Out.{tidy_through, settled_calm, still_idle}
@@ -27,11 +27,11 @@ looks_more (p ∷ places) place span (b ∷ states) free es looks at is =
 looks_more [] place span (b ∷ states) free es looks at is = absurd at
 looks_more (p ∷ places) place span [] free es looks at is = absurd at
 
-pub looked_none : (desk : DeskView) (span : Interval) → IsLegal desk.layout desk.seen → ShapeBy (LooksAt [] span []) desk desk
+pub looked_none : (desk : DeskView) (span : Interval) → IsLegal desk.layout desk.seen → AddsStepsBy (LooksAt [] span []) desk desk
 looked_none desk span legal = ([], refl, shape_none desk legal)
 
-pub looked_more : (old mid new : DeskView) (places : List PlaceNo) (place : PlaceNo) (span : Interval) (states : List Bool) (free : Bool) → ShapeBy (LooksAt places span states) old mid → HasLooked place span free mid new
-    → ShapeBy (LooksAt (places ++ place ∷ []) span (states ++ free ∷ [])) old new
+pub looked_more : (old mid new : DeskView) (places : List PlaceNo) (place : PlaceNo) (span : Interval) (states : List Bool) (free : Bool) → AddsStepsBy (LooksAt places span states) old mid → HasLooked place span free mid new
+    → AddsStepsBy (LooksAt (places ++ place ∷ []) span (states ++ free ∷ [])) old new
 looked_more old mid new places place span states free did look = (
   did.0 ++ look.0,
   looks_more places place span states free did.0 look.0 did.1 look.1,
@@ -52,33 +52,33 @@ looks_calm (p ∷ places) span (b ∷ states) es looks =
 looks_calm [] span (b ∷ states) es looks = absurd looks
 looks_calm (p ∷ places) span [] es looks = absurd looks
 
-pub looked_tidy : (books : BooksView) (old new : DeskView) (places : List PlaceNo) (span : Interval) (states : List Bool) → IsOf books new → ShapeBy (LooksAt places span states) old new → KeepsHolds old new → KeepsEndings old new → IsTidy old → IsTidy new
+pub looked_tidy : (books : BooksView) (old new : DeskView) (places : List PlaceNo) (span : Interval) (states : List Bool) → IsOf books new → AddsStepsBy (LooksAt places span states) old new → KeepsHolds old new → KeepsEndings old new → IsTidy old → IsTidy new
 looked_tidy books old new places span states of did holds endings is =
     tidy_through books old new did.0 of did.2 (settled_calm old.number did.0 (looks_calm places span states did.0 did.1)) is (still_idle old new holds endings is.0)
 
-pub counted_more : (old mid new : DeskView) (places : List PlaceNo) (place : PlaceNo) (span : Interval) (count : ℕ) (free : Bool) → ShapeBy (CountsFree places span count) old mid → HasLooked place span free mid new
-    → ShapeBy (CountsFree (places ++ place ∷ []) span (count + cond free 1 0)) old new
+pub counted_more : (old mid new : DeskView) (places : List PlaceNo) (place : PlaceNo) (span : Interval) (count : ℕ) (free : Bool) → AddsStepsBy (CountsFree places span count) old mid → HasLooked place span free mid new
+    → AddsStepsBy (CountsFree (places ++ place ∷ []) span (count + cond free 1 0)) old new
 counted_more old mid new places place span count free did look = (
   did.0 ++ look.0,
   (did.1.0 ++ free ∷ [], looks_more places place span did.1.0 free did.0 look.0 did.1.1 look.1, ap (λ n. n + cond free 1 0) did.1.2 ∙ sym (count_more did.1.0 free)),
   shape_then old mid new did.0 look.0 did.2 look.2,
 )
 
-pub counted_none : (desk : DeskView) (span : Interval) → IsLegal desk.layout desk.seen → ShapeBy (CountsFree [] span 0) desk desk
+pub counted_none : (desk : DeskView) (span : Interval) → IsLegal desk.layout desk.seen → AddsStepsBy (CountsFree [] span 0) desk desk
 counted_none desk span legal = ([], ([], refl, refl), shape_none desk legal)
 
-pub counted_tidy : (books : BooksView) (old new : DeskView) (places : List PlaceNo) (span : Interval) (count : ℕ) → IsOf books new → ShapeBy (CountsFree places span count) old new → KeepsHolds old new → KeepsEndings old new → IsTidy old → IsTidy new
+pub counted_tidy : (books : BooksView) (old new : DeskView) (places : List PlaceNo) (span : Interval) (count : ℕ) → IsOf books new → AddsStepsBy (CountsFree places span count) old new → KeepsHolds old new → KeepsEndings old new → IsTidy old → IsTidy new
 counted_tidy books old new places span count of did holds endings is = looked_tidy books old new places span did.1.0 of (did.0, did.1.1, did.2) holds endings is
 
-pub counted_next : (old mid new : DeskView) (places : List PlaceNo) (i : ℕ) (d : PlaceNo) (span : Interval) (count : ℕ) (free : Bool) → i < length places → ShapeBy (CountsFree (take i places) span count) old mid → HasLooked (get_or places i d) span free mid new
-    → ShapeBy (CountsFree (take (i + 1) places) span (count + cond free 1 0)) old new
+pub counted_next : (old mid new : DeskView) (places : List PlaceNo) (i : ℕ) (d : PlaceNo) (span : Interval) (count : ℕ) (free : Bool) → i < length places → AddsStepsBy (CountsFree (take i places) span count) old mid → HasLooked (get_or places i d) span free mid new
+    → AddsStepsBy (CountsFree (take (i + 1) places) span (count + cond free 1 0)) old new
 counted_next old mid new places i d span count free h did look =
-    subst (λ (l : List PlaceNo). ShapeBy (CountsFree l span (count + cond free 1 0)) old new) (sym (take_more places i d h)) (counted_more old mid new (take i places) (get_or places i d) span count free did look)
+    subst (λ (l : List PlaceNo). AddsStepsBy (CountsFree l span (count + cond free 1 0)) old new) (sym (take_more places i d h)) (counted_more old mid new (take i places) (get_or places i d) span count free did look)
 
-pub looked_next : (old mid new : DeskView) (places : List PlaceNo) (i : ℕ) (d : PlaceNo) (span : Interval) (states : List Bool) (free : Bool) → i < length places → ShapeBy (LooksAt (take i places) span states) old mid → HasLooked (get_or places i d) span free mid new
-    → ShapeBy (LooksAt (take (i + 1) places) span (states ++ free ∷ [])) old new
+pub looked_next : (old mid new : DeskView) (places : List PlaceNo) (i : ℕ) (d : PlaceNo) (span : Interval) (states : List Bool) (free : Bool) → i < length places → AddsStepsBy (LooksAt (take i places) span states) old mid → HasLooked (get_or places i d) span free mid new
+    → AddsStepsBy (LooksAt (take (i + 1) places) span (states ++ free ∷ [])) old new
 looked_next old mid new places i d span states free h did look =
-    subst (λ (l : List PlaceNo). ShapeBy (LooksAt l span (states ++ free ∷ [])) old new) (sym (take_more places i d h)) (looked_more old mid new (take i places) (get_or places i d) span states free did look)
+    subst (λ (l : List PlaceNo). AddsStepsBy (LooksAt l span (states ++ free ∷ [])) old new) (sym (take_more places i d h)) (looked_more old mid new (take i places) (get_or places i d) span states free did look)
 
 -- the looks at one place, from those at its pieces
 
@@ -99,5 +99,5 @@ two_looked old mid new place span x y a b free are first second is = (
 )
 
 -- the look of the half is the piece's
-pub as_piece : (old new : DeskView) (place : PlaceNo) (piece : Interval) (half word : ℕ) (free : Bool) → half ≡ half_of piece → (IsTrue free ↔ IsClear word piece) → Shape old new (Look place.0 half word ∷ []) → HasLookedAt place piece free old new
-as_piece old new place piece half word free is says did = (word, says, subst (λ (h : ℕ). Shape old new (Look place.0 h word ∷ [])) is did)
+pub as_piece : (old new : DeskView) (place : PlaceNo) (piece : Interval) (half word : ℕ) (free : Bool) → half ≡ half_of piece → (IsTrue free ↔ IsClear word piece) → AddsSteps old new (Look place.0 half word ∷ []) → HasLookedAt place piece free old new
+as_piece old new place piece half word free is says did = (word, says, subst (λ (h : ℕ). AddsSteps old new (Look place.0 h word ∷ [])) is did)

@@ -7,7 +7,7 @@ use Rattle.leg_masks.specs.Interval.{Interval}
 use Rattle.rail_ids.specs.declared.PlaceNo.{PlaceNo}
 use Rattle.history_model.specs.declared.entry.Step.{Step}
 use Rattle.claim_rule.specs.Rule.{DeskView}
-use Rattle.claim_rule.specs.Calls.{ShapeBy}
+use Rattle.claim_rule.specs.Calls.{AddsStepsBy}
 use Rattle.claim_rule.proofs.Shapes.{shape_then}
 use Rattle.availability.specs.Looks.{LooksAt, CountsFree, HasLooked, row_from}
 
@@ -31,8 +31,8 @@ row_then first (suc m) n =
     ∙ ap (λ (l : List PlaceNo). record { 0 = first } ∷ l) (row_then (first + 1) m n ∙ ap (λ (k : ℕ). row_from (first + 1) m ++ row_from k n) f)
 
 -- a stretch, and then the one behind it
-pub counted_then : (old mid new : DeskView) (first m n : ℕ) (span : Interval) (count more : ℕ) → ShapeBy (CountsFree (row_from first m) span count) old mid → ShapeBy (CountsFree (row_from (first + m) n) span more) mid new
-    → ShapeBy (CountsFree (row_from first (m + n)) span (count + more)) old new
+pub counted_then : (old mid new : DeskView) (first m n : ℕ) (span : Interval) (count more : ℕ) → AddsStepsBy (CountsFree (row_from first m) span count) old mid → AddsStepsBy (CountsFree (row_from (first + m) n) span more) mid new
+    → AddsStepsBy (CountsFree (row_from first (m + n)) span (count + more)) old new
 counted_then old mid new first m n span count more did next = (
   did.0 ++ next.0,
   subst (λ (l : List PlaceNo). CountsFree l span (count + more) (did.0 ++ next.0)) (sym (row_then first m n)) (
@@ -49,7 +49,7 @@ as_byte false = refl
 
 -- the look at one place
 pub counted_one : (old new : DeskView) (place : ℕ) (span : Interval) (free : Bool) → HasLooked (record { 0 = place }) span free old new
-    → ShapeBy (CountsFree (row_from place 1) span (bool_byte free)) old new
+    → AddsStepsBy (CountsFree (row_from place 1) span (bool_byte free)) old new
 counted_one old new place span free look = (
   look.0,
   (free ∷ [], (look.0, [], look.1, refl, sym (append-nil look.0)), as_byte free),
@@ -58,10 +58,10 @@ counted_one old new place span free look = (
 
 -- three stretches, each behind the one before
 pub counted_thrice : (old mid next new : DeskView) (first l m n second third all : ℕ) (span : Interval) (count more most : ℕ) → second ≡ first + l → third ≡ first + (l + m) → l + m + n ≡ all
-    → ShapeBy (CountsFree (row_from first l) span count) old mid → ShapeBy (CountsFree (row_from second m) span more) mid next → ShapeBy (CountsFree (row_from third n) span most) next new
-    → ShapeBy (CountsFree (row_from first all) span (count + more + most)) old new
+    → AddsStepsBy (CountsFree (row_from first l) span count) old mid → AddsStepsBy (CountsFree (row_from second m) span more) mid next → AddsStepsBy (CountsFree (row_from third n) span most) next new
+    → AddsStepsBy (CountsFree (row_from first all) span (count + more + most)) old new
 counted_thrice old mid next new first l m n second third all span count more most at then is one two three =
-    let two' = subst (λ (k : ℕ). ShapeBy (CountsFree (row_from k m) span more) mid next) at two in
-    let three' = subst (λ (k : ℕ). ShapeBy (CountsFree (row_from k n) span most) next new) then three in
+    let two' = subst (λ (k : ℕ). AddsStepsBy (CountsFree (row_from k m) span more) mid next) at two in
+    let three' = subst (λ (k : ℕ). AddsStepsBy (CountsFree (row_from k n) span most) next new) then three in
     let both = counted_then old mid next first l m span count more one two' in
-    subst (λ (k : ℕ). ShapeBy (CountsFree (row_from first k) span (count + more + most)) old new) is (counted_then old next new first (l + m) n span (count + more) most both three')
+    subst (λ (k : ℕ). AddsStepsBy (CountsFree (row_from first k) span (count + more + most)) old new) is (counted_then old next new first (l + m) n span (count + more) most both three')

@@ -5,8 +5,8 @@ use Rattle.rail_ids.specs.declared.PlaceNo.{PlaceNo}
 use Rattle.history_model.specs.declared.entry.Step.{Step}
 use Rattle.history_model.specs.Looks.{look_at}
 use Rattle.claim_rule.specs.Rule.{DeskView}
-use Rattle.claim_rule.specs.Calls.{ShapeBy}
-use Rattle.claim_rule.specs.Desks.{Shape}
+use Rattle.claim_rule.specs.Calls.{AddsStepsBy}
+use Rattle.claim_rule.specs.Desks.{AddsSteps}
 
 -- one look at each of the pieces at a place, in order, and whether all the words that they showed are free on their
 -- piece
@@ -20,21 +20,24 @@ LooksPieces place (piece ∷ rest) free es =
 abbrev pub LooksAt : List PlaceNo → Interval → List Bool → List Step → Type 0
 LooksAt [] span [] es = es ≡ []
 LooksAt (place ∷ places) span (free ∷ states) es =
-    (looks : List Step) × (rest : List Step) × LooksPieces place.0 (pieces span) free looks × LooksAt places span states rest × (es ≡ looks ++ rest)
+    (looks : List Step) × (rest : List Step) × LooksPieces place.0 (pieces span) free looks
+    × LooksAt places span states rest × (es ≡ looks ++ rest)
 LooksAt [] span (free ∷ states) es = ⊥
 LooksAt (place ∷ places) span [] es = ⊥
 
 -- the same looks, of which so many showed their place free
 abbrev pub CountsFree : List PlaceNo → Interval → ℕ → List Step → Type 0
-CountsFree places span free es = (states : List Bool) × LooksAt places span states es × (free ≡ count_by (λ state. state) states)
+CountsFree places span free es =
+    (states : List Bool) × LooksAt places span states es × (free ≡ count_by (λ state. state) states)
 
 -- the looks at one place that a desk made
 abbrev pub HasLooked : PlaceNo → Interval → Bool → DeskView → DeskView → Type 0
-HasLooked place span free old new = ShapeBy (LooksPieces place.0 (pieces span) free) old new
+HasLooked place span free old new = AddsStepsBy (LooksPieces place.0 (pieces span) free) old new
 
 -- the look at one piece of a place that a desk made
 abbrev pub HasLookedAt : PlaceNo → Interval → Bool → DeskView → DeskView → Type 0
-HasLookedAt place piece free old new = (word : ℕ) × (IsTrue free ↔ IsClear word piece) × Shape old new (look_at place.0 piece word ∷ [])
+HasLookedAt place piece free old new =
+    (word : ℕ) × (IsTrue free ↔ IsClear word piece) × AddsSteps old new (look_at place.0 piece word ∷ [])
 
 -- one piece, or two
 abbrev pub listed : Interval → Option Interval → List Interval

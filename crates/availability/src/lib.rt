@@ -2,6 +2,8 @@
 //!
 //! Each call looks at each piece of the legs at each place once, in the order of the list. What it answers is what
 //! those looks showed: between two of them other desks may take and give.
+//!
+//! `place_states` takes its memory before the first look; the other two take none.
 #![tactic(auto)]
 
 mod looks;

@@ -1,7 +1,7 @@
 ghost use Rattle.std.specs.Prelude.{◌≡◌, ◌<◌, ◌≤◌, ◌+◌, ◌-◌, ◌*◌, ◌&&◌, All, length, cond, IfOk, IfSome, OnOk, OnErr};
 ghost use Rattle.leg_masks.specs.Interval.{IsPiece, most_places, pieces as pieces_of};
 ghost use Rattle.claim_rule.specs.Desks.{IsOf};
-ghost use Rattle.claim_rule.specs.Calls.{ShapeBy};
+ghost use Rattle.claim_rule.specs.Calls.{AddsStepsBy};
 ghost use Rattle.claim_rule.specs.Out.{KeepsHolds, KeepsEndings, IsTidy};
 ghost use Rattle.availability.specs.Looks.{LooksAt, CountsFree, HasLooked, HasLookedAt, listed, row_from};
 
@@ -22,7 +22,7 @@ pub fn free_places(books: &Books, desk: &mut Desk, places: &[PlaceNo], span: Spa
     requires places { All (λ p. p.0 < length books.now.layout.legs) places.now }
     requires few { length places.now < 4_294_967_296 }
     ensures own { IsOf books.now desk.new }
-    ensures entries { ShapeBy (CountsFree places.now span result) desk.old desk.new }
+    ensures entries { AddsStepsBy (CountsFree places.now span result) desk.old desk.new }
     ensures holds { KeepsHolds desk.old desk.new }
     ensures endings { KeepsEndings desk.old desk.new }
     ensures tidy { IsTidy desk.old → IsTidy desk.new }
@@ -45,7 +45,7 @@ pub fn free_in_row(books: &Books, desk: &mut Desk, first: PlaceNo, count: u32, s
     requires own { IsOf books.now desk.old }
     requires places { first.0 + count ≤ length books.now.layout.legs }
     ensures own { IsOf books.now desk.new }
-    ensures entries { ShapeBy (CountsFree (row_from first.0 count) span result) desk.old desk.new }
+    ensures entries { AddsStepsBy (CountsFree (row_from first.0 count) span result) desk.old desk.new }
     ensures holds { KeepsHolds desk.old desk.new }
     ensures endings { KeepsEndings desk.old desk.new }
     ensures tidy { IsTidy desk.old → IsTidy desk.new }
@@ -72,7 +72,7 @@ pub fn place_states(
     requires own { IsOf books.now desk.old }
     requires places { All (λ p. p.0 < length books.now.layout.legs) places.now }
     ensures own { IsOf books.now desk.new }
-    ensures entries { IfOk result (λ v. ShapeBy (LooksAt places.now span v.items) desk.old desk.new) }
+    ensures entries { IfOk result (λ v. AddsStepsBy (LooksAt places.now span v.items) desk.old desk.new) }
     ensures untouched { OnErr result (desk.new ≡ desk.old) }
     ensures holds { KeepsHolds desk.old desk.new }
     ensures endings { KeepsEndings desk.old desk.new }
@@ -144,7 +144,7 @@ fn free_one_by_one(books: &Books, desk: &mut Desk, first: u32, count: u32, parts
     requires places { first + count ≤ length books.now.layout.legs }
     requires small { first + count ≤ most_places }
     ensures own { IsOf books.now desk.new }
-    ensures entries { ShapeBy (CountsFree (row_from first count) parts.now result) desk.old desk.new }
+    ensures entries { AddsStepsBy (CountsFree (row_from first count) parts.now result) desk.old desk.new }
     ensures few { result ≤ count }
     ensures holds { KeepsHolds desk.old desk.new }
     ensures endings { KeepsEndings desk.old desk.new }
@@ -164,7 +164,7 @@ fn free_by_fours(books: &Books, desk: &mut Desk, first: u32, count: u32, parts: 
     requires places { first + count ≤ length books.now.layout.legs }
     requires small { first + count ≤ most_places }
     ensures own { IsOf books.now desk.new }
-    ensures entries { ShapeBy (CountsFree (row_from first count) parts.now result) desk.old desk.new }
+    ensures entries { AddsStepsBy (CountsFree (row_from first count) parts.now result) desk.old desk.new }
     ensures holds { KeepsHolds desk.old desk.new }
     ensures endings { KeepsEndings desk.old desk.new }
 {
@@ -188,7 +188,7 @@ fn free_fours(books: &Books, desk: &mut Desk, from: u32, to: u32, parts: &Parts)
     requires places { 4 * to ≤ length books.now.layout.legs }
     requires small { 4 * to ≤ most_places }
     ensures own { IsOf books.now desk.new }
-    ensures entries { ShapeBy (CountsFree (row_from (4 * from) (4 * (to - from))) parts.now result) desk.old desk.new }
+    ensures entries { AddsStepsBy (CountsFree (row_from (4 * from) (4 * (to - from))) parts.now result) desk.old desk.new }
     ensures few { result ≤ 4 * (to - from) }
     ensures holds { KeepsHolds desk.old desk.new }
     ensures endings { KeepsEndings desk.old desk.new }
@@ -207,7 +207,7 @@ fn look_at_four(books: &Books, desk: &mut Desk, four: u32, parts: &Parts) -> u32
     requires places { 4 * four + 4 ≤ length books.now.layout.legs }
     requires small { 4 * four + 4 ≤ most_places }
     ensures own { IsOf books.now desk.new }
-    ensures entries { ShapeBy (CountsFree (row_from (4 * four) 4) parts.now result) desk.old desk.new }
+    ensures entries { AddsStepsBy (CountsFree (row_from (4 * four) 4) parts.now result) desk.old desk.new }
     ensures few { result ≤ 4 }
     ensures holds { KeepsHolds desk.old desk.new }
     ensures endings { KeepsEndings desk.old desk.new }
@@ -224,7 +224,7 @@ fn look_at_two(books: &Books, desk: &mut Desk, place: u32, parts: &Parts) -> u32
     requires places { place + 2 ≤ length books.now.layout.legs }
     requires small { place + 2 ≤ most_places }
     ensures own { IsOf books.now desk.new }
-    ensures entries { ShapeBy (CountsFree (row_from place 2) parts.now result) desk.old desk.new }
+    ensures entries { AddsStepsBy (CountsFree (row_from place 2) parts.now result) desk.old desk.new }
     ensures few { result ≤ 2 }
     ensures holds { KeepsHolds desk.old desk.new }
     ensures endings { KeepsEndings desk.old desk.new }
@@ -240,7 +240,7 @@ fn look_at_one(books: &Books, desk: &mut Desk, place: u32, parts: &Parts) -> u32
     requires own { IsOf books.now desk.old }
     requires places { place + 1 ≤ length books.now.layout.legs }
     ensures own { IsOf books.now desk.new }
-    ensures entries { ShapeBy (CountsFree (row_from place 1) parts.now result) desk.old desk.new }
+    ensures entries { AddsStepsBy (CountsFree (row_from place 1) parts.now result) desk.old desk.new }
     ensures few { result ≤ 1 }
     ensures holds { KeepsHolds desk.old desk.new }
     ensures endings { KeepsEndings desk.old desk.new }

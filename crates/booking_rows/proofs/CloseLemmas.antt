@@ -10,7 +10,7 @@ use Rattle.history_model.specs.Allowed.{OnRow, MayClose}
 use Rattle.history_model.specs.History.{IsLegal, state_of}
 use Rattle.history_model.proofs.Owners.{on_row}
 use Rattle.claim_rule.specs.Rule.{DeskView}
-use Rattle.claim_rule.specs.Desks.{Shape, Stepped}
+use Rattle.claim_rule.specs.Desks.{AddsSteps, Stepped}
 use Rattle.claim_rule.specs.Holds.{held}
 use Rattle.claim_rule.specs.Endings.{EndingView, IsEndingOf, end_word, given_front}
 use Rattle.claim_rule.proofs.EndingLemmas.{end_notes, all_front}
@@ -54,7 +54,7 @@ may_close a b c d e legal is read all n5 n6 n7 =
     )
 
 pub closing : (a b c d f : DeskView) (e : EndingView) → Stepped (Note e.row.row 5 (end_word e.kind e.end 5)) a b → Stepped (Note e.row.row 6 (end_word e.kind e.end 6)) b c → Stepped (Note e.row.row 7 (end_word e.kind e.end 7)) c d → Stepped (Close e.row.row) d f
-    → Shape a f (Note e.row.row 5 (end_word e.kind e.end 5) ∷ Note e.row.row 6 (end_word e.kind e.end 6) ∷ Note e.row.row 7 (end_word e.kind e.end 7) ∷ Close e.row.row ∷ [])
+    → AddsSteps a f (Note e.row.row 5 (end_word e.kind e.end 5) ∷ Note e.row.row 6 (end_word e.kind e.end 6) ∷ Note e.row.row 7 (end_word e.kind e.end 7) ∷ Close e.row.row ∷ [])
 closing a b c d f e n5 n6 n7 cl =
     shape_then a b f (Note e.row.row 5 (end_word e.kind e.end 5) ∷ []) _ (step_shape _ a b n5)
     (shape_then b c f (Note e.row.row 6 (end_word e.kind e.end 6) ∷ []) _ (step_shape _ b c n6)
@@ -69,5 +69,5 @@ pub closed_all : (a b c d f : DeskView) (e : EndingView) → IsEnding a e → St
 closed_all a b c d f e is n5 n6 n7 cl =
     closed_none d f e (noted_ending 7 (end_word e.kind e.end 7) c d e n7 (noted_ending 6 (end_word e.kind e.end 6) b c e n6 (noted_ending 5 (end_word e.kind e.end 5) a b e n5 is))) cl
 
-pub closing_holds : (a f : DeskView) (e : EndingView) → f.kept ≡ a.kept → IsEnding a e → Shape a f (closing_steps e.row.row e.kind e.end) → KeepsHolds a f
+pub closing_holds : (a f : DeskView) (e : EndingView) → f.kept ≡ a.kept → IsEnding a e → AddsSteps a f (closing_steps e.row.row e.kind e.end) → KeepsHolds a f
 closing_holds a f e kept is did = ending_holds a f (closing_steps e.row.row e.kind e.end) e did kept is.of (λ r q. (q, (q, (q, (q, tt))))) (λ r. (refl, (refl, (refl, (refl, tt)))))

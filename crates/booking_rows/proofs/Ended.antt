@@ -19,7 +19,7 @@ use Rattle.history_model.proofs.ListLemmas.{All-found}
 use Rattle.history_model.proofs.Owners.{on_row}
 use Rattle.rail_ids.specs.declared.RowNo.{RowNo}
 use Rattle.claim_rule.specs.Rule.{DeskView, OnBooking, state_seen}
-use Rattle.claim_rule.specs.Desks.{Shape}
+use Rattle.claim_rule.specs.Desks.{AddsSteps}
 use Rattle.claim_rule.specs.Endings.{EndingView, IsEndingOf}
 use Rattle.claim_rule.specs.Out.{IsEnding, EndsNone}
 use Rattle.claim_rule.specs.Turns.{IsPresentIn}
@@ -66,7 +66,7 @@ ends_stays g kind d end row s (x ∷ es) l on =
     ends_stays g kind d end row (apply s x) es l.1 (at_state (apply s x) row n.0 (EndsAs kind d end) n.1 (ends_becomes kind d end x.desk b.0 n.0 n.2 b.2))
 
 -- an ending that a desk had out, and has no longer, has ended in its way with all items given back
-pub has_ended : (mid new : DeskView) (steps : List Step) (e : EndingView) → IsEnding mid e → Shape mid new steps → EndsNone new → IsEndedAs new e.row e.kind e.end
+pub has_ended : (mid new : DeskView) (steps : List Step) (e : EndingView) → IsEnding mid e → AddsSteps mid new steps → EndsNone new → IsEndedAs new e.row e.kind e.end
 has_ended mid new steps e is did none =
     let x = shape_rest mid new steps did in
     let d = mid.number in
@@ -106,7 +106,7 @@ ended_after g kind end row s (x ∷ es) l on =
     let n = found (booking_at (apply s x) row.row row.generation) (MayBecome x.desk b.0) (rw b.1 at ((GoesOn-step g s x.desk x.step l.0).bookings row.row row.generation)) in
     ended_after g kind end row (apply s x) es l.1 (at_state (apply s x) row n.0 P n.1 (ended_becomes kind end x.desk b.0 n.0 n.2 b.2))
 
-pub ended_stays : (old new : DeskView) (steps : List Step) (row : RowNo) (kind : EndKind) (end : End) → Shape old new steps → IsEndedAs old row kind end → IsEndedAs new row kind end
+pub ended_stays : (old new : DeskView) (steps : List Step) (row : RowNo) (kind : EndKind) (end : End) → AddsSteps old new steps → IsEndedAs old row kind end → IsEndedAs new row kind end
 ended_stays old new steps row kind end did on =
     let P : Booking → Type 0 = λ b. (b.phase ≡ Ended kind) × (b.end ≡ end) in
     let x = shape_rest old new steps did in

@@ -12,7 +12,7 @@ use Rattle.history_model.specs.Apply.{in_phase}
 use Rattle.history_model.specs.History.{IsLegal, entry, state_of}
 use Rattle.history_model.proofs.Owners.{on_row, firm_making}
 use Rattle.claim_rule.specs.Rule.{DeskView, BooksView, state_seen}
-use Rattle.claim_rule.specs.Desks.{Stepped, Shape, IsOf, MayStep}
+use Rattle.claim_rule.specs.Desks.{Stepped, AddsSteps, IsOf, MayStep}
 use Rattle.claim_rule.specs.Holds.{HoldView, StandsFor, IsHoldOf, held}
 use Rattle.claim_rule.specs.Out.{IsHolding, HasNoted, HasNotedItems, IsToBeSealed, MaySealHold, KeepsEndings, IsSealedAs, SealsItems}
 use Rattle.claim_rule.proofs.Holding.{hold_notes, own_changes}
@@ -21,7 +21,7 @@ use Rattle.claim_rule.proofs.Out.{hold_only, hold_endings, makes_before}
 use Rattle.claim_rule.proofs.Shapes.{step_shape, shape_then}
 
 pub four_notes : (a b c d e : DeskView) (r r1 r2 r3 v1 v2 v3 v4 : ℕ) → r1 ≡ r → r2 ≡ r → r3 ≡ r → Stepped (Note r 1 v1) a b → Stepped (Note r1 2 v2) b c → Stepped (Note r2 3 v3) c d → Stepped (Note r3 4 v4) d e
-    → Shape a e (Note r 1 v1 ∷ Note r 2 v2 ∷ Note r 3 v3 ∷ Note r 4 v4 ∷ [])
+    → AddsSteps a e (Note r 1 v1 ∷ Note r 2 v2 ∷ Note r 3 v3 ∷ Note r 4 v4 ∷ [])
 four_notes a b c d e r r1 r2 r3 v1 v2 v3 v4 s1 s2 s3 n1 n2 n3 n4 =
     shape_then a b e (Note r 1 v1 ∷ []) _ (step_shape _ a b n1)
     (shape_then b c e (Note r 2 v2 ∷ []) _ (step_shape _ b c (subst (λ (x : ℕ). Stepped (Note x 2 v2) b c) s1 n2))
@@ -119,13 +119,13 @@ sealable a b c d e hold r l t n legal is n1 n2 n3 n4 noted some fr fl ft count =
       items = (λ i. take (len i) (low_words ws r l t n i)) ∙ (was ∙ sym (ap (map (λ (i : BookedItem). item_word i.place i.span)) is.items ∙ map_held hold.items));
     })
 
-pub detail_hold : (r v1 v2 v3 v4 : ℕ) (old new : DeskView) (hold now : HoldView) → r ≡ hold.row.row → Shape old new (Note r 1 v1 ∷ Note r 2 v2 ∷ Note r 3 v3 ∷ Note r 4 v4 ∷ []) → now ≡ hold → IsHolding old hold → IsHoldOf new now → IsHolding new now
+pub detail_hold : (r v1 v2 v3 v4 : ℕ) (old new : DeskView) (hold now : HoldView) → r ≡ hold.row.row → AddsSteps old new (Note r 1 v1 ∷ Note r 2 v2 ∷ Note r 3 v3 ∷ Note r 4 v4 ∷ []) → now ≡ hold → IsHolding old hold → IsHoldOf new now → IsHolding new now
 detail_hold r v1 v2 v3 v4 old new hold now at did same is of = record {
   of = of;
   only = λ q m. is.only q (makes_before old new (Note r 1 v1 ∷ Note r 2 v2 ∷ Note r 3 v3 ∷ Note r 4 v4 ∷ []) q did (refl, (refl, (refl, (refl, tt)))) m) ∙ sym (ap (λ (h : HoldView). h.row.row) same);
 }
 
-pub detail_endings : (v1 v2 v3 v4 : ℕ) (old new : DeskView) (hold : HoldView) → Shape old new (Note hold.row.row 1 v1 ∷ Note hold.row.row 2 v2 ∷ Note hold.row.row 3 v3 ∷ Note hold.row.row 4 v4 ∷ []) → IsHolding old hold → KeepsEndings old new
+pub detail_endings : (v1 v2 v3 v4 : ℕ) (old new : DeskView) (hold : HoldView) → AddsSteps old new (Note hold.row.row 1 v1 ∷ Note hold.row.row 2 v2 ∷ Note hold.row.row 3 v3 ∷ Note hold.row.row 4 v4 ∷ []) → IsHolding old hold → KeepsEndings old new
 detail_endings v1 v2 v3 v4 old new hold did is = hold_endings old new (Note hold.row.row 1 v1 ∷ Note hold.row.row 2 v2 ∷ Note hold.row.row 3 v3 ∷ Note hold.row.row 4 v4 ∷ []) hold did is.of.0 (λ r q. (q, (q, (q, (q, tt))))) (λ r. (refl, (refl, (refl, (refl, tt)))))
 
 -- the seal

@@ -24,7 +24,7 @@ use Rattle.claim_rule.specs.Rule.{DeskView}
 use Rattle.std.specs.Option.{option_map_or}
 use Rattle.history_model.specs.Booking.{Booking, present}
 use Rattle.claim_rule.specs.Holds.{HoldView, StandsFor, empty_hold}
-use Rattle.claim_rule.specs.Desks.{Shape, Stepped, AreTaken}
+use Rattle.claim_rule.specs.Desks.{AddsSteps, Stepped, AreTaken}
 use Rattle.claim_rule.proofs.Shapes.{step_shape, shape_then, shape_rest, shape_none}
 use Rattle.claim_rule.proofs.Reading.{saw}
 use Rattle.std.specs.List.{AllByRecursion}
@@ -41,7 +41,7 @@ use Rattle.history_model.proofs.Seen.{legal-rest}
 use Rattle.claim_rule.specs.Desks.{AddsAtMost, IsOf}
 use Rattle.claim_rule.specs.Rule.{BooksView}
 use Rattle.std.proofs.Common.{IfSome}
-use Rattle.claim_rule.specs.Calls.{ShapeBy}
+use Rattle.claim_rule.specs.Calls.{AddsStepsBy}
 use Rattle.claim_rule.specs.Holds.{IsHoldOf}
 use Rattle.claim_rule.specs.Endings.{EndingView}
 use Rattle.claim_rule.specs.Out.{EndsRow, IsHolding, HoldsNone, IsEnding, KeepsHolds, KeepsEndings}
@@ -72,7 +72,7 @@ pub record SeenTaken (old desk : DeskView) (row : ℕ) : Type 0 where
   pub shown : List ℕ
   pub many : old.past + length shown ≡ row
   pub some : AllSome shown
-  pub seen : Shape old desk (row_looks old.past shown)
+  pub seen : AddsSteps old desk (row_looks old.past shown)
   pub taken : (r : ℕ) → r < row → 1 ≤ stage (phase_of_row (state_of desk.layout desk.seen) r)
 
 all_more : (ns : List ℕ) (n : ℕ) → AllSome ns → n ≢ 0 → AllSome (ns ++ n ∷ [])
@@ -83,7 +83,7 @@ looks_more : (row n : ℕ) (ns : List ℕ) → row_looks row (ns ++ n ∷ []) �
 looks_more row n [] = ap (λ (k : ℕ). SawRow k 0 n ∷ []) (let e : row ≡ row + 0 = omega arith in e)
 looks_more row n (x ∷ xs) = ap (λ l. SawRow row 0 x ∷ l) (looks_more (suc row) n xs ∙ ap (λ (k : ℕ). row_looks (suc row) xs ++ SawRow k 0 n ∷ []) (let e : suc row + length xs ≡ row + suc (length xs) = omega arith in e))
 
-pub taken_none : (old : DeskView) → Shape old old [] → ((r : ℕ) → r < old.past → 1 ≤ stage (phase_of_row (state_of old.layout old.seen) r)) → SeenTaken old old old.past
+pub taken_none : (old : DeskView) → AddsSteps old old [] → ((r : ℕ) → r < old.past → 1 ≤ stage (phase_of_row (state_of old.layout old.seen) r)) → SeenTaken old old old.past
 taken_none old none taken = record { shown = []; many = omega arith; some = tt; seen = none; taken = taken }
 
 pub taken_more : (old a b : DeskView) (row n : ℕ) → SeenTaken old a row → n ≢ 0 → Stepped (SawRow row 0 n) a b → SeenTaken old b (row + 1)
@@ -91,7 +91,7 @@ taken_more old a b row n so some did = record {
   shown = so.shown ++ n ∷ [];
   many = ap (λ (k : ℕ). old.past + k) (length-append so.shown (n ∷ [])) ∙ one_more old.past (length so.shown) row so.many;
   some = all_more so.shown n so.some some;
-  seen = subst (Shape old b) (ap (λ (k : ℕ). row_looks old.past so.shown ++ SawRow k 0 n ∷ []) (sym so.many) ∙ sym (looks_more old.past n so.shown))
+  seen = subst (AddsSteps old b) (ap (λ (k : ℕ). row_looks old.past so.shown ++ SawRow k 0 n ∷ []) (sym so.many) ∙ sym (looks_more old.past n so.shown))
       (shape_then old a b (row_looks old.past so.shown) (SawRow row 0 n ∷ []) so.seen (step_shape (SawRow row 0 n) a b did));
   taken = λ r l. ⊎_elim
       (λ (here : r ≡ row). subst (λ (k : ℕ). 1 ≤ stage (phase_of_row (state_of b.layout b.seen) k)) (sym here) (taken_now row n a b some did))
@@ -196,7 +196,7 @@ length-looks row [] = refl
 length-looks row (n ∷ ns) = ap suc (length-looks (suc row) ns)
 
 -- a search for a free row that found one
-pub found_entries : (old new : DeskView) (hold : HoldView) → HoldsNone old → old.kept ≡ None → AreTaken new new.past → Finds old new (Some hold) → ShapeBy (StartsHold old new (Some hold.row)) old new
+pub found_entries : (old new : DeskView) (hold : HoldView) → HoldsNone old → old.kept ≡ None → AreTaken new new.past → Finds old new (Some hold) → AddsStepsBy (StartsHold old new (Some hold.row)) old new
 found_entries old new hold none kept taken f =
     let ns = f.4.0 in
     let misses = misses_of old.past ns in (
@@ -207,7 +207,7 @@ found_entries old new hold none kept taken f =
         least_free new hold.row.row taken (subst (λ (n : ℕ). hold.row.row ≤ n) (sym f.3) (more hold.row.row)),
         (misses, are_misses old.past old.past hold.row.row ns (omega arith) (same_le (old.past + length ns) hold.row.row f.4.1) f.4.2, refl),
       )),
-      subst (λ (l : List Step). Shape old new (l ++ Start hold.row.row 0 ∷ [])) (steps_of old.past ns) f.4.3,
+      subst (λ (l : List Step). AddsSteps old new (l ++ Start hold.row.row 0 ∷ [])) (steps_of old.past ns) f.4.3,
     )
   where
     more : (n : ℕ) → n ≤ n + 1
@@ -218,13 +218,13 @@ found_entries old new hold none kept taken f =
 
 -- a search for a free row that found none, and then one for an ended booking
 pub again_entries : (old mid new : DeskView) (result : Option HoldView) → HoldsNone old → old.kept ≡ None → AreTaken new new.past → mid.layout ≡ old.layout → new.layout ≡ old.layout → Finds old mid None → FindsAgain mid new result
-    → ShapeBy (StartsHold old new (option_map (λ (h : HoldView). h.row) result)) old new
+    → AddsStepsBy (StartsHold old new (option_map (λ (h : HoldView). h.row) result)) old new
 again_entries old mid new result none kept taken front layout f g =
     let ns = f.2.0 in
     let misses = misses_of old.past ns in
     let rows : new.layout.rows ≡ old.layout.rows = ap (λ (l : Layout). l.rows) layout in
     let all : AreMissesFrom old.past new.layout.rows misses = are_misses old.past old.past new.layout.rows ns (omega arith) (le_sum (old.past + length ns) old.layout.rows new.layout.rows f.2.1 rows) f.2.2 in
-    let first : Shape old mid (misses_steps misses) = subst (Shape old mid) (steps_of old.past ns) f.2.3 in
+    let first : AddsSteps old mid (misses_steps misses) = subst (AddsSteps old mid) (steps_of old.past ns) f.2.3 in
     ends misses all first result g
   where
     le_of : (a b c d : ℕ) → a ≡ b → d ≡ b → c ≡ d → a ≤ c
@@ -236,7 +236,7 @@ again_entries old mid new result none kept taken front layout f g =
     full : new.past ≡ mid.past → IsFull new
     full e = least_free new new.layout.rows taken (le_of new.layout.rows old.layout.rows new.past mid.past (ap (λ (l : Layout). l.rows) layout) f.1 e)
 
-    ends : (misses : Misses) → AreMissesFrom old.past new.layout.rows misses → Shape old mid (misses_steps misses) → (result : Option HoldView) → FindsAgain mid new result → ShapeBy (StartsHold old new (option_map (λ (h : HoldView). h.row) result)) old new
+    ends : (misses : Misses) → AreMissesFrom old.past new.layout.rows misses → AddsSteps old mid (misses_steps misses) → (result : Option HoldView) → FindsAgain mid new result → AddsStepsBy (StartsHold old new (option_map (λ (h : HoldView). h.row) result)) old new
     ends misses all first (Some hold) g = (
       misses_steps misses ++ g.3.0,
       inr (inr (makes_none old none kept, full g.2, (misses, g.3.0, all, g.3.1, refl))),
@@ -294,7 +294,7 @@ pub within_both : (old mid new : DeskView) (p q rows : ℕ) → mid.number ≡ o
 within_both old mid new p q rows same a l b = let c = subst (λ (n : ℕ). length (own new.seen n) ≤ length (own mid.seen n) + 2 * rows) same b in omega (arith, a, l, c)
 
 -- a kept row is taken back without an entry
-pub kept_entries : (books : BooksView) (old : DeskView) (row : RowNo) → IsOf books old → old.kept ≡ Some row → ShapeBy (StartsHold old (record old { kept = None }) (Some row)) old (record old { kept = None })
+pub kept_entries : (books : BooksView) (old : DeskView) (row : RowNo) → IsOf books old → old.kept ≡ Some row → AddsStepsBy (StartsHold old (record old { kept = None }) (Some row)) old (record old { kept = None })
 kept_entries books old row of kept = (
   [],
   inl (
@@ -311,7 +311,7 @@ pub record SeenPassed (old desk : DeskView) (row : ℕ) : Type 0 where
   pub passed : List Passed
   pub many : length passed ≡ row
   pub all : AllByRecursion IsPassed passed
-  pub seen : Shape old desk (search_steps 0 passed)
+  pub seen : AddsSteps old desk (search_steps 0 passed)
 
 pub passed_none : (old : DeskView) → IsLegal old.layout old.seen → SeenPassed old old 0
 passed_none old legal = record { passed = []; many = refl; all = tt; seen = shape_none old legal }
@@ -331,20 +331,20 @@ passed_more old a b row so more = record {
   passed = so.passed ++ more.0 ∷ [];
   many = length-append so.passed (more.0 ∷ []) ∙ ap (λ (n : ℕ). n + 1) so.many;
   all = all_passed so.passed more.0 so.all more.1;
-  seen = subst (Shape old b) (ap (λ (k : ℕ). search_steps 0 so.passed ++ passed_steps k more.0) (at row (length so.passed) so.many) ∙ sym (search_more 0 so.passed more.0))
+  seen = subst (AddsSteps old b) (ap (λ (k : ℕ). search_steps 0 so.passed ++ passed_steps k more.0) (at row (length so.passed) so.many) ∙ sym (search_more 0 so.passed more.0))
       (shape_then old a b (search_steps 0 so.passed) (passed_steps row more.0) so.seen more.2);
 }
   where
     at : (row n : ℕ) → n ≡ row → row ≡ 0 + n
     at row n e = omega (arith, e)
 
-pub started_again : (old a b : DeskView) (row : ℕ) (started : RowNo) → SeenPassed old a row → Restarts row started a b → ShapeBy (StartsAgain started) old b
+pub started_again : (old a b : DeskView) (row : ℕ) (started : RowNo) → SeenPassed old a row → Restarts row started a b → AddsStepsBy (StartsAgain started) old b
 started_again old a b row started so it =
     let n = it.0 in
     let here : row ≡ started.row = sym (ap (λ (r : RowNo). r.row) it.2) in (
       search_steps 0 so.passed ++ SawRow started.row 0 n ∷ Start started.row started.generation ∷ [],
       (n, it.1, ap (λ (r : RowNo). r.generation) it.2, (so.passed, so.many ∙ here, so.all, refl)),
-      subst (λ (r : ℕ). Shape old b (search_steps 0 so.passed ++ SawRow r 0 n ∷ Start r started.generation ∷ [])) here
+      subst (λ (r : ℕ). AddsSteps old b (search_steps 0 so.passed ++ SawRow r 0 n ∷ Start r started.generation ∷ [])) here
           (shape_then old a b (search_steps 0 so.passed) (SawRow row 0 n ∷ Start row started.generation ∷ []) so.seen it.3),
     )
 
@@ -360,7 +360,7 @@ restarted row generation n old mid new hold kept none look next did of is =
         n,
         next.0,
         row_is ∙ ap (λ (g : ℕ). record { row = row; generation = g }) next.1,
-        subst (λ (g : ℕ). Shape old new (SawRow row 0 n ∷ Start row g ∷ [])) (sym (ap (λ (r : RowNo). r.generation) row_is)) both,
+        subst (λ (g : ℕ). AddsSteps old new (SawRow row 0 n ∷ Start row g ∷ [])) (sym (ap (λ (r : RowNo). r.generation) row_is)) both,
       ),
       started_holding started mid new hold (look.same.5 ∙ kept) ((read_holds row 0 n old mid look).none none) did of is,
       is ∙ ap empty_hold (sym row_is),
@@ -407,9 +407,6 @@ pub startable : (ph : Phase) (n word : ℕ) → row_word_of ph n ≡ word → is
 startable ph n word e ended low =
     let s = said ph n word e in
     ((λ i. is_ended (s.1 i) && nat_lt (s.0 i) last_generation) ∙ (ap (λ (t : Bool). t && nat_lt n last_generation) ended ∙ lt-ltb n last_generation low), sym s.0)
-
-pub not_ended : (ph : Phase) (n word : ℕ) → row_word_of ph n ≡ word → is_ended ph ≡ false → is_startable word ≡ false
-not_ended ph n word e other = let s = said ph n word e in ap (λ (p : Phase). is_ended p && nat_lt (word / 16) last_generation) s.1 ∙ ap (λ (t : Bool). t && nat_lt (word / 16) last_generation) other
 
 not_below : (n m : ℕ) → m ≤ n → nat_lt n m ≡ false
 not_below n m high = false_from_ne_true (nat_lt n m) (λ t. let low = ltb-true n m t in omega (arith, high, low))

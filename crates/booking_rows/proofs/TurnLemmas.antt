@@ -23,11 +23,11 @@ use Rattle.history_model.proofs.Generations.{key_present, present_latest}
 use Rattle.history_model.proofs.Ranges.{keys_in_range, turn_fits, ranges_all}
 use Rattle.history_model.proofs.Seen.{legal-rest}
 use Rattle.claim_rule.specs.Rule.{DeskView, BooksView, OnBooking, state_seen}
-use Rattle.claim_rule.specs.Desks.{Stepped, Shape, IsOf, CanTurn, AddsAtMost}
+use Rattle.claim_rule.specs.Desks.{Stepped, AddsSteps, IsOf, CanTurn, AddsAtMost}
 use Rattle.claim_rule.specs.Endings.{EndingView, IsEndingOf, item_looks, items_read}
 use Rattle.claim_rule.specs.Out.{Makes, EndsRow, IsEnding, EndsNone, KeepsHolds, KeepsEndings, AllLooks}
 use Rattle.claim_rule.specs.Turns.{HasTurned, IsPresentIn, IsTurned, IsTurnLost}
-use Rattle.claim_rule.specs.Calls.{ShapeBy}
+use Rattle.claim_rule.specs.Calls.{AddsStepsBy}
 use Rattle.claim_rule.proofs.Holding.{legal_before, own_before}
 use Rattle.claim_rule.proofs.Moves.{is_sound}
 use Rattle.claim_rule.proofs.Out.{looks_holds, looks_endings, keeps_holds, keeps_endings, turned_only, ends_before, looks_quiet}
@@ -151,10 +151,10 @@ pub items_look : (row w : ℕ) (items : List Item) → AllLooks (item_looks row 
 items_look row w [] = tt
 items_look row w (i ∷ is) = (refl, items_look row (suc w) is)
 
-pub items_holds : (old new : DeskView) (row : ℕ) (items : List Item) → Shape old new (items_read row items) → new.kept ≡ old.kept → KeepsHolds old new
+pub items_holds : (old new : DeskView) (row : ℕ) (items : List Item) → AddsSteps old new (items_read row items) → new.kept ≡ old.kept → KeepsHolds old new
 items_holds old new row items did kept = looks_holds old new (items_read row items) did kept (refl, items_look row 8 items)
 
-pub items_only : (old new : DeskView) (row : ℕ) (items : List Item) (e now : EndingView) → Shape old new (items_read row items) → now.row ≡ e.row → IsEnding old e → IsEndingOf new now → IsEnding new now
+pub items_only : (old new : DeskView) (row : ℕ) (items : List Item) (e now : EndingView) → AddsSteps old new (items_read row items) → now.row ≡ e.row → IsEnding old e → IsEndingOf new now → IsEnding new now
 items_only old new row items e now did same is of = record {
   of = of;
   only = λ r m. is.only r (ends_before old new (items_read row items) r did (looks_quiet (items_read row items) r (refl, items_look row 8 items)).2 m) ∙ sym (ap (λ (r : RowNo). r.row) same);
@@ -166,7 +166,7 @@ length-items row w (i ∷ is) = ap suc (length-items row (suc w) is)
 
 -- how many entries there are at most
 
-pub items_bound : (old new : DeskView) (st : Step) (row : ℕ) (items : List Item) → Shape old new (st ∷ items_read row items) → length items ≤ most_items → AddsAtMost (most_items + 2) old new
+pub items_bound : (old new : DeskView) (st : Step) (row : ℕ) (items : List Item) → AddsSteps old new (st ∷ items_read row items) → length items ≤ most_items → AddsAtMost (most_items + 2) old new
 items_bound old new st row items did few = adds_length old new (st ∷ items_read row items) (most_items + 2) did (let l = length-items row 8 items in omega arith)
 
 -- the amount that a turn aims at fits its word
@@ -188,7 +188,7 @@ turned_as books row from p end aim old new answer of can is same did =
     let whole : end_at end.moment (to_z w64 (of_z w64 end.amount)) end.successor ≡ end_of aim = λ i. end_at (same i).moment (amount i) (same i).successor in
     subst (λ (y : Phase × End). HasTurned row from y.0 y.1 old new answer) (λ i. (is i, whole i)) did
 
-pub lost_entries : (row : RowNo) (n : ℕ) (from shown : Phase) (aim : Aim) (old new : DeskView) → shown ≡ phase_shown row.generation n → IsTurnLost row from n old new → ShapeBy (Turns row from aim (Lost shown)) old new
+pub lost_entries : (row : RowNo) (n : ℕ) (from shown : Phase) (aim : Aim) (old new : DeskView) → shown ≡ phase_shown row.generation n → IsTurnLost row from n old new → AddsStepsBy (Turns row from aim (Lost shown)) old new
 lost_entries row n from shown aim old new is lost =
     let wanted = row_word_of from row.generation in
     (LostTurn row.row wanted n ∷ [], (n, lost.0, is, refl), step_shape (LostTurn row.row wanted n) old new lost.1)
@@ -200,7 +200,7 @@ turned_ending row from aim e old new none t =
     let did = subst (λ (ph : Phase). Stepped (end_turn row.row from ph end) old new) t.2 t.0.0 in
     record { of = t.1; only = λ r on. turned_only row.row from e.kind end old new (none e.kind t.2) did r on ∙ sym (ap (λ (v : EndingView). v.row.row) t.3) }
 
-pub ending_shape : (row : RowNo) (from : Phase) (aim : Aim) (e now : EndingView) (old mid new : DeskView) → HasTurned row from (aimed aim) (end_of aim) old mid (answer.Ending e) → Shape mid new (items_read e.row.row now.items) → Shape old new (turn_of row.row from aim ∷ items_read row.row now.items)
+pub ending_shape : (row : RowNo) (from : Phase) (aim : Aim) (e now : EndingView) (old mid new : DeskView) → HasTurned row from (aimed aim) (end_of aim) old mid (answer.Ending e) → AddsSteps mid new (items_read e.row.row now.items) → AddsSteps old new (turn_of row.row from aim ∷ items_read row.row now.items)
 ending_shape row from aim e now old mid new t seen =
     shape_then old mid new (turn_of row.row from aim ∷ []) (items_read row.row now.items) (step_shape (turn_of row.row from aim) old mid t.0.0)
-    (subst (λ (r : ℕ). Shape mid new (items_read r now.items)) (ap (λ (v : EndingView). v.row.row) t.3) seen)
+    (subst (λ (r : ℕ). AddsSteps mid new (items_read r now.items)) (ap (λ (v : EndingView). v.row.row) t.3) seen)

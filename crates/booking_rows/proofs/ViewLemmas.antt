@@ -31,7 +31,7 @@ use Rattle.claim_rule.specs.Endings.{item_looks}
 use Rattle.claim_rule.specs.Holds.{HoldView}
 use Rattle.claim_rule.specs.Out.{AllLooks, IsHolding, KeepsHolds, KeepsEndings}
 use Rattle.claim_rule.specs.Rule.{DeskView, BooksView, OnBooking, state_seen}
-use Rattle.claim_rule.specs.Desks.{Stepped, Shape, IsOf, AddsAtMost}
+use Rattle.claim_rule.specs.Desks.{Stepped, AddsSteps, IsOf, AddsAtMost}
 use Rattle.claim_rule.proofs.Moves.{is_sound}
 use Rattle.claim_rule.proofs.Out.{looks_holds, looks_endings}
 use Rattle.claim_rule.proofs.Reading.{saw}
@@ -49,20 +49,20 @@ at_key desk row b P at p = subst (λ (o : Option Booking). IsSomeAnd o P) (sym a
 some_same : (x y : Booking) → Some x ≡ Some y → x ≡ y
 some_same x y e = cc
 
-pub stays_on : (old new : DeskView) (es : List Step) (row : RowNo) (b : Booking) → Shape old new es → booking_at (state_seen old) row.row row.generation ≡ Some b → is_sealed b.phase ≡ true
+pub stays_on : (old new : DeskView) (es : List Step) (row : RowNo) (b : Booking) → AddsSteps old new es → booking_at (state_seen old) row.row row.generation ≡ Some b → is_sealed b.phase ≡ true
     → (c : Booking) × (booking_at (state_seen new) row.row row.generation ≡ Some c) × Stays b c
 stays_on old new es row b did at sealed =
     let x = shape_rest old new es did in
     found (booking_at (state_seen new) row.row row.generation) (Stays b)
     (subst (λ (s : State). IsSomeAnd (booking_at s row.row row.generation) (Stays b)) (sym x.2) (stays-history old.layout (state_seen old) did.front.0 row.row row.generation b x.0 at sealed))
 
-pub sealed_on : (old new : DeskView) (es : List Step) (row : RowNo) → Shape old new es → IsSealedRow old row → IsSealedRow new row
+pub sealed_on : (old new : DeskView) (es : List Step) (row : RowNo) → AddsSteps old new es → IsSealedRow old row → IsSealedRow new row
 sealed_on old new es row did on =
     let b = found (booking_at (state_seen old) row.row row.generation) (λ b. is_sealed b.phase ≡ true) on in
     let c = stays_on old new es row b.0 did b.1 b.2 in
     at_key new row c.0 (λ b. is_sealed b.phase ≡ true) c.1 c.2.still_sealed
 
-pub items_on : (old new : DeskView) (es : List Step) (row : RowNo) (n : ℕ) → Shape old new es → HasItems old row n → HasItems new row n
+pub items_on : (old new : DeskView) (es : List Step) (row : RowNo) (n : ℕ) → AddsSteps old new es → HasItems old row n → HasItems new row n
 items_on old new es row n did on =
     let b = found (booking_at (state_seen old) row.row row.generation) (λ b. (is_sealed b.phase ≡ true) × (length b.items ≡ n)) on in
     let c = stays_on old new es row b.0 did b.1 b.2.0 in
@@ -74,7 +74,7 @@ sealed_of desk row phase on =
     let b = found (booking_at (state_seen desk) row.row row.generation) (IsAfter phase) on in
     at_key desk row b.0 (λ b. is_sealed b.phase ≡ true) b.1 b.2.0
 
-pub since_on : (old new : DeskView) (es : List Step) (row : RowNo) (phase : Phase) → Shape old new es → IsSealedSince old row phase → IsSealedSince new row phase
+pub since_on : (old new : DeskView) (es : List Step) (row : RowNo) (phase : Phase) → AddsSteps old new es → IsSealedSince old row phase → IsSealedSince new row phase
 since_on old new es row phase did on =
     let x = shape_rest old new es did in
     let b = found (booking_at (state_seen old) row.row row.generation) (IsAfter phase) on in
@@ -89,7 +89,7 @@ since_on old new es row phase did on =
     )
 
 -- a booking that stood before, and is its row's present one after it, was so before
-pub still_before : (old new : DeskView) (es : List Step) (row : RowNo) → Shape old new es → IsSealedRow old row → IsStillPresent new row → IsStillPresent old row
+pub still_before : (old new : DeskView) (es : List Step) (row : RowNo) → AddsSteps old new es → IsSealedRow old row → IsStillPresent new row → IsStillPresent old row
 still_before old new es row did on now =
     let x = shape_rest old new es did in
     let b = found (booking_at (state_seen old) row.row row.generation) (λ b. is_sealed b.phase ≡ true) on in
@@ -179,15 +179,15 @@ looks-snoc : (row w : ℕ) (ns : List ℕ) (n : ℕ) → word_looks row w (ns ++
 looks-snoc row w [] n = ap (λ (k : ℕ). SawRow row k n ∷ []) (let e : w ≡ w + 0 = omega arith in e)
 looks-snoc row w (x ∷ xs) n = ap (λ l. SawRow row w x ∷ l) (looks-snoc row (suc w) xs n ∙ ap (λ (k : ℕ). word_looks row (suc w) xs ++ SawRow row k n ∷ []) (let e : suc w + length xs ≡ w + suc (length xs) = omega arith in e))
 
-pub one_more : (a b c : DeskView) (row v k : ℕ) (read : List ℕ) → length read ≡ k → Shape a b (word_looks row 8 read) → Stepped (SawRow row (8 + k) v) b c → Shape a c (word_looks row 8 (read ++ v ∷ []))
+pub one_more : (a b c : DeskView) (row v k : ℕ) (read : List ℕ) → length read ≡ k → AddsSteps a b (word_looks row 8 read) → Stepped (SawRow row (8 + k) v) b c → AddsSteps a c (word_looks row 8 (read ++ v ∷ []))
 one_more a b c row v k read many s did =
-    subst (Shape a c) (ap (λ (n : ℕ). word_looks row 8 read ++ SawRow row (8 + n) v ∷ []) (sym many) ∙ sym (looks-snoc row 8 read v)) (shape_then a b c (word_looks row 8 read) (SawRow row (8 + k) v ∷ []) s (step_shape (SawRow row (8 + k) v) b c did))
+    subst (AddsSteps a c) (ap (λ (n : ℕ). word_looks row 8 read ++ SawRow row (8 + n) v ∷ []) (sym many) ∙ sym (looks-snoc row 8 read v)) (shape_then a b c (word_looks row 8 read) (SawRow row (8 + k) v ∷ []) s (step_shape (SawRow row (8 + k) v) b c did))
 
 pub words_on : (P : ℕ → Type 0) (ns : List ℕ) (n : ℕ) → AllByRecursion P ns → P n → AllByRecursion P (ns ++ n ∷ [])
 words_on P [] n all p = (p, tt)
 words_on P (x ∷ xs) n all p = (all.0, words_on P xs n all.1 p)
 
-pub three_looks : (a b c d : DeskView) (row w1 w2 w3 v1 v2 v3 : ℕ) → Stepped (SawRow row w1 v1) a b → Stepped (SawRow row w2 v2) b c → Stepped (SawRow row w3 v3) c d → Shape a d (SawRow row w1 v1 ∷ SawRow row w2 v2 ∷ SawRow row w3 v3 ∷ [])
+pub three_looks : (a b c d : DeskView) (row w1 w2 w3 v1 v2 v3 : ℕ) → Stepped (SawRow row w1 v1) a b → Stepped (SawRow row w2 v2) b c → Stepped (SawRow row w3 v3) c d → AddsSteps a d (SawRow row w1 v1 ∷ SawRow row w2 v2 ∷ SawRow row w3 v3 ∷ [])
 three_looks a b c d row w1 w2 w3 v1 v2 v3 s1 s2 s3 =
     shape_then a b d (SawRow row w1 v1 ∷ []) _ (step_shape _ a b s1) (shape_then b c d (SawRow row w2 v2 ∷ []) _ (step_shape _ b c s2) (step_shape _ c d s3))
 
@@ -286,8 +286,8 @@ first_word row v ph old new did is sealed =
     let b = first_shown row v ph old new did (sealed_not_free ph sealed) is in
     saw row.row 0 v old new did ∙ (ap (word_in 0) b.1 ∙ (λ i. row_word_of (b.3 i) (b.2 i)))
 
-pub first_shape : (row : RowNo) (v : ℕ) (ph : Phase) (old new : DeskView) → Stepped (SawRow row.row 0 v) old new → ph ≡ phase_shown row.generation v → is_sealed ph ≡ true → Shape old new (saw_phase row ph ∷ [])
-first_shape row v ph old new did is sealed = subst (λ (n : ℕ). Shape old new (SawRow row.row 0 n ∷ [])) (first_word row v ph old new did is sealed) (step_shape (SawRow row.row 0 v) old new did)
+pub first_shape : (row : RowNo) (v : ℕ) (ph : Phase) (old new : DeskView) → Stepped (SawRow row.row 0 v) old new → ph ≡ phase_shown row.generation v → is_sealed ph ≡ true → AddsSteps old new (saw_phase row ph ∷ [])
+first_shape row v ph old new did is sealed = subst (λ (n : ℕ). AddsSteps old new (SawRow row.row 0 n ∷ [])) (first_word row v ph old new did is sealed) (step_shape (SawRow row.row 0 v) old new did)
 
 -- all of these steps look, and are few
 
@@ -336,24 +336,24 @@ read_few row ws last so =
     few : (all words rest items end count : ℕ) → all ≡ words + 1 → words ≡ suc (suc (suc (suc rest))) → rest ≡ items + end → items ≡ min count most_items → end ≤ 3 → suc all ≤ most_items + 9
     few all words rest items end count a b c d e = let l = least count most_items in omega (arith, a, b, c, d, e, l)
 
-pub read_bound : (old new : DeskView) (row : RowNo) (ws : RowWords) (last : ℕ) → AreRead ws → Shape old new (all_read row ws last) → AddsAtMost (most_items + 9) old new
+pub read_bound : (old new : DeskView) (row : RowNo) (ws : RowWords) (last : ℕ) → AreRead ws → AddsSteps old new (all_read row ws last) → AddsAtMost (most_items + 9) old new
 read_bound old new row ws last so did = adds_length old new (all_read row ws last) (most_items + 9) did (read_few row ws last so)
 
-pub read_shape : (a b c d : DeskView) (row : RowNo) (v last : ℕ) (ws : RowWords) (ph : Phase) → Stepped (SawRow row.row 0 v) a b → ph ≡ phase_shown row.generation v → is_sealed ph ≡ true → ws.phase ≡ ph → Shape b c (words_read row.row ws) → Stepped (SawRow row.row 0 last) c d → Shape a d (all_read row ws last)
+pub read_shape : (a b c d : DeskView) (row : RowNo) (v last : ℕ) (ws : RowWords) (ph : Phase) → Stepped (SawRow row.row 0 v) a b → ph ≡ phase_shown row.generation v → is_sealed ph ≡ true → ws.phase ≡ ph → AddsSteps b c (words_read row.row ws) → Stepped (SawRow row.row 0 last) c d → AddsSteps a d (all_read row ws last)
 unfolding all_read
 read_shape a b c d row v last ws ph first is sealed same rest did =
     shape_then a b d (saw_phase row ws.phase ∷ []) (words_read row.row ws ++ SawRow row.row 0 last ∷ [])
-    (subst (λ (p : Phase). Shape a b (saw_phase row p ∷ [])) (sym same) (first_shape row v ph a b first is sealed))
+    (subst (λ (p : Phase). AddsSteps a b (saw_phase row p ∷ [])) (sym same) (first_shape row v ph a b first is sealed))
     (shape_then b c d (words_read row.row ws) (SawRow row.row 0 last ∷ []) rest (step_shape (SawRow row.row 0 last) c d did))
 
 -- a look that reads a booking's words: all that it leaves
 pub record LooksAll (row : RowNo) (ws : RowWords) (last : ℕ) (old new : DeskView) : Type 0 where
-  pub shape : Shape old new (all_read row ws last)
+  pub shape : AddsSteps old new (all_read row ws last)
   pub holds : KeepsHolds old new
   pub endings : KeepsEndings old new
   pub bound : AddsAtMost (most_items + 9) old new
 
-pub looks_whole : (a b c d : DeskView) (row : RowNo) (v last : ℕ) (ws : RowWords) (ph : Phase) → Stepped (SawRow row.row 0 v) a b → ph ≡ phase_shown row.generation v → is_sealed ph ≡ true → ws.phase ≡ ph → AreRead ws → Shape b c (words_read row.row ws) → c.kept ≡ b.kept
+pub looks_whole : (a b c d : DeskView) (row : RowNo) (v last : ℕ) (ws : RowWords) (ph : Phase) → Stepped (SawRow row.row 0 v) a b → ph ≡ phase_shown row.generation v → is_sealed ph ≡ true → ws.phase ≡ ph → AreRead ws → AddsSteps b c (words_read row.row ws) → c.kept ≡ b.kept
     → Stepped (SawRow row.row 0 last) c d → LooksAll row ws last a d
 looks_whole a b c d row v last ws ph first is sealed same so rest kept did =
     let whole = read_shape a b c d row v last ws ph first is sealed same rest did in record {
@@ -404,7 +404,7 @@ succeeds (Ended k) (Some e) (x ∷ y ∷ z ∷ []) is there looks =
     subst (λ (n : ℕ). n ≤ last_successor) same is.0
 succeeds (Ended k) (Some e) (x ∷ y ∷ z ∷ more ∷ rest) is there looks = absurd is
 
-pub four_looks : (a b c d e : DeskView) (row v1 v2 v3 v4 : ℕ) → Stepped (SawRow row 1 v1) a b → Stepped (SawRow row 2 v2) b c → Stepped (SawRow row 3 v3) c d → Stepped (SawRow row 4 v4) d e → Shape a e (SawRow row 1 v1 ∷ SawRow row 2 v2 ∷ SawRow row 3 v3 ∷ SawRow row 4 v4 ∷ [])
+pub four_looks : (a b c d e : DeskView) (row v1 v2 v3 v4 : ℕ) → Stepped (SawRow row 1 v1) a b → Stepped (SawRow row 2 v2) b c → Stepped (SawRow row 3 v3) c d → Stepped (SawRow row 4 v4) d e → AddsSteps a e (SawRow row 1 v1 ∷ SawRow row 2 v2 ∷ SawRow row 3 v3 ∷ SawRow row 4 v4 ∷ [])
 four_looks a b c d e row v1 v2 v3 v4 s1 s2 s3 s4 =
     shape_then a d e (SawRow row 1 v1 ∷ SawRow row 2 v2 ∷ SawRow row 3 v3 ∷ []) (SawRow row 4 v4 ∷ []) (three_looks a b c d row 1 2 3 v1 v2 v3 s1 s2 s3) (step_shape _ d e s4)
 

@@ -9,10 +9,10 @@ use Rattle.history_model.specs.Phase.{is_ended, said_phase, generation_words}
 use Rattle.history_model.specs.Booking.{State, present, standing_word}
 use Rattle.history_model.specs.Allowed.{IsMadeBy, OnRow}
 use Rattle.claim_rule.specs.Rule.{DeskView, state_seen}
-use Rattle.claim_rule.specs.Desks.{Shape, Stepped, AddsAtMost}
+use Rattle.claim_rule.specs.Desks.{AddsSteps, Stepped, AddsAtMost}
 use Rattle.claim_rule.specs.Starts.{IsEndedWord}
 use Rattle.claim_rule.specs.Holds.{HoldView, empty_hold}
-use Rattle.claim_rule.specs.Calls.{ShapeBy}
+use Rattle.claim_rule.specs.Calls.{AddsStepsBy}
 use Rattle.claim_rule.specs.Out.{Makes, IsHolding, HoldsNone}
 
 -- looks at phase words that weren't 0: the row, and the word shown
@@ -67,7 +67,7 @@ abbrev pub search_steps : ℕ → List Passed → List Step
 search_steps row [] = []
 search_steps row (p ∷ ps) = passed_steps row p ++ search_steps (suc row) ps
 
--- the row is started in its next generation, behind the look that showed it ended
+-- the row is started in its next generation, after the look that showed it ended
 abbrev pub StartsAgain : RowNo → List Step → Type 0
 StartsAgain row es = (n : ℕ) × (is_startable n ≡ true) × (row.generation ≡ n / generation_words + 1)
     × ((passed : List Passed) × (length passed ≡ row.row) × AllByRecursion IsPassed passed
@@ -113,17 +113,17 @@ abbrev pub Finds : DeskView → DeskView → Option HoldView → Type 0
 Finds old new (Some hold) =
     IsHolding new hold × (hold ≡ empty_hold hold.row) × (hold.row.generation ≡ 0) × (new.past ≡ hold.row.row + 1)
     × ((ns : List ℕ) × (old.past + length ns ≡ hold.row.row) × AllSome ns
-    × Shape old new (row_looks old.past ns ++ Start hold.row.row 0 ∷ []))
+    × AddsSteps old new (row_looks old.past ns ++ Start hold.row.row 0 ∷ []))
 Finds old new None =
     HoldsNone new × (new.past ≡ old.layout.rows)
-    × ((ns : List ℕ) × (old.past + length ns ≡ old.layout.rows) × AllSome ns × Shape old new (row_looks old.past ns))
+    × ((ns : List ℕ) × (old.past + length ns ≡ old.layout.rows) × AllSome ns × AddsSteps old new (row_looks old.past ns))
 
 -- the second search: the first row that is started again, or none
 abbrev pub FindsAgain : DeskView → DeskView → Option HoldView → Type 0
 FindsAgain old new (Some hold) =
     IsHolding new hold × (hold ≡ empty_hold hold.row) × (new.past ≡ old.past)
-    × ShapeBy (StartsAgain hold.row) old new
-FindsAgain old new None = HoldsNone new × (new.past ≡ old.past) × ShapeBy (StartsNone old.layout.rows) old new
+    × AddsStepsBy (StartsAgain hold.row) old new
+FindsAgain old new None = HoldsNone new × (new.past ≡ old.past) × AddsStepsBy (StartsNone old.layout.rows) old new
 
 abbrev pub first_of : ℕ → RowNo
 first_of row = record { row = row; generation = 0 }
@@ -132,10 +132,10 @@ first_of row = record { row = row; generation = 0 }
 abbrev pub Restarts : ℕ → RowNo → DeskView → DeskView → Type 0
 Restarts row started old new = (n : ℕ) × (is_startable n ≡ true)
     × (started ≡ record { row = row; generation = n / generation_words + 1 })
-    × Shape old new (SawRow row standing_word n ∷ Start row started.generation ∷ [])
+    × AddsSteps old new (SawRow row standing_word n ∷ Start row started.generation ∷ [])
 
 abbrev pub Passes : ℕ → DeskView → DeskView → Type 0
-Passes row old new = (p : Passed) × IsPassed p × Shape old new (passed_steps row p)
+Passes row old new = (p : Passed) × IsPassed p × AddsSteps old new (passed_steps row p)
 
 -- the hold that one row's start leaves: of its first generation, and of a next one
 abbrev pub HasFirst : ℕ → DeskView → DeskView → HoldView → Type 0

@@ -2,9 +2,9 @@
 ghost use Rattle.std.specs.Prelude.{ℕ, ◌≡◌, ◌≢◌, ◌<◌, ◌+◌, ◌*◌, ◌/◌, true, false, Some, None, [], option_map, IfSome, IfNone};
 ghost use Rattle.history_model.specs.declared.entry.Step.TheVariants.{Start, SawRow};
 ghost use Rattle.claim_rule.specs.Rule.{BooksView};
-ghost use Rattle.claim_rule.specs.Desks.{IsOf, Shape, Stepped, AddsAtMost};
+ghost use Rattle.claim_rule.specs.Desks.{IsOf, AddsSteps, Stepped, AddsAtMost};
 ghost use Rattle.claim_rule.specs.Holds.{empty_hold};
-ghost use Rattle.claim_rule.specs.Calls.{ShapeBy};
+ghost use Rattle.claim_rule.specs.Calls.{AddsStepsBy};
 ghost use Rattle.claim_rule.specs.Out.{IsHolding, HoldsNone, HasNotedItems, KeepsHolds, KeepsEndings};
 ghost use Rattle.history_model.specs.Phase.{generation_words};
 ghost use Rattle.booking_rows.specs.Starts.{StartsHold, Finds, FindsAgain, HasFirst, HasNext, Passes, RemembersFree, LearnsFull};
@@ -38,7 +38,7 @@ pub fn start_hold(books: &Books, desk: &mut Desk) -> Option<Hold>
     requires own { IsOf books.now desk.old }
     requires none { HoldsNone desk.old }
     ensures own { IsOf books.now desk.new }
-    ensures entries { ShapeBy (StartsHold desk.old desk.new (option_map (λ h. h.row) result)) desk.old desk.new }
+    ensures entries { AddsStepsBy (StartsHold desk.old desk.new (option_map (λ h. h.row) result)) desk.old desk.new }
     ensures hold { IfSome result (λ h. IsHolding desk.new h × (h.items ≡ [])) }
     ensures noted { IfSome result (HasNotedItems desk.new) }
     ensures none_out { IfNone result (HoldsNone desk.new) }

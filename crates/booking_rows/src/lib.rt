@@ -5,6 +5,9 @@
 //! all turns of a booking from one phase the first decides.
 //!
 //! No call takes memory, and none waits.
+//!
+//! All searches of a desk for a row that was never used, also those that find none, have together at most one entry
+//! for each row (`laws::searches_are_few`).
 #![tactic(auto)]
 
 mod holds;

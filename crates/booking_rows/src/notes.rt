@@ -3,7 +3,7 @@ ghost use Rattle.std.specs.Prelude.{ℕ, ◌≡◌, ◌≤◌, ◌<◌, ◌+◌,
 ghost use Rattle.leg_masks.specs.Interval.{item_word, PlacedSpan as Item};
 ghost use Rattle.history_model.specs.declared.entry.Step.TheVariants.{Note, Seal};
 ghost use Rattle.history_model.specs.Booking.{first_item_word, greatest_amount, greatest_retailer};
-ghost use Rattle.claim_rule.specs.Desks.{IsOf, Shape};
+ghost use Rattle.claim_rule.specs.Desks.{IsOf, AddsSteps};
 ghost use Rattle.claim_rule.specs.Out.{IsHolding, HoldsNone, HasNotedItems, HasNotedButLast, IsToBeSealed, MaySealHold, KeepsEndings, SealsItems};
 ghost use Rattle.booking_rows.specs.Notes.{sealed_phase, detail_notes, NotesLastItem, MakesReady};
 
@@ -16,7 +16,7 @@ use rail_time::Moment;
 
 /// What a maker notes of a booking beside its items: its retailer, its limit of confirmation, and its total in minor
 /// units.
-#[derive(Clone, Copy, Debug, PartialEq, Eq)]
+#[derive(Clone, Copy, PartialEq, Eq)]
 pub struct Detail {
     pub retailer: RetailerNo,
     pub limit: Moment,
@@ -24,7 +24,7 @@ pub struct Detail {
 }
 
 /// How a booking is sealed.
-#[derive(Clone, Copy, Debug, PartialEq, Eq)]
+#[derive(Clone, Copy, PartialEq, Eq)]
 pub enum Sealed {
     Prebooked,
     Confirmed,
@@ -65,7 +65,7 @@ pub fn note_detail(books: &Books, desk: &mut Desk, hold: &mut Hold, detail: Deta
     requires own { IsOf books.now desk.old }
     requires hold { IsHolding desk.old hold.old }
     ensures own { IsOf books.now desk.new }
-    ensures entries { Shape desk.old desk.new (detail_notes hold.old.row.row detail (length hold.old.items)) }
+    ensures entries { AddsSteps desk.old desk.new (detail_notes hold.old.row.row detail (length hold.old.items)) }
     ensures same { hold.new ≡ hold.old }
     ensures hold { IsHolding desk.new hold.new }
     ensures ready { MakesReady detail desk.old hold.old desk.new hold.new }
@@ -86,7 +86,7 @@ pub fn seal(books: &Books, desk: &mut Desk, hold: Hold, sealed: Sealed) -> RowNo
     requires ready { IsToBeSealed desk.old hold }
     requires phase { MaySealHold desk.old hold (sealed_phase sealed) }
     ensures own { IsOf books.now desk.new }
-    ensures entries { Shape desk.old desk.new (Seal hold.row.row (sealed_phase sealed) ∷ []) }
+    ensures entries { AddsSteps desk.old desk.new (Seal hold.row.row (sealed_phase sealed) ∷ []) }
     ensures row { result ≡ hold.row }
     ensures items { SealsItems desk.old desk.new hold.row (sealed_phase sealed) hold.items }
     ensures none { HoldsNone desk.new }

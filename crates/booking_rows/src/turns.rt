@@ -1,7 +1,7 @@
 //! Turns of a row's phase, and the close of an ending.
 ghost use Rattle.std.specs.Prelude.{ℕ, ◌≡◌, ◌≤◌, ◌+◌, true, false, length};
-ghost use Rattle.claim_rule.specs.Desks.{IsOf, Shape, AddsAtMost};
-ghost use Rattle.claim_rule.specs.Calls.{ShapeBy};
+ghost use Rattle.claim_rule.specs.Desks.{IsOf, AddsSteps, AddsAtMost};
+ghost use Rattle.claim_rule.specs.Calls.{AddsStepsBy};
 ghost use Rattle.claim_rule.specs.EndSteps.{closing};
 ghost use Rattle.claim_rule.specs.Out.{IsEnding, EndsNone, KeepsHolds};
 ghost use Rattle.history_model.specs.Booking.{most_items};
@@ -18,7 +18,7 @@ use rail_ids::RowNo;
 use rail_time::Moment;
 
 /// What a turn aims at. Amounts are in minor units; a difference is what the new booking costs more.
-#[derive(Clone, Copy, Debug, PartialEq, Eq)]
+#[derive(Clone, Copy, PartialEq, Eq)]
 pub enum Aim {
     Confirm {
         now: Moment,
@@ -135,7 +135,7 @@ pub fn turn(books: &Books, desk: &mut Desk, row: RowNo, from: Phase, to: Aim) ->
     requires generation { HasGeneration to }
     requires none { OfEnding to (λ _. EndsNone desk.old) }
     ensures own { IsOf books.now desk.new }
-    ensures entries { ShapeBy (Turns row from to result) desk.old desk.new }
+    ensures entries { AddsStepsBy (Turns row from to result) desk.old desk.new }
     ensures turned { IfMade result (IsPresentIn desk.new row (aimed to)) }
     ensures leaves { LeavesTurned row to desk.old desk.new result }
     ensures holds { KeepsHolds desk.old desk.new }
@@ -169,7 +169,7 @@ fn with_items(books: &Books, desk: &mut Desk, mut ending: Ending) -> Ending
     ensures ending { IsEnding desk.new result }
     ensures read { result ≡ record ending { items = result.items; read = true } }
     ensures few { length result.items ≤ most_items }
-    ensures entries { Shape desk.old desk.new (items_read ending.row.row result.items) }
+    ensures entries { AddsSteps desk.old desk.new (items_read ending.row.row result.items) }
     ensures holds { KeepsHolds desk.old desk.new }
 {
     books.step_items(desk, &mut ending);
@@ -183,7 +183,7 @@ pub fn close_end(books: &Books, desk: &mut Desk, mut ending: Ending)
     requires read { ending.read ≡ true }
     requires all { ending.given ≡ length ending.items }
     ensures own { IsOf books.now desk.new }
-    ensures entries { Shape desk.old desk.new (closing ending.row.row ending.kind ending.end) }
+    ensures entries { AddsSteps desk.old desk.new (closing ending.row.row ending.kind ending.end) }
     ensures ended { IsEndedAs desk.new ending.row ending.kind ending.end }
     ensures none { EndsNone desk.new }
     ensures holds { KeepsHolds desk.old desk.new }

@@ -6,8 +6,8 @@ ghost use Rattle.history_model.specs.declared.phase.EndKind.TheVariants.{Exchang
 ghost use Rattle.history_model.specs.Booking.{most_items, first_item_word, amount_word, greatest_amount, greatest_retailer, last_moment, end_successor_word};
 ghost use Rattle.history_model.specs.Phase.{is_sealed as is_sealed_phase};
 ghost use Rattle.rail_ids.specs.Spelling.{last_generation};
-ghost use Rattle.claim_rule.specs.Desks.{IsOf, Shape, AddsAtMost};
-ghost use Rattle.claim_rule.specs.Calls.{ShapeBy};
+ghost use Rattle.claim_rule.specs.Desks.{IsOf, AddsSteps, AddsAtMost};
+ghost use Rattle.claim_rule.specs.Calls.{AddsStepsBy};
 ghost use Rattle.claim_rule.specs.Out.{KeepsHolds, KeepsEndings};
 ghost use Rattle.booking_rows.specs.Views.{LooksRow, IsSeen, HasWord, saw_end, saw_words, has_end, other_looks, said_amount, HasSaidAmount};
 ghost use Rattle.booking_rows.specs.Views.{AreRead, end_words, word_looks, words_read};
@@ -38,7 +38,7 @@ pub struct EndView {
 }
 
 /// A sealed row as its words showed it. `ended` is there exactly where its phase word showed that it is ended.
-#[derive(Debug, Drop)]
+#[derive(Drop)]
 pub struct RowView {
     pub phase: Phase,
     pub retailer: RetailerNo,
@@ -73,7 +73,7 @@ pub fn look_row(books: &Books, desk: &mut Desk, row: RowNo) -> Option<RowView>
     requires own { IsOf books.now desk.old }
     requires row { row.row < books.now.layout.rows }
     ensures own { IsOf books.now desk.new }
-    ensures entries { ShapeBy (LooksRow row result) desk.old desk.new }
+    ensures entries { AddsStepsBy (LooksRow row result) desk.old desk.new }
     ensures sealed { IfSome result (λ view. IsSealedSince desk.new row view.phase) }
     ensures generation { IfSome result (λ _. row.generation ≤ last_generation) }
     ensures total { IfSome result (λ view. view.total ≤ greatest_amount) }
@@ -139,7 +139,7 @@ fn read_words(books: &Books, desk: &mut Desk, row: RowNo, phase: Phase) -> RowWo
     ensures own { IsOf books.now desk.new }
     ensures phase { result.phase ≡ phase }
     ensures read { AreRead result }
-    ensures entries { Shape desk.old desk.new (words_read row.row result) }
+    ensures entries { AddsSteps desk.old desk.new (words_read row.row result) }
     ensures fit { IsStillPresent desk.new row → AreOfOne result }
     ensures sealed { IsSealedSince desk.new row phase }
     ensures kept { desk.new.kept ≡ desk.old.kept }
@@ -175,7 +175,7 @@ fn read_item_words(
     requires count { IsStillPresent desk.old row → HasItems desk.old row count }
     ensures own { IsOf books.now desk.new }
     ensures many { length result.items ≡ min count most_items }
-    ensures entries { Shape desk.old desk.new (word_looks row.row first_item_word result.items) }
+    ensures entries { AddsSteps desk.old desk.new (word_looks row.row first_item_word result.items) }
     ensures words { IsStillPresent desk.new row → AllByRecursion IsItemWord result.items }
     ensures kept { desk.new.kept ≡ desk.old.kept }
 {
@@ -204,7 +204,7 @@ fn read_end(books: &Books, desk: &mut Desk, row: RowNo, phase: Phase) -> ArrayVe
     requires sealed { IsSealedSince desk.old row phase }
     ensures own { IsOf books.now desk.new }
     ensures many { length result.items ≡ end_words phase }
-    ensures entries { Shape desk.old desk.new (word_looks row.row end_successor_word result.items) }
+    ensures entries { AddsSteps desk.old desk.new (word_looks row.row end_successor_word result.items) }
     ensures words { IsStillPresent desk.new row → IsEndOf phase result.items }
     ensures kept { desk.new.kept ≡ desk.old.kept }
 {

@@ -14,7 +14,7 @@ use Rattle.history_model.specs.declared.booking.End.{End}
 use Rattle.history_model.specs.Work.{NoStep}
 use Rattle.claim_rule.specs.Rule.{BooksView, DeskView}
 use Rattle.claim_rule.specs.Desks.{IsOf}
-use Rattle.claim_rule.specs.Calls.{Calls, ShapeBy}
+use Rattle.claim_rule.specs.Calls.{Calls, AddsStepsBy}
 use Rattle.claim_rule.specs.Endings.{item_looks, items_read}
 use Rattle.claim_rule.specs.EndSteps.{gives_from, closing, ending_steps}
 use Rattle.claim_rule.specs.Out.{is_look, AllLooks, exchanges, IsTidy, KeepsHolds, KeepsEndings, EndsNone}
@@ -60,11 +60,11 @@ abbrev pub AreCalm : Calls → Type 0
 AreCalm P = (es : List Step) → P es → NoStep exchanges es
 
 -- a tidy desk stays tidy through calm steps that leave its holds and its endings
-pub tidy_by : (P : Calls) (books : BooksView) (old new : DeskView) → AreCalm P → IsOf books new → ShapeBy P old new → KeepsHolds old new → KeepsEndings old new → IsTidy old → IsTidy new
+pub tidy_by : (P : Calls) (books : BooksView) (old new : DeskView) → AreCalm P → IsOf books new → AddsStepsBy P old new → KeepsHolds old new → KeepsEndings old new → IsTidy old → IsTidy new
 tidy_by P books old new calm of did holds endings tidy = tidy_through books old new did.0 of did.2 (settled_calm old.number did.0 (calm did.0 did.1)) tidy (still_idle old new holds endings tidy.0)
 
 -- or through calm steps that leave its holds and no ending
-pub tidy_after : (P : Calls) (books : BooksView) (old new : DeskView) → AreCalm P → IsOf books new → ShapeBy P old new → KeepsHolds old new → EndsNone new → IsTidy old → IsTidy new
+pub tidy_after : (P : Calls) (books : BooksView) (old new : DeskView) → AreCalm P → IsOf books new → AddsStepsBy P old new → KeepsHolds old new → EndsNone new → IsTidy old → IsTidy new
 tidy_after P books old new calm of did holds none tidy = tidy_through books old new did.0 of did.2 (settled_calm old.number did.0 (calm did.0 did.1)) tidy (holds.none tidy.0.0, none)
 
 calm_row : (row : RowNo) (v : Option RowSeen) → AreCalm (LooksRow row v)
@@ -139,14 +139,14 @@ calm_releases rows row retailer now (released.WrongState shown) es (here, wrong)
 
 -- the calls of the commands on a booking
 
-pub found_tidy : (rows : ℕ) (row : RowNo) (retailer : ℕ) (v : Option RowSeen) (books : BooksView) (old new : DeskView) → IsOf books new → ShapeBy (FindsBooking rows row retailer v) old new → KeepsHolds old new → KeepsEndings old new → IsTidy old → IsTidy new
+pub found_tidy : (rows : ℕ) (row : RowNo) (retailer : ℕ) (v : Option RowSeen) (books : BooksView) (old new : DeskView) → IsOf books new → AddsStepsBy (FindsBooking rows row retailer v) old new → KeepsHolds old new → KeepsEndings old new → IsTidy old → IsTidy new
 found_tidy rows row retailer v books old new = tidy_by (FindsBooking rows row retailer v) books old new (calm_find rows row retailer v)
 
-pub confirmed_tidy : (rows : ℕ) (row : RowNo) (retailer now : ℕ) (a : Confirmed) (books : BooksView) (old new : DeskView) → IsOf books new → ShapeBy (Confirms rows row retailer now a) old new → KeepsHolds old new → KeepsEndings old new → IsTidy old → IsTidy new
+pub confirmed_tidy : (rows : ℕ) (row : RowNo) (retailer now : ℕ) (a : Confirmed) (books : BooksView) (old new : DeskView) → IsOf books new → AddsStepsBy (Confirms rows row retailer now a) old new → KeepsHolds old new → KeepsEndings old new → IsTidy old → IsTidy new
 confirmed_tidy rows row retailer now a books old new = tidy_by (Confirms rows row retailer now a) books old new (calm_confirms rows row retailer now a)
 
-pub fulfilled_tidy : (rows : ℕ) (row : RowNo) (retailer : ℕ) (a : Fulfilment) (books : BooksView) (old new : DeskView) → IsOf books new → ShapeBy (Fulfils rows row retailer a) old new → KeepsHolds old new → KeepsEndings old new → IsTidy old → IsTidy new
+pub fulfilled_tidy : (rows : ℕ) (row : RowNo) (retailer : ℕ) (a : Fulfilment) (books : BooksView) (old new : DeskView) → IsOf books new → AddsStepsBy (Fulfils rows row retailer a) old new → KeepsHolds old new → KeepsEndings old new → IsTidy old → IsTidy new
 fulfilled_tidy rows row retailer a books old new = tidy_by (Fulfils rows row retailer a) books old new (calm_fulfils rows row retailer a)
 
-pub released_tidy : (rows : ℕ) (row : RowNo) (retailer now : ℕ) (a : Released) (books : BooksView) (old new : DeskView) → IsOf books new → ShapeBy (Releases rows row retailer now a) old new → KeepsHolds old new → EndsNone new → IsTidy old → IsTidy new
+pub released_tidy : (rows : ℕ) (row : RowNo) (retailer now : ℕ) (a : Released) (books : BooksView) (old new : DeskView) → IsOf books new → AddsStepsBy (Releases rows row retailer now a) old new → KeepsHolds old new → EndsNone new → IsTidy old → IsTidy new
 released_tidy rows row retailer now a books old new = tidy_after (Releases rows row retailer now a) books old new (calm_releases rows row retailer now a)

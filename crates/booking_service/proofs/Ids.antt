@@ -7,13 +7,13 @@ use Rattle.history_model.specs.declared.booking.End.{End}
 use Rattle.rail_ids.specs.declared.RowNo.{RowNo}
 use Rattle.rail_ids.specs.Spelling.{last_generation}
 use Rattle.claim_rule.specs.Rule.{DeskView}
-use Rattle.claim_rule.specs.Calls.{ShapeBy}
+use Rattle.claim_rule.specs.Calls.{AddsStepsBy}
 use Rattle.booking_rows.specs.Views.{RowSeen}
 use Rattle.refund_core.specs.Quotes.{FindsBooking}
 use Rattle.osdm_texts.specs.Bookings.{HasIds}
 use Rattle.booking_service.specs.Deciding.{in_phase, at_end}
 
-pub found_ids : (rows : ℕ) (row : RowNo) (retailer : ℕ) (v : RowSeen) (old new : DeskView) → ShapeBy (FindsBooking rows row retailer (Some v)) old new → row.generation ≤ last_generation → HasIds row v
+pub found_ids : (rows : ℕ) (row : RowNo) (retailer : ℕ) (v : RowSeen) (old new : DeskView) → AddsStepsBy (FindsBooking rows row retailer (Some v)) old new → row.generation ≤ last_generation → HasIds row v
 found_ids rows row retailer v old new did h = (h, did.1.1.1.0.successor)
 
 pub phased_ids : (row : RowNo) (phase : Phase) (v w : RowSeen) → w ≡ in_phase phase v → row.generation ≤ last_generation → HasIds row w

@@ -2,7 +2,7 @@
 use Rattle.std.proofs.Common.{◌≡◌, inl, inr, ℕ, Some, None, refl}
 use Rattle.rail_ids.specs.declared.RowNo.{RowNo}
 use Rattle.claim_rule.specs.Rule.{DeskView}
-use Rattle.claim_rule.specs.Calls.{ShapeBy}
+use Rattle.claim_rule.specs.Calls.{AddsStepsBy}
 use Rattle.booking_rows.specs.Views.{RowSeen}
 use Rattle.rail_catalogue.specs.Contents.{CatalogueView}
 use Rattle.osdm_texts.specs.declared.problem.Problem.TheVariants.{UnknownBooking, NoMemory}
@@ -12,14 +12,14 @@ use Rattle.refund_core.specs.Quotes.{FindsBooking}
 use Rattle.booking_service.specs.Deciding.{Replying, OnBooking, Answered}
 
 pub unknown : (cat : CatalogueView) (rows : ℕ) (row : RowNo) (retailer : ℕ) (Does : RowSeen → Replying) (old new : DeskView)
-    → ShapeBy (FindsBooking rows row retailer None) old new → Answered cat (OnBooking rows row retailer Does) old new (refused UnknownBooking)
+    → AddsStepsBy (FindsBooking rows row retailer None) old new → Answered cat (OnBooking rows row retailer Does) old new (refused UnknownBooking)
 unknown cat rows row retailer Does old new did = (problem UnknownBooking, inl (did, refl), of_problem cat UnknownBooking)
 
 pub no_memory : (cat : CatalogueView) (rows : ℕ) (row : RowNo) (retailer : ℕ) (Does : RowSeen → Replying) (v : RowSeen) (old new : DeskView)
-    → ShapeBy (FindsBooking rows row retailer (Some v)) old new → Answered cat (OnBooking rows row retailer Does) old new (refused NoMemory)
+    → AddsStepsBy (FindsBooking rows row retailer (Some v)) old new → Answered cat (OnBooking rows row retailer Does) old new (refused NoMemory)
 no_memory cat rows row retailer Does v old new did = (problem NoMemory, inr (v, new, did, inr (refl, refl)), of_problem cat NoMemory)
 
 pub done : (cat : CatalogueView) (rows : ℕ) (row : RowNo) (retailer : ℕ) (Does : RowSeen → Replying) (v : RowSeen) (reply : Reply) (old mid new : DeskView) (said : Told)
-    → ShapeBy (FindsBooking rows row retailer (Some v)) old mid → Does v mid new reply → said ≡ reply_told cat reply
+    → AddsStepsBy (FindsBooking rows row retailer (Some v)) old mid → Does v mid new reply → said ≡ reply_told cat reply
     → Answered cat (OnBooking rows row retailer Does) old new said
 done cat rows row retailer Does v reply old mid new said did does is = (reply, inr (v, mid, did, inl does), is)

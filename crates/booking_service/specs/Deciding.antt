@@ -7,7 +7,7 @@ use Rattle.history_model.specs.declared.phase.EndKind.TheVariants as kind
 use Rattle.history_model.specs.declared.booking.End.{End}
 use Rattle.rail_ids.specs.declared.RowNo.{RowNo}
 use Rattle.claim_rule.specs.Rule.{DeskView}
-use Rattle.claim_rule.specs.Calls.{ShapeBy}
+use Rattle.claim_rule.specs.Calls.{AddsStepsBy}
 use Rattle.booking_rows.specs.Views.{RowSeen}
 use Rattle.booking_rows.specs.Aims.{end_of}
 use Rattle.booking_rows.specs.declared.turns.Aim.TheVariants as aim
@@ -37,8 +37,8 @@ Answered cat Does old new said = (reply : Reply) × Does old new reply × (said 
 -- is done.
 abbrev pub OnBooking : ℕ → RowNo → ℕ → (RowSeen → Replying) → Replying
 OnBooking rows row retailer Does old new reply =
-    (ShapeBy (FindsBooking rows row retailer None) old new × (reply ≡ problem UnknownBooking))
-    ⊎ ((v : RowSeen) × (mid : DeskView) × ShapeBy (FindsBooking rows row retailer (Some v)) old mid
+    (AddsStepsBy (FindsBooking rows row retailer None) old new × (reply ≡ problem UnknownBooking))
+    ⊎ ((v : RowSeen) × (mid : DeskView) × AddsStepsBy (FindsBooking rows row retailer (Some v)) old mid
     × (Does v mid new reply ⊎ ((new ≡ mid) × (reply ≡ problem NoMemory))))
 
 -- the booking in another phase, and at an end
@@ -57,30 +57,30 @@ confirm_reply row now v confirmed.Unknown = problem UnknownBooking
 confirm_reply row now v (confirmed.TooLate limit) = problem (TooLate limit now)
 confirm_reply row now v (confirmed.WrongState shown) = problem (WrongState shown)
 
-abbrev pub ConfirmsIt : ℕ → RowNo → ℕ → ℕ → RowSeen → Replying
-ConfirmsIt rows row retailer now v old new reply =
-    (a : Confirmed) × ShapeBy (Confirms rows row retailer now a) old new × (reply ≡ confirm_reply row now v a)
+abbrev pub ConfirmsFound : ℕ → RowNo → ℕ → ℕ → RowSeen → Replying
+ConfirmsFound rows row retailer now v old new reply =
+    (a : Confirmed) × AddsStepsBy (Confirms rows row retailer now a) old new × (reply ≡ confirm_reply row now v a)
 
 abbrev pub ConfirmsBooking : ℕ → RowNo → ℕ → ℕ → Replying
-ConfirmsBooking rows row retailer now = OnBooking rows row retailer (ConfirmsIt rows row retailer now)
+ConfirmsBooking rows row retailer now = OnBooking rows row retailer (ConfirmsFound rows row retailer now)
 
 abbrev pub fulfil_reply : RowNo → RowSeen → Fulfilment → Reply
 fulfil_reply row v fulfilled.Done = booking row (in_phase phase.Fulfilled v)
 fulfil_reply row v fulfilled.Unknown = problem UnknownBooking
 fulfil_reply row v (fulfilled.WrongState shown) = problem (WrongState shown)
 
-abbrev pub FulfilsIt : ℕ → RowNo → ℕ → RowSeen → Replying
-FulfilsIt rows row retailer v old new reply =
-    (a : Fulfilment) × ShapeBy (Fulfils rows row retailer a) old new × (reply ≡ fulfil_reply row v a)
+abbrev pub FulfilsFound : ℕ → RowNo → ℕ → RowSeen → Replying
+FulfilsFound rows row retailer v old new reply =
+    (a : Fulfilment) × AddsStepsBy (Fulfils rows row retailer a) old new × (reply ≡ fulfil_reply row v a)
 
 abbrev pub release_reply : RowNo → ℕ → RowSeen → Released → Reply
 release_reply row now v released.Done = booking row (at_end kind.Release (end_of (aim.Release now)) v)
 release_reply row now v released.Unknown = problem UnknownBooking
 release_reply row now v (released.WrongState shown) = problem (WrongState shown)
 
-abbrev pub ReleasesIt : ℕ → RowNo → ℕ → ℕ → RowSeen → Replying
-ReleasesIt rows row retailer now v old new reply =
-    (a : Released) × ShapeBy (Releases rows row retailer now a) old new × (reply ≡ release_reply row now v a)
+abbrev pub ReleasesFound : ℕ → RowNo → ℕ → ℕ → RowSeen → Replying
+ReleasesFound rows row retailer now v old new reply =
+    (a : Released) × AddsStepsBy (Releases rows row retailer now a) old new × (reply ≡ release_reply row now v a)
 
 abbrev pub ReleasesBooking : ℕ → RowNo → ℕ → ℕ → Replying
-ReleasesBooking rows row retailer now = OnBooking rows row retailer (ReleasesIt rows row retailer now)
+ReleasesBooking rows row retailer now = OnBooking rows row retailer (ReleasesFound rows row retailer now)

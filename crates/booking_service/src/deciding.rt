@@ -10,7 +10,7 @@ ghost use Rattle.booking_rows.specs.Aims.{end_of};
 ghost use Rattle.refund_core.specs.Releasing.{IsReleased};
 ghost use Rattle.osdm_texts.specs.Answers.{booking, told_of, Tells};
 ghost use Rattle.osdm_texts.specs.Bookings.{HasIds};
-ghost use Rattle.booking_service.specs.Deciding.{OnBooking, Answered, shows, ConfirmsBooking, FulfilsIt, ReleasesBooking, in_phase as in_phase_of, at_end};
+ghost use Rattle.booking_service.specs.Deciding.{OnBooking, Answered, shows, ConfirmsBooking, FulfilsFound, ReleasesBooking, in_phase as in_phase_of, at_end};
 
 use booking_rows::{EndView, RowView};
 use claim_rule::Desk;
@@ -117,7 +117,7 @@ pub fn fulfil_booking(
     ensures idle { IsIdle desk.new }
     ensures tidy { IsTidy desk.old → IsTidy desk.new }
     ensures answer { Answered shop.now.cat.now (OnBooking shop.now.books.now.layout.rows row retailer.0
-        (FulfilsIt shop.now.books.now.layout.rows row retailer.0)) desk.old desk.new (told_of result) }
+        (FulfilsFound shop.now.books.now.layout.rows row retailer.0)) desk.old desk.new (told_of result) }
 {
     let Some(view) = find_booking(shop.books, desk, row, retailer) else {
         return Err(Problem::UnknownBooking);

@@ -15,7 +15,7 @@ use Rattle.claim_rule.specs.Holds.{held, IsItem}
 use Rattle.claim_rule.specs.Endings.{EndingView, IsEndingOf, unread, given_front}
 use Rattle.claim_rule.specs.Turns.{HasTurned, IsTurned, IsTurnedTo}
 use Rattle.history_model.specs.Quiet.{AllQuiet}
-use Rattle.claim_rule.specs.Desks.{Shape}
+use Rattle.claim_rule.specs.Desks.{AddsSteps}
 use Rattle.claim_rule.proofs.Shapes.{own_through}
 use Rattle.claim_rule.proofs.Moves.{is_sound}
 use Rattle.claim_rule.proofs.OwnWork.{is_start}
@@ -252,7 +252,7 @@ still_ending books old new e st none quiet is did of = still_of st books old new
     (on_row (state_of old.layout old.seen) e.row.row is.booking (λ b. b.phase ≡ Ending e.kind) is.found is.phase) kept)) did of
 
 -- an ending stays the desk's through calls that leave its row alone
-pub ending_through : (old new : DeskView) (es : List Step) (e : EndingView) → Shape old new es → AllQuiet e.row.row es → IsEndingOf old e → IsEndingOf new e
+pub ending_through : (old new : DeskView) (es : List Step) (e : EndingView) → AddsSteps old new es → AllQuiet e.row.row es → IsEndingOf old e → IsEndingOf new e
 ending_through old new es e did quiet is = record {
   booking = is.booking;
   found = own_through old new es e.row.row is.booking did quiet is.found is.owner (firm_ending is.booking.phase e.kind is.phase);

@@ -29,7 +29,7 @@ use Rattle.rail_ids.specs.declared.RowNo.{RowNo}
 use Rattle.claim_rule.specs.Rule.{BooksView, DeskView, state_seen}
 use Rattle.claim_rule.specs.Holds.{HoldView, StandsFor, empty_hold}
 use Rattle.claim_rule.specs.Endings.{EndingView, IsEndingOf}
-use Rattle.claim_rule.specs.Desks.{Stepped, HasMet, IsOf, Shape}
+use Rattle.claim_rule.specs.Desks.{Stepped, HasMet, IsOf, AddsSteps}
 use Rattle.claim_rule.specs.Out.{Makes, EndsRow, IsHolding, HoldsNone, IsEnding, EndsNone, IsIdle, KeepsHolds, KeepsEndings, AreSettled, IsTidy, MakesEmpty, exchanges, seals, successor_row, is_look, AllLooks, IsConfirmedNext}
 use Rattle.claim_rule.proofs.Shapes.{shape_rest, step_shape, own_through, stands_through}
 use Rattle.claim_rule.proofs.EndingLemmas.{ending_through}
@@ -37,7 +37,7 @@ use Rattle.claim_rule.proofs.Holding.{legal_before, state_then, own_changes, mak
 
 -- rows that a desk makes or ends come by its own start or turn alone
 
-pub makes_before : (old new : DeskView) (es : List Step) (r : ℕ) → Shape old new es → NoStep (starts_row r) es → Makes new r → Makes old r
+pub makes_before : (old new : DeskView) (es : List Step) (r : ℕ) → AddsSteps old new es → NoStep (starts_row r) es → Makes new r → Makes old r
 makes_before old new es r did calm on =
     let x = shape_rest old new es did in
     made_since old.layout (state_seen old) did.front.0 es old.number r x.0 x.1 calm
@@ -49,7 +49,7 @@ ends_as s r d on = let n = found (present s r) (IsBeingEndedBy d) on in (n.2.0, 
 ends_so : (s : State) (r d : ℕ) (kind : EndKind) → OnRow s r (IsIn (Ending kind) d) → OnRow s r (IsBeingEndedBy d)
 ends_so s r d kind on = let n = found (present s r) (IsIn (Ending kind) d) on in on_row s r n.0 (IsBeingEndedBy d) n.1 (kind, n.2)
 
-pub ends_before : (old new : DeskView) (es : List Step) (r : ℕ) → Shape old new es → NoStep (ends_row r) es → EndsRow new r → EndsRow old r
+pub ends_before : (old new : DeskView) (es : List Step) (r : ℕ) → AddsSteps old new es → NoStep (ends_row r) es → EndsRow new r → EndsRow old r
 ends_before old new es r did calm on =
     let x = shape_rest old new es did in
     let k = ends_as (state_seen old) r old.number in
@@ -106,13 +106,13 @@ not_both desk q r m e same =
     cc
 
 -- what is so of a row that the desk makes stays so
-pub made_row : (old new : DeskView) (es : List Step) (r : ℕ) (P : Booking → Type 0) → Shape old new es → AllQuiet r es → Makes old r → OnRow (state_seen old) r P → OnRow (state_seen new) r P
+pub made_row : (old new : DeskView) (es : List Step) (r : ℕ) (P : Booking → Type 0) → AddsSteps old new es → AllQuiet r es → Makes old r → OnRow (state_seen old) r P → OnRow (state_seen new) r P
 made_row old new es r P did quiet m on =
     let a = found (present (state_seen old) r) (IsMadeBy old.number) m in
     let now = own_through old new es r a.0 did quiet a.1 a.2.1 (firm_making a.0.phase a.2.0) in
     subst (λ (o : Option Booking). IsSomeAnd o P) (a.1 ∙ sym now) on
 
-pub keeps_holds : (old new : DeskView) (es : List Step) → Shape old new es → new.kept ≡ old.kept → ((r : ℕ) → Makes old r → AllQuiet r es) → ((r : ℕ) → NoStep (starts_row r) es) → KeepsHolds old new
+pub keeps_holds : (old new : DeskView) (es : List Step) → AddsSteps old new es → new.kept ≡ old.kept → ((r : ℕ) → Makes old r → AllQuiet r es) → ((r : ℕ) → NoStep (starts_row r) es) → KeepsHolds old new
 keeps_holds old new es did kept quiet calm = record {
   hold = λ hold is. record {
     of = (stands_through old new es hold did (quiet hold.row.row (makes_of old hold is.of.0)) is.of.0, kept ∙ is.of.1);
@@ -123,7 +123,7 @@ keeps_holds old new es did kept quiet calm = record {
   none = λ h r m. ap (λ (o : Option RowNo). option_map (λ (k : RowNo). k.row) o) kept ∙ h r (makes_before old new es r did (calm r) m);
 }
 
-pub keeps_endings : (old new : DeskView) (es : List Step) → Shape old new es → ((r : ℕ) → EndsRow old r → AllQuiet r es) → ((r : ℕ) → NoStep (ends_row r) es) → KeepsEndings old new
+pub keeps_endings : (old new : DeskView) (es : List Step) → AddsSteps old new es → ((r : ℕ) → EndsRow old r → AllQuiet r es) → ((r : ℕ) → NoStep (ends_row r) es) → KeepsEndings old new
 keeps_endings old new es did quiet calm = record {
   ending = λ e is. record {
     of = ending_through old new es e did (quiet e.row.row (ends_of old e is.of)) is.of;
@@ -173,10 +173,10 @@ pub looks_quiet : (es : List Step) (r : ℕ) → AllLooks es → AllQuiet r es �
 looks_quiet [] r all = (tt, tt, tt)
 looks_quiet (st ∷ es) r all = let h = look_quiet st r all.0 in let t = looks_quiet es r all.1 in ((h.0, t.0), (h.1, t.1), (h.2, t.2))
 
-pub looks_holds : (old new : DeskView) (es : List Step) → Shape old new es → new.kept ≡ old.kept → AllLooks es → KeepsHolds old new
+pub looks_holds : (old new : DeskView) (es : List Step) → AddsSteps old new es → new.kept ≡ old.kept → AllLooks es → KeepsHolds old new
 looks_holds old new es did kept all = keeps_holds old new es did kept (λ r m. (looks_quiet es r all).0) (λ r. (looks_quiet es r all).1)
 
-pub looks_endings : (old new : DeskView) (es : List Step) → Shape old new es → AllLooks es → KeepsEndings old new
+pub looks_endings : (old new : DeskView) (es : List Step) → AddsSteps old new es → AllLooks es → KeepsEndings old new
 looks_endings old new es did all = keeps_endings old new es did (λ r m. (looks_quiet es r all).0) (λ r. (looks_quiet es r all).2)
 
 -- the steps of a hold leave an ending, and those of an ending leave a hold
@@ -184,10 +184,10 @@ looks_endings old new es did all = keeps_endings old new es did (λ r m. (looks_
 apart : (q r : ℕ) → (q ≡ r → ⊥) → not (eqb q r) ≡ true
 apart q r other = ap not (ne_eqb q r other)
 
-pub hold_endings : (old new : DeskView) (es : List Step) (hold : HoldView) → Shape old new es → StandsFor old hold → ((r : ℕ) → not (eqb hold.row.row r) ≡ true → AllQuiet r es) → ((r : ℕ) → NoStep (ends_row r) es) → KeepsEndings old new
+pub hold_endings : (old new : DeskView) (es : List Step) (hold : HoldView) → AddsSteps old new es → StandsFor old hold → ((r : ℕ) → not (eqb hold.row.row r) ≡ true → AllQuiet r es) → ((r : ℕ) → NoStep (ends_row r) es) → KeepsEndings old new
 hold_endings old new es hold did is quiet calm = keeps_endings old new es did (λ r e. quiet r (apart hold.row.row r (not_both old hold.row.row r (makes_of old hold is) e))) calm
 
-pub ending_holds : (old new : DeskView) (es : List Step) (e : EndingView) → Shape old new es → new.kept ≡ old.kept → IsEndingOf old e → ((r : ℕ) → not (eqb e.row.row r) ≡ true → AllQuiet r es) → ((r : ℕ) → NoStep (starts_row r) es) → KeepsHolds old new
+pub ending_holds : (old new : DeskView) (es : List Step) (e : EndingView) → AddsSteps old new es → new.kept ≡ old.kept → IsEndingOf old e → ((r : ℕ) → not (eqb e.row.row r) ≡ true → AllQuiet r es) → ((r : ℕ) → NoStep (starts_row r) es) → KeepsHolds old new
 ending_holds old new es e did kept is quiet calm = keeps_holds old new es did kept (λ r m. quiet r (apart e.row.row r (λ same. not_both old r e.row.row m (ends_of old e is) (sym same)))) calm
 
 -- a step on the hold's row leaves no other row with the desk
@@ -281,7 +281,7 @@ makes_empty books desk of holds row makes = go desk.kept of.kept (holds row make
         subst (λ (r : ℕ). OnRow (state_seen desk) r (λ b. b.items ≡ [])) same (on_row (state_seen desk) k.row is.booking (λ b. b.items ≡ []) is.found is.items)
 
 -- a tidy desk stays tidy through a call whose exchanges are settled and which leaves nothing out
-pub tidy_through : (books : BooksView) (old new : DeskView) (es : List Step) → IsOf books new → Shape old new es → AreSettled (map (entry old.number) es) → IsTidy old → IsIdle new → IsTidy new
+pub tidy_through : (books : BooksView) (old new : DeskView) (es : List Step) → IsOf books new → AddsSteps old new es → AreSettled (map (entry old.number) es) → IsTidy old → IsIdle new → IsTidy new
 tidy_through books old new es of did settled is idle = (
   idle,
   subst (λ (n : ℕ). AreSettled (own new.seen n)) (sym did.same.2) (subst AreSettled (sym did.mine) (settled_append (own old.seen old.number) (map (entry old.number) es) is.1 settled)),

@@ -7,7 +7,7 @@ use Rattle.leg_masks.specs.Interval.{Interval, item_word, IsItemOf, most_legs, m
 use Rattle.leg_masks.proofs.Items.{one_item}
 use Rattle.history_model.specs.Laws.{LiesWithin, IsSound}
 use Rattle.claim_rule.specs.Rule.{DeskView, Each}
-use Rattle.claim_rule.specs.Desks.{Stepped, Shape}
+use Rattle.claim_rule.specs.Desks.{Stepped, AddsSteps}
 use Rattle.claim_rule.specs.Holds.{held, IsItem}
 use Rattle.claim_rule.specs.Endings.{EndingView, IsEndingOf, item_looks, given_front}
 use Rattle.claim_rule.proofs.Moves.{is_sound}
@@ -174,7 +174,7 @@ shown_item v k count old new e read few did unread so below =
     let r = read_at v k old new e few did unread so.is (subst (λ (n : ℕ). k < n) so.count_is below) so.fits in (r.2.0.place, r.2.0.span, r.2.4)
 
 -- one look more
-pub seen_more : (a b c : DeskView) (row v k count : ℕ) (read : List Item) (i : Item) → length read ≡ k → IsItemOf i.place i.span v → Shape a b (SawRow row 4 count ∷ item_looks row 8 read) → Stepped (SawRow row (8 + k) v) b c → Shape a c (SawRow row 4 count ∷ item_looks row 8 (read ++ i ∷ []))
+pub seen_more : (a b c : DeskView) (row v k count : ℕ) (read : List Item) (i : Item) → length read ≡ k → IsItemOf i.place i.span v → AddsSteps a b (SawRow row 4 count ∷ item_looks row 8 read) → Stepped (SawRow row (8 + k) v) b c → AddsSteps a c (SawRow row 4 count ∷ item_looks row 8 (read ++ i ∷ []))
 seen_more a b c row v k count read i many its s did =
     let same : SawRow row (8 + k) v ≡ SawRow row (8 + length read) (item_word i.place i.span) = λ j. SawRow row (8 + sym many j) (sym its.4 j) in
-    subst (λ (l : List Step). Shape a c (SawRow row 4 count ∷ l)) (ap (λ (x : Step). item_looks row 8 read ++ x ∷ []) same ∙ sym (looks-snoc row 8 read i)) (shape_then a b c (SawRow row 4 count ∷ item_looks row 8 read) (SawRow row (8 + k) v ∷ []) s (step_shape (SawRow row (8 + k) v) b c did))
+    subst (λ (l : List Step). AddsSteps a c (SawRow row 4 count ∷ l)) (ap (λ (x : Step). item_looks row 8 read ++ x ∷ []) same ∙ sym (looks-snoc row 8 read i)) (shape_then a b c (SawRow row 4 count ∷ item_looks row 8 read) (SawRow row (8 + k) v ∷ []) s (step_shape (SawRow row (8 + k) v) b c did))

@@ -5,7 +5,7 @@ use mathlib.Core.List.{map-append, append_cancel_left}
 use Rattle.rail_ids.specs.declared.RowNo.{RowNo}
 use Rattle.claim_rule.specs.Rule.{DeskView, In, Each}
 use Rattle.claim_rule.specs.Holds.{HoldView, StandsFor, IsHoldOf, IsItem}
-use Rattle.claim_rule.specs.Desks.{Stepped, Shape, AddsAtMost}
+use Rattle.claim_rule.specs.Desks.{Stepped, AddsSteps, AddsAtMost}
 use Rattle.history_model.proofs.Owners.{firm_making, quiet_stays}
 use Rattle.history_model.proofs.Seen.{legal-rest, own-append, state_of-append}
 use Rattle.history_model.specs.Booking.{Booking, Layout, State, present}
@@ -15,7 +15,7 @@ use Rattle.history_model.specs.Quiet.{AllQuiet}
 use Rattle.history_model.specs.declared.entry.Entry.{Entry}
 use Rattle.history_model.specs.declared.entry.Step.{Step}
 
-pub step_shape : (st : Step) (old new : DeskView) → Stepped st old new → Shape old new (st ∷ [])
+pub step_shape : (st : Step) (old new : DeskView) → Stepped st old new → AddsSteps old new (st ∷ [])
 step_shape st old new did =
     let d = old.number in
     let e : List Entry = entry d st ∷ [] in
@@ -32,7 +32,7 @@ step_shape st old new did =
     same_past : (m n : ℕ) → n ≡ m → m ≤ n
     same_past m n e = omega arith
 
-pub shape_then : (a b c : DeskView) (xs ys : List Step) → Shape a b xs → Shape b c ys → Shape a c (xs ++ ys)
+pub shape_then : (a b c : DeskView) (xs ys : List Step) → AddsSteps a b xs → AddsSteps b c ys → AddsSteps a c (xs ++ ys)
 shape_then a b c xs ys p q =
     let d = a.number in
     let n = p.same.2 in
@@ -52,7 +52,7 @@ shape_then a b c xs ys p q =
     further_on k m n l r = omega arith
 
 -- what a desk has seen since, from the state before
-pub shape_rest : (old new : DeskView) (es : List Step) (did : Shape old new es) → IsLegalFrom old.layout (state_of old.layout old.seen) did.front.0 × (own did.front.0 old.number ≡ map (entry old.number) es) × (state_of new.layout new.seen ≡ state_after (state_of old.layout old.seen) did.front.0)
+pub shape_rest : (old new : DeskView) (es : List Step) (did : AddsSteps old new es) → IsLegalFrom old.layout (state_of old.layout old.seen) did.front.0 × (own did.front.0 old.number ≡ map (entry old.number) es) × (state_of new.layout new.seen ≡ state_after (state_of old.layout old.seen) did.front.0)
 shape_rest old new es did =
     let d = old.number in
     let rest = did.front.0 in
@@ -64,14 +64,14 @@ shape_rest old new es did =
     )
 
 -- a row of the desk's own in the making or ending stays as it is through calls that leave it alone
-pub own_through : (old new : DeskView) (es : List Step) (r : ℕ) (b : Booking) → Shape old new es → AllQuiet r es → present (state_of old.layout old.seen) r ≡ Some b → b.owner ≡ old.number → is_owners b.phase ≡ true → present (state_of new.layout new.seen) r ≡ Some b
+pub own_through : (old new : DeskView) (es : List Step) (r : ℕ) (b : Booking) → AddsSteps old new es → AllQuiet r es → present (state_of old.layout old.seen) r ≡ Some b → b.owner ≡ old.number → is_owners b.phase ≡ true → present (state_of new.layout new.seen) r ≡ Some b
 own_through old new es r b did quiet at mine firm =
     let x = shape_rest old new es did in
     ap (λ (s : State). present s r) x.2
     ∙ quiet_stays old.layout (state_of old.layout old.seen) r b did.front.0 es at firm (subst (λ (k : ℕ). own did.front.0 k ≡ map (entry k) es) (sym mine) x.1) quiet x.0
 
 -- a hold stays the desk's through calls that leave its row alone
-pub stands_through : (old new : DeskView) (es : List Step) (hold : HoldView) → Shape old new es → AllQuiet hold.row.row es → StandsFor old hold → StandsFor new hold
+pub stands_through : (old new : DeskView) (es : List Step) (hold : HoldView) → AddsSteps old new es → AllQuiet hold.row.row es → StandsFor old hold → StandsFor new hold
 stands_through old new es hold did quiet is = record {
   booking = is.booking;
   found = own_through old new es hold.row.row is.booking did quiet is.found is.owner (firm_making is.booking.phase is.making);
@@ -83,10 +83,7 @@ stands_through old new es hold did quiet is = record {
   within = subst (λ (l : Layout). Each (IsItem l) hold.items) (sym did.same.1) is.within;
 }
 
-pub hold_through : (old new : DeskView) (es : List Step) (hold : HoldView) → Shape old new es → new.kept ≡ old.kept → AllQuiet hold.row.row es → IsHoldOf old hold → IsHoldOf new hold
-hold_through old new es hold did kept quiet is = (stands_through old new es hold did quiet is.0, kept ∙ is.1)
-
-pub shape_none : (a : DeskView) → IsLegal a.layout a.seen → Shape a a []
+pub shape_none : (a : DeskView) → IsLegal a.layout a.seen → AddsSteps a a []
 shape_none a legal = record {
   front = ([], append-nil a.seen);
   legal = legal;
@@ -97,14 +94,14 @@ shape_none a legal = record {
 }
 
 -- which rows a desk remembers or keeps is nothing to its entries and its rows
-pub shape_past : (old new : DeskView) (es : List Step) (n : ℕ) → old.past ≤ n → Shape old new es → Shape old (record new { past = n }) es
+pub shape_past : (old new : DeskView) (es : List Step) (n : ℕ) → old.past ≤ n → AddsSteps old new es → AddsSteps old (record new { past = n }) es
 shape_past old new es n further s = record { front = s.front; legal = s.legal; mine = s.mine; whole = s.whole; same = s.same; further = further }
 
-pub shape_kept : (old new : DeskView) (es : List Step) (o : Option RowNo) → Shape old new es → Shape old (record new { kept = o }) es
+pub shape_kept : (old new : DeskView) (es : List Step) (o : Option RowNo) → AddsSteps old new es → AddsSteps old (record new { kept = o }) es
 shape_kept old new es o s = record { front = s.front; legal = s.legal; mine = s.mine; whole = s.whole; same = s.same; further = s.further }
 
 -- how many entries there are more
-pub adds_length : (old new : DeskView) (es : List Step) (n : ℕ) → Shape old new es → length es ≤ n → AddsAtMost n old new
+pub adds_length : (old new : DeskView) (es : List Step) (n : ℕ) → AddsSteps old new es → length es ≤ n → AddsAtMost n old new
 adds_length old new es n did few =
     let d = old.number in
     let l : length (own new.seen d) ≡ length (own old.seen d) + length es = ap length did.mine ∙ (length-append (own old.seen d) (map (entry d) es) ∙ ap (λ (k : ℕ). length (own old.seen d) + k) (length-map es (entry d))) in

@@ -1,25 +1,18 @@
 -- The lists of steps that a call of a desk may have.
-use Rattle.std.specs.Prelude.{◌≡◌, ◌⊎◌, List, ◌++◌}
+use Rattle.std.specs.Prelude.{◌≡◌, List, ◌++◌}
 use Rattle.history_model.specs.declared.entry.Step.{Step}
 use Rattle.claim_rule.specs.Rule.{DeskView}
-use Rattle.claim_rule.specs.Desks.{Shape}
+use Rattle.claim_rule.specs.Desks.{AddsSteps}
 
 -- which lists of steps a call may have
 abbrev pub Calls : Type 1
 Calls = List Step → Type 0
-
--- just these steps
-abbrev pub Exactly : List Step → Calls
-Exactly steps = λ es. es ≡ steps
 
 -- steps of the one, and then of the other
 abbrev pub Then : Calls → Calls → Calls
 Then First Second =
     λ es. (first : List Step) × (second : List Step) × First first × Second second × (es ≡ first ++ second)
 
-abbrev pub OneOf : Calls → Calls → Calls
-OneOf This That = λ es. This es ⊎ That es
-
 -- the desk's own steps of the call are of these
-abbrev pub ShapeBy : Calls → DeskView → DeskView → Type 0
-ShapeBy Steps old new = (steps : List Step) × Steps steps × Shape old new steps
+abbrev pub AddsStepsBy : Calls → DeskView → DeskView → Type 0
+AddsStepsBy Steps old new = (steps : List Step) × Steps steps × AddsSteps old new steps

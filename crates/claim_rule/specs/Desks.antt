@@ -39,7 +39,7 @@ pub record IsNew (desk : DeskView) (its : ℕ) (history : List Entry) : Type 0 w
   pub parted : desk.parted ≡ 0
   pub kept : desk.kept ≡ None
 
--- the desk has made this one step behind all that it had seen, and has now seen no more than that
+-- the desk has made this one step after all that it had seen, and has now seen no more than that
 pub record Stepped (step : Step) (old new : DeskView) : Type 0 where
   pub between : List Entry
   pub seen : new.seen ≡ (old.seen ++ between) ++ entry old.number step ∷ []
@@ -52,7 +52,7 @@ pub record Stepped (step : Step) (old new : DeskView) : Type 0 where
 
 -- From one call of a desk to the next: what it had seen begins what it has seen, and it has of its own these steps
 -- more. Where it has all entries there are, these are all. It never forgets that rows are taken
-pub record Shape (old new : DeskView) (steps : List Step) : Type 0 where
+pub record AddsSteps (old new : DeskView) (steps : List Step) : Type 0 where
   pub front : IsPrefix old.seen new.seen
   pub legal : IsLegal new.layout new.seen
   pub mine : own new.seen old.number ≡ own old.seen old.number ++ map (entry old.number) steps

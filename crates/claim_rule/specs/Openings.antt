@@ -88,7 +88,7 @@ abbrev pub end_words : Phase → End → List ℕ
 end_words (Ended kind) end = end.successor ∷ amount_word kind end.amount ∷ end.moment ∷ []
 end_words _ end = 0 ∷ 0 ∷ 0 ∷ []
 
--- the words of the items, and 0 in all words behind them
+-- the words of the items, and 0 in all words after them
 abbrev pub item_words : List Item → List ℕ
 item_words items =
     map (λ i. item_word i.place i.span) items ++ replicate ((row_words - first_item_word) - length items) 0

@@ -5,7 +5,7 @@ use Rattle.history_model.specs.declared.phase.Phase.TheVariants.{Making}
 use Rattle.history_model.specs.Booking.{State}
 use Rattle.history_model.specs.Laws.{is_owners}
 
--- no booking in the making has others behind it
+-- no booking in the making has others after it
 abbrev pub MakesLast : State → Type 0
 MakesLast [] = Unit {0}
 MakesLast (booking ∷ rest) = (booking.phase ≡ Making → rest ≡ []) × MakesLast rest

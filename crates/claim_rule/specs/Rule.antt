@@ -100,7 +100,7 @@ abbrev pub AddedTo : Entry → List Entry → Old → Type 0
 AddedTo added history old =
     IsPrefix old.seen history × Each (λ j. own history j ≡ own old.seen j ++ own (added ∷ []) j) old.whole
 
--- a desk's step was added behind all that the desk has seen, and no other step of it
+-- a desk's step was added after all that the desk has seen, and no other step of it
 pub record Added (layout : Layout) (step : Step) (old new : View) : Type 0 where
   pub between : List Entry
   pub seen : new.seen ≡ (old.seen ++ between) ++ entry old.number step ∷ []

@@ -13,7 +13,7 @@ ghost use Rattle.claim_rule.specs.Endings.{IsEndingOf, items_read, end_word as e
 ghost use Rattle.claim_rule.specs.Turns.{HasTurned, IsTurned, IsTurnLost, IsTurnedTo};
 ghost use Rattle.claim_rule.specs.Desks.{CanTurn, MayStep};
 ghost use Rattle.claim_rule.specs.Seats.{CanClose, IsTurning, turn_step_from};
-ghost use Rattle.claim_rule.specs.Desks.{IsOf, Stepped, Shape};
+ghost use Rattle.claim_rule.specs.Desks.{IsOf, Stepped, AddsSteps};
 ghost use Rattle.claim_rule.specs.Seats.{IsSeatOf, HasMade};
 ghost use Rattle.claim_rule.specs.Out.{EndsNone};
 
@@ -225,7 +225,7 @@ impl Books {
         ensures own { IsOf self.now desk.new }
         ensures ending { IsEndingOf desk.new ending.new }
         ensures read { ending.new ≡ record ending.old { items = ending.new.items; read = true } }
-        ensures seen { Shape desk.old desk.new (items_read ending.old.row.row ending.new.items) }
+        ensures seen { AddsSteps desk.old desk.new (items_read ending.old.row.row ending.new.items) }
         ensures few { length ending.new.items ≤ most_items }
         ensures kept { desk.new.kept ≡ desk.old.kept }
     {
@@ -239,7 +239,7 @@ impl Books {
         requires unread { (ending.now.read ≡ false) × (ending.now.given ≡ 0) }
         ensures own { IsOf self.now desk.new }
         ensures ending { IsEndingOf desk.new record ending.now { items = result.items; read = true } }
-        ensures seen { Shape desk.old desk.new (items_read ending.now.row.row result.items) }
+        ensures seen { AddsSteps desk.old desk.new (items_read ending.now.row.row result.items) }
         ensures few { length result.items ≤ most_items }
         ensures kept { desk.new.kept ≡ desk.old.kept }
     {

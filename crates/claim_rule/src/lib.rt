@@ -9,6 +9,25 @@
 //! started again with the next generation; it is never free again.
 //!
 //! No call takes memory but `start_books` and `adopt_books`, and none waits.
+//!
+//! What contracts say of a desk (`specs/Desks`, `specs/Out`):
+//! - `IsOf books desk`: it is of these books, has seen a legal history, and knows that every row below `past` is
+//!   taken. Every call requires it and ensures it.
+//! - `AddsSteps old new steps`: from one call to the next it has these steps more of its own, in one legal history
+//!   that begins with what it had seen; where it is alone or complete there are no other entries between.
+//! - `IsHolding`, `IsEnding`, `HoldsNone`, `EndsNone`, `IsIdle`, `IsTidy`: what is out at it. `KeepsHolds` and
+//!   `KeepsEndings`: a call leaves that as it was.
+//! - `HasNoted..`, `IsToBeSealed`, `SealsItems`: what is noted of a hold, all that a seal requires, and the booking
+//!   that a seal leaves.
+//!
+//! `start_books` and `adopt_books` give the first desk; `part` gives another, which has seen what the first has seen;
+//! `meet` joins an idle one; `finish` closes the table to a wall. `Hold::leave` and `Ending::leave` are for a desk
+//! that is given up in the middle. The `step_` calls are for `seat_words` and `booking_rows`; `step_read` is also for
+//! the crates that decide a booking's fate. `Books` may be shared by threads, and desks, holds and endings may go to
+//! one (`crosses`).
+//!
+//! Lemmas for the crates above (`proofs`): `Shapes`, `Out`, `Reading` (a look shows the word of the state that the
+//! desk has then seen), `OpeningKept` and `OpeningWords` (the bookings that books open with follow from the words).
 #![tactic(auto)]
 
 mod books;

@@ -53,11 +53,6 @@ row_lives w row phase answer closed is test passed =
     let here : is_live b.0.phase ≡ true = subst (λ p. is_live p ≡ true) (sym b.2) live in
     (b.0, record { on = sealed_at w row b.0 closed b.1 (live_sealed b.0.phase here); live = here })
 
--- none of its items yet
-pub live_begins : (w : WallView) (row : ℕ) (words : List ℕ) → AreLiveWords w row words → AreWordsBy w (taken_by w row 0) words
-live_begins w row words are =
-    same_words w (live_on w row) (taken_by w row 0) words (λ p leg. sym (or_false (live_on w row p leg))) (record { count = are.count; each = are.each })
-
 pub live_ends : (w : WallView) (row : ℕ) (words : List ℕ) → AreWordsBy w (live_on w row) words → AreLiveWords w row words
 live_ends w row words are = record { count = are.count; each = are.each }
 

@@ -8,12 +8,6 @@ pub All-each : {X : Type 0} (P : X → Type 0) → ((x : X) → P x) → (xs : L
 All-each P f [] = tt
 All-each P f (x ∷ xs) = (f x, All-each P f xs)
 
-pub Across-weaker : {X Y : Type 0} (R S : X → Y → Type 0) → ((x : X) (y : Y) → R x y → S x y) → (xs : List X) (ys : List Y) → AllByRecursion (λ x. AllByRecursion (R x) ys) xs → AllByRecursion (λ x. AllByRecursion (S x) ys) xs
-Across-weaker R S f xs ys h = All-map (λ x. All-map (λ y. f x y) ys) xs h
-
-pub Across-each : {X Y : Type 0} (R : X → Y → Type 0) → ((x : X) (y : Y) → R x y) → (xs : List X) (ys : List Y) → AllByRecursion (λ x. AllByRecursion (R x) ys) xs
-Across-each R f xs ys = All-each (λ x. AllByRecursion (R x) ys) (λ x. All-each (R x) (f x) ys) xs
-
 column : {X Y : Type 0} (R : X → Y → Type 0) (y : Y) (xs : List X) (ys : List Y) → AllByRecursion (λ x. AllByRecursion (R x) (y ∷ ys)) xs → AllByRecursion (λ x. R x y) xs × AllByRecursion (λ x. AllByRecursion (R x) ys) xs
 column R y [] ys h = (tt, tt)
 column R y (x ∷ xs) ys h = let r = column R y xs ys h.1 in ((h.0.0, r.0), (h.0.1, r.1))

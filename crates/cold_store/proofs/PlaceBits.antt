@@ -41,10 +41,6 @@ held items place leg = ap (list_any (occupies place leg)) (append-nil items)
 pub word-holder : (s : State) (place half : ℕ) → place_word s place half ≡ place_word (holder (all_items s)) place half
 word-holder s place half = place_word-same (holder (all_items s)) s place half (λ i. sym (held (all_items s) place i))
 
--- items that occupy the same have the same words
-pub word-same : (items others : List BookedItem) (place half : ℕ) → ((leg : ℕ) → list_any (occupies place leg) others ≡ list_any (occupies place leg) items) → place_word (holder others) place half ≡ place_word (holder items) place half
-word-same items others place half same = place_word-same (holder items) (holder others) place half (λ i. held others place i ∙ (same i ∙ sym (held items place i)))
-
 or_false : (a b : Bool) → b ≡ false → (a || b) ≡ a
 or_false true b e = refl
 or_false false b e = e

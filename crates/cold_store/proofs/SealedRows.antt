@@ -200,10 +200,6 @@ row_text_is w row phase generation closed shown =
     grouped : (h a b c d i e l : List ℕ) → (h ++ (a ++ (b ++ (c ++ (d ++ (i ++ e)))))) ++ l ≡ h ++ ((a ++ (b ++ (c ++ d))) ++ (i ++ (e ++ l)))
     grouped h a b c d i e l = simp append_assoc
 
--- text behind text
-pub four_fields : (t a b c d e f g h : List ℕ) → a ≡ t ++ e → b ≡ a ++ f → c ≡ b ++ g → d ≡ c ++ h → d ≡ t ++ (e ++ (f ++ (g ++ h)))
-four_fields t a b c d e f g h ha hb hc hd = rw (hd, hc, hb, ha) (simp append_assoc)
-
 pub five_fields : (t a b c d e f g h k l m : List ℕ) → a ≡ t ++ f → b ≡ a ++ g → c ≡ b ++ h → d ≡ c ++ k → e ≡ d ++ l → m ≡ f ++ (g ++ (h ++ (k ++ l))) → e ≡ t ++ m
 five_fields t a b c d e f g h k l m ha hb hc hd he hm = rw (he, hd, hc, hb, ha, hm) (simp append_assoc)
 

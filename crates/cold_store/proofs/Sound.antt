@@ -125,10 +125,6 @@ pub read_as : (legs : List ℕ) (rows : ℕ) (text : List ℕ) (d : DraftView) (
 read_as legs rows text d first second e f same h =
     record { said = h.0; sized = subst (λ (x : ℕ × ℕ). IsExportOf text x.0 x.1 h.0) (λ j. (e j, f j)) h.1; draft = h.2; rows_is = same }
 
-pub import_fault : (legs : List ℕ) (rows : ℕ) (text : List ℕ) (d : DraftView) (fault : ImportFault) → IsReadAs legs rows text d → EachDraft d (λ legs said. IsFaultOf legs d.rows said fault) → IsImportFault legs rows text fault
-import_fault legs rows text d fault read h =
-    fault_is legs rows text read.said fault read.sized (subst (λ (n : ℕ). IsFaultOf legs n read.said fault) read.rows_is (h legs read.said read.draft))
-
 pub import_opens : (legs : List ℕ) (rows : ℕ) (text : List ℕ) (d : DraftView) → rows ≤ most_rows → (read : IsReadAs legs rows text d) → EachDraft d (λ legs said. AreSound legs d.rows said) → OpensWith legs rows d.words (map kept_of read.said)
 import_opens legs rows text d most read h =
     subst (λ (n : ℕ). OpensWith legs n d.words (map kept_of read.said)) read.rows_is

@@ -40,15 +40,6 @@ word_there w row word n closed within some is = word_in_row w.layout (state_on w
 pub some_phase : (w : WallView) (row : ℕ) → IsClosed w → ¬ IsNoRowWord (row_word (state_on w) row 0)
 some_phase w row closed = says_phase w.layout (state_on w) row (well_formed w closed)
 
--- the generation that it says
-pub said_generation : (s : State) (row : ℕ) (phase : Phase) (generation : ℕ) → row_word_of phase generation ≡ row_word s row 0 → phase ≢ Free
-    → OnRow s row (λ b. b.generation ≡ generation)
-said_generation s row phase generation is some = go (present s row) is
-  where
-    go : (o : Option Booking) → row_word_of phase generation ≡ option_map_or (λ (b : Booking). row_word_of b.phase b.generation) o 0 → IsSomeAnd o (λ b. b.generation ≡ generation)
-    go None e = absurd (some (row_word_same phase Free generation 0 e).0)
-    go (Some b) e = sym (row_word_same phase b.phase generation b.generation e).1
-
 -- items
 
 less_than_most : (a b c : ℕ) → a < b → b ≤ c → a < c

@@ -93,7 +93,7 @@ abbrev pub end_words_of : Phase → SaidEnd → List ℕ
 end_words_of (Ended kind) end = drafted_successor end.successor ∷ amount_word kind end.amount ∷ end.moment ∷ []
 end_words_of _ end = 0 ∷ 0 ∷ 0 ∷ []
 
--- the words of a line, without the zeros behind those of its items
+-- the words of a line, without the zeros after those of its items
 abbrev pub words_of_line : Head → SaidEnd → List Item → List ℕ
 words_of_line h end items =
     (row_word_of h.phase h.generation ∷ h.retailer ∷ h.limit ∷ h.total ∷ h.count ∷ end_words_of h.phase end)
@@ -194,7 +194,8 @@ abbrev pub noted : DraftView → LineView → DraftView
 noted d line =
     record d {
       lines = d.lines ++ record { row = line.head.row; generation = line.head.generation } ∷ [];
-      follows = d.follows ++ option_to_list (option_map (λ s. record { row = line.head.row; successor = s }) line.end.successor);
+      follows = d.follows ++ option_to_list
+          (option_map (λ s. record { row = line.head.row; successor = s }) line.end.successor);
     }
 
 -- the least row that is its own successor's
@@ -203,6 +204,7 @@ IsLeastOwn said row = OwnsSuccessor said row × ((lower : ℕ) → lower < row �
 
 -- the next line with its line feed, of a booking of a greater row than these lines have
 pub record ReadsNext (legs : List ℕ) (lines : List SaidRow) (old new : List ℕ) (read : Option LineView) : Type 0 where
-  pub found : IfSome read (λ line. (b : SaidBooking) × IsSayable b × (old ≡ booking_line b ++ 10 ∷ new) × IsLineOf legs b line)
+  pub found : IfSome read
+      (λ line. (b : SaidBooking) × IsSayable b × (old ≡ booking_line b ++ 10 ∷ new) × IsLineOf legs b line)
   pub only : (b : SaidBooking) (rest : List ℕ) → IsSayable b → IsNextRow lines b.row → old ≡ booking_line b ++ 10 ∷ rest
       → IsSomeAnd read (IsLineOf legs b) × (new ≡ rest)

@@ -57,9 +57,11 @@ pub record IsRightText (legs : List ℕ) (rows : ℕ) (text : List ℕ) (said : 
 
 -- the cause of each fault, in the order in which they are tried
 abbrev pub IsImportFault : List ℕ → ℕ → List ℕ → ImportFault → Type 0
-IsImportFault legs rows text (NotAnExport line) = (number : ℕ) × IsFirstBad text number × (line ≡ min number last_number)
+IsImportFault legs rows text (NotAnExport line) =
+    (number : ℕ) × IsFirstBad text number × (line ≡ min number last_number)
 IsImportFault legs rows text Sizes =
-    (places all : ℕ) × (said : List SaidBooking) × IsExportOf text places all said × ((places ≢ length legs) ⊎ (all ≢ rows))
+    (places all : ℕ) × (said : List SaidBooking) × IsExportOf text places all said
+    × ((places ≢ length legs) ⊎ (all ≢ rows))
 IsImportFault legs rows text (RowWrong row) =
     (said : List SaidBooking) × IsSized legs rows text said × IsFirstWrong legs rows said row
 IsImportFault legs rows text (Overlap place) =
@@ -73,9 +75,11 @@ IsImportFault legs rows text NoMemory = Unit {0}
 -- the same of the bookings alone, whatever text they are of
 abbrev pub IsFaultOf : List ℕ → ℕ → List SaidBooking → ImportFault → Type 0
 IsFaultOf legs rows said (RowWrong row) = IsFirstWrong legs rows said row
-IsFaultOf legs rows said (Overlap place) = AreRight legs rows said said × IsLeastBelow (length legs) (λ at. ¬ IsApartAt said at) place
+IsFaultOf legs rows said (Overlap place) =
+    AreRight legs rows said said × IsLeastBelow (length legs) (λ at. ¬ IsApartAt said at) place
 IsFaultOf legs rows said (OwnSuccessor row) =
-    AreRight legs rows said said × NoneBelow (length legs) (λ at. ¬ IsApartAt said at) × IsLeastBelow rows (OwnsSuccessor said) row
+    AreRight legs rows said said × NoneBelow (length legs) (λ at. ¬ IsApartAt said at)
+    × IsLeastBelow rows (OwnsSuccessor said) row
 IsFaultOf legs rows said _ = ⊥
 
 pub record AreSound (legs : List ℕ) (rows : ℕ) (said : List SaidBooking) : Type 0 where

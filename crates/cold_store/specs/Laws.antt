@@ -22,7 +22,7 @@ pub record HasSizes (g : Layout) : Type 0 where
 abbrev pub HasBegun : Layout → Type 0
 HasBegun g = (g.opening ≡ []) ⊎ ((text : List ℕ) × OpensAs g.legs g.rows text g)
 
--- the text is read as the bookings that are kept, and with no fault but want of memory. Books that open with them keep
+-- the text is read as the bookings that are kept, and with no fault but lack of memory. Books that open with them keep
 -- the same ones
 pub record IsReadBack (w : WallView) (text : List ℕ) : Type 0 where
   pub sound : IsRightText w.layout.legs w.layout.rows text (said_on w)
@@ -35,4 +35,5 @@ pub record IsReadBack (w : WallView) (text : List ℕ) : Type 0 where
 
 abbrev pub ExportsAreReadBack : Type 0
 ExportsAreReadBack =
-    (w : WallView) (text : List ℕ) → HasSizes w.layout → HasBegun w.layout → IsClosed w → IsExport w text → IsReadBack w text
+    (w : WallView) (text : List ℕ) → HasSizes w.layout → HasBegun w.layout → IsClosed w → IsExport w text
+    → IsReadBack w text

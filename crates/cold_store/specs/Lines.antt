@@ -23,7 +23,7 @@ pub record SaidBooking : Type 0 where
   pub items : List SaidItem
   pub end : SaidEnd
 
--- a field behind the one before
+-- a field after the one before
 abbrev pub field : List ℕ → List ℕ
 field text = 32 ∷ text
 

@@ -35,7 +35,7 @@ TakesDigit old new None = IsCut old × (new ≡ old)
 abbrev pub number_with : ℕ → ℕ → Option ℕ
 number_with n d = if nat_lt (n * 10 + d) (2 ^ 64) then Some (n * 10 + d) else None
 
--- a number behind a dot
+-- a number after a dot
 abbrev pub number_part : ℕ → List ℕ
 number_part n = codes "." ++ decimal n
 
@@ -105,7 +105,7 @@ pub record ReadsFirst (old new : List ℕ) (read : Option (ℕ × ℕ)) : Type 0
   pub only : (places rows : ℕ) (rest : List ℕ) → IsNumber places → IsNumber rows
       → old ≡ first_line places rows ++ 10 ∷ rest → (read ≡ Some (places, rows)) × (new ≡ rest)
 
--- what stands behind `end` in the last line, with its line feed
+-- what stands after `end` in the last line, with its line feed
 pub record EatsLast (count : ℕ) (old new : List ℕ) (read : Bool) : Type 0 where
   pub found : read ≡ true → old ≡ number_field count ++ 10 ∷ new
   pub none : read ≡ false → (rest : List ℕ) → ¬ (old ≡ number_field count ++ 10 ∷ rest)

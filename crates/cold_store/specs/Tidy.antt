@@ -22,7 +22,8 @@ IsExchanged b = (b.phase ≡ Ending Exchange) ⊎ (b.phase ≡ Ended Exchange)
 -- where it was, its successor is made
 abbrev pub HasSuccessor : State → Booking → Type 0
 HasSuccessor s b =
-    IsExchanged b → (row generation : ℕ) → row < successor_rows → b.end.successor ≡ successor_word row generation → IsMade s row generation
+    IsExchanged b → (row generation : ℕ) → row < successor_rows → b.end.successor ≡ successor_word row generation
+    → IsMade s row generation
 
 abbrev pub AreSucceeded : State → Type 0
 AreSucceeded s = AllByRecursion (HasSuccessor s) s

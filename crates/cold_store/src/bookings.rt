@@ -16,7 +16,7 @@ use leg_masks::{Item, Span};
 use std::marker::Model;
 
 /// What a line says of an item; the numbers may be any.
-#[derive(Clone, Copy, Debug, PartialEq, Eq)]
+#[derive(Clone, Copy, PartialEq, Eq)]
 pub struct SaidItem {
     pub place: u64,
     pub from: u64,

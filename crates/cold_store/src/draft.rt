@@ -215,7 +215,7 @@ fn push_end(words: &mut RowWords, phase: Phase, end: SaidEnd)
     }
 }
 
-// The words of a line, without the zeros behind those of its items.
+// The words of a line, without the zeros after those of its items.
 fn words_of(head: &Head, end: SaidEnd, items: &[Item]) -> RowWords
     requires generation { head.now.generation ≤ last_generation }
     requires amount { (kind : EndKind) → head.now.phase ≡ Ended kind → IsAmountOf kind end.amount }

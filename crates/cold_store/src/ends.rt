@@ -6,14 +6,14 @@ use crate::reader::Reader;
 use history_model::phase::Phase;
 
 /// A row and a generation; the numbers may be any.
-#[derive(Clone, Copy, Debug, PartialEq, Eq)]
+#[derive(Clone, Copy, PartialEq, Eq)]
 pub struct SaidRow {
     pub row: u64,
     pub generation: u64,
 }
 
 /// What a line says of an end: nothing where the booking hasn't ended.
-#[derive(Clone, Copy, Debug, PartialEq, Eq)]
+#[derive(Clone, Copy, PartialEq, Eq)]
 pub struct SaidEnd {
     pub amount: i128,
     pub moment: u64,
@@ -21,7 +21,7 @@ pub struct SaidEnd {
 }
 
 impl<'a> Reader<'a> {
-    // The amount that is the next field: `p` or `m` and a number, which behind `m` isn't 0.
+    // The amount that is the next field: `p` or `m` and a number, which after `m` isn't 0.
     fn amount(&mut self) -> Option<i128>
         ensures { Reads amount_field IsAmountNumber self.old.rest.now self.new.rest.now result }
     {

@@ -2,6 +2,10 @@
 //!
 //! The text has a line for each booking that is kept, in rising row. What an export writes is read back as the same
 //! bookings; a text that a person edited is refused by name and by line.
+//!
+//! It knows no catalogue, no file and no command. `specs/Lines` has the form of a text, `Reads` what a reader answers
+//! of it, `Right` which bookings are right, `Imports` and `Exports` the cause of each fault;
+//! `laws::exports_are_read_back` says that what was exported is imported as the same bookings.
 #![tactic(auto)]
 
 mod bookings;

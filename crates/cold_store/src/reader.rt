@@ -57,7 +57,7 @@ impl<'a> Reader<'a> {
         self.number()
     }
 
-    /// The number that stands behind a dot.
+    /// The number that stands after a dot.
     pub(crate) fn part(&mut self) -> Option<u64>
         ensures { Reads number_part IsNumber self.old.rest.now self.new.rest.now result }
     {

@@ -10,7 +10,7 @@ use claim_rule::Wall;
 use std::alloc::Global;
 
 /// The export of a wall whose desks were all between two calls of the service. No row is open and no place is held:
-/// want of memory is the one fault.
+/// lack of memory is the one fault.
 pub fn export_tidy(alloc: Global, wall: &Wall) -> Result<Vec<u8>, ExportFault>
     requires closed { IsClosed wall.now }
     requires tidy { IsTidyWall wall.now }

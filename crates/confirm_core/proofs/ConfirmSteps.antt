@@ -5,7 +5,7 @@ use Rattle.history_model.specs.declared.phase.Phase.{Phase}
 use Rattle.history_model.specs.declared.phase.Phase.TheVariants.{Free, Prebooked}
 use Rattle.rail_ids.specs.declared.RowNo.{RowNo}
 use Rattle.claim_rule.specs.Rule.{DeskView}
-use Rattle.claim_rule.specs.Calls.{ShapeBy}
+use Rattle.claim_rule.specs.Calls.{AddsStepsBy}
 use Rattle.claim_rule.proofs.Shapes.{shape_then}
 use Rattle.booking_rows.specs.declared.turns.Aim.TheVariants as aim
 use Rattle.booking_rows.specs.Aims.{turn_of, LosesTurn}
@@ -16,10 +16,10 @@ use Rattle.confirm_core.specs.declared.confirming.Confirmed.{Confirmed}
 use Rattle.confirm_core.specs.declared.confirming.Confirmed.TheVariants as confirmed
 use Rattle.confirm_core.specs.Confirming.{SawTerms, FindsTerms, SawInTime, Confirms}
 
-pub unknown : (rows : ℕ) (row : RowNo) (retailer now : ℕ) (a b : DeskView) → ShapeBy (FindsTerms rows row retailer None) a b → ShapeBy (Confirms rows row retailer now confirmed.Unknown) a b
+pub unknown : (rows : ℕ) (row : RowNo) (retailer now : ℕ) (a b : DeskView) → AddsStepsBy (FindsTerms rows row retailer None) a b → AddsStepsBy (Confirms rows row retailer now confirmed.Unknown) a b
 unknown rows row retailer now a b did = (did.0, inl did.1, did.2)
 
-pub wrong_at_look : (rows : ℕ) (row : RowNo) (retailer now : ℕ) (t : Terms) (a b : DeskView) → t.shown ≢ Prebooked → ShapeBy (FindsTerms rows row retailer (Some t)) a b → ShapeBy (Confirms rows row retailer now (confirmed.WrongState t.shown)) a b
+pub wrong_at_look : (rows : ℕ) (row : RowNo) (retailer now : ℕ) (t : Terms) (a b : DeskView) → t.shown ≢ Prebooked → AddsStepsBy (FindsTerms rows row retailer (Some t)) a b → AddsStepsBy (Confirms rows row retailer now (confirmed.WrongState t.shown)) a b
 wrong_at_look rows row retailer now t a b ne did =
     let f = did.1 in
     (did.0, (f.0, (t.limit, inl (ne, f.1, ((λ e. absurd (ne e)), f.2)))), did.2)
@@ -28,22 +28,22 @@ wrong_at_look rows row retailer now t a b ne did =
 as_prebooked : (row : RowNo) (retailer last : ℕ) (t : Terms) (es : List Step) → t.shown ≡ Prebooked → es ≡ saw_terms row t.shown retailer t.limit last → es ≡ saw_terms row Prebooked retailer t.limit last
 as_prebooked row retailer last t es is e = e ∙ ap (λ (p : Phase). saw_terms row p retailer t.limit last) is
 
-pub too_late : (rows : ℕ) (row : RowNo) (retailer now : ℕ) (t : Terms) (a b : DeskView) → t.shown ≡ Prebooked → t.limit < now → ShapeBy (FindsTerms rows row retailer (Some t)) a b → ShapeBy (Confirms rows row retailer now (confirmed.TooLate t.limit)) a b
+pub too_late : (rows : ℕ) (row : RowNo) (retailer now : ℕ) (t : Terms) (a b : DeskView) → t.shown ≡ Prebooked → t.limit < now → AddsStepsBy (FindsTerms rows row retailer (Some t)) a b → AddsStepsBy (Confirms rows row retailer now (confirmed.TooLate t.limit)) a b
 too_late rows row retailer now t a b is late did =
     let f = did.1 in
     (did.0, (f.0, late, (f.2.0, f.2.1, as_prebooked row retailer f.2.0 t did.0 is f.2.2)), did.2)
 
-pub confirms : (rows : ℕ) (row : RowNo) (retailer now : ℕ) (t : Terms) (a b c : DeskView) → t.shown ≡ Prebooked → now ≤ t.limit → ShapeBy (FindsTerms rows row retailer (Some t)) a b → ShapeBy (λ es. es ≡ turn_of row.row Prebooked (aim.Confirm now) ∷ []) b c → ShapeBy (Confirms rows row retailer now confirmed.Done) a c
+pub confirms : (rows : ℕ) (row : RowNo) (retailer now : ℕ) (t : Terms) (a b c : DeskView) → t.shown ≡ Prebooked → now ≤ t.limit → AddsStepsBy (FindsTerms rows row retailer (Some t)) a b → AddsStepsBy (λ es. es ≡ turn_of row.row Prebooked (aim.Confirm now) ∷ []) b c → AddsStepsBy (Confirms rows row retailer now confirmed.Done) a c
 confirms rows row retailer now t a b c is early did turned =
     let f = did.1 in
     (did.0 ++ turned.0, (f.0, (t.limit, f.2.0, early, f.2.1, (λ i. as_prebooked row retailer f.2.0 t did.0 is f.2.2 i ++ turned.1 i))), shape_then a b c did.0 turned.0 did.2 turned.2)
 
-pub loses : (rows : ℕ) (row : RowNo) (retailer now : ℕ) (t : Terms) (shown : Phase) (a b c : DeskView) → t.shown ≡ Prebooked → now ≤ t.limit → shown ≢ Free → ShapeBy (FindsTerms rows row retailer (Some t)) a b → ShapeBy (LosesTurn row Prebooked shown) b c → ShapeBy (Confirms rows row retailer now (confirmed.WrongState shown)) a c
+pub loses : (rows : ℕ) (row : RowNo) (retailer now : ℕ) (t : Terms) (shown : Phase) (a b c : DeskView) → t.shown ≡ Prebooked → now ≤ t.limit → shown ≢ Free → AddsStepsBy (FindsTerms rows row retailer (Some t)) a b → AddsStepsBy (LosesTurn row Prebooked shown) b c → AddsStepsBy (Confirms rows row retailer now (confirmed.WrongState shown)) a c
 loses rows row retailer now t shown a b c is early some did lost =
     let f = did.1 in
     (did.0 ++ lost.0, (f.0, (t.limit, inr (some, did.0, lost.0, ((λ e. early), (f.2.0, f.2.1, as_prebooked row retailer f.2.0 t did.0 is f.2.2)), lost.1, refl))), shape_then a b c did.0 lost.0 did.2 lost.2)
 
-pub given_away : (rows : ℕ) (row : RowNo) (retailer now : ℕ) (t : Terms) (shown : Phase) (a b c : DeskView) → t.shown ≡ Prebooked → now ≤ t.limit → shown ≡ Free → ShapeBy (FindsTerms rows row retailer (Some t)) a b → ShapeBy (LosesTurn row Prebooked shown) b c → ShapeBy (Confirms rows row retailer now confirmed.Unknown) a c
+pub given_away : (rows : ℕ) (row : RowNo) (retailer now : ℕ) (t : Terms) (shown : Phase) (a b c : DeskView) → t.shown ≡ Prebooked → now ≤ t.limit → shown ≡ Free → AddsStepsBy (FindsTerms rows row retailer (Some t)) a b → AddsStepsBy (LosesTurn row Prebooked shown) b c → AddsStepsBy (Confirms rows row retailer now confirmed.Unknown) a c
 given_away rows row retailer now t shown a b c is early free did lost =
     let f = did.1 in
     let away : LosesTurn row Prebooked Free lost.0 = subst (λ (p : Phase). LosesTurn row Prebooked p lost.0) free lost.1 in

@@ -20,7 +20,8 @@ SawTerms row shown who last es = (limit : ℕ) × (es ≡ saw_terms row shown wh
 abbrev pub FindsTerms : ℕ → RowNo → ℕ → Option Terms → List Step → Type 0
 FindsTerms rows row retailer None es = IsUnknown rows row retailer (SawTerms row) es
 FindsTerms rows row retailer (Some t) es =
-    (row.row < rows) × (is_sealed t.shown ≡ true) × ((last : ℕ) × IsKept row last × (es ≡ saw_terms row t.shown retailer t.limit last))
+    (row.row < rows) × (is_sealed t.shown ≡ true)
+    × ((last : ℕ) × IsKept row last × (es ≡ saw_terms row t.shown retailer t.limit last))
 
 -- the same looks, of which the last shows that the row wasn't given away; prebooked they are followed by a turn only
 -- where now isn't after the limit
@@ -37,7 +38,8 @@ Confirms rows row retailer now confirmed.Unknown es =
     IsUnknown rows row retailer (SawTerms row) es
     ⊎ ((row.row < rows) × ((limit : ℕ) × LosesRow row Prebooked (SawInTime row retailer now limit) es))
 Confirms rows row retailer now (confirmed.TooLate limit) es =
-    (row.row < rows) × (limit < now) × ((last : ℕ) × IsKept row last × (es ≡ saw_terms row Prebooked retailer limit last))
+    (row.row < rows) × (limit < now)
+    × ((last : ℕ) × IsKept row last × (es ≡ saw_terms row Prebooked retailer limit last))
 Confirms rows row retailer now (confirmed.WrongState shown) es =
     (row.row < rows) × ((limit : ℕ) × IsWrong row Prebooked shown (SawInTime row retailer now limit) es)
 

@@ -1,7 +1,7 @@
 //! Confirming a booking (OSDM's confirmation of a prebooked offer).
 ghost use Rattle.std.specs.Prelude.{IfSome};
 ghost use Rattle.claim_rule.specs.Desks.{IsOf, AddsAtMost};
-ghost use Rattle.claim_rule.specs.Calls.{ShapeBy};
+ghost use Rattle.claim_rule.specs.Calls.{AddsStepsBy};
 ghost use Rattle.claim_rule.specs.Out.{KeepsHolds, KeepsEndings};
 ghost use Rattle.row_decisions.specs.Looks.{HasLimit};
 ghost use Rattle.claim_rule.specs.Turns.{IsPresentIn};
@@ -17,7 +17,7 @@ use rail_time::Moment;
 use row_decisions::{is_sealed, look_phase, look_word};
 
 /// What came of confirming.
-#[derive(Clone, Copy, Debug, PartialEq, Eq)]
+#[derive(Clone, Copy, PartialEq, Eq)]
 pub enum Confirmed {
     /// The booking is confirmed by this call.
     Done,
@@ -40,7 +40,7 @@ pub fn confirm(
 ) -> Confirmed
     requires own { IsOf books.now desk.old }
     ensures own { IsOf books.now desk.new }
-    ensures entries { ShapeBy (Confirms books.now.layout.rows row retailer.0 now result) desk.old desk.new }
+    ensures entries { AddsStepsBy (Confirms books.now.layout.rows row retailer.0 now result) desk.old desk.new }
     ensures confirmed { IfConfirmed result (IsPresentIn desk.new row IsConfirmedPhase) }
     ensures holds { KeepsHolds desk.old desk.new }
     ensures endings { KeepsEndings desk.old desk.new }
@@ -67,7 +67,7 @@ pub fn confirm(
 }
 
 // What looks at a booking showed.
-#[derive(Clone, Copy, Debug, PartialEq, Eq)]
+#[derive(Clone, Copy, PartialEq, Eq)]
 struct Terms {
     shown: Phase,
     limit: Moment,
@@ -77,7 +77,7 @@ struct Terms {
 fn find_terms(books: &Books, desk: &mut Desk, row: RowNo, retailer: RetailerNo) -> Option<Terms>
     requires own { IsOf books.now desk.old }
     ensures own { IsOf books.now desk.new }
-    ensures entries { ShapeBy (FindsTerms books.now.layout.rows row retailer.0 result) desk.old desk.new }
+    ensures entries { AddsStepsBy (FindsTerms books.now.layout.rows row retailer.0 result) desk.old desk.new }
     ensures limit { IfSome result (λ terms. HasLimit desk.new row terms.limit) }
     ensures holds { KeepsHolds desk.old desk.new }
     ensures endings { KeepsEndings desk.old desk.new }

@@ -1,6 +1,6 @@
 //! Collecting the ticket of a confirmed booking (OSDM's fulfilment).
 ghost use Rattle.claim_rule.specs.Desks.{IsOf, AddsAtMost};
-ghost use Rattle.claim_rule.specs.Calls.{ShapeBy};
+ghost use Rattle.claim_rule.specs.Calls.{AddsStepsBy};
 ghost use Rattle.claim_rule.specs.Out.{KeepsHolds, KeepsEndings};
 ghost use Rattle.claim_rule.specs.Turns.{IsPresentIn};
 ghost use Rattle.history_model.specs.declared.phase.Phase.TheVariants.{Fulfilled};
@@ -13,7 +13,7 @@ use rail_ids::{RetailerNo, RowNo};
 use row_decisions::find_owned;
 
 /// What came of fulfilling.
-#[derive(Clone, Copy, Debug, PartialEq, Eq)]
+#[derive(Clone, Copy, PartialEq, Eq)]
 pub enum Fulfilment {
     /// The ticket is collected by this call.
     Done,
@@ -28,7 +28,7 @@ pub enum Fulfilment {
 pub fn fulfil(books: &Books, desk: &mut Desk, row: RowNo, retailer: RetailerNo) -> Fulfilment
     requires own { IsOf books.now desk.old }
     ensures own { IsOf books.now desk.new }
-    ensures entries { ShapeBy (Fulfils books.now.layout.rows row retailer.0 result) desk.old desk.new }
+    ensures entries { AddsStepsBy (Fulfils books.now.layout.rows row retailer.0 result) desk.old desk.new }
     ensures fulfilled { IfFulfilled result (IsPresentIn desk.new row Fulfilled) }
     ensures holds { KeepsHolds desk.old desk.new }
     ensures endings { KeepsEndings desk.old desk.new }

@@ -4,6 +4,8 @@
 //! whatever desks, the first decides. Every refusal has its cause in what this call's looks, or its lost turn, showed.
 //!
 //! No call takes memory, and none waits.
+//!
+//! A confirmation and a collection add at most six entries.
 #![tactic(auto)]
 
 mod confirming;

@@ -18,8 +18,8 @@ use Rattle.history_model.specs.Phase.{is_turn}
 use Rattle.history_model.specs.Work.{NoStep}
 use Rattle.history_model.specs.WholeEnds.{end_at, end_turn}
 use Rattle.claim_rule.specs.Rule.{DeskView}
-use Rattle.claim_rule.specs.Calls.{ShapeBy}
-use Rattle.claim_rule.specs.Desks.{Shape, CanTurn, AddsAtMost}
+use Rattle.claim_rule.specs.Calls.{AddsStepsBy}
+use Rattle.claim_rule.specs.Desks.{AddsSteps, CanTurn, AddsAtMost}
 use Rattle.claim_rule.specs.Holds.{HoldView}
 use Rattle.claim_rule.specs.Endings.{EndingView, items_read, item_looks}
 use Rattle.claim_rule.specs.EndSteps.{ending_steps, gives_from, closing}
@@ -63,17 +63,17 @@ pub end_is : (ready : ReadyView) (x : ℤ) (q successor : RowNo) → x ≡ ready
 end_is ready x q successor amount same = λ i. end_at ready.moment (amount i) (successor_word (same i).row (same i).generation)
 
 pub carried : (a b c d : DeskView) (ready : ReadyView) (from : Phase) (x : ℤ) (q successor : RowNo) (e : EndingView) → from ≡ phase_named ready.code.fulfilled → x ≡ ready.code.difference → q ≡ successor → Ending Exchange ≡ Ending e.kind
-    → e ≡ fresh_ending ready.code.row e.kind (end_of (aim.Exchange ready.moment x q)) e → ShapeBy (Turns ready.code.row from (aim.Exchange ready.moment x q) (turned.Ending e)) a b → Shape b c (Seal successor.row Confirmed ∷ []) → Shape c d (ending_steps e.row.row e.kind e.end e.items)
-    → Shape a d (exchange_steps ready successor e.items)
+    → e ≡ fresh_ending ready.code.row e.kind (end_of (aim.Exchange ready.moment x q)) e → AddsStepsBy (Turns ready.code.row from (aim.Exchange ready.moment x q) (turned.Ending e)) a b → AddsSteps b c (Seal successor.row Confirmed ∷ []) → AddsSteps c d (ending_steps e.row.row e.kind e.end e.items)
+    → AddsSteps a d (exchange_steps ready successor e.items)
 carried a b c d ready from x q successor e is amount same to fresh did sealed rest =
     let row = ready.code.row.row in
     let end : End = exchange_end ready successor in
     let kind = kind_is e.kind to in
     let aims = end_is ready x q successor amount same in
-    let first : Shape a b (end_turn row (phase_named ready.code.fulfilled) (Ending Exchange) end ∷ items_read row e.items) =
-    subst (Shape a b) (did.1 ∙ (λ i. end_turn row (is i) (Ending Exchange) (aims i) ∷ items_read row e.items)) did.2 in
-    let closed : Shape c d (ending_steps row e.kind (end_of (aim.Exchange ready.moment x q)) e.items) = subst (λ (y : EndingView). Shape c d (ending_steps y.row.row e.kind y.end e.items)) fresh rest in
-    let last : Shape c d (ending_steps row Exchange end e.items) = subst (λ (y : EndKind × End). Shape c d (ending_steps row y.0 y.1 e.items)) (λ i. (kind i, aims i)) closed in
+    let first : AddsSteps a b (end_turn row (phase_named ready.code.fulfilled) (Ending Exchange) end ∷ items_read row e.items) =
+    subst (AddsSteps a b) (did.1 ∙ (λ i. end_turn row (is i) (Ending Exchange) (aims i) ∷ items_read row e.items)) did.2 in
+    let closed : AddsSteps c d (ending_steps row e.kind (end_of (aim.Exchange ready.moment x q)) e.items) = subst (λ (y : EndingView). AddsSteps c d (ending_steps y.row.row e.kind y.end e.items)) fresh rest in
+    let last : AddsSteps c d (ending_steps row Exchange end e.items) = subst (λ (y : EndKind × End). AddsSteps c d (ending_steps row y.0 y.1 e.items)) (λ i. (kind i, aims i)) closed in
     shape_then a b d (end_turn row (phase_named ready.code.fulfilled) (Ending Exchange) end ∷ items_read row e.items) (Seal successor.row Confirmed ∷ ending_steps row Exchange end e.items) first
     (shape_then b c d (Seal successor.row Confirmed ∷ []) (ending_steps row Exchange end e.items) sealed last)
 
@@ -84,18 +84,6 @@ Seals seen new number layout row phase items =
     (before : List Entry) × (after : List Entry) × IsPrefix seen before
     × (new.seen ≡ before ++ entry number (Seal row.row phase) ∷ after)
     × OnRow (state_of layout (before ++ entry number (Seal row.row phase) ∷ [])) row.row (IsSealedAs row.generation number phase items)
-
-pub seals_within : (a b c d : DeskView) (row : RowNo) (phase : Phase) (items : List Item) (xs ys : List Step) → Shape a b xs → SealsItems b c row phase items → Shape c d ys → SealsItems a d row phase items
-seals_within a b c d row phase items xs ys first is after =
-    let s : Seals b.seen c a.number a.layout row phase items = subst (λ (x : ℕ × Layout). Seals b.seen c x.0 x.1 row phase items) (λ i. (first.same.2 i, first.same.1 i)) is in
-    let start = first.front.0 in
-    let rest = after.front.0 in (
-      s.0,
-      s.1 ++ rest,
-      (start ++ s.2.0, sym (append_assoc a.seen start s.2.0) ∙ (ap (λ (l : List Entry). l ++ s.2.0) first.front.1 ∙ s.2.1)),
-      sym after.front.1 ∙ (ap (λ (l : List Entry). l ++ rest) s.3 ∙ append_assoc s.0 (entry a.number (Seal row.row phase) ∷ s.1) rest),
-      s.4,
-    )
 
 -- the exchange has its new booking
 
@@ -123,15 +111,15 @@ exchange_settled d ready successor items low =
           (refl, calm_looks row 8 items (Seal successor.row Confirmed ∷ ending) (refl, calm_gives row 0 (length items) (closing row Exchange end) (refl, (refl, (refl, (refl, tt)))))),
     )
 
-settled_with : (a b : DeskView) (es : List Step) → Shape a b es → AreSettled (map (entry a.number) es) → AreSettled (own a.seen a.number) → AreSettled (own b.seen b.number)
+settled_with : (a b : DeskView) (es : List Step) → AddsSteps a b es → AreSettled (map (entry a.number) es) → AreSettled (own a.seen a.number) → AreSettled (own b.seen b.number)
 settled_with a b es did so was = subst (λ (n : ℕ). AreSettled (own b.seen n)) (sym did.same.2) (subst AreSettled (sym did.mine) (settled_append (own a.seen a.number) (map (entry a.number) es) was so))
 
-pub settled_done : (a b : DeskView) (ready : ReadyView) (successor new : RowNo) (difference : ℤ) → successor.row < successor_rows → ShapeBy (AcceptsExchange ready successor (exchanged.Done new difference)) a b → AreSettled (own a.seen a.number) → AreSettled (own b.seen b.number)
+pub settled_done : (a b : DeskView) (ready : ReadyView) (successor new : RowNo) (difference : ℤ) → successor.row < successor_rows → AddsStepsBy (AcceptsExchange ready successor (exchanged.Done new difference)) a b → AreSettled (own a.seen a.number) → AreSettled (own b.seen b.number)
 settled_done a b ready successor new difference low did was =
     let s = did.1.2 in
     settled_with a b did.0 did.2 (subst (λ (l : List Step). AreSettled (map (entry a.number) l)) (sym s.2) (exchange_settled a.number ready successor s.0 low)) was
 
-pub settled_lost : (a b : DeskView) (row : RowNo) (from shown : Phase) → ShapeBy (LosesTurn row from shown) a b → AreSettled (own a.seen a.number) → AreSettled (own b.seen b.number)
+pub settled_lost : (a b : DeskView) (row : RowNo) (from shown : Phase) → AddsStepsBy (LosesTurn row from shown) a b → AreSettled (own a.seen a.number) → AreSettled (own b.seen b.number)
 settled_lost a b row from shown lost was =
     settled_with a b lost.0 lost.2 (settled_calm a.number lost.0 (subst (NoStep exchanges) (sym lost.1.3) (refl, tt))) was
 
@@ -156,6 +144,6 @@ exchange_length ready successor items few =
     let n = gives_length row 0 (length items) in
     omega (arith, few, k, l, m, n)
 
-pub exchange_bound : (a b : DeskView) (ready : ReadyView) (successor new : RowNo) (difference : ℤ) → ShapeBy (AcceptsExchange ready successor (exchanged.Done new difference)) a b → AddsAtMost (2 * most_items + 7) a b
+pub exchange_bound : (a b : DeskView) (ready : ReadyView) (successor new : RowNo) (difference : ℤ) → AddsStepsBy (AcceptsExchange ready successor (exchanged.Done new difference)) a b → AddsAtMost (2 * most_items + 7) a b
 exchange_bound a b ready successor new difference did =
     let s = did.1.2 in adds_length a b did.0 (2 * most_items + 7) did.2 (subst (λ (l : List Step). length l ≤ 2 * most_items + 7) (sym s.2) (exchange_length ready successor s.0 s.1))

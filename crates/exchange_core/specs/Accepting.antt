@@ -22,7 +22,8 @@ use Rattle.exchange_core.specs.declared.accepting.Exchanged.TheVariants.{Done, W
 
 -- the end of the old booking: its moment is that of the check, and its successor the new booking
 abbrev pub exchange_end : ReadyView → RowNo → End
-exchange_end ready successor = end_at ready.moment ready.code.difference (successor_word successor.row successor.generation)
+exchange_end ready successor =
+    end_at ready.moment ready.code.difference (successor_word successor.row successor.generation)
 
 -- the old booking is turned from the phase that the code names, and its items are read; the new one is sealed; the old
 -- one is ended
@@ -37,7 +38,8 @@ abbrev pub AcceptsExchange : ReadyView → RowNo → Exchanged → List Step →
 AcceptsExchange ready successor (Done new difference) es =
     (new ≡ successor) × (difference ≡ ready.code.difference)
     × ((items : List Item) × (length items ≤ most_items) × (es ≡ exchange_steps ready successor items))
-AcceptsExchange ready successor (WrongState shown hold) es = LosesTurn ready.code.row (phase_named ready.code.fulfilled) shown es
+AcceptsExchange ready successor (WrongState shown hold) es =
+    LosesTurn ready.code.row (phase_named ready.code.fulfilled) shown es
 
 -- what holds where the exchange was carried out, and of the hold where its turn was lost
 abbrev pub OnDone : Exchanged → Type 0 → Type 0

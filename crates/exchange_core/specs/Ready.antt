@@ -4,7 +4,7 @@ use Rattle.history_model.specs.declared.phase.EndKind.TheVariants.{Exchange}
 use Rattle.history_model.specs.Allowed.{IsAmountOf}
 use Rattle.history_model.specs.declared.entry.Step.{Step}
 use Rattle.claim_rule.specs.Rule.{DeskView}
-use Rattle.claim_rule.specs.Desks.{Shape}
+use Rattle.claim_rule.specs.Desks.{AddsSteps}
 use Rattle.booking_rows.specs.SealedRows.{IsSealedRow}
 use Rattle.offer_codes.specs.Exchanges.{ExchangeView}
 
@@ -23,4 +23,6 @@ pub record IsReadyFor (desk : DeskView) (ready : ReadyView) : Type 0 where
 
 -- what is ready stays so, whatever the desk does
 abbrev pub ReadyStays : Type 0
-ReadyStays = (old new : DeskView) (steps : List Step) (ready : ReadyView) → Shape old new steps → IsReadyFor old ready → IsReadyFor new ready
+ReadyStays =
+    (old new : DeskView) (steps : List Step) (ready : ReadyView) → AddsSteps old new steps → IsReadyFor old ready
+    → IsReadyFor new ready

@@ -4,7 +4,7 @@ ghost use Rattle.history_model.specs.Booking.{most_items};
 ghost use Rattle.history_model.specs.declared.phase.Phase.TheVariants.{Confirmed};
 ghost use Rattle.history_model.specs.History.{own};
 ghost use Rattle.claim_rule.specs.Desks.{IsOf, AddsAtMost};
-ghost use Rattle.claim_rule.specs.Calls.{ShapeBy};
+ghost use Rattle.claim_rule.specs.Calls.{AddsStepsBy};
 ghost use Rattle.claim_rule.specs.Out.{IsHolding, IsToBeSealed, HoldsNone, EndsNone, SealsItems, AreSettled};
 ghost use Rattle.exchange_core.specs.Ready.{IsReadyFor};
 ghost use Rattle.exchange_core.specs.Accepting.{AcceptsExchange, OnDone, OnLost, IsExchanged, exchange_end};
@@ -45,7 +45,7 @@ pub fn accept_exchange(
     requires none { EndsNone desk.old }
     requires ready { IsReadyFor desk.old ready }
     ensures own { IsOf books.now desk.new }
-    ensures entries { ShapeBy (AcceptsExchange ready hold.row result) desk.old desk.new }
+    ensures entries { AddsStepsBy (AcceptsExchange ready hold.row result) desk.old desk.new }
     ensures items { OnDone result (SealsItems desk.old desk.new hold.row Confirmed hold.items) }
     ensures ended { OnDone result (IsExchanged desk.new ready.code.row (exchange_end ready hold.row)) }
     ensures holds_none { OnDone result (HoldsNone desk.new) }

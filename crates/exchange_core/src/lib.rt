@@ -6,6 +6,10 @@
 //! neither.
 //!
 //! No call takes memory, and none waits.
+//!
+//! `ready_exchange` refuses in the order of refunds. `ExchangeReady` stands for a quote that was checked; it stays so
+//! whatever others do (`laws::ready_stays`). An exchange has at most 103 entries. It alone of the crates that decide
+//! touches the desk's hold.
 #![tactic(auto)]
 
 mod accepting;

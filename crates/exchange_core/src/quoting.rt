@@ -2,7 +2,7 @@
 ghost use Rattle.std.specs.Prelude.{◌≡◌, ◌+◌, true};
 ghost use Rattle.history_model.specs.Booking.{most_items};
 ghost use Rattle.claim_rule.specs.Desks.{IsOf, AddsAtMost};
-ghost use Rattle.claim_rule.specs.Calls.{ShapeBy};
+ghost use Rattle.claim_rule.specs.Calls.{AddsStepsBy};
 ghost use Rattle.claim_rule.specs.Out.{KeepsHolds, KeepsEndings};
 ghost use Rattle.offer_codes.specs.Offers.{is_offer, offer_view};
 ghost use Rattle.offer_codes.specs.Exchanges.{is_exchange, exchange_view};
@@ -46,7 +46,7 @@ pub fn quote_exchange(
     requires own { IsOf books.now desk.old }
     requires offer { is_offer (offer_view offer.now) ≡ true }
     ensures own { IsOf books.now desk.new }
-    ensures entries { ShapeBy (QuotesExchange
+    ensures entries { AddsStepsBy (QuotesExchange
         cat.now books.now.layout.rows row retailer.0 (offer_view offer.now) now result) desk.old desk.new }
     ensures range { IfQuoted result (λ code. is_exchange (exchange_view code) ≡ true) }
     ensures holds { KeepsHolds desk.old desk.new }

@@ -2,7 +2,7 @@
 ghost use Rattle.std.specs.Prelude.{◌≡◌, ◌+◌, true};
 ghost use Rattle.history_model.specs.Booking.{most_items};
 ghost use Rattle.claim_rule.specs.Desks.{IsOf, AddsAtMost};
-ghost use Rattle.claim_rule.specs.Calls.{ShapeBy};
+ghost use Rattle.claim_rule.specs.Calls.{AddsStepsBy};
 ghost use Rattle.claim_rule.specs.Out.{KeepsHolds, KeepsEndings};
 ghost use Rattle.offer_codes.specs.Offers.{is_offer, offer_view};
 ghost use Rattle.offer_codes.specs.Exchanges.{exchange_view};
@@ -69,7 +69,7 @@ pub fn ready_exchange(
     requires own { IsOf books.now desk.old }
     requires offer { is_offer (offer_view code.now.offer) ≡ true }
     ensures own { IsOf books.now desk.new }
-    ensures entries { ShapeBy
+    ensures entries { AddsStepsBy
         (Readies cat.now books.now.layout.rows retailer.0 (exchange_view code.now) now result) desk.old desk.new }
     ensures ready { IfFine result (IsReadyFor desk.new) }
     ensures holds { KeepsHolds desk.old desk.new }

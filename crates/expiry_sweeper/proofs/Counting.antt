@@ -9,8 +9,8 @@ use Rattle.booking_rows.specs.Aims.{end_of}
 use Rattle.booking_rows.proofs.Ended.{ended_stays}
 use Rattle.history_model.specs.History.{IsLegal}
 use Rattle.claim_rule.specs.Rule.{BooksView, DeskView}
-use Rattle.claim_rule.specs.Desks.{IsOf, Shape, AddsAtMost}
-use Rattle.claim_rule.specs.Calls.{ShapeBy}
+use Rattle.claim_rule.specs.Desks.{IsOf, AddsSteps, AddsAtMost}
+use Rattle.claim_rule.specs.Calls.{AddsStepsBy}
 use Rattle.claim_rule.specs.Out.{KeepsHolds, EndsNone, IsTidy}
 use Rattle.claim_rule.proofs.Shapes.{shape_then, shape_none, adds_length}
 use Rattle.claim_rule.proofs.Out.{settled_calm, tidy_through}
@@ -63,14 +63,14 @@ are_small (s ∷ ss) = one_more (outcome_of s) (counts_of ss) (length ss) (are_s
 
 -- what has expired stays so, and one row more
 
-stays_expired : (b c : DeskView) (steps : List Step) (now row : ℕ) (s : RowSweep) → Shape b c steps → HasExpired b now row s → HasExpired c now row s
+stays_expired : (b c : DeskView) (steps : List Step) (now row : ℕ) (s : RowSweep) → AddsSteps b c steps → HasExpired b now row s → HasExpired c now row s
 stays_expired b c steps now row (passed n) did has = tt
 stays_expired b c steps now row (given_away s) did has = tt
 stays_expired b c steps now row (waiting s) did has = tt
 stays_expired b c steps now row (expired s items) did has = ended_stays b c steps (record { row = row; generation = s.generation }) Expire (end_of (aim.Expire now)) did has
 stays_expired b c steps now row (lost s shown) did has = tt
 
-expired_stay : (b c : DeskView) (steps : List Step) (now row : ℕ) (ss : List RowSweep) → Shape b c steps → HaveExpired b now row ss → HaveExpired c now row ss
+expired_stay : (b c : DeskView) (steps : List Step) (now row : ℕ) (ss : List RowSweep) → AddsSteps b c steps → HaveExpired b now row ss → HaveExpired c now row ss
 expired_stay b c steps now row [] did all = tt
 expired_stay b c steps now row (s ∷ ss) did all = (stays_expired b c steps now row s did all.0, expired_stay b c steps now (suc row) ss did all.1)
 
@@ -86,7 +86,7 @@ pub record SweptTo (start now_at : DeskView) (now row : ℕ) (swept : Swept) : T
   pub sweeps : List RowSweep
   pub every : length sweeps ≡ row
   pub each : AllByRecursion (IsRowSweep now) sweeps
-  pub seen : Shape start now_at (sweeps_steps now 0 sweeps)
+  pub seen : AddsSteps start now_at (sweeps_steps now 0 sweeps)
   pub counts : swept ≡ counts_of sweeps
   pub expired : HaveExpired now_at now 0 sweeps
 
@@ -98,7 +98,7 @@ swept_more a b c now row n o so (s, is, came_to, did, ended) = record {
   sweeps = so.sweeps ++ s ∷ [];
   every = length-append so.sweeps (s ∷ []) ∙ ap (λ (k : ℕ). k + 1) so.every;
   each = all_more (IsRowSweep now) so.sweeps s so.each is;
-  seen = subst (Shape a c) (sym (steps_more now 0 so.sweeps s)) (shape_then a b c (sweeps_steps now 0 so.sweeps) (row_sweep_steps now (0 + length so.sweeps) s) so.seen (subst (λ (r : ℕ). Shape b c (row_sweep_steps now r s)) (first row (length so.sweeps) so.every) did));
+  seen = subst (AddsSteps a c) (sym (steps_more now 0 so.sweeps s)) (shape_then a b c (sweeps_steps now 0 so.sweeps) (row_sweep_steps now (0 + length so.sweeps) s) so.seen (subst (λ (r : ℕ). AddsSteps b c (row_sweep_steps now r s)) (first row (length so.sweeps) so.every) did));
   counts = ap (counted o) so.counts ∙ (ap (λ (x : RowSwept). counted x (counts_of so.sweeps)) (sym came_to) ∙ sym (counts_more so.sweeps s));
   expired = expired_more c now 0 so.sweeps s (expired_stay b c (row_sweep_steps now row s) now 0 so.sweeps did so.expired) (subst (λ (r : ℕ). HasExpired c now r s) (first row (length so.sweeps) so.every) ended);
 }
@@ -109,7 +109,7 @@ swept_more a b c now row n o so (s, is, came_to, did, ended) = record {
 pub small_counts : (a b : DeskView) (now row : ℕ) (n : Swept) → SweptTo a b now row n → AreSmall n row
 small_counts a b now row n so = subst (AreSmall n) so.every (subst (λ (x : Swept). AreSmall x (length so.sweeps)) (sym so.counts) (are_small so.sweeps))
 
-pub swept_all : (a b : DeskView) (now row rows : ℕ) (n : Swept) → row ≡ rows → SweptTo a b now row n → ShapeBy (Sweeps rows now n) a b
+pub swept_all : (a b : DeskView) (now row rows : ℕ) (n : Swept) → row ≡ rows → SweptTo a b now row n → AddsStepsBy (Sweeps rows now n) a b
 swept_all a b now row rows n whole so = (sweeps_steps now 0 so.sweeps, record { sweeps = so.sweeps; every = so.every ∙ whole; each = so.each; steps = refl; counts = so.counts }, so.seen)
 
 pub swept_expired : (a b : DeskView) (now row rows : ℕ) (n : Swept) → row ≡ rows → SweptTo a b now row n → ExpiresCounted rows now n a b

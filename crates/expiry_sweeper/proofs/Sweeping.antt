@@ -19,8 +19,8 @@ use Rattle.history_model.specs.declared.phase.EndKind.TheVariants.{Expire}
 use Rattle.history_model.specs.declared.booking.End.{End}
 use Rattle.history_model.specs.Work.{NoStep}
 use Rattle.claim_rule.specs.Rule.{DeskView, state_seen}
-use Rattle.claim_rule.specs.Desks.{Shape, Stepped}
-use Rattle.claim_rule.specs.Calls.{ShapeBy}
+use Rattle.claim_rule.specs.Desks.{AddsSteps, Stepped}
+use Rattle.claim_rule.specs.Calls.{AddsStepsBy}
 use Rattle.claim_rule.specs.Endings.{items_read, item_looks}
 use Rattle.claim_rule.specs.EndSteps.{ending_steps, gives_from, closing}
 use Rattle.claim_rule.specs.Out.{exchanges, KeepsHolds}
@@ -60,7 +60,7 @@ no_phase row n a b did none says = let x = says_prebooked row n a b did says in 
 
 -- a prebooked booking's word shows it sealed
 pub first_look : (row generation n : ℕ) (phase : Phase) (a b : DeskView) → Stepped (SawRow row 0 n) a b → phase ≡ Prebooked → row_word_of phase generation ≡ n
-    → IsSealedSince b (record { row = row; generation = generation }) Prebooked × Shape a b (saw_phase (record { row = row; generation = generation }) Prebooked ∷ [])
+    → IsSealedSince b (record { row = row; generation = generation }) Prebooked × AddsSteps a b (saw_phase (record { row = row; generation = generation }) Prebooked ∷ [])
 first_look row generation n phase a b did is said =
     let r : RowNo = record { row = row; generation = generation } in
     let word : row_word_of Prebooked generation ≡ n = subst (λ (p : Phase). row_word_of p generation ≡ n) is said in
@@ -73,28 +73,28 @@ pub passes : (now row n : ℕ) (a b : DeskView) → said_phase (n % generation_w
 passes now row n a b ne did = (passed n, ne, refl, step_shape (SawRow row 0 n) a b did, tt)
 
 -- all three looks at a prebooked booking
-pub all_looks : (row : ℕ) (s : SeenPrebooked) (a b c d : DeskView) → Shape a b (saw_phase (record { row = row; generation = s.generation }) Prebooked ∷ []) → Shape b c (SawRow row 2 s.limit ∷ []) → Shape c d (SawRow row 0 s.last ∷ []) → Shape a d (saw_prebooked row s)
+pub all_looks : (row : ℕ) (s : SeenPrebooked) (a b c d : DeskView) → AddsSteps a b (saw_phase (record { row = row; generation = s.generation }) Prebooked ∷ []) → AddsSteps b c (SawRow row 2 s.limit ∷ []) → AddsSteps c d (SawRow row 0 s.last ∷ []) → AddsSteps a d (saw_prebooked row s)
 all_looks row s a b c d first limit last = shape_then a b d (saw_phase (record { row = row; generation = s.generation }) Prebooked ∷ []) (SawRow row 2 s.limit ∷ SawRow row 0 s.last ∷ []) first (shape_then b c d (SawRow row 2 s.limit ∷ []) (SawRow row 0 s.last ∷ []) limit last)
 
 pub three_holds : (a b c d : DeskView) → KeepsHolds a b → KeepsHolds b c → KeepsHolds c d → KeepsHolds a d
 three_holds a b c d p q r = holds_then a b d p (holds_then b c d q r)
 
-pub gives_away : (now row : ℕ) (s : SeenPrebooked) (a b : DeskView) → phase_shown s.generation s.last ≡ Free → Shape a b (saw_prebooked row s) → SweepsRow now row a b came.Passed
+pub gives_away : (now row : ℕ) (s : SeenPrebooked) (a b : DeskView) → phase_shown s.generation s.last ≡ Free → AddsSteps a b (saw_prebooked row s) → SweepsRow now row a b came.Passed
 gives_away now row s a b free did = (given_away s, free, refl, did, tt)
 
-pub waits : (now row : ℕ) (s : SeenPrebooked) (a b : DeskView) → IsThere s → now ≤ s.limit → Shape a b (saw_prebooked row s) → SweepsRow now row a b came.Waiting
+pub waits : (now row : ℕ) (s : SeenPrebooked) (a b : DeskView) → IsThere s → now ≤ s.limit → AddsSteps a b (saw_prebooked row s) → SweepsRow now row a b came.Waiting
 waits now row s a b there early did = (waiting s, (there, early), refl, did, tt)
 
-pub expires : (now row : ℕ) (s : SeenPrebooked) (a b c : DeskView) → IsThere s → s.limit < now → Shape a b (saw_prebooked row s) → ShapeBy (EndsBooking (record { row = row; generation = s.generation }) Prebooked Expire (aim.Expire now) None) b c
+pub expires : (now row : ℕ) (s : SeenPrebooked) (a b c : DeskView) → IsThere s → s.limit < now → AddsSteps a b (saw_prebooked row s) → AddsStepsBy (EndsBooking (record { row = row; generation = s.generation }) Prebooked Expire (aim.Expire now) None) b c
     → IsEndedAs c (record { row = row; generation = s.generation }) Expire (end_of (aim.Expire now)) → SweepsRow now row a c came.Expired
 expires now row s a b c there late did ended so =
     let e = ended.1 in
-    (expired s e.0, (there, late, e.1), refl, shape_then a b c (saw_prebooked row s) (ends_as row Prebooked Expire (end_of (aim.Expire now)) e.0) did (subst (Shape b c) e.2 ended.2), so)
+    (expired s e.0, (there, late, e.1), refl, shape_then a b c (saw_prebooked row s) (ends_as row Prebooked Expire (end_of (aim.Expire now)) e.0) did (subst (AddsSteps b c) e.2 ended.2), so)
 
-pub loses : (now row : ℕ) (s : SeenPrebooked) (shown : Phase) (a b c : DeskView) → IsThere s → s.limit < now → Shape a b (saw_prebooked row s) → ShapeBy (EndsBooking (record { row = row; generation = s.generation }) Prebooked Expire (aim.Expire now) (Some shown)) b c → SweepsRow now row a c came.Lost
+pub loses : (now row : ℕ) (s : SeenPrebooked) (shown : Phase) (a b c : DeskView) → IsThere s → s.limit < now → AddsSteps a b (saw_prebooked row s) → AddsStepsBy (EndsBooking (record { row = row; generation = s.generation }) Prebooked Expire (aim.Expire now) (Some shown)) b c → SweepsRow now row a c came.Lost
 loses now row s shown a b c there late did ended =
     let e = ended.1 in
-    (lost s e.0, (there, late, e.1), refl, shape_then a b c (saw_prebooked row s) (LostTurn row (row_word_of Prebooked s.generation) e.0 ∷ []) did (subst (Shape b c) e.3 ended.2), tt)
+    (lost s e.0, (there, late, e.1), refl, shape_then a b c (saw_prebooked row s) (LostTurn row (row_word_of Prebooked s.generation) e.0 ∷ []) did (subst (AddsSteps b c) e.3 ended.2), tt)
 
 -- one row more
 

@@ -6,7 +6,7 @@ use Rattle.expiry_sweeper.specs.declared.rows.RowSwept.{RowSwept}
 use Rattle.expiry_sweeper.specs.declared.rows.RowSwept.TheVariants as came
 use Rattle.booking_rows.specs.declared.swept.Swept.{Swept}
 use Rattle.claim_rule.specs.Rule.{DeskView}
-use Rattle.claim_rule.specs.Desks.{Shape}
+use Rattle.claim_rule.specs.Desks.{AddsSteps}
 use Rattle.expiry_sweeper.specs.OneRow.{RowSweep, IsRowSweep, HasExpired, outcome_of, row_sweep_steps}
 
 -- the steps of the sweeps of rows in rising number, from one on
@@ -41,4 +41,4 @@ HaveExpired desk now row (s ∷ rest) = HasExpired desk now row s × HaveExpired
 -- the entries of the sweep say which bookings it expired, and each of them has ended so
 abbrev pub ExpiresCounted : ℕ → ℕ → Swept → DeskView → DeskView → Type 0
 ExpiresCounted rows now answer old new = (sweeps : List RowSweep) × (length sweeps ≡ rows) × (answer ≡ counts_of sweeps)
-    × Shape old new (sweeps_steps now 0 sweeps) × HaveExpired new now 0 sweeps
+    × AddsSteps old new (sweeps_steps now 0 sweeps) × HaveExpired new now 0 sweeps

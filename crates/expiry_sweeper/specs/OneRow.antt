@@ -8,7 +8,7 @@ use Rattle.history_model.specs.declared.phase.EndKind.TheVariants.{Expire}
 use Rattle.history_model.specs.Phase.{generation_words, phase_shown, row_word_of, said_phase}
 use Rattle.history_model.specs.Booking.{most_items, standing_word, limit_word}
 use Rattle.claim_rule.specs.Rule.{DeskView}
-use Rattle.claim_rule.specs.Desks.{Shape}
+use Rattle.claim_rule.specs.Desks.{AddsSteps}
 use Rattle.booking_rows.specs.declared.turns.Aim.TheVariants as aim
 use Rattle.booking_rows.specs.Aims.{end_of}
 use Rattle.booking_rows.specs.Ends.{IsEndedAs}
@@ -61,15 +61,19 @@ abbrev pub row_sweep_steps : ℕ → ℕ → RowSweep → List Step
 row_sweep_steps now row (passed n) = SawRow row standing_word n ∷ []
 row_sweep_steps now row (given_away s) = saw_prebooked row s
 row_sweep_steps now row (waiting s) = saw_prebooked row s
-row_sweep_steps now row (expired s items) = saw_prebooked row s ++ ends_as row Prebooked Expire (end_of (aim.Expire now)) items
-row_sweep_steps now row (lost s shown) = saw_prebooked row s ++ LostTurn row (row_word_of Prebooked s.generation) shown ∷ []
+row_sweep_steps now row (expired s items) =
+    saw_prebooked row s ++ ends_as row Prebooked Expire (end_of (aim.Expire now)) items
+row_sweep_steps now row (lost s shown) =
+    saw_prebooked row s ++ LostTurn row (row_word_of Prebooked s.generation) shown ∷ []
 
 -- a booking that it expired is the one seen prebooked: it has ended so at this moment, and all its items are given back
 abbrev pub HasExpired : DeskView → ℕ → ℕ → RowSweep → Type 0
-HasExpired desk now row (expired s items) = IsEndedAs desk (record { row = row; generation = s.generation }) Expire (end_of (aim.Expire now))
+HasExpired desk now row (expired s items) =
+    IsEndedAs desk (record { row = row; generation = s.generation }) Expire (end_of (aim.Expire now))
 HasExpired desk now row _ = Unit {0}
 
 -- the sweep of a row that a desk made, by what came of it
 abbrev pub SweepsRow : ℕ → ℕ → DeskView → DeskView → RowSwept → Type 0
 SweepsRow now row old new answer =
-    (s : RowSweep) × IsRowSweep now s × (outcome_of s ≡ answer) × Shape old new (row_sweep_steps now row s) × HasExpired new now row s
+    (s : RowSweep) × IsRowSweep now s × (outcome_of s ≡ answer) × AddsSteps old new (row_sweep_steps now row s)
+    × HasExpired new now row s

@@ -4,6 +4,8 @@
 //! confirmation that comes first wins; and it gives all legs of each row that it expired back.
 //!
 //! No call takes memory, and none waits.
+//!
+//! A sweep has at most 105 entries for each row.
 #![tactic(auto)]
 
 mod rows;

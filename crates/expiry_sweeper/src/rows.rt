@@ -13,7 +13,7 @@ use rail_time::Moment;
 use row_decisions::{end_row, look_phase, look_word};
 
 // What came of the sweep of a row.
-#[derive(Clone, Copy, Debug, PartialEq, Eq)]
+#[derive(Clone, Copy, PartialEq, Eq)]
 pub(crate) enum RowSwept {
     // It was seen in another phase than prebooked, or the last look showed that it was given away.
     Passed,

@@ -2,7 +2,7 @@
 ghost use Rattle.std.specs.Prelude.{◌≡◌, ◌+◌, ◌*◌, ◌^◌, ◌<◌};
 ghost use Rattle.history_model.specs.Booking.{most_items};
 ghost use Rattle.claim_rule.specs.Desks.{IsOf, AddsAtMost};
-ghost use Rattle.claim_rule.specs.Calls.{ShapeBy};
+ghost use Rattle.claim_rule.specs.Calls.{AddsStepsBy};
 ghost use Rattle.claim_rule.specs.Out.{EndsNone, KeepsHolds, IsTidy};
 ghost use Rattle.expiry_sweeper.specs.AllRows.{Sweeps, ExpiresCounted, counted as counted_of};
 
@@ -18,7 +18,7 @@ pub fn sweep(books: &Books, desk: &mut Desk, now: Moment) -> Swept
     requires own { IsOf books.now desk.old }
     requires none { EndsNone desk.old }
     ensures own { IsOf books.now desk.new }
-    ensures entries { ShapeBy (Sweeps books.now.layout.rows now result) desk.old desk.new }
+    ensures entries { AddsStepsBy (Sweeps books.now.layout.rows now result) desk.old desk.new }
     ensures expired { ExpiresCounted books.now.layout.rows now result desk.old desk.new }
     ensures none { EndsNone desk.new }
     ensures holds { KeepsHolds desk.old desk.new }

@@ -37,9 +37,6 @@ same_work s q r f phase d b at row ph ow on = ⊎_elim (λ (o : OnRow s r (IsIn 
     (λ (h : (r ≡ q) × IsIn phase d (f b)). subst (λ (k : ℕ). OnRow s k (IsIn phase d)) (sym h.0) (on_row s q b (IsIn phase d) at (sym ph ∙ h.1.0, sym ow ∙ h.1.1)))
     (split_change s q r f (IsIn phase d) b at row on)
 
-no_seal : (phase to : Phase) (X : Type 0) → (phase ≡ Prebooked) ⊎ ((phase ≡ Confirmed) × X) → phase ≡ to → (Prebooked ≡ to → ⊥) → (Confirmed ≡ to → ⊥) → ⊥
-no_seal phase to X may is p c = ⊎_elim (λ (e : phase ≡ Prebooked). p (sym e ∙ is)) (λ (e : (phase ≡ Confirmed) × X). c (sym e.0 ∙ is)) may
-
 no_turn : (from : Phase) → is_turn from Making ≡ true → ⊥
 no_turn Free e = let no : false ≡ true = e in cc
 no_turn Making e = let no : false ≡ true = e in cc

@@ -31,7 +31,7 @@ LegalHasNoDouble = (g : Layout) (history : List Entry) → IsLegal g history →
 abbrev pub EmptyIsLegal : Type 0
 EmptyIsLegal = (places rows : ℕ) → IsLegal (layout_of places rows) [] × (state_of (layout_of places rows) [] ≡ [])
 
--- with one allowed entry behind it a legal history is legal, and its state is the applied one
+-- with one allowed entry after it a legal history is legal, and its state is the applied one
 
 abbrev pub LegalGoesOn : Type 0
 LegalGoesOn = (g : Layout) (history : List Entry) (e : Entry) → IsLegal g history → IsAllowed g (state_of g history) e

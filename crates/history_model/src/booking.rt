@@ -39,7 +39,7 @@ pub const GREATEST_RETAILER: u64 = 4_294_967_295;
 pub const GREATEST_AMOUNT: u64 = 99_999_999_999;
 
 /// Legs of a place that a booking has, or had until they were given back.
-#[derive(Clone, Copy, Debug, PartialEq, Eq)]
+#[derive(Clone, Copy, PartialEq, Eq)]
 pub struct BookedItem {
     pub place: u32,
     pub span: Span,
@@ -47,7 +47,7 @@ pub struct BookedItem {
 }
 
 /// How a booking ended: when, the amount, and the word of its successor, or 0.
-#[derive(Clone, Copy, Debug, PartialEq, Eq)]
+#[derive(Clone, Copy, PartialEq, Eq)]
 pub struct End {
     pub moment: u64,
     pub amount: i64,
@@ -79,7 +79,7 @@ fn are_written(words: &[u64], items: &[BookedItem]) -> bool
 }
 
 /// A booking of the list.
-#[derive(Debug, Drop)]
+#[derive(Drop)]
 pub struct BookingRow {
     pub row: u32,
     pub generation: u32,

@@ -2,7 +2,7 @@ use crate::phase::Phase;
 use leg_masks::Span;
 
 /// One atomic operation on one word of the table, by one desk.
-#[derive(Clone, Copy, Debug, PartialEq, Eq)]
+#[derive(Clone, Copy, PartialEq, Eq)]
 pub struct Entry {
     /// The desk's number. The definitions know no greatest one.
     pub desk: u32,
@@ -10,7 +10,7 @@ pub struct Entry {
 }
 
 /// What an operation did, or what it showed.
-#[derive(Clone, Copy, Debug, PartialEq, Eq)]
+#[derive(Clone, Copy, PartialEq, Eq)]
 pub enum Step {
     /// A look at the word of a half of a place. A take that found another word than it expected is one too.
     Look {

@@ -18,7 +18,7 @@ pub fn legal_histories()
     ensures in_range { LegalIsInRange }
 {}
 
-/// A legal history with one allowed entry behind it is legal, and its state is the applied one. So the list of a list
+/// A legal history with one allowed entry after it is legal, and its state is the applied one. So the list of a list
 /// host that began empty is the state of a legal history.
 pub fn histories_go_on()
     ensures legal { LegalGoesOn }

@@ -10,7 +10,7 @@ use Rattle.leg_masks.proofs.HalfLegs.{pieces-whole, pieces_some}
 use Rattle.history_model.specs.declared.entry.Step.{Step}
 use Rattle.history_model.specs.History.{IsLegal}
 use Rattle.claim_rule.specs.Rule.{DeskView}
-use Rattle.claim_rule.specs.Desks.{Shape, AddsAtMost}
+use Rattle.claim_rule.specs.Desks.{AddsSteps, AddsAtMost}
 use Rattle.claim_rule.specs.Holds.{HoldView}
 use Rattle.claim_rule.proofs.Shapes.{shape_then, shape_none, adds_length}
 use Rattle.hold_core.specs.declared.tries.Outcome.{Outcome}
@@ -51,7 +51,7 @@ pub record Tried (start now : DeskView) (hold kept : HoldView) (span : Interval)
   pub each : AllByRecursion (IsTry span) tries
   pub are : places ≡ tried tries
   pub held : kept ≡ with_items hold (items_won span tries)
-  pub seen : Shape start now (tries_steps hold.row.row (length hold.items) span tries)
+  pub seen : AddsSteps start now (tries_steps hold.row.row (length hold.items) span tries)
 
 -- of which each was won or refused, and so many won
 pub record TriedSettled (start now : DeskView) (hold held : HoldView) (span : Interval) (places : List ℕ) (won : ℕ) : Type 0 where
@@ -82,9 +82,9 @@ one_more hold mid held xs ys zs e f g =
     f ∙ (ap (λ (h : HoldView). with_items h ys) e ∙ ap (λ (is : List Item). record { row = hold.row; items = is }) (append_assoc hold.items xs ys ∙ ap (λ (is : List Item). hold.items ++ is) (sym g)))
 
 -- the same hold, by its row and the number of its items
-as_first : (hold mid : HoldView) (xs : List Item) (t : Try) (b c : DeskView) → mid ≡ with_items hold xs → Shape b c (try_steps mid.row.row (length mid.items) t) → Shape b c (try_steps hold.row.row (length hold.items + length xs) t)
+as_first : (hold mid : HoldView) (xs : List Item) (t : Try) (b c : DeskView) → mid ≡ with_items hold xs → AddsSteps b c (try_steps mid.row.row (length mid.items) t) → AddsSteps b c (try_steps hold.row.row (length hold.items + length xs) t)
 as_first hold mid xs t b c e did =
-    subst (λ (n : ℕ). Shape b c (try_steps hold.row.row n t)) (length-append hold.items xs) (subst (λ (h : HoldView). Shape b c (try_steps h.row.row (length h.items) t)) e did)
+    subst (λ (n : ℕ). AddsSteps b c (try_steps hold.row.row n t)) (length-append hold.items xs) (subst (λ (h : HoldView). AddsSteps b c (try_steps h.row.row (length h.items) t)) e did)
 
 pub tried_last : (a b c : DeskView) (hold mid held : HoldView) (span : Interval) (places : List ℕ) (place won : ℕ) (outcome : Outcome) → TriedSettled a b hold mid span places won → TriesPlace b mid place span c held outcome → TriedLast a c hold held span places place won outcome
 tried_last a b c hold mid held span places place won outcome so did =
@@ -96,7 +96,7 @@ tried_last a b c hold mid held span places place won outcome so did =
         each = all_more (IsTry span) ts t so.tried.each did.1;
         are = ap (λ (l : List ℕ). l ++ place ∷ []) so.tried.are ∙ sym (tried_more ts t);
         held = one_more hold mid held (items_won span ts) (won_by span t) (items_won span (ts ++ t ∷ [])) so.tried.held did.3 (items_more span ts t);
-        seen = subst (Shape a c) (sym (steps_more hold.row.row (length hold.items) span ts t)) (shape_then a b c _ _ so.tried.seen (as_first hold mid (items_won span ts) t b c so.tried.held did.2));
+        seen = subst (AddsSteps a c) (sym (steps_more hold.row.row (length hold.items) span ts t)) (shape_then a b c _ _ so.tried.seen (as_first hold mid (items_won span ts) t b c so.tried.held did.2));
       };
       before = ts;
       last = t;
@@ -118,7 +118,7 @@ still_settled a b hold held span places place won outcome so ne = record {
 
 abbrev pub AddsSo : DeskView → DeskView → HoldView → HoldView → Interval → ℕ → List ℕ → Added → Type 0
 AddsSo old new hold held span count candidates answer =
-    (won : List Item) × ((es : List Step) × Adds hold.row.row (length hold.items) span count candidates answer won es × Shape old new es) × (held ≡ with_items hold won)
+    (won : List Item) × ((es : List Step) × Adds hold.row.row (length hold.items) span count candidates answer won es × AddsSteps old new es) × (held ≡ with_items hold won)
 
 answers : (a b : DeskView) (hold held : HoldView) (span : Interval) (count : ℕ) (places candidates : List ℕ) (answer : Added) → (so : Tried a b hold held span places) → IsAdding span count candidates so.tries answer → AddsSo a b hold held span count candidates answer
 answers a b hold held span count places candidates answer so is =

@@ -7,7 +7,7 @@ use Rattle.leg_masks.proofs.InPieces.{head_same}
 use Rattle.history_model.specs.declared.entry.Step.{Step}
 use Rattle.history_model.specs.declared.entry.Step.TheVariants.{Give}
 use Rattle.claim_rule.specs.Rule.{DeskView}
-use Rattle.claim_rule.specs.Desks.{Shape}
+use Rattle.claim_rule.specs.Desks.{AddsSteps}
 use Rattle.claim_rule.specs.Holds.{HoldView, with_one}
 use Rattle.claim_rule.specs.Out.{HasNoted, HasNotedItems, HasNotedButLast}
 use Rattle.claim_rule.proofs.Holding.{take_front}
@@ -18,19 +18,6 @@ use Rattle.hold_core.specs.declared.tries.Outcome.TheVariants.{Won, Refused, Con
 use Rattle.hold_core.specs.Tries.{Part, AreParts, part_steps, undone, items_tried, piece_won, given_first, HasSecond, with_items, TriesPiece, TriesSecond, TriesPlace}
 
 -- the pieces of a span, one by one
-
--- it ends where the span does, or before
-pub first_ends : (span x : Interval) (rest : List Interval) → pieces span ≡ x ∷ rest → x.to ≤ span.to
-first_ends span x rest are = ⊎_elim
-    (λ (p : IsPiece span). let e : x ≡ span = head_same x span rest [] (sym are ∙ pieces-whole span p) in subst (λ (y : Interval). y.to ≤ span.to) (sym e) (omega arith))
-    (λ (b : is_piece span ≡ false). let e = head_same x _ rest _ (sym are ∙ pieces-border span b) in subst (λ (y : Interval). y.to ≤ span.to) (sym e) (let l = ends-border span b in omega (arith, l.1)))
-    (cases_piece span)
-
-pub first_piece : (span x : Interval) (rest ps : List Interval) → ps ≡ pieces span → AllByRecursion IsPiece ps → pieces span ≡ x ∷ rest → IsPiece x
-first_piece span x rest ps same all are = (subst (AllByRecursion IsPiece) (same ∙ are) all).0
-
-pub first_room : (span x : Interval) (rest : List Interval) (n : ℕ) → pieces span ≡ x ∷ rest → n + length (pieces span) ≤ 48 → n < 48
-first_room span x rest n are room = let s = pieces_some span in omega (arith, s.0)
 
 abbrev no_parts : List Part
 no_parts = []
@@ -53,7 +40,7 @@ one_part a b hold held place span x rest o are last did =
     let k = length hold.items in (
       t ∷ [],
       subst (λ (l : List Interval). AreParts l (t ∷ []) o) (sym are) (refl, did.1, ends o refl),
-      subst (Shape a b) (sym (steps o t row k)) did.2,
+      subst (AddsSteps a b) (sym (steps o t row k)) did.2,
       did.3 ∙ ap (with_items hold) (items o last),
     )
   where
@@ -122,8 +109,8 @@ two_parts a b c hold mid held place span x y o are first second =
     (λ i. second_steps hold mid place (placed place x) u first.3 i ++ given_back hold mid (placed place x) o t u first.3 i) in (
       t ∷ u ∷ [],
       subst (λ (l : List Interval). AreParts l (t ∷ u ∷ []) o) (sym are) (refl, first.1, inl (refl, (refl, second.1, ends o refl))),
-      subst (Shape a c) (sym (append_assoc p (q ++ []) back ∙ ap (λ (l : List Step). p ++ (l ++ back)) (append-nil q)))
-          (shape_then a b c p (q ++ back) first.2 (subst (Shape b c) rest second.2)),
+      subst (AddsSteps a c) (sym (append_assoc p (q ++ []) back ∙ ap (λ (l : List Step). p ++ (l ++ back)) (append-nil q)))
+          (shape_then a b c p (q ++ back) first.2 (subst (AddsSteps b c) rest second.2)),
       has_all hold mid held place span x y o are first.3 second.3,
     )
   where
@@ -135,7 +122,7 @@ two_parts a b c hold mid held place span x y o are first second =
 -- the try of a second piece
 
 pub second_won : (b c : DeskView) (mid held : HoldView) (place : ℕ) (y : Interval) → TriesPiece b mid place y c held Won → TriesSecond b mid place y c held Won
-second_won b c mid held place y did = (did.0, did.1, subst (Shape b c) (sym (append-nil _)) did.2, did.3)
+second_won b c mid held place y did = (did.0, did.1, subst (AddsSteps b c) (sym (append-nil _)) did.2, did.3)
 
 same_after : (mid held : HoldView) (is : List Item) → held ≡ with_items mid is → is ≡ [] → held ≡ mid
 same_after mid held is e none = e ∙ (ap (with_items mid) none ∙ sym (none_more mid))
@@ -147,25 +134,18 @@ less_one mid after less i same one =
 give_is : (mid after less : HoldView) (i : Item) → after ≡ mid → after ≡ with_one less i → Give after.row.row (length less.items) ∷ [] ≡ Give mid.row.row (length mid.items - 1) ∷ []
 give_is mid after less i same one = λ k. Give (ap (λ (h : HoldView). h.row.row) same k) (less_one mid after less i same one k) ∷ []
 
-pub second_refused : (b c d : DeskView) (mid after less : HoldView) (place : ℕ) (y : Interval) (i : Item) → TriesPiece b mid place y c after Refused → after ≡ with_one less i → Shape c d (Give after.row.row (length less.items) ∷ []) → TriesSecond b mid place y d less Refused
+pub second_refused : (b c d : DeskView) (mid after less : HoldView) (place : ℕ) (y : Interval) (i : Item) → TriesPiece b mid place y c after Refused → after ≡ with_one less i → AddsSteps c d (Give after.row.row (length less.items) ∷ []) → TriesSecond b mid place y d less Refused
 second_refused b c d mid after less place y i did one gave =
     let same = same_after mid after [] did.3 refl in
     let t : Part = record { piece = y; shown = did.0; outcome = Refused } in
-    (did.0, did.1, shape_then b c d (part_steps mid.row.row (length mid.items) place t) _ did.2 (subst (Shape c d) (give_is mid after less i same one) gave), (i, sym same ∙ one))
+    (did.0, did.1, shape_then b c d (part_steps mid.row.row (length mid.items) place t) _ did.2 (subst (AddsSteps c d) (give_is mid after less i same one) gave), (i, sym same ∙ one))
 
-pub second_contended : (b c d : DeskView) (mid after less : HoldView) (place : ℕ) (y : Interval) (i : Item) → TriesPiece b mid place y c after Contended → after ≡ with_one less i → Shape c d (Give after.row.row (length less.items) ∷ []) → TriesSecond b mid place y d less Contended
+pub second_contended : (b c d : DeskView) (mid after less : HoldView) (place : ℕ) (y : Interval) (i : Item) → TriesPiece b mid place y c after Contended → after ≡ with_one less i → AddsSteps c d (Give after.row.row (length less.items) ∷ []) → TriesSecond b mid place y d less Contended
 second_contended b c d mid after less place y i did one gave =
     let same = same_after mid after [] did.3 refl in
     let t : Part = record { piece = y; shown = did.0; outcome = Contended } in
-    (did.0, did.1, shape_then b c d (part_steps mid.row.row (length mid.items) place t) _ did.2 (subst (Shape c d) (give_is mid after less i same one) gave), (i, sym same ∙ one))
+    (did.0, did.1, shape_then b c d (part_steps mid.row.row (length mid.items) place t) _ did.2 (subst (AddsSteps c d) (give_is mid after less i same one) gave), (i, sym same ∙ one))
 
 -- where all items are noted, all but the last are
 pub noted_but_last : (desk : DeskView) (hold less : HoldView) (i : Item) → hold ≡ with_one less i → HasNotedItems desk hold → HasNotedButLast desk hold
 noted_but_last desk hold less i one on = (less.items, i, ap (λ (h : HoldView). h.items) one, noted_front desk hold.row.row less.items (i ∷ []) (subst (HasNoted desk hold.row.row) (ap (λ (h : HoldView). h.items) one) on))
-
--- how many items the hold has behind a piece
-pub after_won : (mid held : HoldView) (place : ℕ) (x : Interval) → held ≡ with_items mid (piece_won place x Won) → length held.items ≡ length mid.items + 1
-after_won mid held place x e = ap (λ (h : HoldView). length h.items) e ∙ length-append mid.items (piece_won place x Won)
-
-pub after_none : (mid held : HoldView) → held ≡ with_items mid [] → length held.items ≡ length mid.items
-after_none mid held e = ap (λ (h : HoldView). length h.items) e ∙ ap length (append-nil mid.items)

@@ -9,8 +9,10 @@ use Rattle.history_model.specs.Words.{place_word}
 -- after this history, one of the entries is another desk's and changes the word of this half of the place
 abbrev pub IsChangedByAnother : Layout → List Entry → ℕ → ℕ → ℕ → List Entry → Type 0
 IsChangedByAnother g history place half desk entries =
-    (front : List Entry) × (change : Entry) × (back : List Entry) × (entries ≡ front ++ change ∷ back) × (change.desk ≢ desk)
-    × (place_word (state_of g ((history ++ front) ++ change ∷ [])) place half ≢ place_word (state_of g (history ++ front)) place half)
+    (front : List Entry) × (change : Entry) × (back : List Entry) × (entries ≡ front ++ change ∷ back)
+    × (change.desk ≢ desk)
+    × (place_word (state_of g ((history ++ front) ++ change ∷ [])) place half ≢ place_word
+    (state_of g (history ++ front)) place half)
 
 -- after this history the entries hold the desk's looks at this half of the place, which show these words in turn;
 -- between each two neighbouring looks stands an entry of another desk that changes the word
@@ -21,4 +23,5 @@ ChangesBetween g history place half desk entries (a ∷ b ∷ more) =
     (front : List Entry) × (between : List Entry) × (back : List Entry)
     × (entries ≡ front ++ entry desk (Look place half a) ∷ (between ++ entry desk (Look place half b) ∷ back))
     × IsChangedByAnother g ((history ++ front) ++ entry desk (Look place half a) ∷ []) place half desk between
-    × ChangesBetween g ((history ++ front) ++ entry desk (Look place half a) ∷ between) place half desk (entry desk (Look place half b) ∷ back) (b ∷ more)
+    × ChangesBetween g ((history ++ front) ++ entry desk (Look place half a) ∷ between) place half desk
+    (entry desk (Look place half b) ∷ back) (b ∷ more)

@@ -7,7 +7,7 @@ use Rattle.history_model.specs.declared.entry.Step.{Step}
 use Rattle.history_model.specs.declared.entry.Step.TheVariants.{Give}
 use Rattle.claim_rule.specs.Rule.{DeskView}
 use Rattle.claim_rule.specs.Holds.{HoldView}
-use Rattle.claim_rule.specs.Calls.{ShapeBy}
+use Rattle.claim_rule.specs.Calls.{AddsStepsBy}
 use Rattle.hold_core.specs.declared.tries.Outcome.{Outcome}
 use Rattle.hold_core.specs.declared.tries.Outcome.TheVariants.{Won, Refused, Contended}
 use Rattle.hold_core.specs.declared.adds.Added.{Added}
@@ -65,18 +65,19 @@ IsAdding span count candidates tries (added.Contended place) =
     × (length (places_won tries) < count) × ((left : List ℕ) × (candidates ≡ tried tries ++ left))
 
 -- the steps of adding places to a hold of the row that has so many items, with the items won
-pub record Adds (row k : ℕ) (span : Interval) (count : ℕ) (candidates : List ℕ) (answer : Added) (won : List Item) (es : List Step) : Type 0 where
+pub record Adds (row k : ℕ) (span : Interval) (count : ℕ) (candidates : List ℕ) (answer : Added) (won : List Item)
+    (es : List Step) : Type 0 where
   pub tries : List Try
   pub each : AllByRecursion (IsTry span) tries
   pub adding : IsAdding span count candidates tries answer
   pub items : won ≡ items_won span tries
   pub steps : es ≡ tries_steps row k span tries
 
--- the steps that add places to the hold, and the hold with the items won behind those that it had
+-- the steps that add places to the hold, and the hold with the items won after those that it had
 abbrev pub AddsPlaces : DeskView → HoldView → Interval → ℕ → List ℕ → Added → DeskView → HoldView → Type 0
 AddsPlaces old hold span count candidates answer new held =
     (won : List Item)
-    × ShapeBy (Adds hold.row.row (length hold.items) span count candidates answer won) old new
+    × AddsStepsBy (Adds hold.row.row (length hold.items) span count candidates answer won) old new
     × (held ≡ with_items hold won)
 
 -- how many entries there are at most for one candidate: for each of two pieces eight looks, a take and a note

@@ -9,7 +9,7 @@ use Rattle.history_model.specs.declared.entry.Step.TheVariants.{Take, Give, Note
 use Rattle.history_model.specs.Booking.{first_item_word}
 use Rattle.history_model.specs.Looks.{look_at}
 use Rattle.claim_rule.specs.Rule.{DeskView}
-use Rattle.claim_rule.specs.Desks.{Shape}
+use Rattle.claim_rule.specs.Desks.{AddsSteps}
 use Rattle.claim_rule.specs.Holds.{HoldView, with_one}
 use Rattle.hold_core.specs.declared.tries.Outcome.{Outcome}
 use Rattle.hold_core.specs.declared.tries.Outcome.TheVariants.{Won, Refused, Contended}
@@ -17,7 +17,7 @@ use Rattle.hold_core.specs.declared.tries.Outcome.TheVariants.{Won, Refused, Con
 abbrev pub place_number : PlaceNo → ℕ
 place_number p = p.0
 
--- how many looks at one piece there are at most: a take is tried behind each but the last
+-- how many looks at one piece there are at most: a take is tried after each but the last
 abbrev pub most_looks : ℕ
 most_looks = 9
 
@@ -51,7 +51,8 @@ AllClear piece shown = AllByRecursion (λ word. IsClear word piece) shown
 
 -- all but the last free on the piece, and that one not
 abbrev pub EndsTaken : Interval → List ℕ → Type 0
-EndsTaken piece shown = (front : List ℕ) × (last : ℕ) × AllClear piece front × (¬ IsClear last piece) × (shown ≡ front ++ last ∷ [])
+EndsTaken piece shown =
+    (front : List ℕ) × (last : ℕ) × AllClear piece front × (¬ IsClear last piece) × (shown ≡ front ++ last ∷ [])
 
 abbrev pub IsOutcome : Interval → List ℕ → Outcome → Type 0
 IsOutcome piece shown Won = (length shown ≤ most_takes) × AllClear piece shown
@@ -119,14 +120,16 @@ with_items hold more = record { row = hold.row; items = hold.items ++ more }
 abbrev pub TriesPiece : DeskView → HoldView → ℕ → Interval → DeskView → HoldView → Outcome → Type 0
 TriesPiece old hold place piece new held outcome =
     (shown : List ℕ) × IsPart (record { piece = piece; shown = shown; outcome = outcome })
-    × Shape old new (part_steps hold.row.row (length hold.items) place (record { piece = piece; shown = shown; outcome = outcome }))
+    × AddsSteps old new (part_steps hold.row.row (length hold.items) place
+    (record { piece = piece; shown = shown; outcome = outcome }))
     × (held ≡ with_items hold (piece_won place piece outcome))
 
 -- the same of all pieces of the span
 abbrev pub TriesPlace : DeskView → HoldView → ℕ → Interval → DeskView → HoldView → Outcome → Type 0
 TriesPlace old hold place span new held outcome =
     (parts : List Part) × AreParts (pieces span) parts outcome
-    × Shape old new (try_steps hold.row.row (length hold.items) (record { place = place; parts = parts; outcome = outcome }))
+    × AddsSteps old new (try_steps hold.row.row (length hold.items)
+    (record { place = place; parts = parts; outcome = outcome }))
     × (held ≡ with_items hold (items_tried place span outcome))
 
 -- where the second piece isn't won, the hold's last item is given back
@@ -135,15 +138,16 @@ given_first hold Won = []
 given_first hold Refused = Give hold.row.row (length hold.items - 1) ∷ []
 given_first hold Contended = Give hold.row.row (length hold.items - 1) ∷ []
 
--- what the hold has behind the second piece: its item too, or no more the first one's
+-- what the hold has after the second piece: its item too, or no more the first one's
 abbrev pub HasSecond : HoldView → ℕ → Interval → Outcome → HoldView → Type 0
 HasSecond hold place piece Won held = held ≡ with_one hold (record { place = place; span = piece })
 HasSecond hold place piece Refused held = (first : Item) × (hold ≡ with_one held first)
 HasSecond hold place piece Contended held = (first : Item) × (hold ≡ with_one held first)
 
--- the try of the second piece, behind the first that was won: where it isn't won, the first is given back
+-- the try of the second piece, after the first that was won: where it isn't won, the first is given back
 abbrev pub TriesSecond : DeskView → HoldView → ℕ → Interval → DeskView → HoldView → Outcome → Type 0
 TriesSecond old hold place piece new held outcome =
     (shown : List ℕ) × IsPart (record { piece = piece; shown = shown; outcome = outcome })
-    × Shape old new (part_steps hold.row.row (length hold.items) place (record { piece = piece; shown = shown; outcome = outcome }) ++ given_first hold outcome)
+    × AddsSteps old new (part_steps hold.row.row (length hold.items) place
+    (record { piece = piece; shown = shown; outcome = outcome }) ++ given_first hold outcome)
     × HasSecond hold place piece outcome held

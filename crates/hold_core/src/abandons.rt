@@ -1,7 +1,7 @@
 //! Giving a hold up.
 ghost use Rattle.std.specs.Prelude.{◌≡◌, length, Some};
 ghost use Rattle.history_model.specs.Booking.{most_items};
-ghost use Rattle.claim_rule.specs.Desks.{IsOf, Shape, AddsAtMost};
+ghost use Rattle.claim_rule.specs.Desks.{IsOf, AddsSteps, AddsAtMost};
 ghost use Rattle.claim_rule.specs.Out.{IsHolding, HoldsNone, KeepsEndings};
 ghost use Rattle.hold_core.specs.Places.{gives_back};
 
@@ -14,7 +14,7 @@ pub fn abandon(books: &Books, desk: &mut Desk, mut hold: Hold)
     requires own { IsOf books.now desk.old }
     requires hold { IsHolding desk.old hold }
     ensures own { IsOf books.now desk.new }
-    ensures entries { Shape desk.old desk.new (gives_back hold.row.row (length hold.items)) }
+    ensures entries { AddsSteps desk.old desk.new (gives_back hold.row.row (length hold.items)) }
     ensures kept { desk.new.kept ≡ Some hold.row }
     ensures none { HoldsNone desk.new }
     ensures endings { KeepsEndings desk.old desk.new }

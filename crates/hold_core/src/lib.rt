@@ -6,6 +6,10 @@
 //! a hold back.
 //!
 //! No call takes memory, and none waits.
+//!
+//! There are at most 20 entries for each candidate, and at most nine, and one note for each place won, where the span
+//! lies in one half. `laws::contended_looks_have_causes`: between two neighbouring looks of a contended place another
+//! desk changed that word.
 #![tactic(auto)]
 
 mod abandons;

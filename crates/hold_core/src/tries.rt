@@ -4,7 +4,7 @@ ghost use Rattle.history_model.specs.Booking.{most_items};
 ghost use Rattle.history_model.specs.Looks.{look_at};
 ghost use Rattle.leg_masks.specs.Interval.{IsClear, IsPiece, pieces as spec_pieces};
 ghost use Rattle.claim_rule.specs.Rule.{DeskView};
-ghost use Rattle.claim_rule.specs.Desks.{IsOf, Shape};
+ghost use Rattle.claim_rule.specs.Desks.{IsOf, AddsSteps};
 ghost use Rattle.claim_rule.specs.Out.{IsHolding, HasNotedItems, KeepsEndings};
 ghost use Rattle.hold_core.specs.Tries.{TriesPiece, TriesPlace, TriesSecond};
 
@@ -18,7 +18,7 @@ use seat_words::{Take, glance, try_take, undo_last};
 const MOST_TRIES: u8 = 8;
 
 /// How a try of one candidate, or of one piece of it, ended.
-#[derive(Clone, Copy, Debug, PartialEq, Eq)]
+#[derive(Clone, Copy, PartialEq, Eq)]
 pub enum Outcome {
     /// It is won, and its items are noted.
     Won,
@@ -166,7 +166,7 @@ fn take_shown(
     requires legs { piece.to ≤ slice_index books.now.layout.legs place.0 }
     requires clear { IsClear first piece }
     ensures own { IsOf books.now desk.new }
-    ensures tried { (before : DeskView) → Shape before desk.old (look_at place.0 piece first ∷ [])
+    ensures tried { (before : DeskView) → AddsSteps before desk.old (look_at place.0 piece first ∷ [])
         → TriesPiece before hold.old place.0 piece desk.new hold.new result }
     ensures hold { IsHolding desk.new hold.new }
     ensures noted { HasNotedItems desk.old hold.old → HasNotedItems desk.new hold.new }

@@ -8,7 +8,7 @@ use rail_io::{Fetched, Shelf};
 use std::alloc::Global;
 
 /// A file that a command reads.
-#[derive(Clone, Copy, Debug, PartialEq, Eq)]
+#[derive(Clone, Copy, PartialEq, Eq)]
 pub enum File {
     /// What is sold.
     Catalogue,
@@ -29,7 +29,7 @@ impl File {
 }
 
 /// Why a command has no books.
-#[derive(Debug, Drop)]
+#[derive(Drop)]
 pub enum LoadFault {
     /// There is no file with the name.
     Missing(File),

@@ -16,7 +16,7 @@ use Rattle.history_model.specs.History.{state_of}
 use Rattle.history_model.specs.Looks.{look_at}
 use Rattle.history_model.proofs.ListLemmas.{All-left, All-right}
 use Rattle.claim_rule.specs.Rule.{DeskView}
-use Rattle.claim_rule.specs.Desks.{Shape}
+use Rattle.claim_rule.specs.Desks.{AddsSteps}
 use Rattle.claim_rule.proofs.Shapes.{shape_then}
 use Rattle.booking_rows.specs.declared.notes.Detail.{Detail}
 use Rattle.booking_rows.specs.Notes.{detail_notes}
@@ -174,7 +174,7 @@ pub record AddsOne (cat : CatalogueView) (leg row : ℕ) (placing : Placing) (it
   pub ends : EndsPlacing answer placing
   pub steps : List Step
   pub adds : Adds row 0 (on_leg leg) 1 (candidates_on cat leg) answer items steps
-  pub shape : Shape old new steps
+  pub shape : AddsSteps old new steps
 
 ends_by : (answer : Added) (placing : Placing) → placing ≡ placing_of answer → EndsPlacing answer placing
 ends_by added.All placing is = is
@@ -188,14 +188,14 @@ adds_one cat leg row placing items old new memory (inl (mine, won, mid, (answer,
   ends = ends_by answer placing (whole ∙ (sym all ∙ means));
   steps = steps;
   adds = subst (λ (l : List Item). Adds row.row 0 (on_leg leg) 1 (candidates_on cat leg) answer l steps) (sym are) adds;
-  shape = subst (λ (d : DeskView). Shape old d steps) (sym same) shape;
+  shape = subst (λ (d : DeskView). AddsSteps old d steps) (sym same) shape;
 }
 adds_one cat leg row placing items old new memory (inl (mine, won, mid, (answer, means, (steps, adds, shape)), inr (part, is, are, same))) = record {
   answer = answer;
   ends = ends_by answer placing (is ∙ means);
   steps = steps;
   adds = subst (λ (l : List Item). Adds row.row 0 (on_leg leg) 1 (candidates_on cat leg) answer l steps) (sym are) adds;
-  shape = subst (λ (d : DeskView). Shape old d steps) (sym same) shape;
+  shape = subst (λ (d : DeskView). AddsSteps old d steps) (sym same) shape;
 }
 adds_one cat leg row placing items old new memory (inr none) = absurd (memory none.0)
 
@@ -355,11 +355,11 @@ kept_busy cat places leg row items old new started has one a = record {
 
 -- nothing was won, and nothing is given back
 
-gives_none : (row : ℕ) (items : List Item) (mid new : DeskView) → items ≡ [] → Shape mid new (gives_back row (length items)) → Shape mid new []
-gives_none row items mid new none did = subst (λ (l : List Item). Shape mid new (gives_back row (length l))) none did
+gives_none : (row : ℕ) (items : List Item) (mid new : DeskView) → items ≡ [] → AddsSteps mid new (gives_back row (length items)) → AddsSteps mid new []
+gives_none row items mid new none did = subst (λ (l : List Item). AddsSteps mid new (gives_back row (length l))) none did
 
-then_none : (a b c : DeskView) (es : List Step) → Shape a b es → Shape b c [] → Shape a c es
-then_none a b c es first second = subst (λ (l : List Step). Shape a c l) (append-nil es) (shape_then a b c es [] first second)
+then_none : (a b c : DeskView) (es : List Step) → AddsSteps a b es → AddsSteps b c [] → AddsSteps a c es
+then_none a b c es first second = subst (λ (l : List Step). AddsSteps a c l) (append-nil es) (shape_then a b c es [] first second)
 
 some_is : (p q : Problem) → Some p ≡ Some q → p ≡ q
 some_is p q same = cc
@@ -369,7 +369,7 @@ pub record IsOnePart (g : Layout) (history : List Entry) (places leg : ℕ) (old
   pub outcome : Outcome
   pub steps : List Step
   pub part : IsPart g history places leg outcome steps
-  pub shape : Shape old new steps
+  pub shape : AddsSteps old new steps
   pub refused : is_turned_away outcome ≡ (status_of reply == 409)
   pub busy : is_busy outcome ≡ (status_of reply == 503)
 
@@ -411,8 +411,8 @@ module _ (cat : CatalogueView) (g : Layout) (history : List Entry) (places leg :
 
   -- a placing that held none, by what is wrong with it
   held_none : (row : RowNo) (placing : Placing) (reason : Problem) (items : List Item) (old first mid new : DeskView) (started : List Step) → StartsOne started
-      → Shape old first started → PlacesAll cat (offer_on leg) false row [] (leg_segment leg ∷ []) placing items first mid → problem_of placing ≡ Some reason
-      → Shape mid new (gives_back row.row (length items)) → problem reason ≢ problem problems.NoMemory → IsOnePart g history places leg old new (problem reason)
+      → AddsSteps old first started → PlacesAll cat (offer_on leg) false row [] (leg_segment leg ∷ []) placing items first mid → problem_of placing ≡ Some reason
+      → AddsSteps mid new (gives_back row.row (length items)) → problem reason ≢ problem problems.NoMemory → IsOnePart g history places leg old new (problem reason)
   held_none row Whole reason items old first mid new started one begun placed wrong gave memory = absurd (let e : ◌≡◌ {A = Option Problem} None (Some reason) = wrong in cc)
   held_none row Short reason items old first mid new started one begun placed wrong gave memory =
       let a = adds_one cat leg row Short items first mid (λ none. let e : Short ≡ NoMemory = none in cc) placed in

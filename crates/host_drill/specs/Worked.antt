@@ -4,7 +4,7 @@ use Rattle.place_map.specs.declared.coach.Class.TheVariants.{Second}
 use Rattle.offer_codes.specs.declared.code.Segment.{Segment}
 use Rattle.history_model.specs.declared.entry.Step.{Step}
 use Rattle.claim_rule.specs.Rule.{DeskView}
-use Rattle.claim_rule.specs.Desks.{Shape}
+use Rattle.claim_rule.specs.Desks.{AddsSteps}
 use Rattle.claim_rule.specs.Out.{IsIdle}
 use Rattle.rail_catalogue.specs.Contents.{CatalogueView}
 use Rattle.osdm_texts.specs.declared.problem.Problem.TheVariants.{NoMemory}
@@ -32,7 +32,7 @@ abbrev pub AnswersEach : CatalogueView → ℕ → ℕ → DeskView → List Rep
 AnswersEach cat seed k old [] written new = (written ≡ []) × (new ≡ old)
 AnswersEach cat seed k old (reply ∷ more) written new =
     (mid : DeskView) × (steps : List Step) × (rest : List ℕ) × ReservesLeg cat (drill_leg seed k) old mid reply
-    × Shape old mid steps
+    × AddsSteps old mid steps
     × IsIdle mid × (written ≡ reply_bytes cat false reply ++ rest) × AnswersEach cat seed (k + 1) mid more rest new
 
 -- a worker's requests, from the desk that it began at

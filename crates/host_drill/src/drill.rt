@@ -30,7 +30,7 @@ pub struct DrillEnd {
 }
 
 /// Why a drill ended.
-#[derive(Clone, Copy, Debug, PartialEq, Eq)]
+#[derive(Clone, Copy, PartialEq, Eq)]
 pub enum Cause {
     /// All was answered, and the line is printed.
     Whole,

@@ -22,16 +22,16 @@ Fits o piece = o.used + length piece ≤ most_held
 abbrev pub IsInRoom : OutboxView → Type 0
 IsInRoom o = (o.used ≤ most_held) × (o.held ≡ [] → o.used ≡ 0)
 
--- So many bytes lie in memory for so many, and so many of them went out: the memory is that of its making, and no byte
--- that went out is kept where no other is.
+-- How many bytes went out, how many were taken, and for how many there is memory: the memory is that of its making, and
+-- no byte that went out is kept where no other is.
 abbrev pub Lies : ℕ → ℕ → ℕ → Type 0
 Lies sent taken memory = (sent ≤ taken) × (taken ≤ most_held) × (most_held ≤ memory) × (sent ≡ taken → taken ≡ 0)
 
--- it holds the piece too, behind all else
+-- it holds the piece too, after all else
 abbrev pub with_piece : OutboxView → List ℕ → OutboxView
 with_piece o piece = record { held = o.held ++ piece; used = o.used + length piece }
 
--- what a call takes of a piece that goes out behind others: its first bytes, or nothing
+-- what a call takes of a piece that goes out after others: its first bytes, or nothing
 abbrev pub TakesSome : Option (List ℕ) → Option (List ℕ) → List ℕ → PushedBoth → Type 0
 TakesSome before after piece (Took n) = (n ≤ length piece) × (after ≡ with_end before (take n piece))
 TakesSome before after piece (Failed n) = (n < length piece) × (after ≡ with_end before (take n piece))

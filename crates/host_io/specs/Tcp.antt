@@ -1,5 +1,10 @@
 -- What a port of this machine keeps, and what its calls make of the system's answers.
-use Rattle.std.specs.Prelude.{◌≡◌, ◌≤◌, ◌+◌, ℕ, Bool, true, false, ◌==◌, ◌||◌, if◌then◌else◌, List, Option, None}
+use Rattle.std.specs.Prelude.{◌≡◌, ◌≤◌, ◌+◌, ◌-◌, ◌*◌, ℕ, Bool, true, false, ◌==◌, nat_le, ◌||◌, if◌then◌else◌, List, [], ◌∷◌, Option, None, Some, min}
+use Rattle.std.specs.Net.Addr.{ipv4_octets}
+use Rattle.std.specs.Net.Socket.{socket_ip, socket_port}
+use Rattle.std.specs.declared.net.ip_addr.IpAddr.{IpAddr}
+use Rattle.std.specs.declared.net.ip_addr.IpAddr.TheVariants.{V4, V6}
+use Rattle.std.specs.declared.net.socket_addr.SocketAddr.{SocketAddr}
 use Rattle.host_io.specs.declared.tcp_port.TcpPort.{TcpPort}
 use Rattle.host_io.specs.declared.tcp_port.AfterRefusal.{AfterRefusal}
 use Rattle.host_io.specs.declared.tcp_port.AfterRefusal.TheVariants.{Fail, Again, Pause}
@@ -24,6 +29,18 @@ abbrev pub seconds_of : Bool → ℕ
 seconds_of true = 5
 seconds_of false = 30
 
+-- the seconds that a request may take until it is whole
+abbrev pub request_seconds : ℕ
+request_seconds = 60
+
+-- and the milliseconds
+abbrev pub most_spent : ℕ
+most_spent = 1000 * request_seconds
+
+-- the milliseconds that a read may wait whose request has taken these; none where it has taken all that it may
+abbrev pub limit_of : Bool → ℕ → Option ℕ
+limit_of idle spent = if nat_le most_spent spent then None else Some (min (1000 * seconds_of idle) (most_spent - spent))
+
 -- the errors of Linux that say that a listener is gone: EBADF, EINVAL, ENOTSOCK and EOPNOTSUPP
 abbrev pub is_gone : ℕ → Bool
 is_gone code = code == 9 || code == 22 || code == 88 || code == 95
@@ -34,3 +51,12 @@ is_passing code = code == 4 || code == 71 || code == 103
 
 abbrev pub after_refusal : ℕ → AfterRefusal
 after_refusal code = if is_gone code then Fail else if is_passing code then Again else Pause
+
+-- an address of version 4 with these bytes
+abbrev pub IsVersion4 : List ℕ → IpAddr → Type 0
+IsVersion4 bytes (V4 address) = ipv4_octets address ≡ bytes
+IsVersion4 bytes (V6 _) = ⊥
+
+-- the port at 127.0.0.1
+abbrev pub IsLocal : SocketAddr → ℕ → Type 0
+IsLocal address port = IsVersion4 (0x7f ∷ 0 ∷ 0 ∷ 1 ∷ []) (socket_ip address) × (socket_port address ≡ port)

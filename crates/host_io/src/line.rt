@@ -105,7 +105,7 @@ impl Line {
         (&self.stream).write(piece)
     }
 
-    /// Writes some of the pieces, one behind the other, by one call of the system, for which it waits likewise.
+    /// Writes some of the pieces, one after the other, by one call of the system, for which it waits likewise.
     pub(crate) fn send_pieces(&self, pieces: &[IoSlice<'_>]) -> io::Result<usize>
         ensures { IfOk result (λ count. count ≤ length (io_slices_bytes pieces.now)) }
     {

@@ -92,7 +92,7 @@ impl Outbox {
             && self.bytes.extend_from_slice(piece).is_ok()
     }
 
-    /// Takes some of the piece behind what is held back: all of it, and with no call of the sink, where it fits.
+    /// Takes some of the piece after what is held back: all of it, and with no call of the sink, where it fits.
     pub fn write<K: Sink>(&mut self, sink: &mut K, piece: &[u8]) -> Pushed
         requires { 0 < length piece.now }
         ensures pushes { Pushes
@@ -116,8 +116,8 @@ impl Outbox {
         sink.write(piece)
     }
 
-    /// Lets go of so many bytes at the front of what is held back and of what stands behind it, and answers how many of
-    /// them stand behind it.
+    /// Lets go of the first bytes of what is held back and of what follows it, and answers how many of them are of what
+    /// follows.
     fn let_go(&mut self, count: usize) -> usize
         ensures held { self.new.held ≡ drop count self.old.held }
         ensures behind { result ≡ count - length self.old.held }
@@ -133,7 +133,7 @@ impl Outbox {
         count - held
     }
 
-    /// Sends what is held back with the piece behind it, by one call of the sink, and answers how much of the piece is
+    /// Sends what is held back with the piece after it, by one call of the sink, and answers how much of the piece is
     /// out: maybe nothing.
     fn send_with<K: Sink>(&mut self, sink: &mut K, piece: &[u8]) -> PushedBoth
         requires { 0 < length piece.now }
@@ -150,7 +150,7 @@ impl Outbox {
         }
     }
 
-    /// Takes some of both pieces, one behind the other, behind what is held back: all of them, and with no call of the
+    /// Takes some of both pieces, one after the other, after what is held back: all of them, and with no call of the
     /// sink, where they fit. Where the second doesn't, it goes out with what is held back, by one call.
     pub fn write_both<K: Sink>(&mut self, sink: &mut K, first: &[u8], second: &[u8]) -> PushedBoth
         requires { 0 < length first.now }

@@ -2,7 +2,7 @@
 ghost use Rattle.std.specs.Prelude.{◌≡◌, ◌<◌, ◌++◌, None, length};
 ghost use Rattle.std.specs.Io.Slices.{io_slices_bytes};
 ghost use Rattle.rail_io.specs.Told.{Pushes, PushesBoth};
-ghost use Rattle.host_io.specs.Tcp.{seconds_of};
+ghost use Rattle.host_io.specs.Tcp.{seconds_of, limit_of};
 
 use crate::line::Line;
 use crate::outbox::Outbox;
@@ -21,6 +21,9 @@ const IDLE_SECONDS: u64 = 5;
 /// How many seconds a read waits inside a request, and a write.
 const STALLED_SECONDS: u64 = 30;
 
+/// How many seconds a request may take from the first byte that came since the last answer until it is whole.
+const REQUEST_SECONDS: u64 = 60;
+
 /// How long a drain waits for each piece, how long it takes as a whole, and how many pieces it reads at most.
 const DRAIN_MILLISECONDS: u64 = 250;
 
@@ -38,6 +41,18 @@ fn read_seconds(idle: bool) -> u64
     if idle { IDLE_SECONDS } else { STALLED_SECONDS }
 }
 
+/// How many milliseconds a read may wait, with those that its request has taken: no longer than until the request has
+/// taken 60 seconds. None where it has taken them.
+fn read_limit(idle: bool, spent: u64) -> Option<u64>
+    ensures { result ≡ limit_of idle spent }
+{
+    let most = 1_000 * REQUEST_SECONDS;
+    if spent >= most {
+        return None;
+    }
+    Some((1_000 * read_seconds(idle)).min(most - spent))
+}
+
 /// Makes an accepted stream ready to be served: it sends without delay, a write of more than 30 seconds fails, and so
 /// does a first read of more than 5.
 pub fn make_ready(stream: &TcpStream) -> io::Result<()> {
@@ -46,7 +61,7 @@ pub fn make_ready(stream: &TcpStream) -> io::Result<()> {
     stream.set_write_timeout(Some(Duration::from_secs(STALLED_SECONDS)))
 }
 
-/// Two pieces for one call of the system: the second stands behind the first.
+/// Two pieces for one call of the system: the second follows the first.
 fn pieces_of<'a>(first: &'a [u8], second: &'a [u8]) -> [IoSlice<'a>; 2]
     ensures { io_slices_bytes result ≡ first.now ++ second.now }
 {
@@ -151,17 +166,23 @@ impl Shared {
     }
 }
 
-/// The reading half of a connection. What was answered is sent before it waits for more. A read fails that waits for
-/// more than 5 seconds where nothing has come since the last answer, or for more than 30 inside a request, and so does
-/// one before which the answers can't be sent. Where the other side hasn't ended the connection when it is let go, it
-/// is told that no more answers come, and what it still sends is read away for a moment, so that it gets to read the
-/// last answer.
+/// The reading half of a connection. What was answered is sent before it waits for more.
+///
+/// A read fails that waits for more than 5 seconds where nothing has come since the last answer. Inside a request it
+/// waits for 30 at most, and not past the 60th second after the request's first byte. A read fails too before which the
+/// answers can't be sent.
+///
+/// Where the other side hasn't ended the connection when it is let go, it is told that no more answers come. What it
+/// still sends is read away for a moment, so that it gets to read the last answer.
 pub struct SocketReader<C: time::Clock + Drop> {
     clock: C,
     shared: Arc<Shared, Global>,
     /// Whether nothing has come since the last answer.
     idle: bool,
-    /// The seconds that a read may wait now.
+    /// When a request was first found not to be whole, which is as soon as its first bytes have come. A request that
+    /// comes whole by one read costs no look at the clock.
+    begun: Option<Instant>,
+    /// The milliseconds that a read may wait now.
     limit: u64,
     /// Whether the other side may still send.
     open: bool,
@@ -200,7 +221,8 @@ pub(crate) fn halves_of<C: time::Clock + Drop>(
         clock,
         shared,
         idle: true,
-        limit: IDLE_SECONDS,
+        begun: None,
+        limit: 1_000 * IDLE_SECONDS,
         open: true,
     };
     let sink = SocketSink {
@@ -211,15 +233,31 @@ pub(crate) fn halves_of<C: time::Clock + Drop>(
 }
 
 impl<C: time::Clock + Drop> SocketReader<C> {
-    /// Sends what was answered, and sets the time limit of the next read.
+    /// The milliseconds since the request began that the next read is for: 0 where nothing of it has come.
+    fn spent(&mut self) -> io::Result<u64> {
+        if self.idle {
+            self.begun = None;
+            return Ok(0);
+        }
+        let Some(begun) = self.begun else {
+            self.begun = Some(Instant::now(&self.clock)?);
+            return Ok(0);
+        };
+        let spent = begun.elapsed(&self.clock)?.as_millis();
+        Ok(u64::try_from(spent).unwrap_or(u64::MAX))
+    }
+
+    /// Sends what was answered, and sets the time limit of the next read, which fails where none is left.
     fn prepare(&mut self) -> io::Result<()> {
         if self.shared.send_answers()? {
             self.idle = true;
         }
-        let limit = read_seconds(self.idle);
+        let Some(limit) = read_limit(self.idle, self.spent()?) else {
+            return Err(io::Error::from(ErrorKind::TimedOut));
+        };
         if limit != self.limit {
             let stream = &self.shared.line.stream;
-            stream.set_read_timeout(Some(Duration::from_secs(limit)))?;
+            stream.set_read_timeout(Some(Duration::from_millis(limit)))?;
             self.limit = limit;
         }
         Ok(())
@@ -302,6 +340,7 @@ impl<C: time::Clock + Drop> Drop for SocketReader<C> {
             clock: _,
             shared: _,
             idle: _,
+            begun: _,
             limit: _,
             open: _,
         } = self;

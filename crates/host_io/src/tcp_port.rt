@@ -1,13 +1,13 @@
 // A port of this machine as a listener. Its streams tell no content.
 ghost use Rattle.std.specs.Prelude.{◌≡◌, ◌≤◌};
 ghost use Rattle.rail_io.specs.Faults.{Rose};
-ghost use Rattle.host_io.specs.Tcp.{after_refusal as after_of, tcp_view, tcp_faults, IsLaterOf, HandsUntold};
+ghost use Rattle.host_io.specs.Tcp.{after_refusal as after_of, tcp_view, tcp_faults, IsLaterOf, HandsUntold, IsLocal};
 
 use crate::socket::{SocketReader, SocketSink, halves_of};
 use rail_io::ReaderSource;
 use rail_service::{Accepted, Bound, Listener, Waiting};
 use std::alloc::Global;
-use std::net::{Ipv4Addr, Net, SocketAddr, TcpListener, TcpStream};
+use std::net::{IpAddr, Ipv4Addr, Net, SocketAddr, TcpListener, TcpStream};
 use std::time::Duration;
 use std::{io, thread, time};
 
@@ -15,7 +15,7 @@ use std::{io, thread, time};
 const PAUSE_MILLISECONDS: u64 = 100;
 
 /// What an accept does that the system gave no stream.
-#[derive(Clone, Copy, Debug, PartialEq, Eq)]
+#[derive(Clone, Copy, PartialEq, Eq)]
 pub enum AfterRefusal {
     /// It fails: the listener is gone.
     Fail,
@@ -37,8 +37,16 @@ pub fn after_refusal(code: u32) -> AfterRefusal
     }
 }
 
+// This machine's own address with the port.
+fn local_address(port: u16) -> SocketAddr
+    ensures local { IsLocal result port }
+{
+    SocketAddr::new(IpAddr::V4(Ipv4Addr::LOCALHOST), port)
+}
+
 /// Listens on 127.0.0.1. Its streams send without delay. A read fails that waits for more than 5 seconds between two
-/// requests, or for more than 30 inside one, and a write that waits for more than 30.
+/// requests, or for more than 30 inside one, or until 60 have gone by since its first byte, and a write that waits for
+/// more than 30.
 #[derive(Drop)]
 pub struct TcpPort<N: Net<Listener = TcpListener, Stream = TcpStream> + time::Clock + Copy + Drop> {
     net: N,
@@ -130,10 +138,12 @@ impl<N: Net<Listener = TcpListener, Stream = TcpStream> + time::Clock + Copy + D
     ghost hands = { HandsUntold };
 
     fn bind(&mut self, port: u16) -> Bound {
-        match TcpListener::bind(&self.net, SocketAddr::from((Ipv4Addr::LOCALHOST, port))) {
+        // What contracts see of the port is that of the very address which the system is asked for.
+        let address = local_address(port);
+        match TcpListener::bind(&self.net, address) {
             Ok(listener) => {
                 self.listener = Some(listener);
-                self.port = port;
+                self.port = address.port();
                 Bound::Ready
             }
             Err(_) => {

@@ -19,7 +19,9 @@ impl<C: time::Clock + Drop> SleepTicker<C> {
 }
 
 impl<C: time::Clock + Drop> Ticker for SleepTicker<C> {
-    ghost ticked = { λ t _ u. u ≡ t };
+    ghost use Rattle.std.specs.Prelude.{true};
+
+    ghost ticked = { λ t _ answer u. (answer ≡ true) × (u ≡ t) };
 
     fn next_tick(&mut self, seconds: u32) -> bool {
         thread::sleep(&self.clock, Duration::from_secs(u64::from(seconds)));

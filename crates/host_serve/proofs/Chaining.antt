@@ -1,13 +1,13 @@
 -- Chains of turns.
-use Rattle.std.proofs.Common.{◌≡◌, ◌∙◌, ◌+◌, ◌<◌, ◌≤◌, ℕ, zero, suc, Bool, true, false, List, [], ◌∷◌, ◌++◌, Option, length, refl, sym, subst, arith}
+use Rattle.std.specs.Prelude.{not}
+use Rattle.std.proofs.Common.{◌≡◌, ◌∙◌, ◌+◌, ◌<◌, ◌≤◌, ℕ, zero, suc, Bool, true, false, ap, List, [], ◌∷◌, ◌++◌, Option, length, refl, sym, subst, arith}
 use Rattle.std.proofs.lemmas.List.{length-append}
 use Rattle.claim_rule.specs.Rule.{DeskView}
 use Rattle.rail_catalogue.specs.Contents.{CatalogueView}
 use Rattle.rail_service.specs.Listeners.{Handing, HandingBy}
-use Rattle.worker_pool.specs.Turns.{RunsToEnd}
+use Rattle.worker_pool.specs.Turns.{GoesOn, RunsToEnd}
 use Rattle.host_words.specs.declared.serve.Serving.{Serving as Numbers}
-use Rattle.worker_pool.proofs.Chains.{whole_run}
-use Rattle.host_serve.specs.Turns.{Readings, ServesOne, ServesTurn, SweepsTurn, Stand, OneTurn, Connection, Sweep, Leads, Chain, Asks, Counts, Ticks, HasEnded, DoesTurn, HasChain, HandedOut, IsPosted, LettingGo, Passes, Passing, handed_of, part_of, stand_of}
+use Rattle.host_serve.specs.Turns.{Readings, ServesOne, ServesTurn, SweepsTurn, Stand, OneTurn, Connection, Sweep, Leads, Chain, Asks, Counts, Ticks, TickingBy, TicksUntil, SweepsOnce, Rests, HasEnded, DoesTurn, HasChain, HandedOut, IsPosted, LettingGo, Passes, Passing, handed_of, part_of, stand_of}
 use Rattle.host_serve.specs.declared.member.Post.{Post}
 use Rattle.host_serve.specs.declared.member.Post.TheVariants.{Serving, Sweeping}
 
@@ -60,13 +60,35 @@ serves hands cat clock old later new true did before after counts =
 serves hands cat clock old later new false did before after counts =
     (1, counts, one (Connection hands cat) (record { desk = old; clock = clock }) (record { desk = new; clock = later }) did)
 
-sweeps : (clock : Readings) (old : DeskView) (later : Readings) (new : DeskView) (ended : Bool) → SweepsTurn clock old later new ended
-    → (n : ℕ) × (n ≤ 1) × Chain Sweep n (record { desk = old; clock = clock }) (record { desk = new; clock = later })
-sweeps clock old later new true did = (0, omega arith, rests Sweep clock old later new did.same did.unread)
-sweeps clock old later new false did = (1, omega arith, one Sweep (record { desk = old; clock = clock }) (record { desk = new; clock = later }) did)
+-- a turn that doesn't end the one who sweeps is a sweep at a tick
+swept : {T : Type 0} (ticked : TickingBy T) (seconds : ℕ) (first last : T) (clock : Readings) (old : DeskView) (later : Readings) (new : DeskView) (ended : Bool)
+    → (ended ≡ true → ⊥) → ticked first seconds (not ended) last → SweepsTurn clock old later new ended
+    → ticked first seconds true last × SweepsOnce clock old later new
+swept ticked seconds first last clock old later new true on tick did = absurd (on refl)
+swept ticked seconds first last clock old later new false on tick did = (tick, did)
 
--- ticks behind others
-ticks_on : {T : Type 0} (ticked : T → ℕ → T → Type 0) (seconds k n : ℕ) (a b c : T) → Ticks ticked seconds k a b → Ticks ticked seconds n b c
+-- one that ends it is none, where there was no tick
+stopped : {T : Type 0} (ticked : TickingBy T) (seconds : ℕ) (first last : T) (clock : Readings) (old : DeskView) (later : Readings) (new : DeskView) (ended : Bool)
+    → ended ≡ true → ticked first seconds (not ended) last → SweepsTurn clock old later new ended
+    → ticked first seconds false last × Rests clock old later new
+stopped ticked seconds first last clock old later new true is tick did = (tick, did)
+stopped ticked seconds first last clock old later new false is tick did = absurd (let f = is in cc)
+
+-- what was asked of a ticker that ends as well where something is shown
+module _ {T U : Type 0} (ticked : TickingBy T) (Over : Type 0) (of : U → T) where
+  until_ticks : (seconds n : ℕ) (first last : U) → Ticks (λ t s answer u. TicksUntil ticked Over (of t) s answer (of u)) seconds n first last
+      → Ticks ticked seconds n (of first) (of last)
+  until_ticks seconds zero first last same = ap of same
+  until_ticks seconds (suc n) first last on =
+      (of on.0, until_ticks seconds n first on.0 on.1, subst (λ (answer : Bool). ticked (of on.0) seconds answer (of last)) (on.2.goes_on refl) on.2.asked)
+
+  pub until_asks : (seconds n : ℕ) (first before after : U) → Ticks (λ t s answer u. TicksUntil ticked Over (of t) s answer (of u)) seconds n first before
+      → TicksUntil ticked Over (of before) seconds false (of after) → Asks ticked (of first) seconds n
+  until_asks seconds n first before after on last =
+      (of before, of after, last.told, until_ticks seconds n first before on, last.asked)
+
+-- ticks after others
+ticks_on : {T : Type 0} (ticked : TickingBy T) (seconds k n : ℕ) (a b c : T) → Ticks ticked seconds k a b → Ticks ticked seconds n b c
     → Ticks ticked seconds (k + n) a c
 ticks_on {T} ticked seconds k zero a b c p q =
     let at : k ≡ k + 0 = omega arith in
@@ -75,13 +97,21 @@ ticks_on {T} ticked seconds k (suc n) a b c p q =
     let at : suc (k + n) ≡ k + suc n = omega arith in
     subst (λ (m : ℕ). Ticks ticked seconds m a c) at (q.0, ticks_on ticked seconds k n a b q.0 p q.1, q.2)
 
-module _ {S T C : Type 0} (told : C → Readings) (handed : S → ℕ) (hands : Handing) (ticked : T → ℕ → T → Type 0) where
-  still : (w : Post S T C) (d : DeskView) → HasChain told handed hands ticked w d w d
-  still (Serving w) d = (refl, 0, omega arith, no_turn (Connection hands w.common.cat.now) (record { desk = d; clock = told w.clock }))
-  still (Sweeping w) d = (refl, 0, 0, omega arith, refl, no_turn Sweep (record { desk = d; clock = told w.clock }))
+module _ {S T C : Type 0} (told : C → Readings) (handed : S → ℕ) (hands : Handing) (ticked : TickingBy T) where
+  -- turns of a member that didn't end it are a chain
+  abbrev HasGone : Post S T C → DeskView → Post S T C → DeskView → Type 0
+  HasGone (Serving w) old (Serving v) new = HasChain told handed hands ticked (Serving w) old (Serving v) new
+  HasGone (Sweeping w) old (Sweeping v) new =
+      (v.seconds ≡ w.seconds) × (sweeps : ℕ) × Ticks ticked w.seconds sweeps w.ticker v.ticker
+      × Chain Sweep sweeps (stand_of {S = S} {T = T} {C = C} told (Sweeping w) old) (stand_of {S = S} {T = T} {C = C} told (Sweeping v) new)
+  HasGone (Serving w) old (Sweeping v) new = ⊥
+  HasGone (Sweeping w) old (Serving v) new = ⊥
 
-  next : (a : Post S T C) (x : DeskView) (b : Post S T C) (y : DeskView) (c : Post S T C) (z : DeskView) → HasChain told handed hands ticked a x b y
-      → HasChain told handed hands ticked b y c z → HasChain told handed hands ticked a x c z
+  still : (w : Post S T C) (d : DeskView) → HasGone w d w d
+  still (Serving w) d = (refl, 0, omega arith, no_turn (Connection hands w.common.cat.now) (record { desk = d; clock = told w.clock }))
+  still (Sweeping w) d = (refl, 0, refl, no_turn Sweep (record { desk = d; clock = told w.clock }))
+
+  next : (a : Post S T C) (x : DeskView) (b : Post S T C) (y : DeskView) (c : Post S T C) (z : DeskView) → HasGone a x b y → HasGone b y c z → HasGone a x c z
   next (Serving a) x (Serving b) y (Serving c) z p q = (
     q.0 ∙ p.0,
     p.1 + q.1,
@@ -92,10 +122,8 @@ module _ {S T C : Type 0} (told : C → Readings) (handed : S → ℕ) (hands : 
   next (Sweeping a) x (Sweeping b) y (Sweeping c) z p q = (
     q.0 ∙ p.0,
     p.1 + q.1,
-    p.2 + q.2,
-    (let k = p.3 in let n = q.3 in omega (arith, k, n)),
-    ticks_on ticked a.seconds p.2 q.2 a.ticker b.ticker c.ticker p.4 (subst (λ (s : ℕ). Ticks ticked s q.2 b.ticker c.ticker) p.0 q.4),
-    chain_on Sweep p.1 q.1 (stand_of {S = S} {T = T} {C = C} told (Sweeping a) x) (stand_of {S = S} {T = T} {C = C} told (Sweeping b) y) (stand_of {S = S} {T = T} {C = C} told (Sweeping c) z) p.5 q.5,
+    ticks_on ticked a.seconds p.1 q.1 a.ticker b.ticker c.ticker p.2 (subst (λ (s : ℕ). Ticks ticked s q.1 b.ticker c.ticker) p.0 q.2),
+    chain_on Sweep p.1 q.1 (stand_of {S = S} {T = T} {C = C} told (Sweeping a) x) (stand_of {S = S} {T = T} {C = C} told (Sweeping b) y) (stand_of {S = S} {T = T} {C = C} told (Sweeping c) z) p.3 q.3,
   )
   next (Serving a) x (Sweeping b) y c z p q = absurd p
   next (Sweeping a) x (Serving b) y c z p q = absurd p
@@ -103,23 +131,52 @@ module _ {S T C : Type 0} (told : C → Readings) (handed : S → ℕ) (hands : 
   next (Sweeping a) x (Sweeping b) y (Serving c) z p q = absurd q
 
   module _ (gives : HandingBy S) (lets_go : LettingGo S) (only : (s : S) (stream sent : Option (List ℕ)) (t : S) → gives s stream sent t → hands stream sent) where
-    each : (w : Post S T C) (d : DeskView) (v : Post S T C) (e : DeskView) → DoesTurn told handed gives lets_go ticked w d v e → HasChain told handed hands ticked w d v e
-    each (Serving w) d (Serving v) e did =
+    serving : (w : _) (d : DeskView) (v : _) (e : DeskView) → DoesTurn {S = S} {T = T} {C = C} told handed gives lets_go ticked (Serving w) d (Serving v) e
+        → HasChain {S = S} {T = T} {C = C} told handed hands ticked (Serving w) d (Serving v) e
+    serving w d v e did =
         let did_so = turn_so (Passes gives lets_go w.streams v.streams) (HandedOut hands) (λ stream sent left after passed. only w.streams stream sent passed.0 passed.1) w.common.cat.now
         (told w.clock) d (told v.clock) e v.ended did.2 in
         let turn = serves hands w.common.cat.now (told w.clock) d (told v.clock) e v.ended did_so (handed w.streams) (handed v.streams) did.1 in
         (did.0, turn.0, turn.1, turn.2)
-    each (Sweeping w) d (Sweeping v) e did =
-        let turn = sweeps (told w.clock) d (told v.clock) e v.ended did.2 in
-        (did.0, turn.0, 1, turn.1, (w.ticker, refl, did.1), turn.2)
-    each (Serving w) d (Sweeping v) e did = absurd did
-    each (Sweeping w) d (Serving v) e did = absurd did
+
+    goes : (w : Post S T C) (d : DeskView) (v : Post S T C) (e : DeskView) → DoesTurn told handed gives lets_go ticked w d v e → (HasEnded v → ⊥) → HasGone w d v e
+    goes (Serving w) d (Serving v) e did on = serving w d v e did
+    goes (Sweeping w) d (Sweeping v) e did on =
+        let turn = swept ticked w.seconds w.ticker v.ticker (told w.clock) d (told v.clock) e v.ended on did.1 did.2 in
+        (did.0, 1, (w.ticker, refl, turn.0), one Sweep (record { desk = d; clock = told w.clock }) (record { desk = e; clock = told v.clock }) turn.1)
+    goes (Serving w) d (Sweeping v) e did on = absurd did
+    goes (Sweeping w) d (Serving v) e did on = absurd did
+
+    -- and the last turn, which ended it
+    ends : (a : Post S T C) (x : DeskView) (b : Post S T C) (y : DeskView) (c : Post S T C) (z : DeskView) → HasGone a x b y
+        → DoesTurn told handed gives lets_go ticked b y c z → HasEnded c → HasChain told handed hands ticked a x c z
+    ends (Serving a) x (Serving b) y (Serving c) z p did ended = next (Serving a) x (Serving b) y (Serving c) z p (serving b y c z did)
+    ends (Sweeping a) x (Sweeping b) y (Sweeping c) z p did ended =
+        let turn = stopped ticked b.seconds b.ticker c.ticker (told b.clock) y (told c.clock) z c.ended ended did.1 did.2 in
+        let began = stand_of {S = S} {T = T} {C = C} told (Sweeping a) x in (
+          did.0 ∙ p.0,
+          p.1,
+          b.ticker,
+          p.2,
+          subst (λ (s : ℕ). ticked b.ticker s false c.ticker) p.0 turn.0,
+          subst (λ (d : DeskView). Chain Sweep p.1 began (record { desk = d; clock = told c.clock })) (sym turn.1.same)
+              (subst (λ (r : Readings). Chain Sweep p.1 began (record { desk = y; clock = r })) (sym turn.1.unread) p.3),
+        )
+    ends (Serving a) x (Sweeping b) y c z p did ended = absurd p
+    ends (Sweeping a) x (Serving b) y c z p did ended = absurd p
+    ends (Serving a) x (Serving b) y (Sweeping c) z p did ended = absurd did
+    ends (Sweeping a) x (Sweeping b) y (Serving c) z p did ended = absurd did
 
     -- the turns of a member to its end are a chain
     pub all_turns : (before : Post S T C) (old : DeskView) (after : Post S T C) (new : DeskView)
         → RunsToEnd (DoesTurn told handed gives lets_go ticked) HasEnded before old after new → HasChain told handed hands ticked before old after new
     all_turns before old after new run =
-        whole_run (DoesTurn told handed gives lets_go ticked) HasEnded (HasChain told handed hands ticked) still next each before old after new run
+        ends before old run.worker run.desk after new (front run.turns run.worker run.desk run.on) run.last run.ends
+      where
+        front : (n : ℕ) (w : Post S T C) (d : DeskView) → GoesOn (DoesTurn told handed gives lets_go ticked) HasEnded n before old w d → HasGone before old w d
+        front zero w d on =
+            subst (λ (v : Post S T C). HasGone before old v d) (sym on.0) (subst (λ (e : DeskView). HasGone before old before e) (sym on.1) (still before old))
+        front (suc n) w d on = next before old on.0 on.1 w d (front n on.0 on.1 on.2) (goes on.0 on.1 w d on.3 on.4)
 
   -- Of a member that serves, which was handed out no stream before: as many connections as it was handed out. It has
   -- one part of the ledger.
@@ -138,14 +195,17 @@ module _ {S T C : Type 0} (told : C → Readings) (handed : S → ℕ) (hands : 
   -- of the one that sweeps, which has none
   pub sweeping_chain : (cat : CatalogueView) (said : Numbers) (ticker : T) (i : ℕ) (w : Post S T C) (old : DeskView) (v : Post S T C) (new : DeskView)
       → said.workers ≡ i → IsPosted cat said ticker i w → HasChain told handed hands ticked w old v new
-      → (sweeps ticks : ℕ) × (sweeps ≤ ticks) × Asks ticked ticker said.sweep ticks × Chain Sweep sweeps (stand_of told w old) (stand_of told v new)
+      → (sweeps : ℕ) × ((before after : T) × Ticks ticked said.sweep sweeps ticker before × ticked before said.sweep false after)
+      × Chain Sweep sweeps (stand_of told w old) (stand_of told v new)
       × (part_of v ≡ 0) × (handed_of v handed ≡ 0)
   sweeping_chain cat said ticker i (Sweeping w) old (Sweeping v) new at post chain = (
     chain.1,
-    chain.2,
-    chain.3,
-    subst (λ (s : ℕ). Asks ticked ticker s chain.2) post.1
-        (subst (λ (t : T). Asks ticked t w.seconds chain.2) post.2 (v.ticker, chain.4)),
+    (
+      chain.2,
+      v.ticker,
+      subst (λ (s : ℕ). Ticks ticked s chain.1 ticker chain.2) post.1 (subst (λ (t : T). Ticks ticked w.seconds chain.1 t chain.2) post.2 chain.3),
+      subst (λ (s : ℕ). ticked chain.2 s false v.ticker) post.1 chain.4,
+    ),
     chain.5,
     refl,
     refl,

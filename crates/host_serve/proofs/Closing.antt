@@ -1,5 +1,5 @@
 -- The wall that is handed back.
-use Rattle.std.proofs.Common.{◌≡◌, ◌∙◌, ◌+◌, ◌<◌, ◌≤◌, ℕ, zero, suc, List, [], Option, length, slice_index_or, refl, sym, subst, ap, arith, append-nil}
+use Rattle.std.proofs.Common.{◌≡◌, ◌∙◌, ◌+◌, ◌<◌, ◌≤◌, ℕ, zero, suc, true, false, List, [], Option, length, slice_index_or, refl, sym, subst, ap, arith, append-nil}
 use Rattle.std.proofs.Math.Logic.{⊎_elim}
 use Rattle.std.proofs.lemmas.Bool.{cases_lt}
 use Rattle.std.specs.Prelude.{All}
@@ -22,7 +22,7 @@ use Rattle.rail_service.specs.Listeners.{Handing, HandingBy}
 use Rattle.host_words.specs.declared.serve.Serving.{Serving}
 use Rattle.host_serve.specs.declared.member.Post.{Post}
 use Rattle.host_serve.specs.Crews.{OnlyMet, AreReady, IsCrew, HasMetAll, HasRun, Held, of_member, sum_below}
-use Rattle.host_serve.specs.Turns.{FitsBooks, HasEnded, DoesTurn, HasChain, LettingGo, Readings, Stand, OneTurn, Asks, Chain, Connection, Sweep, clock_for, clock_of, handed_of, part_of, stand_of}
+use Rattle.host_serve.specs.Turns.{FitsBooks, HasEnded, DoesTurn, HasChain, LettingGo, Readings, Stand, OneTurn, TickingBy, Ticks, Chain, Connection, Sweep, clock_for, clock_of, handed_of, part_of, stand_of}
 use Rattle.host_serve.specs.Serve.{AllWorked, HasWorked, IsServedWall}
 use Rattle.host_serve.proofs.Chaining.{all_turns, chain_on, serving_chain, sweeping_chain}
 use Rattle.host_serve.proofs.Crewing.{begins, has_in, sum_more, sum_ones}
@@ -97,7 +97,7 @@ has_worked Does books n clock count old new history began_of ended_of number sta
 }
 
 module _ {S T C : Type 0} (handed : S → ℕ) (gives : HandingBy S) (lets_go : LettingGo S) (hands : Handing)
-    (only : (s : S) (stream sent : Option (List ℕ)) (t : S) → gives s stream sent t → hands stream sent) (told : C → Readings) (ticked : T → ℕ → T → Type 0) (cat : CatalogueView) (said : Serving) (ticker : T)
+    (only : (s : S) (stream sent : Option (List ℕ)) (t : S) → gives s stream sent t → hands stream sent) (told : C → Readings) (ticked : TickingBy T) (cat : CatalogueView) (said : Serving) (ticker : T)
     (clocks : List Readings) (books : BooksView) (old : List (Member (Post S T C))) (before after : Held) (first : DeskView) (member : Member (Post S T C))
     (crew : IsCrew FitsBooks books old) (ready : AreReady old handed told cat said ticker clocks) (count : length old ≡ said.workers + 1) (some : 1 ≤ said.workers)
     (run : HasRun FitsBooks (DoesTurn told handed gives lets_go ticked) HasEnded part_of (λ w. handed_of w handed) books old before after first member) where
@@ -112,7 +112,7 @@ module _ {S T C : Type 0} (handed : S → ℕ) (gives : HandingBy S) (lets_go : 
   last : said.workers < length old
   last = omega (arith, count)
 
-  swept : (sweeps ticks : ℕ) × (sweeps ≤ ticks) × Asks ticked ticker said.sweep ticks
+  swept : (sweeps : ℕ) × ((before after : T) × Ticks ticked said.sweep sweeps ticker before × ticked before said.sweep false after)
       × Chain Sweep sweeps (stand_of told (slice_index_or old said.workers member).worker (slice_index_or old said.workers member).desk)
       (stand_of told (slice_index_or run.crew said.workers member).worker (slice_index_or run.crew said.workers member).desk)
       × (part_of (slice_index_or run.crew said.workers member).worker ≡ 0) × (handed_of (slice_index_or run.crew said.workers member).worker handed ≡ 0)
@@ -136,13 +136,13 @@ module _ {S T C : Type 0} (handed : S → ℕ) (gives : HandingBy S) (lets_go : 
   parts_sum : sum_below (of_member part_of run.crew member) (length run.crew) ≡ said.workers
   parts_sum =
       let ones = sum_ones (of_member part_of run.crew member) said.workers (λ i less. (serves i less).0) in
-      let none = swept.5 in
+      let none = swept.3 in
       let at : suc said.workers ≡ length run.crew = omega (arith, count, run.count) in
       subst (λ (n : ℕ). sum_below (of_member part_of run.crew member) n ≡ said.workers) at (omega (arith, ones, none))
 
   handed_sum : sum_below (of_member (λ w. handed_of w handed) run.crew member) (length run.crew) ≡ sum_below (of_member (λ w. handed_of w handed) run.crew member) said.workers
   handed_sum =
-      let none = swept.6 in
+      let none = swept.4 in
       let at : suc said.workers ≡ length run.crew = omega (arith, count, run.count) in
       subst (λ (n : ℕ). sum_below (of_member (λ w. handed_of w handed) run.crew member) n ≡ sum_below (of_member (λ w. handed_of w handed) run.crew member) said.workers) at
       (omega (arith, none))
@@ -172,7 +172,8 @@ module _ {S T C : Type 0} (handed : S → ℕ) (gives : HandingBy S) (lets_go : 
   served_by more zero = handed_of member.worker handed + more
   served_by more (suc i) = handed_of (slice_index_or run.crew (suc i) member).worker handed
 
-  module _ (other new : DeskView) (clock later : Readings) where
+  module _ (other new : DeskView) (clock later : Readings) (asks : ℕ → ℕ → Type 0)
+      (asked : (seconds n : ℕ) (before after : T) → Ticks ticked seconds n ticker before → ticked before seconds false after → asks seconds n) where
     entries : HasMet first other new → (i : ℕ) → 1 ≤ i → i < length old
         → (own new.seen (i + 1) ≡ own (slice_index_or run.crew i member).desk.seen (i + 1)) × IsPrefix (slice_index_or run.crew i member).desk.seen new.seen
     entries met i low lt = has_in books run.crew first other new run.met met i member low (behind i lt)
@@ -183,16 +184,14 @@ module _ {S T C : Type 0} (handed : S → ℕ) (gives : HandingBy S) (lets_go : 
     pub all_worked : (more amount total : ℕ) → before.amount ≡ 0 → amount ≡ after.amount + handed_of member.worker handed → total ≡ amount + more
         → clock ≡ told (clock_of member.worker) → KeepsDesk member.desk other
         → Chain (Connection hands cat) more (record { desk = member.desk; clock = clock }) (record { desk = other; clock = later })
-        → IsOf books other → HasMet first other new → AllWorked cat books said clocks (Asks ticked ticker) hands total new.seen
+        → IsOf books other → HasMet first other new → AllWorked cat books said clocks asks hands total new.seen
     all_worked more amount total began has sums read kept left of met = record {
       served = served_by more;
       serving = serving;
       together = together;
       sweeps = swept.0;
       sweeping = sweeping;
-      ticks = swept.1;
-      enough = swept.2;
-      asked = swept.3;
+      asked = asked said.sweep swept.0 swept.1.0 swept.1.1 swept.1.2 swept.1.3;
     }
       where
         together : sum_below (served_by more) said.workers ≡ total
@@ -211,7 +210,7 @@ module _ {S T C : Type 0} (handed : S → ℕ) (gives : HandingBy S) (lets_go : 
             let v = slice_index_or run.crew i member in
             has_worked Sweep books (i + 1) (clock_for clocks i) swept.0 (stand_of told w.worker w.desk) (stand_of told v.worker v.desk) new.seen
             (crew i member last).desk.own (run.are i member (behind i last)).desk.own (crew i member last).desk.number (ready i member last).clock
-            (ready i member last).none (run.keeps i member last) swept.4 (entries met i some last).0 (entries met i some last).1
+            (ready i member last).none (run.keeps i member last) swept.2 (entries met i some last).0 (entries met i some last).1
 
         later_one : (i : ℕ) → 1 ≤ i → i < said.workers
             → HasWorked (Connection hands cat) books new.seen (i + 1) (clock_for clocks i) (handed_of (slice_index_or run.crew i member).worker handed)

@@ -1,4 +1,5 @@
 pub mod Chaining
+pub mod Overs
 pub mod Crewing
 pub mod Closing
 pub mod Ending

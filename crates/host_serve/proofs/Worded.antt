@@ -48,8 +48,6 @@ module _ (here there : Handing) (goes : (stream sent : Option (List ℕ)) → he
     together = all.together;
     sweeps = all.sweeps;
     sweeping = all.sweeping;
-    ticks = all.ticks;
-    enough = all.enough;
     asked = all.asked;
   }
 

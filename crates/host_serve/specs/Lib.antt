@@ -1,4 +1,5 @@
 pub mod Risen
+pub mod Over
 pub mod Turns
 pub mod Crews
 pub mod Ends

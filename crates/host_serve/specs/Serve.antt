@@ -62,8 +62,8 @@ pub record HasWorked (Does : OneTurn) (books : BooksView) (history : List Entry)
   pub entries : own history n ≡ own ended.desk.seen n
 
 -- In the history the desks 1 to the number of workers served connections, so many all together, and the one behind them
--- swept, each by its own of the clocks. For each sweep the ticker was asked once at least for a tick, and each time
--- after the words' seconds.
+-- swept, each by its own of the clocks. It made as many sweeps as the ticker ticked, each time after the words'
+-- seconds, and the ticker was then asked once more.
 pub record AllWorked (cat : CatalogueView) (books : BooksView) (said : Serving) (clocks : List Readings) (asks : ℕ → ℕ → Type 0) (hands : Handing) (total : ℕ)
     (history : List Entry) : Type 0 where
   pub served : ℕ → ℕ
@@ -71,9 +71,7 @@ pub record AllWorked (cat : CatalogueView) (books : BooksView) (said : Serving) 
   pub together : sum_below served said.workers ≡ total
   pub sweeps : ℕ
   pub sweeping : HasWorked Sweep books history (said.workers + 1) (clock_for clocks said.workers) sweeps
-  pub ticks : ℕ
-  pub enough : sweeps ≤ ticks
-  pub asked : asks said.sweep ticks
+  pub asked : asks said.sweep sweeps
 
 -- The books were finished by their first desk, which had parted so many others and had joined each: this is the wall
 -- that was left, and in its history is what that desk had seen.
@@ -101,7 +99,7 @@ pub record IsServedWall (cat : CatalogueView) (plan : Layout) (said : Serving) (
   pub no_others : (n : ℕ) → said.workers + 1 < n → own wall.history n ≡ []
 
 -- what the listener told and how often it had failed, before and after; what the clocks told, and whether the ticker
--- was asked for a tick after so many seconds so often; and the wall
+-- ticked so often, each time after so many seconds, and was then asked once more; and the wall
 pub record Left : Type 1 where
   pub faults_before : ℕ
   pub before : ListenerView

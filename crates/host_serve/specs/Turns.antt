@@ -1,8 +1,8 @@
 -- What the turns of members do.
-use Rattle.std.specs.Prelude.{◌≡◌, ◌<◌, ◌≤◌, ◌+◌, ◌-◌, ℕ, zero, suc, Bool, true, false, List, [], ◌∷◌, Option, None, length, slice_index_or}
+use Rattle.std.specs.Prelude.{◌≡◌, ◌<◌, ◌≤◌, ◌+◌, ◌-◌, ℕ, zero, suc, Bool, true, false, not, ◌⊎◌, List, [], ◌∷◌, Option, None, length, slice_index_or}
 use Rattle.session_loop.specs.declared.end.ConnEnd.{ConnEnd}
 use Rattle.claim_rule.specs.Rule.{BooksView, DeskView}
-use Rattle.claim_rule.specs.Calls.{ShapeBy}
+use Rattle.claim_rule.specs.Calls.{AddsStepsBy}
 use Rattle.rail_catalogue.specs.Contents.{CatalogueView, legs_in}
 use Rattle.expiry_sweeper.specs.AllRows.{Sweeps}
 use Rattle.booking_rows.specs.declared.swept.Swept.{Swept}
@@ -20,14 +20,29 @@ Readings = Option (ℕ → ℕ)
 abbrev pub clock_for : List Readings → ℕ → Readings
 clock_for clocks i = slice_index_or clocks (length clocks - (i + 1)) None
 
--- from the first ticker to the last it was asked for a tick so often, each time after so many seconds
-abbrev pub Ticks : {T : Type 0} → (T → ℕ → T → Type 0) → ℕ → ℕ → T → T → Type 0
-Ticks ticked seconds zero first last = last ≡ first
-Ticks {T} ticked seconds (suc n) first last = (mid : T) × Ticks ticked seconds n first mid × ticked mid seconds last
+-- what one call of a ticker shows: the ticker before it, after how many seconds it was asked for a tick, whether it
+-- ticked, and the ticker after it
+abbrev pub TickingBy : Type 0 → Type 1
+TickingBy T = T → ℕ → Bool → T → Type 0
 
--- so often it was asked, whatever ticker it then was
-abbrev pub Asks : {T : Type 0} → (T → ℕ → T → Type 0) → T → ℕ → ℕ → Type 0
-Asks {T} ticked first seconds n = (last : T) × Ticks ticked seconds n first last
+-- from the first ticker to the last it was asked so often, each time after so many seconds, and each time it ticked
+abbrev pub Ticks : {T : Type 0} → TickingBy T → ℕ → ℕ → T → T → Type 0
+Ticks ticked seconds zero first last = last ≡ first
+Ticks {T} ticked seconds (suc n) first last = (mid : T) × Ticks ticked seconds n first mid × ticked mid seconds true last
+
+-- it ticked so often, and was then asked once more
+abbrev pub Asks : {T : Type 0} → TickingBy T → T → ℕ → ℕ → Type 0
+Asks {T} ticked first seconds n =
+    (before after : T) × (answer : Bool) × Ticks ticked seconds n first before × ticked before seconds answer after
+
+-- A ticker was asked once, and this is what was made of its answer: a tick only where it ticked, and none only where it
+-- didn't, or where the other thing was shown.
+pub record TicksUntil {T : Type 0} (ticked : TickingBy T) (Over : Type 0) (old : T) (seconds : ℕ) (answer : Bool) (new : T)
+    : Type 0 where
+  pub told : Bool
+  pub asked : ticked old seconds told new
+  pub goes_on : answer ≡ true → told ≡ true
+  pub ends : answer ≡ false → (told ≡ false) ⊎ ∥ Over ∥₁
 
 -- the books have the catalogue's places and rows
 pub record HasCatalogue (books : BooksView) (cat : CatalogueView) : Type 0 where
@@ -78,7 +93,7 @@ pub record SweepsOnce (clock : Readings) (old : DeskView) (later : Readings) (ne
   pub moment : ℕ
   pub reading : IsReading clock moment later
   pub swept : Swept
-  pub entries : ShapeBy (Sweeps old.layout.rows moment swept) old new
+  pub entries : AddsStepsBy (Sweeps old.layout.rows moment swept) old new
 
 -- nothing was done
 pub record Rests (clock : Readings) (old : DeskView) (later : Readings) (new : DeskView) : Type 0 where
@@ -159,25 +174,25 @@ module _ {S T C : Type 0} where
 
   -- A member stays at its post, a serving one with its catalogue, and serves the stream that it is handed out in this
   -- turn, which it lets go as it was when its connection had ended. A sweeping one asks its ticker once for a tick,
-  -- after its seconds.
-  abbrev pub DoesTurn : (C → Readings) → (S → ℕ) → HandingBy S → LettingGo S → (T → ℕ → T → Type 0) → Post S T C → DeskView → Post S T C → DeskView
+  -- after its seconds, and sweeps where it ticks, and ends where it doesn't.
+  abbrev pub DoesTurn : (C → Readings) → (S → ℕ) → HandingBy S → LettingGo S → TickingBy T → Post S T C → DeskView → Post S T C → DeskView
       → Type 0
   DoesTurn told handed hands lets_go ticked (Serving w) old (Serving v) new =
       (v.common.cat.now ≡ w.common.cat.now) × Counts v.ended (handed w.streams) (handed v.streams)
       × ServesTurn (Passes hands lets_go w.streams v.streams) w.common.cat.now (told w.clock) old (told v.clock) new v.ended
   DoesTurn told handed hands lets_go ticked (Sweeping w) old (Sweeping v) new =
-      (v.seconds ≡ w.seconds) × ticked w.ticker w.seconds v.ticker × SweepsTurn (told w.clock) old (told v.clock) new v.ended
+      (v.seconds ≡ w.seconds) × ticked w.ticker w.seconds (not v.ended) v.ticker × SweepsTurn (told w.clock) old (told v.clock) new v.ended
   DoesTurn told handed hands lets_go ticked (Serving w) old (Sweeping v) new = ⊥
   DoesTurn told handed hands lets_go ticked (Sweeping w) old (Serving v) new = ⊥
 
   -- All turns of a member up to its end are a chain: of as many connections of its catalogue as it was handed out
-  -- streams, which were handed out so, or of sweeps, with a tick for each at least.
-  abbrev pub HasChain : (C → Readings) → (S → ℕ) → Handing → (T → ℕ → T → Type 0) → Post S T C → DeskView → Post S T C → DeskView → Type 0
+  -- streams, which were handed out so, or of as many sweeps as its ticker ticked, until it didn't.
+  abbrev pub HasChain : (C → Readings) → (S → ℕ) → Handing → TickingBy T → Post S T C → DeskView → Post S T C → DeskView → Type 0
   HasChain told handed hands ticked (Serving w) old (Serving v) new =
       (v.common.cat.now ≡ w.common.cat.now) × (served : ℕ) × (handed v.streams ≡ handed w.streams + served)
       × Chain (Connection hands w.common.cat.now) served (stand_of told (Serving w) old) (stand_of told (Serving v) new)
   HasChain told handed hands ticked (Sweeping w) old (Sweeping v) new =
-      (v.seconds ≡ w.seconds) × (sweeps ticks : ℕ) × (sweeps ≤ ticks) × Ticks ticked w.seconds ticks w.ticker v.ticker
+      (v.seconds ≡ w.seconds) × (sweeps : ℕ) × (before : T) × Ticks ticked w.seconds sweeps w.ticker before × ticked before w.seconds false v.ticker
       × Chain Sweep sweeps (stand_of told (Sweeping w) old) (stand_of told (Sweeping v) new)
   HasChain told handed hands ticked (Serving w) old (Sweeping v) new = ⊥
   HasChain told handed hands ticked (Sweeping w) old (Serving v) new = ⊥

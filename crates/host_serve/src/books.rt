@@ -12,6 +12,7 @@ ghost use Rattle.cold_store.specs.Tidy.{AreSucceeded};
 ghost use Rattle.worker_pool.specs.Turns.{KeepsDesk};
 ghost use Rattle.host_serve.specs.declared.shared_listener.ListenerEnd.TheVariants as ended;
 ghost use Rattle.host_serve.specs.Crews.{IsCrew, IsFirst, HasRun};
+ghost use Rattle.host_serve.specs.Over.{EndsOver};
 ghost use Rattle.host_serve.specs.Serve.{BooksEnd};
 ghost use Rattle.host_serve.specs.Turns.{HasCatalogue, Asks, Chain, Connection};
 
@@ -23,15 +24,16 @@ use crate::letting::Dropping;
 use crate::meeting::meet_others;
 use crate::member::Common;
 use crate::shared_listener::{ListenerEnd, Named, SharedListener};
+use crate::streams::Door;
+use crate::until::Until;
 use claim_rule::{Books, Desk, Wall};
 use host_words::Serving;
 use rail_catalogue::Catalogue;
 use rail_io::{Clock, Ticker};
 use rail_service::Listener;
 use std::alloc::Global;
-use std::sync::atomic::AtomicBool;
 use std::sync::ledger::{Blank, Ledger, Share};
-use std::sync::{Mutex, Wait};
+use std::sync::{Mutex, OnceLock, Wait};
 use std::thread::Threads;
 use worker_pool::{Member, Open, run_workers};
 
@@ -125,7 +127,7 @@ fn close(books: Books, first: Desk) -> Wall
 /// Serves the listener's streams by a crew, and closes the books.
 pub fn run_books<
     'x,
-    N: Named + Send,
+    N: Named + Send + Sync,
     R: Threads + Wait + Sync,
     L: Listener + Drop + Send,
     T: Ticker + Drop + Send,
@@ -157,6 +159,7 @@ where
     requires port { N.port ≡ said.port }
     requires limit { N.limit ≡ said.connections }
     requires gives { GivesOnly L.becomes L.hands listener N.gives }
+    requires over { EndsOver L.told L.faults L.becomes N.limit N.faults N.over listener }
     requires workers { 1 ≤ said.workers }
     ensures never_falls { L.faults listener ≤ L.faults result.listener }
     ensures ends { BooksEnd cat.now books.layout said (map C.told clocks.items) (Asks T.ticked ticker)
@@ -170,19 +173,23 @@ where
             wall: None,
         };
     };
-    let closed = AtomicBool::new(false);
     let (book, mut rest) = blank.open::<N>();
-    let shared: Mutex<SharedListener<L, N>> = Mutex::new(SharedListener::new(listener, book));
-    let common = Common {
-        alloc,
-        cat,
-        closed: &closed,
+    let door = Door {
+        shared: Mutex::new(SharedListener::new(listener, book)),
+        mark: OnceLock::new(),
+    };
+    let common = Common { alloc, cat };
+    let shared = &door;
+    let ticker = Until {
+        ticker,
+        door: shared,
     };
     let crew = crew_of(
-        rt, &shared, common, &books, &mut first, said, ticker, clocks, &mut rest, crew,
+        rt, shared, common, &books, &mut first, said, ticker, clocks, &mut rest, crew,
     );
     let Member { mut desk, worker } = run_crew(rt, &books, &mut first, crew, &mut rest);
     let mut clock = worker.into_clock(&mut rest);
+    let Door { shared, mark: _ } = door;
     let (mut listener, end) = shared.into_inner().into_listener(&mut rest);
     let all = finish_listener::<N, L, C>(
         common,

@@ -7,15 +7,15 @@ ghost use Rattle.host_serve.specs.Turns.{FitsBooks, HasCatalogue};
 
 use crate::member::{Common, Post};
 use crate::serving::Server;
-use crate::shared_listener::{Named, SharedListener};
-use crate::streams::LockedStreams;
+use crate::shared_listener::Named;
+use crate::streams::{Door, LockedStreams};
 use crate::sweeping::Sweeper;
 use claim_rule::{Books, Desk};
 use host_words::Serving;
 use rail_io::{Clock, Ticker};
 use rail_service::Listener;
+use std::sync::Wait;
 use std::sync::ledger::Share;
-use std::sync::{Mutex, Wait};
 use worker_pool::Member;
 
 /// The members at the streams of a shared listener.
@@ -26,7 +26,7 @@ pub type Crew<'s, R, L, N, T, C> = Vec<Member<Post<'s, LockedStreams<'s, R, L, N
 /// They fill a crew that has room for them, so that this can't fail once there is a listener to share.
 pub fn crew_of<'s, R: Wait, L: Listener + Drop, N: Named, T: Ticker + Drop, C: Clock + Drop>(
     rt: &'s R,
-    shared: &'s Mutex<SharedListener<L, N>>,
+    door: &'s Door<L, N>,
     common: Common<'s>,
     books: &Books,
     first: &mut Desk,
@@ -55,7 +55,8 @@ pub fn crew_of<'s, R: Wait, L: Listener + Drop, N: Named, T: Ticker + Drop, C: C
         let worker = Post::Serving(Server {
             streams: LockedStreams {
                 rt,
-                shared,
+                door,
+                marked: None,
                 share: share.split_off(1, 0),
             },
             common,
@@ -70,7 +71,6 @@ pub fn crew_of<'s, R: Wait, L: Listener + Drop, N: Named, T: Ticker + Drop, C: C
     let worker = Post::Sweeping(Sweeper {
         ticker,
         seconds: said.sweep,
-        closed: common.closed,
         clock: clocks.pop().unwrap(),
         ended: false,
     });

@@ -7,7 +7,7 @@ use host_catalogue::LoadFault;
 use host_notes::CommandEnd;
 
 /// Why serving ended.
-#[derive(Debug, Drop)]
+#[derive(Drop)]
 pub enum ServeOutcome {
     /// The words are none of the command.
     Refused,

@@ -10,7 +10,6 @@ use rail_io::{Clock, Ticker};
 use rail_service::Listener;
 use std::alloc::Global;
 use std::sync::Wait;
-use std::sync::atomic::AtomicBool;
 use std::sync::ledger::Share;
 use worker_pool::{TurnEnd, Worker};
 
@@ -19,15 +18,13 @@ use worker_pool::{TurnEnd, Worker};
 pub struct Common<'s> {
     pub alloc: Global,
     pub cat: &'s Catalogue,
-    /// The mark that says that no more streams are handed out.
-    pub closed: &'s AtomicBool,
 }
 
 /// A member's post: it serves, or it sweeps.
 #[derive(Drop)]
 pub enum Post<'s, S, T, C> {
     Serving(Server<'s, S, C>),
-    Sweeping(Sweeper<'s, T, C>),
+    Sweeping(Sweeper<T, C>),
 }
 
 impl<R, L: Listener + Drop, N: Named, T: Drop, C> Post<'_, LockedStreams<'_, R, L, N>, T, C> {
@@ -42,8 +39,10 @@ impl<R, L: Listener + Drop, N: Named, T: Drop, C> Post<'_, LockedStreams<'_, R, 
     {
         match self {
             Post::Serving(server) => {
-                all.merge(server.streams.share);
-                server.clock
+                let Server { streams, clock, .. } = server;
+                let LockedStreams { share, .. } = streams;
+                all.merge(share);
+                clock
             }
             Post::Sweeping(sweeper) => sweeper.clock,
         }

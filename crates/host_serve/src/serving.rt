@@ -11,7 +11,6 @@ use crate::stream::serve_stream;
 use crate::streams::Streams;
 use claim_rule::{Books, Desk};
 use rail_io::Clock;
-use std::sync::atomic::Ordering;
 use worker_pool::TurnEnd;
 
 /// Serves the streams that it is handed out, one a turn, at its clock's moments.
@@ -25,8 +24,8 @@ pub struct Server<'s, S, C> {
 }
 
 impl<S: Streams, C: Clock> Server<'_, S, C> {
-    /// Serves the stream that it is handed next to its connection's end, and lets it go as it is then; or ends, and
-    /// sets the mark, where there is none.
+    /// Serves the stream that it is handed next to its connection's end, and lets it go as it is then; or ends, where
+    /// there is none, and all may see it.
     pub fn take_turn(&mut self, books: &Books, desk: &mut Desk) -> TurnEnd
         requires has { HasCatalogue books.now self.old.common.cat.now }
         requires own { IsOf books.now desk.old }
@@ -39,10 +38,10 @@ impl<S: Streams, C: Clock> Server<'_, S, C> {
             self.old.common.cat.now (C.told self.old.clock) desk.old
             (C.told self.new.clock) desk.new self.new.ended }
         ensures counts { Counts self.new.ended (S.handed self.old.streams) (S.handed self.new.streams) }
+        ensures tells { self.new.ended ≡ true → S.tells self.new.streams }
         ensures end { (result ≡ End) ↔ (self.new.ended ≡ true) }
     {
         let Some(waiting) = self.streams.next_stream() else {
-            self.common.closed.store(true, Ordering::SeqCst);
             self.ended = true;
             return TurnEnd::End;
         };

@@ -2,6 +2,7 @@
 ghost use Rattle.std.specs.Prelude.{◌≡◌, ◌≢◌, true, ◌<◌, ◌≤◌, ◌+◌, ℕ, IfSome, IfNone};
 ghost use Rattle.rail_io.specs.Faults.{Rose};
 ghost use Rattle.rail_service.specs.Listeners.{GivesOnly, Handing, IsGiven};
+ghost use Rattle.host_serve.specs.Over.{EndsOver};
 ghost use Rattle.host_serve.specs.Risen.{has_risen};
 ghost use Rattle.host_serve.specs.declared.shared_listener.ListenerEnd.TheVariants.{Open, Closed, Failed};
 
@@ -10,7 +11,8 @@ use std::marker::Brand;
 use std::sync::ledger::{Book, Ledger, Share};
 
 /// What is named of a listener while it stands behind a lock: its count of faults when it was handed in, its port and
-/// its limit, what its streams and their sinks may tell; and the ledger in which those who take its streams count them.
+/// its limit, what its streams and their sinks may tell, and what is shown once it hands out no more; and the ledger in
+/// which those who take its streams count them.
 pub trait Named: Ledger {
     ghost faults: { ℕ };
 
@@ -19,6 +21,8 @@ pub trait Named: Ledger {
     ghost limit: { ℕ };
 
     ghost gives: { Handing };
+
+    ghost over: { Type 0 };
 }
 
 impl Named for Brand {
@@ -29,10 +33,12 @@ impl Named for Brand {
     ghost limit = { 0 };
 
     ghost gives = { λ _ _. ⊥ };
+
+    ghost over = { ⊥ };
 }
 
 /// How a shared listener ended.
-#[derive(Clone, Copy, Debug, PartialEq, Eq)]
+#[derive(Clone, Copy, PartialEq, Eq)]
 pub enum ListenerEnd {
     /// It hasn't ended.
     Open,
@@ -54,6 +60,7 @@ pub struct SharedListener<L: Listener + Drop, N: Named> {
     ghost port: { (L.told listener).port ≡ N.port },
     ghost limit: { (L.told listener).limit ≡ N.limit },
     ghost gives: { GivesOnly L.becomes L.hands listener N.gives },
+    ghost over: { EndsOver L.told L.faults L.becomes N.limit N.faults N.over listener },
     ghost within: { (L.told listener).handed ≤ N.limit },
     ghost never_falls: { N.faults ≤ L.faults listener },
     ghost steady: { end ≢ Failed → L.faults listener ≡ N.faults },
@@ -69,6 +76,7 @@ impl<L: Listener + Drop, N: Named> SharedListener<L, N> {
         requires port { (L.told listener).port ≡ N.port }
         requires limit { (L.told listener).limit ≡ N.limit }
         requires gives { GivesOnly L.becomes L.hands listener N.gives }
+        requires over { EndsOver L.told L.faults L.becomes N.limit N.faults N.over listener }
         requires within { (L.told listener).handed ≤ N.limit }
         requires faults { L.faults listener ≡ N.faults }
         ensures listener { result.listener ≡ listener }
@@ -81,14 +89,15 @@ impl<L: Listener + Drop, N: Named> SharedListener<L, N> {
         }
     }
 
-    /// The next stream, which is counted in the share. None exactly where the listener has then ended; one that has
-    /// ended isn't asked again.
+    /// The next stream, which is counted in the share. None exactly where the listener has then ended, which is shown;
+    /// one that has ended isn't asked again.
     pub fn next(&mut self, share: &mut Share<N>) -> Option<Waiting<L::Input, L::Output>>
         requires part { 0 < share.old.parts }
         ensures some { IfSome result (λ _. (self.new.end ≡ Open) × (share.new.amount ≡ share.old.amount + 1)
             × ((L.told self.new.listener).handed ≡ (L.told self.old.listener).handed + 1)) }
         ensures gives { IfSome result (λ w. IsGiven N.gives (L.Input.told w.input) (L.Output.told w.output)) }
         ensures none { IfNone result ((self.new.end ≢ Open) × (share.new.amount ≡ share.old.amount)) }
+        ensures over { IfNone result ∥ N.over ∥₁ }
         ensures parts { share.new.parts ≡ share.old.parts }
         ensures ended { self.old.end ≢ Open → self.new ≡ self.old }
     {

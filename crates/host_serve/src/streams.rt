@@ -1,13 +1,15 @@
 // Where serving members take their streams.
-ghost use Rattle.std.specs.Prelude.{◌≡◌, ◌+◌, ℕ, IfSome, IfNone};
+ghost use Rattle.std.specs.Prelude.{◌≡◌, ◌+◌, ℕ, IfSome, IfNone, IsSomeAnd};
 ghost use Rattle.rail_service.specs.Listeners.{HandingBy, IsGiven};
 ghost use Rattle.host_serve.specs.Turns.{LettingGo};
 
+use crate::letting::drop_stream;
+use crate::mark::{Mark, Over};
 use crate::shared_listener::{Named, SharedListener};
 use rail_io::{Sink, Source};
 use rail_service::{Finished, Listener, Waiting};
 use std::sync::ledger::Share;
-use std::sync::{Mutex, Wait};
+use std::sync::{Mutex, OnceToken, Wait};
 
 /// Hands out streams one after the other, and none once it has ended; and takes each back whose connection has ended,
 /// to let it go.
@@ -31,12 +33,16 @@ pub trait Streams {
     /// the stream as it then was.
     ghost lets_go: { LettingGo Self };
 
-    /// The next stream, for which it may wait, or none, where there will be no more.
+    /// That all may see that there will be no more streams.
+    ghost tells: { Self → Type 0 };
+
+    /// The next stream, for which it may wait, or none, where there will be no more, and all may see it.
     fn next_stream(&mut self) -> Option<Waiting<Self::Input, Self::Output>>
         ensures some { IfSome result (λ _. handed self.new ≡ handed self.old + 1) }
         ensures hands { IfSome result (λ w.
             hands self.old (Self.Input.told w.input) (Self.Output.told w.output) self.new) }
-        ensures none { IfNone result (handed self.new ≡ handed self.old) };
+        ensures none { IfNone result (handed self.new ≡ handed self.old) }
+        ensures tells { IfNone result (tells self.new) };
 
     /// Lets go of a stream whose connection has ended, which closes it.
     fn let_go(&mut self, finished: Finished<Self::Input, Self::Output>)
@@ -45,12 +51,20 @@ pub trait Streams {
         ensures handed { handed self.new ≡ handed self.old };
 }
 
+/// Where several members take their streams: a listener behind a lock, and beside it the mark that it hands out no more.
+#[derive(Drop)]
+pub struct Door<L: Listener + Drop, N: Named> {
+    pub shared: Mutex<SharedListener<L, N>>,
+    pub mark: Mark<N>,
+}
+
 /// The streams of a listener behind a lock, which is held only while a stream is taken. Those that were taken here are
-/// counted in the share.
+/// counted in the share. Where there are no more, the mark was seen set.
 #[derive(Drop)]
 pub struct LockedStreams<'s, R, L: Listener + Drop, N: Named> {
     pub rt: &'s R,
-    pub shared: &'s Mutex<SharedListener<L, N>>,
+    pub door: &'s Door<L, N>,
+    pub marked: Option<OnceToken<'s, Over<N>>>,
     pub share: Share<N>,
     ghost one_part: { share.parts ≡ 1 },
 }
@@ -66,14 +80,22 @@ impl<R: Wait, L: Listener + Drop, N: Named> Streams for LockedStreams<'_, R, L, 
 
     ghost lets_go = { λ old _ _ new. new ≡ old };
 
+    ghost tells = { λ s. IsSomeAnd s.marked (λ t. t.of ≡ s.door.now.mark.id) };
+
     fn next_stream(&mut self) -> Option<Waiting<L::Input, L::Output>> {
-        self.shared.lock(self.rt).next(&mut self.share)
+        let next = self.door.shared.lock(self.rt).next(&mut self.share);
+        if next.is_none() {
+            self.marked = Some(match self.door.mark.try_insert(self.rt, Over::new()) {
+                Ok(token) | Err((token, _)) => token,
+            });
+        }
+        next
     }
 
     fn let_go(&mut self, finished: Finished<L::Input, L::Output>)
         ensures lets_go { self.new ≡ self.old }
         ensures handed { self.new.share.amount ≡ self.old.share.amount }
     {
-        let _closed = finished;
+        drop_stream(finished);
     }
 }

@@ -1,5 +1,5 @@
 // The member that sweeps.
-ghost use Rattle.std.specs.Prelude.{◌≡◌, ◌↔◌, true};
+ghost use Rattle.std.specs.Prelude.{◌≡◌, ◌↔◌, true, not};
 ghost use Rattle.claim_rule.specs.Desks.{IsOf};
 ghost use Rattle.claim_rule.specs.Out.{IsTidy};
 ghost use Rattle.worker_pool.specs.Turns.{KeepsDesk};
@@ -9,24 +9,21 @@ ghost use Rattle.host_serve.specs.Turns.{SweepsTurn};
 use claim_rule::{Books, Desk};
 use expiry_sweeper::sweep;
 use rail_io::{Clock, Ticker};
-use std::sync::atomic::{AtomicBool, Ordering};
 use worker_pool::TurnEnd;
 
-/// Sweeps all rows at each tick, at its clock's moment, until the ticker ends or the mark is set.
+/// Sweeps all rows at each tick, at its clock's moment, until the ticker ends.
 #[derive(Drop)]
-pub struct Sweeper<'s, T, C> {
+pub struct Sweeper<T, C> {
     pub ticker: T,
     /// The seconds from one tick to the next.
     pub seconds: u32,
-    /// The mark that serving members set.
-    pub closed: &'s AtomicBool,
     pub clock: C,
-    /// Whether the ticker has ended, or the mark was seen.
+    /// Whether the ticker has ended.
     pub ended: bool,
 }
 
-impl<T: Ticker, C: Clock> Sweeper<'_, T, C> {
-    /// Waits for the next tick, for which the ticker is asked once, and sweeps once; or ends.
+impl<T: Ticker, C: Clock> Sweeper<T, C> {
+    /// Waits for the next tick, for which the ticker is asked once, and sweeps once where it ticks; else it ends.
     pub fn take_turn(&mut self, books: &Books, desk: &mut Desk) -> TurnEnd
         requires own { IsOf books.now desk.old }
         requires tidy { IsTidy desk.old }
@@ -34,11 +31,11 @@ impl<T: Ticker, C: Clock> Sweeper<'_, T, C> {
         ensures tidy { IsTidy desk.new }
         ensures keeps { KeepsDesk desk.old desk.new }
         ensures turn { SweepsTurn (C.told self.old.clock) desk.old (C.told self.new.clock) desk.new self.new.ended }
-        ensures ticked { T.ticked self.old.ticker self.old.seconds self.new.ticker }
+        ensures ticked { T.ticked self.old.ticker self.old.seconds (not self.new.ended) self.new.ticker }
         ensures interval { self.new.seconds ≡ self.old.seconds }
         ensures end { (result ≡ End) ↔ (self.new.ended ≡ true) }
     {
-        if !self.ticker.next_tick(self.seconds) || self.closed.load(Ordering::SeqCst) {
+        if !self.ticker.next_tick(self.seconds) {
             self.ended = true;
             return TurnEnd::End;
         }

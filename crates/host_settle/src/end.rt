@@ -6,7 +6,7 @@ use host_catalogue::LoadFault;
 use host_notes::CommandEnd;
 
 /// How a settlement ended.
-#[derive(Debug, Drop)]
+#[derive(Drop)]
 pub enum SettleEnd {
     /// The table is written.
     Written,

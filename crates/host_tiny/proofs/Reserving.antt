@@ -10,8 +10,8 @@ use Rattle.history_model.specs.declared.entry.Step.{Step}
 use Rattle.history_model.specs.declared.phase.Phase.TheVariants.{Making}
 use Rattle.history_model.specs.Booking.{Booking, Layout, State, present}
 use Rattle.claim_rule.specs.Rule.{BooksView, DeskView, state_seen}
-use Rattle.claim_rule.specs.Desks.{IsOf, Shape}
-use Rattle.claim_rule.specs.Calls.{ShapeBy}
+use Rattle.claim_rule.specs.Desks.{IsOf, AddsSteps}
+use Rattle.claim_rule.specs.Calls.{AddsStepsBy}
 use Rattle.claim_rule.specs.Holds.{HoldView, held as item_of}
 use Rattle.claim_rule.specs.Out.{HoldsNone, IsHolding}
 use Rattle.booking_rows.specs.Starts.{StartsHold}
@@ -72,7 +72,7 @@ candidates_fit legs places books desk span run fits k d below =
 -- ---- the start
 
 -- no row was left
-pub full : (legs : ℕ) (places : List PlaceNo) (books : BooksView) (old new : DeskView) → IsRun legs places books old → ShapeBy (StartsHold old new None) old new
+pub full : (legs : ℕ) (places : List PlaceNo) (books : BooksView) (old new : DeskView) → IsRun legs places books old → AddsStepsBy (StartsHold old new None) old new
     → (1024 ≤ length (reserved old)) × (state_seen new ≡ state_seen old) × IsAlone new
 full legs places books old new run did =
     let s = state_seen old in
@@ -90,7 +90,7 @@ pub record Begun (old new : DeskView) (settled : IsSettled (state_seen old)) (ro
   pub free : (place : ℕ) (span : Interval) → IsFreeAt (state_seen new) span place ↔ IsFree (reserved old) place span
 
 pub begun : (legs : ℕ) (places : List PlaceNo) (books : BooksView) (old new : DeskView) (hold : HoldView) → (run : IsRun legs places books old)
-    → ShapeBy (StartsHold old new (Some hold.row)) old new → IsHolding new hold → IsOf books new → Begun old new run.settled hold.row
+    → AddsStepsBy (StartsHold old new (Some hold.row)) old new → IsHolding new hold → IsOf books new → Begun old new run.settled hold.row
 begun legs places books old new hold run did holding own =
     let s = state_seen old in
     let settled = run.settled in
@@ -114,7 +114,7 @@ begun legs places books old new hold run did holding own =
 
 pub adds_found : (legs : ℕ) (places : List PlaceNo) (books : BooksView) (start old new : DeskView) (hold : HoldView) (span : Interval) (answer : Added) (won : List Item)
     → IsRun legs places books start → IsAlone old → span.to ≤ legs
-    → ShapeBy (Adds hold.row.row (length hold.items) span 1 (map place_number places) answer won) old new
+    → AddsStepsBy (Adds hold.row.row (length hold.items) span 1 (map place_number places) answer won) old new
     → FindsFirst (state_seen old) span (length places) answer won
 adds_found legs places books start old new hold span answer won run alone fits (steps, adds, did) =
     let f = shape_follows old new steps alone did in
@@ -134,7 +134,7 @@ pub record LastHas (sold : State) (row : ℕ) (desk : DeskView) (items : List Bo
   pub alone : IsAlone desk
 
 pub places_added : (start old new : DeskView) (settled : IsSettled (state_seen start)) (hold kept : HoldView) (span : Interval) (candidates : List ℕ) (answer : Added) (won : List Item)
-    → Begun start old settled hold.row → ShapeBy (Adds hold.row.row (length hold.items) span 1 candidates answer won) old new → kept ≡ with_items hold won → IsHolding new kept
+    → Begun start old settled hold.row → AddsStepsBy (Adds hold.row.row (length hold.items) span 1 candidates answer won) old new → kept ≡ with_items hold won → IsHolding new kept
     → LastHas settled.sold hold.row.row new (map item_of kept.items)
 places_added start old new settled hold kept span candidates answer won begun (steps, adds, did) is holding =
     let row = hold.row.row in
@@ -168,7 +168,7 @@ places_added start old new settled hold kept span candidates answer won begun (s
 -- sealed: one more place is sold
 pub sold_more : (start old new : DeskView) (settled : IsSettled (state_seen start)) (row place m n o p : ℕ) (span : Interval) (items : List Item) → row ≡ length settled.sold
     → LastHas settled.sold row old (map item_of items) → items ≡ items_at span place
-    → Shape old new (notes_and_seal row m n o p)
+    → AddsSteps old new (notes_and_seal row m n o p)
     → IsSettled (state_seen new) × (reserved new ≡ reserved start ++ record { place = place; span = span } ∷ []) × IsAlone new
 sold_more start old new settled row place m n o p span items at has is did =
     let sold = settled.sold in
@@ -189,7 +189,7 @@ sold_more start old new settled row place m n o p span items at has is did =
 
 -- abandoned: the row is left empty
 pub left_empty : (start old new : DeskView) (settled : IsSettled (state_seen start)) (row : ℕ) (items : List Item) → row ≡ length settled.sold
-    → LastHas settled.sold row old (map item_of items) → items ≡ [] → Shape old new (gives_back row (length items))
+    → LastHas settled.sold row old (map item_of items) → items ≡ [] → AddsSteps old new (gives_back row (length items))
     → IsSettled (state_seen new) × (reserved new ≡ reserved start) × IsAlone new
 left_empty start old new settled row items at has is did =
     let sold = settled.sold in
@@ -210,8 +210,8 @@ left_empty start old new settled row items at has is did =
 
 -- the place found, and what the hold has then
 pub items_found : (legs : ℕ) (places : List PlaceNo) (books : BooksView) (a b c : DeskView) (hold kept : HoldView) (span : Interval) (won : List Item)
-    → IsRun legs places books a → span.to ≤ legs → ShapeBy (StartsHold a b (Some hold.row)) a b → IsHolding b hold → hold.items ≡ [] → IsOf books b
-    → ShapeBy (Adds hold.row.row (length hold.items) span 1 (map place_number places) added.All won) b c → kept ≡ with_items hold won
+    → IsRun legs places books a → span.to ≤ legs → AddsStepsBy (StartsHold a b (Some hold.row)) a b → IsHolding b hold → hold.items ≡ [] → IsOf books b
+    → AddsStepsBy (Adds hold.row.row (length hold.items) span 1 (map place_number places) added.All won) b c → kept ≡ with_items hold won
     → (found : FindsFirst (state_seen b) span (length places) added.All won) × (kept.items ≡ items_at span found.0)
 items_found legs places books a b c hold kept span won run fits starts holding none own adds is =
     let begins = begun legs places books a b hold run starts holding own in
@@ -220,9 +220,9 @@ items_found legs places books a b c hold kept span won run fits starts holding n
 
 -- one place is sold
 pub reserved_all : (legs : ℕ) (places : List PlaceNo) (books : BooksView) (a b c d : DeskView) (hold kept : HoldView) (span : Interval) (won : List Item) (m n o : ℕ)
-    → IsRun legs places books a → span.to ≤ legs → ShapeBy (StartsHold a b (Some hold.row)) a b → IsHolding b hold → hold.items ≡ [] → IsOf books b
-    → ShapeBy (Adds hold.row.row (length hold.items) span 1 (map place_number places) added.All won) b c → kept ≡ with_items hold won → IsHolding c kept
-    → Shape c d (notes_and_seal kept.row.row m n o (length kept.items))
+    → IsRun legs places books a → span.to ≤ legs → AddsStepsBy (StartsHold a b (Some hold.row)) a b → IsHolding b hold → hold.items ≡ [] → IsOf books b
+    → AddsStepsBy (Adds hold.row.row (length hold.items) span 1 (map place_number places) added.All won) b c → kept ≡ with_items hold won → IsHolding c kept
+    → AddsSteps c d (notes_and_seal kept.row.row m n o (length kept.items))
     → (place : ℕ) × (kept.items ≡ items_at span place) × (length (reserved a) < 1024)
     × IsLeastFree (reserved a) (length places) place span × IsSettled (state_seen d)
     × (reserved d ≡ reserved a ++ record { place = place; span = span } ∷ []) × IsAlone d
@@ -231,7 +231,7 @@ reserved_all legs places books a b c d hold kept span won m n o run fits starts 
     let has = places_added a b c run.settled hold kept span (map place_number places) added.All won begins adds is still in
     let (found, items) = items_found legs places books a b c hold kept span won run fits starts holding none own adds is in
     let here : kept.row.row ≡ hold.row.row = ap (λ (h : HoldView). h.row.row) is in
-    let sealed = subst (λ (r : ℕ). Shape c d (notes_and_seal r m n o (length kept.items))) here did in
+    let sealed = subst (λ (r : ℕ). AddsSteps c d (notes_and_seal r m n o (length kept.items))) here did in
     let sold = sold_more a c d run.settled hold.row.row found.0 m n o (length kept.items) span kept.items begins.has.row_is has items sealed in (
       found.0,
       items,
@@ -244,9 +244,9 @@ reserved_all legs places books a b c d hold kept span won m n o run fits starts 
 
 -- no place is free
 pub reserved_none : (legs : ℕ) (places : List PlaceNo) (books : BooksView) (a b c d : DeskView) (hold kept : HoldView) (span : Interval) (count : ℕ) (won : List Item)
-    → IsRun legs places books a → span.to ≤ legs → ShapeBy (StartsHold a b (Some hold.row)) a b → IsHolding b hold → hold.items ≡ [] → IsOf books b
-    → ShapeBy (Adds hold.row.row (length hold.items) span 1 (map place_number places) (added.NoPlace count) won) b c → kept ≡ with_items hold won → IsHolding c kept
-    → Shape c d (gives_back kept.row.row (length kept.items))
+    → IsRun legs places books a → span.to ≤ legs → AddsStepsBy (StartsHold a b (Some hold.row)) a b → IsHolding b hold → hold.items ≡ [] → IsOf books b
+    → AddsStepsBy (Adds hold.row.row (length hold.items) span 1 (map place_number places) (added.NoPlace count) won) b c → kept ≡ with_items hold won → IsHolding c kept
+    → AddsSteps c d (gives_back kept.row.row (length kept.items))
     → (length (reserved a) < 1024) × IsNoneFree (reserved a) (length places) span × IsSettled (state_seen d) × (reserved d ≡ reserved a) × IsAlone d
 reserved_none legs places books a b c d hold kept span count won run fits starts holding none own adds is still did =
     let begins = begun legs places books a b hold run starts holding own in
@@ -254,7 +254,7 @@ reserved_none legs places books a b c d hold kept span count won run fits starts
     let has = places_added a b c run.settled hold kept span (map place_number places) (added.NoPlace count) won begins adds is still in
     let items : kept.items ≡ [] = ap (λ (h : HoldView). h.items) is ∙ (ap (λ (l : List Item). l ++ won) none ∙ found.0) in
     let here : kept.row.row ≡ hold.row.row = ap (λ (h : HoldView). h.row.row) is in
-    let given = subst (λ (r : ℕ). Shape c d (gives_back r (length kept.items))) here did in
+    let given = subst (λ (r : ℕ). AddsSteps c d (gives_back r (length kept.items))) here did in
     let left = left_empty a c d run.settled hold.row.row kept.items begins.has.row_is has items given in (
       begins.few,
       none_found (state_seen b) (reserved a) span (length places) won (λ place. begins.free place span) count found,
@@ -265,8 +265,8 @@ reserved_none legs places books a b c d hold kept span count won run fits starts
 
 -- the desk is alone, so nothing is contended
 pub never_contended : (legs : ℕ) (places : List PlaceNo) (books : BooksView) (a b c : DeskView) (hold : HoldView) (span : Interval) (place : PlaceNo) (won : List Item)
-    → IsRun legs places books a → span.to ≤ legs → ShapeBy (StartsHold a b (Some hold.row)) a b → IsHolding b hold → IsOf books b
-    → ShapeBy (Adds hold.row.row (length hold.items) span 1 (map place_number places) (added.Contended place) won) b c → ⊥
+    → IsRun legs places books a → span.to ≤ legs → AddsStepsBy (StartsHold a b (Some hold.row)) a b → IsHolding b hold → IsOf books b
+    → AddsStepsBy (Adds hold.row.row (length hold.items) span 1 (map place_number places) (added.Contended place) won) b c → ⊥
 never_contended legs places books a b c hold span place won run fits starts holding own adds =
     let begins = begun legs places books a b hold run starts holding own in
     adds_found legs places books a b c hold span (added.Contended place) won run begins.alone fits adds

@@ -3,7 +3,7 @@ ghost use Rattle.std.specs.Prelude.{◌≡◌, ◌<◌, ◌≤◌, ℕ, [], All,
 ghost use Rattle.std.specs.List.{range_with_len};
 ghost use Rattle.leg_masks.specs.Interval.{PlacedSpan as Item};
 ghost use Rattle.claim_rule.specs.Rule.{most_place_legs};
-ghost use Rattle.claim_rule.specs.Desks.{IsOf, Shape};
+ghost use Rattle.claim_rule.specs.Desks.{IsOf, AddsSteps};
 ghost use Rattle.claim_rule.specs.Out.{IsHolding, HasNotedItems, HoldsNone};
 ghost use Rattle.hold_core.specs.Tries.{place_number};
 ghost use Rattle.host_tiny.specs.Run.{IsRun, Reserves, reserved, notes_and_seal};
@@ -21,7 +21,7 @@ use std::marker::Model;
 const ROWS: u32 = 1_024;
 
 /// What a wish for a place comes to.
-#[derive(Clone, Copy, Debug, PartialEq, Eq)]
+#[derive(Clone, Copy, PartialEq, Eq)]
 pub enum Reservation {
     /// The place is reserved on the legs.
     Place(u16),
@@ -90,7 +90,7 @@ fn seal_booking(books: &Books, desk: &mut Desk, mut hold: Hold)
     requires noted { HasNotedItems desk.old hold }
     requires some { 1 ≤ length hold.items }
     ensures own { IsOf books.now desk.new }
-    ensures entries { (retailer limit total : ℕ) × Shape desk.old desk.new
+    ensures entries { (retailer limit total : ℕ) × AddsSteps desk.old desk.new
         (notes_and_seal hold.row.row retailer limit total (length hold.items)) }
     ensures none { HoldsNone desk.new }
 {

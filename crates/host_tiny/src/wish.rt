@@ -9,14 +9,14 @@ use leg_masks::Span;
 use std::alloc::Global;
 
 /// A member of the body.
-#[derive(Clone, Copy, Debug, PartialEq, Eq)]
+#[derive(Clone, Copy, PartialEq, Eq)]
 pub enum FieldName {
     From,
     To,
 }
 
 /// Why a body asks for no span.
-#[derive(Clone, Copy, Debug, PartialEq, Eq)]
+#[derive(Clone, Copy, PartialEq, Eq)]
 pub enum WishFault {
     NotJson,
     BadField(FieldName),

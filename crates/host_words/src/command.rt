@@ -5,7 +5,7 @@ ghost use Rattle.host_words.specs.Commands.{IsFor, name_of};
 ghost use Rattle.host_words.specs.declared.command.CommandName.{CommandName as Name};
 
 /// A command of the program, which the first word names.
-#[derive(Clone, Copy, Debug, PartialEq, Eq)]
+#[derive(Clone, Copy, PartialEq, Eq)]
 pub enum CommandName {
     /// `tiny LEGS PLACES`
     Tiny,

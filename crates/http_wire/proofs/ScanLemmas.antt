@@ -430,10 +430,6 @@ plain_more scan zero bytes b live more s =
 plain_more scan (suc n) bytes b live more s =
     plain_byte (with_plain scan (suc n)) (with_plain scan (suc (suc n))) bytes b more live live refl refl (omega arith) refl refl s
 
-pub plain_ended : (scan : HeadScan) (n : ℕ) → (with_plain scan n).ended ≡ scan.ended
-plain_ended scan zero = refl
-plain_ended scan (suc n) = refl
-
 pub plain_at : (scan : HeadScan) (n : ℕ) → (with_plain scan n).at ≡ scan.at + n
 plain_at scan zero = omega arith
 plain_at scan (suc n) = refl

@@ -45,15 +45,16 @@ IsDecided bytes = IsBlank bytes ⊎ IsUnfinished bytes → ⊥
 unfoldable pub ReadsAtNeed : IntakeView → IntakeView → Type 0
 ReadsAtNeed before after = IsDecided before.unread → after.taken ++ after.unread ≡ before.unread
 
--- What a read behind the first bytes of a memory does.
+-- What a read after the first bytes of a memory does.
 abbrev pub PullsBehind : Option (List ℕ) → Option (List ℕ) → List ℕ → List ℕ → ℕ → Pulled → Type 0
 PullsBehind before after old new filled (Got n) =
     (pulled : List ℕ) × (0 < n) × (filled + n ≤ length new)
     × (before ≡ with_front pulled after) × (take (filled + n) new ≡ take filled old ++ pulled)
-PullsBehind before after old new filled SourceEnd = (after ≡ before) × AtEnd before × (take filled new ≡ take filled old)
+PullsBehind before after old new filled SourceEnd =
+    (after ≡ before) × AtEnd before × (take filled new ≡ take filled old)
 PullsBehind before after old new filled Failed = (after ≡ before) × (take filled new ≡ take filled old)
 
--- where the bytes held end behind a read
+-- where the bytes held end after a read
 abbrev pub end_behind : ℕ → Pulled → ℕ
 end_behind filled (Got n) = filled + n
 end_behind filled SourceEnd = filled

@@ -10,7 +10,8 @@ use Rattle.http_wire.specs.ServedLines.{line_closes}
 
 -- the values found, with that of this line where it has the name
 abbrev pub found_with : List ℕ → List ℕ → Named → HeaderSpan → Named
-found_with head name found line = if same_name (span_bytes head line.name) name then with_value found line.value else found
+found_with head name found line =
+    if same_name (span_bytes head line.name) name then with_value found line.value else found
 
 -- with what this line says
 abbrev pub with_line : List ℕ → Notes → HeaderSpan → Notes

@@ -27,7 +27,8 @@ pub record HeadAt (stream head rest : List ℕ) : Type 0 where
   pub is : stream ≡ head ++ rest
 
 -- The stream begins with this request, the one of that number on its connection.
-pub record IsRequestWith (number : ℕ) (stream : List ℕ) (request : RequestText) (rest head : List ℕ) (h : RequestHead) (body : List ℕ) : Type 0 where
+pub record IsRequestWith (number : ℕ) (stream : List ℕ) (request : RequestText) (rest head : List ℕ) (h : RequestHead)
+    (body : List ℕ) : Type 0 where
   pub at : HeadAt stream head (body ++ rest)
   pub served : IsServedHead head h (length body)
   pub is : request ≡ request_of h body (is_last number h)
@@ -87,7 +88,7 @@ IsRest stream closed = ⊥
 IsRest stream (refused fault) = IsFault fault stream
 
 -- The stream spells these requests, of which the first has the number, and then the rest.
--- Behind a last request nothing more is read.
+-- After a last request nothing more is read.
 abbrev pub Spells : ℕ → List ℕ → List RequestText → Rest → Type 0
 Spells number stream [] rest = IsRest stream rest
 Spells number stream (request ∷ requests) rest =

@@ -22,7 +22,8 @@ HasBegun true lines = 0 < length lines
 HasBegun false lines = lines ≡ []
 
 -- The bytes are empty lines, lines that aren't empty, and a line in progress: no head has ended in them.
-pub record IsOpenWith (scan : HeadScan) (bytes : List ℕ) (blank : List LineEnd) (lines : List (List ℕ)) (part : List ℕ) : Type 0 where
+pub record IsOpenWith (scan : HeadScan) (bytes : List ℕ) (blank : List LineEnd) (lines : List (List ℕ))
+    (part : List ℕ) : Type 0 where
   pub is : bytes ≡ print_lines blank lines ++ part
   pub each : AllByRecursion IsLine lines
   pub one : HasNoFeed part
@@ -33,7 +34,8 @@ pub record IsOpenWith (scan : HeadScan) (bytes : List ℕ) (blank : List LineEnd
   pub at : scan.at ≡ length bytes
 
 abbrev pub IsOpen : HeadScan → List ℕ → Type 0
-IsOpen scan bytes = (blank : List LineEnd) × (lines : List (List ℕ)) × (part : List ℕ) × IsOpenWith scan bytes blank lines part
+IsOpen scan bytes =
+    (blank : List LineEnd) × (lines : List (List ℕ)) × (part : List ℕ) × IsOpenWith scan bytes blank lines part
 
 -- The first bytes are a head, and nothing was searched past it.
 pub record IsEnded (scan : HeadScan) (bytes : List ℕ) (end : ℕ) : Type 0 where
@@ -61,18 +63,18 @@ abbrev pub with_plain : HeadScan → ℕ → HeadScan
 with_plain scan zero = scan
 with_plain scan (suc n) = record scan { at = scan.at + suc n; line_empty = false; carriage = false }
 
--- the bytes from one place up to another are behind CR in value: none ends a line, or is part of an empty one
+-- the bytes from one place up to another are after CR in value: none ends a line, or is part of an empty one
 abbrev pub ArePlain : List ℕ → ℕ → ℕ → Type 0
 ArePlain bytes from at = (k : ℕ) → from ≤ k → k < at → 13 < slice_index bytes k
 
--- The byte stands behind plain ones.
+-- The byte stands after plain ones.
 pub record IsBehind (bytes : List ℕ) (from : ℕ) (found : Found) : Type 0 where
   pub after : from ≤ found.at
   pub within : found.at < length bytes
   pub is : found.byte ≡ slice_index bytes found.at
   pub plain : ArePlain bytes from found.at
 
--- the byte is behind plain ones, or all are plain
+-- the byte is after plain ones, or all are plain
 abbrev pub IsFoundFrom : List ℕ → ℕ → Option Found → Type 0
 IsFoundFrom bytes from None = ArePlain bytes from (length bytes)
 IsFoundFrom bytes from (Some found) = IsBehind bytes from found

@@ -34,8 +34,11 @@ IsLinesFault lines BodyTooLarge = (codings_in lines ≡ []) × ((n : ℕ) × IsL
 
 -- where the line gives a length, it is the number
 abbrev pub Agrees : List ℕ → ℕ → HeaderSpan → Type 0
-Agrees head number line = same_name (span_bytes head line.name) (codes "content-length") ≡ true → IsNumeral (span_bytes head line.value) number
+Agrees head number line =
+    same_name (span_bytes head line.name) (codes "content-length") ≡ true
+    → IsNumeral (span_bytes head line.value) number
 
 -- the line says close
 abbrev pub line_closes : List ℕ → HeaderSpan → Bool
-line_closes head line = same_name (span_bytes head line.name) (codes "connection") && says_close (span_bytes head line.value)
+line_closes head line =
+    same_name (span_bytes head line.name) (codes "connection") && says_close (span_bytes head line.value)

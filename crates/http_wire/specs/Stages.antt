@@ -10,13 +10,13 @@ use Rattle.http_wire.specs.HeadRead.{IsServedRead, IsServedWithin}
 use Rattle.http_wire.specs.Requests.{HeadAt}
 use Rattle.http_wire.specs.Scan.{StandsFor}
 
--- the search stands behind the first bytes of the text
+-- the search stands after the first bytes of the text
 pub record IsSearched (text : List ℕ) (scan : HeadScan) : Type 0 where
   pub within : scan.at ≤ length text
   pub short : scan.at ≤ 16384
   pub stands : StandsFor scan (take scan.at text)
 
--- the search stands at a head's end, or behind all bytes that a head may have
+-- the search stands at a head's end, or after all bytes that a head may have
 abbrev pub IsSearchOver : List ℕ → HeadScan → Type 0
 IsSearchOver text scan = IfNone scan.ended (scan.at ≡ min (length text) 16384)
 
@@ -36,7 +36,7 @@ abbrev pub searched : Stage → ℕ
 searched (Head scan) = scan.at
 searched (Body end head) = end
 
--- no byte behind a whole request was searched
+-- no byte after a whole request was searched
 abbrev pub EndsAtRequest : Front → Stage → Type 0
 EndsAtRequest (Whole request n) stage = searched stage ≤ n
 EndsAtRequest (Fault fault) stage = ⊤

@@ -29,7 +29,7 @@ const ROOM: usize = 278_528;
 const MOST: u32 = 65_536;
 
 /// All the wire's memory: 278,528 bytes, room for the largest head and the largest body together.
-/// Contracts see the bytes of the last request, the bytes held unread behind it, and how many
+/// Contracts see the bytes of the last request, the bytes held unread after it, and how many
 /// requests were given.
 #[derive(Drop)]
 pub struct Intake {
@@ -137,7 +137,7 @@ fn search_on<L: Ledger>(
     after_search(text, number, scan, stage)
 }
 
-/// The same, where the search stands behind all bytes that a head may have, or behind the head's end.
+/// The same, where the search stands after all bytes that a head may have, or after the head's end.
 fn after_search(text: &[u8], number: u32, scan: HeadScan, stage: &mut Stage) -> Front
     requires stage { IsStage number text.now (Head scan) }
     requires all { IsSearchOver text.now scan }
@@ -278,7 +278,7 @@ impl Intake {
     }
 
     /// `next_request`, whose steps are counted: a step is one byte looked at in the search for a head's end. No byte is
-    /// looked at twice, in all the calls for one request, and none that stands behind it: so all calls together take at
+    /// looked at twice, in all the calls for one request, and none that stands after it: so all calls together take at
     /// most as many steps as bytes came.
     pub fn next_request_counted<S: Source, L: Ledger>(
         &mut self,

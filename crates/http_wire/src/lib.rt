@@ -8,6 +8,9 @@
 //! The profile: heads are read by `httparse` with its default settings, bodies are counted by
 //! `Content-Length` alone, and a request is the last of its connection where it is HTTP/1.0, where it
 //! says `Connection: close`, or where it is number 65,536.
+//!
+//! `Intake::start` takes 278,528 bytes. Over all calls no byte is looked at twice in the search for a head's end
+//! (`each_once`), and where the bytes held tell what comes next, nothing is read (`at_once`).
 #![tactic(auto)]
 
 mod answer;

@@ -1,14 +1,14 @@
 // A request, and what stands in its place.
 
 /// Bytes of the last request in the intake's memory: `len` bytes from `start` on.
-#[derive(Clone, Copy, Debug, PartialEq, Eq)]
+#[derive(Clone, Copy, PartialEq, Eq)]
 pub struct Piece {
     pub start: u32,
     pub len: u32,
 }
 
 /// A request, as pieces of the intake. They stand until the next request is asked for.
-#[derive(Clone, Copy, Debug, PartialEq, Eq)]
+#[derive(Clone, Copy, PartialEq, Eq)]
 pub struct Request {
     pub method: Piece,
     /// The target up to its first `?`, as it was sent.
@@ -22,7 +22,7 @@ pub struct Request {
 
 /// Why what stands in a request's place is refused. They are tried in the order HeadTooLarge,
 /// BadHead, Coding, BadLength, BodyTooLarge.
-#[derive(Clone, Copy, Debug, PartialEq, Eq)]
+#[derive(Clone, Copy, PartialEq, Eq)]
 pub enum WireFault {
     /// A head has ended and isn't one by `httparse` with its default settings.
     BadHead,
@@ -38,7 +38,7 @@ pub enum WireFault {
 }
 
 /// What comes next on a connection.
-#[derive(Clone, Copy, Debug, PartialEq, Eq)]
+#[derive(Clone, Copy, PartialEq, Eq)]
 pub enum Next {
     Request(Request),
     /// The source ended, and nothing or only empty lines of fewer than 16,384 bytes were left.

@@ -1,4 +1,4 @@
-// Where the bytes held stand in the memory, and how more come behind them.
+// Where the bytes held stand in the memory, and how more come after them.
 ghost use Rattle.std.specs.Prelude.{◌≡◌, ◌≤◌, ◌<◌, ◌+◌, ◌-◌, ◌^◌, List, ℕ, length, slice_range};
 ghost use Rattle.rail_io.specs.Faults.{Rose};
 ghost use Rattle.rail_io.specs.declared.source.Pulled.TheVariants.{Failed};
@@ -19,8 +19,8 @@ pub fn next_start(at: usize, filled: usize) -> usize
     if at == filled { 0 } else { at }
 }
 
-/// Where the bytes from `start` to `filled` stand, so that there is room behind them: where they stood, and only
-/// where the memory is full behind them, at the front.
+/// Where the bytes from `start` to `filled` stand, so that there is room after them: where they stood, and only
+/// where the memory is full after them, at the front.
 fn make_room(memory: &mut [u8], start: usize, filled: usize) -> usize
     requires ordered { start ≤ filled }
     requires within { filled ≤ length memory.old }
@@ -36,7 +36,7 @@ fn make_room(memory: &mut [u8], start: usize, filled: usize) -> usize
     0
 }
 
-/// Reads some bytes behind those that are there.
+/// Reads some bytes after those that are there.
 fn pull<S: Source>(memory: &mut [u8], filled: usize, source: &mut S) -> Pulled
     requires { filled < length memory.old }
     ensures pulls { PullsBehind (S.told source.old) (S.told source.new) memory.old memory.new filled result }
@@ -56,7 +56,7 @@ pub struct Drawn {
     pub answer: Pulled,
 }
 
-/// The same bytes, with those of an answered read behind them.
+/// The same bytes, with those of an answered read after them.
 fn with_read(start: usize, filled: usize, answer: Pulled) -> Drawn
     requires { EndsWithin filled answer (2 ^ 32) }
     ensures start { result.start ≡ start }
@@ -74,7 +74,7 @@ fn with_read(start: usize, filled: usize, answer: Pulled) -> Drawn
     }
 }
 
-/// Reads some bytes behind those from `start` to `filled`.
+/// Reads some bytes after those from `start` to `filled`.
 pub fn draw<S: Source>(memory: &mut [u8], start: usize, filled: usize, source: &mut S) -> Drawn
     requires ordered { start ≤ filled }
     requires within { filled ≤ length memory.old }

@@ -7,7 +7,7 @@ use step_count::Steps;
 
 /// Where the search for the end of a head (RFC 9112, section 2.1) stands: each byte is looked at once, whatever
 /// pieces the bytes come in. Empty lines before the request line are skipped.
-#[derive(Clone, Copy, Debug, PartialEq, Eq)]
+#[derive(Clone, Copy, PartialEq, Eq)]
 pub struct HeadScan {
     /// The place after the head's end, which is that of the first empty line after a line that isn't empty.
     /// Nothing is searched past it.
@@ -55,7 +55,7 @@ fn behind(at: usize, byte: u8) -> Option<Found>
     Some(Found { at, byte })
 }
 
-/// The byte behind those at the place and after it that are behind CR in value; `None` where all are, up to the piece's
+/// The byte after those at the place and after it that are after CR in value; `None` where all are, up to the piece's
 /// end. A step is one byte looked at: each of them once, and the one found. Two are looked at in a turn, so that a byte
 /// costs less; where one is left over at the end, it is found, whatever it is.
 fn past_plain<L: Ledger>(piece: &[u8], from: usize, steps: &mut Steps<L>) -> Option<Found>
@@ -100,7 +100,7 @@ impl HeadScan {
         }
     }
 
-    /// The search with a line feed behind what was searched.
+    /// The search with a line feed after what was searched.
     fn with_feed(self) -> HeadScan
         requires open { self.ended ≡ None }
         requires small { self.at < 2 ^ 32 - 1 }
@@ -168,7 +168,7 @@ impl HeadScan {
         }
     }
 
-    /// The search with the piece behind what was searched, for every list of bytes that was searched. A step is one
+    /// The search with the piece after what was searched, for every list of bytes that was searched. A step is one
     /// byte looked at: no byte is looked at twice, and none past the head's end.
     pub fn feed<L: Ledger>(self, piece: &[u8], steps: &mut Steps<L>) -> HeadScan
         requires small { self.at + length piece.now ≤ 278528 }
@@ -193,7 +193,7 @@ impl HeadScan {
             if scan.ended.is_some() {
                 return scan;
             }
-            // Behind a carriage return mostly stands a line feed: the byte there is looked at in the same turn.
+            // After a carriage return mostly stands a line feed: the byte there is looked at in the same turn.
             if from == piece.len() || next.byte != b'\r' {
                 continue;
             }

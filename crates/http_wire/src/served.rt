@@ -319,7 +319,7 @@ fn parsed_head(
     })
 }
 
-/// What the head says, whatever lines it has. It stands apart, since room for the most lines is dear to clear.
+/// What the head says, whatever lines it has. It stands apart, since room for the most lines is costly to clear.
 #[inline(never)]
 fn long_head(head: &[u8], number: u32) -> Result<ServedHead, WireFault>
     requires head { IsHead head.now }

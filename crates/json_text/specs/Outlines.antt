@@ -45,18 +45,20 @@ abbrev pub behind_items : ℕ → List Token → Option (List Token)
 behind_items depth ts = option_map (λ p. p.1) (converted of_items (items (value depth) (length ts) ts))
 
 abbrev pub behind_members : ℕ → List Token → Option (List Token)
-behind_members depth ts = option_map (λ p. p.1) (converted (λ ms. of_members ms no_members) (members (value depth) (length ts) ts))
+behind_members depth ts =
+    option_map (λ p. p.1) (converted (λ ms. of_members ms no_members) (members (value depth) (length ts) ts))
 
 -- What follows so many members, whatever their names, and however large their numbers. A closing brace passes for a
--- name too: a value that stands behind it counts as one more member. Behind the outermost object of a text that is JSON
+-- name too: a value that stands after it counts as one more member. After the outermost object of a text that is JSON
 -- none stands, so there it has no more members than are written.
 unfoldable pub behind_so_many : ℕ → ℕ → List Token → Option (List Token)
 behind_so_many depth zero ts = Some ts
-behind_so_many depth (suc n) ts = option_and_then (λ k. option_and_then (behind_so_many depth n) (skip_value depth k.1)) (read_key ts)
+behind_so_many depth (suc n) ts =
+    option_and_then (λ k. option_and_then (behind_so_many depth n) (skip_value depth k.1)) (read_key ts)
 
 -- ---- the members of the outermost object
 
--- What follows the name of the member at this place. At the place behind the last member it is what follows the closing
+-- What follows the name of the member at this place. At the place after the last member it is what follows the closing
 -- brace, and so no value where the text is JSON and the object its outermost.
 abbrev pub value_tokens : ℕ → List Token → Option (List Token)
 value_tokens place ts = option_map (λ k. k.1) (option_and_then read_key (behind_so_many 126 place ts))
@@ -79,7 +81,8 @@ members_of ts = converted (λ ms. of_members ms no_members) (members (value 126)
 -- The tokens after a brace are an object with the members `found`, and then `rest`. In the object `kept` each other
 -- name finds what it finds in `found`, and the name nothing. What the name finds in `found` stands at the place (it may
 -- stand at others too), and there is no place where it finds nothing.
-pub record IsOutlineOf (name : List ℕ) (ts : List Token) (kept : Data) (place : Option ℕ) (rest : List Token) : Type 0 where
+pub record IsOutlineOf (name : List ℕ) (ts : List Token) (kept : Data) (place : Option ℕ)
+    (rest : List Token) : Type 0 where
   pub found : Members
   pub read : members_of ts ≡ Some (found, rest)
   pub kind : is_some (as_object kept) ≡ true

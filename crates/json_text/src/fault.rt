@@ -4,7 +4,7 @@ ghost use Rattle.json_text.specs.declared.fault.ReadFault.TheVariants.{NotJson, 
 use std::alloc::{AllocError, AllocFailed};
 
 /// Why bytes have no value.
-#[derive(Debug, Clone, Copy, PartialEq, Eq, Drop)]
+#[derive(Clone, Copy, PartialEq, Eq, Drop)]
 pub enum ReadFault {
     /// They are no JSON in UTF-8, nest deeper than 127 or have a number that is too large for a float.
     NotJson,

@@ -23,7 +23,7 @@ impl<'a> Items<'a> {
     /// The next item, or `None` at the list's end.
     ///
     /// Only this item is looked at. Of a list that is no JSON further on, the items before the fault are handed out,
-    /// and then comes an error and never `None`. What stands behind the list isn't looked at. After `None` or an error
+    /// and then comes an error and never `None`. What stands after the list isn't looked at. After `None` or an error
     /// nothing is said of what a further call answers: it may be a value from behind the end, or from behind the fault.
     pub fn next(&mut self, alloc: Global) -> Result<Option<Value<'a>>, ReadFault>
         ensures ok { IfOk result (λ v. MatchOption v (ahead self.old ≡ Some no_items)
@@ -38,8 +38,8 @@ impl<'a> Items<'a> {
 }
 
 /// The items of the list that stands at this place among the members of the outermost object; `None` where no list
-/// does, and for bytes that aren't UTF-8. Behind the bracket that opens the list nothing is looked at, so the text
-/// needn't be JSON. In a text that is none, what stands behind the object's closing brace may pass for one more member.
+/// does, and for bytes that aren't UTF-8. After the bracket that opens the list nothing is looked at, so the text
+/// needn't be JSON. In a text that is none, what stands after the object's closing brace may pass for one more member.
 pub fn items_at<'a>(
     bytes: &'a [u8],
     scratch: &'a mut Scratch,

@@ -8,7 +8,10 @@
 //! Where a tree of the whole would take too much, `read_outline` leaves the members of one name out, and `items_at`
 //! hands out the list that such a member is, item by item.
 //!
-//! It is a room of its own since catalogues and the bodies of requests are read by it alike.
+//! It is a crate of its own since catalogues and the bodies of requests are read by it alike.
+//!
+//! Memory is taken for a list for each array and each object, and for the `Scratch`. Running out of it is the one
+//! answer that no definition determines.
 #![tactic(auto)]
 
 mod fault;

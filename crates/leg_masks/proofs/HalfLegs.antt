@@ -4,13 +4,6 @@ use Rattle.std.proofs.lemmas.Bool.{cases_Bool, leb-false, leb-true}
 use Rattle.std.specs.List.{AllByRecursion}
 use Rattle.leg_masks.specs.Interval.{Interval, Holds, IsPiece, is_piece, half_at, half_of, bit_of, leg_of, pieces, word_legs}
 
--- a leg of the first half, or of the second
-pub in_first : (leg : ℕ) → leg < 63 → (half_at leg ≡ 0) × (bit_of leg ≡ leg)
-in_first leg l = (omega arith, omega arith)
-
-pub in_second : (leg : ℕ) → 63 ≤ leg → leg < 126 → (half_at leg ≡ 1) × (bit_of leg + 63 ≡ leg)
-in_second leg l m = (omega arith, omega arith)
-
 pub leg_back : (leg : ℕ) → leg_of (half_at leg) (bit_of leg) ≡ leg
 leg_back leg = omega arith
 
@@ -53,13 +46,6 @@ piece-is_piece span (inr high) = ap (λ (b : Bool). leb span.to 63 || b) (le-leb
     or_true : (b : Bool) → (b || true) ≡ true
     or_true true = refl
     or_true false = refl
-
--- the pieces of a span are pieces
-pub each_piece : (span : Interval) → AllByRecursion IsPiece (pieces span)
-each_piece span = go (is_piece span) refl where
-  go : (b : Bool) → is_piece span ≡ b → AllByRecursion IsPiece (pieces span)
-  go true e = rw e (is_piece-true span e, tt)
-  go false e = rw e (inl (omega arith), (inr (omega arith), tt))
 
 -- a piece is its only piece
 pub pieces-whole : (span : Interval) → IsPiece span → pieces span ≡ span ∷ []

@@ -14,9 +14,6 @@ first_is span x ps are is =
     let f = at_first ps x (subst (λ (l : List Interval). 1 ≤ length l) (sym are) (pieces_some span).0) in
     (f.0, sym are ∙ (f.1 ∙ ap (λ (y : Interval). y ∷ f.0) (sym is)))
 
-pub first_there : (span : Interval) (ps : List Interval) → ps ≡ pieces span → 0 < length ps
-first_there span ps are = subst (λ (l : List Interval). 0 < length l) (sym are) (pieces_some span).0
-
 pub head_same : (x y : Interval) (xs ys : List Interval) → x ∷ xs ≡ y ∷ ys → x ≡ y
 head_same x y xs ys e = cc
 
@@ -55,9 +52,3 @@ second_of span x y (z ∷ zs) ps same all are more is =
     nothing : (zs : List Interval) → length zs ≤ 0 → zs ≡ []
     nothing [] l = refl
     nothing (q ∷ qs) l = absurd (omega arith)
-
-pub second_there : (span x : Interval) (rest ps : List Interval) → ps ≡ pieces span → pieces span ≡ x ∷ rest → (length ps ≡ 1 → ⊥) → 1 < length ps
-second_there span x rest ps same are more = let l : length ps ≡ suc (length rest) = ap length (same ∙ are) in go (length ps) (length rest) l more
-  where
-    go : (n m : ℕ) → n ≡ suc m → (n ≡ 1 → ⊥) → 1 < n
-    go n m e ne = omega (arith, e, ne)

@@ -2,9 +2,6 @@
 use Rattle.std.proofs.Common.{◌≡◌, ℕ, ◌+◌, ◌*◌, ◌/◌, ◌%◌, ◌<◌, ◌≤◌, arith}
 use Rattle.leg_masks.specs.Interval.{Interval, item_word}
 
-pub word_parts : (w : ℕ) → (w / 65536) * 65536 + (w / 256 % 256) * 256 + w % 256 ≡ w
-word_parts w = omega arith
-
 pub parts_of : (p f t : ℕ) → f < 256 → t < 256 → ((p * 65536 + f * 256 + t) / 65536 ≡ p) × ((p * 65536 + f * 256 + t) / 256 % 256 ≡ f) × ((p * 65536 + f * 256 + t) % 256 ≡ t)
 parts_of p f t a b = (omega arith, omega arith, omega arith)
 

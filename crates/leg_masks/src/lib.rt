@@ -7,6 +7,9 @@
 //! piece at a place, in a word; no word is read as two items.
 //!
 //! No call takes memory.
+//!
+//! A `Span` and an `Item` can't be made out of their ranges, nor an `Item` over the border between the halves:
+//! whoever writes one down proves them.
 #![tactic(auto)]
 
 mod halves;
@@ -28,7 +31,7 @@ pub const MOST_LEGS: u8 = 126;
 pub const MOST_PLACES: u32 = 4_194_304;
 
 /// A stretch of a run: the legs from `from` up to the one before `to`, at least one, none past the greatest leg.
-#[derive(Clone, Copy, Debug, PartialEq, Eq)]
+#[derive(Clone, Copy, PartialEq, Eq)]
 pub struct Span {
     pub from: u8,
     pub to: u8,
@@ -100,7 +103,7 @@ impl Default for Span {
 }
 
 /// Legs of a place, which is below `MOST_PLACES`. They lie in one half.
-#[derive(Clone, Copy, Debug, PartialEq, Eq)]
+#[derive(Clone, Copy, PartialEq, Eq)]
 pub struct Item {
     pub place: u32,
     pub span: Span,

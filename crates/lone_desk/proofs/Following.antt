@@ -5,13 +5,13 @@ use Rattle.history_model.specs.Booking.{Layout}
 use Rattle.history_model.specs.History.{IsLegal, state_of}
 use Rattle.history_model.proofs.Seen.{legal-rest, state_of-append}
 use Rattle.claim_rule.specs.Rule.{DeskView, IsWhole}
-use Rattle.claim_rule.specs.Desks.{Shape}
+use Rattle.claim_rule.specs.Desks.{AddsSteps}
 use Rattle.lone_desk.specs.Lone.{IsAlone, Follows, entries_of}
 
 alone_is_whole : (desk : DeskView) → IsAlone desk → IsWhole desk.number desk.parted desk.joined
 alone_is_whole desk is = (is.number, λ j some few. absurd (omega (arith, some, few, is.parted)))
 
-pub shape_follows : (old new : DeskView) (steps : List Step) → IsAlone old → Shape old new steps → Follows old new steps
+pub shape_follows : (old new : DeskView) (steps : List Step) → IsAlone old → AddsSteps old new steps → Follows old new steps
 shape_follows old new steps alone did =
     let more = entries_of old.number steps in
     let seen : new.seen ≡ old.seen ++ more = did.whole (alone_is_whole old alone) in

@@ -18,7 +18,7 @@ use Rattle.history_model.proofs.Generations.{present-started_other}
 use Rattle.history_model.proofs.Keeping.{found}
 use Rattle.history_model.proofs.Owners.{on_row}
 use Rattle.claim_rule.specs.Rule.{DeskView, state_seen}
-use Rattle.claim_rule.specs.Calls.{ShapeBy}
+use Rattle.claim_rule.specs.Calls.{AddsStepsBy}
 use Rattle.booking_rows.specs.Starts.{Misses, misses_steps, IsLeastFree, Passed, passed_steps, IsPassed, search_steps, is_startable, StartsHold}
 use Rattle.booking_rows.proofs.StartLemmas.{startable}
 use Rattle.lone_desk.specs.Lone.{IsAlone, IsStartable, NoneStartable, StartsLeast, with_started, entries_of, after_steps}
@@ -126,7 +126,7 @@ follows s row n next (inr again) =
       low = (let one = b.2.1 in let most = again.0 in omega (arith, one, most));
     }
 
-pub starts_least : (old new : DeskView) (answer : Option RowNo) → IsAlone old → ShapeBy (StartsHold old new answer) old new → StartsLeast old new answer
+pub starts_least : (old new : DeskView) (answer : Option RowNo) → IsAlone old → AddsStepsBy (StartsHold old new answer) old new → StartsLeast old new answer
 starts_least old new (Some row) alone (es, inl kept, did) =
     let f = shape_follows old new es alone did in
     inl (kept.0, f.state ∙ ap (after_steps (state_seen old) old.number) kept.1)

@@ -26,7 +26,7 @@ entries_of desk steps = map (entry desk) steps
 abbrev pub after_steps : State → ℕ → List Step → State
 after_steps s desk steps = state_after s (entries_of desk steps)
 
--- The desk has made these steps: they are legal behind what it had seen, and it has seen no more.
+-- The desk has made these steps: they are legal after what it had seen, and it has seen no more.
 pub record Follows (old new : DeskView) (steps : List Step) : Type 0 where
   pub legal : IsLegalFrom old.layout (state_seen old) (entries_of old.number steps)
   pub state : state_seen new ≡ after_steps (state_seen old) old.number steps

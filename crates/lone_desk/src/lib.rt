@@ -1,4 +1,4 @@
-//! What a desk sees between whose steps no other desk's stand. It is a room of its own since `tiny`, which
+//! What a desk sees between whose steps no other desk's stand. It is a crate of its own since `tiny`, which
 //! rests on no service, needs it as the plain host does.
 //!
 //! A desk that parted no other has all entries there are, so each call adds just the call's own. On such a desk a try
@@ -16,8 +16,8 @@ ghost use Rattle.history_model.specs.Lists.{Pairwise};
 ghost use Rattle.history_model.specs.Booking.{Booking, Layout, State};
 ghost use Rattle.history_model.specs.History.{IsLegalFrom};
 ghost use Rattle.claim_rule.specs.Rule.{DeskView};
-ghost use Rattle.claim_rule.specs.Calls.{ShapeBy};
-ghost use Rattle.claim_rule.specs.Desks.{Shape};
+ghost use Rattle.claim_rule.specs.Calls.{AddsStepsBy};
+ghost use Rattle.claim_rule.specs.Desks.{AddsSteps};
 ghost use Rattle.booking_rows.specs.Starts.{StartsHold};
 ghost use Rattle.hold_core.specs.Tries.{Try, IsTry};
 ghost use Rattle.hold_core.specs.Places.{Adds, tries_steps, tried};
@@ -31,7 +31,7 @@ ghost use Rattle.lone_desk.specs.Decided.{IsDecided, IsFreeAt, HasClearWords, Fi
 /// least whose booking may be followed by another; and the words of a place are clear on the pieces of a span exactly
 /// where no item of the place that is not given back meets it.
 pub fn lone_laws()
-    ensures follows { (old new : DeskView) (steps : List Step) → IsAlone old → Shape old new steps
+    ensures follows { (old new : DeskView) (steps : List Step) → IsAlone old → AddsSteps old new steps
         → Follows old new steps }
     ensures tries { (g : Layout) (s : State) (desk row k : ℕ) (span : Interval) (tries : List Try)
         → span.to ≤ most_legs → AllByRecursion (IsTry span) tries → Pairwise (λ p q. p ≢ q) (tried tries)
@@ -40,7 +40,7 @@ pub fn lone_laws()
         (won : List Item) (steps : List Step) → span.to ≤ most_legs → IsLegalFrom g s (entries_of desk steps)
         → Adds row k span 1 (range_with_len 0 places) answer won steps → FindsFirst s span places answer won }
     ensures starts { (old new : DeskView) (answer : Option RowNo) → IsAlone old
-        → ShapeBy (StartsHold old new answer) old new → StartsLeast old new answer }
+        → AddsStepsBy (StartsHold old new answer) old new → StartsLeast old new answer }
     ensures clear { (s : State) (place : ℕ) (span : Interval) → span.to ≤ most_legs
         → HasClearWords s span place ↔ IsFreeAt s span place }
 {}

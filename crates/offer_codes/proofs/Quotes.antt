@@ -17,9 +17,6 @@ use Rattle.offer_codes.proofs.Complete.{both, are_offer_marks, offer_from-marks,
 
 -- rows
 
-snd : List ℕ × ℕ → ℕ
-snd m = m.1
-
 row_small : (row : RowNo) → is_row row ≡ true → row.row < 2 ^ 64
 row_small row h = grind (arith, nat_tests, (both (nat_le row.row 262_143) _ h).0)
 

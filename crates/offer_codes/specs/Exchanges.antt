@@ -16,7 +16,14 @@ pub record ExchangeView : Type 0 where
   pub offer : OfferView
 
 abbrev pub exchange_view : ExchangeCode → ExchangeView
-exchange_view c = record { row = c.row; made = c.made; fulfilled = c.fulfilled; difference = c.difference; offer = offer_view c.offer }
+exchange_view c =
+    record {
+      row = c.row;
+      made = c.made;
+      fulfilled = c.fulfilled;
+      difference = c.difference;
+      offer = offer_view c.offer;
+    }
 
 abbrev pub magnitude : ℤ → ℕ
 magnitude (pos n) = n
@@ -28,7 +35,8 @@ is_less (negsuc n) = true
 
 abbrev pub is_exchange : ExchangeView → Bool
 is_exchange x =
-    is_row x.row && (nat_le x.made 4_102_444_799 && (nat_le (magnitude x.difference) 99_999_999_999 && is_offer x.offer))
+    is_row x.row && (nat_le x.made 4_102_444_799
+    && (nat_le (magnitude x.difference) 99_999_999_999 && is_offer x.offer))
 
 -- `p` before a difference of 0 and more, `m` before one of less
 abbrev pub sign_mark : Bool → List ℕ

@@ -16,7 +16,8 @@ class_from number = if nat_eq number 1 then Some First else (if nat_eq number 2 
 
 abbrev pub segment_value : ℕ → ℕ → ℕ → Option Segment
 segment_value run from to =
-    let s : Segment = record { run = record { 0 = run }; span = record { from = from; to = to } } in if is_segment s then Some s else None
+    let s : Segment = record { run = record { 0 = run }; span = record { from = from; to = to } } in
+    if is_segment s then Some s else None
 
 abbrev pub segment_then : ℕ → ℕ → ℕ → Option (List Segment) → Option (List Segment)
 segment_then run from to rest = option_and_then (λ s. option_map (λ more. s ∷ more) rest) (segment_value run from to)
@@ -44,23 +45,28 @@ with_parts ns class segments = in_range (record {
 abbrev pub offer_from : List ℕ → Option OfferView
 offer_from ns =
     if nat_lt (length ns) 5 || nat_lt 14 (length ns) then None
-    else option_and_then (λ class. option_and_then (with_parts ns class) (segments_from (drop 5 ns))) (class_from (slice_index ns 3))
+    else option_and_then (λ class. option_and_then (with_parts ns class) (segments_from (drop 5 ns)))
+    (class_from (slice_index ns 3))
 
 -- the byte stands in the text
 abbrev pub has : ℕ → List ℕ → Bool
 has letter text = list_any (λ b. b == letter) text
 
 abbrev pub row_value : ℕ → ℕ → Option RowNo
-row_value row generation = let r : RowNo = record { row = row; generation = generation } in if is_row r then Some r else None
+row_value row generation =
+    let r : RowNo = record { row = row; generation = generation } in if is_row r then Some r else None
 
 abbrev pub refund_at : RowNo → ℕ → ℕ → Bool → Option RefundCode
 refund_at row made amount fulfilled =
-    let r : RefundCode = record { row = row; made = made; fulfilled = fulfilled; amount = amount } in if is_refund r then Some r else None
+    let r : RefundCode = record { row = row; made = made; fulfilled = fulfilled; amount = amount } in
+    if is_refund r then Some r else None
 
 -- the refund offer of its numbers: three, or four with the generation
 abbrev pub refund_from : Bool → List ℕ → Option RefundCode
-refund_from fulfilled (row ∷ made ∷ amount ∷ []) = option_and_then (λ r. refund_at r made amount fulfilled) (row_value row 0)
-refund_from fulfilled (row ∷ generation ∷ made ∷ amount ∷ []) = option_and_then (λ r. refund_at r made amount fulfilled) (row_value row generation)
+refund_from fulfilled (row ∷ made ∷ amount ∷ []) =
+    option_and_then (λ r. refund_at r made amount fulfilled) (row_value row 0)
+refund_from fulfilled (row ∷ generation ∷ made ∷ amount ∷ []) =
+    option_and_then (λ r. refund_at r made amount fulfilled) (row_value row generation)
 refund_from fulfilled _ = None
 
 abbrev pub signed : Bool → ℕ → ℤ
@@ -69,19 +75,29 @@ signed true n = neg_ℤ (pos n)
 
 abbrev pub exchange_at : RowNo → ℕ → Bool → ℤ → OfferView → Option ExchangeView
 exchange_at row made fulfilled difference offer =
-    let x : ExchangeView = record { row = row; made = made; fulfilled = fulfilled; difference = difference; offer = offer } in if is_exchange x then Some x else None
+    let x : ExchangeView = record {
+      row = row;
+      made = made;
+      fulfilled = fulfilled;
+      difference = difference;
+      offer = offer;
+    } in if is_exchange x then Some x else None
 
--- the exchange offer for a row, of the numbers behind it
+-- the exchange offer for a row, of the numbers after it
 abbrev pub exchange_behind : Bool → Bool → List ℕ → RowNo → Option ExchangeView
-exchange_behind fulfilled less (made ∷ amount ∷ rest) row = option_and_then (exchange_at row made fulfilled (signed less amount)) (offer_from rest)
+exchange_behind fulfilled less (made ∷ amount ∷ rest) row =
+    option_and_then (exchange_at row made fulfilled (signed less amount)) (offer_from rest)
 exchange_behind fulfilled less _ row = None
 
 abbrev pub exchange_again : Bool → Bool → ℕ → List ℕ → Option ExchangeView
-exchange_again fulfilled less row (generation ∷ rest) = option_and_then (exchange_behind fulfilled less rest) (row_value row generation)
+exchange_again fulfilled less row (generation ∷ rest) =
+    option_and_then (exchange_behind fulfilled less rest) (row_value row generation)
 exchange_again fulfilled less row [] = None
 
--- the exchange offer of its numbers: behind the row are seven and three for each segment, and the generation where it
+-- the exchange offer of its numbers: after the row are seven and three for each segment, and the generation where it
 -- stands there
 abbrev pub exchange_from : Bool → Bool → List ℕ → Option ExchangeView
-exchange_from fulfilled less (row ∷ ns) = if length ns % 3 == 2 then exchange_again fulfilled less row ns else option_and_then (exchange_behind fulfilled less ns) (row_value row 0)
+exchange_from fulfilled less (row ∷ ns) =
+    if length ns % 3 == 2 then exchange_again fulfilled less row ns
+    else option_and_then (exchange_behind fulfilled less ns) (row_value row 0)
 exchange_from fulfilled less [] = None

@@ -1,7 +1,7 @@
--- A text of numbers, each behind a mark.
+-- A text of numbers, each after a mark.
 use Rattle.std.specs.Prelude.{ℕ, ◌+◌, ◌-◌, ◌*◌, ◌&&◌, min, nat_le, Bool, List, [], ◌∷◌, ◌++◌, if◌then◌else◌, Option, Some, None, decimal, ◌≡◌, true}
 
--- each number in decimal digits, behind its mark
+-- each number in decimal digits, after its mark
 abbrev pub marked : List (List ℕ × ℕ) → List ℕ
 marked [] = []
 marked ((mark, n) ∷ rest) = mark ++ (decimal n ++ marked rest)
@@ -14,7 +14,9 @@ abbrev pub numbers_in : Option ℕ → List ℕ → List ℕ
 numbers_in None [] = []
 numbers_in (Some n) [] = n ∷ []
 numbers_in None (b ∷ rest) = if is_digit b then numbers_in (Some (b - 48)) rest else numbers_in None rest
-numbers_in (Some n) (b ∷ rest) = if is_digit b then numbers_in (Some (min (n * 10 + (b - 48)) 18_446_744_073_709_551_615)) rest else n ∷ numbers_in None rest
+numbers_in (Some n) (b ∷ rest) =
+    if is_digit b then numbers_in (Some (min (n * 10 + (b - 48)) 18_446_744_073_709_551_615)) rest else n
+    ∷ numbers_in None rest
 
 -- the text spells the value, which is in range
 abbrev pub IsSpelling : {A : Type 0} → (A → Bool) → (A → List ℕ) → List ℕ → A → Type 0

@@ -18,7 +18,15 @@ pub record OfferView : Type 0 where
   pub segments : List Segment
 
 abbrev pub offer_view : OfferCode → OfferView
-offer_view c = record { made = c.made; adults = c.adults; children = c.children; class = c.class; wanted = c.wanted; segments = c.segments.items }
+offer_view c =
+    record {
+      made = c.made;
+      adults = c.adults;
+      children = c.children;
+      class = c.class;
+      wanted = c.wanted;
+      segments = c.segments.items;
+    }
 
 -- a run of the greatest catalogue, and legs of it
 abbrev pub is_segment : Segment → Bool
@@ -49,14 +57,15 @@ class_number Second = 2
 abbrev pub segment_marks : List ℕ → Segment → List (List ℕ × ℕ)
 segment_marks mark s = (mark, s.run.0) ∷ (codes ".", s.span.from) ∷ (codes ".", s.span.to) ∷ []
 
--- the first segment behind its mark, and each later one behind `_`
+-- the first segment after its mark, and each later one after `_`
 abbrev pub segments_marks : List ℕ → List Segment → List (List ℕ × ℕ)
 segments_marks mark [] = []
 segments_marks mark (s ∷ rest) = segment_marks mark s ++ segments_marks (codes "_") rest
 
 abbrev pub offer_marks : List ℕ → OfferView → List (List ℕ × ℕ)
 offer_marks mark o =
-    (mark, o.made) ∷ (codes "-", o.adults) ∷ (codes "-", o.children) ∷ (codes "-", class_number o.class) ∷ (codes "-", o.wanted)
+    (mark, o.made) ∷ (codes "-", o.adults) ∷ (codes "-", o.children) ∷ (codes "-", class_number o.class)
+    ∷ (codes "-", o.wanted)
     ∷ segments_marks (codes "-") o.segments
 
 -- `O` made `-` adults `-` children `-` class `-` wanted `-` segments

@@ -7,6 +7,6 @@ use Rattle.rail_ids.specs.declared.RowNo.{RowNo}
 abbrev pub is_row : RowNo → Bool
 is_row row = nat_le row.row 262_143 && nat_le row.generation last_generation
 
--- the row's number behind this mark, and the generation behind `.` where it isn't 0
+-- the row's number after this mark, and the generation after `.` where it isn't 0
 abbrev pub row_marks : List ℕ → RowNo → List (List ℕ × ℕ)
 row_marks mark row = (mark, row.row) ∷ (if row.generation == 0 then [] else (codes ".", row.generation) ∷ [])

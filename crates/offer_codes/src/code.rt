@@ -11,7 +11,7 @@ pub const MOST_PASSENGERS: u8 = 8;
 pub const VALID_SECONDS: u32 = 900;
 
 /// A stretch of one run that a trip travels.
-#[derive(Debug, Clone, Copy, PartialEq, Eq)]
+#[derive(Clone, Copy, PartialEq, Eq)]
 pub struct Segment {
     pub run: RunNo,
     pub span: Span,
@@ -41,7 +41,7 @@ pub struct OfferCode {
 }
 
 /// What a refund offer's id spells.
-#[derive(Debug, Clone, Copy, PartialEq, Eq)]
+#[derive(Clone, Copy, PartialEq, Eq)]
 pub struct RefundCode {
     /// The booking that is to be refunded.
     pub row: RowNo,

@@ -24,7 +24,7 @@ pub fn write_offer(code: &OfferCode) -> ArrayVec<u8, 128>
     text
 }
 
-/// Appends the offer, whose first number stands behind this mark.
+/// Appends the offer, whose first number stands after this mark.
 pub(crate) fn push_offer(text: &mut ArrayVec<u8, 128>, mark: &[u8], code: &OfferCode)
     requires ranges { is_offer (offer_view code.now) ≡ true }
     requires room { array_vec_len text.old ≤ 52 }
@@ -39,7 +39,7 @@ pub(crate) fn push_offer(text: &mut ArrayVec<u8, 128>, mark: &[u8], code: &Offer
     push_segments(text, code.segments.as_slice());
 }
 
-// The first segment stands behind `-`, each later one behind `_`.
+// The first segment stands after `-`, each later one after `_`.
 fn push_segments(text: &mut ArrayVec<u8, 128>, segments: &[Segment])
     requires segments { list_all is_segment segments.now ≡ true }
     requires few { length segments.now ≤ 3 }

@@ -28,9 +28,5 @@ numbers_few passes k (p ∷ places) = by_test (passes p) (numbers_few passes (k 
     by_test true more = omega arith
     by_test false more = omega arith
 
-pub candidates_below : (xs : List PlaceNo) (run wanted n : ℕ) (class : Class) (places : List Place) → xs ≡ candidates_of run class wanted places → length places ≤ n → (i : ℕ) (d : PlaceNo) → i < length xs → (slice_index_or xs i d).0 < n
-candidates_below xs run wanted n class places is h =
-    subst (λ (l : List PlaceNo). (i : ℕ) (d : PlaceNo) → i < length l → (slice_index_or l i d).0 < n) (sym is) (numbers_below (is_candidate run class wanted) 0 n places (omega arith))
-
 pub candidates_few : (xs : List PlaceNo) (run wanted : ℕ) (class : Class) (places : List Place) → xs ≡ candidates_of run class wanted places → length xs ≤ length places
 candidates_few xs run wanted class places is = subst (λ (l : List PlaceNo). length l ≤ length places) (sym is) (numbers_few (is_candidate run class wanted) 0 places)

@@ -9,7 +9,7 @@ use Rattle.offer_codes.specs.declared.code.Offer.{Offer}
 use Rattle.history_model.specs.declared.entry.Step.{Step}
 use Rattle.history_model.specs.History.{IsLegal}
 use Rattle.claim_rule.specs.Rule.{DeskView}
-use Rattle.claim_rule.specs.Calls.{ShapeBy}
+use Rattle.claim_rule.specs.Calls.{AddsStepsBy}
 use Rattle.claim_rule.proofs.Shapes.{shape_then, shape_none}
 use Rattle.rail_catalogue.specs.Contents.{CatalogueView}
 use Rattle.availability.specs.Looks.{CountsFree}
@@ -25,12 +25,12 @@ counts_append cat w (s ∷ a) b [] fb ea eb x y = absurd x
 counts_one : (cat : CatalogueView) (w : OfferWish) (s : Segment) (n : ℕ) (es : List Step) → CountsFree (wanted_places cat w s) s.span n es → CountsSegments cat w (s ∷ []) (n ∷ []) es
 counts_one cat w s n es x = (es, [], x, refl, sym (append-nil es))
 
-pub counted_none : (cat : CatalogueView) (w : OfferWish) (desk : DeskView) → IsLegal desk.layout desk.seen → ShapeBy (CountsSegments cat w [] []) desk desk
+pub counted_none : (cat : CatalogueView) (w : OfferWish) (desk : DeskView) → IsLegal desk.layout desk.seen → AddsStepsBy (CountsSegments cat w [] []) desk desk
 counted_none cat w desk legal = ([], refl, shape_none desk legal)
 
 pub counted_next : (cat : CatalogueView) (w : OfferWish) (old mid new : DeskView) (segments : List Segment) (i : ℕ) (d : Segment) (free : List ℕ) (n : ℕ) → i < length segments
-    → ShapeBy (CountsSegments cat w (take i segments) free) old mid → ShapeBy (CountsFree (wanted_places cat w (get_or segments i d)) (get_or segments i d).span n) mid new
-    → ShapeBy (CountsSegments cat w (take (i + 1) segments) (free ++ n ∷ [])) old new
+    → AddsStepsBy (CountsSegments cat w (take i segments) free) old mid → AddsStepsBy (CountsFree (wanted_places cat w (get_or segments i d)) (get_or segments i d).span n) mid new
+    → AddsStepsBy (CountsSegments cat w (take (i + 1) segments) (free ++ n ∷ [])) old new
 counted_next cat w old mid new segments i d free n h so did = (
   so.0 ++ did.0,
   subst (λ (l : List Segment). CountsSegments cat w l (free ++ n ∷ []) (so.0 ++ did.0)) (sym (take_more segments i d h))
@@ -58,21 +58,21 @@ offers_counts cat w now (u ∷ a) (p ∷ oa) ea x =
 offers_counts cat w now [] (p ∷ oa) ea x = absurd x
 offers_counts cat w now (u ∷ a) [] ea x = absurd x
 
-pub offers_none : (cat : CatalogueView) (w : OfferWish) (now : ℕ) (desk : DeskView) → IsLegal desk.layout desk.seen → ShapeBy (OffersFor cat w now [] []) desk desk
+pub offers_none : (cat : CatalogueView) (w : OfferWish) (now : ℕ) (desk : DeskView) → IsLegal desk.layout desk.seen → AddsStepsBy (OffersFor cat w now [] []) desk desk
 offers_none cat w now desk legal = ([], refl, shape_none desk legal)
 
 pub offers_next : (cat : CatalogueView) (w : OfferWish) (now : ℕ) (old mid new : DeskView) (trips : List (List Segment)) (i : ℕ) (d : List Segment) (made : List Offer) (o : Offer) → i < length trips
-    → ShapeBy (OffersFor cat w now (take i trips) made) old mid → ShapeBy (IsOfferFor cat w now (get_or trips i d) o) mid new → ShapeBy (OffersFor cat w now (take (i + 1) trips) (made ++ o ∷ [])) old new
+    → AddsStepsBy (OffersFor cat w now (take i trips) made) old mid → AddsStepsBy (IsOfferFor cat w now (get_or trips i d) o) mid new → AddsStepsBy (OffersFor cat w now (take (i + 1) trips) (made ++ o ∷ [])) old new
 offers_next cat w now old mid new trips i d made o h so did = (
   so.0 ++ did.0,
   subst (λ (l : List (List Segment)). OffersFor cat w now l (made ++ o ∷ []) (so.0 ++ did.0)) (sym (take_more trips i d h)) (offers_append cat w now (take i trips) (get_or trips i d) made o so.0 did.0 so.1 did.1),
   shape_then old mid new so.0 did.0 so.2 did.2,
 )
 
-pub begun_none : (cat : CatalogueView) (w : OfferWish) (desk : DeskView) (trips : List (List Segment)) → IsLegal desk.layout desk.seen → ShapeBy (BeginsOffers cat w trips) desk desk
+pub begun_none : (cat : CatalogueView) (w : OfferWish) (desk : DeskView) (trips : List (List Segment)) → IsLegal desk.layout desk.seen → AddsStepsBy (BeginsOffers cat w trips) desk desk
 begun_none cat w desk trips legal = ([], ([], all_of trips, [], refl, refl), shape_none desk legal)
 
-pub begun_whole : (cat : CatalogueView) (w : OfferWish) (now : ℕ) (old mid : DeskView) (trips : List (List Segment)) (i : ℕ) (made : List Offer) → ShapeBy (OffersFor cat w now (take i trips) made) old mid → ShapeBy (BeginsOffers cat w trips) old mid
+pub begun_whole : (cat : CatalogueView) (w : OfferWish) (now : ℕ) (old mid : DeskView) (trips : List (List Segment)) (i : ℕ) (made : List Offer) → AddsStepsBy (OffersFor cat w now (take i trips) made) old mid → AddsStepsBy (BeginsOffers cat w trips) old mid
 begun_whole cat w now old mid trips i made so =
     let counts = offers_counts cat w now (take i trips) made so.0 so.1 in
     (so.0, (all_of (take i trips), all_of (drop i trips), counts.0, ap all_of (sym (take-append-drop i trips)) ∙ flat_map-append (λ t. t) (take i trips) (drop i trips), counts.1), so.2)

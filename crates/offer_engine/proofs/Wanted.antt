@@ -9,7 +9,7 @@ use Rattle.leg_masks.specs.Interval.{Interval}
 use Rattle.rail_ids.specs.declared.PlaceNo.{PlaceNo}
 use Rattle.history_model.specs.declared.entry.Step.{Step}
 use Rattle.claim_rule.specs.Rule.{DeskView}
-use Rattle.claim_rule.specs.Calls.{ShapeBy}
+use Rattle.claim_rule.specs.Calls.{AddsStepsBy}
 use Rattle.claim_rule.proofs.Shapes.{shape_then}
 use Rattle.availability.specs.Looks.{LooksAt, CountsFree}
 
@@ -26,15 +26,15 @@ looks_count [] span (s ∷ ss) es a = absurd a
 looks_count (p ∷ xs) span [] es a = absurd a
 
 -- no more are free than were looked at
-pub free_at_most : (xs : List PlaceNo) (span : Interval) (n : ℕ) (old new : DeskView) → ShapeBy (CountsFree xs span n) old new → n ≤ length xs
+pub free_at_most : (xs : List PlaceNo) (span : Interval) (n : ℕ) (old new : DeskView) → AddsStepsBy (CountsFree xs span n) old new → n ≤ length xs
 free_at_most xs span n old new did =
     let states = did.1.0 in
     let most = count_by-le-length (λ (s : Bool). s) states in
     let count = looks_count xs span states did.0 did.1.1 in
     omega (arith, most, count, did.1.2)
 
-counts_append : (xs ys : List PlaceNo) (span : Interval) (a b : ℕ) (old mid new : DeskView) → ShapeBy (CountsFree xs span a) old mid → ShapeBy (CountsFree ys span b) mid new
-    → ShapeBy (CountsFree (xs ++ ys) span (a + b)) old new
+counts_append : (xs ys : List PlaceNo) (span : Interval) (a b : ℕ) (old mid new : DeskView) → AddsStepsBy (CountsFree xs span a) old mid → AddsStepsBy (CountsFree ys span b) mid new
+    → AddsStepsBy (CountsFree (xs ++ ys) span (a + b)) old new
 counts_append xs ys span a b old mid new one two =
     let ss = one.1.0 in
     let ts = two.1.0 in
@@ -45,13 +45,13 @@ counts_append xs ys span a b old mid new one two =
     )
 
 pub wanted_yes : (p : PlaceNo → Bool) (xs : List PlaceNo) (i : ℕ) (d : PlaceNo) (span : Interval) (a b : ℕ) (old mid new : DeskView) → i < length xs → p (get_or xs i d) ≡ true
-    → ShapeBy (CountsFree (filter p (take i xs)) span a) old mid → ShapeBy (CountsFree (get_or xs i d ∷ []) span b) mid new → ShapeBy (CountsFree (filter p (take (i + 1) xs)) span (a + b)) old new
+    → AddsStepsBy (CountsFree (filter p (take i xs)) span a) old mid → AddsStepsBy (CountsFree (get_or xs i d ∷ []) span b) mid new → AddsStepsBy (CountsFree (filter p (take (i + 1) xs)) span (a + b)) old new
 wanted_yes p xs i d span a b old mid new h passes one two =
     let x = get_or xs i d in
     let kept : filter p (x ∷ []) ≡ x ∷ [] = ap (λ (t : Bool). if t then x ∷ [] else []) passes in
     let whole : filter p (take (i + 1) xs) ≡ filter p (take i xs) ++ x ∷ [] =
     ap (filter p) (take_more xs i d h) ∙ (filter-append p (take i xs) (x ∷ []) ∙ ap (λ (l : List PlaceNo). filter p (take i xs) ++ l) kept) in
-    subst (λ (l : List PlaceNo). ShapeBy (CountsFree l span (a + b)) old new) (sym whole) (counts_append (filter p (take i xs)) (x ∷ []) span a b old mid new one two)
+    subst (λ (l : List PlaceNo). AddsStepsBy (CountsFree l span (a + b)) old new) (sym whole) (counts_append (filter p (take i xs)) (x ∷ []) span a b old mid new one two)
 
 pub wanted_no : (p : PlaceNo → Bool) (xs : List PlaceNo) (i : ℕ) (d : PlaceNo) → i < length xs → p (get_or xs i d) ≡ false → filter p (take (i + 1) xs) ≡ filter p (take i xs)
 wanted_no p xs i d h denied =

@@ -20,4 +20,5 @@ goes r made segments =
     && are_connected r segments)
 
 abbrev pub is_offered : CatalogueView → OfferView → Bool
-is_offered cat o = nat_lt 0 (length o.segments) && (list_all (is_of_runs cat.runs) o.segments && goes cat.runs o.made o.segments)
+is_offered cat o =
+    nat_lt 0 (length o.segments) && (list_all (is_of_runs cat.runs) o.segments && goes cat.runs o.made o.segments)

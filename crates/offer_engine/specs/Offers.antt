@@ -28,14 +28,23 @@ fare_on cat class run = option_map_or (fare_in class) (slice_get cat.fares run) 
 
 -- what the passengers pay for a segment
 abbrev pub segment_price : CatalogueView → Class → ℕ → ℕ → Segment → ℕ
-segment_price cat class adults children s = price_of (fare_on cat class s.run.0) (s.span.to - s.span.from) adults children
+segment_price cat class adults children s =
+    price_of (fare_on cat class s.run.0) (s.span.to - s.span.from) adults children
 
 -- and for the whole offer
 abbrev pub offer_price : CatalogueView → OfferView → ℕ
 offer_price cat o = sum_by (segment_price cat o.class o.adults o.children) o.segments
 
 abbrev pub code_for : OfferWish → ℕ → List Segment → OfferView
-code_for w now segments = record { made = now; adults = w.adults; children = w.children; class = w.class; wanted = w.wanted; segments = segments }
+code_for w now segments =
+    record {
+      made = now;
+      adults = w.adults;
+      children = w.children;
+      class = w.class;
+      wanted = w.wanted;
+      segments = segments;
+    }
 
 -- the places of the segment's run that the wish may have
 abbrev pub wanted_places : CatalogueView → OfferWish → Segment → List PlaceNo
@@ -49,24 +58,29 @@ CountsSegment cat w s n es = CountsFree (wanted_places cat w s) s.span n es
 abbrev pub CountsSegments : CatalogueView → OfferWish → List Segment → List ℕ → List Step → Type 0
 CountsSegments cat w [] [] es = es ≡ []
 CountsSegments cat w (s ∷ rest) (n ∷ free) es =
-    (first : List Step) × (more : List Step) × CountsSegment cat w s n first × CountsSegments cat w rest free more × (es ≡ first ++ more)
+    (first : List Step) × (more : List Step) × CountsSegment cat w s n first × CountsSegments cat w rest free more
+    × (es ≡ first ++ more)
 CountsSegments cat w [] (n ∷ free) es = ⊥
 CountsSegments cat w (s ∷ rest) [] es = ⊥
 
 -- and of the first of them
 abbrev pub BeginsCounts : CatalogueView → OfferWish → List Segment → List Step → Type 0
-BeginsCounts cat w segments es = (front : List Segment) × (rest : List Segment) × (free : List ℕ) × (segments ≡ front ++ rest) × CountsSegments cat w front free es
+BeginsCounts cat w segments es =
+    (front : List Segment) × (rest : List Segment) × (free : List ℕ) × (segments ≡ front ++ rest)
+    × CountsSegments cat w front free es
 
 -- the offer of a trip, with its looks
 abbrev pub IsOfferFor : CatalogueView → OfferWish → ℕ → List Segment → Offer → List Step → Type 0
 IsOfferFor cat w now trip o es =
-    (offer_view o.code ≡ code_for w now trip) × (o.price ≡ offer_price cat (code_for w now trip)) × CountsSegments cat w trip o.free.items es
+    (offer_view o.code ≡ code_for w now trip) × (o.price ≡ offer_price cat (code_for w now trip))
+    × CountsSegments cat w trip o.free.items es
 
 -- an offer for each of the trips, in order
 abbrev pub OffersFor : CatalogueView → OfferWish → ℕ → List (List Segment) → List Offer → List Step → Type 0
 OffersFor cat w now [] [] es = es ≡ []
 OffersFor cat w now (t ∷ trips) (o ∷ offers) es =
-    (first : List Step) × (more : List Step) × IsOfferFor cat w now t o first × OffersFor cat w now trips offers more × (es ≡ first ++ more)
+    (first : List Step) × (more : List Step) × IsOfferFor cat w now t o first × OffersFor cat w now trips offers more
+    × (es ≡ first ++ more)
 OffersFor cat w now [] (o ∷ offers) es = ⊥
 OffersFor cat w now (t ∷ trips) [] es = ⊥
 

@@ -1,7 +1,7 @@
 ghost use Rattle.std.specs.Prelude.{◌≡◌, ◌≤◌, ◌<◌, ◌+◌, ◌*◌, length, All, IfSome};
 ghost use Rattle.std.specs.List.{filter};
 ghost use Rattle.claim_rule.specs.Desks.{IsOf};
-ghost use Rattle.claim_rule.specs.Calls.{ShapeBy};
+ghost use Rattle.claim_rule.specs.Calls.{AddsStepsBy};
 ghost use Rattle.claim_rule.specs.Out.{KeepsHolds, KeepsEndings, IsTidy};
 ghost use Rattle.place_map.specs.ByClass.{has_traits};
 ghost use Rattle.place_map.specs.Candidates.{AreRising};
@@ -31,7 +31,7 @@ pub(crate) fn count_segments(
     requires legs { books.now.layout.legs ≡ legs_in cat.now }
     requires few { length segments.now ≤ 3 }
     ensures own { IsOf books.now desk.new }
-    ensures entries { ShapeBy (CountsSegments cat.now wish.now segments.now result.items) desk.old desk.new }
+    ensures entries { AddsStepsBy (CountsSegments cat.now wish.now segments.now result.items) desk.old desk.new }
     ensures holds { KeepsHolds desk.old desk.new }
     ensures endings { KeepsEndings desk.old desk.new }
     ensures tidy { IsTidy desk.old → IsTidy desk.new }
@@ -54,7 +54,7 @@ fn count_segment(
     requires own { IsOf books.now desk.old }
     requires legs { books.now.layout.legs ≡ legs_in cat.now }
     ensures own { IsOf books.now desk.new }
-    ensures entries { ShapeBy (CountsSegment cat.now wish.now segment.now result) desk.old desk.new }
+    ensures entries { AddsStepsBy (CountsSegment cat.now wish.now segment.now result) desk.old desk.new }
     ensures holds { KeepsHolds desk.old desk.new }
     ensures endings { KeepsEndings desk.old desk.new }
     ensures tidy { IsTidy desk.old → IsTidy desk.new }
@@ -76,7 +76,7 @@ fn count_all(books: &Books, desk: &mut Desk, numbers: &[PlaceNo], span: Span) ->
     requires places { All (λ n. n.0 < length books.now.layout.legs) numbers.now }
     requires few { length numbers.now < 4_294_967_296 }
     ensures own { IsOf books.now desk.new }
-    ensures entries { ShapeBy (CountsFree numbers.now span result) desk.old desk.new }
+    ensures entries { AddsStepsBy (CountsFree numbers.now span result) desk.old desk.new }
     ensures holds { KeepsHolds desk.old desk.new }
     ensures endings { KeepsEndings desk.old desk.new }
     ensures tidy { IsTidy desk.old → IsTidy desk.new }
@@ -120,7 +120,7 @@ fn count_with_traits(
     requires few { length numbers.now < 4_294_967_296 }
     ensures own { IsOf books.now desk.new }
     ensures entries { let wanted_of = filter (has_traits wanted places.now) numbers.now in
-        ShapeBy (CountsFree wanted_of span result) desk.old desk.new }
+        AddsStepsBy (CountsFree wanted_of span result) desk.old desk.new }
     ensures holds { KeepsHolds desk.old desk.new }
     ensures endings { KeepsEndings desk.old desk.new }
     ensures tidy { IsTidy desk.old → IsTidy desk.new }

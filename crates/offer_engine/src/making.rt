@@ -1,7 +1,7 @@
 ghost use Rattle.std.specs.Prelude.{◌≡◌, max, true, IfOk, OnErr};
 ghost use Rattle.offer_codes.specs.Offers.{is_party};
 ghost use Rattle.claim_rule.specs.Desks.{IsOf};
-ghost use Rattle.claim_rule.specs.Calls.{ShapeBy};
+ghost use Rattle.claim_rule.specs.Calls.{AddsStepsBy};
 ghost use Rattle.claim_rule.specs.Out.{KeepsHolds, KeepsEndings, IsTidy};
 ghost use Rattle.rail_catalogue.specs.Contents.{legs_in};
 ghost use Rattle.offer_engine.specs.Offers.{raised as raised_of, MakesOffers, BeginsMaking, IsOfferFor};
@@ -37,8 +37,8 @@ pub fn offers(
     requires legs { books.now.layout.legs ≡ legs_in cat.now }
     requires party { is_party wish.now.adults wish.now.children ≡ true }
     ensures own { IsOf books.now desk.new }
-    ensures entries { IfOk result (λ v. ShapeBy (MakesOffers cat.now wish.now now v.items) desk.old desk.new) }
-    ensures begun { OnErr result (ShapeBy (BeginsMaking cat.now wish.now now) desk.old desk.new) }
+    ensures entries { IfOk result (λ v. AddsStepsBy (MakesOffers cat.now wish.now now v.items) desk.old desk.new) }
+    ensures begun { OnErr result (AddsStepsBy (BeginsMaking cat.now wish.now now) desk.old desk.new) }
     ensures holds { KeepsHolds desk.old desk.new }
     ensures endings { KeepsEndings desk.old desk.new }
     ensures tidy { IsTidy desk.old → IsTidy desk.new }
@@ -74,7 +74,7 @@ fn offer_of(
     requires legs { books.now.layout.legs ≡ legs_in cat.now }
     requires party { is_party wish.now.adults wish.now.children ≡ true }
     ensures own { IsOf books.now desk.new }
-    ensures entries { ShapeBy (IsOfferFor cat.now wish.now now trip.now result) desk.old desk.new }
+    ensures entries { AddsStepsBy (IsOfferFor cat.now wish.now now trip.now result) desk.old desk.new }
     ensures holds { KeepsHolds desk.old desk.new }
     ensures endings { KeepsEndings desk.old desk.new }
     ensures tidy { IsTidy desk.old → IsTidy desk.new }

@@ -2,7 +2,7 @@ use place_map::Class;
 use trip_builder::TripWish;
 
 /// Who wishes to travel, in which class, with which traits of each place, and from where to where.
-#[derive(Debug, Clone, Copy, PartialEq, Eq)]
+#[derive(Clone, Copy, PartialEq, Eq)]
 pub struct OfferWish {
     pub trip: TripWish,
     pub adults: u8,

@@ -56,7 +56,8 @@ has_body route.Sweep = false
 
 -- what a route asks with these bytes as its body
 abbrev pub asked_by : CatalogueView → Route → List ℕ → Result Asked BodyFault
-asked_by cat route body = if has_body route then in_object (json_of body) (asked_in cat route) else asked_in cat route null
+asked_by cat route body =
+    if has_body route then in_object (json_of body) (asked_in cat route) else asked_in cat route null
 
 -- the body is this object
 abbrev pub IsObject : List ℕ → Data → Type 0
@@ -91,7 +92,8 @@ SpellsExchange text code = Spells is_exchange exchange_text text (option_map exc
 abbrev pub Asks : Result Asked BodyFault → Command → Type 0
 Asks asked (command.Offers trip adults children class wanted) = asked ≡ Ok (offers trip adults children class wanted)
 Asks asked (command.Book offer together) = (text : List ℕ) × (asked ≡ Ok (book text together)) × SpellsOffer text offer
-Asks asked (command.Reserve segment class count wanted together) = asked ≡ Ok (reserve segment class count wanted together)
+Asks asked (command.Reserve segment class count wanted together) =
+    asked ≡ Ok (reserve segment class count wanted together)
 Asks asked (command.Show row) = (text : List ℕ) × (asked ≡ Ok (show text)) × SpellsRow text row
 Asks asked (command.Release row) = (text : List ℕ) × (asked ≡ Ok (release text)) × SpellsRow text row
 Asks asked (command.Confirm row) = (text : List ℕ) × (asked ≡ Ok (confirm text)) × SpellsRow text row

@@ -15,11 +15,13 @@ abbrev pub if_status : List ℕ → List ℕ → Option (List ℕ)
 if_status wanted text = if bytes_eq text wanted then Some text else None
 
 abbrev pub with_status : List ℕ → Asked → Data → Result Asked BodyFault
-with_status wanted asked d = need Status (option_and_then (if_status wanted) (text_of (get (codes "status") d))) (λ _. Ok asked)
+with_status wanted asked d =
+    need Status (option_and_then (if_status wanted) (text_of (get (codes "status") d))) (λ _. Ok asked)
 
 -- the status passed as the wanted one, or else it is the field at fault
 abbrev pub IsStatusTest : List ℕ → Data → Bool → Type 0
-IsStatusTest wanted d passed = (asked : Asked) → with_status wanted asked d ≡ (if passed then Ok asked else Err (Field Status))
+IsStatusTest wanted d passed =
+    (asked : Asked) → with_status wanted asked d ≡ (if passed then Ok asked else Err (Field Status))
 
 abbrev pub fulfil_of : List ℕ → Data → Result Asked BodyFault
 fulfil_of id d = with_status (codes "FULFILLED") (fulfil id) d
@@ -38,4 +40,5 @@ quote_exchange_of d =
     need OfferId (text_of (get (codes "offerId") d)) (λ offer. Ok (quote_exchange booking offer)))
 
 abbrev pub accept_exchange_of : List ℕ → Data → Result Asked BodyFault
-accept_exchange_of id d = need ExchangeOfferId (text_of (get (codes "exchangeOfferId") d)) (λ offer. Ok (accept_exchange id offer))
+accept_exchange_of id d =
+    need ExchangeOfferId (text_of (get (codes "exchangeOfferId") d)) (λ offer. Ok (accept_exchange id offer))

@@ -48,7 +48,8 @@ flag_in (Some d) = as_bool d
 -- the traits found so far with those of the items left
 abbrev pub traits_from : ℕ → List Data → Option ℕ
 traits_from found [] = Some found
-traits_from found (d ∷ ds) = option_and_then (λ bit. traits_from (bit_or found bit) ds) (option_and_then trait_named (as_str d))
+traits_from found (d ∷ ds) =
+    option_and_then (λ bit. traits_from (bit_or found bit) ds) (option_and_then trait_named (as_str d))
 
 -- a list of traits as the sum of their bits, and none where the member is missing
 abbrev pub traits_in : Option Data → Option ℕ

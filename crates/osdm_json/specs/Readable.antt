@@ -27,9 +27,11 @@ pub record IsWithinRun (cat : CatalogueView) (s : Segment) : Type 0 where
   pub legs : s.span.to ≤ legs_of run
 
 abbrev pub IsReadable : CatalogueView → Command → Type 0
-IsReadable cat (command.Offers trip adults children class wanted) = IsTripWish cat trip × (is_party adults children ≡ true) × (wanted ≤ 31)
+IsReadable cat (command.Offers trip adults children class wanted) =
+    IsTripWish cat trip × (is_party adults children ≡ true) × (wanted ≤ 31)
 IsReadable cat (command.Book offer together) = IfSome offer (λ c. is_offer (offer_view c) ≡ true)
-IsReadable cat (command.Reserve segment class count wanted together) = IsWithinRun cat segment × (1 ≤ count) × (count ≤ 8) × (wanted ≤ 31)
+IsReadable cat (command.Reserve segment class count wanted together) =
+    IsWithinRun cat segment × (1 ≤ count) × (count ≤ 8) × (wanted ≤ 31)
 IsReadable cat (command.Show row) = Unit {0}
 IsReadable cat (command.Release row) = Unit {0}
 IsReadable cat (command.Confirm row) = Unit {0}

@@ -5,7 +5,7 @@ use osdm_texts::{FieldName, Problem};
 
 /// Why a request asks for nothing. The first fault in the order of the route's fields is the answer, and stations come
 /// after all fields.
-#[derive(Debug, Clone, Copy, PartialEq, Eq)]
+#[derive(Clone, Copy, PartialEq, Eq)]
 pub enum BodyFault {
     /// The body is no JSON in UTF-8 (RFC 8259), or nests deeper than 127.
     NotJson,

@@ -1,5 +1,5 @@
 /// What a method and a path ask for, with the parameters of the path as they stand in it.
-#[derive(Debug, Clone, Copy)]
+#[derive(Clone, Copy)]
 pub enum Route<'p> {
     /// `POST /offers`
     Offers,

@@ -1,4 +1,4 @@
--- What a call puts behind the tokens of a writer.
+-- What a call puts after the tokens of a writer.
 use Rattle.std.specs.Prelude.{◌≡◌, List, ◌++◌}
 use Rattle.std.specs.List.{flat_map}
 use Rattle.json.specs.Token.{Token}

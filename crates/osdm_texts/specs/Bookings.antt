@@ -34,7 +34,9 @@ seen_end ended = option_map shown_end ended
 -- how a settled booking ended stands before the other members
 abbrev pub end_members : CatalogueView → Option End → Members → Members
 end_members cat None rest = rest
-end_members cat (Some e) rest = member (codes "endAmount") (amount_tree cat.currency e.amount) (member (codes "endedAt") (string (time_text e.moment)) rest)
+end_members cat (Some e) rest =
+    member (codes "endAmount") (amount_tree cat.currency e.amount)
+    (member (codes "endedAt") (string (time_text e.moment)) rest)
 
 -- the booking whose word as a successor is one more than this
 abbrev pub successor_before : ℕ → RowNo

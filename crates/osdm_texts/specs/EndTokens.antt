@@ -10,8 +10,10 @@ use Rattle.osdm_texts.specs.Appends.{tokens_of}
 abbrev pub end_tokens : CatalogueView → Option End → List Token
 end_tokens cat None = []
 end_tokens cat (Some e) =
-    (key (codes "endAmount") ∷ tokens_of (amount_tree cat.currency e.amount)) ++ key (codes "endedAt") ∷ string (time_text e.moment) ∷ []
+    (key (codes "endAmount") ∷ tokens_of (amount_tree cat.currency e.amount)) ++ key (codes "endedAt")
+    ∷ string (time_text e.moment) ∷ []
 
 -- what follows the number of an amount
 abbrev pub amount_rest : List ℕ → List Token
-amount_rest currency = key (codes "currency") ∷ string currency ∷ key (codes "scale") ∷ number (decimal 2) ∷ end_object ∷ []
+amount_rest currency =
+    key (codes "currency") ∷ string currency ∷ key (codes "scale") ∷ number (decimal 2) ∷ end_object ∷ []

@@ -20,9 +20,11 @@ valid_until made = min (made + valid_seconds) last_second
 abbrev pub segment_tree : CatalogueView → Segment → ℕ → Data
 segment_tree cat s free =
     object (member (codes "arrive") (string (time_text (run_stop cat s.run.0 s.span.to).arrive))
-    (member (codes "depart") (string (time_text (run_stop cat s.run.0 s.span.from).depart)) (member (codes "free") (count_tree free)
+    (member (codes "depart") (string (time_text (run_stop cat s.run.0 s.span.from).depart))
+    (member (codes "free") (count_tree free)
     (member (codes "from") (string (stop_code cat s.run.0 s.span.from)) (member (codes "run") (count_tree s.run.0)
-    (member (codes "to") (string (stop_code cat s.run.0 s.span.to)) (member (codes "train") (count_tree (train_of cat s.run.0)) no_members)))))))
+    (member (codes "to") (string (stop_code cat s.run.0 s.span.to))
+    (member (codes "train") (count_tree (train_of cat s.run.0)) no_members)))))))
 
 abbrev pub segment_trees : CatalogueView → List Segment → List ℕ → List Data
 segment_trees cat [] free = []
@@ -31,7 +33,8 @@ segment_trees cat (s ∷ rest) (n ∷ free) = segment_tree cat s n ∷ segment_t
 
 abbrev pub offer_tree : CatalogueView → Offer → Data
 offer_tree cat o =
-    object (member (codes "id") (string (offer_id (offer_view o.code))) (member (codes "price") (amount_tree cat.currency (pos o.price))
+    object (member (codes "id") (string (offer_id (offer_view o.code)))
+    (member (codes "price") (amount_tree cat.currency (pos o.price))
     (member (codes "segments") (array (items_of (segment_trees cat o.code.segments.items o.free.items)))
     (member (codes "validUntil") (string (time_text (valid_until o.code.made))) no_members))))
 

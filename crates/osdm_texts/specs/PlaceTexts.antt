@@ -16,7 +16,7 @@ free_line free = if free then codes ",\"free\":true,\"place\":" else codes ",\"f
 abbrev pub front_line : Bool → Class → ℕ → Bool → List ℕ
 front_line later class coach free = class_line later class ++ (decimal coach ++ free_line free)
 
--- a quoted name that is given, behind a comma where another stands before
+-- a quoted name that is given, after a comma where another stands before
 abbrev pub named_line : Bool → Bool → List ℕ → List ℕ
 named_line later given name = if given then comma_if later ++ name else []
 
@@ -37,8 +37,11 @@ traits_text traits =
 -- the first three traits
 abbrev pub first_line : Bool → Bool → Bool → List ℕ
 first_line a b c =
-    codes ",\"traits\":[" ++ (named_line false a (codes "\"WINDOW\"") ++ (named_line a b (codes "\"AISLE\"") ++ named_line (a || b) c (codes "\"TABLE\"")))
+    codes ",\"traits\":["
+    ++ (named_line false a (codes "\"WINDOW\"")
+    ++ (named_line a b (codes "\"AISLE\"") ++ named_line (a || b) c (codes "\"TABLE\"")))
 
 -- the last two, and the end of the place
 abbrev pub last_line : Bool → Bool → Bool → List ℕ
-last_line later d e = named_line later d (codes "\"QUIET\"") ++ (named_line (later || d) e (codes "\"POWER\"") ++ codes "]}")
+last_line later d e =
+    named_line later d (codes "\"QUIET\"") ++ (named_line (later || d) e (codes "\"POWER\"") ++ codes "]}")

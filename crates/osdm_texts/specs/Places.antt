@@ -24,7 +24,9 @@ trait_trees traits =
 abbrev pub place_tree : Place → Bool → Data
 place_tree p free =
     object (member (codes "class") (string (class_name p.class)) (member (codes "coach") (count_tree p.coach)
-    (member (codes "free") (boolean free) (member (codes "place") (count_tree p.number) (member (codes "traits") (array (items_of (trait_trees p.traits))) no_members)))))
+    (member (codes "free") (boolean free)
+    (member (codes "place") (count_tree p.number)
+    (member (codes "traits") (array (items_of (trait_trees p.traits))) no_members)))))
 
 abbrev pub place_trees : List Place → List Bool → List Data
 place_trees [] free = []

@@ -12,10 +12,12 @@ use Rattle.osdm_texts.specs.Offers.{valid_until}
 
 abbrev pub refund_tree : CatalogueView → RefundCode → Data
 refund_tree cat c =
-    object (member (codes "amount") (amount_tree cat.currency (pos c.amount)) (member (codes "id") (string (refund_id c))
+    object (member (codes "amount") (amount_tree cat.currency (pos c.amount))
+    (member (codes "id") (string (refund_id c))
     (member (codes "validUntil") (string (time_text (valid_until c.made))) no_members)))
 
 abbrev pub exchange_tree : CatalogueView → ExchangeCode → Data
 exchange_tree cat c =
-    object (member (codes "difference") (amount_tree cat.currency c.difference) (member (codes "id") (string (exchange_id (exchange_view c)))
+    object (member (codes "difference") (amount_tree cat.currency c.difference)
+    (member (codes "id") (string (exchange_id (exchange_view c)))
     (member (codes "validUntil") (string (time_text (valid_until c.made))) no_members)))

@@ -26,7 +26,8 @@ offers_tree cat offers = object (member (codes "offers") (array (items_of (map (
 -- the new booking, what was paid on top, and the booking that was replaced
 abbrev pub exchanged_tree : CatalogueView → RowNo → RowSeen → ℤ → RowNo → Data
 exchanged_tree cat row view difference replaced =
-    object (member (codes "booking") (booking_tree cat row view) (member (codes "difference") (amount_tree cat.currency difference)
+    object (member (codes "booking") (booking_tree cat row view)
+    (member (codes "difference") (amount_tree cat.currency difference)
     (member (codes "replaced") (string (booking_id replaced)) no_members)))
 
 abbrev pub places_tree : CatalogueView → ℕ → List Bool → Data

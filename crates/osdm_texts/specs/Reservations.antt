@@ -25,6 +25,8 @@ reservations (a ∷ b ∷ rest) = if goes_on a b then joined a b ∷ reservation
 -- a place with the legs that are reserved on it
 abbrev pub reservation_tree : CatalogueView → PlacedSpan → Data
 reservation_tree cat r = let p = place_at cat r.place in
-    object (member (codes "coach") (count_tree p.coach) (member (codes "from") (string (stop_code cat (run_number p) r.span.from))
+    object (member (codes "coach") (count_tree p.coach)
+    (member (codes "from") (string (stop_code cat (run_number p) r.span.from))
     (member (codes "place") (count_tree p.number) (member (codes "run") (count_tree (run_number p))
-    (member (codes "to") (string (stop_code cat (run_number p) r.span.to)) (member (codes "train") (count_tree (train_of cat (run_number p))) no_members))))))
+    (member (codes "to") (string (stop_code cat (run_number p) r.span.to))
+    (member (codes "train") (count_tree (train_of cat (run_number p))) no_members))))))

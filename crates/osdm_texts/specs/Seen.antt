@@ -9,8 +9,17 @@ use Rattle.osdm_texts.specs.declared.bookings.Shown.{Shown}
 
 -- a booking that is shown so, of no retailer in particular: its text doesn't tell whose it is
 abbrev pub seen_of : Shown → RowSeen
-seen_of s = record { phase = s.phase; retailer = 0; limit = s.limit; total = s.total; items = s.items.now; ended = seen_end s.ended }
+seen_of s =
+    record {
+      phase = s.phase;
+      retailer = 0;
+      limit = s.limit;
+      total = s.total;
+      items = s.items.now;
+      ended = seen_end s.ended;
+    }
 
 -- a new booking in this phase, with this detail and these items
 abbrev pub made_view : Phase → Detail → List Item → RowSeen
-made_view phase d items = record { phase = phase; retailer = d.retailer.0; limit = d.limit; total = d.total; items = items; ended = None }
+made_view phase d items =
+    record { phase = phase; retailer = d.retailer.0; limit = d.limit; total = d.total; items = items; ended = None }

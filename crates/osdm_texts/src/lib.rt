@@ -1,4 +1,4 @@
-//! What retailers are answered, as JSON texts: replies and problems. It is a room of its own since services write
+//! What retailers are answered, as JSON texts: replies and problems. It is a crate of its own since services write
 //! answers and read no request.
 //!
 //! Each reply and each problem has one JSON value, which the definitions give member by member; its text has no space,

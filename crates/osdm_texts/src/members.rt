@@ -1,4 +1,4 @@
-//! Members and values, put behind what a writer holds.
+//! Members and values, put after what a writer holds.
 ghost use Rattle.std.specs.Prelude.{[], ◌∷◌, pos, codes, decimal, OnOk};
 ghost use Rattle.json.specs.Token.{begin_object, end_object, key, string, number, boolean};
 ghost use Rattle.osdm_texts.specs.Times.{time_text as time_text_of};

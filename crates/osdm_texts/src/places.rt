@@ -89,7 +89,7 @@ fn line_before(
     Ok(text)
 }
 
-// What stands behind the number of a place.
+// What stands after the number of a place.
 fn line_behind(alloc: Global, traits: u8) -> Result<Vec<u8>, AllocError>
     ensures { IfOk result (λ text. text.items ≡ traits_text traits) }
 {
@@ -110,7 +110,7 @@ fn renew(alloc: Global, front: &mut Front, is_later: bool, place: &Place) -> Res
     Ok(())
 }
 
-// Makes what stands behind the number of a place with the traits before that of one with these, where it isn't.
+// Makes what stands after the number of a place with the traits before that of one with these, where it isn't.
 fn renew_end(end: &mut Vec<u8>, before: u8, traits: u8) -> Result<(), AllocError>
     requires before { end.old.items ≡ traits_text before }
     ensures { OnOk result (end.new.items ≡ traits_text traits) }
@@ -209,7 +209,7 @@ fn first_traits(window: bool, aisle: bool, table: bool) -> (&'static [u8], bool)
     }
 }
 
-// The names of the last two that are given, behind a comma where one stands before, and the end of the place.
+// The names of the last two that are given, after a comma where one stands before, and the end of the place.
 fn last_traits(is_later: bool, quiet: bool, power: bool) -> &'static [u8]
     ensures { result.now ≡ last_line is_later quiet power }
 {

@@ -8,7 +8,7 @@ use rail_time::Moment;
 
 /// Why a request isn't answered as asked. Each has a line in the table of problems: its code, its HTTP status, its
 /// title, and for some a detail.
-#[derive(Debug, Clone, Copy, PartialEq, Eq)]
+#[derive(Clone, Copy, PartialEq, Eq)]
 pub enum Problem {
     /// 400: the head is no request head (RFC 9112).
     BadHead,

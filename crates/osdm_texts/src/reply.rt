@@ -123,7 +123,7 @@ pub(crate) fn shown_text(
     Ok(finish(out))
 }
 
-// A sweep's text. It stands apart, like a problem's, since room for a small text is dear to clear for each reply.
+// A sweep's text. It stands apart, like a problem's, since room for a small text is costly to clear for each reply.
 #[inline(never)]
 fn counts_copy(alloc: Global, swept: Swept) -> Result<Vec<u8>, AllocError>
     ensures { IfOk result (λ text. text.items ≡ compact_text (swept_tree swept)) }

@@ -53,7 +53,7 @@ pub(crate) fn put_reservations(
     Ok(())
 }
 
-// The first reservation of a booking with these items, and the items behind it.
+// The first reservation of a booking with these items, and the items after it.
 fn split_first(items: &[Item]) -> Option<(Reservation, &[Item])>
     ensures first { IfSome result (λ found. reservations items.now ≡ found.0 ∷ reservations found.1.now) }
     ensures fewer { IfSome result (λ found. length found.1.now < length items.now) }

@@ -1,5 +1,5 @@
 //! Replies that are no problem, as they are told: a status, and a text with its length. What takes memory is written
-//! before the reply is decided on, so that want of memory can still be answered in its stead. What a sweep did takes
+//! before the reply is decided on, so that lack of memory can still be answered in its stead. What a sweep did takes
 //! none, and is written where it is told.
 ghost use Rattle.std.specs.Prelude.{◌≡◌, Ok, IfSome};
 ghost use Rattle.serde_json.specs.Written.{compact_text};
@@ -21,7 +21,7 @@ use rail_ids::RowNo;
 use std::alloc::Global;
 
 /// The status (RFC 9110) of a reply that is no problem.
-#[derive(Debug, Clone, Copy, PartialEq, Eq)]
+#[derive(Clone, Copy, PartialEq, Eq)]
 pub enum Success {
     /// 200 OK.
     Done,

@@ -10,7 +10,7 @@ use Rattle.place_map.specs.declared.coach.Place.{Place}
 use Rattle.history_model.specs.declared.entry.Step.{Step}
 use Rattle.history_model.specs.History.{IsLegal}
 use Rattle.claim_rule.specs.Rule.{DeskView}
-use Rattle.claim_rule.specs.Calls.{ShapeBy}
+use Rattle.claim_rule.specs.Calls.{AddsStepsBy}
 use Rattle.claim_rule.proofs.Shapes.{shape_then, shape_none}
 use Rattle.hold_core.specs.Tries.{place_number}
 use Rattle.availability.specs.Looks.{LooksPieces, CountsFree}
@@ -21,18 +21,9 @@ use Rattle.party_places.proofs.Sides.{Running, running_none, running_next, shows
 
 -- the looks at one place, as they are counted
 
-abbrev pub LooksOnce : ℕ → Interval → ℕ → List Step → Type 0
-LooksOnce place span count es = (free : Bool) × LooksPieces place (pieces span) free es × (count ≡ cond free 1 0)
-
 counts_one : (free : Bool) (count : ℕ) → count ≡ count_by (λ (state : Bool). state) (free ∷ []) → count ≡ cond free 1 0
 counts_one true count e = e
 counts_one false count e = e
-
-pub looks_once : (place : PlaceNo) (span : Interval) (count : ℕ) (es : List Step) → CountsFree (place ∷ []) span count es → LooksOnce place.0 span count es
-looks_once place span count es ([], at, many) = absurd at
-looks_once place span count es (free ∷ [], (looks, rest, one, none, is), many) =
-    (free, subst (LooksPieces place.0 (pieces span) free) (sym (is ∙ (ap (λ (l : List Step). looks ++ l) none ∙ append-nil looks))) one, counts_one free count many)
-looks_once place span count es (free ∷ other ∷ more, (looks, rest, one, at, is), many) = absurd at
 
 pub free_is : (free : Bool) (count : ℕ) → count ≡ cond free 1 0 → nat_lt 0 count ≡ free
 free_is true count e = ap (nat_lt 0) e
@@ -53,7 +44,7 @@ pub record Searched (places : List Place) (count : ℕ) (span : Interval) (cs : 
   pub none : ShowsNone places count looked
   pub run : Running places looked together
   pub last : (front : List Looked) (q : Looked) → looked ≡ front ++ q ∷ [] → q.place ≡ before.0
-  pub seen : ShapeBy (LooksAtEach span looked) start now
+  pub seen : AddsStepsBy (LooksAtEach span looked) start now
 
 pub searched_none : (places : List Place) (count : ℕ) (span : Interval) (cs : List PlaceNo) (start : DeskView) (before : PlaceNo) → 1 ≤ count → IsLegal start.layout start.seen
     → Searched places count span cs start start 0 0 before
@@ -68,7 +59,7 @@ searched_none places count span cs start before some legal = record {
 
 module _ (places : List Place) (count : ℕ) (span : Interval) (cs : List PlaceNo) (a b c : DeskView) (at together : ℕ) (before place d : PlaceNo) (free : Bool)
     (so : Searched places count span cs a b at together before) (inside : at < length cs) (is : place ≡ get_or cs at d)
-    (look : ShapeBy (LooksPieces place.0 (pieces span) free) b c) where
+    (look : AddsStepsBy (LooksPieces place.0 (pieces span) free) b c) where
   abbrev one : Looked
   one = record { place = place.0; free = free }
 
@@ -85,7 +76,7 @@ module _ (places : List Place) (count : ℕ) (span : Interval) (cs : List PlaceN
       ∙ sym (ap (map place_number) (take_more cs at d inside) ∙ (map-append place_number (take at cs) (get_or cs at d ∷ [])
       ∙ ap (λ (p : PlaceNo). map place_number (take at cs) ++ p.0 ∷ []) (sym is))))
 
-  looks : ShapeBy (LooksAtEach span all) a c
+  looks : AddsStepsBy (LooksAtEach span all) a c
   looks = (so.seen.0 ++ look.0, looks_more span so.looked one so.seen.0 look.0 so.seen.1 look.1, shape_then a b c so.seen.0 look.0 so.seen.2 look.2)
 
   run : Running places all (next_together together free follows)
@@ -103,7 +94,7 @@ module _ (places : List Place) (count : ℕ) (span : Interval) (cs : List PlaceN
           let f : false ≡ true = sym e ∙ both in cc
 
   -- the last `count` of them are a stretch and free
-  pub found : next_together together free follows ≡ count → ShapeBy (FindsAt places count span (map place_number cs) (at + 1)) a c
+  pub found : next_together together free follows ≡ count → AddsStepsBy (FindsAt places count span (map place_number cs) (at + 1)) a c
   found many = (
     looks.0,
     (
@@ -151,17 +142,8 @@ module _ (places : List Place) (count : ℕ) (span : Interval) (cs : List PlaceN
       by true false = omega (arith, few)
       by false follows = omega arith
 
--- at the list's end
-pub found_none : (places : List Place) (count : ℕ) (span : Interval) (cs : List PlaceNo) (a b : DeskView) (at together : ℕ) (before : PlaceNo) → length cs ≤ at
-    → Searched places count span cs a b at together before → ShapeBy (FindsNothing places count span (map place_number cs)) a b
-found_none places count span cs a b at together before end so = (
-  so.seen.0,
-  (so.looked, so.seen.1, record { none = so.none; all = sym (so.are ∙ ap (map place_number) (take_all at cs end)) }),
-  so.seen.2,
-)
-
 -- how many candidates a search that finds looks at
-pub found_within : (places : List Place) (count : ℕ) (span : Interval) (cs : List PlaceNo) (n : ℕ) (a b : DeskView) → ShapeBy (FindsAt places count span (map place_number cs) n) a b
+pub found_within : (places : List Place) (count : ℕ) (span : Interval) (cs : List PlaceNo) (n : ℕ) (a b : DeskView) → AddsStepsBy (FindsAt places count span (map place_number cs) n) a b
     → (count ≤ n) × (n ≤ length cs)
 found_within places count span cs n a b (es, (looked, at, finds, many), did) =
     let ends = finds.ends in

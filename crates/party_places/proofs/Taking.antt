@@ -9,8 +9,8 @@ use Rattle.history_model.specs.declared.entry.Step.{Step}
 use Rattle.history_model.specs.declared.entry.Step.TheVariants.{Give}
 use Rattle.history_model.specs.History.{IsLegal}
 use Rattle.claim_rule.specs.Rule.{DeskView}
-use Rattle.claim_rule.specs.Desks.{Shape}
-use Rattle.claim_rule.specs.Calls.{ShapeBy}
+use Rattle.claim_rule.specs.Desks.{AddsSteps}
+use Rattle.claim_rule.specs.Calls.{AddsStepsBy}
 use Rattle.claim_rule.specs.Holds.{HoldView, with_one}
 use Rattle.claim_rule.proofs.Shapes.{shape_then, shape_none}
 use Rattle.hold_core.specs.declared.adds.Added.{Added}
@@ -72,7 +72,7 @@ takes_more row k span (q ∷ ps) p won mine es first (m, more, f, others, one, r
 -- so many places of the stretch are taken
 pub record Took (start now : DeskView) (hold held : HoldView) (span : Interval) (stretch : List PlaceNo) (n : ℕ) : Type 0 where
   pub won : List Item
-  pub takes : ShapeBy (TakesEach hold.row.row (length hold.items) span (map place_number (take n stretch)) won) start now
+  pub takes : AddsStepsBy (TakesEach hold.row.row (length hold.items) span (map place_number (take n stretch)) won) start now
   pub held_is : held ≡ with_items hold won
   pub many : length won ≡ n * length (pieces span)
 
@@ -97,7 +97,7 @@ places_more : (ps : List PlaceNo) (n : ℕ) (d : PlaceNo) → n < length ps → 
 places_more ps n d l = ap (map place_number) (take_more ps n d l) ∙ map-append place_number (take n ps) (get_or ps n d ∷ [])
 
 pub took_more : (a b c : DeskView) (hold mid held : HoldView) (span : Interval) (stretch : List PlaceNo) (n : ℕ) (p d : PlaceNo) (mine : List Item) → Took a b hold mid span stretch n → n < length stretch → p ≡ get_or stretch n d
-    → ShapeBy (Adds mid.row.row (length mid.items) span 1 (map place_number (p ∷ [])) added.All mine) b c → held ≡ with_items mid mine → Took a c hold held span stretch (n + 1)
+    → AddsStepsBy (Adds mid.row.row (length mid.items) span 1 (map place_number (p ∷ [])) added.All mine) b c → held ≡ with_items mid mine → Took a c hold held span stretch (n + 1)
 took_more a b c hold mid held span stretch n p d mine so inside is did held_is =
     let adds = as_first hold mid so.won span (p.0 ∷ []) added.All mine did.0 so.held_is did.1 in
     let ps : map place_number (take n stretch) ++ p.0 ∷ [] ≡ map place_number (take (n + 1) stretch) =
@@ -119,30 +119,10 @@ took_more a b c hold mid held span stretch n p d mine so inside is did held_is =
     sum : (n l : ℕ) → n * l + l ≡ (n + 1) * l
     sum n l = sym (add-mul n 1 l ∙ ap (λ (k : ℕ). n * l + k) (one-mul l))
 
--- there is room for one place more
-pub room_more : (a b : DeskView) (hold held : HoldView) (span : Interval) (stretch : List PlaceNo) (n : ℕ) → Took a b hold held span stretch n → n < length stretch
-    → length hold.items + length stretch * length (pieces span) ≤ 48 → length held.items + 1 * length (pieces span) ≤ 48
-room_more a b hold held span stretch n so inside room =
-    let l = length (pieces span) in
-    let items : length held.items ≡ length hold.items + n * l = ap (λ (h : HoldView). length h.items) so.held_is ∙ (length-append hold.items so.won ∙ ap (λ (k : ℕ). length hold.items + k) so.many) in
-    let more : n * l + l ≡ suc n * l = sym (suc-mul n l) in
-    let most : suc n * l ≤ length stretch * l = mul-le-mul_right l inside in
-    let one : 1 * l ≡ l = one-mul l in
-    within (length held.items) (length hold.items) (n * l) l (1 * l) (length stretch * l) items (subst (λ (x : ℕ). x ≤ length stretch * l) (sym more) most) one room
-  where
-    within : (h b w l o c : ℕ) → h ≡ b + w → w + l ≤ c → o ≡ l → b + c ≤ 48 → h + o ≤ 48
-    within h b w l o c e m f r = omega (arith, e, m, f, r)
-
--- all are taken
-pub took_all : (a b : DeskView) (hold held : HoldView) (span : Interval) (stretch : List PlaceNo) (n : ℕ) → length stretch ≤ n → Took a b hold held span stretch n
-    → (won : List Item) × ShapeBy (TakesEach hold.row.row (length hold.items) span (map place_number stretch) won) a b × (held ≡ with_items hold won)
-took_all a b hold held span stretch n end so =
-    (so.won, subst (λ (ps : List PlaceNo). ShapeBy (TakesEach hold.row.row (length hold.items) span (map place_number ps) so.won) a b) (take_all n stretch end) so.takes, so.held_is)
-
 -- or one isn't won
 pub took_not : (a b c : DeskView) (hold mid held : HoldView) (span : Interval) (stretch : List PlaceNo) (n : ℕ) (p d : PlaceNo) (answer : Added) (mine : List Item) → Took a b hold mid span stretch n → n < length stretch
-    → p ≡ get_or stretch n d → answer ≢ added.All → mine ≡ [] → ShapeBy (Adds mid.row.row (length mid.items) span 1 (map place_number (p ∷ [])) answer mine) b c → held ≡ with_items mid mine
-    → (won : List Item) × ShapeBy (LosesAt hold.row.row (length hold.items) span (map place_number stretch) n won) a c × (held ≡ with_items hold won)
+    → p ≡ get_or stretch n d → answer ≢ added.All → mine ≡ [] → AddsStepsBy (Adds mid.row.row (length mid.items) span 1 (map place_number (p ∷ [])) answer mine) b c → held ≡ with_items mid mine
+    → (won : List Item) × AddsStepsBy (LosesAt hold.row.row (length hold.items) span (map place_number stretch) n won) a c × (held ≡ with_items hold won)
 took_not a b c hold mid held span stretch n p d answer mine so inside is stopped none did held_is =
     let adds = as_first hold mid so.won span (p.0 ∷ []) answer mine did.0 so.held_is did.1 in
     let front : List ℕ = map place_number (take n stretch) in
@@ -181,7 +161,7 @@ took_not a b c hold mid held span stretch n p d answer mine so inside is stopped
 pub record Gave (start now : DeskView) (hold held : HoldView) (left total more : ℕ) : Type 0 where
   pub gives : List Step
   pub rest : gives ++ gives_down hold.row.row left more ≡ gives_down hold.row.row left total
-  pub seen : Shape start now gives
+  pub seen : AddsSteps start now gives
   pub gone : List Item
   pub hold_is : hold ≡ with_items held gone
   pub many : length held.items ≡ left + more
@@ -197,12 +177,12 @@ gave_none start hold left few legal = record {
 }
 
 pub gave_more : (a b c : DeskView) (hold mid held : HoldView) (left total more : ℕ) (i : Item) → Gave a b hold mid left total (suc more) → mid ≡ with_one held i
-    → Shape b c (Give mid.row.row (length held.items) ∷ []) → Gave a c hold held left total more
+    → AddsSteps b c (Give mid.row.row (length held.items) ∷ []) → Gave a c hold held left total more
 gave_more a b c hold mid held left total more i so one did =
     let count : length mid.items ≡ length held.items + 1 = ap (λ (h : HoldView). length h.items) one ∙ length-append held.items (i ∷ []) in
     let many : length held.items ≡ left + more = let m = so.many in omega (arith, count, m) in
     let row : mid.row.row ≡ hold.row.row = sym (ap (λ (h : HoldView). h.row.row) so.hold_is) in
-    let step : Shape b c (Give hold.row.row (left + more) ∷ []) = subst (λ (n : ℕ). Shape b c (Give hold.row.row n ∷ [])) many (subst (λ (r : ℕ). Shape b c (Give r (length held.items) ∷ [])) row did) in
+    let step : AddsSteps b c (Give hold.row.row (left + more) ∷ []) = subst (λ (n : ℕ). AddsSteps b c (Give hold.row.row n ∷ [])) many (subst (λ (r : ℕ). AddsSteps b c (Give r (length held.items) ∷ [])) row did) in
     record {
       gives = so.gives ++ Give hold.row.row (left + more) ∷ [];
       rest = append_assoc so.gives (Give hold.row.row (left + more) ∷ []) (gives_down hold.row.row left more) ∙ so.rest;
@@ -212,18 +192,18 @@ gave_more a b c hold mid held left total more i so one did =
       many = many;
     }
 
-pub gave_all : (a b : DeskView) (hold held : HoldView) (left total : ℕ) → Gave a b hold held left total 0 → Shape a b (gives_down hold.row.row left total)
-gave_all a b hold held left total so = subst (Shape a b) (sym (append-nil so.gives) ∙ so.rest) so.seen
+pub gave_all : (a b : DeskView) (hold held : HoldView) (left total : ℕ) → Gave a b hold held left total 0 → AddsSteps a b (gives_down hold.row.row left total)
+gave_all a b hold held left total so = subst (AddsSteps a b) (sym (append-nil so.gives) ∙ so.rest) so.seen
 
 -- a try that lost leaves the hold as it was
-pub given_up : (a b c : DeskView) (hold mid held : HoldView) (span : Interval) (stretch : List ℕ) (n : ℕ) (won gone : List Item) → ShapeBy (LosesAt hold.row.row (length hold.items) span stretch n won) a b
-    → mid ≡ with_items hold won → Shape b c (gives_down mid.row.row (length hold.items) (length mid.items - length hold.items)) → mid ≡ with_items held gone → length held.items ≡ length hold.items
-    → ShapeBy (GivesUpAt hold.row.row (length hold.items) span stretch n) a c × (held ≡ hold)
+pub given_up : (a b c : DeskView) (hold mid held : HoldView) (span : Interval) (stretch : List ℕ) (n : ℕ) (won gone : List Item) → AddsStepsBy (LosesAt hold.row.row (length hold.items) span stretch n won) a b
+    → mid ≡ with_items hold won → AddsSteps b c (gives_down mid.row.row (length hold.items) (length mid.items - length hold.items)) → mid ≡ with_items held gone → length held.items ≡ length hold.items
+    → AddsStepsBy (GivesUpAt hold.row.row (length hold.items) span stretch n) a c × (held ≡ hold)
 given_up a b c hold mid held span stretch n won gone did is gave gone_is many =
     let count : length mid.items - length hold.items ≡ length won = let l = ap (λ (h : HoldView). length h.items) is ∙ length-append hold.items won in omega (arith, l) in
-    let gives : Shape b c (gives_down hold.row.row (length hold.items) (length won)) =
-    subst (λ (m : ℕ). Shape b c (gives_down hold.row.row (length hold.items) m)) count
-    (subst (λ (r : ℕ). Shape b c (gives_down r (length hold.items) (length mid.items - length hold.items))) (ap (λ (h : HoldView). h.row.row) is) gave) in
+    let gives : AddsSteps b c (gives_down hold.row.row (length hold.items) (length won)) =
+    subst (λ (m : ℕ). AddsSteps b c (gives_down hold.row.row (length hold.items) m)) count
+    (subst (λ (r : ℕ). AddsSteps b c (gives_down r (length hold.items) (length mid.items - length hold.items))) (ap (λ (h : HoldView). h.row.row) is) gave) in
     let row : held.row ≡ hold.row = sym (ap (λ (h : HoldView). h.row) gone_is) ∙ ap (λ (h : HoldView). h.row) is in
     let items : held.items ≡ hold.items =
     (same_parts held.items gone hold.items won (sym (ap (λ (h : HoldView). h.items) gone_is) ∙ ap (λ (h : HoldView). h.items) is) many).0 in (

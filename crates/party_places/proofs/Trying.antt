@@ -8,8 +8,8 @@ use Rattle.place_map.specs.declared.coach.Place.{Place}
 use Rattle.history_model.specs.declared.entry.Step.{Step}
 use Rattle.history_model.specs.History.{IsLegal}
 use Rattle.claim_rule.specs.Rule.{DeskView}
-use Rattle.claim_rule.specs.Desks.{Shape}
-use Rattle.claim_rule.specs.Calls.{ShapeBy}
+use Rattle.claim_rule.specs.Desks.{AddsSteps}
+use Rattle.claim_rule.specs.Calls.{AddsStepsBy}
 use Rattle.claim_rule.proofs.Shapes.{shape_then, shape_none}
 use Rattle.hold_core.specs.Tries.{place_number}
 use Rattle.hold_core.specs.declared.adds.Added.{Added}
@@ -25,13 +25,13 @@ use Rattle.party_places.proofs.Rows.{same_parts}
 -- from the first
 pub record Tried (g : Party) (start now : DeskView) (here : List ℕ) : Type 0 where
   pub steps : List Step
-  pub seen : Shape start now steps
+  pub seen : AddsSteps start now steps
   pub goes_on : (answer : PartyAdded) → (won : List Item) → (rest : List Step) → SeatsFrom g here answer won rest → SeatsFrom g g.candidates answer won (steps ++ rest)
 
 pub tried_none : (g : Party) (start : DeskView) → IsLegal start.layout start.seen → Tried g start start g.candidates
 tried_none g start legal = record { steps = []; seen = shape_none start legal; goes_on = λ answer won rest from. from }
 
-pub tried_more : (g : Party) (a b c : DeskView) (here left : List ℕ) → Tried g a b here → ShapeBy (Fails g here left) b c → Tried g a c left
+pub tried_more : (g : Party) (a b c : DeskView) (here left : List ℕ) → Tried g a b here → AddsStepsBy (Fails g here left) b c → Tried g a c left
 tried_more g a b c here left so did = record {
   steps = so.steps ++ did.0;
   seen = shape_then a b c so.steps did.0 so.seen did.2;
@@ -40,8 +40,8 @@ tried_more g a b c here left so did = record {
       (so.goes_on answer won (did.0 ++ rest) (left ∷ from.0, (did.0, rest, did.1, from.1, refl)));
 }
 
-pub tried_all : (g : Party) (a b c : DeskView) (here : List ℕ) (answer : PartyAdded) (won : List Item) → Tried g a b here → ShapeBy (SeatsFrom g here answer won) b c
-    → ShapeBy (SeatsFrom g g.candidates answer won) a c
+pub tried_all : (g : Party) (a b c : DeskView) (here : List ℕ) (answer : PartyAdded) (won : List Item) → Tried g a b here → AddsStepsBy (SeatsFrom g here answer won) b c
+    → AddsStepsBy (SeatsFrom g g.candidates answer won) a c
 tried_all g a b c here answer won so did = (so.steps ++ did.0, so.goes_on answer won did.0 did.1, shape_then a b c so.steps did.0 so.seen did.2)
 
 -- the places of the stretch that a search ends in are the last that it looked at
@@ -111,9 +111,9 @@ left_behind cs front before place lost behind n is at high =
     (same_parts (map place_number (take n cs)) (map place_number (drop n cs)) taken (lost ++ behind) parts (omega (arith, l1, l2, l3, at))).1
 
 -- a stretch that was found and its places lost: the try failed
-pub failed : (g : Party) (a b c : DeskView) (cs left : List PlaceNo) (n k : ℕ) → 1 ≤ g.count → g.count ≤ n → n ≤ length cs → ShapeBy (FindsAt g.places g.count g.span (map place_number cs) n) a b
-    → ShapeBy (GivesUpAt g.row g.items g.span (map place_number (take g.count (drop (n - g.count) cs))) k) b c → left ≡ drop (n - g.count + k + 1) cs
-    → ShapeBy (Fails g (map place_number cs) (map place_number left)) a c
+pub failed : (g : Party) (a b c : DeskView) (cs left : List PlaceNo) (n k : ℕ) → 1 ≤ g.count → g.count ≤ n → n ≤ length cs → AddsStepsBy (FindsAt g.places g.count g.span (map place_number cs) n) a b
+    → AddsStepsBy (GivesUpAt g.row g.items g.span (map place_number (take g.count (drop (n - g.count) cs))) k) b c → left ≡ drop (n - g.count + k + 1) cs
+    → AddsStepsBy (Fails g (map place_number cs) (map place_number left)) a c
 unfolding loses_of
 failed g a b c cs left n k some low high found gave left_is =
     let (looks, (looked, at, finds, many), did) = found in
@@ -147,9 +147,9 @@ failed g a b c cs left n k some low high found gave left_is =
 
 -- or taken: the party sits together
 pub together : (g : Party) (a b c : DeskView) (cs : List PlaceNo) (n : ℕ) (first d : PlaceNo) (won : List Item) → 1 ≤ g.count → g.count ≤ n → n ≤ length cs
-    → ShapeBy (FindsAt g.places g.count g.span (map place_number cs) n) a b
-    → ShapeBy (TakesEach g.row g.items g.span (map place_number (take g.count (drop (n - g.count) cs))) won) b c → first ≡ get_or (take g.count (drop (n - g.count) cs)) 0 d
-    → ShapeBy (SeatsFrom g (map place_number cs) (Together first) won) a c
+    → AddsStepsBy (FindsAt g.places g.count g.span (map place_number cs) n) a b
+    → AddsStepsBy (TakesEach g.row g.items g.span (map place_number (take g.count (drop (n - g.count) cs))) won) b c → first ≡ get_or (take g.count (drop (n - g.count) cs)) 0 d
+    → AddsStepsBy (SeatsFrom g (map place_number cs) (Together first) won) a c
 together g a b c cs n first d won some low high found took is =
     let (looks, (looked, at, finds, many), did) = found in
     let (steps, takes, took_did) = took in
@@ -185,8 +185,8 @@ together g a b c cs n first d won some low high found took is =
     first_of (p ∷ s) first d is some = (map place_number s, ap (λ (q : PlaceNo). q.0 ∷ map place_number s) (sym is))
 
 -- at the list's end
-pub apart : (g : Party) (a b c : DeskView) (here : List ℕ) (answer : Added) (won : List Item) → ShapeBy (FindsNothing g.places g.count g.span here) a b
-    → ShapeBy (Adds g.row g.items g.span g.count g.candidates answer won) b c → ShapeBy (SeatsFrom g here (answer_apart answer) won) a c
+pub apart : (g : Party) (a b c : DeskView) (here : List ℕ) (answer : Added) (won : List Item) → AddsStepsBy (FindsNothing g.places g.count g.span here) a b
+    → AddsStepsBy (Adds g.row g.items g.span g.count g.candidates answer won) b c → AddsStepsBy (SeatsFrom g here (answer_apart answer) won) a c
 apart g a b c here answer won found adds =
     let (looks, (looked, at, none), did) = found in (
       looks ++ adds.0,

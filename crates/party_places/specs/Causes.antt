@@ -22,13 +22,15 @@ StandIn mine es = (front : List Step) × (back : List Step) × (es ≡ front ++ 
 -- a look showed a taken leg of the span at the place
 abbrev pub ShowsTaken : Interval → ℕ → List Step → Type 0
 ShowsTaken span place es =
-    (piece : Interval) × (word : ℕ) × IsIn piece (pieces span) × (¬ IsClear word piece) × StandIn (look_at place piece word ∷ []) es
+    (piece : Interval) × (word : ℕ) × IsIn piece (pieces span) × (¬ IsClear word piece)
+    × StandIn (look_at place piece word ∷ []) es
 
 -- a piece of the span at the place was contended
 abbrev pub WasContended : Interval → ℕ → List Step → Type 0
 WasContended span place es =
     (piece : Interval) × (shown : List ℕ) × IsIn piece (pieces span)
-    × IsPart (record { piece = piece; shown = shown; outcome = outcome.Contended }) × StandIn (looks_at place piece shown) es
+    × IsPart (record { piece = piece; shown = shown; outcome = outcome.Contended })
+    × StandIn (looks_at place piece shown) es
 
 -- one or the other came about at a place of the stretch
 abbrev pub IsSpoilt : Interval → List Step → List ℕ → Type 0
@@ -37,4 +39,5 @@ IsSpoilt span es stretch = (place : ℕ) × IsIn place stretch × (ShowsTaken sp
 -- each stretch of the candidates is spoilt, where the party doesn't sit together
 abbrev pub SpoilsAll : Party → PartyAdded → Calls
 SpoilsAll g (Together first) es = Unit {0}
-SpoilsAll g answer es = (stretch : List ℕ) → IsStretch g.places g.count g.candidates stretch → IsSpoilt g.span es stretch
+SpoilsAll g answer es =
+    (stretch : List ℕ) → IsStretch g.places g.count g.candidates stretch → IsSpoilt g.span es stretch

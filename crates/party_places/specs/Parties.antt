@@ -6,7 +6,7 @@ use Rattle.place_map.specs.declared.coach.Place.{Place}
 use Rattle.history_model.specs.declared.entry.Step.{Step}
 use Rattle.history_model.specs.declared.entry.Step.TheVariants.{Give}
 use Rattle.claim_rule.specs.Rule.{DeskView}
-use Rattle.claim_rule.specs.Calls.{Calls, ShapeBy}
+use Rattle.claim_rule.specs.Calls.{Calls, AddsStepsBy}
 use Rattle.claim_rule.specs.Holds.{HoldView}
 use Rattle.hold_core.specs.declared.adds.Added.{Added}
 use Rattle.hold_core.specs.declared.adds.Added.TheVariants as added
@@ -69,7 +69,7 @@ pub record Loses (row k : ℕ) (span : Interval) (stretch : List ℕ) (won : Lis
 -- all of them are taken so for a hold, which has their items then
 abbrev pub Takes : HoldView → Interval → List PlaceNo → DeskView → DeskView → HoldView → Type 0
 Takes hold span stretch old new held =
-    (won : List Item) × ShapeBy (TakesEach hold.row.row (length hold.items) span (map place_number stretch) won) old new
+    (won : List Item) × AddsStepsBy (TakesEach hold.row.row (length hold.items) span (map place_number stretch) won) old new
     × (held ≡ with_items hold won)
 
 -- the one that isn't won is the n-th
@@ -79,21 +79,22 @@ LosesAt row k span stretch n won es = (loses : Loses row k span stretch won es) 
 -- they are taken up to that one for a hold, which has the items won then
 abbrev pub LosesOne : HoldView → Interval → List PlaceNo → ℕ → DeskView → DeskView → HoldView → Type 0
 LosesOne hold span stretch n old new held =
-    (won : List Item) × ShapeBy (LosesAt hold.row.row (length hold.items) span (map place_number stretch) n won) old new
+    (won : List Item) × AddsStepsBy (LosesAt hold.row.row (length hold.items) span (map place_number stretch) n won) old new
     × (held ≡ with_items hold won)
 
 -- and what was won is given back
 abbrev pub GivesUpAt : ℕ → ℕ → Interval → List ℕ → ℕ → Calls
 GivesUpAt row k span stretch n es =
-    (won : List Item) × (tries : List Step) × LosesAt row k span stretch n won tries × (es ≡ tries ++ gives_down row k (length won))
+    (won : List Item) × (tries : List Step) × LosesAt row k span stretch n won tries
+    × (es ≡ tries ++ gives_down row k (length won))
 
 -- so that the hold has what it had
 abbrev pub GivesUp : HoldView → Interval → List PlaceNo → ℕ → DeskView → DeskView → HoldView → Type 0
 GivesUp hold span stretch n old new held =
-    ShapeBy (GivesUpAt hold.row.row (length hold.items) span (map place_number stretch) n) old new × (held ≡ hold)
+    AddsStepsBy (GivesUpAt hold.row.row (length hold.items) span (map place_number stretch) n) old new × (held ≡ hold)
 
 -- A try from these candidates on that failed: a free stretch was found, and its places taken up to one that wasn't won;
--- what was won is given back, and the candidates behind that one are left.
+-- what was won is given back, and the candidates after that one are left.
 pub record Fails (g : Party) (here left : List ℕ) (es : List Step) : Type 0 where
   pub looked : List Looked
   pub found : Finds g.places g.count here looked
@@ -144,7 +145,8 @@ EndsTries g here answer won es = SitsApart g here answer won es
 abbrev pub TriesFrom : Party → List ℕ → List (List ℕ) → PartyAdded → List Item → List Step → Type 0
 TriesFrom g here [] answer won es = EndsTries g here answer won es
 TriesFrom g here (left ∷ lefts) answer won es =
-    (mine : List Step) × (more : List Step) × Fails g here left mine × TriesFrom g left lefts answer won more × (es ≡ mine ++ more)
+    (mine : List Step) × (more : List Step) × Fails g here left mine × TriesFrom g left lefts answer won more
+    × (es ≡ mine ++ more)
 
 -- the steps of tries from these candidates on, with the items won
 abbrev pub SeatsFrom : Party → List ℕ → PartyAdded → List Item → Calls

@@ -20,7 +20,8 @@ places_looked looked = map (λ l. l.place) looked
 abbrev pub LooksAtEach : Interval → List Looked → List Step → Type 0
 LooksAtEach span [] es = es ≡ []
 LooksAtEach span (l ∷ rest) es =
-    (mine : List Step) × (more : List Step) × LooksPieces l.place (pieces span) l.free mine × LooksAtEach span rest more × (es ≡ mine ++ more)
+    (mine : List Step) × (more : List Step) × LooksPieces l.place (pieces span) l.free mine × LooksAtEach span rest more
+    × (es ≡ mine ++ more)
 
 -- the last of them are a stretch of so many, and all showed free
 pub record EndsFree (places : List Place) (count : ℕ) (looked : List Looked) : Type 0 where
@@ -33,7 +34,8 @@ pub record EndsFree (places : List Place) (count : ℕ) (looked : List Looked) :
 
 -- no front of them ends so
 abbrev pub ShowsNone : List Place → ℕ → List Looked → Type 0
-ShowsNone places count looked = (front : List Looked) → (back : List Looked) → looked ≡ front ++ back → ¬ EndsFree places count front
+ShowsNone places count looked =
+    (front : List Looked) → (back : List Looked) → looked ≡ front ++ back → ¬ EndsFree places count front
 
 -- a search of the candidates ended at the first such stretch
 pub record Finds (places : List Place) (count : ℕ) (candidates : List ℕ) (looked : List Looked) : Type 0 where
@@ -56,7 +58,8 @@ FindsAt places count span candidates n es =
     (looked : List Looked) × LooksAtEach span looked es × Finds places count candidates looked × (length looked ≡ n)
 
 abbrev pub FindsNothing : List Place → ℕ → Interval → List ℕ → Calls
-FindsNothing places count span candidates es = (looked : List Looked) × LooksAtEach span looked es × FindsNone places count candidates looked
+FindsNothing places count span candidates es =
+    (looked : List Looked) × LooksAtEach span looked es × FindsNone places count candidates looked
 
 -- how many of the last candidates looked at stand side by side and showed free, after one more
 abbrev pub next_together : ℕ → Bool → Bool → ℕ

@@ -3,7 +3,7 @@ ghost use Rattle.std.specs.Prelude.{ℕ, ◌≡◌, ◌+◌, ◌-◌, ◌*◌, �
 ghost use Rattle.leg_masks.specs.Interval.{PlacedSpan as Item, pieces};
 ghost use Rattle.history_model.specs.Booking.{most_items};
 ghost use Rattle.claim_rule.specs.Desks.{IsOf};
-ghost use Rattle.claim_rule.specs.Calls.{ShapeBy};
+ghost use Rattle.claim_rule.specs.Calls.{AddsStepsBy};
 ghost use Rattle.claim_rule.specs.Out.{IsHolding, HasNotedItems, KeepsEndings};
 ghost use Rattle.hold_core.specs.Tries.{with_items};
 ghost use Rattle.party_places.specs.Parties.{AreCandidates, SeatsParty, answer_apart, asked};
@@ -18,7 +18,7 @@ use place_map::PlaceMap;
 use rail_ids::PlaceNo;
 
 /// What came of adding places for a party.
-#[derive(Clone, Copy, Debug, PartialEq, Eq)]
+#[derive(Clone, Copy, PartialEq, Eq)]
 pub enum PartyAdded {
     /// As many as were asked for are won, side by side; this is the first of them.
     Together { first: PlaceNo },
@@ -66,7 +66,7 @@ fn behind(candidates: &[PlaceNo], from: usize) -> &[PlaceNo]
 ///
 /// It looks at the candidates in order, once at each piece of the span, until `count` of them in a row stand side by
 /// side and showed free. Those are taken one by one, each as `add_places` takes it. Where one isn't won, what was won
-/// is given back, and the next try begins behind that place. Where the list ends, places are added of all candidates,
+/// is given back, and the next try begins after that place. Where the list ends, places are added of all candidates,
 /// as by `add_places`.
 ///
 /// The candidates are places of one run in rising number, all of these books. `count` is at least 1, and the hold's
@@ -89,10 +89,10 @@ pub fn add_party(
     ensures own { IsOf books.now desk.new }
     // Its entries go by tries, with the items that the hold has more.
     ensures entries { (won : List Item)
-        × ShapeBy (SeatsParty (asked places.now hold.old span count candidates.now) result won) desk.old desk.new
+        × AddsStepsBy (SeatsParty (asked places.now hold.old span count candidates.now) result won) desk.old desk.new
         × (hold.new ≡ with_items hold.old won) }
     // Where the party doesn't sit together, each stretch had a place with a leg that was taken or contended.
-    ensures causes { ShapeBy
+    ensures causes { AddsStepsBy
         (SpoilsAll (asked places.now hold.old span count candidates.now) result) desk.old desk.new }
     ensures hold { IsHolding desk.new hold.new }
     ensures noted { HasNotedItems desk.old hold.old → HasNotedItems desk.new hold.new }

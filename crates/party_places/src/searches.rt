@@ -2,7 +2,7 @@
 ghost use Rattle.std.specs.Prelude.{◌≡◌, ◌<◌, ◌≤◌, ◌&&◌, nat_lt, All, IfSome, IfNone, length, map};
 ghost use Rattle.leg_masks.specs.Interval.{pieces as spec_pieces};
 ghost use Rattle.claim_rule.specs.Desks.{IsOf};
-ghost use Rattle.claim_rule.specs.Calls.{ShapeBy};
+ghost use Rattle.claim_rule.specs.Calls.{AddsStepsBy};
 ghost use Rattle.claim_rule.specs.Out.{KeepsHolds, KeepsEndings};
 ghost use Rattle.availability.specs.Looks.{LooksPieces};
 ghost use Rattle.hold_core.specs.Tries.{place_number};
@@ -30,7 +30,7 @@ fn is_free(books: &Books, desk: &mut Desk, place: PlaceNo, span: Span) -> bool
     requires own { IsOf books.now desk.old }
     requires place { place.0 < length books.now.layout.legs }
     ensures own { IsOf books.now desk.new }
-    ensures entries { ShapeBy (LooksPieces place.0 (spec_pieces span) result) desk.old desk.new }
+    ensures entries { AddsStepsBy (LooksPieces place.0 (spec_pieces span) result) desk.old desk.new }
     ensures holds { KeepsHolds desk.old desk.new }
     ensures endings { KeepsEndings desk.old desk.new }
 {
@@ -71,9 +71,9 @@ pub(crate) fn find_stretch(
     requires some { 1 ≤ count }
     ensures own { IsOf books.now desk.new }
     ensures found { IfSome result (λ n.
-        ShapeBy (FindsAt places.now count span (map place_number candidates.now) n) desk.old desk.new) }
+        AddsStepsBy (FindsAt places.now count span (map place_number candidates.now) n) desk.old desk.new) }
     ensures none { IfNone result
-        (ShapeBy (FindsNothing places.now count span (map place_number candidates.now)) desk.old desk.new) }
+        (AddsStepsBy (FindsNothing places.now count span (map place_number candidates.now)) desk.old desk.new) }
     ensures within { IfSome result (λ n. (count ≤ n) × (n ≤ length candidates.now)) }
     ensures holds { KeepsHolds desk.old desk.new }
     ensures endings { KeepsEndings desk.old desk.new }

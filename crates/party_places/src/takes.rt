@@ -2,7 +2,7 @@
 ghost use Rattle.std.specs.Prelude.{◌≡◌, ◌+◌, ◌-◌, ◌*◌, ◌<◌, ◌≤◌, IfSome, IfNone, List, length};
 ghost use Rattle.leg_masks.specs.Interval.{PlacedSpan as Item, pieces};
 ghost use Rattle.history_model.specs.Booking.{most_items};
-ghost use Rattle.claim_rule.specs.Desks.{IsOf, Shape};
+ghost use Rattle.claim_rule.specs.Desks.{IsOf, AddsSteps};
 ghost use Rattle.claim_rule.specs.Out.{IsHolding, HasNotedItems, KeepsEndings};
 ghost use Rattle.hold_core.specs.Tries.{with_items};
 ghost use Rattle.party_places.specs.Parties.{AreCandidates, GivesUp, LosesOne, Takes, gives_down};
@@ -49,7 +49,7 @@ fn give_back(books: &Books, desk: &mut Desk, hold: &mut Hold, left: usize)
     requires hold { IsHolding desk.old hold.old }
     requires left { left ≤ length hold.old.items }
     ensures own { IsOf books.now desk.new }
-    ensures entries { Shape desk.old desk.new (gives_down hold.old.row.row left (length hold.old.items - left)) }
+    ensures entries { AddsSteps desk.old desk.new (gives_down hold.old.row.row left (length hold.old.items - left)) }
     ensures held { (gone : List Item) × (hold.old ≡ with_items hold.new gone) }
     ensures left { length hold.new.items ≡ left }
     ensures hold { IsHolding desk.new hold.new }

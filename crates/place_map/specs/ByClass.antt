@@ -30,7 +30,8 @@ is_between first end n = nat_le first n.0 && nat_lt n.0 end
 
 -- the first n numbers are before the limit, and the others are not
 abbrev pub SplitsNumbers : ℕ → List PlaceNo → ℕ → Type 0
-SplitsNumbers limit numbers n = IsPartitionPoint (λ it. nat_lt it.0 limit ≡ true) (λ it. nat_lt it.0 limit ≡ false) numbers n
+SplitsNumbers limit numbers n =
+    IsPartitionPoint (λ it. nat_lt it.0 limit ≡ true) (λ it. nat_lt it.0 limit ≡ false) numbers n
 
 -- the numbers of each class are those of the places of it
 abbrev pub AreByClass : List Place → ByClass → Type 0

@@ -18,7 +18,9 @@ places_of run places = filter (λ p. run_number p == run) places
 -- n places of consecutive numbers, from this number on
 abbrev pub places_from : ℕ → ℕ → Class → ℕ → ℕ → ℕ → List Place
 places_from run coach class traits number zero = []
-places_from run coach class traits number (suc n) = record { run = record { 0 = run }; coach = coach; number = number; class = class; traits = traits } ∷ places_from run coach class traits (number + 1) n
+places_from run coach class traits number (suc n) =
+    record { run = record { 0 = run }; coach = coach; number = number; class = class; traits = traits }
+    ∷ places_from run coach class traits (number + 1) n
 
 abbrev pub group_size : Seats → ℕ
 group_size g = g.last + 1 - g.first
@@ -66,7 +68,8 @@ unless_repeated places fresh (Some p) = Err (DoublePlace p.coach p.number)
 -- the places with these further ones of a run, or the first fault
 abbrev pub with_places : ℕ → List Place → List Place → Result (List Place) PlaceFault
 with_places run places fresh =
-    if are_too_many run (places ++ fresh) then Err TooManyPlaces else unless_repeated places fresh (first_repeat places fresh)
+    if are_too_many run (places ++ fresh) then Err TooManyPlaces
+    else unless_repeated places fresh (first_repeat places fresh)
 
 -- no place is of a later run
 abbrev pub EndsWithRun : ℕ → List Place → Type 0

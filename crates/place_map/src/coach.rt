@@ -4,7 +4,7 @@ use rail_ids::RunNo;
 use std::marker::Model;
 
 /// The class of a coach.
-#[derive(Debug, Clone, Copy, PartialEq, Eq)]
+#[derive(Clone, Copy, PartialEq, Eq)]
 pub enum Class {
     First,
     Second,
@@ -12,7 +12,7 @@ pub enum Class {
 
 /// A place of a run. `traits` is a sum of 1 (by a window), 2 (by an aisle), 4 (at a table), 8 (in a quiet zone) and 16
 /// (with power).
-#[derive(Debug, Clone, Copy, PartialEq, Eq)]
+#[derive(Clone, Copy, PartialEq, Eq)]
 pub struct Place {
     pub run: RunNo,
     pub coach: u16,
@@ -22,7 +22,7 @@ pub struct Place {
 }
 
 /// One place for each number from `first` to `last`, all with these traits.
-#[derive(Debug, Clone, Copy, PartialEq, Eq)]
+#[derive(Clone, Copy, PartialEq, Eq)]
 pub struct Group {
     pub first: u16,
     pub last: u16,
@@ -57,7 +57,7 @@ impl Group {
 }
 
 /// A coach of a run, or a part of one: two coaches of one number are one coach.
-#[derive(Debug, Drop)]
+#[derive(Drop)]
 pub struct Coach {
     pub number: u16,
     pub class: Class,
@@ -65,7 +65,7 @@ pub struct Coach {
 }
 
 /// Why a coach was not added.
-#[derive(Debug, Clone, Copy, PartialEq, Eq)]
+#[derive(Clone, Copy, PartialEq, Eq)]
 pub enum PlaceFault {
     /// The run would have over 1,200 places, or all runs together over 4,194,304.
     TooManyPlaces,

@@ -3,6 +3,8 @@
 //! Places are numbered from 0 over all runs, coaches and groups, in the order in which they were added. No two places
 //! of a run have the same coach and number. `class_places` gives exactly the places of a run and a class, and
 //! `candidates` those of them that have the traits of a wish. Contracts see a `PlaceMap` as the list of its places.
+//!
+//! `crosses` is the proof that threads may share it.
 #![tactic(auto)]
 
 mod class_numbers;

@@ -16,7 +16,7 @@ const MOST_IN_RUN: usize = 1200;
 const MOST_PLACES: usize = 4_194_304;
 
 /// The places of all runs. Contracts see the list of them.
-#[derive(Debug, Drop)]
+#[derive(Drop)]
 pub struct PlaceMap {
     places: Vec<Place>,
     by_class: ClassNumbers,

@@ -7,22 +7,22 @@ use std::alloc::Global;
 const MOST_MARKS: usize = 65_536;
 
 /// How many places there are, and how many numbers of each class.
-#[derive(Debug, Clone, Copy)]
+#[derive(Clone, Copy)]
 pub(crate) struct Sizes {
     pub places: usize,
     pub first: usize,
     pub second: usize,
 }
 
-/// The sizes before the first coach of a run, and behind its last.
-#[derive(Debug, Clone, Copy)]
+/// The sizes before the first coach of a run, and after its last.
+#[derive(Clone, Copy)]
 pub(crate) struct Mark {
     pub start: Sizes,
     pub end: Sizes,
 }
 
 impl Mark {
-    /// How many numbers of the class stand before the run's, and behind which its last one stands.
+    /// How many numbers of the class stand before the run's, and after which its last one stands.
     pub(crate) fn of_class(self, class: Class) -> (usize, usize) {
         match class {
             Class::First => (self.start.first, self.end.first),
@@ -43,7 +43,7 @@ const UNMARKED: Mark = Mark {
 };
 
 /// The marks of runs, by their numbers.
-#[derive(Debug, Drop)]
+#[derive(Drop)]
 pub(crate) struct Marks {
     of_runs: Vec<Mark>,
 }
@@ -64,7 +64,7 @@ impl Marks {
         }
     }
 
-    /// Marks the sizes before and behind a coach of the run. Where there is no memory for it, the run has no mark.
+    /// Marks the sizes before and after a coach of the run. Where there is no memory for it, the run has no mark.
     pub(crate) fn note(&mut self, run: RunNo, start: Sizes, end: Sizes) {
         let at = run.0 as usize;
         if at < self.of_runs.len() {

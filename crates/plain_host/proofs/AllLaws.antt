@@ -12,7 +12,7 @@ use Rattle.osdm_json.specs.declared.command.Command.{Command}
 use Rattle.osdm_json.specs.declared.command.Command.TheVariants as command
 use Rattle.osdm_json.specs.Readable.{IsReadable}
 use Rattle.service_rules.specs.Ordered as order
-use Rattle.service_rules.specs.Checks.{aged, by, is_of_row, ordered}
+use Rattle.service_rules.specs.Checks.{aged, and_then, is_of_row, ordered}
 use Rattle.service_rules.specs.Orders.{IsSoundOrder}
 use Rattle.service_rules.proofs.Sound.{sound_order}
 use Rattle.plain_host.specs.Plainly.{AnswersPlainly}
@@ -45,7 +45,7 @@ command_plain cat retailer now c readable = go (ordered cat now c) refl where
 
 -- a refund by a quote of any making: what is unknown or too old is refused, and what is fresh ordered
 abbrev RefundsBy : CatalogueView → ℕ → ℕ → Result RefundCode Problem → Type 0
-RefundsBy cat retailer now r = AnswersPlainly cat retailer now (by r (λ c. Ok (order.accept_refund c)))
+RefundsBy cat retailer now r = AnswersPlainly cat retailer now (and_then r (λ c. Ok (order.accept_refund c)))
 
 pub refund_command_plain : (cat : CatalogueView) (retailer now : ℕ) (row : Option RowNo) (code : Option RefundCode) → AnswersPlainly cat retailer now (ordered cat now (command.AcceptRefund row code))
 refund_command_plain cat retailer now row None = refused_plain cat retailer now UnknownOffer

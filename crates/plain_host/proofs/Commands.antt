@@ -6,7 +6,7 @@ use Rattle.history_model.specs.Booking.{Booking, State, present, word_at}
 use Rattle.history_model.specs.History.{IsLegal}
 use Rattle.history_model.proofs.Ranges.{ranges_all}
 use Rattle.claim_rule.specs.Rule.{DeskView, state_seen}
-use Rattle.claim_rule.specs.Calls.{ShapeBy}
+use Rattle.claim_rule.specs.Calls.{AddsStepsBy}
 use Rattle.claim_rule.proofs.Moves.{is_sound}
 use Rattle.booking_rows.specs.Views.{RowSeen}
 use Rattle.booking_rows.specs.SealedRows.{FitWords}
@@ -17,7 +17,7 @@ use Rattle.osdm_texts.specs.declared.problem.Problem.TheVariants.{NoMemory}
 use Rattle.osdm_texts.specs.Answers.{Reply, problem}
 use Rattle.refund_core.specs.Quotes.{FindsBooking}
 use Rattle.service_rules.specs.Ordered as order
-use Rattle.booking_service.specs.Deciding.{Replying, OnBooking, shows, confirm_reply, ConfirmsIt, fulfil_reply, FulfilsIt, release_reply, ReleasesIt}
+use Rattle.booking_service.specs.Deciding.{Replying, OnBooking, shows, confirm_reply, ConfirmsFound, fulfil_reply, FulfilsFound, release_reply, ReleasesFound}
 use Rattle.lone_desk.specs.Lone.{IsAlone, after_steps}
 use Rattle.lone_desk.proofs.Following.{shape_follows}
 use Rattle.plain_host.specs.Plain.{Plain, Outcome, own_view}
@@ -39,7 +39,7 @@ ComesOn rows row retailer Does does =
     → ComesTo (does (plain_in (state_seen mid)) (view_of b)) (state_seen new) reply × StaysAlone mid new
 
 -- no booking of the retailer was found, and there is none
-pub unknown_comes : (cat : CatalogueView) (row : RowNo) (retailer : ℕ) (old new : DeskView) → IsLone cat old → ShapeBy (FindsBooking cat.rows row retailer None) old new
+pub unknown_comes : (cat : CatalogueView) (row : RowNo) (retailer : ℕ) (old new : DeskView) → IsLone cat old → AddsStepsBy (FindsBooking cat.rows row retailer None) old new
     → (own_view (plain_of old) row retailer ≡ None) × (state_seen new ≡ state_seen old) × StaysAlone old new
 unknown_comes cat row retailer old new lone (es, inl (past, none), did) =
     let f = shape_follows old new es lone.alone did in (
@@ -109,7 +109,7 @@ show_on rows row retailer mid new b reply alone legal at same sealed mine below 
   subst (StaysAlone mid) (sym is) (record { alone = alone; legal = legal; layout = refl }),
 )
 
-confirm_on : (rows : ℕ) (row : RowNo) (retailer now : ℕ) → ComesOn rows row retailer (ConfirmsIt rows row retailer now) (confirmed row now)
+confirm_on : (rows : ℕ) (row : RowNo) (retailer now : ℕ) → ComesOn rows row retailer (ConfirmsFound rows row retailer now) (confirmed row now)
 confirm_on rows row retailer now mid new b reply alone legal at same sealed mine below settled fit (a, (es, did, shape), told) =
     let f = shape_follows mid new es alone shape in
     let s = state_seen mid in (
@@ -119,7 +119,7 @@ confirm_on rows row retailer now mid new b reply alone legal at same sealed mine
       stays_by mid new es alone shape,
     )
 
-fulfil_on : (rows : ℕ) (row : RowNo) (retailer : ℕ) → ComesOn rows row retailer (FulfilsIt rows row retailer) (fulfilled row)
+fulfil_on : (rows : ℕ) (row : RowNo) (retailer : ℕ) → ComesOn rows row retailer (FulfilsFound rows row retailer) (fulfilled row)
 fulfil_on rows row retailer mid new b reply alone legal at same sealed mine below settled fit (a, (es, did, shape), told) =
     let f = shape_follows mid new es alone shape in
     let s = state_seen mid in (
@@ -129,7 +129,7 @@ fulfil_on rows row retailer mid new b reply alone legal at same sealed mine belo
       stays_by mid new es alone shape,
     )
 
-release_on : (rows : ℕ) (row : RowNo) (retailer now : ℕ) → ComesOn rows row retailer (ReleasesIt rows row retailer now) (released row now)
+release_on : (rows : ℕ) (row : RowNo) (retailer now : ℕ) → ComesOn rows row retailer (ReleasesFound rows row retailer now) (released row now)
 release_on rows row retailer now mid new b reply alone legal at same sealed mine below settled fit (a, (es, did, shape), told) =
     let f = shape_follows mid new es alone shape in
     let s = state_seen mid in (
@@ -155,14 +155,14 @@ show_plain cat retailer now row old new reply lone did =
 pub confirm_plain : (cat : CatalogueView) (retailer now : ℕ) (row : RowNo) → AnswersPlainly cat retailer now (Ok (order.confirm row))
 confirm_plain cat retailer now row old new reply lone did =
     to_plainly cat retailer now (on_own (plain_of old) row retailer (confirmed row now (plain_of old))) old new reply
-    (booking_comes cat row retailer (ConfirmsIt cat.rows row retailer now) (confirmed row now) old new reply lone (confirm_on cat.rows row retailer now) did)
+    (booking_comes cat row retailer (ConfirmsFound cat.rows row retailer now) (confirmed row now) old new reply lone (confirm_on cat.rows row retailer now) did)
 
 pub fulfil_plain : (cat : CatalogueView) (retailer now : ℕ) (row : RowNo) → AnswersPlainly cat retailer now (Ok (order.fulfil row))
 fulfil_plain cat retailer now row old new reply lone did =
     to_plainly cat retailer now (on_own (plain_of old) row retailer (fulfilled row (plain_of old))) old new reply
-    (booking_comes cat row retailer (FulfilsIt cat.rows row retailer) (fulfilled row) old new reply lone (fulfil_on cat.rows row retailer) did)
+    (booking_comes cat row retailer (FulfilsFound cat.rows row retailer) (fulfilled row) old new reply lone (fulfil_on cat.rows row retailer) did)
 
 pub release_plain : (cat : CatalogueView) (retailer now : ℕ) (row : RowNo) → AnswersPlainly cat retailer now (Ok (order.release row))
 release_plain cat retailer now row old new reply lone did =
     to_plainly cat retailer now (on_own (plain_of old) row retailer (released row now (plain_of old))) old new reply
-    (booking_comes cat row retailer (ReleasesIt cat.rows row retailer now) (released row now) old new reply lone (release_on cat.rows row retailer now) did)
+    (booking_comes cat row retailer (ReleasesFound cat.rows row retailer now) (released row now) old new reply lone (release_on cat.rows row retailer now) did)

@@ -17,7 +17,7 @@ use Rattle.exchange_core.specs.declared.readying.Readied.TheVariants as readied
 use Rattle.osdm_texts.specs.declared.problem.Problem.{Problem}
 use Rattle.osdm_texts.specs.declared.problem.Problem.TheVariants.{WrongState, QuoteWrong, NoMemory}
 use Rattle.osdm_texts.specs.Answers.{Reply, problem}
-use Rattle.trade_service.specs.Exchanges.{ExchangesIt}
+use Rattle.trade_service.specs.Exchanges.{AnswersAcceptedExchange}
 use Rattle.service_rules.specs.Ordered as order
 use Rattle.service_rules.specs.Orders.{IsSoundOrder}
 use Rattle.plain_host.specs.Plain.{Plain, Outcome}
@@ -74,7 +74,7 @@ abbrev outcome_for : CatalogueView → ExchangeView → ℕ → ℕ → DeskView
 outcome_for cat x retailer now old = on_own (plain_of old) x.row retailer (exchanged_with cat x retailer now (plain_of old))
 
 exchanges_plainly : (cat : CatalogueView) (x : ExchangeView) (retailer now : ℕ) (old new : DeskView) (reply : Reply) → IsLone cat old → Fit cat x.offer x.offer.segments → Differ x.offer.segments → is_stale x.made now ≡ false
-    → ExchangesIt cat cat.rows retailer x now old new reply → IsExchangedPlainly cat (outcome_for cat x retailer now old) old new reply × IsLone cat new
+    → AnswersAcceptedExchange cat cat.rows retailer x now old new reply → IsExchangedPlainly cat (outcome_for cat x retailer now old) old new reply × IsLone cat new
 exchanges_plainly cat x retailer now old new reply lone fit differ fresh (inl (readied.Fine ready, p, did, un, told)) = absurd un
 exchanges_plainly cat x retailer now old new reply lone fit differ fresh (inl (readied.Unknown, p, (es, (fine, none), did), un, told)) =
     let c = unseen_by cat x.row retailer (exchanged_with cat x retailer now (plain_of old)) old new reply lone (es, none, did) (told ∙ ap (λ (q : Problem). problem q) un) in (inl c.0, c.1)

@@ -18,7 +18,7 @@ use Rattle.history_model.specs.Phase.{is_sealed}
 use Rattle.history_model.specs.Lists.{Pairwise}
 use Rattle.history_model.proofs.Keeping.{given_making}
 use Rattle.claim_rule.specs.Rule.{DeskView, state_seen}
-use Rattle.claim_rule.specs.Calls.{ShapeBy}
+use Rattle.claim_rule.specs.Calls.{AddsStepsBy}
 use Rattle.claim_rule.specs.Holds.{held}
 use Rattle.claim_rule.proofs.Holding.{take_front}
 use Rattle.hold_core.specs.declared.tries.Outcome.{Outcome}
@@ -250,7 +250,7 @@ FitsAt span places = (places ≡ []) ⊎ (span.to ≤ 126)
 pub has_added : (standing : State) (row : RowNo) (items : List Item) (span : Interval) (count : ℕ) (candidates : List ℕ) (answer : Added) (won : List Item) (old new : DeskView)
     → FitsAt span candidates → Pairwise (λ p q. p ≢ q) candidates → AllByRecursion (λ p. AreElsewhere p (map held items)) candidates → AllByRecursion IsStanding standing
     → IsAlone old → IsWellFormed old.layout (state_seen old) → IsMaking standing row (map held items) (state_seen old)
-    → ShapeBy (Adds row.row (length items) span count candidates answer won) old new → HasAdded standing row items span count candidates answer won new
+    → AddsStepsBy (Adds row.row (length items) span count candidates answer won) old new → HasAdded standing row items span count candidates answer won new
 has_added standing row items span count candidates answer won old new fits apart other each alone well m (steps, adds, did) =
     let f = shape_follows old new steps alone did in
     let s = state_seen old in

@@ -15,7 +15,7 @@ use Rattle.rail_catalogue.specs.Contents.{CatalogueView}
 use Rattle.history_model.specs.Lists.{Across}
 use Rattle.history_model.proofs.ListLemmas.{Pairwise-append}
 use Rattle.claim_rule.specs.Rule.{DeskView, state_seen}
-use Rattle.claim_rule.specs.Calls.{ShapeBy}
+use Rattle.claim_rule.specs.Calls.{AddsStepsBy}
 use Rattle.claim_rule.proofs.Moves.{is_sound}
 use Rattle.booking_rows.specs.Starts.{StartsHold}
 use Rattle.offer_engine.specs.Codes.{is_of_runs, goes, is_offered}
@@ -84,7 +84,7 @@ offered_differ cat o offered =
 -- ---- booking
 
 -- the row of a new booking
-pub row_started : (cat : CatalogueView) (old new : DeskView) (row : Option RowNo) → IsLone cat old → ShapeBy (StartsHold old new row) old new
+pub row_started : (cat : CatalogueView) (old new : DeskView) (row : Option RowNo) → IsLone cat old → AddsStepsBy (StartsHold old new row) old new
     → ChoosesRow cat.rows (plain_of old) row (plain_of new)
 row_started cat old new (Some row) lone did =
     let begun = has_begun old new row lone.alone lone.settled (is_sound old.layout old.seen lone.legal) did in

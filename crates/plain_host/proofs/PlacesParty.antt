@@ -15,7 +15,7 @@ use Rattle.history_model.specs.Laws.{IsWellFormed}
 use Rattle.history_model.specs.Lists.{Across, Pairwise}
 use Rattle.history_model.proofs.ListLemmas.{All-left, All-map, All-right, Pairwise-across, Pairwise-left, Pairwise-right}
 use Rattle.claim_rule.specs.Rule.{DeskView, state_seen}
-use Rattle.claim_rule.specs.Calls.{ShapeBy}
+use Rattle.claim_rule.specs.Calls.{AddsStepsBy}
 use Rattle.claim_rule.specs.Holds.{held}
 use Rattle.hold_core.specs.declared.adds.Added.{Added}
 use Rattle.hold_core.specs.declared.adds.Added.TheVariants as added
@@ -296,7 +296,7 @@ pub record HasSeated (standing : State) (row : RowNo) (items : List Item) (g : P
 pub has_seated : (standing : State) (row : RowNo) (items : List Item) (g : Party) (answer : PartyAdded) (won : List Item) (old new : DeskView) → g.row ≡ row.row
     → FitsAt g.span g.candidates → Pairwise (λ p q. p ≢ q) g.candidates → AllByRecursion (λ p. AreElsewhere p (map held items)) g.candidates → AllByRecursion IsStanding standing
     → IsAlone old → IsWellFormed old.layout (state_seen old) → IsMaking standing row (map held items) (state_seen old)
-    → ShapeBy (SeatsParty g answer won) old new → HasSeated standing row items g answer won new
+    → AddsStepsBy (SeatsParty g answer won) old new → HasSeated standing row items g answer won new
 has_seated standing row items g answer won old new same fits apart other each alone well m (steps, (lefts, tries), did) =
     let f = shape_follows old new steps alone did in
     let s = state_seen old in

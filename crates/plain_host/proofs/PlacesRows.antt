@@ -23,7 +23,7 @@ use Rattle.history_model.proofs.ListLemmas.{All-right, All-found, All-map, All-u
 use Rattle.history_model.proofs.Owners.{on_row}
 use Rattle.history_model.proofs.Ranges.{ranges_all}
 use Rattle.claim_rule.specs.Rule.{DeskView, state_seen}
-use Rattle.claim_rule.specs.Calls.{ShapeBy}
+use Rattle.claim_rule.specs.Calls.{AddsStepsBy}
 use Rattle.booking_rows.specs.Starts.{StartsHold, IsLeastFree}
 use Rattle.lone_desk.specs.Lone.{IsAlone, IsStartable, NoneStartable, StartsLeast, with_started}
 use Rattle.lone_desk.proofs.Following.{shape_follows}
@@ -536,7 +536,7 @@ begun_by old new row settled alone still same_layout legal well range (inr (inr 
     }
 
 pub has_begun : (old new : DeskView) (row : RowNo) → IsAlone old → (settled : IsSettled (state_seen old)) → IsWellFormed old.layout (state_seen old)
-    → ShapeBy (StartsHold old new (Some row)) old new → HasBegun old new settled row
+    → AddsStepsBy (StartsHold old new (Some row)) old new → HasBegun old new settled row
 has_begun old new row alone settled well did =
     let f = shape_follows old new did.0 alone did.2 in
     begun_by old new row settled alone f.alone f.layout did.2.legal well
@@ -544,7 +544,7 @@ has_begun old new row alone settled well did =
     (starts_least old new (Some row) alone did)
 
 -- where none is found, the plain host has none either
-pub none_begun : (old new : DeskView) → IsAlone old → (settled : IsSettled (state_seen old)) → IsWellFormed old.layout (state_seen old) → ShapeBy (StartsHold old new None) old new
+pub none_begun : (old new : DeskView) → IsAlone old → (settled : IsSettled (state_seen old)) → IsWellFormed old.layout (state_seen old) → AddsStepsBy (StartsHold old new None) old new
     → (choice_for old.layout.rows (plain_of old) ≡ None) × (state_seen new ≡ state_seen old) × IsAlone new
 none_begun old new alone settled well did =
     let s = state_seen old in

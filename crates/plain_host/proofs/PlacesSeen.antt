@@ -14,7 +14,7 @@ use Rattle.history_model.specs.Booking.{Booking, Layout, State}
 use Rattle.history_model.specs.History.{IsLegalFrom}
 use Rattle.history_model.specs.Phase.{is_sealed}
 use Rattle.claim_rule.specs.Rule.{DeskView, state_seen}
-use Rattle.claim_rule.specs.Calls.{ShapeBy}
+use Rattle.claim_rule.specs.Calls.{AddsStepsBy}
 use Rattle.claim_rule.proofs.Moves.{is_sound}
 use Rattle.availability.specs.Looks.{LooksAt, CountsFree}
 use Rattle.offer_engine.specs.declared.wish.OfferWish.{OfferWish}
@@ -157,7 +157,7 @@ knows : (cat : CatalogueView) (desk : DeskView) → IsLone cat desk → Knows (i
 knows cat desk lone span place = list_is_free cat desk span place lone
 
 pub offers_seen : (cat : CatalogueView) (w : OfferWish) (now : ℕ) (offers : List Offer) (old new : DeskView) → IsLone cat old
-    → ShapeBy (MakesOffers cat w now offers) old new → (offers ≡ offered cat (plain_of old) w now) × (state_seen new ≡ state_seen old)
+    → AddsStepsBy (MakesOffers cat w now offers) old new → (offers ≡ offered cat (plain_of old) w now) × (state_seen new ≡ state_seen old)
 offers_seen cat w now offers old new lone (es, did, shape) =
     let f = shape_follows old new es lone.alone shape in
     let trips = trips_of cat.runs (raised w.trip now) in (
@@ -166,12 +166,12 @@ offers_seen cat w now offers old new lone (es, did, shape) =
     )
 
 pub begun_seen : (cat : CatalogueView) (w : OfferWish) (trips : List (List Segment)) (old new : DeskView) → IsLone cat old
-    → ShapeBy (BeginsOffers cat w trips) old new → state_seen new ≡ state_seen old
+    → AddsStepsBy (BeginsOffers cat w trips) old new → state_seen new ≡ state_seen old
 begun_seen cat w trips old new lone (es, (front, rest, counts, are, did), shape) =
     (shape_follows old new es lone.alone shape).state ∙ segments_leave (state_seen old) old.number cat w front counts es did
 
 pub places_seen : (cat : CatalogueView) (places : List PlaceNo) (span : Interval) (states : List Bool) (old new : DeskView) → IsLone cat old → FitsAt span places
-    → ShapeBy (LooksAt places span states) old new
+    → AddsStepsBy (LooksAt places span states) old new
     → (states ≡ map (λ (p : PlaceNo). is_free (plain_of old).bookings span p.0) places) × (state_seen new ≡ state_seen old)
 places_seen cat places span states old new lone fits (es, did, shape) =
     let f = shape_follows old new es lone.alone shape in (

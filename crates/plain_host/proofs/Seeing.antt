@@ -8,8 +8,8 @@ use Rattle.history_model.specs.History.{IsLegalFrom}
 use Rattle.history_model.specs.Laws.{IsWellFormed, AreInRange}
 use Rattle.history_model.proofs.Ranges.{ranges_all}
 use Rattle.claim_rule.specs.Rule.{DeskView, state_seen}
-use Rattle.claim_rule.specs.Desks.{Shape}
-use Rattle.claim_rule.specs.Calls.{ShapeBy}
+use Rattle.claim_rule.specs.Desks.{AddsSteps}
+use Rattle.claim_rule.specs.Calls.{AddsStepsBy}
 use Rattle.claim_rule.proofs.Moves.{is_sound}
 use Rattle.booking_rows.specs.Views.{RowSeen}
 use Rattle.booking_rows.specs.SealedRows.{FitWords}
@@ -41,7 +41,7 @@ pub record HasSeen (old new : DeskView) (row : RowNo) (retailer : ℕ) (v : RowS
   pub same : state_seen new ≡ state_seen old
   pub stays : StaysAlone old new
 
-pub has_seen : (cat : CatalogueView) (row : RowNo) (retailer : ℕ) (v : RowSeen) (es : List Step) (old new : DeskView) → IsLone cat old → SeesOwn row retailer v es → Shape old new es → HasSeen old new row retailer v
+pub has_seen : (cat : CatalogueView) (row : RowNo) (retailer : ℕ) (v : RowSeen) (es : List Step) (old new : DeskView) → IsLone cat old → SeesOwn row retailer v es → AddsSteps old new es → HasSeen old new row retailer v
 has_seen cat row retailer v es old new lone (mine, looks) did =
     let s = state_seen old in
     let f = shape_follows old new es lone.alone did in
@@ -87,7 +87,7 @@ seen_by cat row retailer v does r old new reply lone has is told = (
 )
 
 -- none was seen, and there is none
-pub unseen_by : (cat : CatalogueView) (row : RowNo) (retailer : ℕ) (does : RowSeen → Outcome) (old new : DeskView) (reply : Reply) → IsLone cat old → ShapeBy (SeesNone cat.rows row retailer) old new
+pub unseen_by : (cat : CatalogueView) (row : RowNo) (retailer : ℕ) (does : RowSeen → Outcome) (old new : DeskView) (reply : Reply) → IsLone cat old → AddsStepsBy (SeesNone cat.rows row retailer) old new
     → reply ≡ problem UnknownBooking → IsBy (on_own (plain_of old) row retailer does) new reply × IsLone cat new
 unseen_by cat row retailer does old new reply lone did told =
     let none = unknown_comes cat row retailer old new lone did in (

@@ -7,7 +7,7 @@ use Rattle.history_model.specs.Booking.{Booking, Layout, State}
 use Rattle.history_model.specs.History.{IsLegal}
 use Rattle.history_model.proofs.ListLemmas.{All-append, All-left, All-right}
 use Rattle.claim_rule.specs.Rule.{DeskView, state_seen}
-use Rattle.claim_rule.specs.Desks.{Shape}
+use Rattle.claim_rule.specs.Desks.{AddsSteps}
 use Rattle.booking_rows.specs.SealedRows.{FitWords}
 use Rattle.rail_catalogue.specs.Contents.{CatalogueView}
 use Rattle.lone_desk.specs.Lone.{IsAlone}
@@ -76,7 +76,7 @@ pub record StaysAlone (old new : DeskView) : Type 0 where
   pub legal : IsLegal new.layout new.seen
   pub layout : new.layout ≡ old.layout
 
-pub stays_by : (old new : DeskView) (steps : List Step) → IsAlone old → Shape old new steps → StaysAlone old new
+pub stays_by : (old new : DeskView) (steps : List Step) → IsAlone old → AddsSteps old new steps → StaysAlone old new
 stays_by old new steps alone did =
     let f = shape_follows old new steps alone did in
     record { alone = f.alone; legal = did.legal; layout = f.layout }

@@ -39,7 +39,7 @@ use Rattle.exchange_core.specs.declared.quoting.QuotedExchange.TheVariants as of
 use Rattle.osdm_texts.specs.declared.problem.Problem.TheVariants.{WrongState, QuoteWrong}
 use Rattle.osdm_texts.specs.Answers.{Reply, booking, refund_offer, exchange_offer, problem}
 use Rattle.booking_service.specs.Deciding.{at_end}
-use Rattle.trade_service.specs.Refunds.{RefundsIt, refund_reply}
+use Rattle.trade_service.specs.Refunds.{RefundsFound, refund_reply}
 use Rattle.service_rules.specs.Ordered as order
 use Rattle.service_rules.specs.Orders.{IsFresh}
 use Rattle.lone_desk.specs.Lone.{entries_of, after_steps}
@@ -233,7 +233,7 @@ refund_comes cat g s d retailer code now b came.QuoteWrong es good ranges fit fr
     unchanged (refunded cat code now (plain_in s) w) s (after_steps s d es) (problem QuoteWrong) (problem QuoteWrong) settled (sees_stay s d row retailer v es saw)
     (not_worth cat code now (plain_in s) w (λ e. ne (e ∙ ap (λ (x : RowSeen). refund_at cat x code.made code.fulfilled) (sym seen)))) refl
 
-refund_on : (cat : CatalogueView) (retailer : ℕ) (code : RefundCode) (now : ℕ) → is_stale code.made now ≡ false → ComesOn cat.rows code.row retailer (RefundsIt cat cat.rows retailer code now) (refunded cat code now)
+refund_on : (cat : CatalogueView) (retailer : ℕ) (code : RefundCode) (now : ℕ) → is_stale code.made now ≡ false → ComesOn cat.rows code.row retailer (RefundsFound cat cat.rows retailer code now) (refunded cat code now)
 refund_on cat retailer code now fresh mid new b reply alone legal at generation sealed mine below settled fit (a, (es, did, shape), told) =
     let f = shape_follows mid new es alone shape in
     let s = state_seen mid in (
@@ -246,4 +246,4 @@ refund_on cat retailer code now fresh mid new b reply alone legal at generation 
 pub accept_refund_plain : (cat : CatalogueView) (retailer now : ℕ) (code : RefundCode) → IsFresh code.made now → AnswersPlainly cat retailer now (Ok (order.accept_refund code))
 accept_refund_plain cat retailer now code fresh old new reply lone did =
     to_plainly cat retailer now (on_own (plain_of old) code.row retailer (refunded cat code now (plain_of old))) old new reply
-    (booking_comes cat code.row retailer (RefundsIt cat cat.rows retailer code now) (refunded cat code now) old new reply lone (refund_on cat retailer code now (fresh_code code.made now fresh)) did)
+    (booking_comes cat code.row retailer (RefundsFound cat cat.rows retailer code now) (refunded cat code now) old new reply lone (refund_on cat retailer code now (fresh_code code.made now fresh)) did)

@@ -174,6 +174,6 @@ replaced row v b = if is_booking row b then record { row = b.row; view = v } els
 abbrev pub with_view : Plain → RowNo → RowSeen → Plain
 with_view plain row v = record { bookings = map (replaced row v) plain.bookings; kept = plain.kept }
 
--- a new booking, behind the others; no row is kept
+-- a new booking, after the others; no row is kept
 abbrev pub with_new : Plain → RowNo → RowSeen → Plain
 with_new plain row v = record { bookings = plain.bookings ++ record { row = row; view = v } ∷ []; kept = None }

@@ -17,7 +17,7 @@ pub record IsEmptyRow (b : Booking) : Type 0 where
   pub owner : b.owner ≡ 0
   pub none : b.items ≡ []
 
--- sealed bookings, of whatever generation, and behind them at most an empty row
+-- sealed bookings, of whatever generation, and after them at most an empty row
 pub record IsSettled (s : State) : Type 0 where
   pub standing : State
   pub each : AllByRecursion IsStanding standing

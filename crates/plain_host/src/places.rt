@@ -7,7 +7,7 @@ ghost use Rattle.history_model.specs.Booking.{Layout, State};
 ghost use Rattle.history_model.specs.History.{IsLegalFrom};
 ghost use Rattle.history_model.specs.Lists.{Pairwise};
 ghost use Rattle.claim_rule.specs.Rule.{DeskView, state_seen};
-ghost use Rattle.claim_rule.specs.Calls.{ShapeBy};
+ghost use Rattle.claim_rule.specs.Calls.{AddsStepsBy};
 ghost use Rattle.booking_rows.specs.Starts.{StartsHold};
 ghost use Rattle.hold_core.specs.declared.adds.Added.{Added};
 ghost use Rattle.hold_core.specs.Places.{Adds};
@@ -53,7 +53,7 @@ pub fn places_are_found()
         → AllByRecursion (λ p. IsTrue (free p) ↔ IsFreeAt s g.span p) g.candidates
         → IsLegalFrom layout s (entries_of desk steps) → SeatsParty g answer won steps → SeatsFree g free answer won }
     ensures starts { (cat : CatalogueView) (old new : DeskView) (row : Option RowNo) → IsLone cat old
-        → ShapeBy (StartsHold old new row) old new → ChoosesRow cat.rows (plain_of old) row (plain_of new) }
+        → AddsStepsBy (StartsHold old new row) old new → ChoosesRow cat.rows (plain_of old) row (plain_of new) }
 {}
 
 /// The laws of a lone desk's orders on places: each is answered as by a host of one thread. All but the search for

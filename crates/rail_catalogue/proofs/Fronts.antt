@@ -57,10 +57,6 @@ module _ {text : List ℕ} {kept : Data} {place : Option ℕ} (o : IsOutline (co
   terms_same : (confirm : ℕ) → terms_of confirm o.whole ≡ terms_of confirm kept
   terms_same confirm = rw (steps_same, ticket_same, exchange_same)
 
-after_same : {A B : Type 0} (r : Result A Fault) (f g : A → Result B Fault) → ((x : A) → f x ≡ g x) → after r f ≡ after r g
-after_same (Err e) f g h = refl
-after_same (Ok x) f g h = h x
-
 split_terms : (h : HeadingView) (r : List RetailerView) (s : List StationView) (terms : Result RefundTerms Fault) (member : Option Data)
     → after terms (λ t. with_runs (record { heading = h; retailers = r; stations = s; terms = t }) member)
     ≡ after (after terms (λ t. Ok (record { heading = h; retailers = r; stations = s; terms = t }))) (λ f. with_runs f member)
@@ -122,19 +118,9 @@ of_answer P S Q h (Err e) p s = tt
 pub none_left : (l : Items) → ahead l ≡ Some no_items → all_ahead l ≡ []
 none_left l e = ap (λ o. option_map_or data_of o []) e
 
-there_after : (a b : Option DataItems) (d : Data) → is_some a ≡ true → a ≡ option_map (item d) b → is_some b ≡ true
-there_after a None d h e = sym (ap is_some e) ∙ h
-there_after a (Some ds) d h e = refl
-
 one_less : (a b : Option DataItems) (d : Data) → is_some a ≡ true → a ≡ option_map (item d) b → option_map_or data_of a [] ≡ d ∷ option_map_or data_of b []
 one_less a None d h e = absurd (cc)
 one_less a (Some ds) d h e = ap (λ o. option_map_or data_of o []) e
-
-pub still_there : (l m : Items) (d : Data) → is_some (ahead l) ≡ true → ahead l ≡ option_map (item d) (ahead m) → is_some (ahead m) ≡ true
-still_there l m d h e = there_after (ahead l) (ahead m) d h e
-
-pub next_ahead : (l m : Items) (d : Data) → is_some (ahead l) ≡ true → ahead l ≡ option_map (item d) (ahead m) → all_ahead l ≡ d ∷ all_ahead m
-next_ahead l m d h e = one_less (ahead l) (ahead m) d h e
 
 so_many : (ds : List Data) → 1 ≤ length ds → length ds ≤ 9_223_372_036_854_775_807 → if_so_many 1 9_223_372_036_854_775_807 ds ≡ Some ds
 so_many ds h i = grind arith
@@ -147,11 +133,6 @@ network_all stations member l a h =
 no_runs : (ds : List Data) → length ds ≡ 0 → if_so_many 1 9_223_372_036_854_775_807 ds ≡ None
 no_runs [] h = refl
 no_runs (d ∷ ds) h = let never : ⊥ = omega arith in absurd never
-
-pub network_none : (stations : List StationView) (member : Option Data) (l : Items) → AreListed member l → length (all_ahead l) ≡ 0 → network_of stations member ≡ Err (field (codes "runs"))
-network_none stations member l a h =
-    ap (λ m. need (codes "runs") (option_and_then (if_so_many 1 9_223_372_036_854_775_807) m) (network_from (start_of stations) 0)) a.list
-    ∙ ap (λ m. need (codes "runs") m (network_from (start_of stations) 0)) (no_runs (all_ahead l) h)
 
 some_run : (start : NetworkView) (ds : List Data) (f : Fault) → network_from start 0 ds ≡ Err f → 1 ≤ length ds
 some_run start [] f e = absurd (cc)

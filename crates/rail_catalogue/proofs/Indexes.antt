@@ -56,10 +56,6 @@ pub lookup-insert_entry : (q : List ℕ) (k : Key) (v : RetailerNo) (es : List (
 lookup-insert_entry q k v [] = refl
 lookup-insert_entry q k v (e ∷ es) = by_order q k v e es (insert_entry by_items es k v) (by_items k e.0) refl (lookup-insert_entry q k v es)
 
-first_found : (q key : List ℕ) (b : Bool) (v w : RetailerNo) (more found : Option RetailerNo) → bytes_eq q key ≡ b → (if b then Some w else found) ≡ None → found ≡ None
-first_found q key true v w more found is none = absurd cc
-first_found q key false v w more found is none = none
-
 -- the last retailer is found by its own key alone, where no other has it
 pub retailer_with-last : (q key : List ℕ) (number : ℕ) (rs : List RetailerView) → retailer_with key rs ≡ None
     → cond (is_eq (slice_cmp nat_cmp q key)) (Some (record { 0 = number })) (retailer_with q rs) ≡ retailer_with q (rs ++ (record { number = number; key = key }) ∷ [])

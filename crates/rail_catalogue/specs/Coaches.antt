@@ -31,7 +31,8 @@ trait_named name =
 abbrev pub traits_from : ℕ → ℕ → ℕ → ℕ → ℕ → List Data → Result ℕ Fault
 traits_from i j k t found [] = Ok found
 traits_from i j k t found (d ∷ ds) =
-    need (trait_path i j k t) (option_and_then trait_named (as_str d)) (λ bit. traits_from i j k (t + 1) (bit_or found bit) ds)
+    need (trait_path i j k t) (option_and_then trait_named (as_str d))
+    (λ bit. traits_from i j k (t + 1) (bit_or found bit) ds)
 
 -- the traits of the optional member
 abbrev pub traits_of : ℕ → ℕ → ℕ → Option Data → Result ℕ Fault

@@ -49,7 +49,8 @@ departure_from runs n p = option_map_or (λ r. departure_at r.stops n) (slice_ge
 
 -- the departure where the item begins
 abbrev pub departure_of : CatalogueView → PlacedSpan → ℕ
-departure_of cat item = option_map_or (departure_from cat.runs item.span.from) (slice_get cat.places item.place) last_second
+departure_of cat item =
+    option_map_or (departure_from cat.runs item.span.from) (slice_get cat.places item.place) last_second
 
 -- the least departure of the items
 abbrev pub least_departure : CatalogueView → List PlacedSpan → ℕ

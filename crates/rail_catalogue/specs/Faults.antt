@@ -15,7 +15,7 @@ pub data Fault : Type 0 where
   unknown_station : List ℕ → Fault
   double_key : Fault
 
--- the fault of the text; want of memory is none
+-- the fault of the text; lack of memory is none
 abbrev pub fault_of : CatalogueFault → Option Fault
 fault_of variants.NotJson = Some not_json
 fault_of (variants.Field path) = Some (field (string_bytes path))
@@ -46,10 +46,14 @@ abbrev pub item_path : List ℕ → ℕ → List ℕ → List ℕ
 item_path list n rest = list ++ codes "[" ++ decimal n ++ codes "]" ++ rest
 
 abbrev pub run_item_path : ℕ → List ℕ → ℕ → List ℕ → List ℕ
-run_item_path i list j rest = codes "runs[" ++ decimal i ++ codes "]." ++ list ++ codes "[" ++ decimal j ++ codes "]" ++ rest
+run_item_path i list j rest =
+    codes "runs[" ++ decimal i ++ codes "]." ++ list ++ codes "[" ++ decimal j ++ codes "]" ++ rest
 
 abbrev pub group_path : ℕ → ℕ → ℕ → List ℕ → List ℕ
-group_path i j k rest = codes "runs[" ++ decimal i ++ codes "].coaches[" ++ decimal j ++ codes "].places[" ++ decimal k ++ codes "]" ++ rest
+group_path i j k rest =
+    codes "runs[" ++ decimal i ++ codes "].coaches[" ++ decimal j ++ codes "].places[" ++ decimal k ++ codes "]" ++ rest
 
 abbrev pub trait_path : ℕ → ℕ → ℕ → ℕ → List ℕ
-trait_path i j k t = codes "runs[" ++ decimal i ++ codes "].coaches[" ++ decimal j ++ codes "].places[" ++ decimal k ++ codes "].traits[" ++ decimal t ++ codes "]"
+trait_path i j k t =
+    codes "runs[" ++ decimal i ++ codes "].coaches[" ++ decimal j ++ codes "].places[" ++ decimal k ++ codes "].traits["
+    ++ decimal t ++ codes "]"

@@ -24,7 +24,8 @@ pub record NetworkView : Type 0 where
 -- the places with those of the coaches of the i-th run
 abbrev pub places_of : ℕ → List Place → Data → Result (List Place) Fault
 places_of i places d =
-    need (item_path (codes "runs") i (codes ".coaches")) (list_in 1 9_223_372_036_854_775_807 (get (codes "coaches") d)) (λ items.
+    need (item_path (codes "runs") i (codes ".coaches")) (list_in 1 9_223_372_036_854_775_807 (get (codes "coaches") d))
+    (λ items.
     coaches_from i 0 places items)
 
 -- the network with the i-th item of the list
@@ -74,7 +75,15 @@ contents_of d =
     after (stations_of (get (codes "stations") d)) (λ stations.
     after (terms_of heading.confirm_seconds d) (λ terms.
     after (network_of stations (get (codes "runs") d)) (λ network.
-    Ok (record { currency = heading.currency; rows = heading.rows; retailers = retailers; runs = network.runs; fares = network.fares; places = network.places; terms = terms }))))))
+    Ok (record {
+      currency = heading.currency;
+      rows = heading.rows;
+      retailers = retailers;
+      runs = network.runs;
+      fares = network.fares;
+      places = network.places;
+      terms = terms;
+    }))))))
 
 abbrev pub contents_in : Option Data → Result CatalogueView Fault
 contents_in None = Err not_json

@@ -21,7 +21,8 @@ if_in_range least most n = if nat_le least n && nat_le n most then Some n else N
 
 -- a whole number without fraction and exponent, from `least` to `most`
 abbrev pub whole_in : ℕ → ℕ → Option Data → Option ℕ
-whole_in least most member = option_and_then (if_in_range least most) (option_and_then as_u64 (option_and_then as_number member))
+whole_in least most member =
+    option_and_then (if_in_range least most) (option_and_then as_u64 (option_and_then as_number member))
 
 -- the same, where the member may be missing
 abbrev pub whole_or : ℕ → ℕ → ℕ → Option Data → Option ℕ

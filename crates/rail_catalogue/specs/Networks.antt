@@ -37,7 +37,13 @@ pub record FrontView : Type 0 where
   pub terms : RefundTerms
 
 abbrev pub front_view : Front → FrontView
-front_view f = record { heading = heading_view f.heading; retailers = f.retailers; stations = f.stations.stations; terms = f.terms }
+front_view f =
+    record {
+      heading = heading_view f.heading;
+      retailers = f.retailers;
+      stations = f.stations.stations;
+      terms = f.terms;
+    }
 
 abbrev pub front_in : Data → Result FrontView Fault
 front_in d =
@@ -59,4 +65,12 @@ runs_at place text = option_and_then (λ i. member_at i text) place
 abbrev pub with_runs : FrontView → Option Data → Result CatalogueView Fault
 with_runs f member =
     after (network_of f.stations member) (λ network.
-    Ok (record { currency = f.heading.currency; rows = f.heading.rows; retailers = f.retailers; runs = network.runs; fares = network.fares; places = network.places; terms = f.terms }))
+    Ok (record {
+      currency = f.heading.currency;
+      rows = f.heading.rows;
+      retailers = f.retailers;
+      runs = network.runs;
+      fares = network.fares;
+      places = network.places;
+      terms = f.terms;
+    }))

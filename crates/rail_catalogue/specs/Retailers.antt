@@ -14,7 +14,9 @@ pub record RetailerView : Type 0 where
 
 -- a letter, a digit, `-` or `_`, in ASCII
 abbrev pub is_key_byte : ℕ → Bool
-is_key_byte b = (nat_le 65 b && nat_le b 90) || ((nat_le 97 b && nat_le b 122) || ((nat_le 48 b && nat_le b 57) || (b == 45 || b == 95)))
+is_key_byte b =
+    (nat_le 65 b && nat_le b 90)
+    || ((nat_le 97 b && nat_le b 122) || ((nat_le 48 b && nat_le b 57) || (b == 45 || b == 95)))
 
 -- one to 32 of them
 abbrev pub is_key : List ℕ → Bool

@@ -31,4 +31,5 @@ terms_of confirm d =
     after (steps_from [] items) (λ steps.
     need (codes "ticketFee") (whole_or 0 0 4_294_967_295 (get (codes "ticketFee") d)) (λ ticket.
     need (codes "exchangeFee") (whole_or 0 0 4_294_967_295 (get (codes "exchangeFee") d)) (λ exchange.
-    unless_faulty (record { steps = steps; ticket_fee = ticket; exchange_fee = exchange; confirm_seconds = confirm }) (terms_fault steps ticket exchange)))))
+    unless_faulty (record { steps = steps; ticket_fee = ticket; exchange_fee = exchange; confirm_seconds = confirm })
+    (terms_fault steps ticket exchange)))))

@@ -43,8 +43,10 @@ abbrev pub times_of : Bool → Bool → Time → Time → Result Times (List ℕ
 times_of first last bad depart = Err (codes ".arrive")
 times_of first last (given arrive) bad = Err (codes ".depart")
 times_of first last (given arrive) (given depart) = Ok (record { arrive = arrive; depart = depart })
-times_of first last (given arrive) missing = if last then Ok (record { arrive = arrive; depart = arrive }) else Err (codes ".depart")
-times_of first last missing (given depart) = if first then Ok (record { arrive = depart; depart = depart }) else Err (codes ".arrive")
+times_of first last (given arrive) missing =
+    if last then Ok (record { arrive = arrive; depart = arrive }) else Err (codes ".depart")
+times_of first last missing (given depart) =
+    if first then Ok (record { arrive = depart; depart = depart }) else Err (codes ".arrive")
 times_of first last missing bad = if first then Err (codes ".depart") else Err (codes ".arrive")
 times_of first last missing missing = if first then Err (codes ".depart") else Err (codes ".arrive")
 
@@ -54,7 +56,9 @@ timed i j (Ok times) = Ok times
 
 -- the times of the j-th of n stops of the i-th run; an only stop needs both
 abbrev pub times_at : ℕ → ℕ → ℕ → Data → Result Times Fault
-times_at i j n d = timed i j (times_of (j == 0 && not (n == 1)) (j + 1 == n && not (n == 1)) (time_of (get (codes "arrive") d)) (time_of (get (codes "depart") d)))
+times_at i j n d =
+    timed i j (times_of (j == 0 && not (n == 1)) (j + 1 == n && not (n == 1)) (time_of (get (codes "arrive") d))
+    (time_of (get (codes "depart") d)))
 
 abbrev pub known : List ℕ → Option StationNo → (StationNo → Result Stop Fault) → Result Stop Fault
 known code None next = Err (unknown_station code)
@@ -72,7 +76,8 @@ stop_at stations i j n d = let at : List ℕ → List ℕ = run_item_path i (cod
 -- the stops found so far with those of the items left, of n in all
 abbrev pub stops_from : List StationView → ℕ → ℕ → List Stop → List Data → Result (List Stop) Fault
 stops_from stations i n found [] = Ok found
-stops_from stations i n found (d ∷ ds) = after (stop_at stations i (length found) n d) (λ s. stops_from stations i n (found ++ s ∷ []) ds)
+stops_from stations i n found (d ∷ ds) =
+    after (stop_at stations i (length found) n d) (λ s. stops_from stations i n (found ++ s ∷ []) ds)
 
 -- the stops of all items, of the i-th run
 abbrev pub stops_in : List StationView → ℕ → List Value → Result (List Stop) Fault
@@ -101,7 +106,8 @@ pub record FaresView : Type 0 where
   pub second : FareAmounts
 
 abbrev pub amount_at : List ℕ → List ℕ → Data → Option ℕ
-amount_at class name d = whole_in 0 10_000_000 (option_and_then (get name) (option_and_then (get class) (get (codes "fares") d)))
+amount_at class name d =
+    whole_in 0 10_000_000 (option_and_then (get name) (option_and_then (get class) (get (codes "fares") d)))
 
 -- the fares of the i-th item
 abbrev pub fares_of : ℕ → Data → Result FaresView Fault
@@ -110,4 +116,7 @@ fares_of i d = let at : List ℕ → List ℕ = item_path (codes "runs") i in
     need (at (codes ".fares.first.perLeg")) (amount_at (codes "first") (codes "perLeg") d) (λ first_leg.
     need (at (codes ".fares.second.base")) (amount_at (codes "second") (codes "base") d) (λ second_base.
     need (at (codes ".fares.second.perLeg")) (amount_at (codes "second") (codes "perLeg") d) (λ second_leg.
-    Ok (record { first = record { base = first_base; per_leg = first_leg }; second = record { base = second_base; per_leg = second_leg } })))))
+    Ok (record {
+      first = record { base = first_base; per_leg = first_leg };
+      second = record { base = second_base; per_leg = second_leg };
+    })))))

@@ -17,7 +17,7 @@ use tariff::{Fare, Terms};
 use train_runs::{Runs, Stop};
 
 /// The fares of a run.
-#[derive(Debug, Clone, Copy, PartialEq, Eq)]
+#[derive(Clone, Copy, PartialEq, Eq)]
 pub(crate) struct Fares {
     first: Fare,
     second: Fare,

@@ -8,7 +8,7 @@ use tariff::TermsFault;
 use train_runs::RunFault;
 
 /// Why a text is no catalogue. The first fault in the order of the format is the answer.
-#[derive(Debug, Drop)]
+#[derive(Drop)]
 pub enum CatalogueFault {
     /// It is no JSON in UTF-8 (RFC 8259), or nests deeper than 127.
     NotJson,
@@ -76,7 +76,7 @@ pub fn run_item_fault(alloc: Global, run: usize, list: &str, n: usize, rest: &st
 }
 
 /// Where a group of places stands in the file.
-#[derive(Debug, Clone, Copy)]
+#[derive(Clone, Copy)]
 pub struct GroupSpot {
     pub run: usize,
     pub coach: usize,

@@ -3,6 +3,8 @@
 //! `read_catalogue` answers a catalogue exactly for a text of the format, with exactly its contents, and else the first
 //! fault in the order of the format, with the path of the member at fault. `Format` in `specs/` defines both, member by
 //! member in the order in which they are tried. A `Catalogue` is never changed; threads share it.
+//!
+//! `crosses` is the proof that threads may share it.
 #![tactic(auto)]
 
 mod catalogue;

@@ -14,7 +14,7 @@ use std::collections::{BTreeMap, BTreeSet};
 use std::marker::Model;
 
 // A retailer, as the file has it.
-#[derive(Debug, Drop)]
+#[derive(Drop)]
 struct Retailer {
     number: u32,
     key: Vec<u8>,
@@ -29,7 +29,7 @@ impl Model for Retailer {
 }
 
 /// The retailers in the file's order, with what finds one by its key or its number.
-#[derive(Debug, Drop)]
+#[derive(Drop)]
 pub struct Retailers {
     list: Vec<Retailer>,
     by_key: BTreeMap<Vec<u8>, RetailerNo>,

@@ -13,14 +13,16 @@ generation_text (suc n) = 45 ∷ decimal (suc n)
 
 -- `B`, the row's number in decimal digits, with zeros before it where there are fewer than six, and the generation
 abbrev pub booking_id_text : ℕ → ℕ → List ℕ
-booking_id_text row generation = 66 ∷ (replicate (6 - length (decimal row)) 48 ++ (decimal row ++ generation_text generation))
+booking_id_text row generation =
+    66 ∷ (replicate (6 - length (decimal row)) 48 ++ (decimal row ++ generation_text generation))
 
 -- the text is the id of this booking; of no other one; and of none
 abbrev pub IsIdOf : List ℕ → RowNo → Type 0
 IsIdOf text row = (row.generation ≤ last_generation) × (text ≡ booking_id_text row.row row.generation)
 
 abbrev pub IsIdOfNoOther : List ℕ → RowNo → Type 0
-IsIdOfNoOther text id = (row generation : ℕ) → row < 2 ^ 32 → generation ≤ last_generation → text ≡ booking_id_text row generation
+IsIdOfNoOther text id =
+    (row generation : ℕ) → row < 2 ^ 32 → generation ≤ last_generation → text ≡ booking_id_text row generation
     → (row ≡ id.row) × (generation ≡ id.generation)
 
 abbrev pub IsNoId : List ℕ → Type 0
@@ -28,10 +30,12 @@ IsNoId text = (row generation : ℕ) → row < 2 ^ 32 → generation ≤ last_ge
 
 -- where the text is a booking's id, these are the numbers of that booking
 abbrev pub HasNumbers : List ℕ → Option RowNo → Type 0
-HasNumbers text numbers = (row generation : ℕ) → row < 2 ^ 32 → generation ≤ last_generation → text ≡ booking_id_text row generation
+HasNumbers text numbers =
+    (row generation : ℕ) → row < 2 ^ 32 → generation ≤ last_generation → text ≡ booking_id_text row generation
     → numbers ≡ Some (record { row = row; generation = generation })
 
--- where the text is that of a row, with zeros before it, and of a generation behind it, these are the digits of both
+-- where the text is that of a row, with zeros before it, and of a generation after it, these are the digits of both
 abbrev pub HasParts : List ℕ → List ℕ → List ℕ → Type 0
-HasParts text first second = (k row generation : ℕ) → row < 2 ^ 32 → text ≡ replicate k 48 ++ (decimal row ++ generation_text generation)
+HasParts text first second =
+    (k row generation : ℕ) → row < 2 ^ 32 → text ≡ replicate k 48 ++ (decimal row ++ generation_text generation)
     → (first ≡ replicate k 48 ++ decimal row) × (second ≡ decimal generation)

@@ -8,7 +8,7 @@ use arrayvec::ArrayVec;
 use itoa::Buffer;
 use std::str;
 
-/// The text of a booking's id: `B`, the row's number in at least six digits, and `-` and the generation behind it where
+/// The text of a booking's id: `B`, the row's number in at least six digits, and `-` and the generation after it where
 /// that isn't 0.
 pub type BookingId = ArrayVec<u8, 17>;
 
@@ -72,7 +72,7 @@ pub fn read_booking_id(text: &[u8]) -> Option<RowNo>
     }
 }
 
-// The numbers behind the letter, where the text is an id. Another text may give some too.
+// The numbers after the letter, where the text is an id. Another text may give some too.
 fn numbers_of(text: &[u8]) -> Option<RowNo>
     ensures { HasNumbers text.now result }
 {

@@ -11,7 +11,7 @@ use Rattle.rail_io.specs.declared.standard.ReaderSource.{ReaderSource}
 use Rattle.rail_io.specs.declared.standard.WriterSink.{WriterSink}
 use Rattle.rail_io.specs.declared.system_clock.SystemClock.{SystemClock}
 
--- the number of the call behind so many, of a count that stands still at its last value
+-- the number of the call after so many, of a count that stands still at its last value
 abbrev pub call_after : ℕ → ℕ
 call_after calls = min (calls + 1) (2 ^ 64 - 1)
 
@@ -50,7 +50,7 @@ abbrev pub sink_fails : VecSink → List ℕ
 sink_fails s = s.fails.items
 
 -- What a write of two pieces came to, whose sink writes the first by its next call, and the second, if it has bytes, by
--- the call behind that, unless the first failed: by which calls, and which of them failed. A listed call fails.
+-- the call after that, unless the first failed: by which calls, and which of them failed. A listed call fails.
 abbrev pub WritesInTurn : List ℕ → ℕ → ℕ → List ℕ → List ℕ → PushedBoth → Type 0
 WritesInTurn fails old new first [] (Took n) =
     (new ≡ call_after old) × (Contains fails (call_after old) → ⊥) × (n ≡ length first)

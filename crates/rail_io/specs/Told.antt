@@ -26,7 +26,7 @@ abbrev pub Pushes : Option (List ℕ) → Option (List ℕ) → List ℕ → Pus
 Pushes before after piece (Took n) = (0 < n) × (n ≤ length piece) × (after ≡ with_end before (take n piece))
 Pushes before after piece SinkFailed = after ≡ before
 
--- What a write of two pieces takes of them, one behind the other: the first bytes, or nothing.
+-- What a write of two pieces takes of them, one after the other: the first bytes, or nothing.
 abbrev pub PushesBoth : Option (List ℕ) → Option (List ℕ) → List ℕ → PushedBoth → Type 0
 PushesBoth before after pieces (TookBoth n) = (0 < n) × (n ≤ length pieces) × (after ≡ with_end before (take n pieces))
 PushesBoth before after pieces (FailedBoth n) = (n < length pieces) × (after ≡ with_end before (take n pieces))
@@ -37,7 +37,8 @@ HasFailed (TookBoth n) = ⊥
 HasFailed (FailedBoth n) = ⊤
 
 -- Where both tell their bytes, and this holds, some bytes are written: this of those to come.
-abbrev pub WritesWhere : Type 0 → Option (List ℕ) → Option (List ℕ) → Option (List ℕ) → (List ℕ → List ℕ → Type 0) → Type 0
+abbrev pub WritesWhere : Type 0 → Option (List ℕ) → Option (List ℕ) → Option (List ℕ) → (List ℕ → List ℕ → Type 0)
+    → Type 0
 WritesWhere Holds input output sent Of =
     (stream before : List ℕ) → input ≡ Some stream → output ≡ Some before → Holds
     → (written : List ℕ) × (sent ≡ Some (before ++ written)) × Of stream written

@@ -9,6 +9,10 @@
 //! so many times. `ReaderSource` and
 //! `WriterSink` stand before a reader and a writer of std, as standard input and output, `FileShelf`
 //! before the system's files and `SystemClock` before its clock; they tell nothing.
+//!
+//! `write_both` writes two pieces, one after the other, without joining them; a sink that has no better way makes two
+//! writes of it. `pulled_of`, `pushed_of` and `fetched_of` say what an answer of the system means, and are exact. The
+//! calls of the system themselves, and that an adapter hands on just the bytes that it was given, are trusted.
 #![tactic(auto)]
 
 mod answers;

@@ -6,7 +6,7 @@ use rail_time::Moment;
 use std::marker::Model;
 
 /// A clock by a script: its readings go up by the same number of seconds, and stop at the last moment.
-#[derive(Debug, Clone, Copy, PartialEq, Eq)]
+#[derive(Clone, Copy, PartialEq, Eq)]
 pub struct ScriptClock {
     /// The next reading.
     pub next: Moment,
@@ -30,7 +30,7 @@ impl Clock for ScriptClock {
 }
 
 /// A clock with listed readings, of which it repeats the last for good.
-#[derive(Debug, Drop)]
+#[derive(Drop)]
 pub struct ListClock {
     readings: Vec<Moment>,
     at: usize,

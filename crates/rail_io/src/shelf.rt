@@ -7,7 +7,7 @@ ghost use Rattle.rail_io.specs.Files.{Fetches};
 use std::alloc::Global;
 
 /// What a shelf answers for a name.
-#[derive(Debug, Drop)]
+#[derive(Drop)]
 pub enum Fetched {
     /// The content of the file.
     Got(Vec<u8>),

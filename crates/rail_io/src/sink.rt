@@ -5,7 +5,7 @@ ghost use Rattle.rail_io.specs.Faults.{Rose};
 ghost use Rattle.rail_io.specs.Told.{Pushes, PushesBoth, HasFailed};
 
 /// What a write answers.
-#[derive(Clone, Copy, Debug, PartialEq, Eq)]
+#[derive(Clone, Copy, PartialEq, Eq)]
 pub enum Pushed {
     /// So many bytes of the piece were taken, at least one.
     Took(usize),
@@ -14,7 +14,7 @@ pub enum Pushed {
 }
 
 /// What a write of two pieces answers.
-#[derive(Clone, Copy, Debug, PartialEq, Eq)]
+#[derive(Clone, Copy, PartialEq, Eq)]
 pub enum PushedBoth {
     /// So many bytes of the front of both were taken, at least one.
     Took(usize),
@@ -39,7 +39,7 @@ pub trait Sink {
         ensures cause { result ≡ Failed → Rose (faults self.old) (faults self.new) }
         ensures steady { (result ≡ Failed → ⊥) → faults self.new ≡ faults self.old };
 
-    /// Takes some of the bytes at the front of `first`, which isn't empty, and `second` behind it, without joining
+    /// Takes some of the bytes at the front of `first`, which isn't empty, and `second` after it, without joining
     /// them. A sink that has no better way writes one after the other.
     fn write_both(&mut self, first: &[u8], second: &[u8]) -> PushedBoth
         requires { 0 < length first.now }

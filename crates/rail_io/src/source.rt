@@ -5,7 +5,7 @@ ghost use Rattle.rail_io.specs.Faults.{Rose};
 ghost use Rattle.rail_io.specs.Told.{Pulls};
 
 /// What a read answers.
-#[derive(Clone, Copy, Debug, PartialEq, Eq)]
+#[derive(Clone, Copy, PartialEq, Eq)]
 pub enum Pulled {
     /// So many bytes stand at the front of the room, at least one.
     Got(usize),

@@ -76,7 +76,7 @@ fn write_some<W: Write>(writer: &mut W, piece: &[u8]) -> io::Result<usize>
     writer.write(piece)
 }
 
-// Both pieces, one behind the other.
+// Both pieces, one after the other.
 fn joined(first: &[u8], second: &[u8]) -> ArrayVec<u8, JOINED>
     requires fit { length first.now + length second.now ≤ 512 }
     ensures both { result.items ≡ first.now ++ second.now }

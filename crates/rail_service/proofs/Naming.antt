@@ -31,9 +31,3 @@ pub names : (path : List ℕ) (found : Option (RouteOf Resource)) → IsUtf8 pat
     → resource_at path ≡ option_map (λ (r : RouteOf Resource). r.value) found
 names path found text is =
     ap (found_at path) (is_utf8-from_IsUtf8 path text) ∙ ap (option_map (λ (r : RouteOf Resource). r.value)) is
-
-pub part_on : (n : ℕ) (path : List ℕ) → 0 < n → part n path ≡ part (n - 1) (after_slash path)
-part_on zero path some = absurd (omega (arith, some))
-part_on (suc n) path some =
-    let e : n ≡ suc n - 1 = omega arith in
-    ap (λ (k : ℕ). part k (after_slash path)) e

@@ -7,13 +7,13 @@ use Rattle.offer_codes.specs.Offers.{OfferView, offer_view}
 use Rattle.offer_codes.specs.Exchanges.{ExchangeView, exchange_view}
 use Rattle.booking_rows.specs.declared.notes.Detail.{Detail}
 use Rattle.exchange_core.specs.Ready.{ReadyView}
-use Rattle.trade_service.specs.Refunds.{RefundsIt}
-use Rattle.trade_service.specs.Exchanges.{DecidesOrNot, CarriesOut, ExchangesIt, ready_of}
+use Rattle.trade_service.specs.Refunds.{RefundsFound}
+use Rattle.trade_service.specs.Exchanges.{DecidesOrNot, CarriesOut, AnswersAcceptedExchange, ready_of}
 use Rattle.history_model.specs.declared.entry.Step.{Step}
 use Rattle.history_model.specs.History.{IsLegal}
 use Rattle.claim_rule.specs.Rule.{DeskView}
-use Rattle.claim_rule.specs.Desks.{Shape}
-use Rattle.claim_rule.specs.Calls.{Calls, ShapeBy}
+use Rattle.claim_rule.specs.Desks.{AddsSteps}
+use Rattle.claim_rule.specs.Calls.{Calls, AddsStepsBy}
 use Rattle.claim_rule.proofs.Shapes.{shape_then, shape_none}
 use Rattle.rail_ids.specs.declared.RetailerNo.{RetailerNo}
 use Rattle.rail_ids.specs.declared.RowNo.{RowNo}
@@ -23,7 +23,7 @@ use Rattle.booking_rows.specs.Views.{RowSeen}
 use Rattle.osdm_texts.specs.declared.problem.Problem.{Problem}
 use Rattle.osdm_texts.specs.Answers.{Reply}
 use Rattle.osdm_json.specs.declared.command.Command.{Command}
-use Rattle.booking_service.specs.Deciding.{Replying, OnBooking, shows, ConfirmsIt, FulfilsIt, ReleasesIt}
+use Rattle.booking_service.specs.Deciding.{Replying, OnBooking, shows, ConfirmsFound, FulfilsFound, ReleasesFound}
 use Rattle.reservation_service.specs.declared.holding.Placing.{Placing}
 use Rattle.reservation_service.specs.Holding.{HoldsPlaces}
 use Rattle.reservation_service.specs.Reserving.{reserved, FailsToHold, Reserves}
@@ -37,16 +37,16 @@ use Rattle.rail_service.specs.Serving.{AnswersAsked, AnswersRequest}
 
 -- one list of the desk's own steps, and nothing else of it
 abbrev pub Own : DeskView → DeskView → Type 0
-Own old new = (steps : List Step) × Shape old new steps
+Own old new = (steps : List Step) × AddsSteps old new steps
 
-own_by : (P : Calls) (old new : DeskView) → ShapeBy P old new → Own old new
+own_by : (P : Calls) (old new : DeskView) → AddsStepsBy P old new → Own old new
 own_by P old new s = (s.0, s.2)
 
 pub own_then : (a b c : DeskView) → Own a b → Own b c → Own a c
 own_then a b c p q = (p.0 ++ q.0, shape_then a b c p.0 q.0 p.1 q.1)
 
 pub own_same : (a b : DeskView) → IsLegal a.layout a.seen → b ≡ a → Own a b
-own_same a b legal e = ([], subst (λ (d : DeskView). Shape a d []) (sym e) (shape_none a legal))
+own_same a b legal e = ([], subst (λ (d : DeskView). AddsSteps a d []) (sym e) (shape_none a legal))
 
 abbrev Anything : Step → Type 0
 Anything st = Unit {0}
@@ -97,7 +97,7 @@ carries_own cat ready old new reply (inl fails) = fails_own cat ready.code.offer
 carries_own cat ready old new reply (inr (row, items, mid, places, did)) =
     own_then old mid new (holds_own cat ready.code.offer false ready.code.offer.segments row _ items old mid places) (decides_own ready row items _ mid new reply did)
 
-exchanges_own : (cat : CatalogueView) (rows retailer : ℕ) (x : ExchangeView) (now : ℕ) (old new : DeskView) (reply : Reply) → ExchangesIt cat rows retailer x now old new reply → Own old new
+exchanges_own : (cat : CatalogueView) (rows retailer : ℕ) (x : ExchangeView) (now : ℕ) (old new : DeskView) (reply : Reply) → AnswersAcceptedExchange cat rows retailer x now old new reply → Own old new
 exchanges_own cat rows retailer x now old new reply (inl (a, p, did, un, is)) = own_by _ old new did
 exchanges_own cat rows retailer x now old new reply (inr (mid, did, goes)) =
     own_then old mid new (own_by _ old mid did) (carries_own cat (ready_of retailer x now) mid new reply goes)
@@ -111,14 +111,14 @@ performs_own cat retailer now (order.reserve r) old new reply legal did =
 performs_own cat retailer now (order.show row) old new reply legal did =
     on_booking (shows row) (λ v a b r l is. own_same a b l is.0) cat.rows row retailer old new reply did
 performs_own cat retailer now (order.release row) old new reply legal did =
-    on_booking (ReleasesIt cat.rows row retailer now) (λ v a b r l is. own_by _ a b is.1) cat.rows row retailer old new reply did
+    on_booking (ReleasesFound cat.rows row retailer now) (λ v a b r l is. own_by _ a b is.1) cat.rows row retailer old new reply did
 performs_own cat retailer now (order.confirm row) old new reply legal did =
-    on_booking (ConfirmsIt cat.rows row retailer now) (λ v a b r l is. own_by _ a b is.1) cat.rows row retailer old new reply did
+    on_booking (ConfirmsFound cat.rows row retailer now) (λ v a b r l is. own_by _ a b is.1) cat.rows row retailer old new reply did
 performs_own cat retailer now (order.fulfil row) old new reply legal did =
-    on_booking (FulfilsIt cat.rows row retailer) (λ v a b r l is. own_by _ a b is.1) cat.rows row retailer old new reply did
+    on_booking (FulfilsFound cat.rows row retailer) (λ v a b r l is. own_by _ a b is.1) cat.rows row retailer old new reply did
 performs_own cat retailer now (order.quote_refund row) old new reply legal did = own_by _ old new did.1
 performs_own cat retailer now (order.accept_refund code) old new reply legal did =
-    on_booking (RefundsIt cat cat.rows retailer code now) (λ v a b r l is. own_by _ a b is.1) cat.rows code.row retailer old new reply did
+    on_booking (RefundsFound cat cat.rows retailer code now) (λ v a b r l is. own_by _ a b is.1) cat.rows code.row retailer old new reply did
 performs_own cat retailer now (order.quote_exchange row code) old new reply legal did = own_by _ old new did.1
 performs_own cat retailer now (order.accept_exchange code) old new reply legal did = exchanges_own cat cat.rows retailer (exchange_view code) now old new reply did
 performs_own cat retailer now (order.places segment) old new reply legal did = lists_own cat segment old new reply legal did
@@ -128,13 +128,3 @@ pub answers_own : (cat : CatalogueView) (retailer now : ℕ) (o : Result order.O
     → AnswersBy cat retailer now o old new reply → Own old new
 answers_own cat retailer now (Err p) old new reply legal did = (_, did.0)
 answers_own cat retailer now (Ok o) old new reply legal did = performs_own cat retailer now o old new reply legal did
-
-asked_own : (cat : CatalogueView) (now : ℕ) (asked : Result (RetailerNo × Command) Problem) (old new : DeskView) (reply : Reply) → IsLegal old.layout old.seen
-    → AnswersAsked cat now asked old new reply → Own old new
-asked_own cat now (Ok a) old new reply legal did = answers_own cat a.0.0 now (ordered cat now a.1) old new reply legal did.0
-asked_own cat now (Err p) old new reply legal did = (_, did.0)
-
--- all that the desk does for a request is of its reply
-pub request_own : (cat : CatalogueView) (first : Option RetailerNo) (request : RequestText) (now : ℕ) (old new : DeskView) (reply : Reply) → IsLegal old.layout old.seen
-    → AnswersRequest cat first request now old new reply → Own old new
-request_own cat first request now old new reply legal (asked, asks, did) = asked_own cat now asked old new reply legal did

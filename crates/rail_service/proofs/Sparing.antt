@@ -10,7 +10,7 @@ use Rattle.history_model.specs.declared.entry.Step.TheVariants.{Look, Take, Give
 use Rattle.history_model.specs.History.{IsLegal}
 use Rattle.history_model.specs.Work.{NoStep}
 use Rattle.claim_rule.specs.Rule.{DeskView}
-use Rattle.claim_rule.specs.Calls.{ShapeBy}
+use Rattle.claim_rule.specs.Calls.{AddsStepsBy}
 use Rattle.claim_rule.specs.Out.{is_look, AllLooks}
 use Rattle.claim_rule.proofs.Shapes.{shape_then, shape_none}
 use Rattle.booking_rows.specs.Starts.{Misses, misses_steps, Passed, search_steps, StartsHold}
@@ -48,14 +48,14 @@ use Rattle.refund_core.specs.Quotes.{SeesOwn, FindsBooking}
 use Rattle.rail_ids.specs.declared.RowNo.{RowNo}
 use Rattle.history_model.specs.declared.phase.Phase.{Phase}
 use Rattle.history_model.specs.declared.phase.Phase.TheVariants as phase
-use Rattle.booking_service.specs.Deciding.{Replying, OnBooking, shows, ConfirmsIt, confirm_reply, FulfilsIt, fulfil_reply, ReleasesIt, release_reply}
+use Rattle.booking_service.specs.Deciding.{Replying, OnBooking, shows, ConfirmsFound, confirm_reply, FulfilsFound, fulfil_reply, ReleasesFound, release_reply}
 use Rattle.reservation_service.specs.declared.holding.Placing.{Placing}
 use Rattle.reservation_service.specs.Holding.{HoldsPlaces, GivesUp}
 use Rattle.reservation_service.specs.Reserving.{reserved, FailsToHold, Reserves}
 use Rattle.reservation_service.proofs.Adding.{places_only}
 use Rattle.search_service.specs.Searching.{SearchesOffers, ListsPlaces}
-use Rattle.trade_service.specs.Refunds.{QuotesIt, RefundsIt, refund_reply}
-use Rattle.trade_service.specs.Exchanges.{QuotesExchangeOfIt, DecidesOrNot, lost_problem, CarriesOut, ExchangesIt, ready_of}
+use Rattle.trade_service.specs.Refunds.{AnswersRefundQuote, RefundsFound, refund_reply}
+use Rattle.trade_service.specs.Exchanges.{AnswersExchangeQuote, DecidesOrNot, lost_problem, CarriesOut, AnswersAcceptedExchange, ready_of}
 use Rattle.service_rules.specs.Ordered as order
 use Rattle.service_rules.specs.Checks.{ordered}
 use Rattle.service_rules.specs.Performing.{Performs}
@@ -67,7 +67,7 @@ use Rattle.rail_service.proofs.Owned.{Own, own_same, decides_own}
 -- steps that decide nothing
 
 abbrev Spares : DeskView → DeskView → Type 0
-Spares old new = ShapeBy (NoStep decides) old new
+Spares old new = AddsStepsBy (NoStep decides) old new
 
 append : (xs ys : List Step) → NoStep decides xs → NoStep decides ys → NoStep decides (xs ++ ys)
 append [] ys p q = q
@@ -236,14 +236,14 @@ refund_told code now v (refunded.WrongState shown) = refl
 refund_told code now v (refunded.QuoteStale made at) = refl
 refund_told code now v refunded.QuoteWrong = refl
 
-quotes : (cat : CatalogueView) (rows : ℕ) (row : RowNo) (retailer now : ℕ) (old new : DeskView) (reply : Reply) → QuotesIt cat rows row retailer now old new reply → MakesFor old new reply
+quotes : (cat : CatalogueView) (rows : ℕ) (row : RowNo) (retailer now : ℕ) (old new : DeskView) (reply : Reply) → AnswersRefundQuote cat rows row retailer now old new reply → MakesFor old new reply
 quotes cat rows row retailer now old new reply (quoted.Done code, (es, (here, (v, sees, phase, is)), shape), told) =
     spared old new reply (es, saw row retailer v es sees, shape)
 quotes cat rows row retailer now old new reply (quoted.Unknown, did, told) = other old new reply _ (did.0, did.2) told refl
 quotes cat rows row retailer now old new reply (quoted.WrongState shown, did, told) = other old new reply _ (did.0, did.2) told refl
 
 quotes_exchange : (cat : CatalogueView) (rows : ℕ) (row : RowNo) (retailer : ℕ) (o : OfferView) (now : ℕ) (old new : DeskView) (reply : Reply)
-    → QuotesExchangeOfIt cat rows row retailer o now old new reply → MakesFor old new reply
+    → AnswersExchangeQuote cat rows row retailer o now old new reply → MakesFor old new reply
 quotes_exchange cat rows row retailer o now old new reply (quoted_exchange.Done code, (es, (here, (v, sees, phase, is)), shape), told) =
     spared old new reply (es, saw row retailer v es sees, shape)
 quotes_exchange cat rows row retailer o now old new reply (quoted_exchange.Unknown, did, told) = other old new reply _ (did.0, did.2) told refl
@@ -272,7 +272,7 @@ carries cat ready old new reply (inr (row, items, mid, held, did)) =
     makes_then old mid new reply (holds cat ready.code.offer false ready.code.offer.segments row _ items old mid held) (decides_or_not ready row items _ mid new reply did)
 
 exchanges_it : (cat : CatalogueView) (rows retailer : ℕ) (x : ExchangeView) (now : ℕ) (old new : DeskView) (reply : Reply)
-    → ExchangesIt cat rows retailer x now old new reply → MakesFor old new reply
+    → AnswersAcceptedExchange cat rows retailer x now old new reply → MakesFor old new reply
 exchanges_it cat rows retailer x now old new reply (inl (readied.Fine ready, p, did, un, is)) = absurd un
 exchanges_it cat rows retailer x now old new reply (inl (readied.Unknown, p, did, un, is)) = other old new reply (problem UnknownBooking) (did.0, did.2) (is ∙ ap problem un) refl
 exchanges_it cat rows retailer x now old new reply (inl (readied.WrongState shown, p, did, un, is)) =
@@ -292,14 +292,14 @@ performs cat retailer now (order.reserve r) old new reply legal did =
 performs cat retailer now (order.show row) old new reply legal did =
     on_booking (shows row) (λ v a b r l is. other a b r _ (own_same a b l is.0) is.1 refl) cat.rows row retailer old new reply did
 performs cat retailer now (order.release row) old new reply legal did =
-    on_booking (ReleasesIt cat.rows row retailer now) (λ v a b r l is. other a b r _ (is.1.0, is.1.2) is.2 (release_told row now v is.0)) cat.rows row retailer old new reply did
+    on_booking (ReleasesFound cat.rows row retailer now) (λ v a b r l is. other a b r _ (is.1.0, is.1.2) is.2 (release_told row now v is.0)) cat.rows row retailer old new reply did
 performs cat retailer now (order.confirm row) old new reply legal did =
-    on_booking (ConfirmsIt cat.rows row retailer now) (λ v a b r l is. other a b r _ (is.1.0, is.1.2) is.2 (confirm_told row now v is.0)) cat.rows row retailer old new reply did
+    on_booking (ConfirmsFound cat.rows row retailer now) (λ v a b r l is. other a b r _ (is.1.0, is.1.2) is.2 (confirm_told row now v is.0)) cat.rows row retailer old new reply did
 performs cat retailer now (order.fulfil row) old new reply legal did =
-    on_booking (FulfilsIt cat.rows row retailer) (λ v a b r l is. other a b r _ (is.1.0, is.1.2) is.2 (fulfil_told row v is.0)) cat.rows row retailer old new reply did
+    on_booking (FulfilsFound cat.rows row retailer) (λ v a b r l is. other a b r _ (is.1.0, is.1.2) is.2 (fulfil_told row v is.0)) cat.rows row retailer old new reply did
 performs cat retailer now (order.quote_refund row) old new reply legal did = quotes cat cat.rows row retailer now old new reply did
 performs cat retailer now (order.accept_refund code) old new reply legal did =
-    on_booking (RefundsIt cat cat.rows retailer code now) (λ v a b r l is. other a b r _ (is.1.0, is.1.2) is.2 (refund_told code now v is.0)) cat.rows code.row retailer old new reply did
+    on_booking (RefundsFound cat cat.rows retailer code now) (λ v a b r l is. other a b r _ (is.1.0, is.1.2) is.2 (refund_told code now v is.0)) cat.rows code.row retailer old new reply did
 performs cat retailer now (order.quote_exchange row code) old new reply legal did = quotes_exchange cat cat.rows row retailer (offer_view code) now old new reply did
 performs cat retailer now (order.accept_exchange code) old new reply legal did = exchanges_it cat cat.rows retailer (exchange_view code) now old new reply did
 performs cat retailer now (order.places segment) old new reply legal did = lists cat segment old new reply legal did

@@ -1,4 +1,4 @@
--- The bytes of an answer: a head of HTTP/1.1 with a JSON text behind it.
+-- The bytes of an answer: a head of HTTP/1.1 with a JSON text after it.
 use Rattle.std.specs.Prelude.{ℕ, Bool, true, false, List, ◌++◌, length}
 use Rattle.serde_json.specs.Written.{compact_text}
 use Rattle.http_wire.specs.Answers.{head_text}
@@ -6,7 +6,7 @@ use Rattle.rail_catalogue.specs.Contents.{CatalogueView}
 use Rattle.osdm_texts.specs.Problems.{problem_line, problem_tree}
 use Rattle.osdm_texts.specs.Answers.{Reply, status_of, tree_of, is_problem, Told, refused, told}
 
--- a head with its body behind it
+-- a head with its body after it
 abbrev pub answer_text : ℕ → Bool → Bool → List ℕ → List ℕ
 answer_text status is_problem last body = head_text status is_problem (length body) last ++ body
 

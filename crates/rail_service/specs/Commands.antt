@@ -11,7 +11,8 @@ use Rattle.service_rules.specs.Answering.{AnswersBy, BooksBy}
 -- what was ordered is carried out, or refused, and a booking has all its places or none
 abbrev pub Says : CatalogueView → ℕ → ℕ → Result order.Ordered Problem → DeskView → DeskView → Told → Type 0
 Says cat retailer now o old new said =
-    (reply : Reply) × AnswersBy cat retailer now o old new reply × BooksBy cat now o old new reply × (said ≡ reply_told cat reply)
+    (reply : Reply) × AnswersBy cat retailer now o old new reply × BooksBy cat now o old new reply
+    × (said ≡ reply_told cat reply)
 
 -- what the desk had seen begins what it has seen, and it stays with its number and with the desks that it has parted
 -- and joined

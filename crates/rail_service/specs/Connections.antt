@@ -12,7 +12,7 @@ use Rattle.session_loop.specs.declared.end.ConnEnd.{ConnEnd}
 use Rattle.session_loop.specs.declared.end.ConnEnd.TheVariants.{NoMemory}
 use Rattle.session_loop.specs.Session.{Answering, Refusing, IsEnd}
 use Rattle.claim_rule.specs.Rule.{DeskView}
-use Rattle.claim_rule.specs.Desks.{Shape}
+use Rattle.claim_rule.specs.Desks.{AddsSteps}
 use Rattle.claim_rule.specs.Out.{IsIdle}
 use Rattle.rail_catalogue.specs.Contents.{CatalogueView}
 use Rattle.osdm_texts.specs.Answers.{Reply, problem}
@@ -35,7 +35,8 @@ IsReading before moment after =
     IfSome before (λ readings. (moment ≡ readings 0) × IsSomeAnd after (λ later. (i : ℕ) → later i ≡ readings (i + 1)))
 
 -- A request is answered at the clock's next reading, by the bytes of its defined reply.
-pub record IsAnswer (cat : CatalogueView) (before : ServiceView) (request : RequestText) (written : List ℕ) (after : ServiceView) : Type 0 where
+pub record IsAnswer (cat : CatalogueView) (before : ServiceView) (request : RequestText) (written : List ℕ)
+    (after : ServiceView) : Type 0 where
   pub moment : ℕ
   pub reading : IsReading before.clock moment after.clock
   pub reply : Reply
@@ -44,7 +45,7 @@ pub record IsAnswer (cat : CatalogueView) (before : ServiceView) (request : Requ
   pub first : after.first ≡ first_after before.first (retailer_of cat request)
   -- all that the desk did is of this reply
   pub steps : List Step
-  pub shape : Shape before.desk after.desk steps
+  pub shape : AddsSteps before.desk after.desk steps
   pub spares : SparesBookings reply steps
   pub idle : IsIdle after.desk
   pub no_item : MakesEmpty after.desk
@@ -62,10 +63,11 @@ NeverDouble desk = (history : List Entry) → IsPrefix history desk.seen → NoD
 
 -- The bytes written are the replies to the requests of the bytes taken, in order, each by the desk's own entries, in
 -- one legal history that begins with what the desk had seen and holds of the desk nothing else.
-pub record IsServed (cat : CatalogueView) (before after : ServiceView) (taken : List ℕ) (told : Option (List ℕ)) (written : List ℕ) (end : ConnEnd) : Type 0 where
+pub record IsServed (cat : CatalogueView) (before after : ServiceView) (taken : List ℕ) (told : Option (List ℕ))
+    (written : List ℕ) (end : ConnEnd) : Type 0 where
   pub answered : IsEnd (answers_of cat) (refusals_of cat) before after taken told written end
   pub steps : List Step
-  pub shape : Shape before.desk after.desk steps
+  pub shape : AddsSteps before.desk after.desk steps
   pub no_double : NeverDouble after.desk
   pub idle : IsIdle after.desk
 

@@ -46,7 +46,7 @@ abbrev pub Handing : Type 1
 Handing = Option (List ℕ) → Option (List ℕ) → Type 0
 
 -- what a call shows that hands out a stream: the one that was called, what the stream's source and its sink told, and
--- the one behind the call
+-- the one after the call
 abbrev pub HandingBy : Type 0 → Type 1
 HandingBy L = L → Option (List ℕ) → Option (List ℕ) → L → Type 0
 
@@ -54,8 +54,9 @@ HandingBy L = L → Option (List ℕ) → Option (List ℕ) → L → Type 0
 abbrev pub IsGiven : Handing → Handing
 IsGiven Given stream sent = ∥ Given stream sent ∥₁
 
--- Behind some calls of this listener, an accept of it handed out a stream whose source and whose sink told this.
-pub record HandsOn {L : Type 0} (becomes : L → L → Type 0) (hands : HandingBy L) (first : L) (stream sent : Option (List ℕ)) : Type 0 where
+-- After some calls of this listener, an accept of it handed out a stream whose source and whose sink told this.
+pub record HandsOn {L : Type 0} (becomes : L → L → Type 0) (hands : HandingBy L) (first : L)
+    (stream sent : Option (List ℕ)) : Type 0 where
   pub calls : ℕ
   pub before : L
   pub after : L

@@ -36,7 +36,8 @@ IsNewSink s = (sink_calls s ≡ 0) × (sink_faults s ≡ 0) × (sink_fails s ≡
 -- a stream is the first of those to come, with a sink that has taken nothing, both as new; else they stay
 abbrev pub HandsOut : List (List ℕ) → List (List ℕ) → Accepted BytesSource VecSink → Type 0
 HandsOut old new (Stream waiting) =
-    (old ≡ source_left waiting.input ∷ new) × (sink_taken waiting.output ≡ []) × IsNewSource waiting.input × IsNewSink waiting.output
+    (old ≡ source_left waiting.input ∷ new) × (sink_taken waiting.output ≡ []) × IsNewSource waiting.input
+    × IsNewSink waiting.output
 HandsOut old new Failed = new ≡ old
 HandsOut old new Closed = new ≡ old
 

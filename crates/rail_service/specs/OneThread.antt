@@ -44,7 +44,8 @@ AnswersPlain cat now (Ok a) before reply after = IsOutcome cat now a before repl
 AnswersPlain cat now (Err p) before reply after = (reply ≡ problem p) × (after ≡ before)
 
 -- A request is answered at the clock's next reading, from the list alone.
-pub record IsPlainAnswer (cat : CatalogueView) (before : PlainView) (request : RequestText) (written : List ℕ) (after : PlainView) : Type 0 where
+pub record IsPlainAnswer (cat : CatalogueView) (before : PlainView) (request : RequestText) (written : List ℕ)
+    (after : PlainView) : Type 0 where
   pub moment : ℕ
   pub reading : IsReading before.clock moment after.clock
   pub reply : Reply

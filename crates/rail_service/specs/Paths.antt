@@ -57,14 +57,14 @@ pub record IsParameter (text : List ℕ) : Type 0 where
   pub is_text : IsUtf8 text
   pub bytes : AllByRecursion IsPartByte text
 
--- up to the first slash, and behind it
+-- up to the first slash, and after it
 abbrev pub before_slash : List ℕ → List ℕ
 before_slash path = take_while (λ b. not (b == 47)) path
 
 abbrev pub after_slash : List ℕ → List ℕ
 after_slash path = drop (length (before_slash path) + 1) path
 
--- what stands in the path behind so many slashes, up to the next one
+-- what stands in the path after so many slashes, up to the next one
 abbrev pub part : ℕ → List ℕ → List ℕ
 part zero path = before_slash path
 part (suc n) path = part n (after_slash path)

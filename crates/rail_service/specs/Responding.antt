@@ -14,7 +14,8 @@ abbrev pub view_of : {C : Type 0} → (C → Option (ℕ → ℕ)) → Service C
 view_of told s = record { desk = s.desk.now; first = s.first; clock = told s.clock.now }
 
 -- a request is answered so, by a service that stays with its catalogue, its books, its desk and its clock
-pub record Responds {C : Type 0} (told : C → Option (ℕ → ℕ)) (before : Service C) (request : RequestText) (text : List ℕ) (after : Service C) : Type 0 where
+pub record Responds {C : Type 0} (told : C → Option (ℕ → ℕ)) (before : Service C) (request : RequestText)
+    (text : List ℕ) (after : Service C) : Type 0 where
   pub answer : IsAnswer before.cat.now (view_of told before) request text (view_of told after)
   pub tidy : IsTidy before.desk.now → IsTidy after.desk.now
   pub cat : after.cat.now ≡ before.cat.now

@@ -19,11 +19,14 @@ RoutesTo Booking method path r =
 RoutesTo Fulfillments method path r =
     ((id : _) × (method ≡ codes "POST") × (r ≡ route.Confirm id) × (id.now ≡ part 2 path))
     ⊎ ((id : _) × (method ≡ codes "PATCH") × (r ≡ route.Fulfil id) × (id.now ≡ part 2 path))
-RoutesTo RefundOffers method path r = (id : _) × (method ≡ codes "POST") × (r ≡ route.QuoteRefund id) × (id.now ≡ part 2 path)
+RoutesTo RefundOffers method path r =
+    (id : _) × (method ≡ codes "POST") × (r ≡ route.QuoteRefund id) × (id.now ≡ part 2 path)
 RoutesTo RefundOffer method path r =
-    (id : _) × (offer : _) × (method ≡ codes "PATCH") × (r ≡ route.AcceptRefund id offer) × (id.now ≡ part 2 path) × (offer.now ≡ part 4 path)
+    (id : _) × (offer : _) × (method ≡ codes "PATCH") × (r ≡ route.AcceptRefund id offer) × (id.now ≡ part 2 path)
+    × (offer.now ≡ part 4 path)
 RoutesTo ExchangeOffers method path r = (method ≡ codes "POST") × (r ≡ route.QuoteExchange)
-RoutesTo ExchangeOperations method path r = (id : _) × (method ≡ codes "POST") × (r ≡ route.AcceptExchange id) × (id.now ≡ part 2 path)
+RoutesTo ExchangeOperations method path r =
+    (id : _) × (method ≡ codes "POST") × (r ≡ route.AcceptExchange id) × (id.now ≡ part 2 path)
 RoutesTo Places method path r =
     (run : _) × (from : _) × (to : _) × (method ≡ codes "GET") × (r ≡ route.Places run from to)
     × (run.now ≡ part 2 path) × (from.now ≡ part 4 path) × (to.now ≡ part 5 path)
@@ -41,4 +44,5 @@ HasNoMethod method path =
 -- the route of a request, or why it is refused without one
 abbrev pub FindsRoute : List ℕ → List ℕ → Result Route Problem → Type 0
 FindsRoute method path (Ok r) = HasRoute method path r
-FindsRoute method path (Err p) = ((p ≡ NoRoute) × (resource_at path ≡ None)) ⊎ ((p ≡ NoMethod) × HasNoMethod method path)
+FindsRoute method path (Err p) =
+    ((p ≡ NoRoute) × (resource_at path ≡ None)) ⊎ ((p ≡ NoMethod) × HasNoMethod method path)

@@ -41,18 +41,22 @@ admitted first (Some retailer) = if is_other first retailer then Err OtherRetail
 abbrev pub ReadsAs : CatalogueView → Route → List ℕ → Result Command Problem → Type 0
 ReadsAs cat r body (Ok command) = Asks (asked_by cat r body) command × IsReadable cat command
 ReadsAs cat r body (Err p) =
-    ((fault : BodyFault) × (asked_by cat r body ≡ Err fault) × (p ≡ problem_of fault)) ⊎ ((p ≡ NoMemory) × (has_body r ≡ true))
+    ((fault : BodyFault) × (asked_by cat r body ≡ Err fault) × (p ≡ problem_of fault))
+    ⊎ ((p ≡ NoMemory) × (has_body r ≡ true))
 
 -- what a known retailer asks for at a route, with this body
-abbrev pub AsksAt : CatalogueView → RetailerNo → List ℕ → Result Route Problem → Result (RetailerNo × Command) Problem → Type 0
+abbrev pub AsksAt : CatalogueView → RetailerNo → List ℕ → Result Route Problem → Result (RetailerNo × Command) Problem
+    → Type 0
 AsksAt cat retailer body (Err p) asked = asked ≡ Err p
 AsksAt cat retailer body (Ok r) (Ok a) = (a.0 ≡ retailer) × ReadsAs cat r body (Ok a.1)
 AsksAt cat retailer body (Ok r) (Err p) = ReadsAs cat r body (Err p)
 
-abbrev pub AsksAdmitted : CatalogueView → RequestText → Result RetailerNo Problem → Result (RetailerNo × Command) Problem → Type 0
+abbrev pub AsksAdmitted : CatalogueView → RequestText → Result RetailerNo Problem
+    → Result (RetailerNo × Command) Problem → Type 0
 AsksAdmitted cat request (Err p) asked = asked ≡ Err p
 AsksAdmitted cat request (Ok retailer) asked =
-    (found : Result Route Problem) × FindsRoute request.method request.path found × AsksAt cat retailer request.body found asked
+    (found : Result Route Problem) × FindsRoute request.method request.path found
+    × AsksAt cat retailer request.body found asked
 
 -- What a request asks for, on a connection with this first retailer so far: a retailer's command, or why it asks for
 -- none, by its key, by its route and last by its body.
@@ -61,11 +65,14 @@ AsksFor cat first request asked = AsksAdmitted cat request (admitted first (reta
 
 -- what was asked is carried out, and a booking has all its places or none; or the request is refused, with no step of
 -- the desk
-abbrev pub AnswersAsked : CatalogueView → ℕ → Result (RetailerNo × Command) Problem → DeskView → DeskView → Reply → Type 0
-AnswersAsked cat now (Ok a) old new reply = Answers cat a.0.0 now a.1 old new reply × BooksAllOrNone cat now a.1 old new reply
+abbrev pub AnswersAsked : CatalogueView → ℕ → Result (RetailerNo × Command) Problem → DeskView → DeskView → Reply
+    → Type 0
+AnswersAsked cat now (Ok a) old new reply =
+    Answers cat a.0.0 now a.1 old new reply × BooksAllOrNone cat now a.1 old new reply
 AnswersAsked cat now (Err p) old new reply = DoesNothing old new × (reply ≡ problem p)
 
 -- the reply to a request at this moment, by the desk's own entries from `old` to `new`
 abbrev pub AnswersRequest : CatalogueView → Option RetailerNo → RequestText → ℕ → DeskView → DeskView → Reply → Type 0
 AnswersRequest cat first request now old new reply =
-    (asked : Result (RetailerNo × Command) Problem) × AsksFor cat first request asked × AnswersAsked cat now asked old new reply
+    (asked : Result (RetailerNo × Command) Problem) × AsksFor cat first request asked
+    × AnswersAsked cat now asked old new reply

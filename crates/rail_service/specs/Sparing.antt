@@ -4,7 +4,7 @@ use Rattle.history_model.specs.declared.entry.Step.{Step}
 use Rattle.history_model.specs.declared.entry.Step.TheVariants.{Seal, Turn, Close}
 use Rattle.history_model.specs.Work.{NoStep}
 use Rattle.claim_rule.specs.Rule.{DeskView}
-use Rattle.claim_rule.specs.Desks.{Shape}
+use Rattle.claim_rule.specs.Desks.{AddsSteps}
 use Rattle.osdm_texts.specs.declared.problem.Problem.TheVariants.{NoMemory}
 use Rattle.osdm_texts.specs.Answers.{Reply, problem}
 
@@ -21,4 +21,4 @@ SparesBookings reply steps = reply ≡ problem NoMemory → NoStep decides steps
 
 -- all that the desk did for the reply
 abbrev pub MakesFor : DeskView → DeskView → Reply → Type 0
-MakesFor old new reply = (steps : List Step) × Shape old new steps × SparesBookings reply steps
+MakesFor old new reply = (steps : List Step) × AddsSteps old new steps × SparesBookings reply steps

@@ -4,6 +4,10 @@
 //! answers `Failed` only where that count rose in the call. Each stream that it hands out stands in a `Waiting`, which
 //! can't be dropped, and `serve_waiting` alone spends it: no stream that was handed out is dropped unserved.
 //! `ListListener` stands in memory.
+//!
+//! `serve_connection` takes the memory of the wire and of the routes first, and later that of bodies and answers
+//! alone. It requires that the books have the catalogue's places and rows, and that nothing is out at the desk; it
+//! has no premise about other desks. `paths_name_resources` is the table of paths as a law.
 #![tactic(auto)]
 
 mod answering;

@@ -8,7 +8,7 @@ use crate::waiting::Waiting;
 use rail_io::{Sink, Source};
 
 /// What a bind answers.
-#[derive(Clone, Copy, Debug, PartialEq, Eq)]
+#[derive(Clone, Copy, PartialEq, Eq)]
 pub enum Bound {
     /// The listener listens at the port.
     Ready,
@@ -41,12 +41,12 @@ pub trait Listener {
     /// fail.
     ghost faults: { Self → ℕ };
 
-    /// That one call made the second listener of the first. Who knows nothing of a listener but this trait can show
+    /// That one call made the second listener of the first. Whoever knows nothing of a listener but this trait can show
     /// that of it only by a call.
     ghost becomes: { Self → Self → Type 0 };
 
     /// That an accept handed out a stream: the listener before it, what the stream's source and its sink told, and the
-    /// listener behind it. Who knows nothing of a listener but this trait can show that of it only by an accept that
+    /// listener after it. Whoever knows nothing of a listener but this trait can show that of it only by an accept that
     /// gave such a stream.
     ghost hands: { HandingBy Self };
 

@@ -13,7 +13,7 @@ fn before_slash(path: &[u8]) -> &[u8]
     &path[..end]
 }
 
-/// What stands behind the first slash, or nothing.
+/// What stands after the first slash, or nothing.
 fn after_slash(path: &[u8]) -> &[u8]
     ensures { result.now ≡ after path.now }
 {
@@ -21,7 +21,7 @@ fn after_slash(path: &[u8]) -> &[u8]
     path.get(skipped..).unwrap_or(b"")
 }
 
-/// What stands in the path behind so many slashes, up to the next one.
+/// What stands in the path after so many slashes, up to the next one.
 pub fn part(path: &[u8], number: u8) -> &[u8]
     ensures { result.now ≡ part_of number path.now }
 {

@@ -8,7 +8,7 @@ use std::alloc::{AllocError, Global};
 use std::str;
 
 /// What a path names.
-#[derive(Debug, Clone, Copy, PartialEq, Eq)]
+#[derive(Clone, Copy, PartialEq, Eq)]
 pub enum Resource {
     Offers,
     Bookings,

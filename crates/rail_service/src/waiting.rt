@@ -47,7 +47,7 @@ impl<I, O> Waiting<I, O> {
 pub struct Finished<I, O> {
     /// How it ended.
     pub end: ConnEnd,
-    /// Its source, behind what was taken of it.
+    /// Its source, after what was taken of it.
     pub input: I,
     /// Its sink, with what was written.
     pub output: O,

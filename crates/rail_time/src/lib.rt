@@ -9,4 +9,4 @@ mod moment;
 mod text;
 
 pub use moment::{Moment, MomentFault, read_moment};
-pub use text::{moment_string, write_moment};
+pub use text::write_moment;

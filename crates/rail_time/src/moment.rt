@@ -26,7 +26,7 @@ impl Model for Moment {
 }
 
 /// Why a text is no moment.
-#[derive(Debug, Clone, Copy, PartialEq, Eq)]
+#[derive(Clone, Copy, PartialEq, Eq)]
 pub enum MomentFault {
     /// It is no instant of RFC 3339 with an offset, as `jiff` reads one.
     NotAMoment,

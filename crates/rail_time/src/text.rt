@@ -1,4 +1,4 @@
-ghost use Rattle.std.specs.Prelude.{◌≡◌, ◌<◌, ◌≤◌, ◌+◌, ◌/◌, ◌%◌, pos, IfOk, string_bytes};
+ghost use Rattle.std.specs.Prelude.{◌≡◌, ◌<◌, ◌≤◌, ◌+◌, ◌/◌, ◌%◌, pos};
 ghost use Rattle.jiff_core.specs.Date.{epoch_day};
 ghost use Rattle.rail_time.specs.Days.{day_of};
 ghost use Rattle.rail_time.specs.Texts.{moment_text};
@@ -6,16 +6,6 @@ ghost use Rattle.rail_time.specs.Moments.{last_second};
 
 use crate::Moment;
 use jiff_core::civil::Date;
-use std::alloc::{AllocError, Global};
-use std::str;
-
-/// The text that `write_moment` writes, as a string.
-pub fn moment_string(alloc: Global, m: Moment) -> Result<String, AllocError>
-    ensures { IfOk result (λ s. string_bytes s ≡ moment_text m) }
-{
-    let bytes = write_moment(m);
-    String::from_str(alloc, str::from_utf8(bytes.as_slice()).unwrap())
-}
 
 // A day of the calendar.
 struct Civil {

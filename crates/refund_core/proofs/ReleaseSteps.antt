@@ -7,7 +7,7 @@ use Rattle.history_model.specs.declared.phase.Phase.{Phase}
 use Rattle.history_model.specs.declared.phase.Phase.TheVariants.{Free, Prebooked}
 use Rattle.history_model.specs.declared.phase.EndKind.TheVariants.{Release}
 use Rattle.claim_rule.specs.Rule.{DeskView}
-use Rattle.claim_rule.specs.Calls.{ShapeBy}
+use Rattle.claim_rule.specs.Calls.{AddsStepsBy}
 use Rattle.claim_rule.proofs.Shapes.{shape_then}
 use Rattle.booking_rows.specs.declared.turns.Aim.TheVariants as aim
 use Rattle.booking_rows.specs.Aims.{end_of}
@@ -19,22 +19,22 @@ use Rattle.refund_core.specs.declared.releasing.Released.{Released}
 use Rattle.refund_core.specs.declared.releasing.Released.TheVariants as released
 use Rattle.refund_core.specs.Releasing.{Releases}
 
-pub wrong_at_look : (rows : ℕ) (row : RowNo) (retailer now : ℕ) (shown : Phase) (a b : DeskView) → shown ≢ Prebooked → ShapeBy (FindsOwned rows row retailer (Some shown)) a b → ShapeBy (Releases rows row retailer now (released.WrongState shown)) a b
+pub wrong_at_look : (rows : ℕ) (row : RowNo) (retailer now : ℕ) (shown : Phase) (a b : DeskView) → shown ≢ Prebooked → AddsStepsBy (FindsOwned rows row retailer (Some shown)) a b → AddsStepsBy (Releases rows row retailer now (released.WrongState shown)) a b
 wrong_at_look rows row retailer now shown a b ne did = let f = did.1 in (did.0, (f.0, inl (ne, f.1, f.2)), did.2)
 
-pub releases : (rows : ℕ) (row : RowNo) (retailer now : ℕ) (shown : Phase) (a b c : DeskView) → shown ≡ Prebooked → ShapeBy (FindsOwned rows row retailer (Some shown)) a b → ShapeBy (EndsBooking row Prebooked Release (aim.Release now) None) b c → ShapeBy (Releases rows row retailer now released.Done) a c
+pub releases : (rows : ℕ) (row : RowNo) (retailer now : ℕ) (shown : Phase) (a b c : DeskView) → shown ≡ Prebooked → AddsStepsBy (FindsOwned rows row retailer (Some shown)) a b → AddsStepsBy (EndsBooking row Prebooked Release (aim.Release now) None) b c → AddsStepsBy (Releases rows row retailer now released.Done) a c
 releases rows row retailer now shown a b c is did ended =
     let f = did.1 in
     let saw = f.2 in
     let e = ended.1 in
     (did.0 ++ ended.0, (f.0, (saw.0, e.0, saw.1, e.1, (λ i. (saw.2 ∙ ap (λ (p : Phase). saw_owner row p retailer saw.0) is) i ++ e.2 i))), shape_then a b c did.0 ended.0 did.2 ended.2)
 
-pub gives_away : (rows : ℕ) (row : RowNo) (retailer now : ℕ) (was : Phase) (a b c : DeskView) → was ≡ Prebooked → ShapeBy (FindsOwned rows row retailer (Some was)) a b → ShapeBy (EndsBooking row Prebooked Release (aim.Release now) (Some Free)) b c → ShapeBy (Releases rows row retailer now released.Unknown) a c
+pub gives_away : (rows : ℕ) (row : RowNo) (retailer now : ℕ) (was : Phase) (a b c : DeskView) → was ≡ Prebooked → AddsStepsBy (FindsOwned rows row retailer (Some was)) a b → AddsStepsBy (EndsBooking row Prebooked Release (aim.Release now) (Some Free)) b c → AddsStepsBy (Releases rows row retailer now released.Unknown) a c
 gives_away rows row retailer now was a b c is did lost =
     let f = did.1 in
     (did.0 ++ lost.0, inr (f.0, (did.0, lost.0, subst (λ (p : Phase). SawOwned row retailer p did.0) is f.2, lost.1, refl)), shape_then a b c did.0 lost.0 did.2 lost.2)
 
-pub loses : (rows : ℕ) (row : RowNo) (retailer now : ℕ) (was shown : Phase) (a b c : DeskView) → was ≡ Prebooked → shown ≢ Free → ShapeBy (FindsOwned rows row retailer (Some was)) a b → ShapeBy (EndsBooking row Prebooked Release (aim.Release now) (Some shown)) b c → ShapeBy (Releases rows row retailer now (released.WrongState shown)) a c
+pub loses : (rows : ℕ) (row : RowNo) (retailer now : ℕ) (was shown : Phase) (a b c : DeskView) → was ≡ Prebooked → shown ≢ Free → AddsStepsBy (FindsOwned rows row retailer (Some was)) a b → AddsStepsBy (EndsBooking row Prebooked Release (aim.Release now) (Some shown)) b c → AddsStepsBy (Releases rows row retailer now (released.WrongState shown)) a c
 loses rows row retailer now was shown a b c is some did lost =
     let f = did.1 in
     (did.0 ++ lost.0, (f.0, inr (some, did.0, lost.0, subst (λ (p : Phase). SawOwned row retailer p did.0) is f.2, lost.1, refl)), shape_then a b c did.0 lost.0 did.2 lost.2)

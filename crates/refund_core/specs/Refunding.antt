@@ -26,10 +26,16 @@ use Rattle.refund_core.specs.Quotes.{SeesOwn, SeesNone, phase_named, is_stale, r
 abbrev pub QuotesRefund : CatalogueView → ℕ → RowNo → ℕ → ℕ → Quoted → List Step → Type 0
 QuotesRefund cat rows row retailer now (quoted.Done code) es =
     (row.row < rows) × ((v : RowSeen) × SeesOwn row retailer v es × (v.phase ≡ phase_named code.fulfilled)
-    × (code ≡ record { row = row; made = now; fulfilled = code.fulfilled; amount = refund_at cat v now code.fulfilled }))
+    × (code ≡ record {
+      row = row;
+      made = now;
+      fulfilled = code.fulfilled;
+      amount = refund_at cat v now code.fulfilled;
+    }))
 QuotesRefund cat rows row retailer now quoted.Unknown es = SeesNone rows row retailer es
 QuotesRefund cat rows row retailer now (quoted.WrongState shown) es =
-    (row.row < rows) × (shown ≢ Confirmed) × (shown ≢ Fulfilled) × ((v : RowSeen) × SeesOwn row retailer v es × (v.phase ≡ shown))
+    (row.row < rows) × (shown ≢ Confirmed) × (shown ≢ Fulfilled)
+    × ((v : RowSeen) × SeesOwn row retailer v es × (v.phase ≡ shown))
 
 -- what holds of the code of a quote, where there is one
 abbrev pub IfQuoted : Quoted → (RefundCode → Type 0) → Type 0
@@ -37,7 +43,8 @@ IfQuoted (quoted.Done code) P = P code
 IfQuoted _ P = Unit {0}
 
 -- the code isn't stale, and has just what the retailer's booking that was seen was worth when it was made
-pub record IsRight (cat : CatalogueView) (rows retailer : ℕ) (code : RefundCode) (now : ℕ) (v : RowSeen) (es : List Step) : Type 0 where
+pub record IsRight (cat : CatalogueView) (rows retailer : ℕ) (code : RefundCode) (now : ℕ) (v : RowSeen)
+    (es : List Step) : Type 0 where
   pub fresh : is_stale code.made now ≡ false
   pub row : code.row.row < rows
   pub sees : SeesOwn code.row retailer v es
@@ -46,17 +53,21 @@ pub record IsRight (cat : CatalogueView) (rows retailer : ℕ) (code : RefundCod
 -- the booking was seen in the phase that the code names, and then the turn was lost
 abbrev pub LosesQuoted : RefundCode → RowSeen → List Step → Phase → List Step → Type 0
 LosesQuoted code v front shown es =
-    (v.phase ≡ phase_named code.fulfilled) × (back : List Step) × LosesTurn code.row (phase_named code.fulfilled) shown back × (es ≡ front ++ back)
+    (v.phase ≡ phase_named code.fulfilled) × (back : List Step)
+    × LosesTurn code.row (phase_named code.fulfilled) shown back × (es ≡ front ++ back)
 
 -- the steps of an acceptance, by what it answers
 abbrev pub AcceptsRefund : CatalogueView → ℕ → ℕ → RefundCode → ℕ → Refunded → List Step → Type 0
 AcceptsRefund cat rows retailer code now (refunded.Done amount) es =
-    (amount ≡ code.amount) × ((v : RowSeen) × (front : List Step) × (items : List Item) × IsRight cat rows retailer code now v front
+    (amount ≡ code.amount)
+    × ((v : RowSeen) × (front : List Step) × (items : List Item) × IsRight cat rows retailer code now v front
     × (v.phase ≡ phase_named code.fulfilled) × (length items ≤ most_items)
-    × (es ≡ front ++ ends_as code.row.row (phase_named code.fulfilled) Refund (end_of (aim.Refund now code.amount)) items))
+    × (es ≡ front ++ ends_as code.row.row (phase_named code.fulfilled) Refund
+    (end_of (aim.Refund now code.amount)) items))
 AcceptsRefund cat rows retailer code now refunded.Unknown es =
     ((is_stale code.made now ≡ false) × SeesNone rows code.row retailer es)
-    ⊎ ((v : RowSeen) × (front : List Step) × IsRight cat rows retailer code now v front × LosesQuoted code v front Free es)
+    ⊎ ((v : RowSeen) × (front : List Step) × IsRight cat rows retailer code now v front
+    × LosesQuoted code v front Free es)
 AcceptsRefund cat rows retailer code now (refunded.WrongState shown) es =
     (v : RowSeen) × (front : List Step) × IsRight cat rows retailer code now v front
     × (((v.phase ≡ shown) × (shown ≢ phase_named code.fulfilled) × (es ≡ front))

@@ -19,10 +19,12 @@ use Rattle.refund_core.specs.declared.releasing.Released.TheVariants as released
 abbrev pub Releases : ℕ → RowNo → ℕ → ℕ → Released → List Step → Type 0
 Releases rows row retailer now released.Done es =
     (row.row < rows) × ((last : ℕ) × (items : List Item) × IsKept row last × (length items ≤ most_items)
-    × (es ≡ saw_owner row Prebooked retailer last ++ ends_as row.row Prebooked Release (end_of (aim.Release now)) items))
+    × (es ≡ saw_owner row Prebooked retailer last
+    ++ ends_as row.row Prebooked Release (end_of (aim.Release now)) items))
 Releases rows row retailer now released.Unknown es =
     FindsOwned rows row retailer None es ⊎ ((row.row < rows) × LosesRow row Prebooked (SawOwned row retailer) es)
-Releases rows row retailer now (released.WrongState shown) es = (row.row < rows) × IsWrong row Prebooked shown (SawOwned row retailer) es
+Releases rows row retailer now (released.WrongState shown) es =
+    (row.row < rows) × IsWrong row Prebooked shown (SawOwned row retailer) es
 
 -- what holds where the call released the booking
 abbrev pub IfReleased : Released → Type 0 → Type 0

@@ -4,6 +4,9 @@
 //! answers. A quote spells all that it rests on, so nothing is kept of it.
 //!
 //! No call takes memory, and none waits.
+//!
+//! A refund is refused by the first that holds: the quote's age, an unknown booking, a wrong amount, a wrong phase. A
+//! release has at most 105 entries, a refund at most 159.
 #![tactic(auto)]
 
 mod quotes;

@@ -4,7 +4,7 @@ ghost use Rattle.history_model.specs.declared.phase.Phase.TheVariants.{Confirmed
 ghost use Rattle.history_model.specs.Booking.{most_items, most_rows, greatest_amount};
 ghost use Rattle.rail_ids.specs.Spelling.{last_generation};
 ghost use Rattle.claim_rule.specs.Desks.{IsOf, AddsAtMost};
-ghost use Rattle.claim_rule.specs.Calls.{ShapeBy};
+ghost use Rattle.claim_rule.specs.Calls.{AddsStepsBy};
 ghost use Rattle.claim_rule.specs.Out.{KeepsHolds, KeepsEndings};
 ghost use Rattle.booking_rows.specs.SealedRows.{IsSealedRow};
 ghost use Rattle.booking_rows.specs.Views.{other_looks};
@@ -29,7 +29,7 @@ pub fn find_booking(
 ) -> Option<RowView>
     requires own { IsOf books.now desk.old }
     ensures own { IsOf books.now desk.new }
-    ensures entries { ShapeBy (FindsBooking books.now.layout.rows row retailer.0 result) desk.old desk.new }
+    ensures entries { AddsStepsBy (FindsBooking books.now.layout.rows row retailer.0 result) desk.old desk.new }
     ensures sealed { IfSome result (λ _. IsSealedRow desk.new row) }
     ensures row { IfSome result (λ _. row.row < most_rows) }
     ensures generation { IfSome result (λ _. row.generation ≤ last_generation) }

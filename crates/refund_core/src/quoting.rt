@@ -2,7 +2,7 @@
 ghost use Rattle.std.specs.Prelude.{◌≡◌, ◌+◌, true};
 ghost use Rattle.history_model.specs.Booking.{most_items};
 ghost use Rattle.claim_rule.specs.Desks.{IsOf, AddsAtMost};
-ghost use Rattle.claim_rule.specs.Calls.{ShapeBy};
+ghost use Rattle.claim_rule.specs.Calls.{AddsStepsBy};
 ghost use Rattle.claim_rule.specs.Out.{KeepsHolds, KeepsEndings};
 ghost use Rattle.offer_codes.specs.Refunds.{is_refund};
 ghost use Rattle.booking_rows.specs.Views.{other_looks};
@@ -17,7 +17,7 @@ use rail_ids::{RetailerNo, RowNo};
 use rail_time::Moment;
 
 /// What came of quoting a refund.
-#[derive(Clone, Copy, Debug, PartialEq, Eq)]
+#[derive(Clone, Copy, PartialEq, Eq)]
 pub enum Quoted {
     /// The quote.
     Done(RefundCode),
@@ -40,7 +40,7 @@ pub fn quote_refund(
 ) -> Quoted
     requires own { IsOf books.now desk.old }
     ensures own { IsOf books.now desk.new }
-    ensures entries { ShapeBy (QuotesRefund cat.now books.now.layout.rows row retailer.0 now result) desk.old desk.new }
+    ensures entries { AddsStepsBy (QuotesRefund cat.now books.now.layout.rows row retailer.0 now result) desk.old desk.new }
     ensures range { IfQuoted result (λ code. is_refund code ≡ true) }
     ensures holds { KeepsHolds desk.old desk.new }
     ensures endings { KeepsEndings desk.old desk.new }

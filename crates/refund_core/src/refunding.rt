@@ -2,7 +2,7 @@
 ghost use Rattle.std.specs.Prelude.{◌+◌, ◌*◌};
 ghost use Rattle.history_model.specs.Booking.{most_items};
 ghost use Rattle.claim_rule.specs.Desks.{IsOf, AddsAtMost};
-ghost use Rattle.claim_rule.specs.Calls.{ShapeBy};
+ghost use Rattle.claim_rule.specs.Calls.{AddsStepsBy};
 ghost use Rattle.claim_rule.specs.Out.{EndsNone, KeepsHolds};
 ghost use Rattle.refund_core.specs.Refunding.{AcceptsRefund, IfRefunded, IsRefunded};
 
@@ -17,7 +17,7 @@ use rail_time::Moment;
 use row_decisions::end_row;
 
 /// What came of accepting a refund.
-#[derive(Clone, Copy, Debug, PartialEq, Eq)]
+#[derive(Clone, Copy, PartialEq, Eq)]
 pub enum Refunded {
     /// The booking is refunded by this call, with the code's amount in minor units, and all its items are given back.
     Done { amount: u64 },
@@ -46,7 +46,7 @@ pub fn accept_refund(
     requires own { IsOf books.now desk.old }
     requires none { EndsNone desk.old }
     ensures own { IsOf books.now desk.new }
-    ensures entries { ShapeBy
+    ensures entries { AddsStepsBy
         (AcceptsRefund cat.now books.now.layout.rows retailer.0 code.now now result) desk.old desk.new }
     ensures refunded { IfRefunded result (IsRefunded desk.new code.now.row now) }
     ensures none { EndsNone desk.new }

@@ -2,7 +2,7 @@
 ghost use Rattle.std.specs.Prelude.{◌+◌, ◌*◌};
 ghost use Rattle.history_model.specs.Booking.{most_items};
 ghost use Rattle.claim_rule.specs.Desks.{IsOf, AddsAtMost};
-ghost use Rattle.claim_rule.specs.Calls.{ShapeBy};
+ghost use Rattle.claim_rule.specs.Calls.{AddsStepsBy};
 ghost use Rattle.claim_rule.specs.Out.{EndsNone, KeepsHolds};
 ghost use Rattle.refund_core.specs.Releasing.{Releases, IfReleased, IsReleased};
 
@@ -14,7 +14,7 @@ use rail_time::Moment;
 use row_decisions::{end_row, find_owned};
 
 /// What came of releasing.
-#[derive(Clone, Copy, Debug, PartialEq, Eq)]
+#[derive(Clone, Copy, PartialEq, Eq)]
 pub enum Released {
     /// The booking is released by this call, and all its items are given back.
     Done,
@@ -37,7 +37,7 @@ pub fn release(
     requires own { IsOf books.now desk.old }
     requires none { EndsNone desk.old }
     ensures own { IsOf books.now desk.new }
-    ensures entries { ShapeBy (Releases books.now.layout.rows row retailer.0 now result) desk.old desk.new }
+    ensures entries { AddsStepsBy (Releases books.now.layout.rows row retailer.0 now result) desk.old desk.new }
     ensures released { IfReleased result (IsReleased desk.new row now) }
     ensures none { EndsNone desk.new }
     ensures holds { KeepsHolds desk.old desk.new }

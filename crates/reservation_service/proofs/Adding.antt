@@ -7,7 +7,7 @@ use Rattle.history_model.specs.declared.entry.Step.{Step}
 use Rattle.history_model.specs.History.{IsLegal}
 use Rattle.history_model.proofs.ListLemmas.{All-append}
 use Rattle.claim_rule.specs.Rule.{DeskView}
-use Rattle.claim_rule.specs.Calls.{ShapeBy}
+use Rattle.claim_rule.specs.Calls.{AddsStepsBy}
 use Rattle.claim_rule.proofs.Shapes.{shape_then, shape_none}
 use Rattle.party_places.proofs.Steps.{IsSoOf, adds_all, party_all}
 use Rattle.offer_codes.specs.declared.code.Segment.{Segment}
@@ -24,7 +24,7 @@ added_legal cat o true row items won s mine old new (answer, is, did, spoils) = 
 
 -- steps of all of which it is so
 abbrev pub DoesOnly : (Step → Type 0) → DeskView → DeskView → Type 0
-DoesOnly P old new = ShapeBy (AllByRecursion P) old new
+DoesOnly P old new = AddsStepsBy (AllByRecursion P) old new
 
 module _ (P : Step → Type 0) where
   pub only_then : (a b c : DeskView) → DoesOnly P a b → DoesOnly P b c → DoesOnly P a c

@@ -8,7 +8,7 @@ use Rattle.history_model.specs.Work.{NoStep}
 use Rattle.history_model.proofs.ListLemmas.{All-append}
 use Rattle.claim_rule.specs.Rule.{BooksView, DeskView}
 use Rattle.claim_rule.specs.Desks.{IsOf}
-use Rattle.claim_rule.specs.Calls.{ShapeBy}
+use Rattle.claim_rule.specs.Calls.{AddsStepsBy}
 use Rattle.claim_rule.specs.Out.{exchanges, IsIdle, IsTidy}
 use Rattle.claim_rule.proofs.Out.{tidy_through, settled_calm}
 use Rattle.booking_rows.specs.Starts.{Misses, misses_steps, Passed, search_steps, StartsHold}
@@ -26,7 +26,7 @@ use Rattle.reservation_service.proofs.Adding.{only_then, places_only}
 
 -- what the desk has done holds no turn to an exchange
 abbrev pub WentCalmly : DeskView → DeskView → Type 0
-WentCalmly old new = ShapeBy (NoStep exchanges) old new
+WentCalmly old new = AddsStepsBy (NoStep exchanges) old new
 
 calm_append : (xs ys : List Step) → NoStep exchanges xs → NoStep exchanges ys → NoStep exchanges (xs ++ ys)
 calm_append xs ys p q = All-append (λ st. exchanges st ≡ false) xs ys p q

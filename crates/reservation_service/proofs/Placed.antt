@@ -13,7 +13,7 @@ use Rattle.rail_catalogue.specs.Contents.{CatalogueView}
 use Rattle.place_map.specs.declared.coach.Place.{Place}
 use Rattle.place_map.specs.Candidates.{candidates_of}
 use Rattle.claim_rule.specs.Rule.{DeskView}
-use Rattle.claim_rule.specs.Calls.{ShapeBy}
+use Rattle.claim_rule.specs.Calls.{AddsStepsBy}
 use Rattle.claim_rule.specs.Holds.{HoldView}
 use Rattle.hold_core.specs.declared.adds.Added.{Added}
 use Rattle.hold_core.specs.declared.adds.Added.TheVariants as added
@@ -45,20 +45,20 @@ pub singly_placed : (cat : CatalogueView) (o : OfferView) (hold held : HoldView)
     → PlacesAll cat o false hold.row hold.items (s ∷ []) mine held.items old new
 singly_placed cat o hold held s candidates answer mine old new are (won, did, has) is =
     one_segment cat o false hold.row hold.items won s mine held.items old new
-    (answer, is, subst (λ (cs : List PlaceNo). ShapeBy (Adds hold.row.row (length hold.items) s.span (count_of o) (map place_number cs) answer won) old new) are did)
+    (answer, is, subst (λ (cs : List PlaceNo). AddsStepsBy (Adds hold.row.row (length hold.items) s.span (count_of o) (map place_number cs) answer won) old new) are did)
     (ap (λ (h : HoldView). h.items) has)
 
 -- and one of a party
 pub party_placed : (cat : CatalogueView) (o : OfferView) (hold held : HoldView) (s : Segment) (places : List Place) (candidates : List PlaceNo) (answer : PartyAdded) (mine : Placing) (won : List Item) (old new : DeskView)
     → places ≡ cat.places → candidates ≡ candidates_of s.run.0 o.class o.wanted cat.places
-    → ShapeBy (SeatsParty (asked places hold s.span (count_of o) candidates) answer won) old new
-    → ShapeBy (SpoilsAll (asked places hold s.span (count_of o) candidates) answer) old new → held ≡ with_items hold won → mine ≡ placing_of_party answer
+    → AddsStepsBy (SeatsParty (asked places hold s.span (count_of o) candidates) answer won) old new
+    → AddsStepsBy (SpoilsAll (asked places hold s.span (count_of o) candidates) answer) old new → held ≡ with_items hold won → mine ≡ placing_of_party answer
     → PlacesAll cat o true hold.row hold.items (s ∷ []) mine held.items old new
 party_placed cat o hold held s places candidates answer mine won old new there are did causes has is =
     let same : asked places hold s.span (count_of o) candidates ≡ party_at cat o hold.row (length hold.items) s =
     (λ i. record { places = there i; row = hold.row.row; items = length hold.items; span = s.span; count = count_of o; candidates = map place_number (are i) }) in
     one_segment cat o true hold.row hold.items won s mine held.items old new
-    (answer, is, subst (λ (g : Party). ShapeBy (SeatsParty g answer won) old new) same did, subst (λ (g : Party). ShapeBy (SpoilsAll g answer) old new) same causes)
+    (answer, is, subst (λ (g : Party). AddsStepsBy (SeatsParty g answer won) old new) same did, subst (λ (g : Party). AddsStepsBy (SpoilsAll g answer) old new) same causes)
     (ap (λ (h : HoldView). h.items) has)
 
 -- segments after each other

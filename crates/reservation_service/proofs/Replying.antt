@@ -13,9 +13,9 @@ use Rattle.history_model.specs.declared.phase.Phase.{Phase}
 use Rattle.history_model.specs.declared.phase.Phase.TheVariants as phase
 use Rattle.claim_rule.specs.Rule.{BooksView, DeskView}
 use Rattle.claim_rule.specs.Holds.{HoldView}
-use Rattle.claim_rule.specs.Desks.{IsOf, Shape}
+use Rattle.claim_rule.specs.Desks.{IsOf, AddsSteps}
 use Rattle.claim_rule.proofs.Shapes.{shape_then}
-use Rattle.claim_rule.specs.Calls.{ShapeBy}
+use Rattle.claim_rule.specs.Calls.{AddsStepsBy}
 use Rattle.booking_rows.specs.Starts.{StartsHold}
 use Rattle.booking_rows.specs.declared.notes.Detail.{Detail}
 use Rattle.booking_rows.specs.Notes.{detail_notes}
@@ -67,7 +67,7 @@ SealsBy seen layout number new row phase items =
     × (new.seen ≡ before ++ entry number (Seal row.row phase) ∷ after)
     × OnRow (state_of layout (before ++ entry number (Seal row.row phase) ∷ [])) row.row (IsSealedAs row.generation number phase items)
 
-pub seals_since : (old mid new : DeskView) (row : RowNo) (phase : Phase) (items : List Item) (es : List Step) → Shape old mid es → SealsItems mid new row phase items → SealsItems old new row phase items
+pub seals_since : (old mid new : DeskView) (row : RowNo) (phase : Phase) (items : List Item) (es : List Step) → AddsSteps old mid es → SealsItems mid new row phase items → SealsItems old new row phase items
 seals_since old mid new row phase items es did seals =
     let s : SealsBy mid.seen old.layout old.number new row phase items = subst (λ (x : Layout × ℕ). SealsBy mid.seen x.0 x.1 new row phase items) (λ i. (did.same.1 i, did.same.2 i)) seals in
     let start = did.front.0 in (
@@ -84,13 +84,13 @@ has_places cat o together row items old mid (start, started, placed) =
     subst (HasAllPlaces cat o o.segments) (sym more.2) more.1
 
 -- the notes and the seal of a hold
-noted_and_sealed : (row count : ℕ) (d : Detail) (old mid new : DeskView) → Shape old mid (detail_notes row d count) → Shape mid new (Seal row phase.Prebooked ∷ []) → Shape old new (detail_notes row d count ++ Seal row phase.Prebooked ∷ [])
+noted_and_sealed : (row count : ℕ) (d : Detail) (old mid new : DeskView) → AddsSteps old mid (detail_notes row d count) → AddsSteps mid new (Seal row phase.Prebooked ∷ []) → AddsSteps old new (detail_notes row d count ++ Seal row phase.Prebooked ∷ [])
 noted_and_sealed row count d old mid new = shape_then old mid new (detail_notes row d count) (Seal row phase.Prebooked ∷ [])
 
-pub seals_hold : (hold noted : HoldView) (d : Detail) (old mid new : DeskView) (reply : Reply) → noted ≡ hold → Shape old mid (detail_notes hold.row.row d (length hold.items)) → Shape mid new (Seal noted.row.row phase.Prebooked ∷ []) → SealsItems mid new noted.row phase.Prebooked noted.items
+pub seals_hold : (hold noted : HoldView) (d : Detail) (old mid new : DeskView) (reply : Reply) → noted ≡ hold → AddsSteps old mid (detail_notes hold.row.row d (length hold.items)) → AddsSteps mid new (Seal noted.row.row phase.Prebooked ∷ []) → SealsItems mid new noted.row phase.Prebooked noted.items
     → reply ≡ created hold.row (made_view phase.Prebooked d hold.items) → SealsHold hold.row hold.items d old new reply
 seals_hold hold noted d old mid new reply same notes seal items is = inl (
-  noted_and_sealed hold.row.row (length hold.items) d old mid new notes (subst (λ (h : HoldView). Shape mid new (Seal h.row.row phase.Prebooked ∷ [])) same seal),
+  noted_and_sealed hold.row.row (length hold.items) d old mid new notes (subst (λ (h : HoldView). AddsSteps mid new (Seal h.row.row phase.Prebooked ∷ [])) same seal),
   seals_since old mid new hold.row phase.Prebooked hold.items (detail_notes hold.row.row d (length hold.items)) notes (subst (λ (h : HoldView). SealsItems mid new h.row phase.Prebooked h.items) same items),
   is,
 )
@@ -115,37 +115,37 @@ prebooked cat retailer now o together row p items old mid new reply written plac
 -- a booking that was made ready and sealed, and one that fell short and was given up
 
 pub readied : (cat : CatalogueView) (retailer now : ℕ) (o : OfferView) (together : Bool) (row : RowNo) (hold : HoldView) (old start mid new : DeskView) (said : Told)
-    → ShapeBy (StartsHold old start (Some row)) old start → hold.row ≡ row → MakesReady cat retailer now o together hold.row hold.items start mid said
-    → Shape mid new (Seal hold.row.row phase.Prebooked ∷ []) → SealsItems mid new hold.row phase.Prebooked hold.items → MakesEmpty new
+    → AddsStepsBy (StartsHold old start (Some row)) old start → hold.row ≡ row → MakesReady cat retailer now o together hold.row hold.items start mid said
+    → AddsSteps mid new (Seal hold.row.row phase.Prebooked ∷ []) → SealsItems mid new hold.row phase.Prebooked hold.items → MakesEmpty new
     → AnswersReserving cat retailer now o together old new said
 readied cat retailer now o together row hold old start mid new said started same (placed, did, notes, is) seal items none =
-    let by_row = subst (λ (r : RowNo). ShapeBy (StartsHold old start (Some r)) old start) (sym same) started in
+    let by_row = subst (λ (r : RowNo). AddsStepsBy (StartsHold old start (Some r)) old start) (sym same) started in
     let d = detail_of cat o retailer now in
     let reply = created hold.row (made_view phase.Prebooked d hold.items) in
     prebooked cat retailer now o together hold.row Whole hold.items old placed new reply said (start, by_row, did) refl
     (seals_hold hold hold d placed mid new reply refl notes seal items refl) none is
 
 pub fell_short : (cat : CatalogueView) (retailer now : ℕ) (o : OfferView) (together : Bool) (row held : RowNo) (items : List Item) (why : Problem) (old start mid new : DeskView)
-    → ShapeBy (StartsHold old start (Some row)) old start → held ≡ row → FallsShort cat o together held items why start mid → GivesUp held items mid new → MakesEmpty new
+    → AddsStepsBy (StartsHold old start (Some row)) old start → held ≡ row → FallsShort cat o together held items why start mid → GivesUp held items mid new → MakesEmpty new
     → AnswersReserving cat retailer now o together old new (refused why)
 fell_short cat retailer now o together row held items why old start mid new started same (p, did, inl wrong) gave none =
-    let by_row = subst (λ (r : RowNo). ShapeBy (StartsHold old start (Some r)) old start) (sym same) started in
+    let by_row = subst (λ (r : RowNo). AddsStepsBy (StartsHold old start (Some r)) old start) (sym same) started in
     given_up cat retailer now o together held p why items old mid new (start, by_row, did) wrong gave none
 fell_short cat retailer now o together row held items why old start mid new started same (p, did, inr (whole, is)) gave none =
-    let by_row = subst (λ (r : RowNo). ShapeBy (StartsHold old start (Some r)) old start) (sym same) started in
+    let by_row = subst (λ (r : RowNo). AddsStepsBy (StartsHold old start (Some r)) old start) (sym same) started in
     let all = subst (λ (q : Placing). PlacesAll cat o together held [] o.segments q items start mid) whole did in
     subst (λ (p : Problem). AnswersReserving cat retailer now o together old new (refused p)) (sym is)
     (problem reason.NoMemory, inr (inr ((held, items, mid, (start, by_row, all), gave), refl)), none, of_problem cat reason.NoMemory)
 
 pub made_by : (cat : CatalogueView) (retailer now : ℕ) (o : OfferView) (together : Bool) (held noted : HoldView) (row : RowNo) (p : Placing) (d : Detail) (old mid new : DeskView) (said : Told)
     → PlacesAll cat o together row [] o.segments p held.items old mid → problem_of p ≡ None → held.row ≡ row → noted ≡ held → d ≡ detail_of cat o retailer now
-    → Shape mid new (detail_notes held.row.row d (length held.items)) → said ≡ reply_told cat (created held.row (made_view phase.Prebooked d held.items))
+    → AddsSteps mid new (detail_notes held.row.row d (length held.items)) → said ≡ reply_told cat (created held.row (made_view phase.Prebooked d held.items))
     → MakesReady cat retailer now o together noted.row noted.items old new said
 made_by cat retailer now o together held noted row p d old mid new said placed none same kept is notes told =
     let by_row = subst (λ (r : RowNo). PlacesAll cat o together r [] o.segments p held.items old mid) (sym same) placed in
     let whole = subst (λ (q : Placing). PlacesAll cat o together held.row [] o.segments q held.items old mid) (whole_of p none) by_row in
     let made : MakesReady cat retailer now o together held.row held.items old new said =
-    subst (λ (e : Detail). (m : DeskView) × PlacesAll cat o together held.row [] o.segments Whole held.items old m × Shape m new (detail_notes held.row.row e (length held.items)) × (said ≡ reply_told cat (created held.row (made_view phase.Prebooked e held.items))))
+    subst (λ (e : Detail). (m : DeskView) × PlacesAll cat o together held.row [] o.segments Whole held.items old m × AddsSteps m new (detail_notes held.row.row e (length held.items)) × (said ≡ reply_told cat (created held.row (made_view phase.Prebooked e held.items))))
     is (mid, whole, notes, told) in
     subst (λ (h : HoldView). MakesReady cat retailer now o together h.row h.items old new said) (sym kept) made
 

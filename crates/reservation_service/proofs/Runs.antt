@@ -20,18 +20,3 @@ all_of : {X : Type 0} (P Q : X → Type 0) (xs : List X) → ((x : X) → P x �
 all_of P Q [] so all i d h = absurd (omega arith)
 all_of P Q (x ∷ xs) so all zero d h = so x all.0
 all_of P Q (x ∷ xs) so all (suc i) d h = all_of P Q xs so all.1 i d (omega arith)
-
-ends_within : (r : Option RunView) (to : ℕ) → nat_lt to (length (option_map_or (λ (it : RunView). it.stops) r [])) ≡ true → to ≤ option_map_or legs_of r 0
-ends_within None to h = let l = ltb-true to 0 h in absurd (omega arith)
-ends_within (Some it) to h = let l = ltb-true to (length it.stops) h in omega arith
-
-pub candidates_within : (cat : CatalogueView) (legs : List ℕ) (s : Segment) (xs : List PlaceNo) → legs ≡ legs_in cat → is_of_runs cat.runs s ≡ true → AllByRecursion (IsOfRun s.run.0 cat.places) xs → All (IsWithin legs s.span.to) xs
-candidates_within cat legs s xs are goes of = all_of (IsOfRun s.run.0 cat.places) (IsWithin legs s.span.to) xs one of
-  where
-    one : (p : PlaceNo) → IsOfRun s.run.0 cat.places p → IsWithin legs s.span.to p
-    one p (place, found, run) =
-        let at : slice_get legs p.0 ≡ Some (place_legs cat.runs place) =
-        ap (λ (l : List ℕ). slice_get l p.0) are ∙ (slice_get-map (place_legs cat.runs) cat.places p.0 ∙ ap (option_map (place_legs cat.runs)) found) in
-        let value : slice_index legs p.0 ≡ place_legs cat.runs place = get_or_from_slice_get legs p.0 (place_legs cat.runs place) 0 at in
-        let mine : s.span.to ≤ place_legs cat.runs place = subst (λ (n : ℕ). s.span.to ≤ option_map_or legs_of (slice_get cat.runs.runs n) 0) (sym run) (ends_within (slice_get cat.runs.runs s.run.0) s.span.to goes) in
-        (slice_get_within legs p.0 (place_legs cat.runs place) at, subst (λ (n : ℕ). s.span.to ≤ n) (sym value) mine)

@@ -7,7 +7,7 @@ use Rattle.std.proofs.lemmas.List.Elements.{filter-append}
 use Rattle.rail_ids.specs.declared.PlaceNo.{PlaceNo}
 use Rattle.leg_masks.specs.Interval.{Interval}
 use Rattle.claim_rule.specs.Rule.{DeskView}
-use Rattle.claim_rule.specs.Desks.{Shape}
+use Rattle.claim_rule.specs.Desks.{AddsSteps}
 use Rattle.claim_rule.specs.Holds.{HoldView}
 use Rattle.hold_core.specs.declared.tries.Outcome.{Outcome}
 use Rattle.hold_core.specs.declared.tries.Outcome.TheVariants.{Won, Refused, Contended}
@@ -83,7 +83,7 @@ tried_alone old new hold held span p answer (won, (es, adds, shape), has) =
     let items : won ≡ items_tried t.place span t.outcome =
     adds.items ∙ (ap (items_won span) only.1 ∙ append-nil (items_tried t.place span t.outcome)) in
     subst (λ (x : Try). TriesPlace old hold x.place span new held x.outcome) same
-    (t.parts, each, subst (Shape old new) steps shape, has ∙ ap (with_items hold) items)
+    (t.parts, each, subst (AddsSteps old new) steps shape, has ∙ ap (with_items hold) items)
 
 -- ---- those of a list that pass
 
@@ -192,23 +192,4 @@ wanted_contended a b hold held span count places cs more place won l few e = (
     l.tried.seen,
   ),
   l.tried.held,
-)
-
-pub wanted_short : (a b : DeskView) (hold held : HoldView) (span : Interval) (count won : ℕ) (places cs : List ℕ)
-    → TriedSettled a b hold held span places won → won < count → cs ≡ places
-    → AddsPlaces a hold span count cs (added.NoPlace won) b held
-wanted_short a b hold held span count won places cs so few e = (
-  items_won span so.tried.tries,
-  (
-    tries_steps hold.row.row (length hold.items) span so.tried.tries,
-    record {
-      tries = so.tried.tries;
-      each = so.tried.each;
-      adding = (so.settled, so.many, few, e ∙ so.tried.are);
-      items = refl;
-      steps = refl;
-    },
-    so.tried.seen,
-  ),
-  so.tried.held,
 )

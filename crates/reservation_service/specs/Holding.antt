@@ -10,8 +10,8 @@ use Rattle.offer_codes.specs.Offers.{OfferView}
 use Rattle.rail_catalogue.specs.Contents.{CatalogueView}
 use Rattle.history_model.specs.Lists.{Pairwise}
 use Rattle.claim_rule.specs.Rule.{DeskView}
-use Rattle.claim_rule.specs.Desks.{Shape}
-use Rattle.claim_rule.specs.Calls.{ShapeBy}
+use Rattle.claim_rule.specs.Desks.{AddsSteps}
+use Rattle.claim_rule.specs.Calls.{AddsStepsBy}
 use Rattle.booking_rows.specs.Starts.{StartsHold}
 use Rattle.hold_core.specs.declared.adds.Added.{Added}
 use Rattle.hold_core.specs.declared.adds.Added.TheVariants as added
@@ -63,20 +63,22 @@ party_at cat o row items s = record {
 
 -- Places were added for this segment to a hold of the row that had these items: as for a party where that was asked
 -- for, which sits apart only where each stretch of the candidates was spoilt; else one by one
-abbrev pub AddsSegment : CatalogueView → OfferView → Bool → RowNo → List Item → Segment → Placing → List Item → DeskView → DeskView → Type 0
+abbrev pub AddsSegment : CatalogueView → OfferView → Bool → RowNo → List Item → Segment → Placing → List Item → DeskView
+    → DeskView → Type 0
 AddsSegment cat o false row items s placing won old new =
     (answer : Added) × (placing ≡ placing_of answer)
-    × ShapeBy (Adds row.row (length items) s.span (count_of o) (candidates_in cat o s) answer won) old new
+    × AddsStepsBy (Adds row.row (length items) s.span (count_of o) (candidates_in cat o s) answer won) old new
 AddsSegment cat o true row items s placing won old new =
     (answer : PartyAdded) × (placing ≡ placing_of_party answer)
-    × ShapeBy (SeatsParty (party_at cat o row (length items) s) answer won) old new
-    × ShapeBy (SpoilsAll (party_at cat o row (length items) s) answer) old new
+    × AddsStepsBy (SeatsParty (party_at cat o row (length items) s) answer won) old new
+    × AddsStepsBy (SpoilsAll (party_at cat o row (length items) s) answer) old new
 
 -- From a hold of the row with `items` to one with `all`: places are added for each segment in order. That ends early at
 -- a segment that doesn't get all its places, of which those that were won stay on the hold; or at one for which there
 -- is no memory, and at which nothing is done. Memory is taken only for passengers who want traits and are to sit
 -- together.
-abbrev pub PlacesAll : CatalogueView → OfferView → Bool → RowNo → List Item → List Segment → Placing → List Item → DeskView → DeskView → Type 0
+abbrev pub PlacesAll : CatalogueView → OfferView → Bool → RowNo → List Item → List Segment → Placing → List Item
+    → DeskView → DeskView → Type 0
 PlacesAll cat o together row items [] placing all old new = (placing ≡ Whole) × (all ≡ items) × (new ≡ old)
 PlacesAll cat o together row items (s ∷ rest) placing all old new =
     ((mine : Placing) × (won : List Item) × (mid : DeskView) × AddsSegment cat o together row items s mine won old mid
@@ -85,16 +87,18 @@ PlacesAll cat o together row items (s ∷ rest) placing all old new =
     ⊎ ((placing ≡ NoMemory) × (all ≡ items) × (new ≡ old) × (together ≡ true) × (o.wanted ≢ 0))
 
 -- a hold was started on the row, and places added for these segments
-abbrev pub HoldsPlaces : CatalogueView → OfferView → Bool → List Segment → RowNo → Placing → List Item → DeskView → DeskView → Type 0
+abbrev pub HoldsPlaces : CatalogueView → OfferView → Bool → List Segment → RowNo → Placing → List Item → DeskView
+    → DeskView → Type 0
 HoldsPlaces cat o together segments row placing items old new =
-    (mid : DeskView) × ShapeBy (StartsHold old mid (Some row)) old mid × PlacesAll cat o together row [] segments placing items mid new
+    (mid : DeskView) × AddsStepsBy (StartsHold old mid (Some row)) old mid
+    × PlacesAll cat o together row [] segments placing items mid new
 
 abbrev pub FindsNoRow : DeskView → DeskView → Type 0
-FindsNoRow old new = ShapeBy (StartsHold old new None) old new
+FindsNoRow old new = AddsStepsBy (StartsHold old new None) old new
 
 -- what was held is given back
 abbrev pub GivesUp : RowNo → List Item → DeskView → DeskView → Type 0
-GivesUp row items old new = Shape old new (gives_back row.row (length items))
+GivesUp row items old new = AddsSteps old new (gives_back row.row (length items))
 
 -- what is wrong with a placing that is not whole
 abbrev pub problem_of : Placing → Option Problem

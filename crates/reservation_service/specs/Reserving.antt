@@ -11,7 +11,7 @@ use Rattle.offer_engine.specs.Offers.{offer_price}
 use Rattle.history_model.specs.declared.entry.Step.TheVariants.{Seal}
 use Rattle.history_model.specs.declared.phase.Phase.TheVariants as phase
 use Rattle.claim_rule.specs.Rule.{DeskView}
-use Rattle.claim_rule.specs.Desks.{Shape}
+use Rattle.claim_rule.specs.Desks.{AddsSteps}
 use Rattle.claim_rule.specs.Out.{MakesEmpty, SealsItems}
 use Rattle.booking_rows.specs.declared.notes.Detail.{Detail}
 use Rattle.booking_rows.specs.Notes.{detail_notes}
@@ -25,18 +25,25 @@ use Rattle.reservation_service.specs.Holding.{PlacesAll, HoldsPlaces, FindsNoRow
 
 -- what a reservation asks for: one segment, for so many adults
 abbrev pub reserved : Segment → Class → ℕ → ℕ → ℕ → OfferView
-reserved s class count wanted now = record { made = now; adults = count; children = 0; class = class; wanted = wanted; segments = s ∷ [] }
+reserved s class count wanted now =
+    record { made = now; adults = count; children = 0; class = class; wanted = wanted; segments = s ∷ [] }
 
 -- the detail of a booking made at this moment: it can be confirmed for the catalogue's time
 abbrev pub detail_of : CatalogueView → OfferView → ℕ → ℕ → Detail
 detail_of cat o retailer now =
-    record { retailer = record { 0 = retailer }; limit = min (now + cat.terms.confirm_seconds) last_second; total = offer_price cat o }
+    record {
+      retailer = record { 0 = retailer };
+      limit = min (now + cat.terms.confirm_seconds) last_second;
+      total = offer_price cat o;
+    }
 
 -- all places are held, noted and sealed
 abbrev pub Prebooks : CatalogueView → ℕ → ℕ → OfferView → Bool → DeskView → DeskView → Reply → Type 0
 Prebooks cat retailer now o together old new reply =
-    (row : RowNo) × (items : List Item) × (mid : DeskView) × HoldsPlaces cat o together o.segments row Whole items old mid
-    × Shape mid new (detail_notes row.row (detail_of cat o retailer now) (length items) ++ Seal row.row phase.Prebooked ∷ [])
+    (row : RowNo) × (items : List Item) × (mid : DeskView)
+    × HoldsPlaces cat o together o.segments row Whole items old mid
+    × AddsSteps mid new (detail_notes row.row (detail_of cat o retailer now) (length items) ++ Seal row.row phase.Prebooked
+    ∷ [])
     × (reply ≡ created row (made_view phase.Prebooked (detail_of cat o retailer now) items))
 
 -- No row was free or could be started again; or there were too few places for a segment, or one was contended, or no
@@ -45,20 +52,23 @@ abbrev pub FailsToHold : CatalogueView → OfferView → Bool → DeskView → D
 FailsToHold cat o together old new reply =
     (FindsNoRow old new × (reply ≡ problem RowsFull))
     ⊎ ((row : RowNo) × (placing : Placing) × (reason : Problem) × (items : List Item) × (mid : DeskView)
-    × HoldsPlaces cat o together o.segments row placing items old mid × (problem_of placing ≡ Some reason) × GivesUp row items mid new
+    × HoldsPlaces cat o together o.segments row placing items old mid × (problem_of placing ≡ Some reason)
+    × GivesUp row items mid new
     × (reply ≡ problem reason))
 
 -- all places were held, and are given back, since there was no memory for the answer
 abbrev pub Falters : CatalogueView → OfferView → Bool → DeskView → DeskView → Type 0
 Falters cat o together old new =
-    (row : RowNo) × (items : List Item) × (mid : DeskView) × HoldsPlaces cat o together o.segments row Whole items old mid × GivesUp row items mid new
+    (row : RowNo) × (items : List Item) × (mid : DeskView)
+    × HoldsPlaces cat o together o.segments row Whole items old mid × GivesUp row items mid new
 
 -- all places were added to a hold of the row, and then the detail noted; and this is told of the booking that it will
 -- be
-abbrev pub MakesReady : CatalogueView → ℕ → ℕ → OfferView → Bool → RowNo → List Item → DeskView → DeskView → Told → Type 0
+abbrev pub MakesReady : CatalogueView → ℕ → ℕ → OfferView → Bool → RowNo → List Item → DeskView → DeskView → Told
+    → Type 0
 MakesReady cat retailer now o together row items old new said =
     (mid : DeskView) × PlacesAll cat o together row [] o.segments Whole items old mid
-    × Shape mid new (detail_notes row.row (detail_of cat o retailer now) (length items))
+    × AddsSteps mid new (detail_notes row.row (detail_of cat o retailer now) (length items))
     × (said ≡ reply_told cat (created row (made_view phase.Prebooked (detail_of cat o retailer now) items)))
 
 -- places were added to a hold of the row, but not all; or all were, and there was no memory for the answer
@@ -70,7 +80,8 @@ FallsShort cat o together row items why old new =
 -- a hold with all its places is sealed with this detail; or given back, since there was no memory for the answer
 abbrev pub SealsHold : RowNo → List Item → Detail → DeskView → DeskView → Reply → Type 0
 SealsHold row items d old new reply =
-    (Shape old new (detail_notes row.row d (length items) ++ Seal row.row phase.Prebooked ∷ []) × SealsItems old new row phase.Prebooked items
+    (AddsSteps old new (detail_notes row.row d (length items) ++ Seal row.row phase.Prebooked ∷ [])
+    × SealsItems old new row phase.Prebooked items
     × (reply ≡ created row (made_view phase.Prebooked d items)))
     ⊎ (GivesUp row items old new × (reply ≡ problem NoMemory))
 
@@ -83,7 +94,8 @@ Reserves cat retailer now o together old new reply =
 -- the booking that the seal left has all its places, and nothing else; after any other answer the desk's row in
 -- the making, where it has one, has no item
 abbrev pub HasAllOrNone : CatalogueView → OfferView → DeskView → DeskView → Reply → Type 0
-HasAllOrNone cat o old new (created row v) = SealsItems old new row phase.Prebooked v.items × HasAllPlaces cat o o.segments v.items
+HasAllOrNone cat o old new (created row v) =
+    SealsItems old new row phase.Prebooked v.items × HasAllPlaces cat o o.segments v.items
 HasAllOrNone cat o old new (exchanged row v difference replaced) =
     SealsItems old new row phase.Confirmed v.items × HasAllPlaces cat o o.segments v.items
 HasAllOrNone cat o old new reply = MakesEmpty new
@@ -91,4 +103,5 @@ HasAllOrNone cat o old new reply = MakesEmpty new
 -- such a reply, which has all places or none, and what is told of it
 abbrev pub AnswersReserving : CatalogueView → ℕ → ℕ → OfferView → Bool → DeskView → DeskView → Told → Type 0
 AnswersReserving cat retailer now o together old new said =
-    (reply : Reply) × Reserves cat retailer now o together old new reply × HasAllOrNone cat o old new reply × (said ≡ reply_told cat reply)
+    (reply : Reply) × Reserves cat retailer now o together old new reply × HasAllOrNone cat o old new reply
+    × (said ≡ reply_told cat reply)

@@ -70,7 +70,7 @@ pub fn book_offer(
 }
 
 /// Places of one segment that are wanted without an offer.
-#[derive(Clone, Copy, Debug, PartialEq, Eq)]
+#[derive(Clone, Copy, PartialEq, Eq)]
 pub struct Reservation {
     pub segment: Segment,
     pub class: Class,

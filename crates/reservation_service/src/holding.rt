@@ -21,7 +21,7 @@ use rail_ids::PlaceNo;
 use shop::Shop;
 
 /// How the placing of an offer ended.
-#[derive(Clone, Copy, Debug, PartialEq, Eq)]
+#[derive(Clone, Copy, PartialEq, Eq)]
 pub enum Placing {
     /// Each segment has all its places.
     Whole,

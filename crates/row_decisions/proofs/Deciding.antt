@@ -12,8 +12,8 @@ use Rattle.history_model.specs.History.{IsLegal, state_of}
 use Rattle.history_model.specs.declared.booking.End.{End}
 use Rattle.history_model.proofs.Keeping.{found}
 use Rattle.claim_rule.specs.Rule.{DeskView, OnBooking}
-use Rattle.claim_rule.specs.Desks.{Shape, CanTurn, AddsAtMost}
-use Rattle.claim_rule.specs.Calls.{Calls, ShapeBy}
+use Rattle.claim_rule.specs.Desks.{AddsSteps, CanTurn, AddsAtMost}
+use Rattle.claim_rule.specs.Calls.{Calls, AddsStepsBy}
 use Rattle.claim_rule.proofs.Shapes.{shape_then, shape_none, adds_length}
 use Rattle.booking_rows.specs.SealedRows.{IsSealedRow}
 use Rattle.booking_rows.specs.Views.{saw_phase}
@@ -39,7 +39,7 @@ can_turn_by lay desk row limit from to end same here is years with has =
     )
 
 -- at most so many entries, by the steps that a call may have
-pub by_length : (P : Calls) (n : ℕ) (a b : DeskView) → ((es : List Step) → P es → length es ≤ n) → ShapeBy P a b → AddsAtMost n a b
+pub by_length : (P : Calls) (n : ℕ) (a b : DeskView) → ((es : List Step) → P es → length es ≤ n) → AddsStepsBy P a b → AddsAtMost n a b
 by_length P n a b few did = adds_length a b did.0 n did.2 (few did.0 did.1)
 
 pub unknown_most : (rows : ℕ) (row : RowNo) (retailer n : ℕ) (Saw : Phase → ℕ → ℕ → List Step → Type 0) → 1 ≤ n → ((shown : Phase) (who last : ℕ) (es : List Step) → Saw shown who last es → length es ≤ n) → (es : List Step) → IsUnknown rows row retailer Saw es → length es ≤ n
@@ -64,28 +64,28 @@ loses_most row n wanted Saw few es (front, back, saw, lost, is) =
 
 -- a search for a retailer's booking
 
-pub past_last : (rows : ℕ) (row : RowNo) (retailer : ℕ) (Saw : Phase → ℕ → ℕ → List Step → Type 0) (a : DeskView) → rows ≤ row.row → IsLegal a.layout a.seen → ShapeBy (IsUnknown rows row retailer Saw) a a
+pub past_last : (rows : ℕ) (row : RowNo) (retailer : ℕ) (Saw : Phase → ℕ → ℕ → List Step → Type 0) (a : DeskView) → rows ≤ row.row → IsLegal a.layout a.seen → AddsStepsBy (IsUnknown rows row retailer Saw) a a
 past_last rows row retailer Saw a past legal = ([], inl (past, refl), shape_none a legal)
 
-pub unsealed : (rows : ℕ) (row : RowNo) (retailer : ℕ) (Saw : Phase → ℕ → ℕ → List Step → Type 0) (shown : Phase) (a b : DeskView) → row.row < rows → is_sealed shown ≡ false → ShapeBy (SawPhase row shown) a b → ShapeBy (IsUnknown rows row retailer Saw) a b
+pub unsealed : (rows : ℕ) (row : RowNo) (retailer : ℕ) (Saw : Phase → ℕ → ℕ → List Step → Type 0) (shown : Phase) (a b : DeskView) → row.row < rows → is_sealed shown ≡ false → AddsStepsBy (SawPhase row shown) a b → AddsStepsBy (IsUnknown rows row retailer Saw) a b
 unsealed rows row retailer Saw shown a b here not_so did = (did.0, inr (here, shown, inl (not_so, did.1)), did.2)
 
-pub given_away : (rows : ℕ) (row : RowNo) (retailer who last : ℕ) (Saw : Phase → ℕ → ℕ → List Step → Type 0) (shown : Phase) (es : List Step) (a b : DeskView) → row.row < rows → is_sealed shown ≡ true → phase_shown row.generation last ≡ Free → Saw shown who last es → Shape a b es → ShapeBy (IsUnknown rows row retailer Saw) a b
+pub given_away : (rows : ℕ) (row : RowNo) (retailer who last : ℕ) (Saw : Phase → ℕ → ℕ → List Step → Type 0) (shown : Phase) (es : List Step) (a b : DeskView) → row.row < rows → is_sealed shown ≡ true → phase_shown row.generation last ≡ Free → Saw shown who last es → AddsSteps a b es → AddsStepsBy (IsUnknown rows row retailer Saw) a b
 given_away rows row retailer who last Saw shown es a b here is_so free saw did = (es, inr (here, shown, inr (is_so, who, last, inl free, saw)), did)
 
-pub anothers : (rows : ℕ) (row : RowNo) (retailer who last : ℕ) (Saw : Phase → ℕ → ℕ → List Step → Type 0) (shown : Phase) (es : List Step) (a b : DeskView) → row.row < rows → is_sealed shown ≡ true → who ≢ retailer → Saw shown who last es → Shape a b es → ShapeBy (IsUnknown rows row retailer Saw) a b
+pub anothers : (rows : ℕ) (row : RowNo) (retailer who last : ℕ) (Saw : Phase → ℕ → ℕ → List Step → Type 0) (shown : Phase) (es : List Step) (a b : DeskView) → row.row < rows → is_sealed shown ≡ true → who ≢ retailer → Saw shown who last es → AddsSteps a b es → AddsStepsBy (IsUnknown rows row retailer Saw) a b
 anothers rows row retailer who last Saw shown es a b here is_so ne saw did = (es, inr (here, shown, inr (is_so, who, last, inr ne, saw)), did)
 
 -- the looks at a booking, one after another; the last is the one that a look at its phase made
 
-pub owner_seen : (a b c d : DeskView) (row : RowNo) (who last : ℕ) (shown : Phase) → Shape a b (saw_phase row shown ∷ []) → Shape b c (SawRow row.row 1 who ∷ []) → Shape c d (SawRow row.row 0 last ∷ []) → Shape a d (saw_owner row shown who last)
+pub owner_seen : (a b c d : DeskView) (row : RowNo) (who last : ℕ) (shown : Phase) → AddsSteps a b (saw_phase row shown ∷ []) → AddsSteps b c (SawRow row.row 1 who ∷ []) → AddsSteps c d (SawRow row.row 0 last ∷ []) → AddsSteps a d (saw_owner row shown who last)
 owner_seen a b c d row who last shown p o l = shape_then a b d (saw_phase row shown ∷ []) (SawRow row.row 1 who ∷ SawRow row.row 0 last ∷ []) p (shape_then b c d (SawRow row.row 1 who ∷ []) (SawRow row.row 0 last ∷ []) o l)
 
-pub terms_seen : (a b c d e : DeskView) (row : RowNo) (who limit last : ℕ) (shown : Phase) → Shape a b (saw_phase row shown ∷ []) → Shape b c (SawRow row.row 1 who ∷ []) → Shape c d (SawRow row.row 2 limit ∷ []) → Shape d e (SawRow row.row 0 last ∷ []) → Shape a e (saw_terms row shown who limit last)
+pub terms_seen : (a b c d e : DeskView) (row : RowNo) (who limit last : ℕ) (shown : Phase) → AddsSteps a b (saw_phase row shown ∷ []) → AddsSteps b c (SawRow row.row 1 who ∷ []) → AddsSteps c d (SawRow row.row 2 limit ∷ []) → AddsSteps d e (SawRow row.row 0 last ∷ []) → AddsSteps a e (saw_terms row shown who limit last)
 terms_seen a b c d e row who limit last shown p o l z =
     shape_then a b e (saw_phase row shown ∷ []) (SawRow row.row 1 who ∷ SawRow row.row 2 limit ∷ SawRow row.row 0 last ∷ []) p
     (shape_then b c e (SawRow row.row 1 who ∷ []) (SawRow row.row 2 limit ∷ SawRow row.row 0 last ∷ []) o (shape_then c d e (SawRow row.row 2 limit ∷ []) (SawRow row.row 0 last ∷ []) l z))
 
 -- the word of a look at the phase, with its step
-pub last_look : (a b : DeskView) (row : RowNo) (shown : Phase) → ShapeBy (SawPhase row shown) a b → (last : ℕ) × (phase_shown row.generation last ≡ shown) × Shape a b (SawRow row.row 0 last ∷ [])
-last_look a b row shown did = (did.1.0, did.1.1, subst (Shape a b) did.1.2 did.2)
+pub last_look : (a b : DeskView) (row : RowNo) (shown : Phase) → AddsStepsBy (SawPhase row shown) a b → (last : ℕ) × (phase_shown row.generation last ≡ shown) × AddsSteps a b (SawRow row.row 0 last ∷ [])
+last_look a b row shown did = (did.1.0, did.1.1, subst (AddsSteps a b) did.1.2 did.2)

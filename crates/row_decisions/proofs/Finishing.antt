@@ -11,8 +11,8 @@ use Rattle.history_model.specs.Booking.{most_items}
 use Rattle.history_model.specs.History.{IsLegal}
 use Rattle.history_model.specs.WholeEnds.{end_turn}
 use Rattle.claim_rule.specs.Rule.{DeskView}
-use Rattle.claim_rule.specs.Desks.{Shape}
-use Rattle.claim_rule.specs.Calls.{ShapeBy}
+use Rattle.claim_rule.specs.Desks.{AddsSteps}
+use Rattle.claim_rule.specs.Calls.{AddsStepsBy}
 use Rattle.claim_rule.specs.Holds.{held}
 use Rattle.claim_rule.specs.Endings.{EndingView, given_front, items_read, item_looks}
 use Rattle.claim_rule.specs.EndSteps.{ending_steps, gives_from, closing}
@@ -27,11 +27,11 @@ use Rattle.booking_rows.specs.Ends.{IsEndedAs}
 use Rattle.row_decisions.specs.Ends.{ends_as}
 
 -- all items are given back, and the end is closed
-pub gave_and_closed : (a b c : DeskView) (e now : EndingView) → e.given ≡ 0 → now ≡ record e { given = length e.items } → Shape a b (gives_from e.row.row e.given (length e.items - e.given)) → Shape b c (closing now.row.row now.kind now.end) → Shape a c (ending_steps e.row.row e.kind e.end e.items)
+pub gave_and_closed : (a b c : DeskView) (e now : EndingView) → e.given ≡ 0 → now ≡ record e { given = length e.items } → AddsSteps a b (gives_from e.row.row e.given (length e.items - e.given)) → AddsSteps b c (closing now.row.row now.kind now.end) → AddsSteps a c (ending_steps e.row.row e.kind e.end e.items)
 gave_and_closed a b c e now fresh is gave closed =
     shape_then a b c (gives_from e.row.row 0 (length e.items)) (closing e.row.row e.kind e.end)
-    (subst (λ (n : ℕ). Shape a b (gives_from e.row.row 0 n)) (all_of (length e.items)) (subst (λ (n : ℕ). Shape a b (gives_from e.row.row n (length e.items - n))) fresh gave))
-    (subst (λ (x : EndingView). Shape b c (closing x.row.row x.kind x.end)) is closed)
+    (subst (λ (n : ℕ). AddsSteps a b (gives_from e.row.row 0 n)) (all_of (length e.items)) (subst (λ (n : ℕ). AddsSteps a b (gives_from e.row.row n (length e.items - n))) fresh gave))
+    (subst (λ (x : EndingView). AddsSteps b c (closing x.row.row x.kind x.end)) is closed)
   where
     all_of : (n : ℕ) → n - 0 ≡ n
     all_of n = omega arith
@@ -55,14 +55,14 @@ few_items desk e legal is read fresh =
     subst (λ (n : ℕ). n ≤ most_items) many (sound_now desk e legal is.of).count
 
 -- the turn to an end, its items read, and the rest
-pub ended : (a b c : DeskView) (row : RowNo) (from : Phase) (aim : Aim) (e : EndingView) (kind : EndKind) → aimed aim ≡ Ending e.kind → e ≡ fresh_ending row e.kind (end_of aim) e → length e.items ≤ most_items → aimed aim ≡ Ending kind → ShapeBy (Turns row from aim (turned.Ending e)) a b → Shape b c (ending_steps e.row.row e.kind e.end e.items) → (es : List Step) × ((items : List Item) × (length items ≤ most_items) × (es ≡ ends_as row.row from kind (end_of aim) items)) × Shape a c es
+pub ended : (a b c : DeskView) (row : RowNo) (from : Phase) (aim : Aim) (e : EndingView) (kind : EndKind) → aimed aim ≡ Ending e.kind → e ≡ fresh_ending row e.kind (end_of aim) e → length e.items ≤ most_items → aimed aim ≡ Ending kind → AddsStepsBy (Turns row from aim (turned.Ending e)) a b → AddsSteps b c (ending_steps e.row.row e.kind e.end e.items) → (es : List Step) × ((items : List Item) × (length items ≤ most_items) × (es ≡ ends_as row.row from kind (end_of aim) items)) × AddsSteps a c es
 ended a b c row from aim e kind to is few wanted did rest =
     let same : e.kind ≡ kind = same_kind e.kind kind (aimed aim) to wanted in
     let k : EndKind = kind in
-    let last : Shape b c (ending_steps row.row kind (end_of aim) e.items) = subst (λ (x : EndKind). Shape b c (ending_steps row.row x (end_of aim) e.items)) same (subst (λ (x : EndingView). Shape b c (ending_steps x.row.row e.kind x.end e.items)) is rest) in
-    let first : Shape a b (turn_of row.row from aim ∷ items_read row.row e.items) = subst (Shape a b) did.1 did.2 in
-    let whole : Shape a c (turn_of row.row from aim ∷ items_read row.row e.items ++ ending_steps row.row kind (end_of aim) e.items) = shape_then a b c (turn_of row.row from aim ∷ items_read row.row e.items) (ending_steps row.row kind (end_of aim) e.items) first last in
-    (ends_as row.row from kind (end_of aim) e.items, (e.items, few, refl), subst (λ (p : Phase). Shape a c (end_turn row.row from p (end_of aim) ∷ items_read row.row e.items ++ ending_steps row.row kind (end_of aim) e.items)) wanted whole)
+    let last : AddsSteps b c (ending_steps row.row kind (end_of aim) e.items) = subst (λ (x : EndKind). AddsSteps b c (ending_steps row.row x (end_of aim) e.items)) same (subst (λ (x : EndingView). AddsSteps b c (ending_steps x.row.row e.kind x.end e.items)) is rest) in
+    let first : AddsSteps a b (turn_of row.row from aim ∷ items_read row.row e.items) = subst (AddsSteps a b) did.1 did.2 in
+    let whole : AddsSteps a c (turn_of row.row from aim ∷ items_read row.row e.items ++ ending_steps row.row kind (end_of aim) e.items) = shape_then a b c (turn_of row.row from aim ∷ items_read row.row e.items) (ending_steps row.row kind (end_of aim) e.items) first last in
+    (ends_as row.row from kind (end_of aim) e.items, (e.items, few, refl), subst (λ (p : Phase). AddsSteps a c (end_turn row.row from p (end_of aim) ∷ items_read row.row e.items ++ ending_steps row.row kind (end_of aim) e.items)) wanted whole)
 
 -- how many steps an end has
 

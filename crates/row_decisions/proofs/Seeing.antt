@@ -12,7 +12,7 @@ use Rattle.history_model.proofs.Generations.{key_present}
 use Rattle.history_model.proofs.Keeping.{found}
 use Rattle.history_model.proofs.Ranges.{all_found}
 use Rattle.claim_rule.specs.Rule.{DeskView, state_seen}
-use Rattle.claim_rule.specs.Desks.{Stepped, Shape}
+use Rattle.claim_rule.specs.Desks.{Stepped, AddsSteps}
 use Rattle.claim_rule.specs.Out.{KeepsHolds, KeepsEndings}
 use Rattle.claim_rule.proofs.Moves.{is_sound}
 use Rattle.claim_rule.proofs.Shapes.{step_shape}
@@ -38,7 +38,7 @@ both : (o : Option Booking) (P Q : Booking → Type 0) → IsSomeAnd o P → IsS
 both None P Q p q = p
 both (Some b) P Q p q = (p, q)
 
-pub limit_kept : (row : RowNo) (n : ℕ) (a b : DeskView) (es : List Step) → IsLegal a.layout a.seen → Shape a b es → IsSealedRow a row → (IsStillPresent a row → HasWordAt a row 2 n) → IsStillPresent b row → (n ≤ 4102444799) × HasLimit b row n
+pub limit_kept : (row : RowNo) (n : ℕ) (a b : DeskView) (es : List Step) → IsLegal a.layout a.seen → AddsSteps a b es → IsSealedRow a row → (IsStillPresent a row → HasWordAt a row 2 n) → IsStillPresent b row → (n ≤ 4102444799) × HasLimit b row n
 limit_kept row n a b es legal did sealed word now =
     let still = still_before a b es row did sealed now in
     let o = booking_at (state_seen a) row.row row.generation in

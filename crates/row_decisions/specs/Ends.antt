@@ -16,9 +16,11 @@ use Rattle.booking_rows.specs.Aims.{end_of, LosesTurn}
 
 -- the turn; the items are read and given back; the end is noted, and the row closed
 abbrev pub ends_as : ℕ → Phase → EndKind → End → List Item → List Step
-ends_as row from kind end items = end_turn row from (Ending kind) end ∷ items_read row items ++ ending_steps row kind end items
+ends_as row from kind end items =
+    end_turn row from (Ending kind) end ∷ items_read row items ++ ending_steps row kind end items
 
 -- the steps of ending a booking, by the phase that its row showed it where another turn had decided
 abbrev pub EndsBooking : RowNo → Phase → EndKind → Aim → Option Phase → List Step → Type 0
-EndsBooking row from kind aim None es = (items : List Item) × (length items ≤ most_items) × (es ≡ ends_as row.row from kind (end_of aim) items)
+EndsBooking row from kind aim None es =
+    (items : List Item) × (length items ≤ most_items) × (es ≡ ends_as row.row from kind (end_of aim) items)
 EndsBooking row from kind aim (Some shown) es = LosesTurn row from shown es

@@ -50,11 +50,13 @@ IsUnknown rows row retailer Saw es =
 abbrev pub IsWrong : RowNo → Phase → Phase → (Phase → List Step → Type 0) → List Step → Type 0
 IsWrong row wanted shown Saw es =
     ((shown ≢ wanted) × (is_sealed shown ≡ true) × Saw shown es)
-    ⊎ ((shown ≢ Free) × (front : List Step) × (back : List Step) × Saw wanted front × LosesTurn row wanted shown back × (es ≡ front ++ back))
+    ⊎ ((shown ≢ Free) × (front : List Step) × (back : List Step) × Saw wanted front × LosesTurn row wanted shown back
+    × (es ≡ front ++ back))
 
 -- the lost turn shows that the row was given away
 abbrev pub LosesRow : RowNo → Phase → (Phase → List Step → Type 0) → List Step → Type 0
-LosesRow row wanted Saw es = (front : List Step) × (back : List Step) × Saw wanted front × LosesTurn row wanted Free back × (es ≡ front ++ back)
+LosesRow row wanted Saw es =
+    (front : List Step) × (back : List Step) × Saw wanted front × LosesTurn row wanted Free back × (es ≡ front ++ back)
 
 -- the booking is this retailer's, and was seen in this phase
 abbrev pub SawOwned : RowNo → ℕ → Phase → List Step → Type 0
@@ -62,5 +64,7 @@ SawOwned row retailer shown es = (last : ℕ) × IsKept row last × (es ≡ saw_
 
 -- the steps of a search for this retailer's booking, by its phase
 abbrev pub FindsOwned : ℕ → RowNo → ℕ → Option Phase → List Step → Type 0
-FindsOwned rows row retailer None es = IsUnknown rows row retailer (λ shown who last es'. es' ≡ saw_owner row shown who last) es
-FindsOwned rows row retailer (Some shown) es = (row.row < rows) × (is_sealed shown ≡ true) × SawOwned row retailer shown es
+FindsOwned rows row retailer None es =
+    IsUnknown rows row retailer (λ shown who last es'. es' ≡ saw_owner row shown who last) es
+FindsOwned rows row retailer (Some shown) es =
+    (row.row < rows) × (is_sealed shown ≡ true) × SawOwned row retailer shown es

@@ -3,8 +3,8 @@ ghost use Rattle.std.specs.Prelude.{◌≡◌, true, IfNone};
 ghost use Rattle.history_model.specs.Booking.{most_items};
 ghost use Rattle.history_model.specs.declared.phase.EndKind.{EndKind};
 ghost use Rattle.history_model.specs.declared.phase.Phase.TheVariants as phase;
-ghost use Rattle.claim_rule.specs.Desks.{IsOf, Shape};
-ghost use Rattle.claim_rule.specs.Calls.{ShapeBy};
+ghost use Rattle.claim_rule.specs.Desks.{IsOf, AddsSteps};
+ghost use Rattle.claim_rule.specs.Calls.{AddsStepsBy};
 ghost use Rattle.claim_rule.specs.EndSteps.{ending_steps};
 ghost use Rattle.claim_rule.specs.Out.{IsEnding, EndsNone, KeepsHolds};
 ghost use Rattle.booking_rows.specs.Aims.{aimed, end_of, HasGeneration, MayAim, OfEnding};
@@ -24,7 +24,7 @@ pub fn finish_end(books: &Books, desk: &mut Desk, mut ending: Ending)
     requires read { ending.read ≡ true }
     requires fresh { ending.given ≡ 0 }
     ensures own { IsOf books.now desk.new }
-    ensures entries { Shape desk.old desk.new (ending_steps ending.row.row ending.kind ending.end ending.items) }
+    ensures entries { AddsSteps desk.old desk.new (ending_steps ending.row.row ending.kind ending.end ending.items) }
     ensures ended { IsEndedAs desk.new ending.row ending.kind ending.end }
     ensures none { EndsNone desk.new }
     ensures holds { KeepsHolds desk.old desk.new }
@@ -43,7 +43,7 @@ pub fn end_row(books: &Books, desk: &mut Desk, row: RowNo, from: Phase, to: Aim)
     requires ends { (kind : EndKind) × (aimed to ≡ phase.Ending kind) }
     requires none { EndsNone desk.old }
     ensures own { IsOf books.now desk.new }
-    ensures entries { OfEnding to (λ kind. ShapeBy (EndsBooking row from kind to result) desk.old desk.new) }
+    ensures entries { OfEnding to (λ kind. AddsStepsBy (EndsBooking row from kind to result) desk.old desk.new) }
     ensures ended { IfNone result (OfEnding to (λ kind. IsEndedAs desk.new row kind (end_of to))) }
     ensures none { EndsNone desk.new }
     ensures holds { KeepsHolds desk.old desk.new }

@@ -5,8 +5,8 @@ ghost use Rattle.history_model.specs.Booking.{row_words, standing_word};
 ghost use Rattle.history_model.specs.declared.entry.Step.TheVariants.{SawRow};
 ghost use Rattle.history_model.specs.declared.phase.Phase.{Phase as PhaseShown};
 ghost use Rattle.history_model.specs.declared.phase.Phase.TheVariants.{Free};
-ghost use Rattle.claim_rule.specs.Desks.{IsOf, Shape};
-ghost use Rattle.claim_rule.specs.Calls.{ShapeBy};
+ghost use Rattle.claim_rule.specs.Desks.{IsOf, AddsSteps};
+ghost use Rattle.claim_rule.specs.Calls.{AddsStepsBy};
 ghost use Rattle.claim_rule.specs.Out.{KeepsHolds, KeepsEndings};
 ghost use Rattle.booking_rows.specs.Views.{saw_phase};
 ghost use Rattle.booking_rows.specs.SealedRows.{IsSealedRow, IsSealedSince, IsStillPresent};
@@ -29,8 +29,8 @@ pub fn look_phase(books: &Books, desk: &mut Desk, row: RowNo) -> Phase
     requires own { IsOf books.now desk.old }
     requires row { row.row < books.now.layout.rows }
     ensures own { IsOf books.now desk.new }
-    ensures entries { ShapeBy (SawPhase row result) desk.old desk.new }
-    ensures word { sealed_phase result ≡ true → Shape desk.old desk.new (saw_phase row result ∷ []) }
+    ensures entries { AddsStepsBy (SawPhase row result) desk.old desk.new }
+    ensures word { sealed_phase result ≡ true → AddsSteps desk.old desk.new (saw_phase row result ∷ []) }
     ensures sealed { sealed_phase result ≡ true → IsSealedSince desk.new row result }
     ensures present { result ≢ Free → IsStillPresent desk.new row }
     ensures holds { KeepsHolds desk.old desk.new }
@@ -46,7 +46,7 @@ pub fn look_word(books: &Books, desk: &mut Desk, row: RowNo, word: u8) -> u64
     requires word { standing_word < word }
     requires sealed { IsSealedRow desk.old row }
     ensures own { IsOf books.now desk.new }
-    ensures entries { Shape desk.old desk.new (SawRow row.row word result ∷ []) }
+    ensures entries { AddsSteps desk.old desk.new (SawRow row.row word result ∷ []) }
     ensures word { IsStillPresent desk.new row → HasWordAt desk.new row word result }
     ensures sealed { (phase : PhaseShown) → IsSealedSince desk.old row phase → IsSealedSince desk.new row phase }
     ensures holds { KeepsHolds desk.old desk.new }
@@ -61,7 +61,7 @@ pub fn look_word(books: &Books, desk: &mut Desk, row: RowNo, word: u8) -> u64
 pub fn find_owned(books: &Books, desk: &mut Desk, row: RowNo, retailer: RetailerNo) -> Option<Phase>
     requires own { IsOf books.now desk.old }
     ensures own { IsOf books.now desk.new }
-    ensures entries { ShapeBy (FindsOwned books.now.layout.rows row retailer.0 result) desk.old desk.new }
+    ensures entries { AddsStepsBy (FindsOwned books.now.layout.rows row retailer.0 result) desk.old desk.new }
     ensures sealed { IfSome result (λ _. IsSealedRow desk.new row) }
     ensures holds { KeepsHolds desk.old desk.new }
     ensures endings { KeepsEndings desk.old desk.new }

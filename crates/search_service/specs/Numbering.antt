@@ -9,4 +9,5 @@ use Rattle.place_map.specs.Candidates.{is_class}
 abbrev pub in_turn : List Place → List PlaceNo → List PlaceNo → List PlaceNo
 in_turn [] first second = []
 in_turn (p ∷ rest) first second =
-    if is_class p.class First then take 1 first ++ in_turn rest (drop 1 first) second else take 1 second ++ in_turn rest first (drop 1 second)
+    if is_class p.class First then take 1 first ++ in_turn rest (drop 1 first) second else take 1 second
+    ++ in_turn rest first (drop 1 second)

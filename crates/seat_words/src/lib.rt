@@ -11,7 +11,7 @@ ghost use Rattle.std.specs.Prelude.{ℕ, ◌≡◌, ◌≢◌, ◌<◌, ◌≤�
 ghost use Rattle.history_model.specs.declared.entry.Step.TheVariants.{Look, Give};
 ghost use Rattle.history_model.specs.Booking.{most_items};
 ghost use Rattle.leg_masks.specs.Interval.{IsClear, IsPiece, PlacedSpan as Item, halves};
-ghost use Rattle.claim_rule.specs.Desks.{IsOf, Shape};
+ghost use Rattle.claim_rule.specs.Desks.{IsOf, AddsSteps};
 ghost use Rattle.claim_rule.specs.Holds.{with_one};
 ghost use Rattle.claim_rule.specs.Out.{IsHolding, IsEnding, HasNoted, HasNotedButLast, HasNotedItems, KeepsHolds, KeepsEndings};
 ghost use Rattle.seat_words.specs.Gives.{gives_left};
@@ -27,7 +27,7 @@ pub fn glance(books: &Books, desk: &mut Desk, place: PlaceNo, half: u8) -> u64
     requires place { place.0 < length books.now.layout.legs }
     requires half { half < halves }
     ensures own { IsOf books.now desk.new }
-    ensures entries { Shape desk.old desk.new (Look place.0 half result ∷ []) }
+    ensures entries { AddsSteps desk.old desk.new (Look place.0 half result ∷ []) }
     ensures holds { KeepsHolds desk.old desk.new }
     ensures endings { KeepsEndings desk.old desk.new }
 {
@@ -90,7 +90,7 @@ pub fn undo_last(books: &Books, desk: &mut Desk, hold: &mut Hold)
     requires some { 0 < length hold.old.items }
     ensures own { IsOf books.now desk.new }
     ensures last { (i : Item) × (hold.old ≡ with_one hold.new i) }
-    ensures entries { Shape desk.old desk.new (Give hold.old.row.row (length hold.new.items) ∷ []) }
+    ensures entries { AddsSteps desk.old desk.new (Give hold.old.row.row (length hold.new.items) ∷ []) }
     ensures hold { IsHolding desk.new hold.new }
     ensures noted { HasNotedButLast desk.old hold.old → HasNotedItems desk.new hold.new }
     ensures still { (items : List Item) → HasNoted desk.old hold.old.row.row items
@@ -107,7 +107,7 @@ pub fn give_all(books: &Books, desk: &mut Desk, ending: &mut Ending)
     requires read { ending.old.read ≡ true }
     ensures own { IsOf books.now desk.new }
     ensures all { ending.new ≡ record ending.old { given = length ending.old.items } }
-    ensures entries { Shape desk.old desk.new (gives_left ending.old) }
+    ensures entries { AddsSteps desk.old desk.new (gives_left ending.old) }
     ensures ending { IsEnding desk.new ending.new }
     ensures holds { KeepsHolds desk.old desk.new }
 {

@@ -1,20 +1,38 @@
-// Two streams with one reservation each, of which the first waits for the second.
+// Streams of which the first waits for a count, and a ticker that counts.
 ghost use Rattle.std.specs.Prelude.{◌≡◌};
 
-use crate::connections::RESERVES;
-use rail_io::{BytesSource, Pulled, Pushed, Sink, Source, VecSink};
+use rail_io::{BytesSource, Pulled, Pushed, Sink, Source, Ticker, VecSink};
 use rail_service::{Accepted, Bound, Listener, Waiting};
 use std::alloc::Global;
-use std::sync::atomic::{AtomicBool, Ordering};
+use std::sync::atomic::{AtomicU64, Ordering};
 use std::thread;
 
 /// How many turns a read waits at most.
 const LIMIT: u32 = 10_000_000;
 
-// Waits until the mark is set, or not at all.
-fn becomes_true(mark: &AtomicBool) -> bool {
+/// What is counted while a host serves.
+#[derive(Drop)]
+pub struct Counts {
+    /// What the first stream waits for.
+    pub reached: AtomicU64,
+    /// How many sinks were dropped.
+    pub dropped: AtomicU64,
+}
+
+impl Counts {
+    /// Nothing was counted.
+    pub fn new() -> Self {
+        Counts {
+            reached: AtomicU64::new(0),
+            dropped: AtomicU64::new(0),
+        }
+    }
+}
+
+// Whether the count is reached within the turns.
+fn is_reached(counts: &Counts, count: u64) -> bool {
     for _ in 0..LIMIT {
-        if mark.load(Ordering::SeqCst) {
+        if counts.reached.load(Ordering::SeqCst) >= count {
             return true;
         }
         thread::yield_now();
@@ -22,12 +40,12 @@ fn becomes_true(mark: &AtomicBool) -> bool {
     false
 }
 
-/// A source whose first read waits until the other stream was answered.
+/// A source whose first read waits until so much is counted.
 #[derive(Drop)]
 pub struct GateSource<'a> {
     bytes: BytesSource,
-    waits: bool,
-    answered: &'a AtomicBool,
+    waits_for: u64,
+    counts: &'a Counts,
     faults: u64,
 }
 
@@ -39,11 +57,11 @@ impl Source for GateSource<'_> {
     ghost faults = { λ s. s.faults };
 
     fn read(&mut self, room: &mut [u8]) -> Pulled {
-        if self.waits && !becomes_true(self.answered) {
+        if !is_reached(self.counts, self.waits_for) {
             self.faults = self.faults.saturating_add(1);
             return Pulled::Failed;
         }
-        self.waits = false;
+        self.waits_for = 0;
         match self.bytes.read(room) {
             Pulled::Got(count) => Pulled::Got(count),
             Pulled::End => Pulled::End,
@@ -55,13 +73,24 @@ impl Source for GateSource<'_> {
     }
 }
 
-/// A sink that marks that it has taken a byte, or doesn't.
-#[derive(Drop)]
+/// A sink that counts each time that it takes bytes, or doesn't, and that counts its drop.
 pub struct GateSink<'a> {
     taken: VecSink,
-    marks: bool,
-    answered: &'a AtomicBool,
+    is_counted: bool,
+    counts: &'a Counts,
     faults: u64,
+}
+
+impl Drop for GateSink<'_> {
+    fn drop(self) {
+        let GateSink {
+            taken: _,
+            is_counted: _,
+            counts,
+            faults: _,
+        } = self;
+        let _before = counts.dropped.fetch_add(1, Ordering::SeqCst);
+    }
 }
 
 impl Sink for GateSink<'_> {
@@ -74,8 +103,8 @@ impl Sink for GateSink<'_> {
     fn write(&mut self, piece: &[u8]) -> Pushed {
         match self.taken.write(piece) {
             Pushed::Took(count) => {
-                if self.marks {
-                    self.answered.store(true, Ordering::SeqCst);
+                if self.is_counted {
+                    let _before = self.counts.reached.fetch_add(1, Ordering::SeqCst);
                 }
                 Pushed::Took(count)
             }
@@ -87,48 +116,58 @@ impl Sink for GateSink<'_> {
     }
 }
 
-/// Hands out such streams, up to its limit.
+/// Hands out streams with this text, up to its limit. The first one waits until so much is counted, and the sinks of the
+/// others count.
 #[derive(Drop)]
 pub struct GateListener<'a> {
     alloc: Global,
+    text: &'a str,
+    waits_for: u64,
     port: u16,
     limit: u32,
     handed: u32,
     faults: u64,
-    answered: &'a AtomicBool,
+    counts: &'a Counts,
 }
 
 /// A listener that hasn't handed out a stream.
-pub fn gate_listener(alloc: Global, answered: &AtomicBool) -> GateListener<'_>
+pub fn gate_listener<'a>(
+    alloc: Global,
+    text: &'a str,
+    waits_for: u64,
+    counts: &'a Counts,
+) -> GateListener<'a>
     ensures fresh { result.handed ≡ 0 }
 {
     GateListener {
         alloc,
+        text,
+        waits_for,
         port: 0,
         limit: 0,
         handed: 0,
         faults: 0,
-        answered,
+        counts,
     }
 }
 
-// A stream: the first one waits, and the others mark.
+// A stream that waits for so much, or one that counts.
 fn stream_of(
     alloc: Global,
     bytes: Vec<u8>,
-    is_first: bool,
-    answered: &AtomicBool,
+    waits_for: u64,
+    counts: &Counts,
 ) -> Waiting<GateSource<'_>, GateSink<'_>> {
     let input = GateSource {
         bytes: BytesSource::new(bytes, Vec::new(alloc)),
-        waits: is_first,
-        answered,
+        waits_for,
+        counts,
         faults: 0,
     };
     let output = GateSink {
         taken: VecSink::new(alloc, Vec::new(alloc)),
-        marks: !is_first,
-        answered,
+        is_counted: waits_for == 0,
+        counts,
         faults: 0,
     };
     Waiting::of(input, output)
@@ -156,16 +195,38 @@ impl<'a> Listener for GateListener<'a> {
         if self.handed >= self.limit {
             return Accepted::Closed;
         }
-        let Ok(bytes) = RESERVES.as_bytes().to_vec(self.alloc) else {
+        let Ok(bytes) = self.text.as_bytes().to_vec(self.alloc) else {
             self.faults = self.faults.saturating_add(1);
             return Accepted::Failed;
         };
-        let is_first = self.handed == 0;
+        let waits_for = if self.handed == 0 { self.waits_for } else { 0 };
         self.handed += 1;
-        Accepted::Stream(stream_of(self.alloc, bytes, is_first, self.answered))
+        Accepted::Stream(stream_of(self.alloc, bytes, waits_for, self.counts))
     }
 
     fn set_limit(&mut self, connections: u32) {
         self.limit = connections;
+    }
+}
+
+/// Ticks at once, so many times, and counts each time that it is asked.
+#[derive(Drop)]
+pub struct GateTicker<'a> {
+    pub left: u64,
+    pub counts: &'a Counts,
+}
+
+impl Ticker for GateTicker<'_> {
+    ghost ticked = { λ _ _ _ _. Unit {0} };
+
+    fn next_tick(&mut self, seconds: u32) -> bool {
+        let _ = seconds;
+        let _before = self.counts.reached.fetch_add(1, Ordering::SeqCst);
+        thread::yield_now();
+        if self.left == 0 {
+            return false;
+        }
+        self.left -= 1;
+        true
     }
 }

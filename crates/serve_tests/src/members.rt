@@ -12,11 +12,10 @@ use host_serve::{Post, Streams, Sweeper};
 use rail_catalogue::Catalogue;
 use rail_io::{BytesSource, CountTicker, ScriptClock, VecSink};
 use rail_service::{Finished, Waiting, serve_waiting};
-use sample_shop::{after_six, open_books, sample_with_rows};
 use session_loop::ConnEnd;
 use std::alloc::{AllocError, Global};
-use std::sync::atomic::AtomicBool;
 use std::test::Fail;
+use test_kit::{after_six, open_books, sample_with_rows};
 use worker_pool::{Member, Open, TurnEnd, Worker, run_workers};
 
 // A stream with one reservation.
@@ -149,6 +148,8 @@ impl Streams for NoStreams {
 
     ghost lets_go = { λ old _ _ new. new ≡ old };
 
+    ghost tells = { λ _. Unit {0} };
+
     fn next_stream(&mut self) -> Option<Waiting<BytesSource, VecSink>> {
         None
     }
@@ -164,7 +165,7 @@ impl Streams for NoStreams {
 type Sweeping<'s> = Post<'s, NoStreams, CountTicker, ScriptClock>;
 
 // A sweeping member of two ticks, whose clock goes on by a second a reading.
-fn sweeper_of<'s>(books: &Books, first: &mut Desk, closed: &'s AtomicBool) -> Member<Sweeping<'s>>
+fn sweeper_of<'s>(books: &Books, first: &mut Desk) -> Member<Sweeping<'s>>
     requires own { IsOf books.now first.old }
     requires first { first.old.number ≡ 0 }
     requires tidy { IsTidy first.old }
@@ -175,7 +176,6 @@ fn sweeper_of<'s>(books: &Books, first: &mut Desk, closed: &'s AtomicBool) -> Me
     let sweeper = Sweeper {
         ticker: CountTicker { left: 2 },
         seconds: 30,
-        closed,
         clock: ScriptClock {
             next: after_six(901),
             tick: 1,
@@ -198,8 +198,7 @@ fn has_swept_twice(member: &Member<Sweeping<'_>>) -> bool {
     }
 }
 
-/// A member with a ticker of two and the mark not set sweeps twice and ends. The row that was booked before is late by
-/// then, and expires.
+/// A member with a ticker of two sweeps twice and ends. The row that was booked before is late by then, and expires.
 #[test]
 fn sweeps_twice(rt: HostRuntime) -> Result<(), Fail> {
     let alloc = rt.alloc();
@@ -214,8 +213,7 @@ fn sweeps_twice(rt: HostRuntime) -> Result<(), Fail> {
         waiting,
         &mut clock_at_six(),
     );
-    let unset = AtomicBool::new(false);
-    let mut crew = [sweeper_of(&books, &mut first, &unset)];
+    let mut crew = [sweeper_of(&books, &mut first)];
     run_workers(&rt, &books, crew.as_mut_slice(), &Open);
     assert!(rt; has_swept_twice(&crew[0]));
     let wall = books.finish(first);

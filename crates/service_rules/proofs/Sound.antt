@@ -13,7 +13,7 @@ use Rattle.osdm_json.specs.declared.command.Command.{Command}
 use Rattle.osdm_json.specs.declared.command.Command.TheVariants as command
 use Rattle.osdm_json.specs.Readable.{IsReadable}
 use Rattle.service_rules.specs.Ordered as order
-use Rattle.service_rules.specs.Checks.{aged, checked, offer_checked, row_checked, is_of_row, refund_checked, is_quoted, exchange_checked, by, ordered}
+use Rattle.service_rules.specs.Checks.{aged, checked, offer_checked, row_checked, is_of_row, refund_checked, is_quoted, exchange_checked, and_then, ordered}
 use Rattle.service_rules.specs.Orders.{IsFresh, IsSoundOrder}
 
 abbrev Checked : Type 0 → Type 0
@@ -47,13 +47,13 @@ offer_sound cat now (Some code) c readable is =
     subst (λ (x : OfferCode). (is_offer (offer_view x) ≡ true) × (is_offered cat (offer_view x) ≡ true) × IsFresh x.made now) same (readable, known, fresh)
 
 -- what was checked, and the order by it
-by_ok : {A : Type 0} (r : Checked A) (next : A → Checked order.Ordered) (o : order.Ordered) → by r next ≡ Ok o → (a : A) × (r ≡ Ok a) × (next a ≡ Ok o)
+by_ok : {A : Type 0} (r : Checked A) (next : A → Checked order.Ordered) (o : order.Ordered) → and_then r next ≡ Ok o → (a : A) × (r ≡ Ok a) × (next a ≡ Ok o)
 by_ok (Err p) next o is = absurd (no_problem p o is)
 by_ok (Ok a) next o is = (a, refl, is)
 
 -- an order by an id asks nothing
 by_row : (cat : CatalogueView) (now : ℕ) (row : Option RowNo) (orders : RowNo → order.Ordered) (o : order.Ordered) → ((r : RowNo) → IsSoundOrder cat now (orders r))
-    → by (row_checked row) (λ r. Ok (orders r)) ≡ Ok o → IsSoundOrder cat now o
+    → and_then (row_checked row) (λ r. Ok (orders r)) ≡ Ok o → IsSoundOrder cat now o
 by_row cat now row orders o sound is =
     let (r, checked_row, made) = by_ok (row_checked row) (λ r. Ok (orders r)) o is in
     subst (IsSoundOrder cat now) (ok_is (orders r) o made) (sound r)
@@ -75,7 +75,7 @@ sound_order cat now (command.AcceptRefund row (Some code)) o readable is =
     let (known, same, fresh) = checked_is (is_of_row row code.row) code.made now code c passed in
     subst (IsSoundOrder cat now) (ok_is (order.accept_refund c) o made) (subst (λ x. IsSoundOrder cat now (order.accept_refund x)) same (readable, fresh))
 sound_order cat now (command.QuoteExchange row offer) o readable is =
-    let (c, passed, next) = by_ok (offer_checked cat now offer) (λ c. by (row_checked row) (λ r. Ok (order.quote_exchange r c))) o is in
+    let (c, passed, next) = by_ok (offer_checked cat now offer) (λ c. and_then (row_checked row) (λ r. Ok (order.quote_exchange r c))) o is in
     by_row cat now row (λ r. order.quote_exchange r c) o (λ r. offer_sound cat now offer c readable passed) next
 sound_order cat now (command.AcceptExchange row None) o readable is = absurd (no_problem UnknownOffer o is)
 sound_order cat now (command.AcceptExchange row (Some code)) o readable is =

@@ -51,26 +51,32 @@ exchange_checked cat now row None = Err UnknownOffer
 exchange_checked cat now row (Some c) = checked (is_of_row row c.row && is_quoted cat c) c.made now c
 
 -- what is ordered by what was checked
-abbrev pub by : {A : Type 0} → Result A Problem → (A → Result order.Ordered Problem) → Result order.Ordered Problem
-by (Err p) next = Err p
-by (Ok a) next = next a
+abbrev pub and_then : {A : Type 0} → Result A Problem → (A → Result order.Ordered Problem) → Result order.Ordered Problem
+and_then (Err p) next = Err p
+and_then (Ok a) next = next a
 
 -- what a command orders, or its problem
 abbrev pub ordered : CatalogueView → ℕ → Command → Result order.Ordered Problem
 ordered cat now (command.Offers trip adults children class wanted) =
     Ok (order.offers (record { trip = trip; adults = adults; children = children; class = class; wanted = wanted }))
-ordered cat now (command.Book offer together) = by (offer_checked cat now offer) (λ c. Ok (order.book c together))
+ordered cat now (command.Book offer together) = and_then (offer_checked cat now offer) (λ c. Ok (order.book c together))
 ordered cat now (command.Reserve segment class count wanted together) =
-    Ok (order.reserve (record { segment = segment; class = class; count = count; traits = wanted; together = together }))
-ordered cat now (command.Show row) = by (row_checked row) (λ r. Ok (order.show r))
-ordered cat now (command.Release row) = by (row_checked row) (λ r. Ok (order.release r))
-ordered cat now (command.Confirm row) = by (row_checked row) (λ r. Ok (order.confirm r))
-ordered cat now (command.Fulfil row) = by (row_checked row) (λ r. Ok (order.fulfil r))
-ordered cat now (command.QuoteRefund row) = by (row_checked row) (λ r. Ok (order.quote_refund r))
-ordered cat now (command.AcceptRefund row code) = by (refund_checked now row code) (λ c. Ok (order.accept_refund c))
+    Ok (order.reserve (record {
+      segment = segment;
+      class = class;
+      count = count;
+      traits = wanted;
+      together = together;
+    }))
+ordered cat now (command.Show row) = and_then (row_checked row) (λ r. Ok (order.show r))
+ordered cat now (command.Release row) = and_then (row_checked row) (λ r. Ok (order.release r))
+ordered cat now (command.Confirm row) = and_then (row_checked row) (λ r. Ok (order.confirm r))
+ordered cat now (command.Fulfil row) = and_then (row_checked row) (λ r. Ok (order.fulfil r))
+ordered cat now (command.QuoteRefund row) = and_then (row_checked row) (λ r. Ok (order.quote_refund r))
+ordered cat now (command.AcceptRefund row code) = and_then (refund_checked now row code) (λ c. Ok (order.accept_refund c))
 ordered cat now (command.QuoteExchange row offer) =
-    by (offer_checked cat now offer) (λ c. by (row_checked row) (λ r. Ok (order.quote_exchange r c)))
+    and_then (offer_checked cat now offer) (λ c. and_then (row_checked row) (λ r. Ok (order.quote_exchange r c)))
 ordered cat now (command.AcceptExchange row code) =
-    by (exchange_checked cat now row code) (λ c. Ok (order.accept_exchange c))
+    and_then (exchange_checked cat now row code) (λ c. Ok (order.accept_exchange c))
 ordered cat now (command.Places segment) = Ok (order.places segment)
 ordered cat now command.Sweep = Ok order.sweep

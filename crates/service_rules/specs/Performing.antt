@@ -4,19 +4,19 @@ use Rattle.offer_codes.specs.Offers.{offer_view}
 use Rattle.offer_codes.specs.Exchanges.{exchange_view}
 use Rattle.rail_catalogue.specs.Contents.{CatalogueView}
 use Rattle.claim_rule.specs.Rule.{DeskView}
-use Rattle.claim_rule.specs.Desks.{Shape}
+use Rattle.claim_rule.specs.Desks.{AddsSteps}
 use Rattle.osdm_texts.specs.Answers.{Reply}
-use Rattle.booking_service.specs.Deciding.{OnBooking, shows, ConfirmsIt, FulfilsIt, ReleasesIt}
+use Rattle.booking_service.specs.Deciding.{OnBooking, shows, ConfirmsFound, FulfilsFound, ReleasesFound}
 use Rattle.booking_service.specs.Sweeping.{SweepsRows}
 use Rattle.reservation_service.specs.Reserving.{reserved, Reserves}
 use Rattle.search_service.specs.Searching.{SearchesOffers, ListsPlaces}
-use Rattle.trade_service.specs.Refunds.{QuotesIt, RefundsIt}
-use Rattle.trade_service.specs.Exchanges.{QuotesExchangeOfIt, ExchangesIt}
+use Rattle.trade_service.specs.Refunds.{AnswersRefundQuote, RefundsFound}
+use Rattle.trade_service.specs.Exchanges.{AnswersExchangeQuote, AnswersAcceptedExchange}
 use Rattle.service_rules.specs.Ordered as order
 
 -- no step was made
 abbrev pub DoesNothing : DeskView → DeskView → Type 0
-DoesNothing old new = Shape old new []
+DoesNothing old new = AddsSteps old new []
 
 -- what an order does and answers
 abbrev pub Performs : CatalogueView → ℕ → ℕ → order.Ordered → DeskView → DeskView → Reply → Type 0
@@ -28,18 +28,18 @@ Performs cat retailer now (order.reserve r) old new reply =
 Performs cat retailer now (order.show row) old new reply =
     OnBooking cat.rows row retailer (shows row) old new reply
 Performs cat retailer now (order.release row) old new reply =
-    OnBooking cat.rows row retailer (ReleasesIt cat.rows row retailer now) old new reply
+    OnBooking cat.rows row retailer (ReleasesFound cat.rows row retailer now) old new reply
 Performs cat retailer now (order.confirm row) old new reply =
-    OnBooking cat.rows row retailer (ConfirmsIt cat.rows row retailer now) old new reply
+    OnBooking cat.rows row retailer (ConfirmsFound cat.rows row retailer now) old new reply
 Performs cat retailer now (order.fulfil row) old new reply =
-    OnBooking cat.rows row retailer (FulfilsIt cat.rows row retailer) old new reply
+    OnBooking cat.rows row retailer (FulfilsFound cat.rows row retailer) old new reply
 Performs cat retailer now (order.quote_refund row) old new reply =
-    QuotesIt cat cat.rows row retailer now old new reply
+    AnswersRefundQuote cat cat.rows row retailer now old new reply
 Performs cat retailer now (order.accept_refund code) old new reply =
-    OnBooking cat.rows code.row retailer (RefundsIt cat cat.rows retailer code now) old new reply
+    OnBooking cat.rows code.row retailer (RefundsFound cat cat.rows retailer code now) old new reply
 Performs cat retailer now (order.quote_exchange row code) old new reply =
-    QuotesExchangeOfIt cat cat.rows row retailer (offer_view code) now old new reply
+    AnswersExchangeQuote cat cat.rows row retailer (offer_view code) now old new reply
 Performs cat retailer now (order.accept_exchange code) old new reply =
-    ExchangesIt cat cat.rows retailer (exchange_view code) now old new reply
+    AnswersAcceptedExchange cat cat.rows retailer (exchange_view code) now old new reply
 Performs cat retailer now (order.places segment) old new reply = ListsPlaces cat segment old new reply
 Performs cat retailer now order.sweep old new reply = SweepsRows cat.rows now old new reply

@@ -1,5 +1,5 @@
 //! What each command of a retailer does and is answered, as one definition, and what a command is refused for before it
-//! does anything. It is a room of its own since the plain host and the service of connections have to mean the same by
+//! does anything. It is a crate of its own since the plain host and the service of connections have to mean the same by
 //! a command.
 //!
 //! A command becomes an order once: its ids and codes are read and checked, and what is left is what its service takes.

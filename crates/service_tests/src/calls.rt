@@ -1,9 +1,9 @@
 use osdm_json::{Command, Route, read_command};
 use rail_catalogue::Catalogue;
 use rail_ids::RowNo;
-use sample_shop::sample_with_rows;
 use std::alloc::Global;
 use std::test::Fail;
+use test_kit::sample_with_rows;
 
 /// The booking whose ticket a request asks to collect: none where its id is no booking's. None at all for another
 /// command, or a fault.

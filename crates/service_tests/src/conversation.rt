@@ -9,16 +9,18 @@ use rail_catalogue::Catalogue;
 use rail_io::ListClock;
 use rail_service::serve_connection;
 use rail_time::Moment;
-use sample_shop::{Asked, Wanted, after_six, answer_text, open_books, refused, request_text, told};
 use session_loop::ConnEnd;
-use slow_streams::{SlowSink, SlowSource};
 use std::alloc::{AllocError, Global};
 use std::process::Abort;
+use test_kit::{
+    Asked, SlowSink, SlowSource, Wanted, after_six, answer_text, open_books, refused, request_text,
+    told,
+};
 
 /// More bytes than any connection here has.
 pub const ALL: usize = 1_000_000;
 
-/// A connection: when its requests come, what comes, what is answered, and how it ends. Behind each request and each
+/// A connection: when its requests come, what comes, what is answered, and how it ends. After each request and each
 /// answer, how many bytes have come and gone.
 #[derive(Drop)]
 pub struct Talk {
@@ -170,7 +172,7 @@ pub fn check(
     assert!(rt; devices.sink.taken() == talk.output.as_bytes());
 }
 
-/// A connection at new books: its end, and the words behind it.
+/// A connection at new books: its end, and the words after it.
 pub fn live(
     rt: &(impl Abort + AllocGlobal),
     cat: &Catalogue,

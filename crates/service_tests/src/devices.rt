@@ -4,10 +4,10 @@ use crate::texts::USUAL;
 use claim_rule::Wall;
 use rail_catalogue::Catalogue;
 use rail_ids::PlaceNo;
-use sample_shop::sample_with_rows;
 use session_loop::ConnEnd;
 use std::process::Abort;
 use std::test::Fail;
+use test_kit::sample_with_rows;
 
 /// More calls than any device here gets.
 const CALLS: u16 = 1_000;
@@ -20,7 +20,7 @@ const PHASES: [u64; 5] = [0, 2, 3, 4, 4];
 /// stop 2, and 11 to 13 of the second from stop 0 to stop 1.
 const WORDS: [u64; 18] = [0, 0, 0, 0, 3, 3, 3, 0, 0, 0, 0, 0, 1, 1, 1, 0, 0, 0];
 
-/// The words of the usual life where so many of its answers are whole: the request behind them is done.
+/// The words of the usual life where so many of its answers are whole: the request after them is done.
 fn check_words(rt: &impl Abort, wall: &Wall, whole: usize) {
     assert!(rt; wall.row_word(0, 0) == PHASES.get(whole).copied());
     for (place, word) in (0..18).zip(WORDS) {
@@ -60,7 +60,7 @@ fn check_pieces(rt: &(impl Abort + AllocGlobal), cat: &Catalogue, talk: &Talk, s
     check_words(rt, &wall, 4);
 }
 
-// The usual life by reads of 64 bytes, of which one fails behind so many: what is whole in the bytes before it is
+// The usual life by reads of 64 bytes, of which one fails after so many: what is whole in the bytes before it is
 // answered.
 fn end_of_reads(
     rt: &(impl Abort + AllocGlobal),
@@ -91,7 +91,7 @@ fn check_reads(rt: &(impl Abort + AllocGlobal), cat: &Catalogue, talk: &Talk) {
     panic!(rt; "no end");
 }
 
-// The usual life by writes of 100 bytes, of which one fails behind so many: a front of the answers is written. With
+// The usual life by writes of 100 bytes, of which one fails after so many: a front of the answers is written. With
 // how many are whole.
 fn end_of_writes(
     rt: &(impl Abort + AllocGlobal),

@@ -2,14 +2,14 @@
 use crate::conversation::{Talk, check_alone, no_talk, wanted_of};
 use http_wire::WireFault;
 use rail_catalogue::Catalogue;
-use sample_shop::{Wanted, after_six, answer_text, sample_with_rows};
 use session_loop::ConnEnd;
 use std::alloc::{AllocError, Global};
 use std::process::Abort;
 use std::test::Fail;
+use test_kit::{Wanted, after_six, answer_text, sample_with_rows};
 
 /// What comes (a front, a piece so many times, an end), and why the connection is closed, with its one answer. What
-/// stands in a request's place is refused. Behind the last request of a connection the rest is left unread.
+/// stands in a request's place is refused. After the last request of a connection the rest is left unread.
 const CLOSED: &str = "GET / HTTP/1.1\r\n|a: b\r\n|65|\r\n|HeadTooLarge~\
 GET /|a|16379||HeadTooLarge~\
 GET / HTTP/1.1\r\na: b\0c\r\n\r\n||0||BadHead~\
@@ -23,7 +23,7 @@ POST /offers HTTP/1.1\r\nTransfer-Encoding: chunked\r\n\r\n||0||Coding~\
 POST /sweeps HTTP/1.0\r\nRetailer-Key: north\r\n\r\n|POST /sweeps HTTP/1.1\r\nRetailer-Key: north\r\n\r\n|1||Last~\
 POST /sweeps HTTP/1.1\r\nRetailer-Key: north\r\nConnection: keep-alive, Close\r\n\r\n|POST /sweeps HTTP/1.1\r\nRetailer-Key: north\r\n\r\n|1||Last";
 
-/// Odd requests that are answered, each with its head, its body and its answer: the connection goes on behind each. A
+/// Odd requests that are answered, each with its head, its body and its answer: the connection goes on after each. A
 /// body of one letter `ÿ` is the byte 255, which is no text.
 const ANSWERED: &str =
     "POST /sweeps HTTP/1.1\r\nRetailer-Key: north\r\nContent-Length: 17\r\nContent-Length: 17\r\n\r\n|{\"from\":0,\"to\":2}|Swept~\
@@ -115,7 +115,7 @@ fn fault_of(name: &str) -> Option<WireFault> {
     }
 }
 
-/// A connection that is closed behind its one answer.
+/// A connection that is closed after its one answer.
 fn closed_talk(alloc: Global, row: &str) -> Result<Talk, AllocError> {
     let [front, piece, times, back, name] = columns(row);
     let mut talk = no_talk(alloc);

@@ -5,10 +5,10 @@ use crate::texts::{
     SWEEPS,
 };
 use rail_catalogue::{Catalogue, read_catalogue};
-use sample_shop::{CATALOGUE, open_books, sample_with_rows};
 use std::alloc::Global;
 use std::process::Abort;
 use std::test::Fail;
+use test_kit::{CATALOGUE, open_books, sample_with_rows};
 
 /// A case at new books of the sample with so many rows.
 fn check_case(rt: &(impl Abort + AllocGlobal), rows: u32, text: &'static str) -> Result<(), Fail> {

@@ -3,9 +3,9 @@
 use http_wire::WireFault;
 
 /// How a connection ended.
-#[derive(Clone, Copy, Debug, PartialEq, Eq)]
+#[derive(Clone, Copy, PartialEq, Eq)]
 pub enum ConnEnd {
-    /// The source ended behind the last request, or the last request of the connection is answered.
+    /// The source ended after the last request, or the last request of the connection is answered.
     Done,
     /// The source ended inside a request.
     Cut,

@@ -2,8 +2,11 @@
 //!
 //! `run_session` is told by a `Responder` how a request is answered. It promises that the bytes
 //! written are the answers of the requests that the connection's bytes spell, each request answered
-//! once, in order, and last the answer to a wire fault where one stands behind them. Each end has its
+//! once, in order, and last the answer to a wire fault where one stands after them. Each end has its
 //! cause in the bytes, or in a count of faults that rose. It takes no memory.
+//!
+//! `proofs/Views`: a session seen through a view of its responder; `proofs/Keeping`: what every answer keeps, the
+//! session keeps.
 #![tactic(auto)]
 
 mod end;

@@ -1,4 +1,4 @@
-// Who answers requests.
+// What answers requests.
 ghost use Rattle.std.specs.Prelude.{◌≡◌, ℕ, List, length};
 ghost use Rattle.http_wire.specs.Pieces.{request_text, ArePiecesWithin};
 ghost use Rattle.http_wire.specs.Requests.{RequestText};

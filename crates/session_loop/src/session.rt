@@ -74,7 +74,7 @@ fn step<S: Source, K: Sink, R: Responder>(
     }
 }
 
-/// Reads, answers and writes in turn until an end. The intake is as its start gave it. Bytes behind a
+/// Reads, answers and writes in turn until an end. The intake is as its start gave it. Bytes after a
 /// last request are left unread in the source or unused.
 pub fn run_session<S: Source, K: Sink, R: Responder>(
     intake: &mut Intake,

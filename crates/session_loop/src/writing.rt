@@ -24,7 +24,7 @@ pub fn write_all<K: Sink>(sink: &mut K, piece: &[u8]) -> bool
     true
 }
 
-/// What is left of both pieces behind so many bytes of them.
+/// What is left of both pieces after so many bytes of them.
 fn behind<'a>(first: &'a [u8], second: &'a [u8], count: usize) -> (&'a [u8], &'a [u8])
     requires { count ≤ length (first.now ++ second.now) }
     ensures left { result.0.now ++ result.1.now ≡ drop count (first.now ++ second.now) }
@@ -36,7 +36,7 @@ fn behind<'a>(first: &'a [u8], second: &'a [u8], count: usize) -> (&'a [u8], &'a
     (&first[first.len()..], &second[count - first.len()..])
 }
 
-/// Writes both pieces, one behind the other, without joining them: together where the sink can.
+/// Writes both pieces, one after the other, without joining them: together where the sink can.
 #[inline(never)]
 fn write_two<K: Sink>(sink: &mut K, first: &[u8], second: &[u8]) -> bool
     ensures writes { Writes (K.told sink.old) (K.told sink.new) (first.now ++ second.now) result }

@@ -45,16 +45,6 @@ word_there w row word n settled within some is = word_in_row w.layout (state_on 
 pub some_phase : (w : WallView) (row : ℕ) → IsSettled w → ¬ IsNoRowWord (row_word (state_on w) row 0)
 some_phase w row settled = says_phase w.layout (state_on w) row (well_formed w settled)
 
--- the generation that it says
-pub said_generation : (s : State) (row : ℕ) (phase : Phase) (generation : ℕ) → row_word_of phase generation ≡ row_word s row 0
-    → generation ≡ generation_at s row
-said_generation s row phase generation is = go (present s row) is
-  where
-    go : (o : Option Booking) → row_word_of phase generation ≡ option_map_or (λ (b : Booking). row_word_of b.phase b.generation) o 0
-        → generation ≡ sum (map (λ (b : Booking). b.generation) (option_to_list o))
-    go None e = (row_word_same phase Free generation 0 e).1
-    go (Some b) e = let same = (row_word_same phase b.phase generation b.generation e).1 in omega (arith, same)
-
 -- word w of the row of a booking, for w from 1
 pub word_on : (s : State) (row w : ℕ) (b : Booking) → present s row ≡ Some b → w ≢ 0 → row_word s row w ≡ word_at b w
 word_on s row w b at some = ap (λ (o : Option Booking). option_map_or (λ (b : Booking). cond (eqb w 0) (row_word_of b.phase b.generation) (word_at b w)) o 0) at

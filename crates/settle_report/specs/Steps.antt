@@ -1,4 +1,4 @@
--- What the functions behind a settlement table do.
+-- What the functions that make a settlement table do.
 use Rattle.std.specs.Prelude.{◌≡◌, ℕ, ◌<◌, ◌≤◌, ◌*◌, ◌==◌, if◌then◌else◌, false, List, [], ◌∷◌, ◌++◌, Option, Some, None, option_and_then, flat_map, Vec, ◌≢◌, IsSomeAnd}
 use Rattle.csv.specs.Writing.{default_writer, fields_written, has_written, text_written, writer_setup}
 use Rattle.csv.specs.declared.writer.Writer.{Writer}
@@ -102,7 +102,8 @@ entry_line e = line_of (account_fields e.0 e.1)
 
 -- the table of these accounts
 abbrev pub text_of : Accounts → List ℕ
-text_of a = line_of head_fields ++ (flat_map entry_line a.by_retailer.entries ++ line_of (forgotten_fields a.given_away))
+text_of a =
+    line_of head_fields ++ (flat_map entry_line a.by_retailer.entries ++ line_of (forgotten_fields a.given_away))
 
 -- the writer has written this text, which ends with a record
 pub record HasText (w : Writer (Vec ℕ Global)) (text : List ℕ) : Type 0 where
@@ -111,6 +112,6 @@ pub record HasText (w : Writer (Vec ℕ Global)) (text : List ℕ) : Type 0 wher
   pub fields : fields_written w ≡ 0
   pub between : has_written w ≡ false
 
--- a line was written behind whatever text there was
+-- a line was written after whatever text there was
 abbrev pub AddsLine : List ℕ → Writer (Vec ℕ Global) → Writer (Vec ℕ Global) → Type 0
 AddsLine line old new = (text : List ℕ) → HasText old text → HasText new (text ++ line)

@@ -7,7 +7,7 @@ ghost use Rattle.settle_report.specs.Steps.{AddsSale, HasRoom, IsFair};
 use history_model::phase::{EndKind, Phase};
 
 /// The bookings of a retailer, and the money that it took and paid back, in minor units.
-#[derive(Clone, Copy, Debug, PartialEq, Eq)]
+#[derive(Clone, Copy, PartialEq, Eq)]
 pub struct Account {
     /// How many bookings are kept.
     pub bookings: u64,

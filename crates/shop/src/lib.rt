@@ -1,6 +1,10 @@
 //! What a service works with, and who asks it.
 //!
-//! It is a room of its own so that the services stand beside each other on it, each with no more than it needs.
+//! It is a crate of its own so that the services stand beside each other on it, each with no more than it needs.
+//!
+//! A service answers `Result<Written, Problem>`: a text that was written in time, or the problem that stands in its
+//! place. It names no head, no wire and no session; `rail_service` writes the head after the decision, since that
+//! takes no memory.
 #![tactic(auto)]
 
 use claim_rule::Books;
@@ -18,7 +22,7 @@ pub struct Shop<'s> {
 }
 
 /// A retailer that asks, and the moment of its command.
-#[derive(Clone, Copy, Debug, PartialEq, Eq)]
+#[derive(Clone, Copy, PartialEq, Eq)]
 pub struct Asker {
     pub retailer: RetailerNo,
     pub moment: Moment,

@@ -1,9 +1,9 @@
 //! A counter of steps, for clauses that bound what a call may do. It takes no bytes and nothing happens when it
-//! counts: its number is seen by contracts alone. It is a room of its own since runs, trips, the wire and searches
+//! counts: its number is seen by contracts alone. It is a crate of its own since runs, trips, the wire and searches
 //! all count by it.
 //!
-//! A call that takes `steps: &mut Steps<L>` says what its step is, and by how much the count may rise at most. Who
-//! counts nothing opens a counter of its own and lets it go.
+//! A call that takes `steps: &mut Steps<L>` says what its step is, and by how much the count may rise at most. A
+//! caller that wants no count opens a counter and drops it.
 #![tactic(auto)]
 
 ghost use Rattle.std.specs.Prelude.{◌≡◌, ◌<◌, ◌+◌, ℕ};

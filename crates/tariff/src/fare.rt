@@ -3,7 +3,7 @@ ghost use Rattle.std.specs.Prelude.{◌≡◌, ◌≤◌};
 use std::marker::Model;
 
 /// What an adult pays on a run, in minor units: a base, and an amount for each leg. Each is at most 10,000,000.
-#[derive(Debug, Clone, Copy, PartialEq, Eq)]
+#[derive(Clone, Copy, PartialEq, Eq)]
 pub struct Fare {
     pub base: u32,
     pub per_leg: u32,

@@ -3,6 +3,8 @@
 //! Amounts are whole minor units of the catalogue's one currency. Each function gives exactly its formula, with each
 //! division rounded down. `Terms` holds only terms that a catalogue may have: refund steps that fall to 0, fees of at
 //! most the whole amount. Nothing here takes memory.
+//!
+//! `crosses` is the proof that threads may share it.
 #![tactic(auto)]
 
 mod crossing;

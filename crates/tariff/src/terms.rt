@@ -8,14 +8,14 @@ const WHOLE: u32 = 10_000;
 const LARGEST_AMOUNT: u32 = 10_000_000;
 
 /// Up to this many seconds before the first departure a refund costs this fee, in basis points of the total.
-#[derive(Debug, Clone, Copy, PartialEq, Eq)]
+#[derive(Clone, Copy, PartialEq, Eq)]
 pub struct RefundStep {
     pub before: u32,
     pub fee: u32,
 }
 
 /// The terms of refunds, exchanges and confirmation. Contracts see them as `RefundTerms`.
-#[derive(Debug, Drop)]
+#[derive(Drop)]
 pub struct Terms {
     steps: Vec<RefundStep>,
     ticket_fee: u32,
@@ -39,7 +39,7 @@ impl Model for Terms {
 }
 
 /// Why steps and fees are no terms.
-#[derive(Debug, Clone, Copy, PartialEq, Eq)]
+#[derive(Clone, Copy, PartialEq, Eq)]
 pub enum TermsFault {
     /// There is no step, `before` does not fall from step to step, or the last `before` is not 0.
     StepsNotFalling,

@@ -8,7 +8,7 @@ use Rattle.history_model.specs.declared.phase.Phase.{Phase}
 use Rattle.history_model.specs.declared.phase.Phase.TheVariants.{Free}
 use Rattle.claim_rule.specs.Rule.{BooksView, DeskView}
 use Rattle.claim_rule.specs.Desks.{IsOf}
-use Rattle.claim_rule.specs.Calls.{ShapeBy}
+use Rattle.claim_rule.specs.Calls.{AddsStepsBy}
 use Rattle.claim_rule.specs.Out.{exchanges, IsTidy, KeepsHolds, KeepsEndings, EndsNone}
 use Rattle.booking_rows.specs.Views.{RowSeen}
 use Rattle.booking_rows.specs.Aims.{end_of}
@@ -51,8 +51,8 @@ calm_accepts cat rows retailer code now refunded.QuoteWrong es (fresh, here, (v,
 
 -- the calls
 
-pub quoted_tidy : (cat : CatalogueView) (rows : ℕ) (row : RowNo) (retailer now : ℕ) (a : Quoted) (books : BooksView) (old new : DeskView) → IsOf books new → ShapeBy (QuotesRefund cat rows row retailer now a) old new → KeepsHolds old new → KeepsEndings old new → IsTidy old → IsTidy new
+pub quoted_tidy : (cat : CatalogueView) (rows : ℕ) (row : RowNo) (retailer now : ℕ) (a : Quoted) (books : BooksView) (old new : DeskView) → IsOf books new → AddsStepsBy (QuotesRefund cat rows row retailer now a) old new → KeepsHolds old new → KeepsEndings old new → IsTidy old → IsTidy new
 quoted_tidy cat rows row retailer now a books old new = tidy_by (QuotesRefund cat rows row retailer now a) books old new (calm_quotes cat rows row retailer now a)
 
-pub accepted_tidy : (cat : CatalogueView) (rows retailer : ℕ) (code : RefundCode) (now : ℕ) (a : Refunded) (books : BooksView) (old new : DeskView) → IsOf books new → ShapeBy (AcceptsRefund cat rows retailer code now a) old new → KeepsHolds old new → EndsNone new → IsTidy old → IsTidy new
+pub accepted_tidy : (cat : CatalogueView) (rows retailer : ℕ) (code : RefundCode) (now : ℕ) (a : Refunded) (books : BooksView) (old new : DeskView) → IsOf books new → AddsStepsBy (AcceptsRefund cat rows retailer code now a) old new → KeepsHolds old new → EndsNone new → IsTidy old → IsTidy new
 accepted_tidy cat rows retailer code now a books old new = tidy_after (AcceptsRefund cat rows retailer code now a) books old new (calm_accepts cat rows retailer code now a)

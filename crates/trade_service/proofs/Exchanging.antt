@@ -6,9 +6,9 @@ use Rattle.leg_masks.specs.Interval.{PlacedSpan as Item}
 use Rattle.rail_ids.specs.declared.RowNo.{RowNo}
 use Rattle.history_model.specs.declared.phase.Phase.{Phase}
 use Rattle.claim_rule.specs.Rule.{BooksView, DeskView}
-use Rattle.claim_rule.specs.Desks.{IsOf, Shape}
+use Rattle.claim_rule.specs.Desks.{IsOf, AddsSteps}
 use Rattle.claim_rule.proofs.Out.{makes_empty}
-use Rattle.claim_rule.specs.Calls.{ShapeBy}
+use Rattle.claim_rule.specs.Calls.{AddsStepsBy}
 use Rattle.claim_rule.specs.Holds.{HoldView}
 use Rattle.claim_rule.specs.Out.{SealsItems, MakesEmpty, IsIdle, IsTidy}
 use Rattle.booking_rows.specs.declared.notes.Detail.{Detail}
@@ -39,30 +39,30 @@ use Rattle.reservation_service.specs.Reserving.{detail_of, HasAllOrNone}
 use Rattle.reservation_service.proofs.Calm.{held_calmly}
 use Rattle.reservation_service.proofs.Placed.{both}
 use Rattle.reservation_service.proofs.Replying.{whole_of, seals_since, has_places, fails_with_memory}
-use Rattle.trade_service.specs.Exchanges.{QuotesExchangeOfIt, DecidesOrNot, CarriesOut, IsUnready, lost_problem, ready_of, AnswersReady, AnswersExchange}
+use Rattle.trade_service.specs.Exchanges.{AnswersExchangeQuote, DecidesOrNot, CarriesOut, IsUnready, lost_problem, ready_of, AnswersReady, AnswersExchange}
 use Rattle.booking_service.specs.Deciding.{Answered}
 use Rattle.trade_service.proofs.Settling.{Settles}
 
 -- the replies to a quote
 
 pub offers_exchange : (cat : CatalogueView) (rows : ℕ) (row : RowNo) (retailer : ℕ) (offer : OfferView) (now : ℕ) (code : ExchangeCode) (old new : DeskView) (said : Told)
-    → ShapeBy (QuotesExchange cat rows row retailer offer now (quoted.Done code)) old new → said ≡ reply_told cat (exchange_offer code)
-    → Answered cat (QuotesExchangeOfIt cat rows row retailer offer now) old new said
+    → AddsStepsBy (QuotesExchange cat rows row retailer offer now (quoted.Done code)) old new → said ≡ reply_told cat (exchange_offer code)
+    → Answered cat (AnswersExchangeQuote cat rows row retailer offer now) old new said
 offers_exchange cat rows row retailer offer now code old new said did is = (exchange_offer code, (quoted.Done code, did, inl refl), is)
 
 pub offers_none : (cat : CatalogueView) (rows : ℕ) (row : RowNo) (retailer : ℕ) (offer : OfferView) (now : ℕ) (code : ExchangeCode) (old new : DeskView)
-    → ShapeBy (QuotesExchange cat rows row retailer offer now (quoted.Done code)) old new
-    → Answered cat (QuotesExchangeOfIt cat rows row retailer offer now) old new (refused_told NoMemory)
+    → AddsStepsBy (QuotesExchange cat rows row retailer offer now (quoted.Done code)) old new
+    → Answered cat (AnswersExchangeQuote cat rows row retailer offer now) old new (refused_told NoMemory)
 offers_none cat rows row retailer offer now code old new did = (problem NoMemory, (quoted.Done code, did, inr refl), of_problem cat NoMemory)
 
 pub offers_unknown : (cat : CatalogueView) (rows : ℕ) (row : RowNo) (retailer : ℕ) (offer : OfferView) (now : ℕ) (old new : DeskView)
-    → ShapeBy (QuotesExchange cat rows row retailer offer now quoted.Unknown) old new
-    → Answered cat (QuotesExchangeOfIt cat rows row retailer offer now) old new (refused_told UnknownBooking)
+    → AddsStepsBy (QuotesExchange cat rows row retailer offer now quoted.Unknown) old new
+    → Answered cat (AnswersExchangeQuote cat rows row retailer offer now) old new (refused_told UnknownBooking)
 offers_unknown cat rows row retailer offer now old new did = (problem UnknownBooking, (quoted.Unknown, did, refl), of_problem cat UnknownBooking)
 
 pub offers_wrong : (cat : CatalogueView) (rows : ℕ) (row : RowNo) (retailer : ℕ) (offer : OfferView) (now : ℕ) (shown : Phase) (old new : DeskView)
-    → ShapeBy (QuotesExchange cat rows row retailer offer now (quoted.WrongState shown)) old new
-    → Answered cat (QuotesExchangeOfIt cat rows row retailer offer now) old new (refused_told (WrongState shown))
+    → AddsStepsBy (QuotesExchange cat rows row retailer offer now (quoted.WrongState shown)) old new
+    → Answered cat (AnswersExchangeQuote cat rows row retailer offer now) old new (refused_told (WrongState shown))
 offers_wrong cat rows row retailer offer now shown old new did = (problem (WrongState shown), (quoted.WrongState shown, did, refl), of_problem cat (WrongState shown))
 
 -- an offer of a spelling has passengers and segments
@@ -84,7 +84,7 @@ ready_held cat o row p items ready old mid placed is =
 
 -- the exchange is made, or its turn is lost
 
-pub made : (ready : ReadyView) (hold then : HoldView) (d : Detail) (m : RowNo) (x : ℤ) (old noted new : DeskView) → then ≡ hold → Shape old noted (detail_notes hold.row.row d (length hold.items)) → ShapeBy (AcceptsExchange ready then.row (accepted.Done m x)) noted new
+pub made : (ready : ReadyView) (hold then : HoldView) (d : Detail) (m : RowNo) (x : ℤ) (old noted new : DeskView) → then ≡ hold → AddsSteps old noted (detail_notes hold.row.row d (length hold.items)) → AddsStepsBy (AcceptsExchange ready then.row (accepted.Done m x)) noted new
     → SealsItems noted new then.row phase.Confirmed then.items → DecidesOrNot ready hold.row hold.items d old new (exchanged hold.row (made_view phase.Confirmed d hold.items) ready.code.difference ready.code.row)
 made ready hold then d m x old noted new same notes did seals = inl (
   noted,
@@ -92,13 +92,13 @@ made ready hold then d m x old noted new same notes did seals = inl (
   inl (
     m,
     x,
-    subst (λ (h : HoldView). ShapeBy (AcceptsExchange ready h.row (accepted.Done m x)) noted new) same did,
+    subst (λ (h : HoldView). AddsStepsBy (AcceptsExchange ready h.row (accepted.Done m x)) noted new) same did,
     seals_since old noted new hold.row phase.Confirmed hold.items (detail_notes hold.row.row d (length hold.items)) notes (subst (λ (h : HoldView). SealsItems noted new h.row phase.Confirmed h.items) same seals),
     refl,
   ),
 )
 
-pub lost : (ready : ReadyView) (hold then back : HoldView) (d : Detail) (shown : Phase) (old noted last new : DeskView) → then ≡ hold → back ≡ then → Shape old noted (detail_notes hold.row.row d (length hold.items)) → ShapeBy (AcceptsExchange ready then.row (accepted.WrongState shown back)) noted last
+pub lost : (ready : ReadyView) (hold then back : HoldView) (d : Detail) (shown : Phase) (old noted last new : DeskView) → then ≡ hold → back ≡ then → AddsSteps old noted (detail_notes hold.row.row d (length hold.items)) → AddsStepsBy (AcceptsExchange ready then.row (accepted.WrongState shown back)) noted last
     → GivesUp back.row back.items last new → DecidesOrNot ready hold.row hold.items d old new (problem (lost_problem shown))
 lost ready hold then back d shown old noted last new same kept notes did gave = inl (
   noted,
@@ -107,7 +107,7 @@ lost ready hold then back d shown old noted last new same kept notes did gave = 
     shown,
     back,
     last,
-    subst (λ (h : HoldView). ShapeBy (AcceptsExchange ready h.row (accepted.WrongState shown back)) noted last) same did,
+    subst (λ (h : HoldView). AddsStepsBy (AcceptsExchange ready h.row (accepted.WrongState shown back)) noted last) same did,
     subst (λ (h : HoldView). GivesUp h.row h.items last new) (kept ∙ same) gave,
     refl,
   ),
@@ -146,7 +146,7 @@ decided cat ready was row p items d old mid new reply written placed whole_is sa
 -- the whole command
 
 -- the booking of a seal is so of what went before
-has_all_since : (cat : CatalogueView) (o : OfferView) (old mid new : DeskView) (es : _) (reply : Reply) → Shape old mid es → HasAllOrNone cat o mid new reply → HasAllOrNone cat o old new reply
+has_all_since : (cat : CatalogueView) (o : OfferView) (old mid new : DeskView) (es : _) (reply : Reply) → AddsSteps old mid es → HasAllOrNone cat o mid new reply → HasAllOrNone cat o old new reply
 has_all_since cat o old mid new es (created row v) did (seals, places) = (seals_since old mid new row phase.Prebooked v.items es did seals, places)
 has_all_since cat o old mid new es (exchanged row v x q) did (seals, places) = (seals_since old mid new row phase.Confirmed v.items es did seals, places)
 has_all_since cat o old mid new es (offer_list offers) did is = is
@@ -157,20 +157,20 @@ has_all_since cat o old mid new es (place_list run free) did is = is
 has_all_since cat o old mid new es (swept n) did is = is
 has_all_since cat o old mid new es (problem p) did is = is
 
-pub is_ready_of : (cat : CatalogueView) (rows retailer : ℕ) (code : ExchangeView) (now : ℕ) (ready : ReadyView) (old mid : DeskView) → ShapeBy (Readies cat rows retailer code now (readied.Fine ready)) old mid → ready ≡ ready_of retailer code now
+pub is_ready_of : (cat : CatalogueView) (rows retailer : ℕ) (code : ExchangeView) (now : ℕ) (ready : ReadyView) (old mid : DeskView) → AddsStepsBy (Readies cat rows retailer code now (readied.Fine ready)) old mid → ready ≡ ready_of retailer code now
 is_ready_of cat rows retailer code now ready old mid did = did.1.0
 
-pub carried : (cat : CatalogueView) (rows retailer : ℕ) (code : ExchangeView) (now : ℕ) (ready : ReadyView) (old mid new : DeskView) (written : Told) → ShapeBy (Readies cat rows retailer code now (readied.Fine ready)) old mid
+pub carried : (cat : CatalogueView) (rows retailer : ℕ) (code : ExchangeView) (now : ℕ) (ready : ReadyView) (old mid new : DeskView) (written : Told) → AddsStepsBy (Readies cat rows retailer code now (readied.Fine ready)) old mid
     → AnswersReady cat (ready_of retailer code now) mid new written → AnswersExchange cat rows retailer code now old new written
 carried cat rows retailer code now ready old mid new written did (reply, go, all, bytes) = (
   reply,
-  inr (mid, subst (λ (r : ReadyView). ShapeBy (Readies cat rows retailer code now (readied.Fine r)) old mid) did.1.0 did, go),
+  inr (mid, subst (λ (r : ReadyView). AddsStepsBy (Readies cat rows retailer code now (readied.Fine r)) old mid) did.1.0 did, go),
   has_all_since cat code.offer old mid new did.0 reply did.2 all,
   bytes,
 )
 
 pub refused : (cat : CatalogueView) (rows retailer : ℕ) (code : ExchangeView) (now : ℕ) (p : Problem) (old new : DeskView)
-    → ((a : Readied) × ShapeBy (Readies cat rows retailer code now a) old new × IsUnready a p) → MakesEmpty new
+    → ((a : Readied) × AddsStepsBy (Readies cat rows retailer code now a) old new × IsUnready a p) → MakesEmpty new
     → AnswersExchange cat rows retailer code now old new (refused_told p)
 refused cat rows retailer code now p old new (a, did, un) none = (problem p, inl (a, p, did, un, refl), none, of_problem cat p)
 

@@ -2,7 +2,7 @@
 use Rattle.std.proofs.Common.{◌≡◌, ◌∙◌, inl, inr, ℕ, Option, Some, None, refl, ap}
 use Rattle.rail_ids.specs.declared.RowNo.{RowNo}
 use Rattle.claim_rule.specs.Rule.{DeskView}
-use Rattle.claim_rule.specs.Calls.{ShapeBy}
+use Rattle.claim_rule.specs.Calls.{AddsStepsBy}
 use Rattle.history_model.specs.declared.phase.Phase.{Phase}
 use Rattle.booking_rows.specs.Views.{RowSeen}
 use Rattle.rail_catalogue.specs.Contents.{CatalogueView}
@@ -17,36 +17,36 @@ use Rattle.osdm_texts.specs.Answers.{refund_offer, problem, Told, refused as ref
 use Rattle.osdm_texts.proofs.Telling.{of_problem}
 use Rattle.refund_core.specs.Quotes.{FindsBooking}
 use Rattle.booking_service.specs.Deciding.{OnBooking, Answered}
-use Rattle.trade_service.specs.Refunds.{QuotesIt, RefundsIt, refusal_of, unless, refund_reply}
+use Rattle.trade_service.specs.Refunds.{AnswersRefundQuote, RefundsFound, refusal_of, unless, refund_reply}
 
 -- the replies to a quote
 
 pub offers_refund : (cat : CatalogueView) (rows : ℕ) (row : RowNo) (retailer now : ℕ) (code : RefundCode) (old new : DeskView) (said : Told)
-    → ShapeBy (QuotesRefund cat rows row retailer now (quoted.Done code)) old new → said ≡ reply_told cat (refund_offer code)
-    → Answered cat (QuotesIt cat rows row retailer now) old new said
+    → AddsStepsBy (QuotesRefund cat rows row retailer now (quoted.Done code)) old new → said ≡ reply_told cat (refund_offer code)
+    → Answered cat (AnswersRefundQuote cat rows row retailer now) old new said
 offers_refund cat rows row retailer now code old new said did is = (refund_offer code, (quoted.Done code, did, inl refl), is)
 
 pub offers_none : (cat : CatalogueView) (rows : ℕ) (row : RowNo) (retailer now : ℕ) (code : RefundCode) (old new : DeskView)
-    → ShapeBy (QuotesRefund cat rows row retailer now (quoted.Done code)) old new
-    → Answered cat (QuotesIt cat rows row retailer now) old new (refused_told NoMemory)
+    → AddsStepsBy (QuotesRefund cat rows row retailer now (quoted.Done code)) old new
+    → Answered cat (AnswersRefundQuote cat rows row retailer now) old new (refused_told NoMemory)
 offers_none cat rows row retailer now code old new did = (problem NoMemory, (quoted.Done code, did, inr refl), of_problem cat NoMemory)
 
 pub offers_unknown : (cat : CatalogueView) (rows : ℕ) (row : RowNo) (retailer now : ℕ) (old new : DeskView)
-    → ShapeBy (QuotesRefund cat rows row retailer now quoted.Unknown) old new
-    → Answered cat (QuotesIt cat rows row retailer now) old new (refused_told UnknownBooking)
+    → AddsStepsBy (QuotesRefund cat rows row retailer now quoted.Unknown) old new
+    → Answered cat (AnswersRefundQuote cat rows row retailer now) old new (refused_told UnknownBooking)
 offers_unknown cat rows row retailer now old new did = (problem UnknownBooking, (quoted.Unknown, did, refl), of_problem cat UnknownBooking)
 
 pub offers_wrong : (cat : CatalogueView) (rows : ℕ) (row : RowNo) (retailer now : ℕ) (shown : Phase) (old new : DeskView)
-    → ShapeBy (QuotesRefund cat rows row retailer now (quoted.WrongState shown)) old new
-    → Answered cat (QuotesIt cat rows row retailer now) old new (refused_told (WrongState shown))
+    → AddsStepsBy (QuotesRefund cat rows row retailer now (quoted.WrongState shown)) old new
+    → Answered cat (AnswersRefundQuote cat rows row retailer now) old new (refused_told (WrongState shown))
 offers_wrong cat rows row retailer now shown old new did = (problem (WrongState shown), (quoted.WrongState shown, did, refl), of_problem cat (WrongState shown))
 
 -- the replies to an acceptance
 
 pub decided : (cat : CatalogueView) (rows retailer : ℕ) (code : RefundCode) (now : ℕ) (v : RowSeen) (a : Refunded) (old mid new : DeskView) (said : Told)
-    → ShapeBy (FindsBooking rows code.row retailer (Some v)) old mid → ShapeBy (AcceptsRefund cat rows retailer code now a) mid new
+    → AddsStepsBy (FindsBooking rows code.row retailer (Some v)) old mid → AddsStepsBy (AcceptsRefund cat rows retailer code now a) mid new
     → said ≡ reply_told cat (refund_reply code now v a)
-    → Answered cat (OnBooking rows code.row retailer (RefundsIt cat rows retailer code now)) old new said
+    → Answered cat (OnBooking rows code.row retailer (RefundsFound cat rows retailer code now)) old new said
 decided cat rows retailer code now v a old mid new said found did is = (refund_reply code now v a, inr (v, mid, found, inl (a, did, refl)), is)
 
 -- an acceptance that was refused, and one that was not

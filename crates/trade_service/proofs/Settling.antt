@@ -6,8 +6,8 @@ use Rattle.history_model.specs.History.{entry, own}
 use Rattle.history_model.specs.Work.{NoStep}
 use Rattle.rail_ids.specs.declared.RowNo.{RowNo}
 use Rattle.claim_rule.specs.Rule.{BooksView, DeskView}
-use Rattle.claim_rule.specs.Desks.{IsOf, Shape}
-use Rattle.claim_rule.specs.Calls.{ShapeBy}
+use Rattle.claim_rule.specs.Desks.{IsOf, AddsSteps}
+use Rattle.claim_rule.specs.Calls.{AddsStepsBy}
 use Rattle.claim_rule.specs.Out.{exchanges, IsTidy, AreSettled, KeepsHolds, KeepsEndings}
 use Rattle.claim_rule.proofs.Out.{settled_append, settled_calm}
 use Rattle.booking_rows.specs.declared.notes.Detail.{Detail}
@@ -40,7 +40,7 @@ calm_quotes cat rows row retailer offer now (quoted.Done code) es (here, (v, saw
 calm_quotes cat rows row retailer offer now quoted.Unknown es none = calm_none rows row retailer es none
 calm_quotes cat rows row retailer offer now (quoted.WrongState shown) es (here, one, two, (v, saw, is)) = calm_own row retailer v es saw
 
-pub quoted_tidy : (cat : CatalogueView) (rows : ℕ) (row : RowNo) (retailer : ℕ) (offer : OfferView) (now : ℕ) (a : QuotedExchange) (books : BooksView) (old new : DeskView) → IsOf books new → ShapeBy (QuotesExchange cat rows row retailer offer now a) old new → KeepsHolds old new → KeepsEndings old new → IsTidy old → IsTidy new
+pub quoted_tidy : (cat : CatalogueView) (rows : ℕ) (row : RowNo) (retailer : ℕ) (offer : OfferView) (now : ℕ) (a : QuotedExchange) (books : BooksView) (old new : DeskView) → IsOf books new → AddsStepsBy (QuotesExchange cat rows row retailer offer now a) old new → KeepsHolds old new → KeepsEndings old new → IsTidy old → IsTidy new
 quoted_tidy cat rows row retailer offer now a books old new = tidy_by (QuotesExchange cat rows row retailer offer now a) books old new (calm_quotes cat rows row retailer offer now a)
 
 -- what was settled stays settled
@@ -48,14 +48,14 @@ quoted_tidy cat rows row retailer offer now a books old new = tidy_by (QuotesExc
 abbrev pub Settles : DeskView → DeskView → Type 0
 Settles a b = AreSettled (own a.seen a.number) → AreSettled (own b.seen b.number)
 
-settles_by : (a b : DeskView) (es : List Step) → Shape a b es → NoStep exchanges es → Settles a b
+settles_by : (a b : DeskView) (es : List Step) → AddsSteps a b es → NoStep exchanges es → Settles a b
 settles_by a b es did calm was =
     subst (λ (n : ℕ). AreSettled (own b.seen n)) (sym did.same.2) (subst AreSettled (sym did.mine) (settled_append (own a.seen a.number) (map (entry a.number) es) was (settled_calm a.number es calm)))
 
 settles_calmly : (a b : DeskView) → WentCalmly a b → Settles a b
 settles_calmly a b did = settles_by a b did.0 did.2 did.1
 
-pub readies_settles : (cat : CatalogueView) (rows retailer : ℕ) (code : ExchangeView) (now : ℕ) (a : Readied) (old new : DeskView) → ShapeBy (Readies cat rows retailer code now a) old new → Settles old new
+pub readies_settles : (cat : CatalogueView) (rows retailer : ℕ) (code : ExchangeView) (now : ℕ) (a : Readied) (old new : DeskView) → AddsStepsBy (Readies cat rows retailer code now a) old new → Settles old new
 readies_settles cat rows retailer code now a old new did = settles_by old new did.0 did.2 (calm_readies cat rows retailer code now a did.0 did.1)
 
 pub no_row_settles : (old new : DeskView) → FindsNoRow old new → Settles old new
@@ -67,5 +67,5 @@ held_settles cat o row p items old mid held = settles_calmly old mid (held_calml
 pub gave_settles : (row : RowNo) (items : List Item) (old new : DeskView) → GivesUp row items old new → Settles old new
 gave_settles row items old new gave = settles_calmly old new (gave_calmly row items old new gave)
 
-pub notes_settles : (row count : ℕ) (d : Detail) (old new : DeskView) → Shape old new (detail_notes row d count) → Settles old new
+pub notes_settles : (row count : ℕ) (d : Detail) (old new : DeskView) → AddsSteps old new (detail_notes row d count) → Settles old new
 notes_settles row count d old new did = settles_by old new (detail_notes row d count) did (refl, (refl, (refl, (refl, tt))))

@@ -5,8 +5,8 @@ use Rattle.rail_ids.specs.declared.RowNo.{RowNo}
 use Rattle.history_model.specs.declared.phase.Phase.{Phase}
 use Rattle.history_model.specs.declared.phase.Phase.TheVariants as phase
 use Rattle.claim_rule.specs.Rule.{DeskView}
-use Rattle.claim_rule.specs.Desks.{Shape}
-use Rattle.claim_rule.specs.Calls.{ShapeBy}
+use Rattle.claim_rule.specs.Desks.{AddsSteps}
+use Rattle.claim_rule.specs.Calls.{AddsStepsBy}
 use Rattle.claim_rule.specs.Holds.{HoldView}
 use Rattle.claim_rule.specs.Out.{SealsItems}
 use Rattle.booking_rows.specs.declared.notes.Detail.{Detail}
@@ -37,9 +37,9 @@ IsExchangeQuote (quoted.Done code) reply = (reply ≡ exchange_offer code) ⊎ (
 IsExchangeQuote quoted.Unknown reply = reply ≡ problem UnknownBooking
 IsExchangeQuote (quoted.WrongState shown) reply = reply ≡ problem (WrongState shown)
 
-abbrev pub QuotesExchangeOfIt : CatalogueView → ℕ → RowNo → ℕ → OfferView → ℕ → Replying
-QuotesExchangeOfIt cat rows row retailer offer now old new reply =
-    (a : QuotedExchange) × ShapeBy (QuotesExchange cat rows row retailer offer now a) old new × IsExchangeQuote a reply
+abbrev pub AnswersExchangeQuote : CatalogueView → ℕ → RowNo → ℕ → OfferView → ℕ → Replying
+AnswersExchangeQuote cat rows row retailer offer now old new reply =
+    (a : QuotedExchange) × AddsStepsBy (QuotesExchange cat rows row retailer offer now a) old new × IsExchangeQuote a reply
 
 -- why a quote isn't carried out
 abbrev pub IsUnready : Readied → Problem → Type 0
@@ -62,36 +62,45 @@ lost_problem shown = WrongState shown
 -- was held is given back.
 abbrev pub Decides : ReadyView → RowNo → List Item → Detail → Replying
 Decides ready row items d old new reply =
-    (noted : DeskView) × Shape old noted (detail_notes row.row d (length items))
-    × (((made : RowNo) × (difference : ℤ) × ShapeBy (AcceptsExchange ready row (accepted.Done made difference)) noted new × SealsItems old new row phase.Confirmed items
+    (noted : DeskView) × AddsSteps old noted (detail_notes row.row d (length items))
+    × (((made : RowNo) × (difference : ℤ)
+    × AddsStepsBy (AcceptsExchange ready row (accepted.Done made difference)) noted new
+    × SealsItems old new row phase.Confirmed items
     × (reply ≡ exchanged row (made_view phase.Confirmed d items) ready.code.difference ready.code.row))
-    ⊎ ((shown : Phase) × (hold : HoldView) × (lost : DeskView) × ShapeBy (AcceptsExchange ready row (accepted.WrongState shown hold)) noted lost × GivesUp row items lost new
+    ⊎ ((shown : Phase) × (hold : HoldView) × (lost : DeskView)
+    × AddsStepsBy (AcceptsExchange ready row (accepted.WrongState shown hold)) noted lost × GivesUp row items lost new
     × (reply ≡ problem (lost_problem shown))))
 
 -- with all places held: the exchange is decided; or there is no memory for the answer, and what was held is given back
 abbrev pub DecidesOrNot : ReadyView → RowNo → List Item → Detail → Replying
-DecidesOrNot ready row items d old new reply = Decides ready row items d old new reply ⊎ (GivesUp row items old new × (reply ≡ problem NoMemory))
+DecidesOrNot ready row items d old new reply =
+    Decides ready row items d old new reply ⊎ (GivesUp row items old new × (reply ≡ problem NoMemory))
 
 -- by a quote that was checked: the places of the new booking are held, and the exchange is decided
 abbrev pub CarriesOut : CatalogueView → ReadyView → Replying
 CarriesOut cat ready old new reply =
     FailsToHold cat ready.code.offer false old new reply
-    ⊎ ((row : RowNo) × (items : List Item) × (held : DeskView) × HoldsPlaces cat ready.code.offer false ready.code.offer.segments row Whole items old held
+    ⊎ ((row : RowNo) × (items : List Item) × (held : DeskView)
+    × HoldsPlaces cat ready.code.offer false ready.code.offer.segments row Whole items old held
     × DecidesOrNot ready row items (detail_of cat ready.code.offer ready.retailer ready.moment) held new reply)
 
 -- the quote is checked, and refused or carried out
-abbrev pub ExchangesIt : CatalogueView → ℕ → ℕ → ExchangeView → ℕ → Replying
-ExchangesIt cat rows retailer code now old new reply =
-    ((a : Readied) × (p : Problem) × ShapeBy (Readies cat rows retailer code now a) old new × IsUnready a p × (reply ≡ problem p))
-    ⊎ ((mid : DeskView) × ShapeBy (Readies cat rows retailer code now (readied.Fine (ready_of retailer code now))) old mid
+abbrev pub AnswersAcceptedExchange : CatalogueView → ℕ → ℕ → ExchangeView → ℕ → Replying
+AnswersAcceptedExchange cat rows retailer code now old new reply =
+    ((a : Readied) × (p : Problem) × AddsStepsBy (Readies cat rows retailer code now a) old new × IsUnready a p
+    × (reply ≡ problem p))
+    ⊎ ((mid : DeskView) × AddsStepsBy
+    (Readies cat rows retailer code now (readied.Fine (ready_of retailer code now))) old mid
     × CarriesOut cat (ready_of retailer code now) mid new reply)
 
 -- such a reply to a quote that was checked, which has all places or none, and what is told of it
 abbrev pub AnswersReady : CatalogueView → ReadyView → DeskView → DeskView → Told → Type 0
 AnswersReady cat ready old new said =
-    (reply : Reply) × CarriesOut cat ready old new reply × HasAllOrNone cat ready.code.offer old new reply × (said ≡ reply_told cat reply)
+    (reply : Reply) × CarriesOut cat ready old new reply × HasAllOrNone cat ready.code.offer old new reply
+    × (said ≡ reply_told cat reply)
 
 -- the same of the whole command
 abbrev pub AnswersExchange : CatalogueView → ℕ → ℕ → ExchangeView → ℕ → DeskView → DeskView → Told → Type 0
 AnswersExchange cat rows retailer code now old new said =
-    (reply : Reply) × ExchangesIt cat rows retailer code now old new reply × HasAllOrNone cat code.offer old new reply × (said ≡ reply_told cat reply)
+    (reply : Reply) × AnswersAcceptedExchange cat rows retailer code now old new reply × HasAllOrNone cat code.offer old new reply
+    × (said ≡ reply_told cat reply)

@@ -2,7 +2,7 @@
 use Rattle.std.specs.Prelude.{◌≡◌, ◌⊎◌, ℕ, Option, Some, None}
 use Rattle.rail_ids.specs.declared.RowNo.{RowNo}
 use Rattle.history_model.specs.declared.phase.EndKind.TheVariants as kind
-use Rattle.claim_rule.specs.Calls.{ShapeBy}
+use Rattle.claim_rule.specs.Calls.{AddsStepsBy}
 use Rattle.booking_rows.specs.Views.{RowSeen}
 use Rattle.booking_rows.specs.Aims.{end_of}
 use Rattle.booking_rows.specs.declared.turns.Aim.TheVariants as aim
@@ -24,9 +24,9 @@ IsQuoteReply (quoted.Done code) reply = (reply ≡ refund_offer code) ⊎ (reply
 IsQuoteReply quoted.Unknown reply = reply ≡ problem UnknownBooking
 IsQuoteReply (quoted.WrongState shown) reply = reply ≡ problem (WrongState shown)
 
-abbrev pub QuotesIt : CatalogueView → ℕ → RowNo → ℕ → ℕ → Replying
-QuotesIt cat rows row retailer now old new reply =
-    (a : Quoted) × ShapeBy (QuotesRefund cat rows row retailer now a) old new × IsQuoteReply a reply
+abbrev pub AnswersRefundQuote : CatalogueView → ℕ → RowNo → ℕ → ℕ → Replying
+AnswersRefundQuote cat rows row retailer now old new reply =
+    (a : Quoted) × AddsStepsBy (QuotesRefund cat rows row retailer now a) old new × IsQuoteReply a reply
 
 -- the problem of a refusal, if it is one
 abbrev pub refusal_of : Refunded → Option Problem
@@ -42,8 +42,9 @@ unless (Some p) reply = problem p
 
 -- the booking at its end, unless it was refused
 abbrev pub refund_reply : RefundCode → ℕ → RowSeen → Refunded → Reply
-refund_reply code now v a = unless (refusal_of a) (booking code.row (at_end kind.Refund (end_of (aim.Refund now code.amount)) v))
+refund_reply code now v a =
+    unless (refusal_of a) (booking code.row (at_end kind.Refund (end_of (aim.Refund now code.amount)) v))
 
-abbrev pub RefundsIt : CatalogueView → ℕ → ℕ → RefundCode → ℕ → RowSeen → Replying
-RefundsIt cat rows retailer code now v old new reply =
-    (a : Refunded) × ShapeBy (AcceptsRefund cat rows retailer code now a) old new × (reply ≡ refund_reply code now v a)
+abbrev pub RefundsFound : CatalogueView → ℕ → ℕ → RefundCode → ℕ → RowSeen → Replying
+RefundsFound cat rows retailer code now v old new reply =
+    (a : Refunded) × AddsStepsBy (AcceptsRefund cat rows retailer code now a) old new × (reply ≡ refund_reply code now v a)

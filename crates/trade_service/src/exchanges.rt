@@ -2,7 +2,7 @@
 ghost use Rattle.std.specs.Prelude.{◌≡◌, ◌≤◌, true, length, Ok, IfSome, IfOk, IfErr};
 ghost use Rattle.std.specs.List.{list_all};
 ghost use Rattle.claim_rule.specs.Desks.{IsOf};
-ghost use Rattle.claim_rule.specs.Calls.{ShapeBy};
+ghost use Rattle.claim_rule.specs.Calls.{AddsStepsBy};
 ghost use Rattle.claim_rule.specs.Out.{IsTidy, IsIdle, IsHolding, HasNotedItems, HoldsNone, EndsNone, AreSettled, KeepsHolds, KeepsEndings};
 ghost use Rattle.history_model.specs.Booking.{greatest_amount};
 ghost use Rattle.history_model.specs.History.{own};
@@ -18,7 +18,7 @@ ghost use Rattle.osdm_texts.specs.Answers.{Reply as Replied, exchange_offer, exc
 ghost use Rattle.osdm_texts.specs.Ids.{HasId};
 ghost use Rattle.osdm_texts.specs.Bookings.{HasIds};
 ghost use Rattle.booking_service.specs.Deciding.{Answered};
-ghost use Rattle.trade_service.specs.Exchanges.{QuotesExchangeOfIt, AnswersExchange, AnswersReady, DecidesOrNot, IsUnready, lost_problem as lost_problem_of, ready_of};
+ghost use Rattle.trade_service.specs.Exchanges.{AnswersExchangeQuote, AnswersExchange, AnswersReady, DecidesOrNot, IsUnready, lost_problem as lost_problem_of, ready_of};
 
 use booking_rows::{Detail, RowView, note_detail};
 use claim_rule::{Desk, Hold};
@@ -62,7 +62,7 @@ pub fn quote_exchange_booking(
     ensures own { IsOf shop.now.books.now desk.new }
     ensures idle { IsIdle desk.new }
     ensures tidy { IsTidy desk.old → IsTidy desk.new }
-    ensures answer { Answered shop.now.cat.now (QuotesExchangeOfIt shop.now.cat.now shop.now.books.now.layout.rows
+    ensures answer { Answered shop.now.cat.now (AnswersExchangeQuote shop.now.cat.now shop.now.books.now.layout.rows
         row asker.retailer.0 (offer_view offer.now) asker.moment) desk.old desk.new (told_of result) }
 {
     let quoted = quote_exchange(
@@ -124,10 +124,10 @@ fn check(
     requires own { IsOf shop.now.books.now desk.old }
     requires offer { is_offer (offer_view code.now.offer) ≡ true }
     ensures own { IsOf shop.now.books.now desk.new }
-    ensures fine { IfOk result (λ ready. ShapeBy (Readies shop.now.cat.now shop.now.books.now.layout.rows retailer.0
+    ensures fine { IfOk result (λ ready. AddsStepsBy (Readies shop.now.cat.now shop.now.books.now.layout.rows retailer.0
         (exchange_view code.now) now (readied.Fine ready)) desk.old desk.new) }
     ensures ready { IfOk result (IsReadyFor desk.new) }
-    ensures unready { IfErr result (λ p. (a : ReadiedBy) × ShapeBy (Readies shop.now.cat.now
+    ensures unready { IfErr result (λ p. (a : ReadiedBy) × AddsStepsBy (Readies shop.now.cat.now
         shop.now.books.now.layout.rows retailer.0 (exchange_view code.now) now a) desk.old desk.new × IsUnready a p) }
     ensures holds { KeepsHolds desk.old desk.new }
     ensures endings { KeepsEndings desk.old desk.new }

@@ -9,7 +9,7 @@ ghost use Rattle.booking_rows.specs.Aims.{end_of};
 ghost use Rattle.offer_codes.specs.Refunds.{is_refund};
 ghost use Rattle.osdm_texts.specs.Answers.{refund_offer, told_of, Tells};
 ghost use Rattle.booking_service.specs.Deciding.{Answered, OnBooking, at_end};
-ghost use Rattle.trade_service.specs.Refunds.{QuotesIt, RefundsIt, refusal_of};
+ghost use Rattle.trade_service.specs.Refunds.{AnswersRefundQuote, RefundsFound, refusal_of};
 
 use booking_rows::{EndView, RowView};
 use booking_service::booking_answer;
@@ -48,7 +48,7 @@ pub fn quote_refund_booking(
     ensures idle { IsIdle desk.new }
     ensures tidy { IsTidy desk.old → IsTidy desk.new }
     ensures answer { Answered shop.now.cat.now
-        (QuotesIt shop.now.cat.now shop.now.books.now.layout.rows row asker.retailer.0 asker.moment)
+        (AnswersRefundQuote shop.now.cat.now shop.now.books.now.layout.rows row asker.retailer.0 asker.moment)
         desk.old desk.new (told_of result) }
 {
     match quote_refund(
@@ -112,7 +112,7 @@ pub fn accept_refund_booking(
     ensures idle { IsIdle desk.new }
     ensures tidy { IsTidy desk.old → IsTidy desk.new }
     ensures answer { Answered shop.now.cat.now (OnBooking shop.now.books.now.layout.rows code.now.row asker.retailer.0
-        (RefundsIt shop.now.cat.now shop.now.books.now.layout.rows asker.retailer.0 code.now asker.moment))
+        (RefundsFound shop.now.cat.now shop.now.books.now.layout.rows asker.retailer.0 code.now asker.moment))
         desk.old desk.new (told_of result) }
 {
     let Some(view) = find_booking(shop.books, desk, code.row, asker.retailer) else {

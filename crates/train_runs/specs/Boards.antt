@@ -15,20 +15,24 @@ pub record IsBoard (runs : List RunView) (station : StationNo) (ds : List Depart
 -- a board for each station, in the order of their numbers
 pub record HasBoards (r : RunsView) (boards : List (List Departure)) : Type 0 where
   pub count : length boards ≡ length r.stations
-  pub each : (n : ℕ) (none : List Departure) → n < length boards → IsBoard r.runs (record { 0 = n }) (slice_index_or boards n none)
+  pub each : (n : ℕ) (none : List Departure) → n < length boards
+      → IsBoard r.runs (record { 0 = n }) (slice_index_or boards n none)
 
 -- the departure is of an earlier run, or of this run at a stop before the n-th
 abbrev pub IsPosted : ℕ → ℕ → Departure → Type 0
 IsPosted run n d = (d.run.0 < run) ⊎ ((d.run.0 ≡ run) × (d.stop < n))
 
 -- the departures of the station that are posted, of the last run those of its first n stops
-pub record IsPartBoard (runs : List RunView) (last : RunView) (n : ℕ) (station : StationNo) (ds : List Departure) : Type 0 where
+pub record IsPartBoard (runs : List RunView) (last : RunView) (n : ℕ) (station : StationNo)
+    (ds : List Departure) : Type 0 where
   pub exact : AreExactly (λ d. IsDeparture (runs ++ last ∷ []) station d × IsPosted (length runs) n d) ds
   pub count : length ds ≡ departure_count station runs + count_by (stands_at station) (take n last.stops)
 
 -- likewise at each station
 abbrev pub ArePosted : List RunView → RunView → ℕ → List (List Departure) → Type 0
-ArePosted runs last n boards = (k : ℕ) (none : List Departure) → k < length boards → IsPartBoard runs last n (record { 0 = k }) (slice_index_or boards k none)
+ArePosted runs last n boards =
+    (k : ℕ) (none : List Departure) → k < length boards
+    → IsPartBoard runs last n (record { 0 = k }) (slice_index_or boards k none)
 
 -- those of the board that leave from the one moment to the other, as they stand there
 pub record IsWindow (from to : ℕ) (board ds : List Departure) : Type 0 where

@@ -19,7 +19,8 @@ IsWithin from to d = (from ≤ d.moment) × (d.moment ≤ to)
 
 -- in the order of moment, run and stop
 abbrev pub IsBefore : Departure → Departure → Type 0
-IsBefore a b = (a.moment < b.moment) ⊎ ((a.moment ≡ b.moment) × ((a.run.0 < b.run.0) ⊎ ((a.run.0 ≡ b.run.0) × (a.stop < b.stop))))
+IsBefore a b =
+    (a.moment < b.moment) ⊎ ((a.moment ≡ b.moment) × ((a.run.0 < b.run.0) ⊎ ((a.run.0 ≡ b.run.0) × (a.stop < b.stop))))
 
 -- exactly the departures of this kind, each once, in order
 pub record AreExactly (Is : Departure → Type 0) (ds : List Departure) : Type 0 where

@@ -26,11 +26,13 @@ run_fault runs run =
     if nat_lt (length run.stops) 2 then Some TooFewStops
     else (if nat_lt most_stops (length run.stops) then Some TooManyStops
     else (option_or (option_map TimesNotRising (first_unrisen run.stops))
-    (if nat_le most_runs (length runs) then Some TooManyRuns else option_map StationRepeated (first_repeated run.stops))))
+    (if nat_le most_runs (length runs) then Some TooManyRuns
+    else option_map StationRepeated (first_repeated run.stops))))
 
 -- the legs of the run between two stations; none where it doesn't stop at the one and later at the other
 abbrev pub span_of : RunsView → RunNo → StationNo → StationNo → Option Interval
-span_of r run from to = option_and_then (λ it. legs_between (stop_of from it.stops) (stop_of to it.stops)) (slice_get r.runs run.0)
+span_of r run from to =
+    option_and_then (λ it. legs_between (stop_of from it.stops) (stop_of to it.stops)) (slice_get r.runs run.0)
 
 -- with one station more
 abbrev pub and_station : RunsView → List ℕ → ℕ → RunsView
@@ -38,7 +40,8 @@ and_station r code change = record r { stations = r.stations ++ (record { code =
 
 -- the station has the next number
 abbrev pub IsStationAdded : RunsView → List ℕ → ℕ → RunsView → StationNo → Type 0
-IsStationAdded before code change after n = (n.0 ≡ length before.stations) × (with_station before.stations code change ≡ Ok after.stations)
+IsStationAdded before code change after n =
+    (n.0 ≡ length before.stations) × (with_station before.stations code change ≡ Ok after.stations)
 
 -- it is the fault of the station, unless memory ran out
 abbrev pub RefusesStation : RunsView → List ℕ → ℕ → StationFault → Type 0

@@ -13,7 +13,7 @@ use std::sync::ledger::Ledger;
 use step_count::Steps;
 
 /// A run leaves a station at this moment, from a stop that isn't its last.
-#[derive(Debug, Clone, Copy, PartialEq, Eq)]
+#[derive(Clone, Copy, PartialEq, Eq)]
 pub struct Departure {
     pub moment: Moment,
     pub run: RunNo,
@@ -45,7 +45,7 @@ impl Board {
         }
     }
 
-    /// Puts a departure in its place, and answers where that is. It comes behind those of its moment.
+    /// Puts a departure in its place, and answers where that is. It comes after those of its moment.
     pub(crate) fn post(&mut self, departure: Departure) -> Result<usize, AllocError>
         requires in_order { AllPairs IsBefore self.old }
         requires behind { All (λ d. d.moment ≡ departure.moment → IsBefore d departure) self.old }

@@ -11,7 +11,7 @@ pub const MOST_STOPS: usize = 127;
 /// A stop of a run: when the run reaches the station, and when it leaves it. The first stop has an arrival too and the
 /// last a departure, though no one rides to the one or on from the other: each may be the stop's other time, and
 /// needn't be.
-#[derive(Debug, Clone, Copy, PartialEq, Eq)]
+#[derive(Clone, Copy, PartialEq, Eq)]
 pub struct Stop {
     pub station: StationNo,
     pub arrive: Moment,
@@ -19,7 +19,7 @@ pub struct Stop {
 }
 
 /// Why a run was refused.
-#[derive(Debug, Clone, Copy, PartialEq, Eq)]
+#[derive(Clone, Copy, PartialEq, Eq)]
 pub enum RunFault {
     /// It has fewer than two stops.
     TooFewStops,

@@ -300,7 +300,7 @@ fn fault_of(runs: &[Run], run: &Run) -> Option<RunFault>
     Some(RunFault::StationRepeated { stop })
 }
 
-// Posts the departures of the run at its stops from the n-th on, where those before are posted. After want of memory
+// Posts the departures of the run at its stops from the n-th on, where those before are posted. Where memory runs out
 // the boards are as before.
 fn post_from(boards: &mut [Board], runs: &[Run], run: &Run, n: usize) -> Result<(), AllocError>
     requires posted { ArePosted runs.now run.now n boards.old }

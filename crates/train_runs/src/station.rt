@@ -11,7 +11,7 @@ pub const MOST_STATIONS: usize = 65_536;
 const MOST_CODE_LETTERS: usize = 8;
 
 /// Why a station was refused.
-#[derive(Debug, Clone, Copy, PartialEq, Eq)]
+#[derive(Clone, Copy, PartialEq, Eq)]
 pub enum StationFault {
     /// The code isn't 1 to 8 of `A` to `Z` and `0` to `9`.
     BadCode,

@@ -73,10 +73,6 @@ one_end r w best way s decided =
     let here : ((last_stop r s).station.0 == w.destination.0) ≡ true = ap (λ (x : Segment). (last_stop r x).station.0 == w.destination.0) (sym (last_is way s)) ∙ there in
     decided (eqb-true (last_stop r s).station.0 w.destination.0 here) (known_after r way (s ∷ []) trip.known).0 trip))
 
-pub nowhere_decided : (r : RunsView) (w : TripWish) (best : List (List Segment)) (way : List Segment) (d : Departure) → ((k : ℕ) → k < length (stops_of r d.run.0) → ¬ IsThere r w d.run.0 k)
-    → AreDecidedFrom r w best way 0 d
-nowhere_decided r w best way d none to = one_end r w best way (segment d.run.0 d.stop to) (λ there known trip. absurd (none to known.ends there))
-
 pub call_decided : (r : RunsView) (w : TripWish) (best : List (List Segment)) (way : List Segment) (d : Departure) (c : Call) → IsCall r w d.run.0 c
     → (d.stop < c.stop → IsTrip r w (way ++ segment d.run.0 d.stop c.stop ∷ []) → IsDecided r best (way ++ segment d.run.0 d.stop c.stop ∷ [])) → AreDecidedFrom r w best way 0 d
 call_decided r w best way d c call decided to =

@@ -175,19 +175,6 @@ pub one_last : (r : RunsView) (w : TripWish) (best : List (List Segment)) (way :
 one_last r w best way s decided [] e trip = decided trip
 one_last r w best way s decided (x ∷ rest) e trip = absurd (omega (arith, e))
 
-pub ends_elsewhere : (r : RunsView) (w : TripWish) (best : List (List Segment)) (way : List Segment) (s : Segment) → ¬ ((last_stop r s).station.0 ≡ w.destination.0)
-    → AreDecidedWith r w best way 0 s
-ends_elsewhere r w best way s apart =
-    one_last r w best way s (λ trip. (let there = (both_true (sets_out r w (way ++ s ∷ [])) (arrives r w (way ++ s ∷ [])) trip.trip).1 in
-    let here : ((last_stop r s).station.0 == w.destination.0) ≡ true = ap (λ (x : Segment). (last_stop r x).station.0 == w.destination.0) (sym (last_is way s)) ∙ there in
-    absurd (apart (eqb-true (last_stop r s).station.0 w.destination.0 here))))
-
-pub ends_late : (r : RunsView) (w : TripWish) (best : List (List Segment)) (way : List Segment) (s : Segment) → AllArriveBefore r best (last_stop r s).arrive
-    → AreDecidedWith r w best way 0 s
-ends_late r w best way s late =
-    one_last r w best way s (λ trip. (let at : last_arrival r (way ++ s ∷ []) ≡ (last_stop r s).arrive = ap (λ (x : Segment). (last_stop r x).arrive) (last_is way s) in
-    behind_decided r best late.0 (way ++ s ∷ []) late.2 (omega (arith, late.1, at))))
-
 -- ---- all trips
 
 trip_among : (r : RunsView) (w : TripWish) (t : List Segment) → IsTrip r w t → IsAmong (filter (is_trip r w) (all_lists (all_segments r))) t

@@ -63,14 +63,6 @@ way_taken r w way d to is may low high = record {
   so_far = way_goes_on r w way (segment d.run.0 d.stop to) is.so_far (taken_goes_on r w way d to may);
 }
 
--- what begins the wish, and follows each by each
-pub way_is : (r : RunsView) (w : TripWish) (way : List Segment) (first : Segment) (station : StationNo) (from to : ℕ) → 1 ≤ length way → first ≡ get_or way 0 first → IsWindowOf r w [] station from to
-    → leaves station from to (first_stop r first) ≡ true → AllByRecursion (IsKnown r) way → are_connected r way ≡ true → IsWay r w way
-way_is r w [] first station from to some is window leaves known chain = absurd (omega (arith, some))
-way_is r w (s ∷ rest) first station from to some is window out known chain =
-    let begin : begins r w s ≡ true = ap (begins r w) (sym is) ∙ (sym (window (first_stop r first)) ∙ out) in
-    record { known = known; so_far = ap (λ b. b && is_chain r (s ∷ []) rest) begin ∙ chain }
-
 pub each_known : (r : RunsView) (way : List Segment) → ((k : ℕ) → k < length way → (none : Segment) → IsKnown r (get_or way k none)) → AllByRecursion (IsKnown r) way
 each_known r [] each = tt
 each_known r (s ∷ rest) each = (each 0 (omega arith) s, each_known r rest (λ k h none. each (suc k) (omega (arith, h)) none))

@@ -13,20 +13,27 @@ use Rattle.trip_builder.specs.Bounds.{Precede, Rises, IsNoted, IsPosted, HasBest
 
 -- the later ones leave no earlier
 abbrev pub InOrder : List Departure → Type 0
-InOrder ds = (j k : ℕ) (none : Departure) → j ≤ k → k < length ds → (slice_index_or ds j none).moment ≤ (slice_index_or ds k none).moment
+InOrder ds =
+    (j k : ℕ) (none : Departure) → j ≤ k → k < length ds
+    → (slice_index_or ds j none).moment ≤ (slice_index_or ds k none).moment
 
 -- those that lead to the destination before that rank, by the two of each, are noted
 abbrev pub AreNoted : List Departure → List FirstTwo → ℕ → List Useful → Type 0
-AreNoted ds twos late board = (k rank : ℕ) (none : Departure) → k < length ds → k < length twos → Precede (slice_index_or twos k unknown) rank → rank < late
+AreNoted ds twos late board =
+    (k rank : ℕ) (none : Departure) → k < length ds → k < length twos → Precede (slice_index_or twos k unknown) rank
+    → rank < late
     → IsNoted board (slice_index_or ds k none).moment rank
 
 -- likewise they have their places
 abbrev pub ArePosted : List Departure → List FirstTwo → ℕ → List Useful → Type 0
-ArePosted ds twos late board = (k rank : ℕ) (none : Departure) → k < length ds → k < length twos → Precede (slice_index_or twos k unknown) rank → rank < late
+ArePosted ds twos late board =
+    (k rank : ℕ) (none : Departure) → k < length ds → k < length twos → Precede (slice_index_or twos k unknown) rank
+    → rank < late
     → IsPosted board (slice_index_or ds k none).moment rank
 
 -- one board more, with those departures
-pub record HasAdded (old : List (List Useful)) (ds : List Departure) (twos : List FirstTwo) (late : ℕ) (new : List (List Useful)) : Type 0 where
+pub record HasAdded (old : List (List Useful)) (ds : List Departure) (twos : List FirstTwo) (late : ℕ)
+    (new : List (List Useful)) : Type 0 where
   pub board : List Useful
   pub is : new ≡ old ++ board ∷ []
   pub posted : ArePosted ds twos late board
@@ -43,7 +50,9 @@ Keeps old new = (n rank : ℕ) → Precede (slice_index_or old n unknown) rank �
 
 -- likewise, where these two precede it as well
 abbrev pub KeepsBy : FirstTwo → List FirstTwo → List FirstTwo → Type 0
-KeepsBy two old new = (n rank : ℕ) → Precede two rank → Precede (slice_index_or old n unknown) rank → Precede (slice_index_or new n unknown) rank
+KeepsBy two old new =
+    (n rank : ℕ) → Precede two rank → Precede (slice_index_or old n unknown) rank
+    → Precede (slice_index_or new n unknown) rank
 
 -- a part no earlier than the n-th has two that precede the rank
 pub record IsAhead (rests : List FirstTwo) (n rank : ℕ) : Type 0 where
@@ -58,23 +67,29 @@ IsTold rests part rank = (n : ℕ) → n ≤ part → n < length rests → IsAhe
 
 -- each part has two that precede what the part and all later ones had
 abbrev pub AreSettled : List FirstTwo → List FirstTwo → Type 0
-AreSettled old new = (n m rank : ℕ) → n ≤ m → m < length old → Precede (slice_index_or old m unknown) rank → Precede (slice_index_or new n unknown) rank
+AreSettled old new =
+    (n m rank : ℕ) → n ≤ m → m < length old → Precede (slice_index_or old m unknown) rank
+    → Precede (slice_index_or new n unknown) rank
 
 -- what each departure of the board leads to is told in its part
 abbrev pub AreTold : List Useful → Parts → List FirstTwo → Type 0
-AreTold board parts rests = (j rank : ℕ) (none : Useful) → j < length board → Precede (slice_index_or board j none).onward rank
+AreTold board parts rests =
+    (j rank : ℕ) (none : Useful) → j < length board → Precede (slice_index_or board j none).onward rank
     → IsTold rests (part_at parts (slice_index_or board j none).moment) rank
 
 -- ---- a board's hints
 
 -- the two of each part precede what leaves by the board in it or later
 abbrev pub AreRestsIn : List Useful → Parts → List FirstTwo → Type 0
-AreRestsIn board parts rests = (j n rank : ℕ) (none : Useful) → j < length board → n ≤ part_at parts (slice_index_or board j none).moment → n < length rests
+AreRestsIn board parts rests =
+    (j n rank : ℕ) (none : Useful) → j < length board → n ≤ part_at parts (slice_index_or board j none).moment
+    → n < length rests
     → Precede (slice_index_or board j none).onward rank → Precede (slice_index_or rests n unknown) rank
 
 -- likewise, where each has its part
 abbrev pub AreRests : List Useful → Parts → (ℕ → FirstTwo) → Type 0
-AreRests board parts rest = (j n rank : ℕ) (none : Useful) → j < length board → n ≤ part_at parts (slice_index_or board j none).moment
+AreRests board parts rest =
+    (j n rank : ℕ) (none : Useful) → j < length board → n ≤ part_at parts (slice_index_or board j none).moment
     → Precede (slice_index_or board j none).onward rank → Precede (rest n) rank
 
 -- the board's departures leave from the start of the first part to the last moment
@@ -99,7 +114,15 @@ rest_in rests h n = slice_index_or rests (h.hints + n) unknown
 
 -- of a station without a board
 abbrev pub no_head : Head
-no_head = record { begin = 0; end = 0; hints = 0; parts = record { start = 0; shift = 0 }; last = 0; best = record { first = 65_535; second = 65_535 } }
+no_head =
+    record {
+      begin = 0;
+      end = 0;
+      hints = 0;
+      parts = record { start = 0; shift = 0 };
+      last = 0;
+      best = record { first = 65_535; second = 65_535 };
+    }
 
 abbrev pub board_of : List Useful → Head → List Useful
 board_of useful h = slice_range useful h.begin h.end
@@ -136,19 +159,27 @@ pub record IsHeadOf (numbers : List ℕ) (heads : List Head) (station : ℕ) (h 
 
 -- what the two of the board's part precede is told for each second of that part
 abbrev pub IsPartTold : List FirstTwo → Head → Parts → ℕ → List FirstTwo → Type 0
-IsPartTold all h parts part rests = (seconds rank : ℕ) → seconds ≤ h.last → part_at h.parts seconds ≡ part → Precede (rest_in all h part) rank → IsTold rests (part_at parts seconds) rank
+IsPartTold all h parts part rests =
+    (seconds rank : ℕ) → seconds ≤ h.last → part_at h.parts seconds ≡ part → Precede (rest_in all h part) rank
+    → IsTold rests (part_at parts seconds) rank
 
 -- likewise for each second up to the board's last departure
 abbrev pub IsHeadTold : List FirstTwo → Head → Parts → List FirstTwo → Type 0
-IsHeadTold all h parts rests = (seconds rank : ℕ) → seconds ≤ h.last → Precede (rest_in all h (part_at h.parts seconds)) rank → IsTold rests (part_at parts seconds) rank
+IsHeadTold all h parts rests =
+    (seconds rank : ℕ) → seconds ≤ h.last → Precede (rest_in all h (part_at h.parts seconds)) rank
+    → IsTold rests (part_at parts seconds) rank
 
 -- what leaves any station is told in its part
 abbrev pub AreAllTold : List (List Useful) → Parts → List FirstTwo → Type 0
-AreAllTold boards parts rests = (n depart rank : ℕ) (none : List Useful) → n < length boards → IsPosted (slice_index_or boards n none) depart rank → IsTold rests (part_at parts depart) rank
+AreAllTold boards parts rests =
+    (n depart rank : ℕ) (none : List Useful) → n < length boards → IsPosted (slice_index_or boards n none) depart rank
+    → IsTold rests (part_at parts depart) rank
 
 -- the two of each part precede what leaves any station in it or later
 abbrev pub AreAftersIn : List (List Useful) → Parts → List FirstTwo → Type 0
-AreAftersIn boards parts rests = (n depart rank m : ℕ) (none : List Useful) → n < length boards → IsPosted (slice_index_or boards n none) depart rank → m ≤ part_at parts depart → m < length rests
+AreAftersIn boards parts rests =
+    (n depart rank m : ℕ) (none : List Useful) → n < length boards → IsPosted (slice_index_or boards n none) depart rank
+    → m ≤ part_at parts depart → m < length rests
     → Precede (slice_index_or rests m unknown) rank
 
 abbrev pub AreAfters : List (List Useful) → Afters → Type 0

@@ -75,14 +75,17 @@ pub record IsPlaced (r : RunsView) (v : RanksView) (run stop : ℕ) : Type 0 whe
   pub few : rank_in v run < no_rank
   pub run_is : (none : Arrival) → (slice_index_or v.order (rank_in v run) none).run.0 ≡ run
   pub stop_is : (none : Arrival) → (slice_index_or v.order (rank_in v run) none).stop ≡ stop
-  pub time : (none : Arrival) → IsBound (slice_index_or v.order (rank_in v run) none).arrive (stop_at (stops_of r run) stop).arrive
+  pub time : (none : Arrival)
+      → IsBound (slice_index_or v.order (rank_in v run) none).arrive (stop_at (stops_of r run) stop).arrive
 
 abbrev pub IsPlacedRun : RunsView → TripWish → RanksView → ℕ → Type 0
 IsPlacedRun r w v run = (stop : ℕ) → stop < length (stops_of r run) → IsThere r w run stop → IsPlaced r v run stop
 
 -- the later ones stand further on
 abbrev pub Ascends : List Arrival → Type 0
-Ascends order = (j k : ℕ) (none : Arrival) → j ≤ k → k < length order → (slice_index_or order j none).arrive ≤ (slice_index_or order k none).arrive
+Ascends order =
+    (j k : ℕ) (none : Arrival) → j ≤ k → k < length order
+    → (slice_index_or order j none).arrive ≤ (slice_index_or order k none).arrive
 
 -- all that come to the destination have their places
 pub record AreRanks (r : RunsView) (w : TripWish) (v : RanksView) : Type 0 where
@@ -95,7 +98,8 @@ Precede two rank = (rank < no_rank) × ((two.first ≤ rank) × ((rank ≡ two.f
 
 -- what leads there with a run that the way doesn't have, and that they precede, arrives no earlier
 abbrev pub BoundsFresh : RunsView → TripWish → RanksView → FirstTwo → List Segment → ℕ → Type 0
-BoundsFresh r w v two way bound = (s : Segment) (rest : List Segment) → LeadsTo r w s rest → Precede two (rank_of v s rest)
+BoundsFresh r w v two way bound =
+    (s : Segment) (rest : List Segment) → LeadsTo r w s rest → Precede two (rank_of v s rest)
     → has_run way (end_of s rest).run.0 ≡ false → IsBound bound (arrival_of r s rest)
 
 -- the same ranks, of which as many come too late, or more
@@ -109,14 +113,16 @@ pub record IsNarrowed (old new : RanksView) : Type 0 where
 -- later departures stand further on, those of a block together
 abbrev pub Rises : List Useful → Type 0
 Rises board = (j k : ℕ) (none : Useful) → j ≤ k → k < length board
-    → ((slice_index_or board j none).moment ≤ (slice_index_or board k none).moment) × ((slice_index_or board j none).block ≤ (slice_index_or board k none).block)
+    → ((slice_index_or board j none).moment ≤ (slice_index_or board k none).moment)
+    × ((slice_index_or board j none).block ≤ (slice_index_or board k none).block)
 
 -- the next departure of a board, which those of `least` precede
 pub record Follows (board : List Useful) (least : FirstTwo) (u : Useful) : Type 0 where
   pub block : (none : Useful) → 0 < length board → (slice_index_or board (length board - 1) none).block ≤ u.block
   pub onward : (rank : ℕ) → Precede least rank → Precede u.onward rank
   pub so_far : (rank : ℕ) → Precede least rank → Precede u.so_far rank
-  pub same : (none : Useful) (rank : ℕ) → 0 < length board → (slice_index_or board (length board - 1) none).block ≡ u.block
+  pub same : (none : Useful) (rank : ℕ) → 0 < length board → (slice_index_or board (length board - 1) none).block
+      ≡ u.block
       → Precede (slice_index_or board (length board - 1) none).so_far rank → Precede u.so_far rank
 
 -- the board with one departure more
@@ -134,7 +140,8 @@ pub record IsNoted (board : List Useful) (depart rank : ℕ) : Type 0 where
   pub within : place < length board
   pub moment : (none : Useful) → (slice_index_or board place none).moment ≡ depart
   pub here : (none : Useful) → Precede (slice_index_or board place none).onward rank
-  pub later : (k : ℕ) (none : Useful) → place ≤ k → k < length board → (slice_index_or board k none).block ≡ (slice_index_or board place none).block
+  pub later : (k : ℕ) (none : Useful) → place ≤ k → k < length board → (slice_index_or board k none).block
+      ≡ (slice_index_or board place none).block
       → Precede (slice_index_or board k none).so_far rank
 
 -- likewise those of its block that leave no later
@@ -142,38 +149,49 @@ pub record IsPosted (board : List Useful) (depart rank : ℕ) : Type 0 where
   pub place : ℕ
   pub within : place < length board
   pub moment : (none : Useful) → (slice_index_or board place none).moment ≡ depart
-  pub earlier : (k : ℕ) (none : Useful) → k ≤ place → (slice_index_or board k none).block ≡ (slice_index_or board place none).block
+  pub earlier : (k : ℕ) (none : Useful) → k ≤ place → (slice_index_or board k none).block
+      ≡ (slice_index_or board place none).block
       → Precede (slice_index_or board k none).onward rank
-  pub later : (k : ℕ) (none : Useful) → place ≤ k → k < length board → (slice_index_or board k none).block ≡ (slice_index_or board place none).block
+  pub later : (k : ℕ) (none : Useful) → place ≤ k → k < length board → (slice_index_or board k none).block
+      ≡ (slice_index_or board place none).block
       → Precede (slice_index_or board k none).so_far rank
 
 -- the two precede what leaves from the one moment to the other
 abbrev pub BoundsWindow : List Useful → ℕ → ℕ → FirstTwo → Type 0
-BoundsWindow board from to two = (depart rank : ℕ) → IsPosted board depart rank → from ≤ depart → depart ≤ to → Precede two rank
+BoundsWindow board from to two =
+    (depart rank : ℕ) → IsPosted board depart rank → from ≤ depart → depart ≤ to → Precede two rank
 
 -- it leaves from the first moment to the last, which is a part of the window
 pub record NarrowsWindow (board : List Useful) (from to first last : ℕ) : Type 0 where
   pub starts : from ≤ first
   pub ends : last ≤ to
-  pub each : (depart rank : ℕ) → IsPosted board depart rank → from ≤ depart → depart ≤ to → (first ≤ depart) × (depart ≤ last)
+  pub each : (depart rank : ℕ) → IsPosted board depart rank → from ≤ depart → depart ≤ to → (first ≤ depart)
+      × (depart ≤ last)
 
 -- the two precede what each departure of the board leads to
 abbrev pub HasBest : List Useful → FirstTwo → Type 0
-HasBest board two = (k rank : ℕ) (none : Useful) → k < length board → Precede (slice_index_or board k none).onward rank → Precede two rank
+HasBest board two =
+    (k rank : ℕ) (none : Useful) → k < length board → Precede (slice_index_or board k none).onward rank
+    → Precede two rank
 
 -- ---- the board of a station, by what leads to the destination
 
 -- what leaves the station and goes on with so many changes is posted, unless it comes too late
 abbrev pub IsBoardOf : RunsView → TripWish → RanksView → ℕ → ℕ → List Useful → Type 0
-IsBoardOf r w v changes station board = (s : Segment) (rest : List Segment) → length rest ≡ changes → LeadsTo r w s rest → (first_stop r s).station.0 ≡ station
+IsBoardOf r w v changes station board =
+    (s : Segment) (rest : List Segment) → length rest ≡ changes → LeadsTo r w s rest → (first_stop r s).station.0
+    ≡ station
     → rank_of v s rest < v.late → IsPosted board (first_stop r s).depart (rank_of v s rest)
 
 abbrev pub AreBoards : RunsView → TripWish → RanksView → ℕ → List (List Useful) → Type 0
-AreBoards r w v changes boards = (n : ℕ) (none : List Useful) → n < length boards → IsBoardOf r w v changes n (slice_index_or boards n none)
+AreBoards r w v changes boards =
+    (n : ℕ) (none : List Useful) → n < length boards → IsBoardOf r w v changes n (slice_index_or boards n none)
 
 -- what leaves the station comes too late
 abbrev pub LeavesLate : RunsView → TripWish → RanksView → ℕ → ℕ → Type 0
-LeavesLate r w v changes station = (s : Segment) (rest : List Segment) → length rest ≡ changes → LeadsTo r w s rest → (first_stop r s).station.0 ≡ station → v.late ≤ rank_of v s rest
+LeavesLate r w v changes station =
+    (s : Segment) (rest : List Segment) → length rest ≡ changes → LeadsTo r w s rest → (first_stop r s).station.0
+    ≡ station → v.late ≤ rank_of v s rest
 
 -- ---- the bounds of rides
 
@@ -182,27 +200,36 @@ unknown = record { first = 0; second = 0 }
 
 -- for each run and each number of a stop which two come first by what leaves there: a run's stops stand together
 abbrev pub firsts_in : Rides → ℕ → ℕ → FirstTwo
-firsts_in rides run stop = if nat_lt stop rides.width then slice_index_or rides.firsts.items (run * rides.width + stop) unknown else unknown
+firsts_in rides run stop =
+    if nat_lt stop rides.width then slice_index_or rides.firsts.items (run * rides.width + stop) unknown else unknown
 
 -- the two precede what takes the run at the stop, and goes on with so many changes to the destination
 abbrev pub FirstsOfRide : RunsView → TripWish → RanksView → ℕ → ℕ → ℕ → FirstTwo → Type 0
-FirstsOfRide r w v changes run stop two = (s : Segment) (rest : List Segment) → s.run.0 ≡ run → s.span.from ≡ stop → length rest ≡ changes → LeadsTo r w s rest
+FirstsOfRide r w v changes run stop two =
+    (s : Segment) (rest : List Segment) → s.run.0 ≡ run → s.span.from ≡ stop → length rest ≡ changes
+    → LeadsTo r w s rest
     → Precede two (rank_of v s rest)
 
 -- for each of the first so many departures the two that precede what takes it
-pub record AreFirsts (r : RunsView) (w : TripWish) (v : RanksView) (changes : ℕ) (ds : List Departure) (many : ℕ) (twos : List FirstTwo) : Type 0 where
+pub record AreFirsts (r : RunsView) (w : TripWish) (v : RanksView) (changes : ℕ) (ds : List Departure) (many : ℕ)
+    (twos : List FirstTwo) : Type 0 where
   pub count : length twos ≡ many
-  pub each : (k : ℕ) (d : Departure) (two : FirstTwo) → k < many → FirstsOfRide r w v changes (slice_index_or ds k d).run.0 (slice_index_or ds k d).stop (slice_index_or twos k two)
+  pub each : (k : ℕ) (d : Departure) (two : FirstTwo) → k < many
+      → FirstsOfRide r w v changes (slice_index_or ds k d).run.0 (slice_index_or ds k d).stop
+      (slice_index_or twos k two)
 
 -- where what takes the run comes in time, the station that it leaves is marked
 abbrev pub IsMarkedRun : RunsView → TripWish → RanksView → ℕ → ℕ → List Bool → Type 0
-IsMarkedRun r w v changes run marks = (s : Segment) (rest : List Segment) → s.run.0 ≡ run → length rest ≡ changes → LeadsTo r w s rest → rank_of v s rest < v.late
+IsMarkedRun r w v changes run marks =
+    (s : Segment) (rest : List Segment) → s.run.0 ≡ run → length rest ≡ changes → LeadsTo r w s rest
+    → rank_of v s rest < v.late
     → slice_index_or marks (first_stop r s).station.0 true ≡ true
 
 pub record AreRides (r : RunsView) (w : TripWish) (v : RanksView) (changes : ℕ) (rides : Rides) : Type 0 where
   pub firsts : (run stop : ℕ) → FirstsOfRide r w v changes run stop (firsts_in rides run stop)
   pub count : length rides.done.items ≡ length r.runs
-  pub done : (run : ℕ) → slice_index_or rides.done.items run false ≡ true → IsMarkedRun r w v changes run rides.marks.items
+  pub done : (run : ℕ) → slice_index_or rides.done.items run false ≡ true
+      → IsMarkedRun r w v changes run rides.marks.items
   pub whole : rides.all ≡ true → (run : ℕ) → IsMarkedRun r w v changes run rides.marks.items
 
 -- rides of so many runs of which nothing is known
@@ -230,7 +257,8 @@ pub record BoundsView : Type 0 where
   pub levels : List ReachView
 
 abbrev pub AreBounds : RunsView → TripWish → BoundsView → Type 0
-AreBounds r w b = (n : ℕ) (none : ReachView) → n < length b.levels → IsReach r w b.ranks n (slice_index_or b.levels n none)
+AreBounds r w b =
+    (n : ℕ) (none : ReachView) → n < length b.levels → IsReach r w b.ranks n (slice_index_or b.levels n none)
 
 -- the same bounds, of which more may come too late
 pub record AreNarrowed (old new : BoundsView) : Type 0 where
@@ -239,7 +267,9 @@ pub record AreNarrowed (old new : BoundsView) : Type 0 where
 
 -- for any wish: where the bounds of what goes on are its own, the rides with one change more stay right
 abbrev pub StayRides : RunsView → RanksView → ReachView → Rides → Rides → Type 0
-StayRides r v reach old new = (w : TripWish) (changes : ℕ) → IsReach r w v changes reach → AreRides r w v (changes + 1) old → AreRides r w v (changes + 1) new
+StayRides r v reach old new =
+    (w : TripWish) (changes : ℕ) → IsReach r w v changes reach → AreRides r w v (changes + 1) old
+    → AreRides r w v (changes + 1) new
 
 -- likewise those without a change
 abbrev pub StayLastRides : RunsView → RanksView → Rides → Rides → Type 0
@@ -248,7 +278,8 @@ StayLastRides r v old new = (w : TripWish) → AreRanks r w v → AreRides r w v
 -- the station has a board, and the two precede what leaves it from that moment on
 abbrev pub PrecedeFrom : List (List Useful) → ℕ → ℕ → FirstTwo → Type 0
 PrecedeFrom boards station from two = (station < length boards)
-    × ((depart rank : ℕ) (none : List Useful) → IsPosted (slice_index_or boards station none) depart rank → from ≤ depart → Precede two rank)
+    × ((depart rank : ℕ) (none : List Useful) → IsPosted (slice_index_or boards station none) depart rank
+    → from ≤ depart → Precede two rank)
 
 -- likewise so many stations
 abbrev pub PrecedeAfter : List (List Useful) → ℕ → ℕ → FirstTwo → Type 0
@@ -257,19 +288,26 @@ PrecedeAfter boards stations from two = (n : ℕ) → n < stations → PrecedeFr
 -- what takes the run at the stop after the way, and goes on with so many changes and a last run that the way doesn't
 -- have, arrives no earlier
 abbrev pub BoundsRide : RunsView → TripWish → ℕ → List Segment → ℕ → ℕ → ℕ → Type 0
-BoundsRide r w changes way run stop bound = (s : Segment) (rest : List Segment) → s.run.0 ≡ run → s.span.from ≡ stop → length rest ≡ changes → LeadsTo r w s rest
+BoundsRide r w changes way run stop bound =
+    (s : Segment) (rest : List Segment) → s.run.0 ≡ run → s.span.from ≡ stop → length rest ≡ changes
+    → LeadsTo r w s rest
     → has_run way (end_of s rest).run.0 ≡ false → IsBound bound (arrival_of r s rest)
 
 -- likewise what leaves the station within the window
 abbrev pub BoundsLeaving : RunsView → TripWish → ℕ → List Segment → StationNo → ℕ → ℕ → ℕ → Type 0
-BoundsLeaving r w changes way station from to bound = (s : Segment) (rest : List Segment) → length rest ≡ changes → LeadsTo r w s rest
-    → leaves station from to (first_stop r s) ≡ true → has_run way (end_of s rest).run.0 ≡ false → IsBound bound (arrival_of r s rest)
+BoundsLeaving r w changes way station from to bound =
+    (s : Segment) (rest : List Segment) → length rest ≡ changes → LeadsTo r w s rest
+    → leaves station from to (first_stop r s) ≡ true → has_run way (end_of s rest).run.0 ≡ false
+    → IsBound bound (arrival_of r s rest)
 
 -- it leaves from the first moment to the last
 abbrev pub NarrowsLeaving : RunsView → TripWish → ℕ → StationNo → ℕ → ℕ → ℕ → ℕ → Type 0
-NarrowsLeaving r w changes station from to first last = (s : Segment) (rest : List Segment) → length rest ≡ changes → LeadsTo r w s rest
+NarrowsLeaving r w changes station from to first last =
+    (s : Segment) (rest : List Segment) → length rest ≡ changes → LeadsTo r w s rest
     → leaves station from to (first_stop r s) ≡ true → leaves station first last (first_stop r s) ≡ true
 
 -- the two precede what gets off a train at this stop, and goes on with so many changes to the destination
 abbrev pub FirstsOfStop : RunsView → TripWish → RanksView → ℕ → Stop → FirstTwo → Type 0
-FirstsOfStop r w v changes off two = (s : Segment) (rest : List Segment) → last_stop r s ≡ off → length rest ≡ changes → LeadsTo r w s rest → Precede two (rank_of v s rest)
+FirstsOfStop r w v changes off two =
+    (s : Segment) (rest : List Segment) → last_stop r s ≡ off → length rest ≡ changes → LeadsTo r w s rest
+    → Precede two (rank_of v s rest)

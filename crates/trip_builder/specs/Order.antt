@@ -17,7 +17,8 @@ is_same s t = s.run.0 == t.run.0 && (s.span.from == t.span.from && s.span.to == 
 -- by the run, then the first stop, then the last
 abbrev pub is_lower : Segment → Segment → Bool
 is_lower s t =
-    if s.run.0 == t.run.0 then (if s.span.from == t.span.from then nat_lt s.span.to t.span.to else nat_lt s.span.from t.span.from)
+    if s.run.0 == t.run.0
+    then (if s.span.from == t.span.from then nat_lt s.span.to t.span.to else nat_lt s.span.from t.span.from)
     else nat_lt s.run.0 t.run.0
 
 -- the first two segments that differ decide; a list stands before its longer ones
@@ -46,7 +47,8 @@ stands_before r a b =
 -- a trip put into its place among sorted ones
 abbrev pub sorted_in : RunsView → List (List Segment) → List Segment → List (List Segment)
 sorted_in r [] trip = trip ∷ []
-sorted_in r (first ∷ rest) trip = if stands_before r trip first then trip ∷ first ∷ rest else first ∷ sorted_in r rest trip
+sorted_in r (first ∷ rest) trip =
+    if stands_before r trip first then trip ∷ first ∷ rest else first ∷ sorted_in r rest trip
 
 -- all trips in their order, each put into its place in turn
 abbrev pub sorted : RunsView → List (List Segment) → List (List Segment)

@@ -14,7 +14,9 @@ use Rattle.trip_builder.specs.Best.{IsTrip}
 -- the station's times go from the one moment or earlier to the other or later; where there are none for it, nothing is
 -- left out
 abbrev pub Hold : List Times → ℕ → ℕ → ℕ → Type 0
-Hold times station from to = (none : Times) → station < length times → ((slice_index_or times station none).from ≤ from) × (to ≤ (slice_index_or times station none).to)
+Hold times station from to =
+    (none : Times) → station < length times → ((slice_index_or times station none).from ≤ from)
+    × (to ≤ (slice_index_or times station none).to)
 
 -- what leaves at this stop may be taken
 abbrev pub HoldTrain : List Times → Stop → Type 0
@@ -30,11 +32,15 @@ AreStretched old new = (station from to : ℕ) → Hold old station from to → 
 
 -- who takes the run by the times before may get off at each later stop by those after it
 abbrev pub IsRidden : RunsView → List Times → List Times → ℕ → Type 0
-IsRidden r before after run = (j k : ℕ) → j < k → k < length (stops_of r run) → HoldTrain before (stop_at (stops_of r run) j) → HoldWait after (stop_at (stops_of r run) k)
+IsRidden r before after run =
+    (j k : ℕ) → j < k → k < length (stops_of r run) → HoldTrain before (stop_at (stops_of r run) j)
+    → HoldWait after (stop_at (stops_of r run) k)
 
 -- each trip's train that comes after so many at most may be taken
 abbrev pub AreReached : RunsView → TripWish → ℕ → List Times → Type 0
-AreReached r w trains times = (way : List Segment) (s : Segment) (rest : List Segment) → length way ≤ trains → IsTrip r w (way ++ s ∷ rest) → HoldTrain times (first_stop r s)
+AreReached r w trains times =
+    (way : List Segment) (s : Segment) (rest : List Segment) → length way ≤ trains → IsTrip r w (way ++ s ∷ rest)
+    → HoldTrain times (first_stop r s)
 
 -- after one train at most, and after two
 pub record IsNear (r : RunsView) (w : TripWish) (near : Near) : Type 0 where
@@ -43,4 +49,6 @@ pub record IsNear (r : RunsView) (w : TripWish) (near : Near) : Type 0 where
 
 -- a station that is marked stays so where a train may be taken there
 abbrev pub StayMarked : List Times → List Bool → List Bool → Type 0
-StayMarked times old new = (station at : ℕ) → Hold times station at at → slice_index_or old station true ≡ true → slice_index_or new station true ≡ true
+StayMarked times old new =
+    (station at : ℕ) → Hold times station at at → slice_index_or old station true ≡ true
+    → slice_index_or new station true ≡ true

@@ -27,7 +27,8 @@ pub record IsWay (r : RunsView) (w : TripWish) (way : List Segment) : Type 0 whe
 abbrev pub leaves_after : RunsView → TripWish → List Segment → Stop → Bool
 leaves_after r w [] stop = leaves w.origin w.earliest w.latest stop
 leaves_after r w (s ∷ rest) stop =
-    let off = last_stop r (last_of (s ∷ rest)) in leaves off.station (off.arrive + change_at r off.station) (off.arrive + longest_wait) stop
+    let off = last_stop r (last_of (s ∷ rest)) in
+    leaves off.station (off.arrive + change_at r off.station) (off.arrive + longest_wait) stop
 
 -- the first and the last moment of a train that is reached from the last of the segments
 abbrev pub first_after : RunsView → List Segment → ℕ
@@ -69,19 +70,27 @@ pub record IsListed (ds : List Departure) (run stop : ℕ) : Type 0 where
 
 -- all departures of the station, at whatever moment, the earlier ones first
 pub record AreAllLeaving (r : RunsView) (station : StationNo) (ds : List Departure) : Type 0 where
-  pub moments : (k : ℕ) (none : Departure) → k < length ds → (stop_at (stops_of r (slice_index_or ds k none).run.0) (slice_index_or ds k none).stop).depart ≡ (slice_index_or ds k none).moment
-  pub every : (run stop : ℕ) → stop + 1 < length (stops_of r run) → (stop_at (stops_of r run) stop).station.0 ≡ station.0 → IsListed ds run stop
-  pub rise : (j k : ℕ) (none : Departure) → j ≤ k → k < length ds → (slice_index_or ds j none).moment ≤ (slice_index_or ds k none).moment
+  pub moments : (k : ℕ) (none : Departure) → k < length ds
+      → (stop_at (stops_of r (slice_index_or ds k none).run.0) (slice_index_or ds k none).stop).depart
+      ≡ (slice_index_or ds k none).moment
+  pub every : (run stop : ℕ) → stop + 1 < length (stops_of r run) → (stop_at (stops_of r run) stop).station.0
+      ≡ station.0 → IsListed ds run stop
+  pub rise : (j k : ℕ) (none : Departure) → j ≤ k → k < length ds
+      → (slice_index_or ds j none).moment ≤ (slice_index_or ds k none).moment
 
 -- all departures of the station within the window, the earlier ones first
 pub record AreLeaving (r : RunsView) (station : StationNo) (from to : ℕ) (ds : List Departure) : Type 0 where
   pub each : (k : ℕ) (none : Departure) → k < length ds → Leaves r station from to (slice_index_or ds k none)
-  pub every : (run stop : ℕ) → stop + 1 < length (stops_of r run) → leaves station from to (stop_at (stops_of r run) stop) ≡ true → IsListed ds run stop
-  pub rise : (j k : ℕ) (none : Departure) → j ≤ k → k < length ds → (slice_index_or ds j none).moment ≤ (slice_index_or ds k none).moment
+  pub every : (run stop : ℕ) → stop + 1 < length (stops_of r run)
+      → leaves station from to (stop_at (stops_of r run) stop) ≡ true → IsListed ds run stop
+  pub rise : (j k : ℕ) (none : Departure) → j ≤ k → k < length ds
+      → (slice_index_or ds j none).moment ≤ (slice_index_or ds k none).moment
 
 -- each segment departs no earlier than its train came there, and arrives after it departed
 abbrev pub Rise : RunsView → Type 0
-Rise r = (s : Segment) → IsKnown r s → ((first_stop r s).arrive ≤ (first_stop r s).depart) × ((first_stop r s).depart < (last_stop r s).arrive)
+Rise r =
+    (s : Segment) → IsKnown r s → ((first_stop r s).arrive ≤ (first_stop r s).depart)
+    × ((first_stop r s).depart < (last_stop r s).arrive)
 
 -- each segment departs from a known station
 abbrev pub DepartFromKnown : RunsView → Type 0
@@ -106,7 +115,8 @@ pub record Grows (r : RunsView) (w : TripWish) (old new : List (List Segment)) :
 
 -- all trips that go on from the way with this segment and so many more are decided
 abbrev pub AreDecidedWith : RunsView → TripWish → List (List Segment) → List Segment → ℕ → Segment → Type 0
-AreDecidedWith r w best way more s = (rest : List Segment) → length rest ≡ more → IsTrip r w (way ++ s ∷ rest) → IsDecided r best (way ++ s ∷ rest)
+AreDecidedWith r w best way more s =
+    (rest : List Segment) → length rest ≡ more → IsTrip r w (way ++ s ∷ rest) → IsDecided r best (way ++ s ∷ rest)
 
 -- likewise with any segment of the run from this stop
 abbrev pub AreDecidedFrom : RunsView → TripWish → List (List Segment) → List Segment → ℕ → Departure → Type 0

@@ -26,11 +26,14 @@ IsRide rides station depart arrive = depart + ride_from rides station ≤ arrive
 -- no ride on the run to this stop takes less
 abbrev pub AreRidesTo : RunsView → ℕ → ℕ → List ℕ → Type 0
 AreRidesTo r run to rides = to < length (stops_of r run) → (from : ℕ) → from < to
-    → IsRide rides (stop_at (stops_of r run) from).station.0 (stop_at (stops_of r run) from).depart (stop_at (stops_of r run) to).arrive
+    → IsRide rides (stop_at (stops_of r run) from).station.0 (stop_at (stops_of r run) from).depart
+    (stop_at (stops_of r run) to).arrive
 
 -- no ride to one of these departures' stops takes less
 abbrev pub AreFromDepartures : RunsView → List Departure → List ℕ → Type 0
-AreFromDepartures r ds rides = (k : ℕ) (none : Departure) → k < length ds → AreRidesTo r (slice_index_or ds k none).run.0 (slice_index_or ds k none).stop rides
+AreFromDepartures r ds rides =
+    (k : ℕ) (none : Departure) → k < length ds
+    → AreRidesTo r (slice_index_or ds k none).run.0 (slice_index_or ds k none).stop rides
 
 -- no ride to the destination takes less
 abbrev pub AreShortest : RunsView → TripWish → List ℕ → Type 0
@@ -38,5 +41,7 @@ AreShortest r w rides = Rise r → (run to : ℕ) → IsThere r w run to → Are
 
 -- what leaves the station and comes to the destination with so many changes takes so many seconds at least
 abbrev pub TakesAtLeast : RunsView → TripWish → ℕ → StationNo → ℕ → Type 0
-TakesAtLeast r w changes station seconds = (s : Segment) (rest : List Segment) → length rest ≡ changes → LeadsTo r w s rest → (first_stop r s).station.0 ≡ station.0
+TakesAtLeast r w changes station seconds =
+    (s : Segment) (rest : List Segment) → length rest ≡ changes → LeadsTo r w s rest → (first_stop r s).station.0
+    ≡ station.0
     → (first_stop r s).depart + seconds ≤ arrival_of r s rest

@@ -32,7 +32,8 @@ begins r w s = leaves w.origin w.earliest w.latest (first_stop r s)
 
 -- the segment departs where a train arrived: after the change time, and before the longest wait is over
 abbrev pub connects : RunsView → Stop → Segment → Bool
-connects r off s = leaves off.station (off.arrive + change_at r off.station) (off.arrive + longest_wait) (first_stop r s)
+connects r off s =
+    leaves off.station (off.arrive + change_at r off.station) (off.arrive + longest_wait) (first_stop r s)
 
 abbrev pub uses_run : List Segment → Segment → Bool
 uses_run before s = list_any (λ b. b.run.0 == s.run.0) before

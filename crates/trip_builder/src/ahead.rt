@@ -23,7 +23,7 @@ const MOST_TRAINS: usize = 32;
 
 /// Puts trips among the best that arrive early, the earliest first, until there are sixteen. It needs the bounds.
 ///
-/// No promise is made of what it finds: a search that looks at all trips goes on behind it, and then has little left to
+/// No promise is made of what it finds: a search that looks at all trips goes on after it, and then has little left to
 /// try.
 #[tactic(auto, using(crate::proofs::Deciding::grows_on))]
 pub(crate) fn look_ahead(runs: &Runs, wish: &TripWish, found: &mut Found) -> Result<(), AllocError>

@@ -99,7 +99,7 @@ impl Board {
         self.useful.as_slice()
     }
 
-    // Puts a departure behind those that leave no later. What leaves later than it is told to it by `finish`.
+    // Puts a departure after those that leave no later. What leaves later than it is told to it by `finish`.
     fn post(&mut self, moment: u32, least: FirstTwo) -> Result<(), AllocError>
         requires later { All (λ u. u.moment ≤ moment) self.old }
         ensures { OnOk result (HasPosted self.old moment least self.new) }

@@ -464,7 +464,7 @@ fn first_rides(
 }
 
 // Where each run begins, the earlier ones first: so runs that follow one another ask a board for places that stand
-// together. Who takes them needs none of this.
+// together. Whoever takes them needs none of this.
 fn first_departures(alloc: Global, runs: &Runs) -> Result<Vec<Departure>, AllocError> {
     let mut firsts = Vec::new(alloc);
     for run in 0..runs.count() {

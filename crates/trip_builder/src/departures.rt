@@ -17,7 +17,7 @@ use train_runs::{Departure, Runs, Stop};
 pub(crate) const LONGEST_WAIT: u64 = 14_400;
 
 /// Where and when a segment may depart: at a station, and in these seconds, with both ends.
-#[derive(Debug, Clone, Copy, PartialEq, Eq)]
+#[derive(Clone, Copy, PartialEq, Eq)]
 pub(crate) struct Window {
     pub station: StationNo,
     pub from: u64,

@@ -7,7 +7,7 @@ use rail_time::Moment;
 use std::marker::Model;
 
 /// From where to where a retailer wishes to go, and the window of the first departure, with both its ends.
-#[derive(Debug, Clone, Copy, PartialEq, Eq)]
+#[derive(Clone, Copy, PartialEq, Eq)]
 pub struct TripWish {
     pub origin: StationNo,
     pub destination: StationNo,

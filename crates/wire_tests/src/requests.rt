@@ -3,12 +3,12 @@ ghost use Rattle.std.specs.Prelude.{◌≡◌};
 
 use http_wire::{Intake, Next, WireFault};
 use rail_io::BytesSource;
-use slow_streams::SlowSource;
 use std::alloc::{AllocError, Global};
 use std::process::Abort;
 use std::test::Fail;
+use test_kit::SlowSource;
 
-/// Streams: a front, a piece so many times, an end; how many requests are given, and what comes behind them, unless the
+/// Streams: a front, a piece so many times, an end; how many requests are given, and what comes after them, unless the
 /// last of them is the last of its connection.
 const STREAMS: &str = "||0||0|End~\
 \r\n\n\r\n||0||0|End~\
@@ -65,7 +65,7 @@ fn bytes_of(alloc: Global, row: &str) -> Result<Vec<u8>, AllocError> {
     Ok(bytes)
 }
 
-/// What comes behind the requests of a row.
+/// What comes after the requests of a row.
 fn after_of(row: &str) -> Option<Next> {
     match columns(row)[5] {
         "End" => Some(Next::End),
@@ -121,7 +121,7 @@ fn streams_in_pieces(rt: HostRuntime) -> Result<(), Fail> {
     Ok(())
 }
 
-/// Streams, the most bytes of a read, and how many the source has left behind the last request.
+/// Streams, the most bytes of a read, and how many the source has left after the last request.
 const LEFT: &str = "GET / HTTP/1.0\r\n\r\nbehind|1|6~\
 GET / HTTP/1.0\r\n\r\nbehind|7|3~\
 GET / HTTP/1.1\r\n\r\nGET / HTTP/1.0\r\n\r\nbehind|1|6~\
@@ -146,7 +146,7 @@ fn reads_no_more_than_it_needs(rt: HostRuntime) -> Result<(), Fail> {
     Ok(())
 }
 
-/// A read that fails takes nothing away: the request behind it has its parts, and of two keys the first.
+/// A read that fails takes nothing away: the request after it has its parts, and of two keys the first.
 #[test]
 fn request_has_its_parts(rt: HostRuntime) -> Result<(), Fail> {
     let stream =

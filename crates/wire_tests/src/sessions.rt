@@ -3,8 +3,8 @@ use arrayvec::ArrayVec;
 use http_wire::{Answer, Body, Intake, Request, WireFault, append, write_head};
 use rail_io::{Pushed, PushedBoth, Sink};
 use session_loop::{ConnEnd, Responder, run_session};
-use slow_streams::SlowSource;
 use std::test::Fail;
+use test_kit::SlowSource;
 
 /// Answers each request with the first bytes of its path.
 #[derive(Drop)]

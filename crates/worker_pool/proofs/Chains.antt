@@ -3,10 +3,6 @@ use Rattle.std.proofs.Common.{ℕ, zero, suc, ◌++◌, [], refl, sym, ap, ◌�
 use Rattle.claim_rule.specs.Rule.{DeskView}
 use Rattle.worker_pool.specs.Turns.{KeepsDesk, Doing, GoesOn, RunsToEnd}
 
--- no turn keeps the desk
-pub keeps_still : (desk : DeskView) → KeepsDesk desk desk
-keeps_still desk = record { number = refl; parted = refl; joined = refl; seen = ([], append-nil desk.seen) }
-
 -- one turn after another keeps what each of them keeps
 pub keeps_on : (a b c : DeskView) → KeepsDesk a b → KeepsDesk b c → KeepsDesk a c
 keeps_on a b c p q = record {
@@ -15,16 +11,6 @@ keeps_on a b c p q = record {
   joined = q.joined ∙ p.joined;
   seen = (p.seen.0 ++ q.seen.0, sym (append_assoc a.seen p.seen.0 q.seen.0) ∙ (ap (λ l. l ++ q.seen.0) p.seen.1 ∙ q.seen.1));
 }
-
--- Where each turn ends its worker, a run is one turn
-pub one_turn : {W : Type 0} (does : Doing W) (ended : W → Type 0) (before : W) (old : DeskView) (after : W) (new : DeskView)
-    → ((w : W) (d : DeskView) (v : W) (e : DeskView) → does w d v e → ended v)
-    → RunsToEnd does ended before old after new → does before old after new
-one_turn {W} does ended before old after new ends run = from run.turns run.worker run.desk run.on run.last
-  where
-    from : (n : ℕ) (w : W) (d : DeskView) → GoesOn does ended n before old w d → does w d after new → does before old after new
-    from zero w d on last = subst (λ (v : W). does v old after new) on.0 (subst (λ (e : DeskView). does w e after new) on.1 last)
-    from (suc n) w d on last = absurd (on.4 (ends on.0 on.1 w d on.3))
 
 -- What holds of no turn, of one, and of one run behind another, holds of a whole run
 pub whole_run : {W : Type 0} (does : Doing W) (ended : W → Type 0) (So : Doing W)

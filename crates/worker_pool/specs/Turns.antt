@@ -22,7 +22,8 @@ GoesOn {W} does ended (suc turns) before old after new =
     × GoesOn does ended turns before old worker desk × does worker desk after new × (ended after → ⊥)
 
 -- turns one after the other, the last of which alone ended the worker
-pub record RunsToEnd {W : Type 0} (does : Doing W) (ended : W → Type 0) (before : W) (old : DeskView) (after : W) (new : DeskView) : Type 0 where
+pub record RunsToEnd {W : Type 0} (does : Doing W) (ended : W → Type 0) (before : W) (old : DeskView) (after : W)
+    (new : DeskView) : Type 0 where
   pub turns : ℕ
   pub worker : W
   pub desk : DeskView

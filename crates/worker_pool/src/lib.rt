@@ -5,7 +5,10 @@
 //! other threads do. Where no thread can be made, members run one after another. It waits for its members,
 //! and nothing is said of when they end.
 //!
-//! It is a room of its own since it knows threads and desks, and nothing of what the members do there.
+//! It is a crate of its own since it knows threads and desks, and nothing of what the members do there.
+//!
+//! `Gate` has calls round each turn, of which no clause speaks; `Open` does nothing there. `proofs/Chains`: what
+//! holds of no turn, of one, and of one run followed by another, holds of the whole run.
 #![tactic(auto)]
 
 mod gate;

@@ -6,6 +6,6 @@ use claim_rule::Desk;
 pub struct Member<W> {
     /// Whose steps the worker's turns are.
     pub desk: Desk,
-    /// Who takes the turns.
+    /// What takes the turns.
     pub worker: W,
 }

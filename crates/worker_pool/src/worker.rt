@@ -1,4 +1,4 @@
-// Who takes turns on a desk.
+// What takes turns on a desk.
 ghost use Rattle.std.specs.Prelude.{◌≡◌, ◌↔◌};
 ghost use Rattle.claim_rule.specs.Rule.{BooksView, DeskView};
 ghost use Rattle.claim_rule.specs.Desks.{IsOf};
@@ -9,7 +9,7 @@ ghost use Rattle.worker_pool.specs.Turns.{KeepsDesk};
 use claim_rule::{Books, Desk};
 
 /// What a turn answers.
-#[derive(Clone, Copy, Debug, PartialEq, Eq)]
+#[derive(Clone, Copy, PartialEq, Eq)]
 pub enum TurnEnd {
     /// The worker wants another turn.
     Again,

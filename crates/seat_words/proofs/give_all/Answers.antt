@@ -1,6 +1,6 @@
 use Rattle.std.proofs.Common.{◌≡◌, ℕ, add-zero, sym, ap, ◌∙◌, subst}
 use Rattle.claim_rule.specs.Endings.{EndingView}
-use Rattle.claim_rule.specs.Desks.{Shape}
+use Rattle.claim_rule.specs.Desks.{AddsSteps}
 use Rattle.claim_rule.specs.EndSteps.{gives_from}
 use Rattle.claim_rule.proofs.Out.{holds_same, holds_then}
 use Rattle.claim_rule.proofs.Shapes.{shape_none}
@@ -48,5 +48,5 @@ returns c =
       ending = i.ending;
       holds = i.holds;
       all = all_given c.args.ending.now c.loop.ending n is i.all;
-      entries = all_shape c.args.desk.now c.loop.desk c.args.ending.now n i.all (subst (λ (k : ℕ). Shape c.args.desk.now c.loop.desk (gives_from c.args.ending.now.row.row c.args.ending.now.given k)) done i.seen);
+      entries = all_shape c.args.desk.now c.loop.desk c.args.ending.now n i.all (subst (λ (k : ℕ). AddsSteps c.args.desk.now c.loop.desk (gives_from c.args.ending.now.row.row c.args.ending.now.given k)) done i.seen);
     }

@@ -1,5 +1,5 @@
 use Rattle.std.proofs.Common.{◌≡◌, ◌+◌, true, length}
-use Rattle.claim_rule.specs.Desks.{IsOf, Shape}
+use Rattle.claim_rule.specs.Desks.{IsOf, AddsSteps}
 use Rattle.claim_rule.specs.EndSteps.{gives_from}
 use Rattle.claim_rule.specs.Out.{IsEnding, KeepsHolds}
 use Rattle.seat_words.proofs.Giving.{so_far}
@@ -13,5 +13,5 @@ invariant-loop l = record {
   is : l.ending ≡ so_far l.initial.ending l.counter;
   read : l.ending.read ≡ true;
   all : l.end + l.initial.ending.given ≡ length l.initial.ending.items;
-  seen : Shape l.initial.desk l.desk (gives_from l.initial.ending.row.row l.initial.ending.given l.counter);
+  seen : AddsSteps l.initial.desk l.desk (gives_from l.initial.ending.row.row l.initial.ending.given l.counter);
 }

@@ -1,6 +1,6 @@
 use Rattle.std.proofs.Common.{◌≤◌, ◌-◌, ◌*◌}
 use Rattle.claim_rule.specs.Desks.{IsOf}
-use Rattle.claim_rule.specs.Calls.{ShapeBy}
+use Rattle.claim_rule.specs.Calls.{AddsStepsBy}
 use Rattle.claim_rule.specs.Out.{KeepsHolds, KeepsEndings}
 use Rattle.availability.specs.Looks.{CountsFree, row_from}
 use Rattle.availability.proofs.looks.free_fours.Given as goal
@@ -12,5 +12,5 @@ invariant-loop-four l = record {
   endings : KeepsEndings l.fn.desk l.desk;
   begun : l.from ≤ l.four;
   few : l.free ≤ 4 * (l.four - l.from);
-  looked : ShapeBy (CountsFree (row_from (4 * l.from) (4 * (l.four - l.from))) l.parts l.free) l.fn.desk l.desk;
+  looked : AddsStepsBy (CountsFree (row_from (4 * l.from) (4 * (l.four - l.from))) l.parts l.free) l.fn.desk l.desk;
 }

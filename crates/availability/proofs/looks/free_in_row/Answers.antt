@@ -1,6 +1,6 @@
 use Rattle.std.proofs.Common.{subst}
 use Rattle.leg_masks.specs.Interval.{Interval}
-use Rattle.claim_rule.specs.Calls.{ShapeBy}
+use Rattle.claim_rule.specs.Calls.{AddsStepsBy}
 use Rattle.availability.specs.Looks.{CountsFree, row_from}
 use Rattle.availability.proofs.Looking.{counted_tidy}
 use Rattle.availability.proofs.looks.free_in_row.Goals as goal
@@ -8,7 +8,7 @@ use Rattle.availability.proofs.looks.free_in_row.Goals as goal
 singly : goal.returns-then-is_some-clause-entries
 singly c =
     let did = c.free_one_by_one in
-    subst (λ (s : Interval). ShapeBy (CountsFree (row_from c.args.first.0 c.args.count) s did.result) c.args.desk.now did.new.desk) c.of-parts.ensures did.ensures.entries
+    subst (λ (s : Interval). AddsStepsBy (CountsFree (row_from c.args.first.0 c.args.count) s did.result) c.args.desk.now did.new.desk) c.of-parts.ensures did.ensures.entries
 
 pub returns-then-is_some-clause-entries : goal.returns-then-is_some-clause-entries
 returns-then-is_some-clause-entries c = singly c
@@ -21,7 +21,7 @@ returns-then-is_some-clause-tidy c =
 by_fours : goal.returns-clause-entries
 by_fours c =
     let did = c.free_by_fours in
-    subst (λ (s : Interval). ShapeBy (CountsFree (row_from c.args.first.0 c.args.count) s did.result) c.args.desk.now did.new.desk) c.of-parts.ensures did.ensures.entries
+    subst (λ (s : Interval). AddsStepsBy (CountsFree (row_from c.args.first.0 c.args.count) s did.result) c.args.desk.now did.new.desk) c.of-parts.ensures did.ensures.entries
 
 pub returns-clause-entries : goal.returns-clause-entries
 returns-clause-entries c = by_fours c

@@ -1,5 +1,5 @@
 use Rattle.std.proofs.Common.{◌≡◌, ◌∙◌, ◌+◌, Bool, ℕ, take, sym, ap, subst, arith, cond, add-zero}
-use Rattle.claim_rule.specs.Calls.{ShapeBy}
+use Rattle.claim_rule.specs.Calls.{AddsStepsBy}
 use Rattle.claim_rule.proofs.Out.{holds_same, endings_same, holds_then, endings_then}
 use Rattle.availability.specs.Looks.{CountsFree}
 use Rattle.availability.proofs.Looking.{counted_none, counted_next, counted_tidy}
@@ -34,7 +34,7 @@ loop-place-preserved c =
       holds = holds_then old mid new i.holds look.ensures.holds;
       endings = endings_then old mid new i.endings look.ensures.endings;
       few = elim c.if-look_free.branch [ then-look_free w ↦ omega arith | else-look_free w ↦ omega arith ];
-      looked = subst (λ (n : ℕ). ShapeBy (CountsFree (take (c.loop-place.place-index + 1) c.args.places.now) c.args.span n) old new) (sym counts)
+      looked = subst (λ (n : ℕ). AddsStepsBy (CountsFree (take (c.loop-place.place-index + 1) c.args.places.now) c.args.span n) old new) (sym counts)
           (counted_next old mid new c.args.places.now c.loop-place.place-index _ c.args.span c.loop-place.free look.result c.loop-place-test.true i.looked look.ensures.entries);
     }
 

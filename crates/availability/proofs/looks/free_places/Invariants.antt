@@ -1,6 +1,6 @@
 use Rattle.std.proofs.Common.{◌≤◌, take}
 use Rattle.claim_rule.specs.Desks.{IsOf}
-use Rattle.claim_rule.specs.Calls.{ShapeBy}
+use Rattle.claim_rule.specs.Calls.{AddsStepsBy}
 use Rattle.claim_rule.specs.Out.{KeepsHolds, KeepsEndings}
 use Rattle.availability.specs.Looks.{CountsFree}
 use Rattle.availability.proofs.looks.free_places.Given as goal
@@ -11,5 +11,5 @@ invariant-loop-place l = record {
   holds : KeepsHolds l.fn.desk l.desk;
   endings : KeepsEndings l.fn.desk l.desk;
   few : l.free ≤ l.place-index;
-  looked : ShapeBy (CountsFree (take l.place-index l.places) l.span l.free) l.fn.desk l.desk;
+  looked : AddsStepsBy (CountsFree (take l.place-index l.places) l.span l.free) l.fn.desk l.desk;
 }

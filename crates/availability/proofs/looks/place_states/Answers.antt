@@ -1,5 +1,5 @@
 use Rattle.std.proofs.Common.{◌∙◌, ◌+◌, [], Bool, List, take, sym, ap, subst, arith}
-use Rattle.claim_rule.specs.Calls.{ShapeBy}
+use Rattle.claim_rule.specs.Calls.{AddsStepsBy}
 use Rattle.claim_rule.proofs.Out.{holds_same, endings_same, holds_then, endings_then}
 use Rattle.availability.specs.Looks.{LooksAt}
 use Rattle.availability.proofs.Looking.{looked_none, looked_next, looked_tidy}
@@ -15,7 +15,7 @@ loop-place-init c =
       endings = endings_same desk;
       long = v.len;
       room = omega (arith, v.exact);
-      looked = subst (λ (l : List Bool). ShapeBy (LooksAt [] c.args.span l) desk desk) (sym v.items) (looked_none desk c.args.span c.requires.own.legal);
+      looked = subst (λ (l : List Bool). AddsStepsBy (LooksAt [] c.args.span l) desk desk) (sym v.items) (looked_none desk c.args.span c.requires.own.legal);
     }
 
 pub loop-place-preserved : goal.loop-place-preserved
@@ -31,7 +31,7 @@ loop-place-preserved c =
       endings = endings_then old mid new i.endings look.ensures.endings;
       long = c.in-Ok.ensures.len ∙ ap (λ n. n + 1) i.long;
       room = omega (arith, c.in-Ok.ensures.capacity);
-      looked = subst (λ (l : List Bool). ShapeBy (LooksAt (take (c.loop-place.place-index + 1) c.args.places.now) c.args.span l) old new) (sym c.in-Ok.ensures.items)
+      looked = subst (λ (l : List Bool). AddsStepsBy (LooksAt (take (c.loop-place.place-index + 1) c.args.places.now) c.args.span l) old new) (sym c.in-Ok.ensures.items)
           (looked_next old mid new c.args.places.now c.loop-place.place-index _ c.args.span c.loop-place.states.items look.result c.loop-place-test.true i.looked look.ensures.entries);
     }
 

@@ -2,7 +2,7 @@ use Rattle.std.proofs.Common.{◌≡◌, ℕ, ◌+◌, ◌<◌, ◌≤◌, [], �
 use Rattle.history_model.specs.declared.entry.Step.TheVariants.{Start}
 use Rattle.history_model.specs.Booking.{Layout}
 use Rattle.claim_rule.specs.Rule.{DeskView}
-use Rattle.claim_rule.specs.Desks.{Shape}
+use Rattle.claim_rule.specs.Desks.{AddsSteps}
 use Rattle.claim_rule.specs.Holds.{HoldView, empty_hold}
 use Rattle.claim_rule.specs.Out.{KeepsEndings}
 use Rattle.claim_rule.proofs.Shapes.{step_shape, shape_then, shape_past, shape_none}
@@ -67,7 +67,7 @@ returns-in-Some-clause-found c =
     let hold = c.in-Some.hold in
     let first = c.args.desk.now.past in
     let row_is : hold.row.row ≡ c.loop-row.row = ap (λ (h : HoldView). h.row.row) e.2 in
-    let did = subst (λ (r : ℕ). Shape c.args.desk.now c.start_row.new.desk (row_looks first so.shown ++ Start r 0 ∷ [])) (sym row_is)
+    let did = subst (λ (r : ℕ). AddsSteps c.args.desk.now c.start_row.new.desk (row_looks first so.shown ++ Start r 0 ∷ [])) (sym row_is)
     (shape_then c.args.desk.now c.loop-row.desk c.start_row.new.desk (row_looks first so.shown) (Start c.loop-row.row 0 ∷ []) so.seen (step_shape (Start c.loop-row.row 0) c.loop-row.desk c.start_row.new.desk e.0)) in
     subst (λ (d : DeskView). Finds c.args.desk.now d (Some hold)) (sym c.pass.ensures.past) (
       holding_past c.start_row.new.desk hold (c.loop-row.row + 1) e.1,

@@ -4,7 +4,7 @@ use Rattle.history_model.specs.Booking.{Layout}
 use Rattle.claim_rule.specs.Rule.{DeskView}
 use Rattle.claim_rule.specs.Desks.{AddsAtMost}
 use Rattle.claim_rule.specs.Holds.{HoldView}
-use Rattle.claim_rule.specs.Calls.{ShapeBy}
+use Rattle.claim_rule.specs.Calls.{AddsStepsBy}
 use Rattle.claim_rule.specs.Out.{HoldsNone, KeepsEndings}
 use Rattle.claim_rule.proofs.Out.{endings_same, endings_then}
 use Rattle.booking_rows.specs.Starts.{StartsHold}
@@ -21,7 +21,7 @@ pub returns-in-Some-clause-entries : goal.returns-in-Some-clause-entries
 returns-in-Some-clause-entries c =
     let old = c.args.desk.now in
     let row = c.in-Some.hold.row in
-    subst (λ (d : DeskView). ShapeBy (StartsHold old d (Some row)) old d) (sym c.kept.ensures.kept) (kept_entries c.args.books.now old row c.requires.own c.in-Some.ensures.some.0)
+    subst (λ (d : DeskView). AddsStepsBy (StartsHold old d (Some row)) old d) (sym c.kept.ensures.kept) (kept_entries c.args.books.now old row c.requires.own c.in-Some.ensures.some.0)
 
 pub returns-in-Some-clause-hold : goal.returns-in-Some-clause-hold
 returns-in-Some-clause-hold c = (c.in-Some.ensures.holding c.args.books.now c.requires.own c.requires.none, ap (λ (h : HoldView). h.items) c.in-Some.ensures.some.1)
@@ -52,7 +52,7 @@ returns-in-Some-start_free-clause-entries c =
     let s = c.start_free in
     let hold = c.in-Some-start_free.hold in
     let same = same_desk old c.kept.new.self c.kept.ensures.kept c.in_default.ensures.none in
-    subst (λ (d : DeskView). ShapeBy (StartsHold d s.new.desk (Some hold.row)) d s.new.desk) same
+    subst (λ (d : DeskView). AddsStepsBy (StartsHold d s.new.desk (Some hold.row)) d s.new.desk) same
     (found_entries c.kept.new.self s.new.desk hold (subst HoldsNone (sym same) c.requires.none) (ap (λ (d : DeskView). d.kept) same ∙ c.in_default.ensures.none) s.ensures.own.past c.in-Some-start_free.ensures.found)
 
 pub returns-in-Some-start_free-clause-remembers : goal.returns-in-Some-start_free-clause-remembers
@@ -100,7 +100,7 @@ returns-clause-entries c =
     let t = c.start_again in
     let same = same_desk old c.kept.new.self c.kept.ensures.kept c.in_default.ensures.none in
     let back : c.args.books.now.layout ≡ c.kept.new.self.layout = sym c.requires.own.layout ∙ sym (ap (λ (d : DeskView). d.layout) same) in
-    subst (λ (d : DeskView). ShapeBy (StartsHold d t.new.desk (option_map (λ (h : HoldView). h.row) t.result)) d t.new.desk) same
+    subst (λ (d : DeskView). AddsStepsBy (StartsHold d t.new.desk (option_map (λ (h : HoldView). h.row) t.result)) d t.new.desk) same
     (again_entries c.kept.new.self s.new.desk t.new.desk t.result (subst HoldsNone (sym same) c.requires.none) (ap (λ (d : DeskView). d.kept) same ∙ c.in_default.ensures.none)
     t.ensures.own.past (s.ensures.own.layout ∙ back) (t.ensures.own.layout ∙ back) c.in_default-start_free.ensures.found t.ensures.found)
 

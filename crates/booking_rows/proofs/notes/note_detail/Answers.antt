@@ -2,7 +2,7 @@ use Rattle.std.proofs.Common.{ℕ, ap, sym, ◌∙◌, length, subst, [], ◌∷
 use Rattle.history_model.specs.declared.entry.Step.TheVariants.{Note}
 use Rattle.claim_rule.specs.Holds.{HoldView}
 use Rattle.claim_rule.specs.Out.{IsToBeSealed}
-use Rattle.claim_rule.specs.Desks.{Shape, Stepped}
+use Rattle.claim_rule.specs.Desks.{AddsSteps, Stepped}
 use Rattle.booking_rows.proofs.NoteLemmas.{four_notes, sealable, detail_hold, detail_endings}
 use Rattle.booking_rows.proofs.notes.note_detail.Goals as goal
 
@@ -18,7 +18,7 @@ returns-clause-entries c =
     let s3 = ap row three.hold.1 ∙ s2 in
     let h = c.args.hold.now in
     let d = c.args.detail in
-    subst (λ (x : ℕ × ℕ × ℕ). Shape c.args.desk.now c.step_note-4.new.desk (Note h.row.row 1 x.0 ∷ Note h.row.row 2 x.1 ∷ Note h.row.row 3 d.total ∷ Note h.row.row 4 x.2 ∷ [])) (λ i. (c.number_word.ensures.value i, c.seconds.ensures.value i, ap length c.items.ensures.items i))
+    subst (λ (x : ℕ × ℕ × ℕ). AddsSteps c.args.desk.now c.step_note-4.new.desk (Note h.row.row 1 x.0 ∷ Note h.row.row 2 x.1 ∷ Note h.row.row 3 d.total ∷ Note h.row.row 4 x.2 ∷ [])) (λ i. (c.number_word.ensures.value i, c.seconds.ensures.value i, ap length c.items.ensures.items i))
     (four_notes c.args.desk.now c.step_note.new.desk c.step_note-2.new.desk c.step_note-3.new.desk c.step_note-4.new.desk h.row.row c.step_note.new.hold.row.row c.step_note-2.new.hold.row.row c.step_note-3.new.hold.row.row c.number_word.result c.seconds.result d.total (length c.items.result.now)
     s1 s2 s3 one.noted two.noted three.noted four.noted)
 

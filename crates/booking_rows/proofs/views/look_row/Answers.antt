@@ -1,7 +1,7 @@
 use Rattle.std.proofs.Common.{◌≡◌, true, false, sym, ◌∙◌, refl, subst, ◌∷◌, [], inl, rules}
 use Rattle.history_model.specs.declared.entry.Step.TheVariants.{SawRow}
 use Rattle.history_model.specs.Phase.{is_sealed as sealed_phase, phase_shown}
-use Rattle.claim_rule.specs.Desks.{Shape}
+use Rattle.claim_rule.specs.Desks.{AddsSteps}
 use Rattle.claim_rule.proofs.Out.{looks_holds, looks_endings}
 use Rattle.claim_rule.proofs.Shapes.{step_shape}
 use Rattle.booking_rows.specs.SealedRows.{IsSealedSince}
@@ -91,7 +91,7 @@ returns-clause-entries c =
     let v = c.view_of in (
       saw_row c.args.row v.result last.result,
       (v.ensures.seen, (last.result, (λ e. c.in_default.not-Free (c.phase_shown-last.ensures ∙ e)), refl)),
-      subst (Shape c.args.desk.now last.new.desk) (all_seen c.args.row v.result w.result last.result v.ensures.phase (v.ensures.entries c.args.row.row)) all.shape,
+      subst (AddsSteps c.args.desk.now last.new.desk) (all_seen c.args.row v.result w.result last.result v.ensures.phase (v.ensures.entries c.args.row.row)) all.shape,
     )
 
 pub returns-clause-holds : goal.returns-clause-holds

@@ -1,7 +1,7 @@
 use Rattle.std.proofs.Common.{◌≡◌, ◌≤◌, ℕ, List, [], ◌∷◌, ◌++◌, ap, ◌∙◌, sym, subst}
 use Rattle.history_model.specs.Booking.{most_rows}
 use Rattle.history_model.specs.declared.phase.Phase.{Phase}
-use Rattle.claim_rule.specs.Desks.{Shape}
+use Rattle.claim_rule.specs.Desks.{AddsSteps}
 use Rattle.booking_rows.specs.SealedRows.{IsSealedSince, IsEndOf}
 use Rattle.booking_rows.specs.Views.{word_looks}
 use Rattle.booking_rows.proofs.ViewLemmas.{three_looks, end_fits}
@@ -19,7 +19,7 @@ returns-in-Ended-clause-entries c =
     let third = c.step_read-in-Ended-2 in
     let all = three first.result second.result third.result c.new-end.result.items c.push.new.self.items c.push-in-Ended.new.self.items c.push-in-Ended-2.new.self.items
     c.new-end.ensures c.push.ensures.items c.push-in-Ended.ensures.items c.push-in-Ended-2.ensures.items in
-    subst (λ (l : List ℕ). Shape c.args.desk.now third.new.desk (word_looks row 5 l)) (sym all)
+    subst (λ (l : List ℕ). AddsSteps c.args.desk.now third.new.desk (word_looks row 5 l)) (sym all)
     (three_looks c.args.desk.now first.new.desk second.new.desk third.new.desk row 5 6 7 first.result second.result third.result first.ensures.look second.ensures.look third.ensures.look)
 
 pub returns-in-Ended-clause-words : goal.returns-in-Ended-clause-words

@@ -3,7 +3,7 @@ use Rattle.std.specs.List.{AllByRecursion}
 use Rattle.leg_masks.specs.Interval.{most_places, most_legs}
 use Rattle.history_model.specs.Booking.{Layout, most_items, row_words}
 use Rattle.history_model.specs.declared.entry.Step.TheVariants.{SawRow}
-use Rattle.claim_rule.specs.Desks.{Shape}
+use Rattle.claim_rule.specs.Desks.{AddsSteps}
 use Rattle.claim_rule.proofs.Shapes.{step_shape, shape_none}
 use Rattle.booking_rows.specs.SealedRows.{IsItemWord, IsStillPresent}
 use Rattle.booking_rows.specs.Views.{word_looks}
@@ -29,7 +29,7 @@ loop-i-init c =
       many = ap length none;
       kept = λ i. desk.kept;
       words = λ _. subst (AllByRecursion IsItemWord) (sym none) tt;
-      seen = subst (λ (l : List ℕ). Shape desk desk (word_looks c.args.row.row 8 l)) (sym none) (shape_none desk c.requires.own.legal);
+      seen = subst (λ (l : List ℕ). AddsSteps desk desk (word_looks c.args.row.row 8 l)) (sym none) (shape_none desk c.requires.own.legal);
     }
 
 pub overflow_add-i : goal.overflow_add-i
@@ -67,7 +67,7 @@ loop-i-preserved c =
           (subst (λ (l : Layout). length l.legs ≤ most_places) lay c.requires.fit.places)
           (subst (λ (l : Layout). All (λ n. n ≤ most_legs) l.legs) lay c.requires.fit.legs)
           look so.sealed (so.counted (before now)) now low));
-      seen = subst (λ (l : List ℕ). Shape c.args.desk.now new (word_looks row.row 8 l)) (sym pushed) (one_more c.args.desk.now old new row.row v k is so.many so.seen look);
+      seen = subst (λ (l : List ℕ). AddsSteps c.args.desk.now new (word_looks row.row 8 l)) (sym pushed) (one_more c.args.desk.now old new row.row v k is so.many so.seen look);
     }
 
 -- the loop ended

@@ -1,6 +1,6 @@
 use Rattle.std.proofs.Common.{◌≡◌, length}
 use Rattle.std.specs.List.{AllByRecursion}
-use Rattle.claim_rule.specs.Desks.{IsOf, Shape}
+use Rattle.claim_rule.specs.Desks.{IsOf, AddsSteps}
 use Rattle.booking_rows.specs.SealedRows.{IsSealedRow, IsStillPresent, HasItems, IsItemWord}
 use Rattle.booking_rows.specs.Views.{word_looks}
 use Rattle.booking_rows.proofs.views.read_item_words.Given as goal
@@ -13,5 +13,5 @@ invariant-loop-i l = record {
   many : length l.items.items ≡ l.i;
   kept : l.desk.kept ≡ l.fn.desk.kept;
   words : IsStillPresent l.desk l.row → AllByRecursion IsItemWord l.items.items;
-  seen : Shape l.fn.desk l.desk (word_looks l.row.row 8 l.items.items);
+  seen : AddsSteps l.fn.desk l.desk (word_looks l.row.row 8 l.items.items);
 }

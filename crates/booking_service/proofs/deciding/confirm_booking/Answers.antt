@@ -5,7 +5,7 @@ use Rattle.confirm_core.specs.declared.confirming.Confirmed.TheVariants as confi
 use Rattle.claim_rule.proofs.Out.{still_idle}
 use Rattle.osdm_texts.specs.declared.problem.Problem.TheVariants.{UnknownBooking, TooLate, WrongState}
 use Rattle.osdm_texts.specs.Answers.{booking, reply_told}
-use Rattle.booking_service.specs.Deciding.{ConfirmsIt}
+use Rattle.booking_service.specs.Deciding.{ConfirmsFound}
 use Rattle.booking_service.proofs.Calm.{found_tidy, confirmed_tidy}
 use Rattle.osdm_texts.proofs.Telling.{of_problem}
 use Rattle.booking_service.proofs.Replying.{unknown, no_memory, done}
@@ -27,7 +27,7 @@ returns-in_default-clause-idle c =
     let d = c.in_default.ensures in still_idle _ _ d.holds d.endings c.requires.idle
 
 pub returns-in_default-clause-answer : goal.returns-in_default-clause-answer
-returns-in_default-clause-answer c = unknown _ _ _ _ (ConfirmsIt _ _ _ _) _ _ c.in_default.ensures.entries
+returns-in_default-clause-answer c = unknown _ _ _ _ (ConfirmsFound _ _ _ _) _ _ c.in_default.ensures.entries
 
 -- no memory for its answer
 
@@ -40,7 +40,7 @@ returns-in_default-booking_answer-clause-idle c =
     let f = c.in-Some.ensures in still_idle _ _ f.holds f.endings c.requires.idle
 
 pub returns-in_default-booking_answer-clause-answer : goal.returns-in_default-booking_answer-clause-answer
-returns-in_default-booking_answer-clause-answer c = no_memory _ _ _ _ (ConfirmsIt _ _ _ _) _ _ _ c.in-Some.ensures.entries
+returns-in_default-booking_answer-clause-answer c = no_memory _ _ _ _ (ConfirmsFound _ _ _ _) _ _ _ c.in-Some.ensures.entries
 
 -- confirmed
 
@@ -57,7 +57,7 @@ returns-in-Done-clause-idle c =
 
 pub returns-in-Done-clause-answer : goal.returns-in-Done-clause-answer
 returns-in-Done-clause-answer c =
-    done _ _ _ _ (ConfirmsIt _ _ _ _) _ _ _ _ _ _ c.in-Some.ensures.entries (confirmed.Done, c.in-Done.ensures.entries, refl)
+    done _ _ _ _ (ConfirmsFound _ _ _ _) _ _ _ _ _ _ c.in-Some.ensures.entries (confirmed.Done, c.in-Done.ensures.entries, refl)
     (c.in-Some-booking_answer.ensures.told
     ∙ ap (λ (v : RowSeen). reply_told c.args.shop.now.cat.now (booking c.args.row v)) c.in_phase.ensures.view)
 
@@ -76,7 +76,7 @@ returns-in-Unknown-clause-idle c =
 
 pub returns-in-Unknown-clause-answer : goal.returns-in-Unknown-clause-answer
 returns-in-Unknown-clause-answer c =
-    done _ _ _ _ (ConfirmsIt _ _ _ _) _ _ _ _ _ _ c.in-Some.ensures.entries
+    done _ _ _ _ (ConfirmsFound _ _ _ _) _ _ _ _ _ _ c.in-Some.ensures.entries
     (confirmed.Unknown, c.in-Unknown.ensures.entries, refl) (of_problem _ UnknownBooking)
 
 -- too late
@@ -94,7 +94,7 @@ returns-in-TooLate-clause-idle c =
 
 pub returns-in-TooLate-clause-answer : goal.returns-in-TooLate-clause-answer
 returns-in-TooLate-clause-answer c =
-    done _ _ _ _ (ConfirmsIt _ _ _ _) _ _ _ _ _ _ c.in-Some.ensures.entries
+    done _ _ _ _ (ConfirmsFound _ _ _ _) _ _ _ _ _ _ c.in-Some.ensures.entries
     (confirmed.TooLate _, c.in-TooLate.ensures.entries, refl) (of_problem _ (TooLate _ _))
 
 -- in another state
@@ -112,5 +112,5 @@ returns-in-WrongState-clause-idle c =
 
 pub returns-in-WrongState-clause-answer : goal.returns-in-WrongState-clause-answer
 returns-in-WrongState-clause-answer c =
-    done _ _ _ _ (ConfirmsIt _ _ _ _) _ _ _ _ _ _ c.in-Some.ensures.entries
+    done _ _ _ _ (ConfirmsFound _ _ _ _) _ _ _ _ _ _ c.in-Some.ensures.entries
     (confirmed.WrongState _, c.in-WrongState.ensures.entries, refl) (of_problem _ (WrongState _))

@@ -5,7 +5,7 @@ use Rattle.confirm_core.specs.declared.fulfilling.Fulfilment.TheVariants as fulf
 use Rattle.claim_rule.proofs.Out.{still_idle}
 use Rattle.osdm_texts.specs.declared.problem.Problem.TheVariants.{UnknownBooking, WrongState}
 use Rattle.osdm_texts.specs.Answers.{booking, reply_told}
-use Rattle.booking_service.specs.Deciding.{FulfilsIt}
+use Rattle.booking_service.specs.Deciding.{FulfilsFound}
 use Rattle.booking_service.proofs.Calm.{found_tidy, fulfilled_tidy}
 use Rattle.osdm_texts.proofs.Telling.{of_problem}
 use Rattle.booking_service.proofs.Replying.{unknown, no_memory, done}
@@ -27,7 +27,7 @@ returns-in_default-clause-idle c =
     let d = c.in_default.ensures in still_idle _ _ d.holds d.endings c.requires.idle
 
 pub returns-in_default-clause-answer : goal.returns-in_default-clause-answer
-returns-in_default-clause-answer c = unknown _ _ _ _ (FulfilsIt _ _ _) _ _ c.in_default.ensures.entries
+returns-in_default-clause-answer c = unknown _ _ _ _ (FulfilsFound _ _ _) _ _ c.in_default.ensures.entries
 
 -- no memory for its answer
 
@@ -40,7 +40,7 @@ returns-in_default-booking_answer-clause-idle c =
     let f = c.in-Some.ensures in still_idle _ _ f.holds f.endings c.requires.idle
 
 pub returns-in_default-booking_answer-clause-answer : goal.returns-in_default-booking_answer-clause-answer
-returns-in_default-booking_answer-clause-answer c = no_memory _ _ _ _ (FulfilsIt _ _ _) _ _ _ c.in-Some.ensures.entries
+returns-in_default-booking_answer-clause-answer c = no_memory _ _ _ _ (FulfilsFound _ _ _) _ _ _ c.in-Some.ensures.entries
 
 -- collected
 
@@ -57,7 +57,7 @@ returns-in-Done-clause-idle c =
 
 pub returns-in-Done-clause-answer : goal.returns-in-Done-clause-answer
 returns-in-Done-clause-answer c =
-    done _ _ _ _ (FulfilsIt _ _ _) _ _ _ _ _ _ c.in-Some.ensures.entries (fulfilled.Done, c.in-Done.ensures.entries, refl)
+    done _ _ _ _ (FulfilsFound _ _ _) _ _ _ _ _ _ c.in-Some.ensures.entries (fulfilled.Done, c.in-Done.ensures.entries, refl)
     (c.in-Some-booking_answer.ensures.told
     ∙ ap (λ (v : RowSeen). reply_told c.args.shop.now.cat.now (booking c.args.row v)) c.in_phase.ensures.view)
 
@@ -76,7 +76,7 @@ returns-in-Unknown-clause-idle c =
 
 pub returns-in-Unknown-clause-answer : goal.returns-in-Unknown-clause-answer
 returns-in-Unknown-clause-answer c =
-    done _ _ _ _ (FulfilsIt _ _ _) _ _ _ _ _ _ c.in-Some.ensures.entries
+    done _ _ _ _ (FulfilsFound _ _ _) _ _ _ _ _ _ c.in-Some.ensures.entries
     (fulfilled.Unknown, c.in-Unknown.ensures.entries, refl) (of_problem _ UnknownBooking)
 
 -- in another state
@@ -94,5 +94,5 @@ returns-in-WrongState-clause-idle c =
 
 pub returns-in-WrongState-clause-answer : goal.returns-in-WrongState-clause-answer
 returns-in-WrongState-clause-answer c =
-    done _ _ _ _ (FulfilsIt _ _ _) _ _ _ _ _ _ c.in-Some.ensures.entries
+    done _ _ _ _ (FulfilsFound _ _ _) _ _ _ _ _ _ c.in-Some.ensures.entries
     (fulfilled.WrongState _, c.in-WrongState.ensures.entries, refl) (of_problem _ (WrongState _))

@@ -7,7 +7,7 @@ use Rattle.refund_core.specs.declared.releasing.Released.TheVariants as released
 use Rattle.claim_rule.proofs.Out.{still_idle}
 use Rattle.osdm_texts.specs.declared.problem.Problem.TheVariants.{UnknownBooking, WrongState}
 use Rattle.osdm_texts.specs.Answers.{booking, reply_told}
-use Rattle.booking_service.specs.Deciding.{ReleasesIt}
+use Rattle.booking_service.specs.Deciding.{ReleasesFound}
 use Rattle.booking_service.proofs.Calm.{found_tidy, released_tidy}
 use Rattle.osdm_texts.proofs.Telling.{of_problem}
 use Rattle.booking_service.proofs.Replying.{unknown, no_memory, done}
@@ -33,7 +33,7 @@ returns-in_default-clause-idle c =
     let d = c.in_default.ensures in still_idle _ _ d.holds d.endings c.requires.idle
 
 pub returns-in_default-clause-answer : goal.returns-in_default-clause-answer
-returns-in_default-clause-answer c = unknown _ _ _ _ (ReleasesIt _ _ _ _) _ _ c.in_default.ensures.entries
+returns-in_default-clause-answer c = unknown _ _ _ _ (ReleasesFound _ _ _ _) _ _ c.in_default.ensures.entries
 
 -- no memory for its answer
 
@@ -46,7 +46,7 @@ returns-in_default-booking_answer-clause-idle c =
     let f = c.in-Some.ensures in still_idle _ _ f.holds f.endings c.requires.idle
 
 pub returns-in_default-booking_answer-clause-answer : goal.returns-in_default-booking_answer-clause-answer
-returns-in_default-booking_answer-clause-answer c = no_memory _ _ _ _ (ReleasesIt _ _ _ _) _ _ _ c.in-Some.ensures.entries
+returns-in_default-booking_answer-clause-answer c = no_memory _ _ _ _ (ReleasesFound _ _ _ _) _ _ _ c.in-Some.ensures.entries
 
 -- released
 
@@ -63,7 +63,7 @@ returns-in-Done-clause-idle c =
 
 pub returns-in-Done-clause-answer : goal.returns-in-Done-clause-answer
 returns-in-Done-clause-answer c =
-    done _ _ _ _ (ReleasesIt _ _ _ _) _ _ _ _ _ _ c.in-Some.ensures.entries (released.Done, c.in-Done.ensures.entries, refl)
+    done _ _ _ _ (ReleasesFound _ _ _ _) _ _ _ _ _ _ c.in-Some.ensures.entries (released.Done, c.in-Done.ensures.entries, refl)
     (c.in-Some-booking_answer.ensures.told
     ∙ ap (λ (v : RowSeen). reply_told c.args.shop.now.cat.now (booking c.args.row v)) c.released.ensures.view)
 
@@ -82,7 +82,7 @@ returns-in-Unknown-clause-idle c =
 
 pub returns-in-Unknown-clause-answer : goal.returns-in-Unknown-clause-answer
 returns-in-Unknown-clause-answer c =
-    done _ _ _ _ (ReleasesIt _ _ _ _) _ _ _ _ _ _ c.in-Some.ensures.entries
+    done _ _ _ _ (ReleasesFound _ _ _ _) _ _ _ _ _ _ c.in-Some.ensures.entries
     (released.Unknown, c.in-Unknown.ensures.entries, refl) (of_problem _ UnknownBooking)
 
 -- in another state
@@ -100,5 +100,5 @@ returns-in-WrongState-clause-idle c =
 
 pub returns-in-WrongState-clause-answer : goal.returns-in-WrongState-clause-answer
 returns-in-WrongState-clause-answer c =
-    done _ _ _ _ (ReleasesIt _ _ _ _) _ _ _ _ _ _ c.in-Some.ensures.entries
+    done _ _ _ _ (ReleasesFound _ _ _ _) _ _ _ _ _ _ c.in-Some.ensures.entries
     (released.WrongState _, c.in-WrongState.ensures.entries, refl) (of_problem _ (WrongState _))

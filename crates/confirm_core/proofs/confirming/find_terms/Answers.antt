@@ -1,6 +1,6 @@
 use Rattle.std.proofs.Common.{◌≡◌, ℕ, ◌<◌, ◌∙◌, true, rules, refl, subst, sym}
 use Rattle.history_model.specs.Phase.{is_sealed as sealed_phase}
-use Rattle.claim_rule.specs.Desks.{Shape}
+use Rattle.claim_rule.specs.Desks.{AddsSteps}
 use Rattle.booking_rows.proofs.ViewLemmas.{sealed_of}
 use Rattle.row_decisions.specs.Looks.{HasLimit, saw_terms}
 use Rattle.row_decisions.proofs.Deciding.{anothers, given_away, terms_seen, last_look}
@@ -112,8 +112,8 @@ returns-clause-entries c =
     let same : c.in-Some.limit ≡ l.result = limit_is l.result c.in-Some.limit has.0 c.in-Some.ensures in (
       saw_terms row p.result c.args.retailer.0 c.in-Some.limit z.0,
       (here, is_so, (z.0, (λ q. c.in_default.not-Free (sym z.1 ∙ q)), refl)),
-      subst (λ (n : ℕ). Shape c.args.desk.now e.new.desk (saw_terms row p.result c.args.retailer.0 n z.0)) (sym same)
-          (subst (λ (n : ℕ). Shape c.args.desk.now e.new.desk (saw_terms row p.result n l.result z.0)) (c.if-owner-from.false ∙ c.from.ensures) seen),
+      subst (λ (n : ℕ). AddsSteps c.args.desk.now e.new.desk (saw_terms row p.result c.args.retailer.0 n z.0)) (sym same)
+          (subst (λ (n : ℕ). AddsSteps c.args.desk.now e.new.desk (saw_terms row p.result n l.result z.0)) (c.if-owner-from.false ∙ c.from.ensures) seen),
     )
 
 pub returns-clause-limit : goal.returns-clause-limit

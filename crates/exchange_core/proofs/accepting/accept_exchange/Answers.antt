@@ -9,7 +9,7 @@ use Rattle.history_model.specs.WholeEnds.{end_at}
 use Rattle.rail_ids.specs.declared.RowNo.{RowNo}
 use Rattle.rail_ids.specs.Spelling.{last_generation}
 use Rattle.booking_rows.proofs.ViewLemmas.{generation_of_hold}
-use Rattle.claim_rule.specs.Calls.{ShapeBy}
+use Rattle.claim_rule.specs.Calls.{AddsStepsBy}
 use Rattle.claim_rule.specs.Desks.{CanTurn}
 use Rattle.claim_rule.specs.Endings.{EndingView}
 use Rattle.offer_codes.specs.Exchanges.{exchange_view}
@@ -65,7 +65,7 @@ returns-in-Ending-clause-entries c =
     let l = c.in-Ending.ensures.leaves in
     let r : ReadyView = record { code = exchange_view i.code; retailer = i.retailer.0; moment = i.moment } in
     let amount : to_z w64 (of_z w64 i.code.difference) ≡ i.code.difference = search rules in
-    subst (λ (y : ReadyView). ShapeBy (AcceptsExchange y c.args.hold.row (exchanged.Done c.seal-new.result (to_z w64 (of_z w64 i.code.difference)))) c.args.desk.now c.finish_end.new.desk) c.ready.view_is (
+    subst (λ (y : ReadyView). AddsStepsBy (AcceptsExchange y c.args.hold.row (exchanged.Done c.seal-new.result (to_z w64 (of_z w64 i.code.difference)))) c.args.desk.now c.finish_end.new.desk) c.ready.view_is (
       exchange_steps r c.args.hold.row e.items,
       (c.seal-new.ensures.row, amount, (e.items, few_items c.turn.new.desk e c.in-Ending.ensures.own.legal l.2 (ap (λ (y : EndingView). y.read) l.1) (ap (λ (y : EndingView). y.given) l.1), refl)),
       carried c.args.desk.now c.turn.new.desk c.seal-new.new.desk c.finish_end.new.desk r c.phase_named-from.result (to_z w64 (of_z w64 i.code.difference)) c.row.result c.args.hold.row e

@@ -1,7 +1,7 @@
 use Rattle.std.proofs.Common.{◌≡◌, [], ◌∷◌, ℕ, suc, ◌+◌, ◌≤◌, Some, length, ap, refl, sym, ◌∙◌, subst, arith, add-zero}
 use Rattle.rail_ids.specs.declared.RowNo.{RowNo}
 use Rattle.claim_rule.specs.Rule.{DeskView}
-use Rattle.claim_rule.specs.Desks.{Shape}
+use Rattle.claim_rule.specs.Desks.{AddsSteps}
 use Rattle.history_model.specs.declared.entry.Step.TheVariants.{Give}
 use Rattle.claim_rule.proofs.Shapes.{shape_kept, adds_length}
 use Rattle.claim_rule.proofs.Out.{endings_same, endings_then}
@@ -42,7 +42,7 @@ loop-preserved c =
       left = count_down (length c.loop.hold.items) (length u.new.hold.items) c.loop.counter (length c.args.hold.items) i.left less;
       seen = gave_more c.args.desk.now c.loop.desk u.new.desk c.args.hold.row.row (length c.args.hold.items) (length u.new.hold.items)
           (subst (GaveSome c.args.desk.now c.loop.desk c.args.hold.row.row (length c.args.hold.items)) less i.seen)
-          (subst (λ (r : ℕ). Shape c.loop.desk u.new.desk (Give r (length u.new.hold.items) ∷ [])) (ap (λ (k : RowNo). k.row) i.row) u.ensures.entries);
+          (subst (λ (r : ℕ). AddsSteps c.loop.desk u.new.desk (Give r (length u.new.hold.items) ∷ [])) (ap (λ (k : RowNo). k.row) i.row) u.ensures.entries);
       endings = endings_then c.args.desk.now c.loop.desk u.new.desk i.endings u.ensures.endings;
     }
 
@@ -53,7 +53,7 @@ returns-clause-entries c =
     let total : length c.items-end.result.now ≡ length h.items = ap length c.items-end.ensures.items in
     let none : c.loop.hold.items ≡ [] = none_left c.loop.hold.items (length h.items) c.loop.counter i.left (subst (λ (n : ℕ). n ≤ c.loop.counter) total c.loop-test.false) in
     let gave = gave_all c.args.desk.now c.loop.desk h.row.row (length h.items) (subst (GaveSome c.args.desk.now c.loop.desk h.row.row (length h.items)) (ap length none) i.seen) in
-    subst (λ (d : DeskView). Shape c.args.desk.now d (gives_back h.row.row (length h.items))) (sym c.keep_row.ensures.kept) (shape_kept c.args.desk.now c.loop.desk (gives_back h.row.row (length h.items)) (Some c.loop.hold.row) gave)
+    subst (λ (d : DeskView). AddsSteps c.args.desk.now d (gives_back h.row.row (length h.items))) (sym c.keep_row.ensures.kept) (shape_kept c.args.desk.now c.loop.desk (gives_back h.row.row (length h.items)) (Some c.loop.hold.row) gave)
 
 pub returns-clause-endings : goal.returns-clause-endings
 returns-clause-endings c = endings_then c.args.desk.now c.loop.desk c.keep_row.new.desk c.loop.invariant.endings c.keep_row.ensures.endings

@@ -1,7 +1,7 @@
 use Rattle.std.proofs.Common.{◌≡◌, [], ◌∷◌}
 use Rattle.history_model.specs.Looks.{look_at}
 use Rattle.claim_rule.specs.Rule.{DeskView}
-use Rattle.claim_rule.specs.Desks.{IsOf, Shape}
+use Rattle.claim_rule.specs.Desks.{IsOf, AddsSteps}
 use Rattle.claim_rule.specs.Out.{IsHolding, HasNotedItems, KeepsEndings}
 use Rattle.leg_masks.specs.Interval.{IsClear}
 use Rattle.hold_core.proofs.Trying.{LookedFree}
@@ -15,5 +15,5 @@ invariant-loop l = record {
   endings : KeepsEndings l.fn.desk l.desk;
   same : l.hold ≡ l.fn.hold;
   clear : IsClear l.shown l.piece;
-  looked : (before : DeskView) → Shape before l.fn.desk (look_at l.place.0 l.piece l.first ∷ []) → LookedFree before l.desk l.place.0 l.piece l.counter l.shown;
+  looked : (before : DeskView) → AddsSteps before l.fn.desk (look_at l.place.0 l.piece l.first ∷ []) → LookedFree before l.desk l.place.0 l.piece l.counter l.shown;
 }

@@ -3,8 +3,9 @@ use Rattle.rail_io.specs.Faults.{Rose}
 use Rattle.rail_service.specs.Listeners.{Handing, IsGiven}
 use Rattle.host_serve.specs.declared.end.ServeOutcome.{ServeOutcome}
 use Rattle.host_serve.specs.Serve.{BooksEnd}
+use Rattle.host_serve.proofs.Chaining.{until_asks}
 use Rattle.host_serve.proofs.Crewing.{complete, one_more}
-use Rattle.host_serve.specs.Turns.{Asks, FitsBooks}
+use Rattle.host_serve.specs.Turns.{Asks, FitsBooks, TicksUntil}
 use Rattle.host_serve.proofs.Closing.{served_wall, all_parts, all_rested, all_worked}
 use Rattle.host_serve.proofs.books.run_books.Goals as goal
 use Rattle.host_serve.proofs.books.run_books.Goals.{then-all, else-all}
@@ -21,9 +22,10 @@ returns g c =
     let asks = Asks g.T.Ticker.ticked c.args.ticker in
     let hands : Handing = IsGiven g.N.Named.gives in
     let view = g.L.Listener.told c.finish_listener-all.new.listener in
-    let worked = all_worked _ (λ s stream sent t. hands stream sent) (λ s left after t. t ≡ s) hands (λ s stream sent t given. given) g.C.Clock.told g.T.Ticker.ticked c.args.cat.now said c.args.ticker clocks c.args.books c.crew_of-crew.result.items _ _
+    let worked = all_worked _ (λ s stream sent t. hands stream sent) (λ s left after t. t ≡ s) hands (λ s stream sent t given. given) g.C.Clock.told (λ t s answer u. TicksUntil g.T.Ticker.ticked g.N.Named.over t.ticker s answer u.ticker) c.args.cat.now said _ clocks c.args.books c.crew_of-crew.result.items _ _
     c.run_crew-desk.new.first c.run_crew-desk.result members.crew members.ready members.count c.requires.workers run
     c.finish_listener-all.new.desk c.meet.new.desk (g.C.Clock.told c.into_clock-clock.result) (g.C.Clock.told c.finish_listener-all.new.clock)
+    asks (λ seconds n before after on last. until_asks g.T.Ticker.ticked g.N.Named.over (λ t. t.ticker) seconds n _ before after on last)
     left.turns.0 c.into_clock-clock.new.all.amount view.handed members.nothing c.into_clock-clock.ensures.amount
     (let counted = c.into_listener-listener.ensures.counted in let more = left.turns.1 in omega (arith, counted, more))
     (ap g.C.Clock.told c.into_clock-clock.ensures.clock) left.keeps left.turns.2 left.own c.meet.ensures.met in
@@ -67,7 +69,7 @@ into_listener-listener-requires g c =
     let said = c.args.said in
     let members = c.crew_of-crew.ensures in
     let hands : Handing = IsGiven g.N.Named.gives in
-    let parts = all_parts _ (λ s stream sent t. hands stream sent) (λ s left after t. t ≡ s) hands (λ s stream sent t given. given) g.C.Clock.told g.T.Ticker.ticked c.args.cat.now said c.args.ticker (map g.C.Clock.told c.args.clocks.items) c.args.books c.crew_of-crew.result.items _ _
+    let parts = all_parts _ (λ s stream sent t. hands stream sent) (λ s left after t. t ≡ s) hands (λ s stream sent t given. given) g.C.Clock.told (λ t s answer u. TicksUntil g.T.Ticker.ticked g.N.Named.over t.ticker s answer u.ticker) c.args.cat.now said _ (map g.C.Clock.told c.args.clocks.items) c.args.books c.crew_of-crew.result.items _ _
     c.run_crew-desk.new.first c.run_crew-desk.result members.crew members.ready members.count c.requires.workers c.run_crew-desk.ensures.run
     c.into_clock-clock.new.all.parts members.parts c.into_clock-clock.ensures.parts in
     record { whole = omega (arith, parts, c.requires.parts, c.requires.one_each) }

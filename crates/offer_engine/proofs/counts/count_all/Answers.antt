@@ -1,6 +1,6 @@
 use Rattle.std.proofs.Common.{List, length, sym, subst}
 use Rattle.rail_ids.specs.declared.PlaceNo.{PlaceNo}
-use Rattle.claim_rule.specs.Calls.{ShapeBy}
+use Rattle.claim_rule.specs.Calls.{AddsStepsBy}
 use Rattle.availability.specs.Looks.{CountsFree}
 use Rattle.offer_engine.proofs.InRow.{row_within}
 use Rattle.offer_engine.proofs.counts.count_all.Goals as goal
@@ -11,4 +11,4 @@ free_in_row-requires-clause-places c =
 
 pub returns-in-Some-clause-entries : goal.returns-in-Some-clause-entries
 returns-in-Some-clause-entries c =
-    subst (λ (l : List PlaceNo). ShapeBy (CountsFree l c.args.span c.free_in_row.result) c.args.desk.now c.free_in_row.new.desk) (sym c.in-Some.ensures.row) c.free_in_row.ensures.entries
+    subst (λ (l : List PlaceNo). AddsStepsBy (CountsFree l c.args.span c.free_in_row.result) c.args.desk.now c.free_in_row.new.desk) (sym c.in-Some.ensures.row) c.free_in_row.ensures.entries

@@ -6,7 +6,7 @@ use Rattle.place_map.specs.declared.coach.Place.{Place}
 use Rattle.place_map.specs.ByClass.{has_traits}
 use Rattle.place_map.specs.Candidates.{candidates_of}
 use Rattle.place_map.proofs.Classes.{numbers_within, with_traits_is}
-use Rattle.claim_rule.specs.Calls.{ShapeBy}
+use Rattle.claim_rule.specs.Calls.{AddsStepsBy}
 use Rattle.availability.specs.Looks.{CountsFree}
 use Rattle.offer_engine.proofs.Candidates.{candidates_few}
 use Rattle.offer_engine.proofs.counts.count_segment.Goals as goal
@@ -39,4 +39,4 @@ returns-clause-entries c =
     ap (λ (l : List Place). filter (has_traits w.wanted l) numbers) c.all-places.ensures.places
     ∙ (ap (filter (has_traits w.wanted c.places-map.result.now)) c.class_places-numbers.ensures.places
     ∙ (with_traits_is run w.class w.wanted c.places-map.result.now ∙ ap (candidates_of run w.class w.wanted) c.places-map.ensures.value)) in
-    subst (λ (l : List PlaceNo). ShapeBy (CountsFree l c.args.segment.now.span c.count_with_traits.result) c.args.desk.now c.count_with_traits.new.desk) is c.count_with_traits.ensures.entries
+    subst (λ (l : List PlaceNo). AddsStepsBy (CountsFree l c.args.segment.now.span c.count_with_traits.result) c.args.desk.now c.count_with_traits.new.desk) is c.count_with_traits.ensures.entries

@@ -1,5 +1,5 @@
 use Rattle.std.proofs.Common.{◌∙◌, ◌+◌, ℕ, List, take, ap, sym, subst}
-use Rattle.claim_rule.specs.Calls.{ShapeBy}
+use Rattle.claim_rule.specs.Calls.{AddsStepsBy}
 use Rattle.availability.specs.Looks.{CountsFree}
 use Rattle.offer_codes.specs.declared.code.Segment.{Segment}
 use Rattle.claim_rule.proofs.Out.{holds_then, endings_then}
@@ -22,7 +22,7 @@ loop-segment-preserved c =
       endings = endings_then old mid new i.endings did.ensures.endings;
       tidy = λ is. did.ensures.tidy (i.tidy is);
       many = c.push.ensures.len ∙ ap (λ n. n + 1) i.many;
-      counted = subst (λ (l : List ℕ). ShapeBy (CountsSegments cat w (take (c.loop-segment.segment-index + 1) c.args.segments.now) l) old new) (sym c.push.ensures.items)
+      counted = subst (λ (l : List ℕ). AddsStepsBy (CountsSegments cat w (take (c.loop-segment.segment-index + 1) c.args.segments.now) l) old new) (sym c.push.ensures.items)
           (counted_next cat w old mid new c.args.segments.now c.loop-segment.segment-index c.segment-item.result c.loop-segment.free.items did.result c.loop-segment-test.true i.counted
-          (subst (λ (s : Segment). ShapeBy (CountsFree (wanted_places cat w s) s.span did.result) mid new) c.segment-item.is did.ensures.entries));
+          (subst (λ (s : Segment). AddsStepsBy (CountsFree (wanted_places cat w s) s.span did.result) mid new) c.segment-item.is did.ensures.entries));
     }

@@ -1,7 +1,7 @@
 use Rattle.std.proofs.Common.{◌≡◌, take}
 use Rattle.arrayvec.specs.ArrayVec.{array_vec_len}
 use Rattle.claim_rule.specs.Desks.{IsOf}
-use Rattle.claim_rule.specs.Calls.{ShapeBy}
+use Rattle.claim_rule.specs.Calls.{AddsStepsBy}
 use Rattle.claim_rule.specs.Out.{KeepsHolds, KeepsEndings, IsTidy}
 use Rattle.offer_engine.specs.Offers.{CountsSegments}
 use Rattle.offer_engine.proofs.counts.count_segments.Given as goal
@@ -13,5 +13,5 @@ invariant-loop-segment l = record {
   endings : KeepsEndings l.fn.desk l.desk;
   tidy : IsTidy l.fn.desk → IsTidy l.desk;
   many : array_vec_len l.free ≡ l.segment-index;
-  counted : ShapeBy (CountsSegments l.cat l.wish (take l.segment-index l.segments) l.free.items) l.fn.desk l.desk;
+  counted : AddsStepsBy (CountsSegments l.cat l.wish (take l.segment-index l.segments) l.free.items) l.fn.desk l.desk;
 }

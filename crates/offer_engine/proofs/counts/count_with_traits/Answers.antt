@@ -1,6 +1,6 @@
 use Rattle.std.proofs.Common.{◌≡◌, List, length, ap, sym, subst, arith, eq-eqb, ne_eqb}
 use Rattle.rail_ids.specs.declared.PlaceNo.{PlaceNo}
-use Rattle.claim_rule.specs.Calls.{ShapeBy}
+use Rattle.claim_rule.specs.Calls.{AddsStepsBy}
 use Rattle.claim_rule.proofs.Out.{holds_then, endings_then}
 use Rattle.place_map.specs.ByClass.{has_traits}
 use Rattle.availability.specs.Looks.{CountsFree}
@@ -22,7 +22,7 @@ loop-number-preserved c =
       | then-places-number v ↦
           let did = v.free_places-free in
           let new = did.new.desk in
-          let looked = subst (λ (l : List PlaceNo). ShapeBy (CountsFree l span did.result) mid new) v.as_slice.ensures did.ensures.entries in
+          let looked = subst (λ (l : List PlaceNo). AddsStepsBy (CountsFree l span did.result) mid new) v.as_slice.ensures did.ensures.entries in
           let one = free_at_most v.as_slice.result.now span did.result mid new did.ensures.entries in
           let size : length v.as_slice.result.now ≡ 1 = ap (λ (l : List PlaceNo). length l) v.as_slice.ensures in
           let counted = wanted_yes wants numbers at none span c.loop-number.free did.result old mid new c.loop-number-test.true (eq-eqb _ _ v.if-places-number.true) i.counted looked in
@@ -42,6 +42,6 @@ loop-number-preserved c =
             endings = rw v.desk-is i.endings;
             tidy = rw v.desk-is i.tidy;
             few = (let few = i.few in omega (arith, v.free-is, few));
-            counted = rw (v.desk-is, v.free-is) (subst (λ (l : List PlaceNo). ShapeBy (CountsFree l span c.loop-number.free) old mid) (sym same) i.counted);
+            counted = rw (v.desk-is, v.free-is) (subst (λ (l : List PlaceNo). AddsStepsBy (CountsFree l span c.loop-number.free) old mid) (sym same) i.counted);
           }
     ]

@@ -1,5 +1,5 @@
 use Rattle.std.proofs.Common.{◌≡◌, ◌∙◌, ◌+◌, ◌++◌, ◌∷◌, [], List, take, ap, sym, subst}
-use Rattle.claim_rule.specs.Calls.{ShapeBy}
+use Rattle.claim_rule.specs.Calls.{AddsStepsBy}
 use Rattle.claim_rule.proofs.Out.{holds_same, endings_same, holds_then, endings_then}
 use Rattle.offer_codes.specs.declared.code.Segment.{Segment}
 use Rattle.offer_codes.specs.declared.code.Offer.{Offer}
@@ -21,7 +21,7 @@ loop-trip-init c =
       holds = holds_same desk;
       endings = endings_same desk;
       tidy = λ is. is;
-      made = subst (λ (l : List Offer). ShapeBy (OffersFor c.args.cat.now c.args.wish.now c.args.now [] l) desk desk) (sym c.new-offers.ensures.items) (offers_none c.args.cat.now c.args.wish.now c.args.now desk c.requires.own.legal);
+      made = subst (λ (l : List Offer). AddsStepsBy (OffersFor c.args.cat.now c.args.wish.now c.args.now [] l) desk desk) (sym c.new-offers.ensures.items) (offers_none c.args.cat.now c.args.wish.now c.args.now desk c.requires.own.legal);
     }
 
 pub loop-trip-preserved : goal.loop-trip-preserved
@@ -40,9 +40,9 @@ loop-trip-preserved c =
       holds = holds_then old mid new i.holds did.ensures.holds;
       endings = endings_then old mid new i.endings did.ensures.endings;
       tidy = λ is. did.ensures.tidy (i.tidy is);
-      made = subst (λ (l : List Offer). ShapeBy (OffersFor cat w now (take (c.loop-trip.trip-index + 1) ts) l) old new) (sym c.in_ok-push.ensures.items)
+      made = subst (λ (l : List Offer). AddsStepsBy (OffersFor cat w now (take (c.loop-trip.trip-index + 1) ts) l) old new) (sym c.in_ok-push.ensures.items)
           (offers_next cat w now old mid new ts c.loop-trip.trip-index c.trip-item.result c.loop-trip.offers.items c.offer_of.result c.loop-trip-test.true i.made
-          (subst (λ (t : List Segment). ShapeBy (IsOfferFor cat w now t c.offer_of.result) mid new) c.trip-item.is c.offer_of.ensures.entries));
+          (subst (λ (t : List Segment). AddsStepsBy (IsOfferFor cat w now t c.offer_of.result) mid new) c.trip-item.is c.offer_of.ensures.entries));
     }
 
 pub returns-in_err-push-clause-begun : goal.returns-in_err-push-clause-begun
@@ -56,10 +56,10 @@ returns-in_err-push-clause-begun c =
     let new = c.offer_of.new.desk in
     let ts = c.deref-trip-items.result.now in
     let whole : ts ≡ trips_of cat.runs (raised w.trip now) = c.deref-trip-items.ensures.value ∙ (c.in_ok-found.ensures ∙ (ap (λ (r : RunsView). trips_of r c.raised.result) c.runs.ensures.value ∙ ap (trips_of cat.runs) c.raised.ensures)) in
-    on_err c.from_residual-in_err-push.result (subst (λ (l : List (List Segment)). ShapeBy (BeginsOffers cat w l) old new) whole
+    on_err c.from_residual-in_err-push.result (subst (λ (l : List (List Segment)). AddsStepsBy (BeginsOffers cat w l) old new) whole
     (begun_whole cat w now old new ts (c.loop-trip.trip-index + 1) (c.loop-trip.offers.items ++ c.offer_of.result ∷ [])
     (offers_next cat w now old mid new ts c.loop-trip.trip-index c.trip-item.result c.loop-trip.offers.items c.offer_of.result c.loop-trip-test.true i.made
-    (subst (λ (t : List Segment). ShapeBy (IsOfferFor cat w now t c.offer_of.result) mid new) c.trip-item.is c.offer_of.ensures.entries))))
+    (subst (λ (t : List Segment). AddsStepsBy (IsOfferFor cat w now t c.offer_of.result) mid new) c.trip-item.is c.offer_of.ensures.entries))))
 
 pub returns-in_err-push-clause-holds : goal.returns-in_err-push-clause-holds
 returns-in_err-push-clause-holds c = holds_then c.args.desk.now c.loop-trip.desk c.offer_of.new.desk c.loop-trip.invariant.holds c.offer_of.ensures.holds

@@ -3,7 +3,7 @@ use Rattle.std.specs.Prelude.{All, slice_index, slice_index_or}
 use Rattle.std.proofs.lemmas.List.Elements.{All-drop, All-take}
 use Rattle.leg_masks.specs.Interval.{pieces}
 use Rattle.rail_ids.specs.declared.PlaceNo.{PlaceNo}
-use Rattle.claim_rule.specs.Calls.{ShapeBy}
+use Rattle.claim_rule.specs.Calls.{AddsStepsBy}
 use Rattle.claim_rule.specs.Holds.{HoldView}
 use Rattle.claim_rule.proofs.Out.{endings_same, endings_then}
 use Rattle.hold_core.specs.Tries.{place_number, with_items}
@@ -60,9 +60,9 @@ returns-in-None-clause-entries c =
     let stretch : List PlaceNo = take c.args.count (drop (n - c.args.count) left) in
     let b = c.find_stretch.new.desk in
     let d = c.take_stretch.new.desk in
-    let takes : ShapeBy (TakesEach g.row g.items g.span (map place_number stretch) took.0) b d =
-    subst (λ (ps : List PlaceNo). ShapeBy (TakesEach g.row g.items g.span (map place_number ps) took.0) b d) c.last_of-stretch.ensures.places
-    (subst (λ (h : HoldView). ShapeBy (TakesEach h.row.row (length h.items) g.span (map place_number c.last_of-stretch.result.now) took.0) b d) i.same took.1) in
+    let takes : AddsStepsBy (TakesEach g.row g.items g.span (map place_number stretch) took.0) b d =
+    subst (λ (ps : List PlaceNo). AddsStepsBy (TakesEach g.row g.items g.span (map place_number ps) took.0) b d) c.last_of-stretch.ensures.places
+    (subst (λ (h : HoldView). AddsStepsBy (TakesEach h.row.row (length h.items) g.span (map place_number c.last_of-stretch.result.now) took.0) b d) i.same took.1) in
     let at : slice_index_or c.last_of-stretch.result.now 0 first ≡ get_or stretch 0 first = ap (λ (ps : List PlaceNo). get_or ps 0 first) c.last_of-stretch.ensures.places in
     let sits = together g c.loop-end.desk b d left n (slice_index_or c.last_of-stretch.result.now 0 first) first took.0 c.requires.some within.0 within.1 c.in-Some.ensures.found takes at in (
       took.0,
@@ -96,9 +96,9 @@ loop-end-preserved c =
     let b = c.find_stretch.new.desk in
     let d = c.take_stretch.new.desk in
     let stretch : List PlaceNo = take c.args.count (drop (n - c.args.count) left) in
-    let gave : ShapeBy (GivesUpAt g.row g.items g.span (map place_number stretch) k) b d =
-    subst (λ (ps : List PlaceNo). ShapeBy (GivesUpAt g.row g.items g.span (map place_number ps) k) b d) c.last_of-stretch.ensures.places
-    (subst (λ (h : HoldView). ShapeBy (GivesUpAt h.row.row (length h.items) g.span (map place_number c.last_of-stretch.result.now) k) b d) i.same t.lost.0) in
+    let gave : AddsStepsBy (GivesUpAt g.row g.items g.span (map place_number stretch) k) b d =
+    subst (λ (ps : List PlaceNo). AddsStepsBy (GivesUpAt g.row g.items g.span (map place_number ps) k) b d) c.last_of-stretch.ensures.places
+    (subst (λ (h : HoldView). AddsStepsBy (GivesUpAt h.row.row (length h.items) g.span (map place_number c.last_of-stretch.result.now) k) b d) i.same t.lost.0) in
     let from : c.behind-left.result.now ≡ drop (n - c.args.count + k + 1) left =
     c.behind-left.ensures.places ∙ ap (λ (m : ℕ). drop (n - m + k + 1) left) c.from.ensures in
     record {
@@ -127,12 +127,12 @@ returns-clause-entries c =
     let adds = c.add_places.ensures.entries in
     let b = c.find_stretch.new.desk in
     let d = c.add_places.new.desk in
-    let added : ShapeBy (Adds g.row g.items g.span g.count g.candidates c.add_places.result adds.0) b d =
-    subst (λ (h : HoldView). ShapeBy (Adds h.row.row (length h.items) g.span g.count g.candidates c.add_places.result adds.0) b d) i.same adds.1 in
+    let added : AddsStepsBy (Adds g.row g.items g.span g.count g.candidates c.add_places.result adds.0) b d =
+    subst (λ (h : HoldView). AddsStepsBy (Adds h.row.row (length h.items) g.span g.count g.candidates c.add_places.result adds.0) b d) i.same adds.1 in
     let sits = apart g c.loop-end.desk b d (map place_number c.loop-end.left.now) c.add_places.result adds.0 c.in_default.ensures.none added in
     let all = tried_all g c.args.desk.now c.loop-end.desk d (map place_number c.loop-end.left.now) (answer_apart c.add_places.result) adds.0 i.tried sits in (
       adds.0,
-      subst (λ (answer : PartyAdded). ShapeBy (SeatsFrom g g.candidates answer adds.0) c.args.desk.now d) (sym c.answer_of.ensures) all,
+      subst (λ (answer : PartyAdded). AddsStepsBy (SeatsFrom g g.candidates answer adds.0) c.args.desk.now d) (sym c.answer_of.ensures) all,
       adds.2 ∙ ap (λ (h : HoldView). with_items h adds.0) i.same,
     )
 

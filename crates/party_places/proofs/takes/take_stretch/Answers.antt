@@ -1,5 +1,5 @@
 use Rattle.std.proofs.Common.{length, ℕ, ◌-◌, ap, subst, ◌∙◌}
-use Rattle.claim_rule.specs.Desks.{Shape}
+use Rattle.claim_rule.specs.Desks.{AddsSteps}
 use Rattle.claim_rule.proofs.Out.{endings_then}
 use Rattle.party_places.specs.Parties.{gives_down}
 use Rattle.party_places.proofs.Taking.{given_up}
@@ -11,8 +11,8 @@ returns-in-Some-clause-lost c =
     let had = ap length c.items-had.ensures.items in
     let back = c.give_back.ensures in
     let middle = c.take_each.new in
-    let entries : Shape middle.desk c.give_back.new.desk (gives_down middle.hold.row.row (length c.args.hold.now.items) (length middle.hold.items - length c.args.hold.now.items)) =
-    subst (λ (n : ℕ). Shape middle.desk c.give_back.new.desk (gives_down middle.hold.row.row n (length middle.hold.items - n))) had back.entries in
+    let entries : AddsSteps middle.desk c.give_back.new.desk (gives_down middle.hold.row.row (length c.args.hold.now.items) (length middle.hold.items - length c.args.hold.now.items)) =
+    subst (λ (n : ℕ). AddsSteps middle.desk c.give_back.new.desk (gives_down middle.hold.row.row n (length middle.hold.items - n))) had back.entries in
     given_up c.args.desk.now middle.desk c.give_back.new.desk c.args.hold.now middle.hold c.give_back.new.hold c.args.span _ _ lost.0 back.held.0 lost.1 lost.2 entries back.held.1 (back.left ∙ had)
 
 pub returns-in-Some-clause-endings : goal.returns-in-Some-clause-endings

@@ -3,7 +3,7 @@ use Rattle.history_model.specs.declared.phase.Phase.{Phase as PhaseShown}
 use Rattle.history_model.specs.declared.phase.EndKind.TheVariants.{Refund}
 use Rattle.booking_rows.specs.declared.turns.Aim.TheVariants as aim
 use Rattle.booking_rows.specs.Views.{RowSeen}
-use Rattle.claim_rule.specs.Calls.{ShapeBy}
+use Rattle.claim_rule.specs.Calls.{AddsStepsBy}
 use Rattle.claim_rule.proofs.Out.{holds_then}
 use Rattle.row_decisions.specs.Ends.{EndsBooking}
 use Rattle.refund_core.specs.Quotes.{phase_named}
@@ -61,7 +61,7 @@ returns-in-Free-clause-entries c =
     gives_refund_away c.args.cat.now c.args.books.now.layout.rows c.args.retailer.0 c.args.now c.args.code.now c.in-Some.view c.phase_named-from.result c.args.desk.now c.find_booking.new.desk c.end_row.new.desk
     (sym c.is_stale.ensures.stale ∙ c.if-is_stale.false) (sym c.if-refund_at-code.false ∙ c.refund_at.ensures.value) (ap (λ (v : RowSeen). v.phase) (sym c.view.view_is) ∙ c.is_named.ensures.named.0 c.if-not-is_named.false) c.phase_named-from.ensures.phase
     c.in-Some.ensures.entries
-    (subst (λ (p : PhaseShown). ShapeBy (EndsBooking c.args.code.now.row c.phase_named-from.result Refund (aim.Refund c.args.now c.args.code.now.amount) (Some p)) c.find_booking.new.desk c.end_row.new.desk) c.in-Free.is (c.in-Some-end_row.ensures.entries Refund refl))
+    (subst (λ (p : PhaseShown). AddsStepsBy (EndsBooking c.args.code.now.row c.phase_named-from.result Refund (aim.Refund c.args.now c.args.code.now.amount) (Some p)) c.find_booking.new.desk c.end_row.new.desk) c.in-Free.is (c.in-Some-end_row.ensures.entries Refund refl))
 
 pub returns-in-Free-clause-holds : goal.returns-in-Free-clause-holds
 returns-in-Free-clause-holds c = holds_then c.args.desk.now c.find_booking.new.desk c.end_row.new.desk c.find_booking.ensures.holds c.end_row.ensures.holds

@@ -4,7 +4,7 @@ use Rattle.history_model.specs.declared.phase.Phase.{Phase as PhaseShown}
 use Rattle.history_model.specs.declared.phase.Phase.TheVariants.{Prebooked as IsPrebooked}
 use Rattle.history_model.specs.declared.phase.EndKind.TheVariants.{Release}
 use Rattle.booking_rows.specs.declared.turns.Aim.TheVariants as aim
-use Rattle.claim_rule.specs.Calls.{ShapeBy}
+use Rattle.claim_rule.specs.Calls.{AddsStepsBy}
 use Rattle.claim_rule.proofs.Out.{holds_then}
 use Rattle.row_decisions.specs.Ends.{EndsBooking}
 use Rattle.row_decisions.proofs.Deciding.{by_length}
@@ -48,7 +48,7 @@ returns-in_default-end_row-clause-bound c =
 pub returns-in-Free-clause-entries : goal.returns-in-Free-clause-entries
 returns-in-Free-clause-entries c =
     gives_away c.args.books.now.layout.rows c.args.row c.args.retailer.0 c.args.now c.in-Some.shown c.args.desk.now c.find_owned.new.desk c.end_row.new.desk c.in-Prebooked.is c.in-Some.ensures.entries
-    (subst (λ (p : PhaseShown). ShapeBy (EndsBooking c.args.row IsPrebooked Release (aim.Release c.args.now) (Some p)) c.find_owned.new.desk c.end_row.new.desk) c.in-Free.is (c.in-Some-end_row.ensures.entries Release refl))
+    (subst (λ (p : PhaseShown). AddsStepsBy (EndsBooking c.args.row IsPrebooked Release (aim.Release c.args.now) (Some p)) c.find_owned.new.desk c.end_row.new.desk) c.in-Free.is (c.in-Some-end_row.ensures.entries Release refl))
 
 pub returns-in-Free-clause-holds : goal.returns-in-Free-clause-holds
 returns-in-Free-clause-holds c = holds_then c.args.desk.now c.find_owned.new.desk c.end_row.new.desk c.find_owned.ensures.holds c.end_row.ensures.holds

@@ -1,6 +1,6 @@
 use Rattle.std.proofs.Common.{[], Some, sym, subst}
 use Rattle.rail_ids.specs.declared.RowNo.{RowNo}
-use Rattle.claim_rule.specs.Calls.{ShapeBy}
+use Rattle.claim_rule.specs.Calls.{AddsStepsBy}
 use Rattle.claim_rule.proofs.Out.{endings_then}
 use Rattle.booking_rows.specs.Starts.{StartsHold}
 use Rattle.offer_codes.specs.Offers.{offer_view}
@@ -13,7 +13,7 @@ returns-clause-placed c =
     let mid = c.start_hold.new.desk in
     let did = c.place_segments-placing in (
       mid,
-      subst (λ (r : RowNo). ShapeBy (StartsHold old mid (Some r)) old mid) (sym did.ensures.row) c.in_ok-hold.ensures.entries,
+      subst (λ (r : RowNo). AddsStepsBy (StartsHold old mid (Some r)) old mid) (sym did.ensures.row) c.in_ok-hold.ensures.entries,
       subst (λ (r : RowNo). PlacesAll c.args.shop.now.cat.now (offer_view c.args.offer.now) c.args.together r [] c.args.offer.now.segments.items did.result did.new.hold.items mid did.new.desk) (sym did.ensures.row) did.ensures.placed,
     )
 

@@ -1,7 +1,7 @@
 use Rattle.std.proofs.Common.{◌≡◌, ℕ, ◌<◌, ◌∙◌, true, [], ◌∷◌, rules, refl, subst, sym}
 use Rattle.history_model.specs.declared.entry.Step.TheVariants.{SawRow}
 use Rattle.history_model.specs.Phase.{is_sealed as sealed_phase}
-use Rattle.claim_rule.specs.Desks.{Shape}
+use Rattle.claim_rule.specs.Desks.{AddsSteps}
 use Rattle.claim_rule.proofs.Out.{holds_then, endings_then}
 use Rattle.booking_rows.proofs.ViewLemmas.{sealed_of, sealed_on}
 use Rattle.row_decisions.specs.Looks.{saw_owner}
@@ -75,7 +75,7 @@ returns-clause-entries c =
     let z = last_look o.new.desk l.new.desk row l.result l.ensures.entries in (
       saw_owner row p.result c.args.retailer.0 z.0,
       (here, is_so, (z.0, (λ e. c.in_default.not-Free (sym z.1 ∙ e)), refl)),
-      subst (λ (n : ℕ). Shape c.args.desk.now l.new.desk (saw_owner row p.result n z.0)) (c.if-owner-from.false ∙ c.from.ensures)
+      subst (λ (n : ℕ). AddsSteps c.args.desk.now l.new.desk (saw_owner row p.result n z.0)) (c.if-owner-from.false ∙ c.from.ensures)
           (owner_seen c.args.desk.now p.new.desk o.new.desk l.new.desk row o.result z.0 p.result (p.ensures.word is_so) o.ensures.entries z.2),
     )
 

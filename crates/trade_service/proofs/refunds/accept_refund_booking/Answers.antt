@@ -1,7 +1,7 @@
 use Rattle.std.proofs.Common.{◌∙◌, Some, None, ap}
 use Rattle.booking_rows.specs.Views.{RowSeen}
 use Rattle.osdm_texts.specs.Answers.{booking, reply_told}
-use Rattle.trade_service.specs.Refunds.{RefundsIt}
+use Rattle.trade_service.specs.Refunds.{RefundsFound}
 use Rattle.booking_service.proofs.Calm.{found_tidy}
 use Rattle.booking_service.proofs.Replying.{unknown, no_memory}
 use Rattle.trade_service.proofs.Ids.{refunded_ids}
@@ -14,7 +14,7 @@ returns-in_default-clause-tidy c = λ tidy. found_tidy c.args.shop.now.books.now
 
 pub returns-in_default-clause-answer : goal.returns-in_default-clause-answer
 returns-in_default-clause-answer c =
-    unknown c.args.shop.now.cat.now c.args.shop.now.books.now.layout.rows c.args.code.now.row c.args.asker.retailer.0 (RefundsIt c.args.shop.now.cat.now c.args.shop.now.books.now.layout.rows c.args.asker.retailer.0 c.args.code.now c.args.asker.moment) c.args.desk.now c.find_booking.new.desk c.in_default.ensures.entries
+    unknown c.args.shop.now.cat.now c.args.shop.now.books.now.layout.rows c.args.code.now.row c.args.asker.retailer.0 (RefundsFound c.args.shop.now.cat.now c.args.shop.now.books.now.layout.rows c.args.asker.retailer.0 c.args.code.now c.args.asker.moment) c.args.desk.now c.find_booking.new.desk c.in_default.ensures.entries
 
 pub booking_answer-requires : goal.booking_answer-requires
 booking_answer-requires c = record { ids = refunded_ids c.args.code.now.row c.args.asker.moment c.args.code.now.amount c.in-Some.view c.refunded-ended.result c.in-Some.ensures.generation c.refunded-ended.ensures.view }
@@ -24,7 +24,7 @@ returns-in_default-booking_answer-clause-tidy c = λ tidy. found_tidy c.args.sho
 
 pub returns-in_default-booking_answer-clause-answer : goal.returns-in_default-booking_answer-clause-answer
 returns-in_default-booking_answer-clause-answer c =
-    no_memory c.args.shop.now.cat.now c.args.shop.now.books.now.layout.rows c.args.code.now.row c.args.asker.retailer.0 (RefundsIt c.args.shop.now.cat.now c.args.shop.now.books.now.layout.rows c.args.asker.retailer.0 c.args.code.now c.args.asker.moment) c.in-Some.view c.args.desk.now c.find_booking.new.desk c.in-Some.ensures.entries
+    no_memory c.args.shop.now.cat.now c.args.shop.now.books.now.layout.rows c.args.code.now.row c.args.asker.retailer.0 (RefundsFound c.args.shop.now.cat.now c.args.shop.now.books.now.layout.rows c.args.asker.retailer.0 c.args.code.now c.args.asker.moment) c.in-Some.view c.args.desk.now c.find_booking.new.desk c.in-Some.ensures.entries
 
 pub returns-in-None-clause-tidy : goal.returns-in-None-clause-tidy
 returns-in-None-clause-tidy c =

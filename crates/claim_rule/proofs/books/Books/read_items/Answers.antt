@@ -4,7 +4,7 @@ use Rattle.leg_masks.specs.Interval.{PlacedSpan as Item}
 use Rattle.history_model.specs.Booking.{Layout, most_items, row_words}
 use Rattle.history_model.specs.declared.entry.Step.TheVariants.{SawRow}
 use Rattle.claim_rule.specs.Rule.{BooksView}
-use Rattle.claim_rule.specs.Desks.{Stepped, Shape}
+use Rattle.claim_rule.specs.Desks.{Stepped, AddsSteps}
 use Rattle.claim_rule.specs.Endings.{EndingView, item_looks}
 use Rattle.claim_rule.proofs.Shapes.{step_shape}
 use Rattle.claim_rule.proofs.Reading.{ReadSoFar, read_count, read_none, read_more, items_fit, shown_item, seen_more}
@@ -38,7 +38,7 @@ loop-i-init c =
       so_far = subst (ReadSoFar new e v 0) (sym none) (read_none v c.args.desk.now new e look c.requires.ending (items_fit c.args.desk.now e c.requires.own.legal most c.requires.ending));
       kept = look.same.5;
       few = subst (λ (l : List Item). length l ≤ most_items) (sym none) (omega arith);
-      seen = subst (λ (l : List Item). Shape c.args.desk.now new (SawRow e.row.row 4 v ∷ item_looks e.row.row 8 l)) (sym none) (step_shape (SawRow e.row.row 4 v) c.args.desk.now new look);
+      seen = subst (λ (l : List Item). AddsSteps c.args.desk.now new (SawRow e.row.row 4 v ∷ item_looks e.row.row 8 l)) (sym none) (step_shape (SawRow e.row.row 4 v) c.args.desk.now new look);
     }
 
 pub overflow_add-i : goal.overflow_add-i
@@ -84,6 +84,6 @@ loop-i-preserved c =
       so_far = subst (ReadSoFar new e count (k + 1)) (sym pushed) (read_more v k count old new e c.loop-i.items.items i few look c.requires.unread.0 so c.loop-i-test.true c.item_of.ensures.item);
       kept = look.same.5 ∙ c.loop-i.invariant.kept;
       few = subst (λ (l : List Item). length l ≤ most_items) (sym pushed) (one_less c.loop-i.items.items i k count so.many c.loop-i-test.true (read_count count c.args.desk.now c.step_read-count.new.desk e first c.requires.ending).2);
-      seen = subst (λ (l : List Item). Shape c.args.desk.now new (SawRow e.row.row 4 count ∷ item_looks e.row.row 8 l)) (sym pushed)
+      seen = subst (λ (l : List Item). AddsSteps c.args.desk.now new (SawRow e.row.row 4 count ∷ item_looks e.row.row 8 l)) (sym pushed)
           (seen_more c.args.desk.now old new e.row.row v k count c.loop-i.items.items i so.many c.item_of.ensures.item c.loop-i.invariant.seen look);
     }
