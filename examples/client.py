@@ -303,8 +303,8 @@ class Retailer:
     def day(self, wish, latest):
         """All offers from the wish's earliest departure to the latest that its searches show, one after another.
 
-        Each further search begins a second after the last departure shown. So it passes over trips that leave before
-        that and arrive after all sixteen of that search.
+        Each further search begins a second after the last departure shown. So it passes over trips that leave
+        before that and arrive no earlier than the last of that search.
         """
         offers = []
         while wish["earliest"] <= latest:
