@@ -540,11 +540,11 @@ def items_of(rides):
 
 
 def segments_of(catalogue, booking):
-    """The booking's rides, train by train in the order of its items."""
+    """The booking's rides, train by train in the order of its items. All passengers of a segment have one stretch."""
     found = {}
     for ride in rides_of(booking.items):
-        found.setdefault(catalogue.run_of(ride.place).number, []).append(ride)
-    return [Segment(run, rides) for run, rides in found.items()]
+        found.setdefault((catalogue.run_of(ride.place).number, ride.start, ride.end), []).append(ride)
+    return [Segment(run, rides) for (run, _, _), rides in found.items()]
 
 
 NUMBER = "(0|[1-9][0-9]*)"

@@ -18,15 +18,19 @@ import tempfile
 import time
 
 ROOT = pathlib.Path(__file__).resolve().parents[2]
-PACKAGES = "systemd,systemd-sysv,dbus,curl,iproute2,procps,python3-minimal"
+PACKAGES = "systemd,systemd-sysv,dbus,curl,iproute2,procps,python3"
 PATH = "PATH=/usr/local/sbin:/usr/local/bin:/usr/sbin:/usr/bin:/sbin:/bin"
 AGAIN = "cp /tmp/country.json /etc/sumacgate/catalogue.json; chmod 600 /etc/sumacgate/catalogue.json"
 WAIT = "for try in $(seq 60); do systemctl is-active -q sumacgate && break; sleep 1; done"
 # After the page's own commands: what is done, what the last lines of the output have to be.
+SOLD = "/etc/sumacgate/sold.json"
 STEPS = [
     ("the file stays root's", "stat -c '%a %U' /etc/sumacgate/catalogue.json", "600 root"),
     ("the host has no rights", "grep -E '^(CapEff|NoNewPrivs|Seccomp):' /proc/$(systemctl show -P MainPID sumacgate)/status | tr -s '\\t\\n' ' '", "CapEff: 0000000000000000 NoNewPrivs: 1 Seccomp: 2 "),
     ("a kill", "systemctl kill -s KILL sumacgate; sleep 3; " + WAIT + "; systemctl is-active sumacgate; systemctl show -P NRestarts sumacgate", "active\n1"),
+    ("the same seats", "cd /work; install -D -m 755 -t /usr/local/lib/sumacgate tools/same-seats tools/rail_texts.py; cp /etc/sumacgate/catalogue.json " + SOLD + "; systemctl restart sumacgate; " + WAIT + "; systemctl is-active sumacgate; journalctl -u sumacgate -o cat --no-pager | grep -q 'are the same seats' && echo told", "active\ntold"),
+    ("other seats", "sed '2s/\"coach\":2/\"coach\":7/' " + SOLD + " > /etc/sumacgate/catalogue.json; systemctl restart sumacgate; sleep 3; systemctl is-active sumacgate; ss -ltn | grep -c ':8080 '; journalctl -u sumacgate -o cat --no-pager | grep -q 'the seats are not the same: 48 lines' && echo told", "activating\n0\ntold"),
+    ("put right", "cp " + SOLD + " /etc/sumacgate/catalogue.json; sleep 3; " + WAIT + "; systemctl is-active sumacgate; rm " + SOLD, "active"),
     ("a refused catalogue", "echo '{' > /etc/sumacgate/catalogue.json; systemctl restart sumacgate; sleep 4; systemctl is-active sumacgate; journalctl -u sumacgate -o cat --no-pager | grep -q 'catalogue fault 1' && echo told", "failed\ntold"),
     (
         "a taken port",
@@ -77,6 +81,7 @@ def provided(root, program):
     (work / "crates" / "rail_host" / "out").mkdir(parents=True)
     shutil.copytree(ROOT / "examples", work / "examples")
     shutil.copytree(ROOT / "docs", work / "docs")
+    shutil.copytree(ROOT / "tools", work / "tools")
     shutil.copy(program, work / "crates" / "rail_host" / "out" / "rail_host")
     day = (datetime.date.today() + datetime.timedelta(days=2)).isoformat()
     (work / "country.json").write_bytes(subprocess.run([sys.executable, str(ROOT / "examples" / "country.py"), "--day", day], check=True, capture_output=True).stdout)

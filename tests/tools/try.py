@@ -12,7 +12,7 @@ import time
 
 import kit
 
-PARTS = ["texts", "seats", "manifest", "seating", "amend", "refusals", "roll"]
+PARTS = ["texts", "seats", "manifest", "seating", "amend", "refusals", "roll", "roll_cases"]
 
 
 def main():
