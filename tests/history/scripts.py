@@ -357,15 +357,17 @@ def is_counted_so(kinds: tuple, answer: dict) -> bool:
 class Makes(Script):
     """A call that makes a booking, or tries to: a reservation, an offer's booking, an exchange.
 
-    Its local states: `look` (an exchange that has its check before it), `seek` with the rows that could not be started so far, `held` with
-    the row, and the places and calls that were in the way so far, `turned`, `made`, and `over`: refused, with what it held not yet gone.
+    Its local states: `start`; `look` (an exchange that has its check before it); `seek` with the rows that could not be started so far;
+    `held` with the row, and the places and calls that were in the way so far; `turned` with the row and the booking to be sealed; `made`;
+    and `over`: refused, with what it held not yet given back.
+
+    Its result is what the answer says: a booking was made, places were short, an exchange's turn (or its check) was lost, or any of these,
+    where there is no answer.
     """
 
     def __init__(self, search, call):
         super().__init__(search, call)
-        problem = call.problem
-        self.result = ("made" if call.answered and not problem else "short" if problem in ("NoPlace", "Contended") else
-                       "lost" if problem else "any")
+        self.result = result_of(call)
         self.trades = call.kind == "accept_exchange"
         self.soft = Holding(0, groups_of(call, self.result in ("any", "lost")))
         self.firm = NOTHING
@@ -544,6 +546,14 @@ class Makes(Script):
         if own in stretches and all(is_spoilt(one) for one in stretches[:stretches.index(own)]):
             return True
         return in_order and all(is_spoilt(one) for one in stretches)
+
+
+def result_of(call: Call) -> str:
+    if not call.answered:
+        return "any"
+    if call.problem is None:
+        return "made"
+    return "short" if call.problem in ("NoPlace", "Contended") else "lost"
 
 
 class Gone(Script):

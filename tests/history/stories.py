@@ -18,7 +18,7 @@ class Story:
     """Calls of clients who each have a connection, on three places of a run of three legs."""
 
     def __init__(self, rows: int = 2, confirm_seconds: int = 900):
-        self.text = dict(catalogue_of(False, confirm_seconds), rows=rows)
+        self.text = catalogue_of(False, rows, confirm_seconds)
         self.catalogue = read_catalogue(json.dumps(self.text).encode())
         self.host = service.Host(self.catalogue)
         self.calls, self.last = [], {}

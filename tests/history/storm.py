@@ -1,4 +1,5 @@
-"""One storm: eight clients at once against `serve` on three places and two rows, all of whose calls are recorded.
+"""One storm: eight clients at once against `serve` on three places and two rows, all of whose calls are recorded. In every sixth there are
+four rows, so that more of them are in each other's way at the places.
 
 The clients are played by one thread, which sends the requests of some of them one right after the other and reads the answers as they
 come. So a call's begin is taken before its first byte is sent, and its end when its last byte was read. Some clients reset their
@@ -20,7 +21,8 @@ from catalogue import read_catalogue
 from offers import (ExchangeCode, OfferCode, RefundCode, Segment, exchange_difference, offer_price, refund_value, write_booking_id,
                     write_exchange, write_offer, write_refund, Row)
 
-CLIENTS, ROWS, RESETS = 8, 2, 4
+CLIENTS, RESETS = 8, 4
+ROWS, MORE_ROWS = 2, 4
 KEYS = ["north"] * 5 + ["south"] * 3
 HOST_SECONDS = 60
 DAY = "2099-06-01T"
@@ -37,7 +39,7 @@ AIMED = {
 }
 
 
-def catalogue_of(two_runs: bool, confirm_seconds: int) -> dict:
+def catalogue_of(two_runs: bool, rows: int, confirm_seconds: int) -> dict:
     """Three places on a run of three legs; or two on one of two legs, and one on a run that goes on from its end."""
     fare = {"base": 100, "perLeg": 50}
     fares = {"first": fare, "second": fare}
@@ -54,7 +56,7 @@ def catalogue_of(two_runs: bool, confirm_seconds: int) -> dict:
                 {"train": 2, "stops": stops("CD", 30), "fares": fares, "coaches": [coach(1, 1, ["WINDOW"])]}]
     else:
         runs = [{"train": 1, "stops": stops("ABCD", 0), "fares": fares, "coaches": [coach(1, 2, ["WINDOW"]), coach(3, 3, [])]}]
-    return {"currency": "EUR", "rows": ROWS, "confirmSeconds": confirm_seconds, "ticketFee": 50, "exchangeFee": 30,
+    return {"currency": "EUR", "rows": rows, "confirmSeconds": confirm_seconds, "ticketFee": 50, "exchangeFee": 30,
             "retailers": [{"number": 1, "key": "north"}, {"number": 2, "key": "south"}], "stations": [{"code": code} for code in "ABCD"],
             "refundSteps": [{"before": 0, "fee": 2500}], "runs": runs}
 
@@ -105,11 +107,12 @@ class Storm:
         self.rng = random.Random(seed)
         self.slow = seed % 4 == 3  # its bookings come to their limits
         self.most = 160 if self.slow else 250
-        self.text = catalogue_of(seed % 2 == 1, 1 if self.slow else 900)
+        self.rows = MORE_ROWS if seed % 6 == 5 else ROWS
+        self.text = catalogue_of(seed % 2 == 1, self.rows, 1 if self.slow else 900)
         self.catalogue = read_catalogue(json.dumps(self.text).encode())
         self.calls, self.closed, self.opened, self.resets = [], {}, 0, RESETS
         self.known = {}  # what is known of a booking: its retailer's key, its answer, and when that came
-        self.generations = [0] * ROWS  # the last that were seen
+        self.generations = [0] * self.rows  # the last that were seen
         self.answers = {}  # of each client, how its last booking was answered
         self.half = 0
 
@@ -132,7 +135,7 @@ class Storm:
         if not living:
             return dict(RUSH, reserve=4, book=2, show=16) if self.last == "RowsFull" else RUSH
         weights = dict(AIMED[self.known[self.aim][1]["status"]] if self.aim else FRESH)
-        if living >= ROWS:
+        if living >= self.rows:
             weights.update(reserve=4, book=2)
         if self.last == "NoPlace":
             weights.update(reserve=40, book=20)
@@ -176,7 +179,7 @@ class Storm:
             return self.aim
         if self.known and self.rng.random() < 0.3:
             return self.rng.choice(list(self.known))
-        row = self.rng.randrange(ROWS)
+        row = self.rng.randrange(self.rows)
         return write_booking_id(Row(row, self.generations[row] + self.rng.randrange(2)))
 
     def path(self, rest: str = "") -> str:

@@ -1,5 +1,5 @@
 #!/usr/bin/env python3
-"""Storms of eight clients on three places and two rows, each of whose whole history has to be explained by one order.
+"""Storms of eight clients on three places and two rows, or four: the whole history of each has to be explained by one order.
 
   tests/history/storms.py PROGRAM [--storms N] [--from N] [--keep FOLDER]
 
@@ -69,7 +69,7 @@ NEEDED = ["POST reservations 201", "POST reservations NoPlace", "POST reservatio
 def main() -> int:
     words = argparse.ArgumentParser(description=__doc__, formatter_class=argparse.RawDescriptionHelpFormatter)
     words.add_argument("program")
-    words.add_argument("--storms", type=int, default=200)
+    words.add_argument("--storms", type=int, default=240)
     words.add_argument("--from", type=int, default=0, dest="first")
     words.add_argument("--keep", help="a folder for histories without an order")
     words.add_argument("--counts", action="store_true", help="print what the storms had")

@@ -1,7 +1,7 @@
 #!/usr/bin/env python3
 """Runs every command of docs/retailers.md as it stands, by a clock that is set, and once over `serve`; and the commands of other pages.
 
-  tests/people/pages.py PROGRAM                 docs/retailers.md, docs/catalogue.md, examples/README.md
+  tests/people/pages.py PROGRAM                 docs/retailers.md, docs/catalogue.md, docs/settlement.md, examples/README.md
   tests/people/pages.py PROGRAM --operators     docs/operators.md, which needs nginx
   tests/people/pages.py PROGRAM --trial         docs/retailers.md over the host without proofs that it shows, which takes some minutes
 
@@ -52,7 +52,7 @@ LIFE = [
     r"kept +GET /bookings/B0000\d\d +CONFIRMED",
 ]
 # Pages whose commands end with the status beside them.
-PLAIN_PAGES = [("examples/README.md", 6), ("docs/catalogue.md", 0)]
+PLAIN_PAGES = [("examples/README.md", 6), ("docs/catalogue.md", 0), ("docs/settlement.md", 0)]
 OPERATORS = "docs/operators.md"
 # From here on a page's commands want a system that runs systemd: tests/people/booted.
 ENDS = {OPERATORS: "## As a service"}
@@ -198,6 +198,12 @@ def faults_of_retailers(program):
         yield from ["docs/retailers.md over serve: %s" % fault for fault in faults_of_life(*run_page("docs/retailers.md", program, name))]
 
 
+def shown_by(page):
+    """What docs/settlement.md shows of its commands, to the byte."""
+    text = (ROOT / page).read_text()
+    return [re.escape(block) for block in re.findall(r"^```text\n(retailer,.*?)^```$", text, re.MULTILINE | re.DOTALL)]
+
+
 def faults_of_page(program, page, wanted, wished):
     with tempfile.TemporaryDirectory() as name:
         said, status = run_page(page, program, name)
@@ -223,7 +229,7 @@ def main():
     else:
         tried, found = "docs/retailers.md at %d clocks and over serve, and %d pages more" % (len(CLOCKS), len(PLAIN_PAGES)), list(faults_of_retailers(program))
         for page, wanted in PLAIN_PAGES:
-            found += faults_of_page(program, page, wanted, [])
+            found += faults_of_page(program, page, wanted, shown_by(page))
     for fault in found:
         print("pages: " + fault)
     print("pages: %s: %d wrong" % (tried, len(found)))
