@@ -67,8 +67,8 @@ def same_numbers(run, coach, seats, span, taken):
 def places_for(run, coaches, seats, span, taken):
     """Places on the run for passengers who had these seats, all of one class, or None where there are too few.
 
-    They are as close together as the seats were where that can be had, else as close as can be, and with the traits
-    that all seats had where that can be had as close. `coaches` are those that count; None stands for all.
+    They are as close together as the seats were, or else as close as possible; and then with the traits that all seats
+    had, where possible. `coaches` are those that count; None stands for all.
     """
     common, kind = common_traits(seats), seats[0].kind
     free = [place for place in run.places()

@@ -5,7 +5,7 @@ import kit
 import export
 import moments
 import offers
-from bookings import Books, Phase, Refusal
+from bookings import Booking, Books, Item, Phase, Refusal, pieces
 from catalogue import Catalogue, Span, TravelClass, read_catalogue
 
 START = 1_780_293_600  # 2026-06-01T06:00:00Z
@@ -146,6 +146,19 @@ class Seller:
 
     def export(self) -> bytes:
         return export.write_export(self.books)
+
+
+def with_blocks(rng, seller):
+    """Some free places are nobody's to sell: confirmed bookings of retailer 0, whom no key names."""
+    books, used = seller.books, {booking.row.number for booking in seller.books.bookings}
+    for place in rng.sample(seller.catalogue.places, min(5, len(seller.catalogue.places))):
+        legs = len(seller.catalogue.runs[place.run].stops) - 1
+        whole = Span(0, legs)
+        row = next(number for number in range(seller.catalogue.rows + 1) if number not in used)
+        if row < seller.catalogue.rows and books.is_free(place.number, whole):
+            used.add(row)
+            items = [Item(place.number, piece) for piece in pieces(whole)]
+            books.bookings.append(Booking(offers.Row(row), 0, 0, 0, items, Phase.CONFIRMED))
 
 
 def sold_country(rng: random.Random) -> tuple:

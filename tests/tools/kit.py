@@ -4,8 +4,10 @@ import importlib.util
 import json
 import pathlib
 import random
+import socket
 import subprocess
 import sys
+import time
 
 sys.dont_write_bytecode = True
 ROOT = pathlib.Path(__file__).resolve().parents[2]
@@ -34,6 +36,35 @@ def host(program, *words, data=b""):
     done = subprocess.run([str(program)] + [str(word) for word in words], input=data, capture_output=True,
                           timeout=LIMIT)
     return done.returncode, done.stdout, done.stderr.decode()
+
+
+def served(program, catalogue, export, data):
+    """The answers of `serve --from` to one connection, and the export that it gives at its end."""
+    with socket.create_server(("127.0.0.1", 0)) as free:
+        port = free.getsockname()[1]
+    words = ["serve", catalogue, "--port", port, "--workers", 1, "--connections", 1, "--sweep", 1, "--from", export,
+             "--export"]
+    process = subprocess.Popen([str(program)] + [str(word) for word in words], stderr=subprocess.PIPE)
+    try:
+        stream, answer = connected(port), b""
+        with stream:
+            stream.sendall(data)
+            stream.shutdown(socket.SHUT_WR)
+            for part in iter(lambda: stream.recv(65_536), b""):
+                answer += part
+        return answer, process.communicate(timeout=LIMIT)[1].decode()
+    finally:
+        process.kill()
+
+
+def connected(port):
+    """A connection, as soon as the port listens."""
+    for _ in range(400):
+        try:
+            return socket.create_connection(("127.0.0.1", port), timeout=LIMIT)
+        except ConnectionRefusedError:
+            time.sleep(0.05)
+    raise TimeoutError(port)
 
 
 def request(method, path, key, body=None):

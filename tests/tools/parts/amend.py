@@ -31,6 +31,7 @@ class Change:
         self.rng, self.tree, self.lines = rng, copy.deepcopy(tree), []
         self.untouched = list(range(len(tree["runs"])))
         rng.shuffle(self.untouched)
+        self.opened = []
         self.cancelled, self.closed, self.moved, self.refunded, self.replaced, self.blocked = [], [], {}, set(), {}, []
 
     def shut(self, number, day):
@@ -88,6 +89,10 @@ class Change:
         self.lines.append("replace coach %d of run %d by %s" % (coach, number, " ".join(map(str, dict.fromkeys(by)))))
         if rng.random() < 0.7:
             self.refunded.add(number)
+
+    def open(self):
+        self.opened.append(self.untouched[0])
+        self.lines.append("open run %d" % self.untouched[0])
 
     def block(self):
         number = self.rng.randrange(len(self.tree["runs"]))
@@ -148,6 +153,8 @@ def change_of(rng, tree):
                             ["replace", "replace", "block"], []]):
         if len(change.untouched) > 1:
             getattr(change, step)()
+    if change.untouched and rng.random() < 0.2:
+        change.open()
     change.move_all()
     change.besides()
     return change
@@ -193,7 +200,9 @@ def try_lines(found, held):
         same = (after.row, after.retailer, after.limit, after.total) == (line.row, line.retailer, line.limit,
                                                                          line.total)
         found.need(same, "plan %d: row %d is another booking", held.seed, number)
-        if not line.is_live():
+        if line.retailer == 0:
+            try_block(found, held, line, after)
+        elif not line.is_live():
             found.need((after.phase, after.ending) == (line.phase, line.ending), "plan %d: row %d ended otherwise",
                        held.seed, number)
             try_ended(found, held, line, after)
@@ -212,6 +221,20 @@ def try_lines(found, held):
             found.need(line.retailer == 0 and line.phase is Phase.CONFIRMED and line.total == 0
                        and line.row.generation == 0,
                        "plan %d: row %d is new", held.seed, number)
+
+
+def try_block(found, held, line, after):
+    """What is nobody's to sell stays so, but on runs that are opened and at seats that are gone."""
+    there = {seat_of(place): place.number for place in held.new.places}
+    kept = []
+    for item in line.items:
+        place = held.old.places[item.place]
+        named = any((place.run, place.coach) == (run, coach) and first <= place.label <= last
+                    for run, coach, first, last in held.change.blocked)
+        if seat_of(place) in there and (named or place.run not in held.change.opened):
+            kept.append((there[seat_of(place)], item.span))
+    items = [(item.place, item.span) for item in after.items] if after.is_live() else []
+    found.need(items == kept and after.retailer == 0, "plan %d: of the block %s stays %s", held.seed, line, after)
 
 
 def try_ended(found, held, line, after):
@@ -452,6 +475,8 @@ def try_seed(found, program, seed, counts):
     import rail_texts
     rng, tool = random.Random(seed), kit.tool("amend")
     data, seller, now = countries.sold_country(rng)
+    if rng.random() < 0.3:
+        countries.with_blocks(rng, seller)
     change = change_of(rng, json.loads(data))
     plan, changed = change.plan(), json.dumps(change.tree).encode()
     try:

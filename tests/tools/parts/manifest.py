@@ -10,23 +10,9 @@ import tempfile
 
 import countries
 import kit
-from bookings import Booking, Item, Phase, pieces, reservations
-from catalogue import Span
-from offers import Row, write_booking_id
+from bookings import reservations
+from offers import write_booking_id
 from export import write_export
-
-
-def with_blocks(rng, seller):
-    """Some free places are nobody's to sell: confirmed bookings of retailer 0, whom no key names."""
-    books, used = seller.books, {booking.row.number for booking in seller.books.bookings}
-    for place in rng.sample(seller.catalogue.places, min(5, len(seller.catalogue.places))):
-        legs = len(seller.catalogue.runs[place.run].stops) - 1
-        whole = Span(0, legs)
-        row = next(number for number in range(seller.catalogue.rows + 1) if number not in used)
-        if row < seller.catalogue.rows and books.is_free(place.number, whole):
-            used.add(row)
-            items = [Item(place.number, piece) for piece in pieces(whole)]
-            books.bookings.append(Booking(Row(row), 0, 0, 0, items, Phase.CONFIRMED))
 
 
 def wanted_lines(seller, run):
@@ -132,7 +118,7 @@ def faults(program):
     found, stretches, sat, longs = kit.Faults(), 0, 0, 0
     for seed, rng in kit.seeds(40):
         data, seller, _ = countries.sold_country(rng)
-        with_blocks(rng, seller)
+        countries.with_blocks(rng, seller)
         with tempfile.TemporaryDirectory() as name:
             folder = pathlib.Path(name)
             (folder / "k.json").write_bytes(data)

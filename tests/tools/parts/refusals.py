@@ -40,6 +40,8 @@ CASES = [
     ("cancel run 0", (), 1, "run 0 is cancelled, and its times in NEW are not on 2099-12-31"),
     ("close run 0", DAY, 1, "run 0 is closed, and its times in NEW are neither on 1970-01-01 nor on the day they were"),
     ("close run 0", (), 0, "run 0, train 501: 1 stays"),
+    ("", ("2026-06-01T09:10:00Z", "2026-06-01T09:04:00Z"), 0, "run 1, train 812: 1 connection lost"),
+    ("", ("2026-06-01T09:10:00Z", "2026-06-01T09:05:00Z"), 0, "bookings touched: 0; owed: 0.00 EUR"),
     ("", ("EUR", "CHF"), 1, "the currency is EUR in OLD and CHF in NEW"),
     ("", DAY, 1, "run 0 is train 501 of 2026-06-01 in OLD and of 2026-06-02 in NEW"),
     ("", ('"train":501', '"train":502'), 1,
@@ -217,6 +219,24 @@ def try_put_on(found, folder, text):
         found.need(status == 0 and "1 %s\n" % wanted in notes, "with a train %s: status %d, %s", train, status, notes)
 
 
+def try_serve(found, program, folder):
+    """`serve` begins with the result of a plan too, shows what became of a booking, and gives the same export at its
+    end.
+    """
+    (folder / "plan").write_text("cancel run 0\nrefund run 0\n")
+    _, changed, _ = kit.run_tool("amend", "--catalogue", folder / "old.json", folder / "plan")
+    (folder / "new.json").write_text(changed)
+    files = [folder / name for name in ("old.json", "new.json", "old.export", "plan")]
+    _, said, _ = kit.run_tool("amend", *files, "--now", NOW, "--affected", folder / "affected.csv")
+    (folder / "new.export").write_text(said)
+    shown, export_text = kit.served(program, folder / "new.json", folder / "new.export",
+                                    kit.request("GET", "/bookings/B000000", "north"))
+    (status, booking), = kit.answers(shown)
+    found.need((status, booking["status"], booking["endAmount"]["amount"]) == (200, "REFUNDED", 4250),
+               "serve shows %d %s", status, booking)
+    found.need(export_text == said, "serve gives another export: %s", export_text)
+
+
 def faults(program):
     found = kit.Faults()
     text = (kit.ROOT / "examples" / "k1.json").read_text()
@@ -232,6 +252,7 @@ def faults(program):
         try_open(found, program, folder, text)
         try_seen(found, program, folder, text)
         try_put_on(found, folder, text)
+        try_serve(found, program, folder)
     for words, wanted in ((("--help",), 0), (("a",), 2), (("a", "b", "c", "d", "--now", "x"), 2),
                           (("/no", "/no", "/no", "/no"), 3)):
         status, _, notes = kit.run_tool("amend", *words)

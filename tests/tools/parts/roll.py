@@ -22,6 +22,8 @@ DAYS, HORIZON, DAY = 30, 3, countries.DAY
 MIDNIGHT = countries.START - 6 * 3_600
 # When the day changes: after the last trains of the evening, while the night train is on its way.
 CHANGE = 2 * 3_600
+# On these days a train of the next day is cancelled at noon, and its passengers move to another one or are paid back.
+CANCELLED = (3, 6, 9, 12, 13, 16, 20, 25)
 # It has left its last stop but one more than 900 seconds before the change, and has not arrived.
 LONG_ON_ITS_WAY = 107
 
@@ -84,7 +86,7 @@ class Month:
         self.timetable = Timetable(self.rng, rows)
         self.data = json.dumps(self.timetable.catalogue(0)).encode()
         self.seller = countries.Seller(self.rng, read_catalogue(self.data))
-        self.ledger, self.told, self.over_change, self.reused = {}, 0, 0, 0
+        self.ledger, self.told, self.over_change, self.reused, self.moved = {}, 0, 0, 0, 0
 
     def note_sales(self, seller):
         """Each booking of the day is one of an id that never was."""
@@ -111,6 +113,37 @@ class Month:
             except Refusal:
                 pass
 
+    def cancel(self, day):
+        """A train of tomorrow is cancelled: the host is ended, its export amended, and the next one goes on."""
+        now = moments.write_moment(MIDNIGHT + day * DAY + 12 * 3_600)
+        trains = real_departures(self.data)
+        first = MIDNIGHT + (day + 1) * DAY + 6 * 3_600
+        later = sorted((at for at, (_, departs) in enumerate(trains) if departs > first), key=lambda at: trains[at][1])
+        number, *others = later[max(range(len(later) - 1), key=lambda at: self.passengers(later[at])):]
+        for name, text in (("old.json", self.data), ("old.export", self.seller.export()),
+                           ("plan", ("cancel run %d\nmove run %d to %s\nrefund run %d\n" % (
+                               number, number, " ".join(map(str, others[:6])), number)).encode())):
+            (self.folder / name).write_bytes(text)
+        _, changed, _ = kit.run_tool("amend", "--catalogue", self.folder / "old.json", self.folder / "plan")
+        (self.folder / "amended.json").write_text(changed)
+        files = [self.folder / name for name in ("old.json", "amended.json", "old.export", "plan")]
+        status, said, notes = kit.run_tool("amend", *files, "--now", now, "--affected", self.folder / "affected.csv")
+        self.found.need(status == 0 and "no place" not in notes, "day %d: amend ends with %d: %s", day, status, notes)
+        self.data = changed.encode()
+        self.begin(read_catalogue(self.data), said.encode())
+        self.moved += len((self.folder / "affected.csv").read_text().splitlines()) - 1
+
+    def passengers(self, number):
+        places = {place.number for place in self.seller.catalogue.places_of(number)}
+        return sum(item.place in places for b in self.seller.books.bookings if b.is_live() for item in b.items)
+
+    def begin(self, catalogue, text):
+        """The next host begins with the export."""
+        kept = export.read_export(catalogue, text)
+        self.seller = countries.Seller(self.rng, catalogue, kept)
+        self.ledger.update((line.row, line) for line in kept if line.retailer)
+        return kept
+
     def offers_before(self, now):
         """What a search of the last 900 seconds may have told, also of the train that departs last before the change.
         """
@@ -118,6 +151,9 @@ class Month:
         for made in (now - 900, now - 880, now - 180, now - 1):
             found += [offer for offer in (self.seller.offer(made) for _ in range(12)) if offer]
             found += [offers.OfferCode(made, 1, 0, offer.travel_class, 0, offer.segments[:1]) for offer in found[-3:]]
+        # A search looks two days ahead, and so tells none of a train that is cancelled.
+        found = [offer for offer in found
+                 if all(offers.departure(self.seller.catalogue, s) < now + 7 * DAY for s in offer.segments)]
         return found
 
     def change(self, day):
@@ -137,15 +173,11 @@ class Month:
         self.data = (self.folder / "new.json").read_bytes()
         (self.folder / "new.export").write_text(said)
         new = read_catalogue(self.data)
-        kept = export.read_export(new, said.encode())
+        kept = self.begin(new, said.encode())
         taken = kit.host(self.program, "export", self.folder / "new.json", "--from", self.folder / "new.export")
         self.found.need(taken == (0, said.encode(), ""), "day %d: the host says %s", day, taken[2])
         self.try_change(day, now, old, new, lines, kept)
         self.try_offers(day, now, old, new, told)
-        self.seller = countries.Seller(self.rng, new, kept)
-        for line in kept:
-            if line.row in self.ledger and line.retailer:
-                self.ledger[line.row] = line
         self.try_missing(day, notes, lines)
 
     def try_change(self, day, now, old, new, lines, kept):
@@ -153,11 +185,14 @@ class Month:
         places.
         """
         after = {line.row.number: line for line in kept}
+        trains = real_departures((self.folder / "old.json").read_bytes())
+        shut = {place.number for place in old.places if old.runs[place.run].stops[0].depart != trains[place.run][1]
+                and trains[place.run][1] < now - 7_200}
         self.found.need(set(after) == {line.row.number for line in lines}, "day %d: other rows have lines", day)
         for line in lines:
             now_so = after[line.row.number]
             self.found.need(now_so.row == line.row, "day %d: row %s is %s", day, line.row, now_so.row)
-            over = all(is_over(old.runs[old.places[item.place].run], now) for item in line.items)
+            over = all(is_over(old.runs[old.places[item.place].run], now) or item.place in shut for item in line.items)
             if over and line.retailer:
                 self.found.need(now_so.retailer == 0 and now_so.phase is Phase.RELEASED, "day %d: %s is kept", day,
                                 line.row)
@@ -166,8 +201,8 @@ class Month:
                                                                                        line.total, line.limit)
                 self.found.need(same and places_of(old, line) == places_of(new, now_so),
                                 "day %d: %s is another booking", day, line.row)
-        wanted = {(run["train"], run["stops"][0]["depart"]) for run in self.timetable.catalogue(day + 1)["runs"]}
-        there = [(run.train, moments.write_moment(run.stops[0].depart)) for run in new.runs]
+        wanted = set(real_departures(json.dumps(self.timetable.catalogue(day + 1)).encode()))
+        there = real_departures(self.data)
         self.found.need(wanted <= set(there) and len(set(there)) == len(there),
                         "day %d: runs to come are missing, or stand twice", day)
         self.found.need(len(new.runs) <= (HORIZON + 2) * len(self.timetable.trains), "day %d: %d slots are used", day,
@@ -194,7 +229,7 @@ class Month:
                 and offers.write_booking_id(row) not in archived]
         before = sum(row.generation < present.get(row.number, 0) for row in self.ledger)
         unused = sum(present.values()) - before
-        told = re.search("came to the archive: ([0-9]+);", notes)
+        told = re.search("came to the archive: at most ([0-9]+);", notes)
         self.told = int(told.group(1)) if told else 0
         self.found.need(len(gone) <= self.told <= len(gone) + unused, "day %d: roll misses %d, and %d are gone", day,
                         self.told, len(gone))
@@ -204,6 +239,12 @@ class Month:
         there = set(archive_of(self.folder)) | {offers.write_booking_id(b.row) for b in self.seller.books.bookings
                                                 if b.retailer}
         return [booking for row, booking in self.ledger.items() if offers.write_booking_id(row) not in there]
+
+
+def real_departures(data):
+    """The train and the first departure of each run, also of one that was cancelled."""
+    return [(run["train"], moments.read_moment(run.get("planned", run["stops"])[0]["depart"]))
+            for run in json.loads(data)["runs"]]
 
 
 def is_over(run, now):
@@ -237,6 +278,10 @@ def try_month(found, program, seed, rows):
         month = Month(found, program, folder, seed, rows)
         for day in range(DAYS):
             begin = MIDNIGHT + day * DAY + (CHANGE + 2 if day else 0)
+            if day in CANCELLED:
+                month.sell(begin, MIDNIGHT + day * DAY + 12 * 3_600, 20)
+                month.cancel(day)
+                begin = MIDNIGHT + day * DAY + 12 * 3_600
             month.sell(begin, MIDNIGHT + (day + 1) * DAY + CHANGE, 50)
             month.change(day)
         (folder / "last.export").write_bytes(month.seller.export())
@@ -249,6 +294,7 @@ def try_month(found, program, seed, rows):
         found.need(sums == wanted, "archive and settlement have %s, and sold was %s", sums, wanted)
         found.need(len(month.ledger) > 300 and month.over_change > 100, "%d bookings, %d offers over a change",
                    len(month.ledger), month.over_change)
+        found.need(month.moved > 5, "%d bookings were on cancelled trains", month.moved)
         found.need(min(total for total, _, _ in wanted.values()) > 10_000, "too little is sold: %s", wanted)
         return month.reused, len(gone)
 
