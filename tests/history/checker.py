@@ -71,10 +71,20 @@ class Search:
         self.ends = [NEVER if call.end is None else call.end for call in self.calls]
         self.least_end = list(itertools.accumulate(reversed(self.ends + [NEVER]), min))[::-1]
         self.gone = [call for call in self.calls if not call.answered]
+        self.next_made = dict(self.rows_made_next())
         self.seen, self.states, self.deepest, self.blocked = set(), 0, -1, Counter()
         self.until = time.process_time() + MOST_SECONDS
 
     # What the facts allow
+
+    def rows_made_next(self):
+        """For the number of each call the row of the booking that its connection made next, where it made one."""
+        following = {}
+        for call in reversed(self.calls):
+            if call.connection in following:
+                yield call.number, following[call.connection]
+            if call.kind in KINDS_OF_BOOKINGS and call.status == 201:
+                following[call.connection] = call.made[0]
 
     def may_end(self, row: Row, status: str, call: Call, moment: int = None, successor: Row = None) -> bool:
         """The booking may be ended so by this call: nothing else is known of its end, and no other call ended it."""
@@ -94,8 +104,14 @@ class Search:
         had_row = any(other.status == 201 or other.problem in ("NoPlace", "Contended") for other in before)
         return self.may_be_served_after(holder, call) and not had_row
 
-    def may_be_sealed_after(self, row: Row, call: Call) -> bool:
-        """Where the booking is known to be sealed, it is by a call that this call's worker may serve."""
+    def may_keep(self, row: Row, call: Call) -> bool:
+        """The call may start the row though it doesn't seal it: its worker does later, or keeps it to the end."""
+        made = self.next_made.get(call.number)
+        if made is not None:
+            return row == made
+        if call.answered and call.connection not in self.history.closed:
+            said = self.history.last.get(row.number)
+            return row.generation == 0 if said is None else said.retailer == 0 and said.row == row
         if row not in self.history.values:
             return True
         maker = self.history.makers.get(row)
