@@ -42,6 +42,7 @@ A history that isn't decided within the bounds below is a failure, as one withou
 """
 import itertools
 import json
+import random
 import sys
 import time
 from collections import Counter, namedtuple
@@ -51,7 +52,7 @@ from bookings import Item
 from export import booking_line, stub
 from scripts import (DONE, FREE, HOST, IDLE, LIVE, MAKING, PREBOOKED, Moment, Standing, changed, ending, is_finishable, script_of)
 
-MOST_STATES, MOST_SECONDS = 200_000, 30  # the seconds are of the processor
+FIRST_STATES, MOST_STATES, MOST_SECONDS = 4_000, 200_000, 30  # the seconds are of the processor
 NEVER = 1 << 80
 
 
@@ -73,7 +74,7 @@ class Search:
         self.gone = [call for call in self.calls if not call.answered]
         self.next_made = dict(self.rows_made_next())
         self.seen, self.states, self.deepest, self.blocked = set(), 0, -1, Counter()
-        self.until = time.process_time() + MOST_SECONDS
+        self.until, self.chance = time.process_time() + MOST_SECONDS, None
 
     # What the facts allow
 
@@ -164,12 +165,26 @@ class Search:
             pending = after
 
     def run(self) -> list:
-        """The points in their order, each with the state after it; or Refused."""
+        """The points in their order, each with the state after it; or Refused. A try that finds none in some states begins anew, and
+        tries what may come next in another order of chance: an early choice that leads nowhere is else seen only after all later ones.
+        """
+        most = FIRST_STATES
+        while True:
+            stack = self.attempt(self.states + most)
+            if stack is not None:
+                return stack
+            if self.states > MOST_STATES or time.process_time() > self.until:
+                last = self.calls[min(self.deepest, len(self.calls) - 1)]
+                raise Refused("not decided: %d states were tried, up to %s" % (self.states, last))
+            self.chance = random.Random(most)
+            most *= 2
+
+    def attempt(self, most: int) -> list:
+        """The points, where they are found before there were so many states; or Refused, where all ways were gone to their ends."""
         moment = Moment(self.first, {}, self)
-        stack = [Frame(None, {}, moment, self.moves(0, self.first, {}, moment))]
+        stack = [Frame(None, None, {}, moment, self.moves(0, self.first, {}, moment))]
         while stack:
-            frame = stack[-1]
-            following = next(frame.moves, None)
+            following = next(stack[-1].moves, None)
             if following is None:
                 stack.pop()
                 continue
@@ -180,16 +195,25 @@ class Search:
                 continue
             self.seen.add(key)
             self.states += 1
-            if self.states > MOST_STATES or time.process_time() > self.until:
-                last = self.calls[min(self.deepest, len(self.calls) - 1)]
-                raise Refused("not decided: %d states were tried, up to %s" % (self.states, last))
-            stack.append(Frame(point, pending, moment, self.moves(at, rows, pending, moment)))
+            stack.append(Frame(point, key, pending, moment, self.moves(at, rows, pending, moment)))
             if at == len(self.calls) and self.is_end(rows, pending):
                 return stack
+            if self.states >= most:
+                self.seen -= {frame.key for frame in stack}
+                return None
         raise Refused(self.reason())
 
     def moves(self, at: int, rows: tuple, pending: dict, moment: Moment):
-        """What may come next: the next call begins, a call makes a point, the host ends a booking, or a call without an answer is done."""
+        """What may come next, in the order in which it is tried."""
+        if self.chance is None:
+            return self.all_moves(at, rows, pending, moment)
+        found = list(self.all_moves(at, rows, pending, moment))
+        if self.chance.random() < 0.5:
+            self.chance.shuffle(found)
+        return iter(found)
+
+    def all_moves(self, at: int, rows: tuple, pending: dict, moment: Moment):
+        """The next call begins, a call makes a point, the host ends a booking, or a call without an answer is done."""
         yield from self.advance(at, rows, pending)
         late = []
         for number in sorted(pending, key=lambda one: self.ends[one]):
@@ -268,8 +292,8 @@ class Search:
         return "no order explains %s" % self.calls[worst]
 
 
-# A point (the number of its call, or None where the host makes it, and what it does), what is pending after it, and what may come next.
-Frame = namedtuple("Frame", "point pending moment moves")
+# A point (the number of its call, or None where the host makes it, and what it does), the state after it, and what may come next.
+Frame = namedtuple("Frame", "point key pending moment moves")
 
 
 # What came of it
