@@ -1,11 +1,9 @@
 //! Searching for offers.
 ghost use Rattle.std.specs.Prelude.{◌≡◌, ◌≤◌, All, Ok, IfSome, true};
-ghost use Rattle.claim_rule.specs.Desks.{IsOf};
-ghost use Rattle.claim_rule.specs.Out.{IsTidy, IsIdle};
-ghost use Rattle.rail_catalogue.specs.Contents.{legs_in};
 ghost use Rattle.offer_codes.specs.Offers.{is_party};
 ghost use Rattle.osdm_texts.specs.Offers.{IsWritable};
 ghost use Rattle.osdm_texts.specs.Answers.{Reply as Replied, offer_list, reply_told, told_of, Tells};
+ghost use Rattle.shop.specs.Homes.{IsAtHome, StaysHome};
 ghost use Rattle.search_service.specs.Searching.{SearchesOffers};
 
 use crate::ranges::know_ranges;
@@ -27,14 +25,10 @@ pub fn search_offers(
     wish: &OfferWish,
     now: Moment,
 ) -> Result<Written, Problem>
-    requires own { IsOf shop.now.books.now desk.old }
-    requires idle { IsIdle desk.old }
-    requires legs { shop.now.books.now.layout.legs ≡ legs_in shop.now.cat.now }
+    requires home { IsAtHome shop.now.books.now desk.old }
     requires party { is_party wish.now.adults wish.now.children ≡ true }
     requires traits { wish.now.wanted ≤ 31 }
-    ensures own { IsOf shop.now.books.now desk.new }
-    ensures idle { IsIdle desk.new }
-    ensures tidy { IsTidy desk.old → IsTidy desk.new }
+    ensures home { StaysHome shop.now.books.now desk.old desk.new }
     ensures answer { (reply : Replied) × SearchesOffers shop.now.cat.now wish.now now desk.old desk.new reply
         × (told_of result ≡ reply_told shop.now.cat.now reply) }
 {

@@ -1,10 +1,8 @@
 //! The places of a run, and which of them are free.
 ghost use Rattle.std.specs.Prelude.{◌≡◌, length, Ok, IfSome};
-ghost use Rattle.claim_rule.specs.Desks.{IsOf};
-ghost use Rattle.claim_rule.specs.Out.{IsTidy, IsIdle};
-ghost use Rattle.rail_catalogue.specs.Contents.{legs_in};
 ghost use Rattle.osdm_texts.specs.Spots.{run_places};
 ghost use Rattle.osdm_texts.specs.Answers.{Reply as Replied, place_list, reply_told, told_of, Tells};
+ghost use Rattle.shop.specs.Homes.{IsAtHome, StaysHome};
 ghost use Rattle.search_service.specs.Searching.{ListsPlaces};
 
 use crate::place_numbers::numbers_of_run;
@@ -21,12 +19,8 @@ use shop::Shop;
 /// The books have the catalogue's places. Where there is no memory that is the answer: either no look was made, or all
 /// were.
 pub fn list_places(shop: &Shop<'_>, desk: &mut Desk, segment: Segment) -> Result<Written, Problem>
-    requires own { IsOf shop.now.books.now desk.old }
-    requires idle { IsIdle desk.old }
-    requires legs { shop.now.books.now.layout.legs ≡ legs_in shop.now.cat.now }
-    ensures own { IsOf shop.now.books.now desk.new }
-    ensures idle { IsIdle desk.new }
-    ensures tidy { IsTidy desk.old → IsTidy desk.new }
+    requires home { IsAtHome shop.now.books.now desk.old }
+    ensures home { StaysHome shop.now.books.now desk.old desk.new }
     ensures answer { (reply : Replied) × ListsPlaces shop.now.cat.now segment desk.old desk.new reply
         × (told_of result ≡ reply_told shop.now.cat.now reply) }
 {
