@@ -5,12 +5,11 @@ use Rattle.std.proofs.lemmas.Bool.{leb-true}
 use Rattle.leg_masks.specs.Interval.{PlacedSpan as Item}
 use Rattle.rail_ids.specs.declared.RowNo.{RowNo}
 use Rattle.history_model.specs.declared.phase.Phase.{Phase}
-use Rattle.claim_rule.specs.Rule.{BooksView, DeskView}
-use Rattle.claim_rule.specs.Desks.{IsOf, AddsSteps}
-use Rattle.claim_rule.proofs.Out.{makes_empty}
+use Rattle.claim_rule.specs.Rule.{DeskView}
+use Rattle.claim_rule.specs.Desks.{AddsSteps}
 use Rattle.claim_rule.specs.Calls.{AddsStepsBy}
 use Rattle.claim_rule.specs.Holds.{HoldView}
-use Rattle.claim_rule.specs.Out.{SealsItems, MakesEmpty, IsIdle, IsTidy}
+use Rattle.claim_rule.specs.Out.{SealsItems, MakesEmpty}
 use Rattle.booking_rows.specs.declared.notes.Detail.{Detail}
 use Rattle.booking_rows.specs.Notes.{detail_notes}
 use Rattle.booking_rows.specs.Views.{RowSeen}
@@ -41,7 +40,6 @@ use Rattle.reservation_service.proofs.Placed.{both}
 use Rattle.reservation_service.proofs.Replying.{whole_of, seals_since, has_places, fails_with_memory}
 use Rattle.trade_service.specs.Exchanges.{AnswersExchangeQuote, DecidesOrNot, CarriesOut, IsUnready, lost_problem, ready_of, AnswersReady, AnswersExchange}
 use Rattle.booking_service.specs.Deciding.{Answered}
-use Rattle.trade_service.proofs.Settling.{Settles}
 
 -- the replies to a quote
 
@@ -173,9 +171,6 @@ pub refused : (cat : CatalogueView) (rows retailer : ℕ) (code : ExchangeView) 
     → ((a : Readied) × AddsStepsBy (Readies cat rows retailer code now a) old new × IsUnready a p) → MakesEmpty new
     → AnswersExchange cat rows retailer code now old new (refused_told p)
 refused cat rows retailer code now p old new (a, did, un) none = (problem p, inl (a, p, did, un, refl), none, of_problem cat p)
-
-pub exchanged_tidy : (books : BooksView) (old new : DeskView) → IsOf books new → IsIdle new → Settles old new → IsTidy old → IsTidy new
-exchanged_tidy books old new of idle settles tidy = (idle, settles tidy.1, makes_empty books new of idle.0)
 
 -- an exchange ends for want of memory only where all places of the new booking were held, and are given back
 

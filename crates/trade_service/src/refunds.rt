@@ -1,13 +1,12 @@
 //! Refunds: offered, and paid back.
 ghost use Rattle.std.specs.Prelude.{◌≡◌, ◌≤◌, true, Ok, IfSome};
-ghost use Rattle.claim_rule.specs.Desks.{IsOf};
-ghost use Rattle.claim_rule.specs.Out.{IsTidy, IsIdle};
 ghost use Rattle.history_model.specs.declared.phase.EndKind.TheVariants as kind;
 ghost use Rattle.history_model.specs.Booking.{greatest_amount};
 ghost use Rattle.booking_rows.specs.declared.turns.Aim.TheVariants as aim;
 ghost use Rattle.booking_rows.specs.Aims.{end_of};
 ghost use Rattle.offer_codes.specs.Refunds.{is_refund};
 ghost use Rattle.osdm_texts.specs.Answers.{refund_offer, told_of, Tells};
+ghost use Rattle.shop.specs.Homes.{IsAtHome, StaysHome};
 ghost use Rattle.booking_service.specs.Deciding.{Answered, OnBooking, at_end};
 ghost use Rattle.trade_service.specs.Refunds.{AnswersRefundQuote, RefundsFound, refusal_of};
 
@@ -42,11 +41,8 @@ pub fn quote_refund_booking(
     asker: Asker,
     row: RowNo,
 ) -> Result<Written, Problem>
-    requires own { IsOf shop.now.books.now desk.old }
-    requires idle { IsIdle desk.old }
-    ensures own { IsOf shop.now.books.now desk.new }
-    ensures idle { IsIdle desk.new }
-    ensures tidy { IsTidy desk.old → IsTidy desk.new }
+    requires home { IsAtHome shop.now.books.now desk.old }
+    ensures home { StaysHome shop.now.books.now desk.old desk.new }
     ensures answer { Answered shop.now.cat.now
         (AnswersRefundQuote shop.now.cat.now shop.now.books.now.layout.rows row asker.retailer.0 asker.moment)
         desk.old desk.new (told_of result) }
@@ -105,12 +101,9 @@ pub fn accept_refund_booking(
     asker: Asker,
     code: &RefundCode,
 ) -> Result<Written, Problem>
-    requires own { IsOf shop.now.books.now desk.old }
-    requires idle { IsIdle desk.old }
+    requires home { IsAtHome shop.now.books.now desk.old }
     requires range { is_refund code.now ≡ true }
-    ensures own { IsOf shop.now.books.now desk.new }
-    ensures idle { IsIdle desk.new }
-    ensures tidy { IsTidy desk.old → IsTidy desk.new }
+    ensures home { StaysHome shop.now.books.now desk.old desk.new }
     ensures answer { Answered shop.now.cat.now (OnBooking shop.now.books.now.layout.rows code.now.row asker.retailer.0
         (RefundsFound shop.now.cat.now shop.now.books.now.layout.rows asker.retailer.0 code.now asker.moment))
         desk.old desk.new (told_of result) }
