@@ -1,7 +1,8 @@
 //! Searching for offers.
-ghost use Rattle.std.specs.Prelude.{◌≡◌, ◌≤◌, All, Ok, IfSome, true};
+ghost use Rattle.std.specs.Prelude.{◌≡◌, ◌≤◌, All, Ok, IfOk, IfErr, true};
 ghost use Rattle.offer_codes.specs.Offers.{is_party};
 ghost use Rattle.osdm_texts.specs.Offers.{IsWritable};
+ghost use Rattle.osdm_texts.specs.declared.problem.Problem.TheVariants.{NoMemory};
 ghost use Rattle.osdm_texts.specs.Answers.{Reply as Replied, offer_list, reply_told, told_of, Tells};
 ghost use Rattle.shop.specs.Homes.{IsAtHome, StaysHome};
 ghost use Rattle.search_service.specs.Searching.{SearchesOffers};
@@ -36,16 +37,14 @@ pub fn search_offers(
         return Err(Problem::NoMemory);
     };
     know_ranges(shop.cat.runs(), now);
-    match offer_answer(shop, found.as_slice()) {
-        Some(listed) => Ok(listed),
-        None => Err(Problem::NoMemory),
-    }
+    offer_answer(shop, found.as_slice())
 }
 
-// The text that lists the offers, or `None` where there is no memory for it.
-fn offer_answer(shop: &Shop<'_>, offers: &[Offer]) -> Option<Written>
+// The text that lists the offers.
+fn offer_answer(shop: &Shop<'_>, offers: &[Offer]) -> Result<Written, Problem>
     requires writable { All IsWritable offers.now }
-    ensures told { IfSome result (Tells shop.now.cat.now (offer_list offers.now)) }
+    ensures told { IfOk result (Tells shop.now.cat.now (offer_list offers.now)) }
+    ensures untold { IfErr result (λ p. p ≡ NoMemory) }
 {
     write_reply(
         shop.alloc,
@@ -53,4 +52,5 @@ fn offer_answer(shop: &Shop<'_>, offers: &[Offer]) -> Option<Written>
         Success::Done,
         &Reply::OfferList { offers },
     )
+    .ok_or(Problem::NoMemory)
 }

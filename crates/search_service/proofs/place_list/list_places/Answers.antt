@@ -1,4 +1,4 @@
-use Rattle.std.proofs.Common.{◌≡◌, ◌∙◌, ◌==◌, ℕ, List, length, refl, ap}
+use Rattle.std.proofs.Common.{◌≡◌, ◌∙◌, ◌==◌, ℕ, List, length, refl, sym, ap}
 use Rattle.rail_ids.specs.declared.PlaceNo.{PlaceNo}
 use Rattle.rail_catalogue.specs.Contents.{CatalogueView}
 use Rattle.place_map.specs.declared.coach.Place.{Place}
@@ -6,7 +6,7 @@ use Rattle.place_map.specs.Candidates.{numbers_of}
 use Rattle.shop.proofs.Homes.{stays}
 use Rattle.search_service.specs.Searching.{numbers_on}
 use Rattle.search_service.proofs.Numbers.{of_books, one_each}
-use Rattle.search_service.proofs.Answers.{listed_untold, unlisted}
+use Rattle.search_service.proofs.Answers.{listed, unlisted}
 use Rattle.search_service.proofs.place_list.list_places.Goals as goal
 
 -- the numbers that were looked at are those of the run's places
@@ -33,14 +33,12 @@ place_answer-requires c = record {
 
 pub returns-clause-answer : goal.returns-clause-answer
 returns-clause-answer c =
-    listed_untold c.args.shop.now.cat.now c.args.segment c.as_slice.result.now c.in-Ok-place_states.free.items c.args.desk.now c.place_states.new.desk
+    listed c.args.shop.now.cat.now c.args.segment c.as_slice.result.now c.in-Ok-place_states.free.items c.args.desk.now c.place_states.new.desk c.place_answer.result
     (are_numbers c.args.shop.now.cat.now c.args.segment.run.0 c.places.result.now c.in-Ok.numbers.items c.as_slice.result.now c.as_slice.ensures.value c.in-Ok.ensures.numbers c.places.ensures.value) c.in-Ok-place_states.ensures.entries
+    (rw (sym c.as_slice-2.ensures.value) c.place_answer.ensures.told) c.place_answer.ensures.untold
 
 pub returns-in_default-place_states-clause-home : goal.returns-in_default-place_states-clause-home
 returns-in_default-place_states-clause-home c = let did = c.place_states.ensures in stays _ _ _ did.own did.holds did.endings did.tidy c.requires.home
-
-pub returns-in-Some-clause-home : goal.returns-in-Some-clause-home
-returns-in-Some-clause-home c = let did = c.place_states.ensures in stays _ _ _ did.own did.holds did.endings did.tidy c.requires.home
 
 pub returns-clause-home : goal.returns-clause-home
 returns-clause-home c = let did = c.place_states.ensures in stays _ _ _ did.own did.holds did.endings did.tidy c.requires.home
