@@ -61,10 +61,7 @@ pub fn show_booking(
     let Some(view) = find_booking(shop.books, desk, row, retailer) else {
         return Err(Problem::UnknownBooking);
     };
-    match booking_answer(shop, row, view) {
-        Some(shown) => Ok(shown),
-        None => Err(Problem::NoMemory),
-    }
+    booking_answer(shop, row, view).ok_or(Problem::NoMemory)
 }
 
 /// Confirms a booking up to its limit (OSDM's confirmation).

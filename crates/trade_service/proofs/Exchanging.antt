@@ -1,5 +1,5 @@
 -- The replies to commands on exchanges.
-use Rattle.std.proofs.Common.{false, ◌≡◌, ◌≢◌, ◌∙◌, inl, inr, ℕ, ℤ, ◌≤◌, true, List, length, Some, None, refl, sym, subst}
+use Rattle.std.proofs.Common.{false, ◌≡◌, ◌≢◌, ◌∙◌, inl, inr, ℕ, ℤ, ◌≤◌, true, List, length, Some, None, Result, Ok, Err, IfOk, IfErr, refl, sym, ap, subst}
 use Rattle.std.specs.Prelude.{nat_le}
 use Rattle.std.proofs.lemmas.Bool.{leb-true}
 use Rattle.leg_masks.specs.Interval.{PlacedSpan as Item}
@@ -27,7 +27,8 @@ use Rattle.exchange_core.specs.declared.accepting.Exchanged.TheVariants as accep
 use Rattle.exchange_core.proofs.Kept.{ready_on}
 use Rattle.osdm_texts.specs.declared.problem.Problem.{Problem}
 use Rattle.osdm_texts.specs.declared.problem.Problem.TheVariants.{UnknownBooking, WrongState, RowsFull, NoMemory}
-use Rattle.osdm_texts.specs.Answers.{Reply, offer_list, created, booking, refund_offer, exchange_offer, exchanged, place_list, swept, problem, Told, refused as refused_told, reply_told}
+use Rattle.osdm_texts.specs.Answers.{Reply, offer_list, created, booking, refund_offer, exchange_offer, exchanged, place_list, swept, problem, Told, refused as refused_told, reply_told, told_of, Tells}
+use Rattle.osdm_texts.specs.declared.written.Written.{Written}
 use Rattle.osdm_texts.proofs.Telling.{of_problem}
 use Rattle.history_model.specs.declared.phase.Phase.TheVariants as phase
 use Rattle.reservation_service.specs.declared.holding.Placing.{Placing}
@@ -43,15 +44,11 @@ use Rattle.booking_service.specs.Deciding.{Answered}
 
 -- the replies to a quote
 
-pub offers_exchange : (cat : CatalogueView) (rows : ℕ) (row : RowNo) (retailer : ℕ) (offer : OfferView) (now : ℕ) (code : ExchangeCode) (old new : DeskView) (said : Told)
-    → AddsStepsBy (QuotesExchange cat rows row retailer offer now (quoted.Done code)) old new → said ≡ reply_told cat (exchange_offer code)
-    → Answered cat (AnswersExchangeQuote cat rows row retailer offer now) old new said
-offers_exchange cat rows row retailer offer now code old new said did is = (exchange_offer code, (quoted.Done code, did, inl refl), is)
-
-pub offers_none : (cat : CatalogueView) (rows : ℕ) (row : RowNo) (retailer : ℕ) (offer : OfferView) (now : ℕ) (code : ExchangeCode) (old new : DeskView)
-    → AddsStepsBy (QuotesExchange cat rows row retailer offer now (quoted.Done code)) old new
-    → Answered cat (AnswersExchangeQuote cat rows row retailer offer now) old new (refused_told NoMemory)
-offers_none cat rows row retailer offer now code old new did = (problem NoMemory, (quoted.Done code, did, inr refl), of_problem cat NoMemory)
+pub offers_exchange : (cat : CatalogueView) (rows : ℕ) (row : RowNo) (retailer : ℕ) (offer : OfferView) (now : ℕ) (code : ExchangeCode) (old new : DeskView) (r : Result Written Problem)
+    → AddsStepsBy (QuotesExchange cat rows row retailer offer now (quoted.Done code)) old new → IfOk r (Tells cat (exchange_offer code)) → IfErr r (λ p. p ≡ NoMemory)
+    → Answered cat (AnswersExchangeQuote cat rows row retailer offer now) old new (told_of r)
+offers_exchange cat rows row retailer offer now code old new (Ok w) did is none = (exchange_offer code, (quoted.Done code, did, inl refl), is)
+offers_exchange cat rows row retailer offer now code old new (Err p) did is none = (problem NoMemory, (quoted.Done code, did, inr refl), ap refused_told none ∙ of_problem cat NoMemory)
 
 pub offers_unknown : (cat : CatalogueView) (rows : ℕ) (row : RowNo) (retailer : ℕ) (offer : OfferView) (now : ℕ) (old new : DeskView)
     → AddsStepsBy (QuotesExchange cat rows row retailer offer now quoted.Unknown) old new

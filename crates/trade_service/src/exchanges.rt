@@ -12,6 +12,7 @@ ghost use Rattle.exchange_core.specs.Ready.{IsReadyFor};
 ghost use Rattle.exchange_core.specs.Exchanges.{Readies};
 ghost use Rattle.exchange_core.specs.declared.readying.Readied.{Readied as ReadiedBy};
 ghost use Rattle.exchange_core.specs.declared.readying.Readied.TheVariants as readied;
+ghost use Rattle.osdm_texts.specs.declared.problem.Problem.TheVariants.{NoMemory};
 ghost use Rattle.osdm_texts.specs.Answers.{Reply as Replied, exchange_offer, exchanged, reply_told, told_of, Tells};
 ghost use Rattle.osdm_texts.specs.Ids.{HasId};
 ghost use Rattle.osdm_texts.specs.Bookings.{HasIds};
@@ -35,10 +36,11 @@ use rail_time::Moment;
 use reservation_service::{Held, detail_for, hold_places, new_view};
 use shop::{Asker, Shop};
 
-// The text that offers an exchange, or `None` where there is no memory for it.
-fn exchange_offer_answer(shop: &Shop<'_>, code: ExchangeCode) -> Option<Written>
+// The text that offers an exchange.
+fn exchange_offer_answer(shop: &Shop<'_>, code: ExchangeCode) -> Result<Written, Problem>
     requires range { is_exchange (exchange_view code) ≡ true }
-    ensures told { IfSome result (Tells shop.now.cat.now (exchange_offer code)) }
+    ensures told { IfOk result (Tells shop.now.cat.now (exchange_offer code)) }
+    ensures untold { IfErr result (λ p. p ≡ NoMemory) }
 {
     write_reply(
         shop.alloc,
@@ -46,6 +48,7 @@ fn exchange_offer_answer(shop: &Shop<'_>, code: ExchangeCode) -> Option<Written>
         Success::Created,
         &Reply::ExchangeOffer { code },
     )
+    .ok_or(Problem::NoMemory)
 }
 
 /// Offers an exchange of a booking for an offer (OSDM's exchange offer). The offer is in the ranges of its spelling.
@@ -72,10 +75,7 @@ pub fn quote_exchange_booking(
         asker.moment,
     );
     match quoted {
-        QuotedExchange::Done(code) => match exchange_offer_answer(shop, code) {
-            Some(quoted) => Ok(quoted),
-            None => Err(Problem::NoMemory),
-        },
+        QuotedExchange::Done(code) => exchange_offer_answer(shop, code),
         QuotedExchange::Unknown => Err(Problem::UnknownBooking),
         QuotedExchange::WrongState { shown } => Err(Problem::WrongState { shown }),
     }
@@ -100,10 +100,8 @@ pub fn accept_exchange_booking(
     ensures answer { AnswersExchange shop.now.cat.now shop.now.books.now.layout.rows asker.retailer.0
         (exchange_view code.now) asker.moment desk.old desk.new (told_of result) }
 {
-    match check(shop, desk, asker.retailer, code, asker.moment) {
-        Ok(ready) => carry_out(shop, desk, asker, code, ready),
-        Err(problem) => Err(problem),
-    }
+    let ready = check(shop, desk, asker.retailer, code, asker.moment)?;
+    carry_out(shop, desk, asker, code, ready)
 }
 
 // The quote as it was checked, or what is wrong with it.

@@ -1,23 +1,15 @@
 use Rattle.refund_core.specs.declared.quoting.Quoted.TheVariants as quoted
 use Rattle.trade_service.proofs.Calm.{quoted_home}
-use Rattle.trade_service.proofs.Replying.{offers_refund, offers_none, offers_unknown, offers_wrong}
+use Rattle.trade_service.proofs.Replying.{offers_refund, offers_unknown, offers_wrong}
 use Rattle.trade_service.proofs.refunds.quote_refund_booking.Goals as goal
 
-pub returns-in-Some-clause-home : goal.returns-in-Some-clause-home
-returns-in-Some-clause-home c =
+pub returns-in-Done-clause-home : goal.returns-in-Done-clause-home
+returns-in-Done-clause-home c =
     quoted_home c.args.shop.now.cat.now c.args.shop.now.books.now.layout.rows c.args.row c.args.asker.retailer.0 c.args.asker.moment (quoted.Done c.in-Done.code) c.args.shop.now.books.now c.args.desk.now c.quote_refund.new.desk c.quote_refund.ensures.own c.in-Done.ensures.entries c.in-Done.ensures.holds c.in-Done.ensures.endings c.requires.home
 
-pub returns-in-Some-clause-answer : goal.returns-in-Some-clause-answer
-returns-in-Some-clause-answer c =
-    offers_refund c.args.shop.now.cat.now c.args.shop.now.books.now.layout.rows c.args.row c.args.asker.retailer.0 c.args.asker.moment c.in-Done.code c.args.desk.now c.quote_refund.new.desk _ c.in-Done.ensures.entries c.in-Some.ensures.told
-
-pub returns-in-None-clause-home : goal.returns-in-None-clause-home
-returns-in-None-clause-home c =
-    quoted_home c.args.shop.now.cat.now c.args.shop.now.books.now.layout.rows c.args.row c.args.asker.retailer.0 c.args.asker.moment (quoted.Done c.in-Done.code) c.args.shop.now.books.now c.args.desk.now c.quote_refund.new.desk c.quote_refund.ensures.own c.in-Done.ensures.entries c.in-Done.ensures.holds c.in-Done.ensures.endings c.requires.home
-
-pub returns-in-None-clause-answer : goal.returns-in-None-clause-answer
-returns-in-None-clause-answer c =
-    offers_none c.args.shop.now.cat.now c.args.shop.now.books.now.layout.rows c.args.row c.args.asker.retailer.0 c.args.asker.moment c.in-Done.code c.args.desk.now c.quote_refund.new.desk c.in-Done.ensures.entries
+pub returns-in-Done-clause-answer : goal.returns-in-Done-clause-answer
+returns-in-Done-clause-answer c =
+    offers_refund c.args.shop.now.cat.now c.args.shop.now.books.now.layout.rows c.args.row c.args.asker.retailer.0 c.args.asker.moment c.in-Done.code c.args.desk.now c.quote_refund.new.desk c.refund_offer_answer.result c.in-Done.ensures.entries c.refund_offer_answer.ensures.told c.refund_offer_answer.ensures.untold
 
 pub returns-in-Unknown-clause-home : goal.returns-in-Unknown-clause-home
 returns-in-Unknown-clause-home c =
