@@ -1,4 +1,4 @@
--- Calls that turn nothing to an exchange leave a tidy desk tidy.
+-- Calls that turn nothing to an exchange leave a desk at home, and a tidy one tidy.
 use Rattle.std.proofs.Common.{◌≡◌, inl, inr, ℕ, suc, zero, true, false, List, [], ◌∷◌, ◌++◌, length, Option, Some, None, refl, sym, subst}
 use Rattle.leg_masks.specs.Interval.{PlacedSpan as Item}
 use Rattle.history_model.specs.declared.entry.Step.{Step}
@@ -17,8 +17,10 @@ use Rattle.claim_rule.specs.Desks.{IsOf}
 use Rattle.claim_rule.specs.Calls.{Calls, AddsStepsBy}
 use Rattle.claim_rule.specs.Endings.{item_looks, items_read}
 use Rattle.claim_rule.specs.EndSteps.{gives_from, closing, ending_steps}
-use Rattle.claim_rule.specs.Out.{is_look, AllLooks, exchanges, IsTidy, KeepsHolds, KeepsEndings, EndsNone}
+use Rattle.claim_rule.specs.Out.{is_look, AllLooks, exchanges, KeepsHolds, KeepsEndings, EndsNone}
 use Rattle.claim_rule.proofs.Out.{tidy_through, settled_calm, still_idle}
+use Rattle.shop.specs.Homes.{IsAtHome, StaysHome}
+use Rattle.shop.proofs.Homes.{stays}
 use Rattle.booking_rows.specs.Views.{RowSeen, LooksRow}
 use Rattle.booking_rows.specs.Aims.{end_of, LosesTurn}
 use Rattle.booking_rows.proofs.Looked.{row_looked}
@@ -59,13 +61,17 @@ calm_append (x ∷ xs) ys p q = (p.0, calm_append xs ys p.1 q)
 abbrev pub AreCalm : Calls → Type 0
 AreCalm P = (es : List Step) → P es → NoStep exchanges es
 
--- a tidy desk stays tidy through calm steps that leave its holds and its endings
-pub tidy_by : (P : Calls) (books : BooksView) (old new : DeskView) → AreCalm P → IsOf books new → AddsStepsBy P old new → KeepsHolds old new → KeepsEndings old new → IsTidy old → IsTidy new
-tidy_by P books old new calm of did holds endings tidy = tidy_through books old new did.0 of did.2 (settled_calm old.number did.0 (calm did.0 did.1)) tidy (still_idle old new holds endings tidy.0)
+-- a desk stays at home through calm steps that leave its holds and its endings
+pub home_by : (P : Calls) (books : BooksView) (old new : DeskView) → AreCalm P → IsOf books new → AddsStepsBy P old new → KeepsHolds old new → KeepsEndings old new → IsAtHome books old → StaysHome books old new
+home_by P books old new calm own did holds endings =
+    stays books old new own holds endings (λ tidy. tidy_through books old new did.0 own did.2 (settled_calm old.number did.0 (calm did.0 did.1)) tidy (still_idle old new holds endings tidy.0))
 
 -- or through calm steps that leave its holds and no ending
-pub tidy_after : (P : Calls) (books : BooksView) (old new : DeskView) → AreCalm P → IsOf books new → AddsStepsBy P old new → KeepsHolds old new → EndsNone new → IsTidy old → IsTidy new
-tidy_after P books old new calm of did holds none tidy = tidy_through books old new did.0 of did.2 (settled_calm old.number did.0 (calm did.0 did.1)) tidy (holds.none tidy.0.0, none)
+pub home_after : (P : Calls) (books : BooksView) (old new : DeskView) → AreCalm P → IsOf books new → AddsStepsBy P old new → KeepsHolds old new → EndsNone new → IsAtHome books old → StaysHome books old new
+home_after P books old new calm own did holds none home = record {
+  home = record { own = own; idle = (holds.none home.idle.0, none) };
+  tidy = λ tidy. tidy_through books old new did.0 own did.2 (settled_calm old.number did.0 (calm did.0 did.1)) tidy (holds.none tidy.0.0, none);
+}
 
 calm_row : (row : RowNo) (v : Option RowSeen) → AreCalm (LooksRow row v)
 calm_row row v es is = calm_looks es (row_looked row v es is)
@@ -139,14 +145,14 @@ calm_releases rows row retailer now (released.WrongState shown) es (here, wrong)
 
 -- the calls of the commands on a booking
 
-pub found_tidy : (rows : ℕ) (row : RowNo) (retailer : ℕ) (v : Option RowSeen) (books : BooksView) (old new : DeskView) → IsOf books new → AddsStepsBy (FindsBooking rows row retailer v) old new → KeepsHolds old new → KeepsEndings old new → IsTidy old → IsTidy new
-found_tidy rows row retailer v books old new = tidy_by (FindsBooking rows row retailer v) books old new (calm_find rows row retailer v)
+pub found_home : (rows : ℕ) (row : RowNo) (retailer : ℕ) (v : Option RowSeen) (books : BooksView) (old new : DeskView) → IsOf books new → AddsStepsBy (FindsBooking rows row retailer v) old new → KeepsHolds old new → KeepsEndings old new → IsAtHome books old → StaysHome books old new
+found_home rows row retailer v books old new = home_by (FindsBooking rows row retailer v) books old new (calm_find rows row retailer v)
 
-pub confirmed_tidy : (rows : ℕ) (row : RowNo) (retailer now : ℕ) (a : Confirmed) (books : BooksView) (old new : DeskView) → IsOf books new → AddsStepsBy (Confirms rows row retailer now a) old new → KeepsHolds old new → KeepsEndings old new → IsTidy old → IsTidy new
-confirmed_tidy rows row retailer now a books old new = tidy_by (Confirms rows row retailer now a) books old new (calm_confirms rows row retailer now a)
+pub confirmed_home : (rows : ℕ) (row : RowNo) (retailer now : ℕ) (a : Confirmed) (books : BooksView) (old new : DeskView) → IsOf books new → AddsStepsBy (Confirms rows row retailer now a) old new → KeepsHolds old new → KeepsEndings old new → IsAtHome books old → StaysHome books old new
+confirmed_home rows row retailer now a books old new = home_by (Confirms rows row retailer now a) books old new (calm_confirms rows row retailer now a)
 
-pub fulfilled_tidy : (rows : ℕ) (row : RowNo) (retailer : ℕ) (a : Fulfilment) (books : BooksView) (old new : DeskView) → IsOf books new → AddsStepsBy (Fulfils rows row retailer a) old new → KeepsHolds old new → KeepsEndings old new → IsTidy old → IsTidy new
-fulfilled_tidy rows row retailer a books old new = tidy_by (Fulfils rows row retailer a) books old new (calm_fulfils rows row retailer a)
+pub fulfilled_home : (rows : ℕ) (row : RowNo) (retailer : ℕ) (a : Fulfilment) (books : BooksView) (old new : DeskView) → IsOf books new → AddsStepsBy (Fulfils rows row retailer a) old new → KeepsHolds old new → KeepsEndings old new → IsAtHome books old → StaysHome books old new
+fulfilled_home rows row retailer a books old new = home_by (Fulfils rows row retailer a) books old new (calm_fulfils rows row retailer a)
 
-pub released_tidy : (rows : ℕ) (row : RowNo) (retailer now : ℕ) (a : Released) (books : BooksView) (old new : DeskView) → IsOf books new → AddsStepsBy (Releases rows row retailer now a) old new → KeepsHolds old new → EndsNone new → IsTidy old → IsTidy new
-released_tidy rows row retailer now a books old new = tidy_after (Releases rows row retailer now a) books old new (calm_releases rows row retailer now a)
+pub released_home : (rows : ℕ) (row : RowNo) (retailer now : ℕ) (a : Released) (books : BooksView) (old new : DeskView) → IsOf books new → AddsStepsBy (Releases rows row retailer now a) old new → KeepsHolds old new → EndsNone new → IsAtHome books old → StaysHome books old new
+released_home rows row retailer now a books old new = home_after (Releases rows row retailer now a) books old new (calm_releases rows row retailer now a)

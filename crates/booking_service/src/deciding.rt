@@ -1,7 +1,5 @@
 //! Showing, confirming, collecting and releasing a booking.
 ghost use Rattle.std.specs.Prelude.{◌≡◌, Ok, IfOk, IfSome};
-ghost use Rattle.claim_rule.specs.Desks.{IsOf};
-ghost use Rattle.claim_rule.specs.Out.{IsTidy, IsIdle};
 ghost use Rattle.claim_rule.specs.Turns.{IsPresentIn};
 ghost use Rattle.history_model.specs.declared.phase.Phase.TheVariants as phase;
 ghost use Rattle.history_model.specs.declared.phase.EndKind.TheVariants as kind;
@@ -10,6 +8,7 @@ ghost use Rattle.booking_rows.specs.Aims.{end_of};
 ghost use Rattle.refund_core.specs.Releasing.{IsReleased};
 ghost use Rattle.osdm_texts.specs.Answers.{booking, told_of, Tells};
 ghost use Rattle.osdm_texts.specs.Bookings.{HasIds};
+ghost use Rattle.shop.specs.Homes.{IsAtHome, StaysHome};
 ghost use Rattle.booking_service.specs.Deciding.{OnBooking, Answered, shows, ConfirmsBooking, FulfilsFound, ReleasesBooking, in_phase as in_phase_of, at_end};
 
 use booking_rows::{EndView, RowView};
@@ -54,21 +53,15 @@ pub fn show_booking(
     retailer: RetailerNo,
     row: RowNo,
 ) -> Result<Written, Problem>
-    requires own { IsOf shop.now.books.now desk.old }
-    requires idle { IsIdle desk.old }
-    ensures own { IsOf shop.now.books.now desk.new }
-    ensures idle { IsIdle desk.new }
-    ensures tidy { IsTidy desk.old → IsTidy desk.new }
+    requires home { IsAtHome shop.now.books.now desk.old }
+    ensures home { StaysHome shop.now.books.now desk.old desk.new }
     ensures answer { Answered shop.now.cat.now
         (OnBooking shop.now.books.now.layout.rows row retailer.0 (shows row)) desk.old desk.new (told_of result) }
 {
     let Some(view) = find_booking(shop.books, desk, row, retailer) else {
         return Err(Problem::UnknownBooking);
     };
-    match booking_answer(shop, row, view) {
-        Some(shown) => Ok(shown),
-        None => Err(Problem::NoMemory),
-    }
+    booking_answer(shop, row, view).ok_or(Problem::NoMemory)
 }
 
 /// Confirms a booking up to its limit (OSDM's confirmation).
@@ -78,12 +71,9 @@ pub fn confirm_booking(
     asker: Asker,
     row: RowNo,
 ) -> Result<Written, Problem>
-    requires own { IsOf shop.now.books.now desk.old }
-    requires idle { IsIdle desk.old }
-    ensures own { IsOf shop.now.books.now desk.new }
+    requires home { IsAtHome shop.now.books.now desk.old }
     ensures confirmed { IfOk result (λ _. IsPresentIn desk.new row phase.Confirmed) }
-    ensures idle { IsIdle desk.new }
-    ensures tidy { IsTidy desk.old → IsTidy desk.new }
+    ensures home { StaysHome shop.now.books.now desk.old desk.new }
     ensures answer { Answered shop.now.cat.now
         (ConfirmsBooking shop.now.books.now.layout.rows row asker.retailer.0 asker.moment)
         desk.old desk.new (told_of result) }
@@ -110,12 +100,9 @@ pub fn fulfil_booking(
     retailer: RetailerNo,
     row: RowNo,
 ) -> Result<Written, Problem>
-    requires own { IsOf shop.now.books.now desk.old }
-    requires idle { IsIdle desk.old }
-    ensures own { IsOf shop.now.books.now desk.new }
+    requires home { IsAtHome shop.now.books.now desk.old }
     ensures fulfilled { IfOk result (λ _. IsPresentIn desk.new row phase.Fulfilled) }
-    ensures idle { IsIdle desk.new }
-    ensures tidy { IsTidy desk.old → IsTidy desk.new }
+    ensures home { StaysHome shop.now.books.now desk.old desk.new }
     ensures answer { Answered shop.now.cat.now (OnBooking shop.now.books.now.layout.rows row retailer.0
         (FulfilsFound shop.now.books.now.layout.rows row retailer.0)) desk.old desk.new (told_of result) }
 {
@@ -153,12 +140,9 @@ pub fn release_booking(
     asker: Asker,
     row: RowNo,
 ) -> Result<Written, Problem>
-    requires own { IsOf shop.now.books.now desk.old }
-    requires idle { IsIdle desk.old }
-    ensures own { IsOf shop.now.books.now desk.new }
+    requires home { IsAtHome shop.now.books.now desk.old }
     ensures released { IfOk result (λ _. IsReleased desk.new row asker.moment) }
-    ensures idle { IsIdle desk.new }
-    ensures tidy { IsTidy desk.old → IsTidy desk.new }
+    ensures home { StaysHome shop.now.books.now desk.old desk.new }
     ensures answer { Answered shop.now.cat.now
         (ReleasesBooking shop.now.books.now.layout.rows row asker.retailer.0 asker.moment)
         desk.old desk.new (told_of result) }

@@ -1,9 +1,8 @@
 //! Sweeping all rows for late bookings.
 ghost use Rattle.std.specs.Prelude.{◌≡◌, Ok};
-ghost use Rattle.claim_rule.specs.Desks.{IsOf};
-ghost use Rattle.claim_rule.specs.Out.{IsTidy, IsIdle};
 ghost use Rattle.rail_catalogue.specs.Contents.{CatalogueView};
 ghost use Rattle.osdm_texts.specs.Answers.{Reply as Replied, reply_told, told_of};
+ghost use Rattle.shop.specs.Homes.{IsAtHome, StaysHome};
 ghost use Rattle.booking_service.specs.Sweeping.{SweepsRows};
 
 use claim_rule::{Books, Desk};
@@ -15,11 +14,8 @@ use rail_time::Moment;
 /// given to another meanwhile is in no count. No memory is taken. The text is that of the reply by any catalogue: it
 /// names no station and no amount.
 pub fn sweep_bookings(books: &Books, desk: &mut Desk, now: Moment) -> Written
-    requires own { IsOf books.now desk.old }
-    requires idle { IsIdle desk.old }
-    ensures own { IsOf books.now desk.new }
-    ensures idle { IsIdle desk.new }
-    ensures tidy { IsTidy desk.old → IsTidy desk.new }
+    requires home { IsAtHome books.now desk.old }
+    ensures home { StaysHome books.now desk.old desk.new }
     ensures answer { (reply : Replied) × SweepsRows books.now.layout.rows now desk.old desk.new reply
         × ((cat : CatalogueView) → told_of (Ok result) ≡ reply_told cat reply) }
 {

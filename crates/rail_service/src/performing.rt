@@ -4,6 +4,7 @@ ghost use Rattle.session_loop.specs.Answered.{answer_bytes};
 ghost use Rattle.rail_catalogue.specs.Contents.{legs_in};
 ghost use Rattle.claim_rule.specs.Desks.{IsOf};
 ghost use Rattle.claim_rule.specs.Out.{IsIdle, IsTidy, MakesEmpty};
+ghost use Rattle.shop.specs.Homes.{IsAtHome, StaysHome};
 ghost use Rattle.osdm_texts.specs.Answers.{Reply, told_of};
 ghost use Rattle.osdm_json.specs.Readable.{IsReadable};
 ghost use Rattle.service_rules.specs.Checks.{ordered};
@@ -65,11 +66,38 @@ pub fn perform(
         × (answer_bytes result ≡ reply_bytes cat.now last reply) }
 {
     let shop = Shop { alloc, cat, books };
+    let asker = Asker {
+        retailer,
+        moment: now,
+    };
+    answer_command(&shop, desk, asker, command, last)
+}
+
+/// Does what a retailer's command asks at the moment of its asker, and answers it: `perform` at a shop.
+#[inline(always)]
+pub(crate) fn answer_command(
+    shop: &Shop<'_>,
+    desk: &mut Desk,
+    asker: Asker,
+    command: &Command,
+    last: bool,
+) -> Answer
+    requires home { IsAtHome shop.now.books.now desk.old }
+    requires command { IsReadable shop.now.cat.now command.now }
+    ensures home { StaysHome shop.now.books.now desk.old desk.new }
+    ensures no_item { MakesEmpty desk.new }
+    ensures goes_on { GoesOn desk.old desk.new }
+    ensures answer { (reply : Reply)
+        × Answers shop.now.cat.now asker.retailer.0 asker.moment command.now desk.old desk.new reply
+        × BooksAllOrNone shop.now.cat.now asker.moment command.now desk.old desk.new reply
+        × MakesFor desk.old desk.new reply
+        × (answer_bytes result ≡ reply_bytes shop.now.cat.now last reply) }
+{
     let Written {
         success,
         length,
         text,
-    } = match say(&shop, desk, retailer, command, now) {
+    } = match say(shop, desk, asker, command) {
         Ok(written) => written,
         Err(problem) => return problem_answer(&problem, last),
     };
@@ -88,29 +116,17 @@ pub fn perform(
 fn say(
     shop: &Shop<'_>,
     desk: &mut Desk,
-    retailer: RetailerNo,
+    asker: Asker,
     command: &Command,
-    now: Moment,
 ) -> Result<Written, Problem>
-    requires own { IsOf shop.now.books.now desk.old }
-    requires legs { shop.now.books.now.layout.legs ≡ legs_in shop.now.cat.now }
-    requires rows { shop.now.books.now.layout.rows ≡ shop.now.cat.now.rows }
-    requires idle { IsIdle desk.old }
+    requires home { IsAtHome shop.now.books.now desk.old }
     requires command { IsReadable shop.now.cat.now command.now }
-    ensures own { IsOf shop.now.books.now desk.new }
-    ensures idle { IsIdle desk.new }
-    ensures tidy { IsTidy desk.old → IsTidy desk.new }
-    ensures said { Says shop.now.cat.now retailer.0 now (ordered shop.now.cat.now now command.now)
-        desk.old desk.new (told_of result) }
+    ensures home { StaysHome shop.now.books.now desk.old desk.new }
+    ensures said { Says shop.now.cat.now asker.retailer.0 asker.moment
+        (ordered shop.now.cat.now asker.moment command.now) desk.old desk.new (told_of result) }
 {
-    match order_of(shop.cat, command, now) {
-        Ok(order) => {
-            let asker = Asker {
-                retailer,
-                moment: now,
-            };
-            carry_out(shop, desk, asker, &order)
-        }
+    match order_of(shop.cat, command, asker.moment) {
+        Ok(order) => carry_out(shop, desk, asker, &order),
         Err(problem) => Err(problem),
     }
 }
@@ -122,14 +138,9 @@ fn carry_out(
     asker: Asker,
     order: &Order<'_>,
 ) -> Result<Written, Problem>
-    requires own { IsOf shop.now.books.now desk.old }
-    requires legs { shop.now.books.now.layout.legs ≡ legs_in shop.now.cat.now }
-    requires rows { shop.now.books.now.layout.rows ≡ shop.now.cat.now.rows }
-    requires idle { IsIdle desk.old }
+    requires home { IsAtHome shop.now.books.now desk.old }
     requires sound { IsSoundOrder shop.now.cat.now asker.moment (order_view order.now) }
-    ensures own { IsOf shop.now.books.now desk.new }
-    ensures idle { IsIdle desk.new }
-    ensures tidy { IsTidy desk.old → IsTidy desk.new }
+    ensures home { StaysHome shop.now.books.now desk.old desk.new }
     ensures answer { Says shop.now.cat.now asker.retailer.0 asker.moment (Ok (order_view order.now))
         desk.old desk.new (told_of result) }
 {

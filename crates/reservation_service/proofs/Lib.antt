@@ -2,6 +2,7 @@ pub mod Candidates
 pub mod Adding
 pub mod Won
 pub mod Placed
+pub mod Outs
 pub mod Runs
 pub mod Calm
 pub mod Replying

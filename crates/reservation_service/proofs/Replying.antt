@@ -19,7 +19,8 @@ use Rattle.claim_rule.specs.Calls.{AddsStepsBy}
 use Rattle.booking_rows.specs.Starts.{StartsHold}
 use Rattle.booking_rows.specs.declared.notes.Detail.{Detail}
 use Rattle.booking_rows.specs.Notes.{detail_notes}
-use Rattle.claim_rule.specs.Out.{MakesEmpty, IsSealedAs, SealsItems, IsIdle, IsTidy}
+use Rattle.claim_rule.specs.Out.{MakesEmpty, IsSealedAs, SealsItems, IsIdle}
+use Rattle.shop.specs.Homes.{StaysHome}
 use Rattle.offer_codes.specs.Offers.{OfferView}
 use Rattle.rail_catalogue.specs.Contents.{CatalogueView}
 use Rattle.osdm_texts.specs.declared.problem.Problem.{Problem}
@@ -149,8 +150,9 @@ made_by cat retailer now o together held noted row p d old mid new said placed n
     is (mid, whole, notes, told) in
     subst (λ (h : HoldView). MakesReady cat retailer now o together h.row h.items old new said) (sym kept) made
 
-pub answered_tidy : (cat : CatalogueView) (retailer now : ℕ) (o : OfferView) (together : Bool) (old new : DeskView) (written : Told) (books : BooksView) → IsOf books new → AnswersReserving cat retailer now o together old new written → IsIdle new → IsTidy old → IsTidy new
-answered_tidy cat retailer now o together old new written books of a = reserves_tidy cat retailer now o together books old new a.0 of a.1
+pub answered_home : (cat : CatalogueView) (retailer now : ℕ) (o : OfferView) (together : Bool) (old new : DeskView) (written : Told) (books : BooksView) → IsOf books new → AnswersReserving cat retailer now o together old new written → IsIdle new → StaysHome books old new
+answered_home cat retailer now o together old new written books own a idle =
+    record { home = record { own = own; idle = idle }; tidy = reserves_tidy cat retailer now o together books old new a.0 own a.1 idle }
 
 -- a hold for passengers who don't sit together never fails for want of memory
 

@@ -1,2 +1,4 @@
+pub mod Outs
 pub mod Holding
+pub mod Segments
 pub mod Reserving

@@ -2,16 +2,16 @@
 ghost use Rattle.std.specs.Prelude.{◌≡◌, ◌≤◌, [], true, length, Ok, IfSome, IfOk, IfErr};
 ghost use Rattle.std.specs.List.{list_all};
 ghost use Rattle.offer_codes.specs.Offers.{is_party, offer_view};
-ghost use Rattle.rail_catalogue.specs.Contents.{legs_in};
 ghost use Rattle.offer_engine.specs.Codes.{is_of_runs};
 ghost use Rattle.history_model.specs.Booking.{most_items};
 ghost use Rattle.history_model.specs.declared.phase.Phase.TheVariants as phase;
 ghost use Rattle.leg_masks.specs.Interval.{PlacedSpan};
-ghost use Rattle.claim_rule.specs.Desks.{IsOf};
-ghost use Rattle.claim_rule.specs.Out.{IsHolding, HasNotedItems, IsToBeSealed, IsIdle, IsTidy, KeepsEndings};
+ghost use Rattle.claim_rule.specs.Out.{HasNotedItems, IsToBeSealed};
+ghost use Rattle.shop.specs.Homes.{IsAtHome, StaysHome};
 ghost use Rattle.osdm_texts.specs.Answers.{created, reply_told, told_of};
 ghost use Rattle.osdm_texts.specs.Ids.{HasId};
 ghost use Rattle.osdm_texts.specs.Seen.{made_view};
+ghost use Rattle.reservation_service.specs.Outs.{IsOutAt, StaysOut};
 ghost use Rattle.reservation_service.specs.Reserving.{MakesReady, FallsShort, AnswersReserving, reserved};
 
 use crate::details::detail_for;
@@ -42,15 +42,11 @@ pub fn book_offer(
     offer: &OfferCode,
     together: bool,
 ) -> Result<Written, Problem>
-    requires own { IsOf shop.now.books.now desk.old }
-    requires legs { shop.now.books.now.layout.legs ≡ legs_in shop.now.cat.now }
-    requires idle { IsIdle desk.old }
+    requires home { IsAtHome shop.now.books.now desk.old }
     requires party { is_party offer.now.adults offer.now.children ≡ true }
     requires some { 1 ≤ length offer.now.segments.items }
     requires runs { list_all (is_of_runs shop.now.cat.now.runs) offer.now.segments.items ≡ true }
-    ensures own { IsOf shop.now.books.now desk.new }
-    ensures idle { IsIdle desk.new }
-    ensures tidy { IsTidy desk.old → IsTidy desk.new }
+    ensures home { StaysHome shop.now.books.now desk.old desk.new }
     ensures answer { AnswersReserving shop.now.cat.now asker.retailer.0 asker.moment (offer_view offer.now) together
         desk.old desk.new (told_of result) }
 {
@@ -93,14 +89,10 @@ pub fn reserve_places(
     asker: Asker,
     reservation: Reservation,
 ) -> Result<Written, Problem>
-    requires own { IsOf shop.now.books.now desk.old }
-    requires legs { shop.now.books.now.layout.legs ≡ legs_in shop.now.cat.now }
-    requires idle { IsIdle desk.old }
+    requires home { IsAtHome shop.now.books.now desk.old }
     requires party { is_party reservation.count 0 ≡ true }
     requires run { is_of_runs shop.now.cat.now.runs reservation.segment ≡ true }
-    ensures own { IsOf shop.now.books.now desk.new }
-    ensures idle { IsIdle desk.new }
-    ensures tidy { IsTidy desk.old → IsTidy desk.new }
+    ensures home { StaysHome shop.now.books.now desk.old desk.new }
     ensures answer { AnswersReserving shop.now.cat.now asker.retailer.0 asker.moment
         (reserved reservation.segment reservation.class reservation.count reservation.traits asker.moment)
         reservation.together desk.old desk.new (told_of result) }
@@ -128,18 +120,14 @@ fn make_ready(
     offer: &OfferCode,
     together: bool,
 ) -> Result<Written, Problem>
-    requires own { IsOf shop.now.books.now desk.old }
-    requires legs { shop.now.books.now.layout.legs ≡ legs_in shop.now.cat.now }
-    requires hold { IsHolding desk.old hold.old }
+    requires out { IsOutAt shop.now.books.now desk.old hold.old }
     requires noted { HasNotedItems desk.old hold.old }
     requires empty { hold.old.items ≡ [] }
     requires party { is_party offer.now.adults offer.now.children ≡ true }
     requires some { 1 ≤ length offer.now.segments.items }
     requires runs { list_all (is_of_runs shop.now.cat.now.runs) offer.now.segments.items ≡ true }
-    ensures own { IsOf shop.now.books.now desk.new }
+    ensures out { StaysOut shop.now.books.now desk.old desk.new hold.new }
     ensures row { hold.new.row ≡ hold.old.row }
-    ensures hold { IsHolding desk.new hold.new }
-    ensures endings { KeepsEndings desk.old desk.new }
     ensures sealable { IfOk result (λ written. IsToBeSealed desk.new hold.new) }
     ensures made { IfOk result (λ written. MakesReady shop.now.cat.now asker.retailer.0 asker.moment
         (offer_view offer.now) together hold.new.row hold.new.items desk.old desk.new

@@ -1,14 +1,14 @@
 //! Holding a place for each passenger at each segment of an offer.
-ghost use Rattle.std.specs.Prelude.{◌≡◌, ◌≤◌, ◌+◌, ◌*◌, ◌∷◌, [], true, false, length, IfSome, IfNone};
+ghost use Rattle.std.specs.Prelude.{◌≡◌, [], true, false, IfSome, IfNone};
 ghost use Rattle.std.specs.List.{list_all, AllByRecursion};
 ghost use Rattle.place_map.specs.Candidates.{candidates_of, IsOfRun, AreRising};
 ghost use Rattle.offer_codes.specs.Offers.{is_party, offer_view};
-ghost use Rattle.rail_catalogue.specs.Contents.{legs_in};
 ghost use Rattle.offer_engine.specs.Codes.{is_of_runs};
-ghost use Rattle.history_model.specs.Booking.{most_items};
-ghost use Rattle.claim_rule.specs.Desks.{IsOf};
-ghost use Rattle.claim_rule.specs.Out.{IsHolding, HasNotedItems, HoldsNone, KeepsEndings};
-ghost use Rattle.reservation_service.specs.Holding.{PlacesAll, HoldsPlaces, FindsNoRow, items_wanted, placing_of as placing_of_added, placing_of_party as placing_of_party_added, problem_of};
+ghost use Rattle.claim_rule.specs.Out.{HasNotedItems};
+ghost use Rattle.shop.specs.Homes.{IsAtHome};
+ghost use Rattle.reservation_service.specs.Outs.{IsOutAt, StaysOut};
+ghost use Rattle.reservation_service.specs.Holding.{PlacesAll, HoldsPlaces, FindsNoRow, placing_of as placing_of_added, placing_of_party as placing_of_party_added, problem_of};
+ghost use Rattle.reservation_service.specs.Segments.{reserving, MayPlace, Places};
 
 use crate::wanting::{Wanted, add_wanted};
 use booking_rows::start_hold;
@@ -67,19 +67,15 @@ pub fn hold_places(
     offer: &OfferCode,
     together: bool,
 ) -> Option<Held>
-    requires own { IsOf shop.now.books.now desk.old }
-    requires legs { shop.now.books.now.layout.legs ≡ legs_in shop.now.cat.now }
-    requires none { HoldsNone desk.old }
+    requires home { IsAtHome shop.now.books.now desk.old }
     requires party { is_party offer.now.adults offer.now.children ≡ true }
     requires runs { list_all (is_of_runs shop.now.cat.now.runs) offer.now.segments.items ≡ true }
-    ensures own { IsOf shop.now.books.now desk.new }
     ensures placed { IfSome result (λ held. HoldsPlaces shop.now.cat.now (offer_view offer.now) together
         offer.now.segments.items held.hold.row held.placing held.hold.items desk.old desk.new) }
-    ensures hold { IfSome result (λ held. IsHolding desk.new held.hold) }
+    ensures out { IfSome result (λ held. StaysOut shop.now.books.now desk.old desk.new held.hold) }
     ensures noted { IfSome result (λ held. HasNotedItems desk.new held.hold) }
     ensures no_row { IfNone result (FindsNoRow desk.old desk.new) }
-    ensures none_out { IfNone result (HoldsNone desk.new) }
-    ensures endings { KeepsEndings desk.old desk.new }
+    ensures home { IfNone result (IsAtHome shop.now.books.now desk.new) }
 {
     let mut hold = start_hold(shop.books, desk)?;
     let placing = place_segments(shop, desk, &mut hold, offer, together);
@@ -94,20 +90,16 @@ pub(crate) fn place_segments(
     offer: &OfferCode,
     together: bool,
 ) -> Placing
-    requires own { IsOf shop.now.books.now desk.old }
-    requires legs { shop.now.books.now.layout.legs ≡ legs_in shop.now.cat.now }
-    requires hold { IsHolding desk.old hold.old }
+    requires out { IsOutAt shop.now.books.now desk.old hold.old }
     requires noted { HasNotedItems desk.old hold.old }
     requires empty { hold.old.items ≡ [] }
     requires party { is_party offer.now.adults offer.now.children ≡ true }
     requires runs { list_all (is_of_runs shop.now.cat.now.runs) offer.now.segments.items ≡ true }
-    ensures own { IsOf shop.now.books.now desk.new }
+    ensures out { StaysOut shop.now.books.now desk.old desk.new hold.new }
+    ensures noted { HasNotedItems desk.new hold.new }
     ensures row { hold.new.row ≡ hold.old.row }
     ensures placed { PlacesAll shop.now.cat.now (offer_view offer.now) together hold.old.row [] offer.now.segments.items
         result hold.new.items desk.old desk.new }
-    ensures hold { IsHolding desk.new hold.new }
-    ensures noted { HasNotedItems desk.new hold.new }
-    ensures endings { KeepsEndings desk.old desk.new }
 {
     for segment in offer.segments.as_slice() {
         match place_segment(shop, desk, hold, offer, *segment, together) {
@@ -127,20 +119,9 @@ fn place_segment(
     segment: Segment,
     together: bool,
 ) -> Placing
-    requires own { IsOf shop.now.books.now desk.old }
-    requires legs { shop.now.books.now.layout.legs ≡ legs_in shop.now.cat.now }
-    requires hold { IsHolding desk.old hold.old }
-    requires noted { HasNotedItems desk.old hold.old }
-    requires party { is_party offer.now.adults offer.now.children ≡ true }
-    requires run { is_of_runs shop.now.cat.now.runs segment ≡ true }
-    requires room { length hold.old.items + items_wanted (offer_view offer.now) segment ≤ most_items }
-    ensures own { IsOf shop.now.books.now desk.new }
-    ensures row { hold.new.row ≡ hold.old.row }
-    ensures placed { PlacesAll shop.now.cat.now (offer_view offer.now) together hold.old.row hold.old.items
-        (segment ∷ []) result hold.new.items desk.old desk.new }
-    ensures hold { IsHolding desk.new hold.new }
-    ensures noted { HasNotedItems desk.new hold.new }
-    ensures endings { KeepsEndings desk.old desk.new }
+    requires may { MayPlace (reserving shop.now offer.now together) segment desk.old hold.old }
+    ensures placed { Places (reserving shop.now offer.now together) segment result
+        (desk.old, hold.old) (desk.new, hold.new) }
 {
     if together {
         place_party(shop, desk, hold, offer, segment)
@@ -157,20 +138,9 @@ fn place_apart(
     offer: &OfferCode,
     segment: Segment,
 ) -> Placing
-    requires own { IsOf shop.now.books.now desk.old }
-    requires legs { shop.now.books.now.layout.legs ≡ legs_in shop.now.cat.now }
-    requires hold { IsHolding desk.old hold.old }
-    requires noted { HasNotedItems desk.old hold.old }
-    requires party { is_party offer.now.adults offer.now.children ≡ true }
-    requires run { is_of_runs shop.now.cat.now.runs segment ≡ true }
-    requires room { length hold.old.items + items_wanted (offer_view offer.now) segment ≤ most_items }
-    ensures own { IsOf shop.now.books.now desk.new }
-    ensures row { hold.new.row ≡ hold.old.row }
-    ensures placed { PlacesAll shop.now.cat.now (offer_view offer.now) false hold.old.row hold.old.items
-        (segment ∷ []) result hold.new.items desk.old desk.new }
-    ensures hold { IsHolding desk.new hold.new }
-    ensures noted { HasNotedItems desk.new hold.new }
-    ensures endings { KeepsEndings desk.old desk.new }
+    requires may { MayPlace (reserving shop.now offer.now false) segment desk.old hold.old }
+    ensures placed { Places (reserving shop.now offer.now false) segment result
+        (desk.old, hold.old) (desk.new, hold.new) }
 {
     let all = shop.cat.places().class_places(segment.run, offer.class);
     let count = offer.adults + offer.children;
@@ -193,20 +163,9 @@ fn place_party(
     offer: &OfferCode,
     segment: Segment,
 ) -> Placing
-    requires own { IsOf shop.now.books.now desk.old }
-    requires legs { shop.now.books.now.layout.legs ≡ legs_in shop.now.cat.now }
-    requires hold { IsHolding desk.old hold.old }
-    requires noted { HasNotedItems desk.old hold.old }
-    requires party { is_party offer.now.adults offer.now.children ≡ true }
-    requires run { is_of_runs shop.now.cat.now.runs segment ≡ true }
-    requires room { length hold.old.items + items_wanted (offer_view offer.now) segment ≤ most_items }
-    ensures own { IsOf shop.now.books.now desk.new }
-    ensures row { hold.new.row ≡ hold.old.row }
-    ensures placed { PlacesAll shop.now.cat.now (offer_view offer.now) true hold.old.row hold.old.items
-        (segment ∷ []) result hold.new.items desk.old desk.new }
-    ensures hold { IsHolding desk.new hold.new }
-    ensures noted { HasNotedItems desk.new hold.new }
-    ensures endings { KeepsEndings desk.old desk.new }
+    requires may { MayPlace (reserving shop.now offer.now true) segment desk.old hold.old }
+    ensures placed { Places (reserving shop.now offer.now true) segment result
+        (desk.old, hold.old) (desk.new, hold.new) }
 {
     let places = shop.cat.places();
     if offer.wanted == 0 {
@@ -228,24 +187,13 @@ fn place_among(
     segment: Segment,
     candidates: &[PlaceNo],
 ) -> Placing
-    requires own { IsOf shop.now.books.now desk.old }
-    requires legs { shop.now.books.now.layout.legs ≡ legs_in shop.now.cat.now }
-    requires hold { IsHolding desk.old hold.old }
-    requires noted { HasNotedItems desk.old hold.old }
-    requires party { is_party offer.now.adults offer.now.children ≡ true }
-    requires run { is_of_runs shop.now.cat.now.runs segment ≡ true }
-    requires room { length hold.old.items + items_wanted (offer_view offer.now) segment ≤ most_items }
+    requires may { MayPlace (reserving shop.now offer.now true) segment desk.old hold.old }
     requires candidates { candidates.now
         ≡ candidates_of segment.run.0 offer.now.class offer.now.wanted shop.now.cat.now.places }
     requires of_run { AllByRecursion (IsOfRun segment.run.0 shop.now.cat.now.places) candidates.now }
     requires rising { AreRising 0 candidates.now }
-    ensures own { IsOf shop.now.books.now desk.new }
-    ensures row { hold.new.row ≡ hold.old.row }
-    ensures placed { PlacesAll shop.now.cat.now (offer_view offer.now) true hold.old.row hold.old.items
-        (segment ∷ []) result hold.new.items desk.old desk.new }
-    ensures hold { IsHolding desk.new hold.new }
-    ensures noted { HasNotedItems desk.new hold.new }
-    ensures endings { KeepsEndings desk.old desk.new }
+    ensures placed { Places (reserving shop.now offer.now true) segment result
+        (desk.old, hold.old) (desk.new, hold.new) }
 {
     let places = shop.cat.places();
     let span = segment.span;

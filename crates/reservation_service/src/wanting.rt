@@ -3,10 +3,10 @@ ghost use Rattle.std.specs.Prelude.{◌≡◌, ◌+◌, ◌*◌, ◌<◌, ◌≤
 ghost use Rattle.history_model.specs.Booking.{most_items};
 ghost use Rattle.leg_masks.specs.Interval.{pieces};
 ghost use Rattle.place_map.specs.ByClass.{has_traits as has_traits_of};
-ghost use Rattle.claim_rule.specs.Desks.{IsOf};
-ghost use Rattle.claim_rule.specs.Out.{IsHolding, HasNotedItems, KeepsEndings};
+ghost use Rattle.claim_rule.specs.Out.{HasNotedItems};
 ghost use Rattle.hold_core.specs.Tries.{TriesPlace, place_number};
 ghost use Rattle.hold_core.specs.Places.{AddsPlaces};
+ghost use Rattle.reservation_service.specs.Outs.{IsOutAt, StaysOut};
 
 use claim_rule::{Books, Desk, Hold};
 use hold_core::{Added, Outcome, add_places};
@@ -34,16 +34,13 @@ fn has_traits(places: &[Place], place: PlaceNo, wanted: u8) -> bool
 
 // Tries one place.
 fn try_one(books: &Books, desk: &mut Desk, hold: &mut Hold, place: PlaceNo, span: Span) -> Outcome
-    requires own { IsOf books.now desk.old }
-    requires hold { IsHolding desk.old hold.old }
+    requires out { IsOutAt books.now desk.old hold.old }
     requires place { place.0 < length books.now.layout.legs }
     requires legs { span.to ≤ slice_index books.now.layout.legs place.0 }
     requires room { length hold.old.items + length (pieces span) ≤ most_items }
-    ensures own { IsOf books.now desk.new }
+    ensures out { StaysOut books.now desk.old desk.new hold.new }
     ensures tried { TriesPlace desk.old hold.old place.0 span desk.new hold.new result }
-    ensures hold { IsHolding desk.new hold.new }
     ensures noted { HasNotedItems desk.old hold.old → HasNotedItems desk.new hold.new }
-    ensures endings { KeepsEndings desk.old desk.new }
 {
     match add_places(books, desk, hold, &[place], span, 1) {
         Added::All => Outcome::Won,
@@ -61,20 +58,17 @@ fn try_wanted(
     place: PlaceNo,
     wanted: &Wanted,
 ) -> Option<Outcome>
-    requires own { IsOf books.now desk.old }
-    requires hold { IsHolding desk.old hold.old }
+    requires out { IsOutAt books.now desk.old hold.old }
     requires known { place.0 < length places.now }
     requires place { place.0 < length books.now.layout.legs }
     requires legs { wanted.now.span.to ≤ slice_index books.now.layout.legs place.0 }
     requires room { length hold.old.items + length (pieces wanted.now.span) ≤ most_items }
-    ensures own { IsOf books.now desk.new }
+    ensures out { StaysOut books.now desk.old desk.new hold.new }
     ensures tried { IfSome result (λ o. (has_traits_of wanted.now.traits places.now place ≡ true)
         × TriesPlace desk.old hold.old place.0 wanted.now.span desk.new hold.new o) }
     ensures let_be { IfNone result ((has_traits_of wanted.now.traits places.now place ≡ false)
         × (desk.new ≡ desk.old) × (hold.new ≡ hold.old)) }
-    ensures hold { IsHolding desk.new hold.new }
     ensures noted { HasNotedItems desk.old hold.old → HasNotedItems desk.new hold.new }
-    ensures endings { KeepsEndings desk.old desk.new }
 {
     if !has_traits(places, place, wanted.traits) {
         return None;
@@ -91,20 +85,17 @@ pub(crate) fn add_wanted(
     all: &[PlaceNo],
     wanted: &Wanted,
 ) -> Added
-    requires own { IsOf shop.now.books.now desk.old }
-    requires hold { IsHolding desk.old hold.old }
+    requires out { IsOutAt shop.now.books.now desk.old hold.old }
     requires known { All (λ p. p.0 < length shop.now.cat.now.places) all.now }
     requires places { All (λ p. (p.0 < length shop.now.books.now.layout.legs)
         × (wanted.now.span.to ≤ slice_index shop.now.books.now.layout.legs p.0)) all.now }
     requires some { 1 ≤ wanted.now.count }
     requires room { length hold.old.items + wanted.now.count * length (pieces wanted.now.span) ≤ most_items }
-    ensures own { IsOf shop.now.books.now desk.new }
+    ensures out { StaysOut shop.now.books.now desk.old desk.new hold.new }
     ensures entries { AddsPlaces desk.old hold.old wanted.now.span wanted.now.count
         (map place_number (filter (has_traits_of wanted.now.traits shop.now.cat.now.places) all.now))
         result desk.new hold.new }
-    ensures hold { IsHolding desk.new hold.new }
     ensures noted { HasNotedItems desk.old hold.old → HasNotedItems desk.new hold.new }
-    ensures endings { KeepsEndings desk.old desk.new }
 {
     let places = shop.cat.places().all();
     let count = wanted.count;

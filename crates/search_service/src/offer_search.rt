@@ -1,11 +1,10 @@
 //! Searching for offers.
-ghost use Rattle.std.specs.Prelude.{◌≡◌, ◌≤◌, All, Ok, IfSome, true};
-ghost use Rattle.claim_rule.specs.Desks.{IsOf};
-ghost use Rattle.claim_rule.specs.Out.{IsTidy, IsIdle};
-ghost use Rattle.rail_catalogue.specs.Contents.{legs_in};
+ghost use Rattle.std.specs.Prelude.{◌≡◌, ◌≤◌, All, Ok, IfOk, IfErr, true};
 ghost use Rattle.offer_codes.specs.Offers.{is_party};
 ghost use Rattle.osdm_texts.specs.Offers.{IsWritable};
+ghost use Rattle.osdm_texts.specs.declared.problem.Problem.TheVariants.{NoMemory};
 ghost use Rattle.osdm_texts.specs.Answers.{Reply as Replied, offer_list, reply_told, told_of, Tells};
+ghost use Rattle.shop.specs.Homes.{IsAtHome, StaysHome};
 ghost use Rattle.search_service.specs.Searching.{SearchesOffers};
 
 use crate::ranges::know_ranges;
@@ -27,14 +26,10 @@ pub fn search_offers(
     wish: &OfferWish,
     now: Moment,
 ) -> Result<Written, Problem>
-    requires own { IsOf shop.now.books.now desk.old }
-    requires idle { IsIdle desk.old }
-    requires legs { shop.now.books.now.layout.legs ≡ legs_in shop.now.cat.now }
+    requires home { IsAtHome shop.now.books.now desk.old }
     requires party { is_party wish.now.adults wish.now.children ≡ true }
     requires traits { wish.now.wanted ≤ 31 }
-    ensures own { IsOf shop.now.books.now desk.new }
-    ensures idle { IsIdle desk.new }
-    ensures tidy { IsTidy desk.old → IsTidy desk.new }
+    ensures home { StaysHome shop.now.books.now desk.old desk.new }
     ensures answer { (reply : Replied) × SearchesOffers shop.now.cat.now wish.now now desk.old desk.new reply
         × (told_of result ≡ reply_told shop.now.cat.now reply) }
 {
@@ -42,16 +37,14 @@ pub fn search_offers(
         return Err(Problem::NoMemory);
     };
     know_ranges(shop.cat.runs(), now);
-    match offer_answer(shop, found.as_slice()) {
-        Some(listed) => Ok(listed),
-        None => Err(Problem::NoMemory),
-    }
+    offer_answer(shop, found.as_slice())
 }
 
-// The text that lists the offers, or `None` where there is no memory for it.
-fn offer_answer(shop: &Shop<'_>, offers: &[Offer]) -> Option<Written>
+// The text that lists the offers.
+fn offer_answer(shop: &Shop<'_>, offers: &[Offer]) -> Result<Written, Problem>
     requires writable { All IsWritable offers.now }
-    ensures told { IfSome result (Tells shop.now.cat.now (offer_list offers.now)) }
+    ensures told { IfOk result (Tells shop.now.cat.now (offer_list offers.now)) }
+    ensures untold { IfErr result (λ p. p ≡ NoMemory) }
 {
     write_reply(
         shop.alloc,
@@ -59,4 +52,5 @@ fn offer_answer(shop: &Shop<'_>, offers: &[Offer]) -> Option<Written>
         Success::Done,
         &Reply::OfferList { offers },
     )
+    .ok_or(Problem::NoMemory)
 }

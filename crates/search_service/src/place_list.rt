@@ -1,10 +1,9 @@
 //! The places of a run, and which of them are free.
-ghost use Rattle.std.specs.Prelude.{◌≡◌, length, Ok, IfSome};
-ghost use Rattle.claim_rule.specs.Desks.{IsOf};
-ghost use Rattle.claim_rule.specs.Out.{IsTidy, IsIdle};
-ghost use Rattle.rail_catalogue.specs.Contents.{legs_in};
+ghost use Rattle.std.specs.Prelude.{◌≡◌, length, Ok, IfOk, IfErr};
 ghost use Rattle.osdm_texts.specs.Spots.{run_places};
+ghost use Rattle.osdm_texts.specs.declared.problem.Problem.TheVariants.{NoMemory};
 ghost use Rattle.osdm_texts.specs.Answers.{Reply as Replied, place_list, reply_told, told_of, Tells};
+ghost use Rattle.shop.specs.Homes.{IsAtHome, StaysHome};
 ghost use Rattle.search_service.specs.Searching.{ListsPlaces};
 
 use crate::place_numbers::numbers_of_run;
@@ -21,12 +20,8 @@ use shop::Shop;
 /// The books have the catalogue's places. Where there is no memory that is the answer: either no look was made, or all
 /// were.
 pub fn list_places(shop: &Shop<'_>, desk: &mut Desk, segment: Segment) -> Result<Written, Problem>
-    requires own { IsOf shop.now.books.now desk.old }
-    requires idle { IsIdle desk.old }
-    requires legs { shop.now.books.now.layout.legs ≡ legs_in shop.now.cat.now }
-    ensures own { IsOf shop.now.books.now desk.new }
-    ensures idle { IsIdle desk.new }
-    ensures tidy { IsTidy desk.old → IsTidy desk.new }
+    requires home { IsAtHome shop.now.books.now desk.old }
+    ensures home { StaysHome shop.now.books.now desk.old desk.new }
     ensures answer { (reply : Replied) × ListsPlaces shop.now.cat.now segment desk.old desk.new reply
         × (told_of result ≡ reply_told shop.now.cat.now reply) }
 {
@@ -42,16 +37,14 @@ pub fn list_places(shop: &Shop<'_>, desk: &mut Desk, segment: Segment) -> Result
     ) else {
         return Err(Problem::NoMemory);
     };
-    match place_answer(shop, segment.run, free.as_slice()) {
-        Some(listed) => Ok(listed),
-        None => Err(Problem::NoMemory),
-    }
+    place_answer(shop, segment.run, free.as_slice())
 }
 
-// The text that lists the places of the run, or `None` where there is no memory for it.
-fn place_answer(shop: &Shop<'_>, run: RunNo, free: &[bool]) -> Option<Written>
+// The text that lists the places of the run.
+fn place_answer(shop: &Shop<'_>, run: RunNo, free: &[bool]) -> Result<Written, Problem>
     requires one_each { length free.now ≡ length (run_places shop.now.cat.now run.0) }
-    ensures told { IfSome result (Tells shop.now.cat.now (place_list run.0 free.now)) }
+    ensures told { IfOk result (Tells shop.now.cat.now (place_list run.0 free.now)) }
+    ensures untold { IfErr result (λ p. p ≡ NoMemory) }
 {
     write_reply(
         shop.alloc,
@@ -59,4 +52,5 @@ fn place_answer(shop: &Shop<'_>, run: RunNo, free: &[bool]) -> Option<Written>
         Success::Done,
         &Reply::PlaceList { run, free },
     )
+    .ok_or(Problem::NoMemory)
 }

@@ -6,6 +6,8 @@
 //! place. It names no head, no wire and no session; `rail_service` writes the head after the decision, since that
 //! takes no memory.
 #![tactic(auto)]
+ghost use Rattle.std.specs.Prelude.{◌≡◌};
+ghost use Rattle.rail_catalogue.specs.Contents.{legs_in};
 
 use claim_rule::Books;
 use rail_catalogue::Catalogue;
@@ -19,6 +21,8 @@ pub struct Shop<'s> {
     pub alloc: Global,
     pub cat: &'s Catalogue,
     pub books: &'s Books,
+    pub ghost legs: { books.now.layout.legs ≡ legs_in cat.now },
+    pub ghost rows: { books.now.layout.rows ≡ cat.now.rows },
 }
 
 /// A retailer that asks, and the moment of its command.

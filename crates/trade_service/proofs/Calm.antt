@@ -1,4 +1,4 @@
--- Calls on refunds leave a tidy desk tidy.
+-- Calls on refunds leave a desk at home, and a tidy one tidy.
 use Rattle.std.proofs.Common.{inl, inr, ℕ, List, Some, None, refl, sym, subst}
 use Rattle.history_model.specs.declared.entry.Step.{Step}
 use Rattle.history_model.specs.declared.phase.EndKind.TheVariants.{Refund}
@@ -9,7 +9,7 @@ use Rattle.history_model.specs.declared.phase.Phase.TheVariants.{Free}
 use Rattle.claim_rule.specs.Rule.{BooksView, DeskView}
 use Rattle.claim_rule.specs.Desks.{IsOf}
 use Rattle.claim_rule.specs.Calls.{AddsStepsBy}
-use Rattle.claim_rule.specs.Out.{exchanges, IsTidy, KeepsHolds, KeepsEndings, EndsNone}
+use Rattle.claim_rule.specs.Out.{exchanges, KeepsHolds, KeepsEndings, EndsNone}
 use Rattle.booking_rows.specs.Views.{RowSeen}
 use Rattle.booking_rows.specs.Aims.{end_of}
 use Rattle.booking_rows.specs.declared.turns.Aim.TheVariants as aim
@@ -22,7 +22,8 @@ use Rattle.refund_core.specs.declared.quoting.Quoted.{Quoted}
 use Rattle.refund_core.specs.declared.quoting.Quoted.TheVariants as quoted
 use Rattle.refund_core.specs.declared.refunding.Refunded.{Refunded}
 use Rattle.refund_core.specs.declared.refunding.Refunded.TheVariants as refunded
-use Rattle.booking_service.proofs.Calm.{AreCalm, calm_looks, calm_append, calm_end, calm_find, tidy_by, tidy_after}
+use Rattle.shop.specs.Homes.{IsAtHome, StaysHome}
+use Rattle.booking_service.proofs.Calm.{AreCalm, calm_looks, calm_append, calm_end, calm_find, home_by, home_after}
 
 pub calm_own : (row : RowNo) (retailer : ℕ) (v : RowSeen) → AreCalm (SeesOwn row retailer v)
 calm_own row retailer v es saw = calm_looks es (row_looked row (Some v) es saw.1)
@@ -51,8 +52,8 @@ calm_accepts cat rows retailer code now refunded.QuoteWrong es (fresh, here, (v,
 
 -- the calls
 
-pub quoted_tidy : (cat : CatalogueView) (rows : ℕ) (row : RowNo) (retailer now : ℕ) (a : Quoted) (books : BooksView) (old new : DeskView) → IsOf books new → AddsStepsBy (QuotesRefund cat rows row retailer now a) old new → KeepsHolds old new → KeepsEndings old new → IsTidy old → IsTidy new
-quoted_tidy cat rows row retailer now a books old new = tidy_by (QuotesRefund cat rows row retailer now a) books old new (calm_quotes cat rows row retailer now a)
+pub quoted_home : (cat : CatalogueView) (rows : ℕ) (row : RowNo) (retailer now : ℕ) (a : Quoted) (books : BooksView) (old new : DeskView) → IsOf books new → AddsStepsBy (QuotesRefund cat rows row retailer now a) old new → KeepsHolds old new → KeepsEndings old new → IsAtHome books old → StaysHome books old new
+quoted_home cat rows row retailer now a books old new = home_by (QuotesRefund cat rows row retailer now a) books old new (calm_quotes cat rows row retailer now a)
 
-pub accepted_tidy : (cat : CatalogueView) (rows retailer : ℕ) (code : RefundCode) (now : ℕ) (a : Refunded) (books : BooksView) (old new : DeskView) → IsOf books new → AddsStepsBy (AcceptsRefund cat rows retailer code now a) old new → KeepsHolds old new → EndsNone new → IsTidy old → IsTidy new
-accepted_tidy cat rows retailer code now a books old new = tidy_after (AcceptsRefund cat rows retailer code now a) books old new (calm_accepts cat rows retailer code now a)
+pub accepted_home : (cat : CatalogueView) (rows retailer : ℕ) (code : RefundCode) (now : ℕ) (a : Refunded) (books : BooksView) (old new : DeskView) → IsOf books new → AddsStepsBy (AcceptsRefund cat rows retailer code now a) old new → KeepsHolds old new → EndsNone new → IsAtHome books old → StaysHome books old new
+accepted_home cat rows retailer code now a books old new = home_after (AcceptsRefund cat rows retailer code now a) books old new (calm_accepts cat rows retailer code now a)

@@ -1,16 +1,15 @@
 -- The replies to commands on exchanges.
-use Rattle.std.proofs.Common.{false, ◌≡◌, ◌≢◌, ◌∙◌, inl, inr, ℕ, ℤ, ◌≤◌, true, List, length, Some, None, refl, sym, subst}
+use Rattle.std.proofs.Common.{false, ◌≡◌, ◌≢◌, ◌∙◌, inl, inr, ℕ, ℤ, ◌≤◌, true, List, length, Some, None, Result, Ok, Err, IfOk, IfErr, refl, sym, ap, subst}
 use Rattle.std.specs.Prelude.{nat_le}
 use Rattle.std.proofs.lemmas.Bool.{leb-true}
 use Rattle.leg_masks.specs.Interval.{PlacedSpan as Item}
 use Rattle.rail_ids.specs.declared.RowNo.{RowNo}
 use Rattle.history_model.specs.declared.phase.Phase.{Phase}
-use Rattle.claim_rule.specs.Rule.{BooksView, DeskView}
-use Rattle.claim_rule.specs.Desks.{IsOf, AddsSteps}
-use Rattle.claim_rule.proofs.Out.{makes_empty}
+use Rattle.claim_rule.specs.Rule.{DeskView}
+use Rattle.claim_rule.specs.Desks.{AddsSteps}
 use Rattle.claim_rule.specs.Calls.{AddsStepsBy}
 use Rattle.claim_rule.specs.Holds.{HoldView}
-use Rattle.claim_rule.specs.Out.{SealsItems, MakesEmpty, IsIdle, IsTidy}
+use Rattle.claim_rule.specs.Out.{SealsItems, MakesEmpty}
 use Rattle.booking_rows.specs.declared.notes.Detail.{Detail}
 use Rattle.booking_rows.specs.Notes.{detail_notes}
 use Rattle.booking_rows.specs.Views.{RowSeen}
@@ -28,7 +27,8 @@ use Rattle.exchange_core.specs.declared.accepting.Exchanged.TheVariants as accep
 use Rattle.exchange_core.proofs.Kept.{ready_on}
 use Rattle.osdm_texts.specs.declared.problem.Problem.{Problem}
 use Rattle.osdm_texts.specs.declared.problem.Problem.TheVariants.{UnknownBooking, WrongState, RowsFull, NoMemory}
-use Rattle.osdm_texts.specs.Answers.{Reply, offer_list, created, booking, refund_offer, exchange_offer, exchanged, place_list, swept, problem, Told, refused as refused_told, reply_told}
+use Rattle.osdm_texts.specs.Answers.{Reply, offer_list, created, booking, refund_offer, exchange_offer, exchanged, place_list, swept, problem, Told, refused as refused_told, reply_told, told_of, Tells}
+use Rattle.osdm_texts.specs.declared.written.Written.{Written}
 use Rattle.osdm_texts.proofs.Telling.{of_problem}
 use Rattle.history_model.specs.declared.phase.Phase.TheVariants as phase
 use Rattle.reservation_service.specs.declared.holding.Placing.{Placing}
@@ -41,19 +41,14 @@ use Rattle.reservation_service.proofs.Placed.{both}
 use Rattle.reservation_service.proofs.Replying.{whole_of, seals_since, has_places, fails_with_memory}
 use Rattle.trade_service.specs.Exchanges.{AnswersExchangeQuote, DecidesOrNot, CarriesOut, IsUnready, lost_problem, ready_of, AnswersReady, AnswersExchange}
 use Rattle.booking_service.specs.Deciding.{Answered}
-use Rattle.trade_service.proofs.Settling.{Settles}
 
 -- the replies to a quote
 
-pub offers_exchange : (cat : CatalogueView) (rows : ℕ) (row : RowNo) (retailer : ℕ) (offer : OfferView) (now : ℕ) (code : ExchangeCode) (old new : DeskView) (said : Told)
-    → AddsStepsBy (QuotesExchange cat rows row retailer offer now (quoted.Done code)) old new → said ≡ reply_told cat (exchange_offer code)
-    → Answered cat (AnswersExchangeQuote cat rows row retailer offer now) old new said
-offers_exchange cat rows row retailer offer now code old new said did is = (exchange_offer code, (quoted.Done code, did, inl refl), is)
-
-pub offers_none : (cat : CatalogueView) (rows : ℕ) (row : RowNo) (retailer : ℕ) (offer : OfferView) (now : ℕ) (code : ExchangeCode) (old new : DeskView)
-    → AddsStepsBy (QuotesExchange cat rows row retailer offer now (quoted.Done code)) old new
-    → Answered cat (AnswersExchangeQuote cat rows row retailer offer now) old new (refused_told NoMemory)
-offers_none cat rows row retailer offer now code old new did = (problem NoMemory, (quoted.Done code, did, inr refl), of_problem cat NoMemory)
+pub offers_exchange : (cat : CatalogueView) (rows : ℕ) (row : RowNo) (retailer : ℕ) (offer : OfferView) (now : ℕ) (code : ExchangeCode) (old new : DeskView) (r : Result Written Problem)
+    → AddsStepsBy (QuotesExchange cat rows row retailer offer now (quoted.Done code)) old new → IfOk r (Tells cat (exchange_offer code)) → IfErr r (λ p. p ≡ NoMemory)
+    → Answered cat (AnswersExchangeQuote cat rows row retailer offer now) old new (told_of r)
+offers_exchange cat rows row retailer offer now code old new (Ok w) did is none = (exchange_offer code, (quoted.Done code, did, inl refl), is)
+offers_exchange cat rows row retailer offer now code old new (Err p) did is none = (problem NoMemory, (quoted.Done code, did, inr refl), ap refused_told none ∙ of_problem cat NoMemory)
 
 pub offers_unknown : (cat : CatalogueView) (rows : ℕ) (row : RowNo) (retailer : ℕ) (offer : OfferView) (now : ℕ) (old new : DeskView)
     → AddsStepsBy (QuotesExchange cat rows row retailer offer now quoted.Unknown) old new
@@ -173,9 +168,6 @@ pub refused : (cat : CatalogueView) (rows retailer : ℕ) (code : ExchangeView) 
     → ((a : Readied) × AddsStepsBy (Readies cat rows retailer code now a) old new × IsUnready a p) → MakesEmpty new
     → AnswersExchange cat rows retailer code now old new (refused_told p)
 refused cat rows retailer code now p old new (a, did, un) none = (problem p, inl (a, p, did, un, refl), none, of_problem cat p)
-
-pub exchanged_tidy : (books : BooksView) (old new : DeskView) → IsOf books new → IsIdle new → Settles old new → IsTidy old → IsTidy new
-exchanged_tidy books old new of idle settles tidy = (idle, settles tidy.1, makes_empty books new of idle.0)
 
 -- an exchange ends for want of memory only where all places of the new booking were held, and are given back
 

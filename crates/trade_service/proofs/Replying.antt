@@ -1,5 +1,5 @@
 -- The replies to commands on refunds.
-use Rattle.std.proofs.Common.{◌≡◌, ◌∙◌, inl, inr, ℕ, Option, Some, None, refl, ap}
+use Rattle.std.proofs.Common.{◌≡◌, ◌∙◌, inl, inr, ℕ, Option, Some, None, Result, Ok, Err, IfOk, IfErr, refl, ap}
 use Rattle.rail_ids.specs.declared.RowNo.{RowNo}
 use Rattle.claim_rule.specs.Rule.{DeskView}
 use Rattle.claim_rule.specs.Calls.{AddsStepsBy}
@@ -13,7 +13,8 @@ use Rattle.refund_core.specs.declared.refunding.Refunded.TheVariants as refunded
 use Rattle.refund_core.specs.Refunding.{QuotesRefund, AcceptsRefund}
 use Rattle.osdm_texts.specs.declared.problem.Problem.{Problem}
 use Rattle.osdm_texts.specs.declared.problem.Problem.TheVariants.{UnknownBooking, WrongState, NoMemory}
-use Rattle.osdm_texts.specs.Answers.{refund_offer, problem, Told, refused as refused_told, reply_told}
+use Rattle.osdm_texts.specs.Answers.{refund_offer, problem, Told, refused as refused_told, reply_told, told_of, Tells}
+use Rattle.osdm_texts.specs.declared.written.Written.{Written}
 use Rattle.osdm_texts.proofs.Telling.{of_problem}
 use Rattle.refund_core.specs.Quotes.{FindsBooking}
 use Rattle.booking_service.specs.Deciding.{OnBooking, Answered}
@@ -21,15 +22,11 @@ use Rattle.trade_service.specs.Refunds.{AnswersRefundQuote, RefundsFound, refusa
 
 -- the replies to a quote
 
-pub offers_refund : (cat : CatalogueView) (rows : ℕ) (row : RowNo) (retailer now : ℕ) (code : RefundCode) (old new : DeskView) (said : Told)
-    → AddsStepsBy (QuotesRefund cat rows row retailer now (quoted.Done code)) old new → said ≡ reply_told cat (refund_offer code)
-    → Answered cat (AnswersRefundQuote cat rows row retailer now) old new said
-offers_refund cat rows row retailer now code old new said did is = (refund_offer code, (quoted.Done code, did, inl refl), is)
-
-pub offers_none : (cat : CatalogueView) (rows : ℕ) (row : RowNo) (retailer now : ℕ) (code : RefundCode) (old new : DeskView)
-    → AddsStepsBy (QuotesRefund cat rows row retailer now (quoted.Done code)) old new
-    → Answered cat (AnswersRefundQuote cat rows row retailer now) old new (refused_told NoMemory)
-offers_none cat rows row retailer now code old new did = (problem NoMemory, (quoted.Done code, did, inr refl), of_problem cat NoMemory)
+pub offers_refund : (cat : CatalogueView) (rows : ℕ) (row : RowNo) (retailer now : ℕ) (code : RefundCode) (old new : DeskView) (r : Result Written Problem)
+    → AddsStepsBy (QuotesRefund cat rows row retailer now (quoted.Done code)) old new → IfOk r (Tells cat (refund_offer code)) → IfErr r (λ p. p ≡ NoMemory)
+    → Answered cat (AnswersRefundQuote cat rows row retailer now) old new (told_of r)
+offers_refund cat rows row retailer now code old new (Ok w) did is none = (refund_offer code, (quoted.Done code, did, inl refl), is)
+offers_refund cat rows row retailer now code old new (Err p) did is none = (problem NoMemory, (quoted.Done code, did, inr refl), ap refused_told none ∙ of_problem cat NoMemory)
 
 pub offers_unknown : (cat : CatalogueView) (rows : ℕ) (row : RowNo) (retailer now : ℕ) (old new : DeskView)
     → AddsStepsBy (QuotesRefund cat rows row retailer now quoted.Unknown) old new

@@ -1,4 +1,4 @@
--- Commands on exchanges leave a tidy desk tidy: each turn to an exchange is followed by the seal of its successor.
+-- Commands on exchanges leave a desk at home, and a tidy one tidy: each turn to an exchange is followed by the seal of its successor.
 use Rattle.std.proofs.Common.{false, ℕ, List, map, refl, sym, subst}
 use Rattle.leg_masks.specs.Interval.{PlacedSpan as Item}
 use Rattle.history_model.specs.declared.entry.Step.{Step}
@@ -8,8 +8,9 @@ use Rattle.rail_ids.specs.declared.RowNo.{RowNo}
 use Rattle.claim_rule.specs.Rule.{BooksView, DeskView}
 use Rattle.claim_rule.specs.Desks.{IsOf, AddsSteps}
 use Rattle.claim_rule.specs.Calls.{AddsStepsBy}
-use Rattle.claim_rule.specs.Out.{exchanges, IsTidy, AreSettled, KeepsHolds, KeepsEndings}
-use Rattle.claim_rule.proofs.Out.{settled_append, settled_calm}
+use Rattle.claim_rule.specs.Out.{exchanges, AreSettled, KeepsHolds, KeepsEndings}
+use Rattle.claim_rule.proofs.Out.{settled_append, settled_calm, makes_empty}
+use Rattle.shop.specs.Homes.{IsAtHome, StaysHome}
 use Rattle.booking_rows.specs.declared.notes.Detail.{Detail}
 use Rattle.booking_rows.specs.Notes.{detail_notes}
 use Rattle.rail_catalogue.specs.Contents.{CatalogueView}
@@ -23,7 +24,7 @@ use Rattle.exchange_core.specs.declared.readying.Readied.TheVariants as readied
 use Rattle.reservation_service.specs.Holding.{HoldsPlaces, FindsNoRow, GivesUp}
 use Rattle.reservation_service.specs.declared.holding.Placing.{Placing}
 use Rattle.reservation_service.proofs.Calm.{WentCalmly, held_calmly, found_calmly, gave_calmly}
-use Rattle.booking_service.proofs.Calm.{AreCalm, tidy_by}
+use Rattle.booking_service.proofs.Calm.{AreCalm, home_by}
 use Rattle.trade_service.proofs.Calm.{calm_own, calm_none}
 
 -- looks for a booking hold no turn
@@ -40,8 +41,11 @@ calm_quotes cat rows row retailer offer now (quoted.Done code) es (here, (v, saw
 calm_quotes cat rows row retailer offer now quoted.Unknown es none = calm_none rows row retailer es none
 calm_quotes cat rows row retailer offer now (quoted.WrongState shown) es (here, one, two, (v, saw, is)) = calm_own row retailer v es saw
 
-pub quoted_tidy : (cat : CatalogueView) (rows : ℕ) (row : RowNo) (retailer : ℕ) (offer : OfferView) (now : ℕ) (a : QuotedExchange) (books : BooksView) (old new : DeskView) → IsOf books new → AddsStepsBy (QuotesExchange cat rows row retailer offer now a) old new → KeepsHolds old new → KeepsEndings old new → IsTidy old → IsTidy new
-quoted_tidy cat rows row retailer offer now a books old new = tidy_by (QuotesExchange cat rows row retailer offer now a) books old new (calm_quotes cat rows row retailer offer now a)
+pub quoted_home : (cat : CatalogueView) (rows : ℕ) (row : RowNo) (retailer : ℕ) (offer : OfferView) (now : ℕ) (a : QuotedExchange) (books : BooksView) (old new : DeskView) → IsOf books new → AddsStepsBy (QuotesExchange cat rows row retailer offer now a) old new → KeepsHolds old new → KeepsEndings old new → IsAtHome books old → StaysHome books old new
+quoted_home cat rows row retailer offer now a books old new = home_by (QuotesExchange cat rows row retailer offer now a) books old new (calm_quotes cat rows row retailer offer now a)
+
+pub readied_home : (cat : CatalogueView) (rows retailer : ℕ) (code : ExchangeView) (now : ℕ) (a : Readied) (books : BooksView) (old new : DeskView) → IsOf books new → AddsStepsBy (Readies cat rows retailer code now a) old new → KeepsHolds old new → KeepsEndings old new → IsAtHome books old → StaysHome books old new
+readied_home cat rows retailer code now a books old new = home_by (Readies cat rows retailer code now a) books old new (calm_readies cat rows retailer code now a)
 
 -- what was settled stays settled
 
@@ -55,9 +59,6 @@ settles_by a b es did calm was =
 settles_calmly : (a b : DeskView) → WentCalmly a b → Settles a b
 settles_calmly a b did = settles_by a b did.0 did.2 did.1
 
-pub readies_settles : (cat : CatalogueView) (rows retailer : ℕ) (code : ExchangeView) (now : ℕ) (a : Readied) (old new : DeskView) → AddsStepsBy (Readies cat rows retailer code now a) old new → Settles old new
-readies_settles cat rows retailer code now a old new did = settles_by old new did.0 did.2 (calm_readies cat rows retailer code now a did.0 did.1)
-
 pub no_row_settles : (old new : DeskView) → FindsNoRow old new → Settles old new
 no_row_settles old new did = settles_calmly old new (found_calmly old new did)
 
@@ -69,3 +70,7 @@ gave_settles row items old new gave = settles_calmly old new (gave_calmly row it
 
 pub notes_settles : (row count : ℕ) (d : Detail) (old new : DeskView) → AddsSteps old new (detail_notes row d count) → Settles old new
 notes_settles row count d old new did = settles_by old new (detail_notes row d count) did (refl, (refl, (refl, (refl, tt))))
+
+-- so a desk that is at home again has stayed at home
+pub settled_home : (books : BooksView) (old new : DeskView) → IsAtHome books new → Settles old new → StaysHome books old new
+settled_home books old new home settles = record { home = home; tidy = λ tidy. (home.idle, settles tidy.1, makes_empty books new home.own home.idle.0) }

@@ -1,23 +1,24 @@
 //! Exchanges: offered, and carried out.
 ghost use Rattle.std.specs.Prelude.{◌≡◌, ◌≤◌, true, length, Ok, IfSome, IfOk, IfErr};
 ghost use Rattle.std.specs.List.{list_all};
-ghost use Rattle.claim_rule.specs.Desks.{IsOf};
 ghost use Rattle.claim_rule.specs.Calls.{AddsStepsBy};
-ghost use Rattle.claim_rule.specs.Out.{IsTidy, IsIdle, IsHolding, HasNotedItems, HoldsNone, EndsNone, AreSettled, KeepsHolds, KeepsEndings};
+ghost use Rattle.claim_rule.specs.Out.{HasNotedItems, EndsNone, AreSettled};
 ghost use Rattle.history_model.specs.Booking.{greatest_amount};
 ghost use Rattle.history_model.specs.History.{own};
 ghost use Rattle.offer_codes.specs.Offers.{is_offer, offer_view};
 ghost use Rattle.offer_codes.specs.Exchanges.{is_exchange, exchange_view};
-ghost use Rattle.rail_catalogue.specs.Contents.{legs_in};
 ghost use Rattle.offer_engine.specs.Codes.{is_of_runs};
 ghost use Rattle.exchange_core.specs.Ready.{IsReadyFor};
 ghost use Rattle.exchange_core.specs.Exchanges.{Readies};
 ghost use Rattle.exchange_core.specs.declared.readying.Readied.{Readied as ReadiedBy};
 ghost use Rattle.exchange_core.specs.declared.readying.Readied.TheVariants as readied;
+ghost use Rattle.osdm_texts.specs.declared.problem.Problem.TheVariants.{NoMemory};
 ghost use Rattle.osdm_texts.specs.Answers.{Reply as Replied, exchange_offer, exchanged, reply_told, told_of, Tells};
 ghost use Rattle.osdm_texts.specs.Ids.{HasId};
 ghost use Rattle.osdm_texts.specs.Bookings.{HasIds};
+ghost use Rattle.shop.specs.Homes.{IsAtHome, StaysHome};
 ghost use Rattle.booking_service.specs.Deciding.{Answered};
+ghost use Rattle.reservation_service.specs.Outs.{IsOutAt};
 ghost use Rattle.trade_service.specs.Exchanges.{AnswersExchangeQuote, AnswersExchange, AnswersReady, DecidesOrNot, IsUnready, lost_problem as lost_problem_of, ready_of};
 
 use booking_rows::{Detail, RowView, note_detail};
@@ -35,10 +36,11 @@ use rail_time::Moment;
 use reservation_service::{Held, detail_for, hold_places, new_view};
 use shop::{Asker, Shop};
 
-// The text that offers an exchange, or `None` where there is no memory for it.
-fn exchange_offer_answer(shop: &Shop<'_>, code: ExchangeCode) -> Option<Written>
+// The text that offers an exchange.
+fn exchange_offer_answer(shop: &Shop<'_>, code: ExchangeCode) -> Result<Written, Problem>
     requires range { is_exchange (exchange_view code) ≡ true }
-    ensures told { IfSome result (Tells shop.now.cat.now (exchange_offer code)) }
+    ensures told { IfOk result (Tells shop.now.cat.now (exchange_offer code)) }
+    ensures untold { IfErr result (λ p. p ≡ NoMemory) }
 {
     write_reply(
         shop.alloc,
@@ -46,6 +48,7 @@ fn exchange_offer_answer(shop: &Shop<'_>, code: ExchangeCode) -> Option<Written>
         Success::Created,
         &Reply::ExchangeOffer { code },
     )
+    .ok_or(Problem::NoMemory)
 }
 
 /// Offers an exchange of a booking for an offer (OSDM's exchange offer). The offer is in the ranges of its spelling.
@@ -56,12 +59,9 @@ pub fn quote_exchange_booking(
     row: RowNo,
     offer: &OfferCode,
 ) -> Result<Written, Problem>
-    requires own { IsOf shop.now.books.now desk.old }
-    requires idle { IsIdle desk.old }
+    requires home { IsAtHome shop.now.books.now desk.old }
     requires offer { is_offer (offer_view offer.now) ≡ true }
-    ensures own { IsOf shop.now.books.now desk.new }
-    ensures idle { IsIdle desk.new }
-    ensures tidy { IsTidy desk.old → IsTidy desk.new }
+    ensures home { StaysHome shop.now.books.now desk.old desk.new }
     ensures answer { Answered shop.now.cat.now (AnswersExchangeQuote shop.now.cat.now shop.now.books.now.layout.rows
         row asker.retailer.0 (offer_view offer.now) asker.moment) desk.old desk.new (told_of result) }
 {
@@ -75,10 +75,7 @@ pub fn quote_exchange_booking(
         asker.moment,
     );
     match quoted {
-        QuotedExchange::Done(code) => match exchange_offer_answer(shop, code) {
-            Some(quoted) => Ok(quoted),
-            None => Err(Problem::NoMemory),
-        },
+        QuotedExchange::Done(code) => exchange_offer_answer(shop, code),
         QuotedExchange::Unknown => Err(Problem::UnknownBooking),
         QuotedExchange::WrongState { shown } => Err(Problem::WrongState { shown }),
     }
@@ -96,21 +93,15 @@ pub fn accept_exchange_booking(
     asker: Asker,
     code: &ExchangeCode,
 ) -> Result<Written, Problem>
-    requires own { IsOf shop.now.books.now desk.old }
-    requires legs { shop.now.books.now.layout.legs ≡ legs_in shop.now.cat.now }
-    requires idle { IsIdle desk.old }
+    requires home { IsAtHome shop.now.books.now desk.old }
     requires offer { is_offer (offer_view code.now.offer) ≡ true }
     requires runs { list_all (is_of_runs shop.now.cat.now.runs) code.now.offer.segments.items ≡ true }
-    ensures own { IsOf shop.now.books.now desk.new }
-    ensures idle { IsIdle desk.new }
-    ensures tidy { IsTidy desk.old → IsTidy desk.new }
+    ensures home { StaysHome shop.now.books.now desk.old desk.new }
     ensures answer { AnswersExchange shop.now.cat.now shop.now.books.now.layout.rows asker.retailer.0
         (exchange_view code.now) asker.moment desk.old desk.new (told_of result) }
 {
-    match check(shop, desk, asker.retailer, code, asker.moment) {
-        Ok(ready) => carry_out(shop, desk, asker, code, ready),
-        Err(problem) => Err(problem),
-    }
+    let ready = check(shop, desk, asker.retailer, code, asker.moment)?;
+    carry_out(shop, desk, asker, code, ready)
 }
 
 // The quote as it was checked, or what is wrong with it.
@@ -121,16 +112,14 @@ fn check(
     code: &ExchangeCode,
     now: Moment,
 ) -> Result<ExchangeReady, Problem>
-    requires own { IsOf shop.now.books.now desk.old }
+    requires home { IsAtHome shop.now.books.now desk.old }
     requires offer { is_offer (offer_view code.now.offer) ≡ true }
-    ensures own { IsOf shop.now.books.now desk.new }
+    ensures home { StaysHome shop.now.books.now desk.old desk.new }
     ensures fine { IfOk result (λ ready. AddsStepsBy (Readies shop.now.cat.now shop.now.books.now.layout.rows retailer.0
         (exchange_view code.now) now (readied.Fine ready)) desk.old desk.new) }
     ensures ready { IfOk result (IsReadyFor desk.new) }
     ensures unready { IfErr result (λ p. (a : ReadiedBy) × AddsStepsBy (Readies shop.now.cat.now
         shop.now.books.now.layout.rows retailer.0 (exchange_view code.now) now a) desk.old desk.new × IsUnready a p) }
-    ensures holds { KeepsHolds desk.old desk.new }
-    ensures endings { KeepsEndings desk.old desk.new }
 {
     match ready_exchange(shop.cat, shop.books, desk, retailer, code, now) {
         Readied::Fine(ready) => Ok(ready),
@@ -149,16 +138,12 @@ fn carry_out(
     code: &ExchangeCode,
     ready: ExchangeReady,
 ) -> Result<Written, Problem>
-    requires own { IsOf shop.now.books.now desk.old }
-    requires legs { shop.now.books.now.layout.legs ≡ legs_in shop.now.cat.now }
-    requires idle { IsIdle desk.old }
+    requires home { IsAtHome shop.now.books.now desk.old }
     requires offer { is_offer (offer_view code.now.offer) ≡ true }
     requires runs { list_all (is_of_runs shop.now.cat.now.runs) code.now.offer.segments.items ≡ true }
     requires ready { IsReadyFor desk.old ready }
     requires same { ready ≡ ready_of asker.retailer.0 (exchange_view code.now) asker.moment }
-    ensures own { IsOf shop.now.books.now desk.new }
-    ensures idle { IsIdle desk.new }
-    ensures settled { AreSettled (own desk.old.seen desk.old.number) → AreSettled (own desk.new.seen desk.new.number) }
+    ensures home { StaysHome shop.now.books.now desk.old desk.new }
     ensures answer { AnswersReady shop.now.cat.now (ready_of asker.retailer.0 (exchange_view code.now) asker.moment)
         desk.old desk.new (told_of result) }
 {
@@ -187,17 +172,14 @@ fn decide(
     code: &ExchangeCode,
     ready: ExchangeReady,
 ) -> Result<Written, Problem>
-    requires own { IsOf shop.now.books.now desk.old }
-    requires hold { IsHolding desk.old hold }
+    requires out { IsOutAt shop.now.books.now desk.old hold }
     requires noted { HasNotedItems desk.old hold }
     requires some { 1 ≤ length hold.items }
     requires total { detail.total ≤ greatest_amount }
     requires none { EndsNone desk.old }
     requires ready { IsReadyFor desk.old ready }
     requires same { ready.code ≡ exchange_view code.now }
-    ensures own { IsOf shop.now.books.now desk.new }
-    ensures holds_none { HoldsNone desk.new }
-    ensures none { EndsNone desk.new }
+    ensures home { IsAtHome shop.now.books.now desk.new }
     ensures settled { AreSettled (own desk.old.seen desk.old.number) → AreSettled (own desk.new.seen desk.new.number) }
     ensures answer { (reply : Replied) × DecidesOrNot ready hold.row hold.items detail desk.old desk.new reply
         × (told_of result ≡ reply_told shop.now.cat.now reply) }

@@ -1,13 +1,13 @@
 //! Refunds: offered, and paid back.
-ghost use Rattle.std.specs.Prelude.{◌≡◌, ◌≤◌, true, Ok, IfSome};
-ghost use Rattle.claim_rule.specs.Desks.{IsOf};
-ghost use Rattle.claim_rule.specs.Out.{IsTidy, IsIdle};
+ghost use Rattle.std.specs.Prelude.{◌≡◌, ◌≤◌, true, Ok, IfOk, IfErr};
 ghost use Rattle.history_model.specs.declared.phase.EndKind.TheVariants as kind;
 ghost use Rattle.history_model.specs.Booking.{greatest_amount};
 ghost use Rattle.booking_rows.specs.declared.turns.Aim.TheVariants as aim;
 ghost use Rattle.booking_rows.specs.Aims.{end_of};
 ghost use Rattle.offer_codes.specs.Refunds.{is_refund};
+ghost use Rattle.osdm_texts.specs.declared.problem.Problem.TheVariants.{NoMemory};
 ghost use Rattle.osdm_texts.specs.Answers.{refund_offer, told_of, Tells};
+ghost use Rattle.shop.specs.Homes.{IsAtHome, StaysHome};
 ghost use Rattle.booking_service.specs.Deciding.{Answered, OnBooking, at_end};
 ghost use Rattle.trade_service.specs.Refunds.{AnswersRefundQuote, RefundsFound, refusal_of};
 
@@ -22,10 +22,11 @@ use rail_time::Moment;
 use refund_core::{Quoted, Refunded, accept_refund, find_booking, quote_refund};
 use shop::{Asker, Shop};
 
-// The text that offers a refund, or `None` where there is no memory for it.
-fn refund_offer_answer(shop: &Shop<'_>, code: RefundCode) -> Option<Written>
+// The text that offers a refund.
+fn refund_offer_answer(shop: &Shop<'_>, code: RefundCode) -> Result<Written, Problem>
     requires range { is_refund code ≡ true }
-    ensures told { IfSome result (Tells shop.now.cat.now (refund_offer code)) }
+    ensures told { IfOk result (Tells shop.now.cat.now (refund_offer code)) }
+    ensures untold { IfErr result (λ p. p ≡ NoMemory) }
 {
     write_reply(
         shop.alloc,
@@ -33,6 +34,7 @@ fn refund_offer_answer(shop: &Shop<'_>, code: RefundCode) -> Option<Written>
         Success::Created,
         &Reply::RefundOffer { code },
     )
+    .ok_or(Problem::NoMemory)
 }
 
 /// Offers a refund of a booking (OSDM's refund offer).
@@ -42,11 +44,8 @@ pub fn quote_refund_booking(
     asker: Asker,
     row: RowNo,
 ) -> Result<Written, Problem>
-    requires own { IsOf shop.now.books.now desk.old }
-    requires idle { IsIdle desk.old }
-    ensures own { IsOf shop.now.books.now desk.new }
-    ensures idle { IsIdle desk.new }
-    ensures tidy { IsTidy desk.old → IsTidy desk.new }
+    requires home { IsAtHome shop.now.books.now desk.old }
+    ensures home { StaysHome shop.now.books.now desk.old desk.new }
     ensures answer { Answered shop.now.cat.now
         (AnswersRefundQuote shop.now.cat.now shop.now.books.now.layout.rows row asker.retailer.0 asker.moment)
         desk.old desk.new (told_of result) }
@@ -59,10 +58,7 @@ pub fn quote_refund_booking(
         asker.retailer,
         asker.moment,
     ) {
-        Quoted::Done(code) => match refund_offer_answer(shop, code) {
-            Some(quoted) => Ok(quoted),
-            None => Err(Problem::NoMemory),
-        },
+        Quoted::Done(code) => refund_offer_answer(shop, code),
         Quoted::Unknown => Err(Problem::UnknownBooking),
         Quoted::WrongState { shown } => Err(Problem::WrongState { shown }),
     }
@@ -105,12 +101,9 @@ pub fn accept_refund_booking(
     asker: Asker,
     code: &RefundCode,
 ) -> Result<Written, Problem>
-    requires own { IsOf shop.now.books.now desk.old }
-    requires idle { IsIdle desk.old }
+    requires home { IsAtHome shop.now.books.now desk.old }
     requires range { is_refund code.now ≡ true }
-    ensures own { IsOf shop.now.books.now desk.new }
-    ensures idle { IsIdle desk.new }
-    ensures tidy { IsTidy desk.old → IsTidy desk.new }
+    ensures home { StaysHome shop.now.books.now desk.old desk.new }
     ensures answer { Answered shop.now.cat.now (OnBooking shop.now.books.now.layout.rows code.now.row asker.retailer.0
         (RefundsFound shop.now.cat.now shop.now.books.now.layout.rows asker.retailer.0 code.now asker.moment))
         desk.old desk.new (told_of result) }

@@ -2,11 +2,11 @@ use Rattle.std.proofs.Common.{◌∙◌, Some, None, refl, ap}
 use Rattle.history_model.specs.declared.phase.Phase.TheVariants as phase
 use Rattle.booking_rows.specs.Views.{RowSeen}
 use Rattle.confirm_core.specs.declared.fulfilling.Fulfilment.TheVariants as fulfilled
-use Rattle.claim_rule.proofs.Out.{still_idle}
 use Rattle.osdm_texts.specs.declared.problem.Problem.TheVariants.{UnknownBooking, WrongState}
 use Rattle.osdm_texts.specs.Answers.{booking, reply_told}
+use Rattle.shop.proofs.Homes.{stays_then}
 use Rattle.booking_service.specs.Deciding.{FulfilsFound}
-use Rattle.booking_service.proofs.Calm.{found_tidy, fulfilled_tidy}
+use Rattle.booking_service.proofs.Calm.{found_home, fulfilled_home}
 use Rattle.osdm_texts.proofs.Telling.{of_problem}
 use Rattle.booking_service.proofs.Replying.{unknown, no_memory, done}
 use Rattle.booking_service.proofs.Ids.{phased_ids}
@@ -18,42 +18,29 @@ booking_answer-requires c =
 
 -- no such booking
 
-pub returns-in_default-clause-tidy : goal.returns-in_default-clause-tidy
-returns-in_default-clause-tidy c =
-    let d = c.in_default.ensures in found_tidy _ _ _ None _ _ _ c.find_booking.ensures.own d.entries d.holds d.endings
-
-pub returns-in_default-clause-idle : goal.returns-in_default-clause-idle
-returns-in_default-clause-idle c =
-    let d = c.in_default.ensures in still_idle _ _ d.holds d.endings c.requires.idle
+pub returns-in_default-clause-home : goal.returns-in_default-clause-home
+returns-in_default-clause-home c =
+    let d = c.in_default.ensures in found_home _ _ _ None _ _ _ c.find_booking.ensures.own d.entries d.holds d.endings c.requires.home
 
 pub returns-in_default-clause-answer : goal.returns-in_default-clause-answer
 returns-in_default-clause-answer c = unknown _ _ _ _ (FulfilsFound _ _ _) _ _ c.in_default.ensures.entries
 
 -- no memory for its answer
 
-pub returns-in_default-booking_answer-clause-tidy : goal.returns-in_default-booking_answer-clause-tidy
-returns-in_default-booking_answer-clause-tidy c =
-    let f = c.in-Some.ensures in found_tidy _ _ _ (Some _) _ _ _ c.find_booking.ensures.own f.entries f.holds f.endings
-
-pub returns-in_default-booking_answer-clause-idle : goal.returns-in_default-booking_answer-clause-idle
-returns-in_default-booking_answer-clause-idle c =
-    let f = c.in-Some.ensures in still_idle _ _ f.holds f.endings c.requires.idle
+pub returns-in_default-booking_answer-clause-home : goal.returns-in_default-booking_answer-clause-home
+returns-in_default-booking_answer-clause-home c =
+    let f = c.in-Some.ensures in found_home _ _ _ (Some _) _ _ _ c.find_booking.ensures.own f.entries f.holds f.endings c.requires.home
 
 pub returns-in_default-booking_answer-clause-answer : goal.returns-in_default-booking_answer-clause-answer
 returns-in_default-booking_answer-clause-answer c = no_memory _ _ _ _ (FulfilsFound _ _ _) _ _ _ c.in-Some.ensures.entries
 
 -- collected
 
-pub returns-in-Done-clause-tidy : goal.returns-in-Done-clause-tidy
-returns-in-Done-clause-tidy c tidy =
+pub returns-in-Done-clause-home : goal.returns-in-Done-clause-home
+returns-in-Done-clause-home c =
     let f = c.in-Some.ensures in let d = c.in-Done.ensures in
-    fulfilled_tidy _ _ _ fulfilled.Done _ _ _ c.fulfil.ensures.own d.entries d.holds d.endings
-    (found_tidy _ _ _ (Some _) _ _ _ c.find_booking.ensures.own f.entries f.holds f.endings tidy)
-
-pub returns-in-Done-clause-idle : goal.returns-in-Done-clause-idle
-returns-in-Done-clause-idle c =
-    let f = c.in-Some.ensures in let d = c.in-Done.ensures in
-    still_idle _ _ d.holds d.endings (still_idle _ _ f.holds f.endings c.requires.idle)
+    let found = found_home _ _ _ (Some _) _ _ _ c.find_booking.ensures.own f.entries f.holds f.endings c.requires.home in
+    stays_then _ _ _ _ found (fulfilled_home _ _ _ fulfilled.Done _ _ _ c.fulfil.ensures.own d.entries d.holds d.endings found.home)
 
 pub returns-in-Done-clause-answer : goal.returns-in-Done-clause-answer
 returns-in-Done-clause-answer c =
@@ -63,16 +50,11 @@ returns-in-Done-clause-answer c =
 
 -- unknown by then
 
-pub returns-in-Unknown-clause-tidy : goal.returns-in-Unknown-clause-tidy
-returns-in-Unknown-clause-tidy c tidy =
+pub returns-in-Unknown-clause-home : goal.returns-in-Unknown-clause-home
+returns-in-Unknown-clause-home c =
     let f = c.in-Some.ensures in let d = c.in-Unknown.ensures in
-    fulfilled_tidy _ _ _ fulfilled.Unknown _ _ _ c.fulfil.ensures.own d.entries d.holds d.endings
-    (found_tidy _ _ _ (Some _) _ _ _ c.find_booking.ensures.own f.entries f.holds f.endings tidy)
-
-pub returns-in-Unknown-clause-idle : goal.returns-in-Unknown-clause-idle
-returns-in-Unknown-clause-idle c =
-    let f = c.in-Some.ensures in let d = c.in-Unknown.ensures in
-    still_idle _ _ d.holds d.endings (still_idle _ _ f.holds f.endings c.requires.idle)
+    let found = found_home _ _ _ (Some _) _ _ _ c.find_booking.ensures.own f.entries f.holds f.endings c.requires.home in
+    stays_then _ _ _ _ found (fulfilled_home _ _ _ fulfilled.Unknown _ _ _ c.fulfil.ensures.own d.entries d.holds d.endings found.home)
 
 pub returns-in-Unknown-clause-answer : goal.returns-in-Unknown-clause-answer
 returns-in-Unknown-clause-answer c =
@@ -81,16 +63,11 @@ returns-in-Unknown-clause-answer c =
 
 -- in another state
 
-pub returns-in-WrongState-clause-tidy : goal.returns-in-WrongState-clause-tidy
-returns-in-WrongState-clause-tidy c tidy =
+pub returns-in-WrongState-clause-home : goal.returns-in-WrongState-clause-home
+returns-in-WrongState-clause-home c =
     let f = c.in-Some.ensures in let d = c.in-WrongState.ensures in
-    fulfilled_tidy _ _ _ (fulfilled.WrongState _) _ _ _ c.fulfil.ensures.own d.entries d.holds d.endings
-    (found_tidy _ _ _ (Some _) _ _ _ c.find_booking.ensures.own f.entries f.holds f.endings tidy)
-
-pub returns-in-WrongState-clause-idle : goal.returns-in-WrongState-clause-idle
-returns-in-WrongState-clause-idle c =
-    let f = c.in-Some.ensures in let d = c.in-WrongState.ensures in
-    still_idle _ _ d.holds d.endings (still_idle _ _ f.holds f.endings c.requires.idle)
+    let found = found_home _ _ _ (Some _) _ _ _ c.find_booking.ensures.own f.entries f.holds f.endings c.requires.home in
+    stays_then _ _ _ _ found (fulfilled_home _ _ _ (fulfilled.WrongState _) _ _ _ c.fulfil.ensures.own d.entries d.holds d.endings found.home)
 
 pub returns-in-WrongState-clause-answer : goal.returns-in-WrongState-clause-answer
 returns-in-WrongState-clause-answer c =

@@ -4,11 +4,11 @@ use Rattle.booking_rows.specs.Views.{RowSeen}
 use Rattle.booking_rows.specs.Aims.{end_of}
 use Rattle.booking_rows.specs.declared.turns.Aim.TheVariants as aim
 use Rattle.refund_core.specs.declared.releasing.Released.TheVariants as released
-use Rattle.claim_rule.proofs.Out.{still_idle}
 use Rattle.osdm_texts.specs.declared.problem.Problem.TheVariants.{UnknownBooking, WrongState}
 use Rattle.osdm_texts.specs.Answers.{booking, reply_told}
+use Rattle.shop.proofs.Homes.{stays_then}
 use Rattle.booking_service.specs.Deciding.{ReleasesFound}
-use Rattle.booking_service.proofs.Calm.{found_tidy, released_tidy}
+use Rattle.booking_service.proofs.Calm.{found_home, released_home}
 use Rattle.osdm_texts.proofs.Telling.{of_problem}
 use Rattle.booking_service.proofs.Replying.{unknown, no_memory, done}
 use Rattle.booking_service.proofs.Ids.{ended_ids}
@@ -20,46 +20,33 @@ booking_answer-requires c =
     record { ids = ended_ids c.args.row kind.Release end c.in-Some.view _ refl c.released.ensures.view c.in-Some.ensures.generation }
 
 pub release-requires-clause-none : goal.release-requires-clause-none
-release-requires-clause-none c = c.in-Some.ensures.endings.none c.requires.idle.1
+release-requires-clause-none c = c.in-Some.ensures.endings.none c.requires.home.idle.1
 
 -- no such booking
 
-pub returns-in_default-clause-tidy : goal.returns-in_default-clause-tidy
-returns-in_default-clause-tidy c =
-    let d = c.in_default.ensures in found_tidy _ _ _ None _ _ _ c.find_booking.ensures.own d.entries d.holds d.endings
-
-pub returns-in_default-clause-idle : goal.returns-in_default-clause-idle
-returns-in_default-clause-idle c =
-    let d = c.in_default.ensures in still_idle _ _ d.holds d.endings c.requires.idle
+pub returns-in_default-clause-home : goal.returns-in_default-clause-home
+returns-in_default-clause-home c =
+    let d = c.in_default.ensures in found_home _ _ _ None _ _ _ c.find_booking.ensures.own d.entries d.holds d.endings c.requires.home
 
 pub returns-in_default-clause-answer : goal.returns-in_default-clause-answer
 returns-in_default-clause-answer c = unknown _ _ _ _ (ReleasesFound _ _ _ _) _ _ c.in_default.ensures.entries
 
 -- no memory for its answer
 
-pub returns-in_default-booking_answer-clause-tidy : goal.returns-in_default-booking_answer-clause-tidy
-returns-in_default-booking_answer-clause-tidy c =
-    let f = c.in-Some.ensures in found_tidy _ _ _ (Some _) _ _ _ c.find_booking.ensures.own f.entries f.holds f.endings
-
-pub returns-in_default-booking_answer-clause-idle : goal.returns-in_default-booking_answer-clause-idle
-returns-in_default-booking_answer-clause-idle c =
-    let f = c.in-Some.ensures in still_idle _ _ f.holds f.endings c.requires.idle
+pub returns-in_default-booking_answer-clause-home : goal.returns-in_default-booking_answer-clause-home
+returns-in_default-booking_answer-clause-home c =
+    let f = c.in-Some.ensures in found_home _ _ _ (Some _) _ _ _ c.find_booking.ensures.own f.entries f.holds f.endings c.requires.home
 
 pub returns-in_default-booking_answer-clause-answer : goal.returns-in_default-booking_answer-clause-answer
 returns-in_default-booking_answer-clause-answer c = no_memory _ _ _ _ (ReleasesFound _ _ _ _) _ _ _ c.in-Some.ensures.entries
 
 -- released
 
-pub returns-in-Done-clause-tidy : goal.returns-in-Done-clause-tidy
-returns-in-Done-clause-tidy c tidy =
+pub returns-in-Done-clause-home : goal.returns-in-Done-clause-home
+returns-in-Done-clause-home c =
     let f = c.in-Some.ensures in let d = c.in-Done.ensures in
-    released_tidy _ _ _ c.args.asker.moment released.Done _ _ _ c.release.ensures.own d.entries d.holds d.none
-    (found_tidy _ _ _ (Some _) _ _ _ c.find_booking.ensures.own f.entries f.holds f.endings tidy)
-
-pub returns-in-Done-clause-idle : goal.returns-in-Done-clause-idle
-returns-in-Done-clause-idle c =
-    let f = c.in-Some.ensures in let d = c.in-Done.ensures in
-    (d.holds.none (f.holds.none c.requires.idle.0), d.none)
+    let found = found_home _ _ _ (Some _) _ _ _ c.find_booking.ensures.own f.entries f.holds f.endings c.requires.home in
+    stays_then _ _ _ _ found (released_home _ _ _ c.args.asker.moment released.Done _ _ _ c.release.ensures.own d.entries d.holds d.none found.home)
 
 pub returns-in-Done-clause-answer : goal.returns-in-Done-clause-answer
 returns-in-Done-clause-answer c =
@@ -69,16 +56,11 @@ returns-in-Done-clause-answer c =
 
 -- unknown by then
 
-pub returns-in-Unknown-clause-tidy : goal.returns-in-Unknown-clause-tidy
-returns-in-Unknown-clause-tidy c tidy =
+pub returns-in-Unknown-clause-home : goal.returns-in-Unknown-clause-home
+returns-in-Unknown-clause-home c =
     let f = c.in-Some.ensures in let d = c.in-Unknown.ensures in
-    released_tidy _ _ _ c.args.asker.moment released.Unknown _ _ _ c.release.ensures.own d.entries d.holds d.none
-    (found_tidy _ _ _ (Some _) _ _ _ c.find_booking.ensures.own f.entries f.holds f.endings tidy)
-
-pub returns-in-Unknown-clause-idle : goal.returns-in-Unknown-clause-idle
-returns-in-Unknown-clause-idle c =
-    let f = c.in-Some.ensures in let d = c.in-Unknown.ensures in
-    (d.holds.none (f.holds.none c.requires.idle.0), d.none)
+    let found = found_home _ _ _ (Some _) _ _ _ c.find_booking.ensures.own f.entries f.holds f.endings c.requires.home in
+    stays_then _ _ _ _ found (released_home _ _ _ c.args.asker.moment released.Unknown _ _ _ c.release.ensures.own d.entries d.holds d.none found.home)
 
 pub returns-in-Unknown-clause-answer : goal.returns-in-Unknown-clause-answer
 returns-in-Unknown-clause-answer c =
@@ -87,16 +69,11 @@ returns-in-Unknown-clause-answer c =
 
 -- in another state
 
-pub returns-in-WrongState-clause-tidy : goal.returns-in-WrongState-clause-tidy
-returns-in-WrongState-clause-tidy c tidy =
+pub returns-in-WrongState-clause-home : goal.returns-in-WrongState-clause-home
+returns-in-WrongState-clause-home c =
     let f = c.in-Some.ensures in let d = c.in-WrongState.ensures in
-    released_tidy _ _ _ c.args.asker.moment (released.WrongState _) _ _ _ c.release.ensures.own d.entries d.holds d.none
-    (found_tidy _ _ _ (Some _) _ _ _ c.find_booking.ensures.own f.entries f.holds f.endings tidy)
-
-pub returns-in-WrongState-clause-idle : goal.returns-in-WrongState-clause-idle
-returns-in-WrongState-clause-idle c =
-    let f = c.in-Some.ensures in let d = c.in-WrongState.ensures in
-    (d.holds.none (f.holds.none c.requires.idle.0), d.none)
+    let found = found_home _ _ _ (Some _) _ _ _ c.find_booking.ensures.own f.entries f.holds f.endings c.requires.home in
+    stays_then _ _ _ _ found (released_home _ _ _ c.args.asker.moment (released.WrongState _) _ _ _ c.release.ensures.own d.entries d.holds d.none found.home)
 
 pub returns-in-WrongState-clause-answer : goal.returns-in-WrongState-clause-answer
 returns-in-WrongState-clause-answer c =

@@ -1,8 +1,7 @@
-use Rattle.std.proofs.Common.{Some, None, refl}
-use Rattle.claim_rule.proofs.Out.{still_idle}
+use Rattle.std.proofs.Common.{Some, None}
 use Rattle.booking_service.specs.Deciding.{shows}
-use Rattle.booking_service.proofs.Calm.{found_tidy}
-use Rattle.booking_service.proofs.Replying.{unknown, no_memory, done}
+use Rattle.booking_service.proofs.Calm.{found_home}
+use Rattle.booking_service.proofs.Replying.{unknown, shown_or}
 use Rattle.booking_service.proofs.Ids.{found_ids}
 use Rattle.booking_service.proofs.deciding.show_booking.Goals as goal
 
@@ -12,41 +11,18 @@ booking_answer-requires c =
 
 -- no such booking
 
-pub returns-in_default-clause-tidy : goal.returns-in_default-clause-tidy
-returns-in_default-clause-tidy c =
-    let d = c.in_default.ensures in found_tidy _ _ _ None _ _ _ c.find_booking.ensures.own d.entries d.holds d.endings
-
-pub returns-in_default-clause-idle : goal.returns-in_default-clause-idle
-returns-in_default-clause-idle c =
-    let d = c.in_default.ensures in still_idle _ _ d.holds d.endings c.requires.idle
+pub returns-in_default-clause-home : goal.returns-in_default-clause-home
+returns-in_default-clause-home c =
+    let d = c.in_default.ensures in found_home _ _ _ None _ _ _ c.find_booking.ensures.own d.entries d.holds d.endings c.requires.home
 
 pub returns-in_default-clause-answer : goal.returns-in_default-clause-answer
 returns-in_default-clause-answer c = unknown _ _ _ _ (shows c.args.row) _ _ c.in_default.ensures.entries
 
--- shown
+-- shown, or without memory for its answer
 
-pub returns-in-Some-booking_answer-clause-tidy : goal.returns-in-Some-booking_answer-clause-tidy
-returns-in-Some-booking_answer-clause-tidy c =
-    let f = c.in-Some.ensures in found_tidy _ _ _ (Some _) _ _ _ c.find_booking.ensures.own f.entries f.holds f.endings
+pub returns-clause-home : goal.returns-clause-home
+returns-clause-home c =
+    let f = c.in-Some.ensures in found_home _ _ _ (Some _) _ _ _ c.find_booking.ensures.own f.entries f.holds f.endings c.requires.home
 
-pub returns-in-Some-booking_answer-clause-idle : goal.returns-in-Some-booking_answer-clause-idle
-returns-in-Some-booking_answer-clause-idle c =
-    let f = c.in-Some.ensures in still_idle _ _ f.holds f.endings c.requires.idle
-
-pub returns-in-Some-booking_answer-clause-answer : goal.returns-in-Some-booking_answer-clause-answer
-returns-in-Some-booking_answer-clause-answer c =
-    done _ _ _ _ (shows c.args.row) _ _ _ _ _ _ c.in-Some.ensures.entries (refl, refl)
-    c.in-Some-booking_answer.ensures.told
-
--- no memory for its answer
-
-pub returns-in-None-clause-tidy : goal.returns-in-None-clause-tidy
-returns-in-None-clause-tidy c =
-    let f = c.in-Some.ensures in found_tidy _ _ _ (Some _) _ _ _ c.find_booking.ensures.own f.entries f.holds f.endings
-
-pub returns-in-None-clause-idle : goal.returns-in-None-clause-idle
-returns-in-None-clause-idle c =
-    let f = c.in-Some.ensures in still_idle _ _ f.holds f.endings c.requires.idle
-
-pub returns-in-None-clause-answer : goal.returns-in-None-clause-answer
-returns-in-None-clause-answer c = no_memory _ _ _ _ (shows c.args.row) _ _ _ c.in-Some.ensures.entries
+pub returns-clause-answer : goal.returns-clause-answer
+returns-clause-answer c = shown_or _ _ _ _ c.in-Some.view _ _ c.booking_answer.result c.ok_or.result c.ok_or.ensures.value c.booking_answer.ensures.told c.in-Some.ensures.entries

@@ -1,38 +1,7 @@
-use Rattle.std.proofs.Common.{rules}
-use Rattle.claim_rule.proofs.Out.{makes_empty}
-use Rattle.service_rules.specs.Checks.{ordered}
-use Rattle.rail_service.proofs.Performed.{told_so, went_on}
 use Rattle.rail_service.proofs.performing.perform.Goals as goal
 
-pub returns-clause-answer : goal.returns-clause-answer
-returns-clause-answer c =
-    told_so c.args.cat.now c.args.retailer.0 c.args.now c.args.last (ordered c.args.cat.now c.args.now c.args.command.now) _ _ _ _ c.requires.own.legal c.in-Ok.ensures.said
-    (search rules)
+pub returns-clause-idle : goal.returns-clause-idle
+returns-clause-idle c = c.answer_command.ensures.home.home.idle
 
-pub returns-clause-no_item : goal.returns-clause-no_item
-returns-clause-no_item c = makes_empty c.args.books.now _ c.say.ensures.own c.say.ensures.idle.0
-
-pub returns-clause-goes_on : goal.returns-clause-goes_on
-returns-clause-goes_on c = went_on c.args.cat.now c.args.retailer.0 c.args.now (ordered c.args.cat.now c.args.now c.args.command.now) _ _ _ c.requires.own.legal c.say.ensures.said
-
-pub returns-in-Err-clause-answer : goal.returns-in-Err-clause-answer
-returns-in-Err-clause-answer c =
-    told_so c.args.cat.now c.args.retailer.0 c.args.now c.args.last (ordered c.args.cat.now c.args.now c.args.command.now) _ _ _ _ c.requires.own.legal c.in-Err.ensures.said
-    c.problem_answer.ensures.bytes
-
-pub returns-in-Err-clause-no_item : goal.returns-in-Err-clause-no_item
-returns-in-Err-clause-no_item c = makes_empty c.args.books.now _ c.say.ensures.own c.say.ensures.idle.0
-
-pub returns-in-Err-clause-goes_on : goal.returns-in-Err-clause-goes_on
-returns-in-Err-clause-goes_on c = went_on c.args.cat.now c.args.retailer.0 c.args.now (ordered c.args.cat.now c.args.now c.args.command.now) _ _ _ c.requires.own.legal c.say.ensures.said
-
-pub returns-in-Counts-clause-answer : goal.returns-in-Counts-clause-answer
-returns-in-Counts-clause-answer c =
-    told_so c.args.cat.now c.args.retailer.0 c.args.now c.args.last (ordered c.args.cat.now c.args.now c.args.command.now) _ _ _ _ c.requires.own.legal c.in-Ok.ensures.said
-    (search rules)
-
-pub returns-in-Counts-clause-no_item : goal.returns-in-Counts-clause-no_item
-returns-in-Counts-clause-no_item c = makes_empty c.args.books.now _ c.say.ensures.own c.say.ensures.idle.0
-
-pub returns-in-Counts-clause-goes_on : goal.returns-in-Counts-clause-goes_on
-returns-in-Counts-clause-goes_on c = went_on c.args.cat.now c.args.retailer.0 c.args.now (ordered c.args.cat.now c.args.now c.args.command.now) _ _ _ c.requires.own.legal c.say.ensures.said
+pub returns-clause-tidy : goal.returns-clause-tidy
+returns-clause-tidy c = c.answer_command.ensures.home.tidy

@@ -9,10 +9,15 @@ use Rattle.reservation_service.proofs.booking.make_ready.Goals as goal
 pub created_answer-requires : goal.created_answer-requires
 created_answer-requires c =
     let did = c.place_segments in
-    record { id = generation_of_hold c.args.shop.now.books.now did.new.desk did.new.hold did.ensures.own did.ensures.hold }
+    record { id = generation_of_hold c.args.shop.now.books.now did.new.desk did.new.hold did.ensures.out.out.own did.ensures.out.out.held }
 
-pub returns-clause-endings : goal.returns-clause-endings
-returns-clause-endings c = endings_then c.args.desk.now c.place_segments.new.desk c.note_detail.new.desk c.place_segments.ensures.endings c.note_detail.ensures.endings
+pub returns-clause-out : goal.returns-clause-out
+returns-clause-out c =
+    let noted = c.note_detail.ensures in
+    record {
+      out = record { own = noted.own; held = noted.hold };
+      endings = endings_then c.args.desk.now c.place_segments.new.desk c.note_detail.new.desk c.place_segments.ensures.out.endings noted.endings;
+    }
 
 pub returns-clause-sealable : goal.returns-clause-sealable
 returns-clause-sealable c =

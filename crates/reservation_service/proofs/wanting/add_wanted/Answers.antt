@@ -2,21 +2,20 @@ use Rattle.std.proofs.Common.{◌≡◌, ℕ, ◌+◌, ◌<◌, true, false, Lis
 use Rattle.rail_ids.specs.declared.PlaceNo.{PlaceNo}
 use Rattle.place_map.specs.declared.coach.Place.{Place}
 use Rattle.place_map.specs.ByClass.{has_traits}
-use Rattle.claim_rule.proofs.Out.{endings_same, endings_then}
+use Rattle.claim_rule.proofs.Out.{endings_same}
 use Rattle.hold_core.specs.declared.tries.Outcome.TheVariants.{Won, Refused, Contended}
 use Rattle.hold_core.proofs.Adding.{TriedSettled, tried_none, tried_last, has_room}
+use Rattle.reservation_service.proofs.Outs.{out_then}
 use Rattle.reservation_service.proofs.WantedTries.{passing, passing_at, wanted_next, wanted_same, tried_so, let_be_so, wanted_won, wanted_contended}
 use Rattle.reservation_service.proofs.wanting.add_wanted.Goals as goal
 use Rattle.reservation_service.proofs.wanting.add_wanted.Goals.{in-None, in-Some-Refused, in-Some-Won+else-won-count}
 
 pub loop-place-init : goal.loop-place-init
 loop-place-init c = record {
-  own = c.requires.own;
-  hold = c.requires.hold;
+  out = record { out = c.requires.out; endings = endings_same c.args.desk.now };
   noted = λ on. on;
-  endings = endings_same c.args.desk.now;
   few = c.requires.some;
-  tried = tried_none c.args.desk.now c.args.hold.now c.args.wanted.now.span c.requires.own.legal;
+  tried = tried_none c.args.desk.now c.args.hold.now c.args.wanted.now.span c.requires.out.own.legal;
 }
 
 pub try_wanted-requires-clause-room : goal.try_wanted-requires-clause-room
@@ -41,9 +40,8 @@ returns-in-Some-Contended-clause-entries c =
     (tried_last c.args.desk.now x.desk t.new.desk c.args.hold.now x.hold t.new.hold c.args.wanted.now.span (passing passes (take x.place-index all)) p.0 x.won Contended x.invariant.tried did.1)
     x.invariant.few (passing_at passes all x.place-index d c.loop-place-test.true has)
 
-pub returns-in-Some-Contended-clause-endings : goal.returns-in-Some-Contended-clause-endings
-returns-in-Some-Contended-clause-endings c =
-    endings_then c.args.desk.now c.loop-place.desk c.try_wanted.new.desk c.loop-place.invariant.endings c.try_wanted.ensures.endings
+pub returns-in-Some-Contended-clause-out : goal.returns-in-Some-Contended-clause-out
+returns-in-Some-Contended-clause-out c = out_then _ _ _ _ _ _ c.loop-place.invariant.out c.try_wanted.ensures.out
 
 pub returns-then-won-count-clause-entries : goal.returns-then-won-count-clause-entries
 returns-then-won-count-clause-entries c =
@@ -62,9 +60,8 @@ returns-then-won-count-clause-entries c =
     (tried_last c.args.desk.now x.desk t.new.desk c.args.hold.now x.hold t.new.hold c.args.wanted.now.span (passing passes (take x.place-index all)) p.0 x.won Won x.invariant.tried did.1)
     c.if-won-count.true (passing_at passes all x.place-index d c.loop-place-test.true has)
 
-pub returns-then-won-count-clause-endings : goal.returns-then-won-count-clause-endings
-returns-then-won-count-clause-endings c =
-    endings_then c.args.desk.now c.loop-place.desk c.try_wanted.new.desk c.loop-place.invariant.endings c.try_wanted.ensures.endings
+pub returns-then-won-count-clause-out : goal.returns-then-won-count-clause-out
+returns-then-won-count-clause-out c = out_then _ _ _ _ _ _ c.loop-place.invariant.out c.try_wanted.ensures.out
 
 -- the count that is reached only at the end
 below : (won count : ℕ) → won < count → (won + 1 ≡ count → ⊥) → won + 1 < count
@@ -84,16 +81,14 @@ loop-place-preserved c =
     let p : PlaceNo = get_or all x.place-index d in
     let are = c.all-places.ensures.places ∙ c.places.ensures.value in
     let now = λ (n : ℕ). TriedSettled c.args.desk.now t.new.desk c.args.hold.now t.new.hold span (passing passes (take (x.place-index + 1) all)) n in
-    let endings = endings_then c.args.desk.now x.desk t.new.desk i.endings t.ensures.endings in
+    let out = out_then _ _ _ _ _ _ i.out t.ensures.out in
     elim c.match-try_wanted.branch [
       | in-None w ↦
           let be = let_be_so t.result _ t.ensures.let_be w.in-None.is in
           let not = subst (λ (l : List Place). has_traits traits l p ≡ false) are be.0 in
           record {
-            own = t.ensures.own;
-            hold = t.ensures.hold;
+            out = out;
             noted = λ on. t.ensures.noted (i.noted on);
-            endings = endings;
             few = subst (λ (k : ℕ). k < count) (sym w.won-is) i.few;
             tried = subst now (sym w.won-is)
                 (wanted_same passes c.args.desk.now x.desk t.new.desk c.args.hold.now x.hold t.new.hold span all x.place-index d x.won c.loop-place-test.true i.tried not be.1 be.2);
@@ -102,10 +97,8 @@ loop-place-preserved c =
           let did = tried_so t.result Refused _ t.ensures.tried (w.in-Some-Refused.is ∙ ap Some w.in-Some-Refused.field-0-is) in
           let has = subst (λ (l : List Place). has_traits traits l p ≡ true) are did.0 in
           record {
-            own = t.ensures.own;
-            hold = t.ensures.hold;
+            out = out;
             noted = λ on. t.ensures.noted (i.noted on);
-            endings = endings;
             few = subst (λ (k : ℕ). k < count) (sym w.won-is) i.few;
             tried = subst now (add-zero x.won ∙ sym w.won-is)
                 (wanted_next passes c.args.desk.now x.desk t.new.desk c.args.hold.now x.hold t.new.hold span all x.place-index d x.won Refused c.loop-place-test.true i.tried (λ e. cc) has did.1);
@@ -114,10 +107,8 @@ loop-place-preserved c =
           let did = tried_so t.result Won _ t.ensures.tried (w.in-Some-Won.is ∙ ap Some w.in-Some-Won.field-0-is) in
           let has = subst (λ (l : List Place). has_traits traits l p ≡ true) are did.0 in
           record {
-            own = t.ensures.own;
-            hold = t.ensures.hold;
+            out = out;
             noted = λ on. t.ensures.noted (i.noted on);
-            endings = endings;
             few = subst (λ (k : ℕ). k < count) (sym w.won-is) (below x.won count i.few w.if-won-count.false);
             tried = subst now (sym w.won-is)
                 (wanted_next passes c.args.desk.now x.desk t.new.desk c.args.hold.now x.hold t.new.hold span all x.place-index d x.won Won c.loop-place-test.true i.tried (λ e. cc) has did.1);

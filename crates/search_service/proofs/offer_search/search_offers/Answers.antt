@@ -1,9 +1,9 @@
 use Rattle.std.proofs.Common.{sym}
 use Rattle.trip_builder.specs.Trips.{trips_of}
 use Rattle.offer_engine.specs.Offers.{raised}
-use Rattle.claim_rule.proofs.Out.{still_idle}
+use Rattle.shop.proofs.Homes.{stays}
 use Rattle.search_service.proofs.Spellings.{trips_spelled, offers_writable}
-use Rattle.search_service.proofs.Answers.{search_begun, searched_untold}
+use Rattle.search_service.proofs.Answers.{search_begun, searched}
 use Rattle.search_service.proofs.offer_search.search_offers.Goals as goal
 
 pub returns-in_default-clause-answer : goal.returns-in_default-clause-answer
@@ -16,13 +16,13 @@ offer_answer-requires c = record {
 }
 
 pub returns-clause-answer : goal.returns-clause-answer
-returns-clause-answer c = searched_untold c.args.shop.now.cat.now c.args.wish.now c.args.now c.in-Ok.found.items c.args.desk.now c.offers.new.desk c.in-Ok.ensures.entries
+returns-clause-answer c =
+    let said = c.offer_answer.ensures in
+    searched c.args.shop.now.cat.now c.args.wish.now c.args.now c.in-Ok.found.items c.args.desk.now c.offers.new.desk c.offer_answer.result c.in-Ok.ensures.entries
+    (rw (sym c.as_slice.ensures.value) said.told) said.untold
 
-pub returns-in_default-clause-idle : goal.returns-in_default-clause-idle
-returns-in_default-clause-idle c = still_idle c.args.desk.now c.offers.new.desk c.offers.ensures.holds c.offers.ensures.endings c.requires.idle
+pub returns-in_default-clause-home : goal.returns-in_default-clause-home
+returns-in_default-clause-home c = let did = c.offers.ensures in stays _ _ _ did.own did.holds did.endings did.tidy c.requires.home
 
-pub returns-in-Some-clause-idle : goal.returns-in-Some-clause-idle
-returns-in-Some-clause-idle c = still_idle c.args.desk.now c.offers.new.desk c.offers.ensures.holds c.offers.ensures.endings c.requires.idle
-
-pub returns-clause-idle : goal.returns-clause-idle
-returns-clause-idle c = still_idle c.args.desk.now c.offers.new.desk c.offers.ensures.holds c.offers.ensures.endings c.requires.idle
+pub returns-clause-home : goal.returns-clause-home
+returns-clause-home c = let did = c.offers.ensures in stays _ _ _ did.own did.holds did.endings did.tidy c.requires.home

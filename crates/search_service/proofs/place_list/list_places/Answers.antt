@@ -1,12 +1,12 @@
-use Rattle.std.proofs.Common.{◌≡◌, ◌∙◌, ◌==◌, ℕ, List, length, refl, ap}
+use Rattle.std.proofs.Common.{◌≡◌, ◌∙◌, ◌==◌, ℕ, List, length, refl, sym, ap}
 use Rattle.rail_ids.specs.declared.PlaceNo.{PlaceNo}
 use Rattle.rail_catalogue.specs.Contents.{CatalogueView}
 use Rattle.place_map.specs.declared.coach.Place.{Place}
 use Rattle.place_map.specs.Candidates.{numbers_of}
-use Rattle.claim_rule.proofs.Out.{still_idle}
+use Rattle.shop.proofs.Homes.{stays}
 use Rattle.search_service.specs.Searching.{numbers_on}
 use Rattle.search_service.proofs.Numbers.{of_books, one_each}
-use Rattle.search_service.proofs.Answers.{listed_untold, unlisted}
+use Rattle.search_service.proofs.Answers.{listed, unlisted}
 use Rattle.search_service.proofs.place_list.list_places.Goals as goal
 
 -- the numbers that were looked at are those of the run's places
@@ -18,7 +18,7 @@ returns-in_default-clause-answer c = unlisted c.args.shop.now.cat.now c.args.seg
 
 pub place_states-requires-clause-places : goal.place_states-requires-clause-places
 place_states-requires-clause-places c =
-    of_books c.args.shop.now.cat.now c.args.segment.run.0 c.args.shop.now.books.now.layout.legs c.as_slice.result.now c.requires.legs
+    of_books c.args.shop.now.cat.now c.args.segment.run.0 c.args.shop.now.books.now.layout.legs c.as_slice.result.now c.args.shop.now.legs
     (are_numbers c.args.shop.now.cat.now c.args.segment.run.0 c.places.result.now c.in-Ok.numbers.items c.as_slice.result.now c.as_slice.ensures.value c.in-Ok.ensures.numbers c.places.ensures.value)
 
 pub returns-in_default-place_states-clause-answer :
@@ -33,14 +33,16 @@ place_answer-requires c = record {
 
 pub returns-clause-answer : goal.returns-clause-answer
 returns-clause-answer c =
-    listed_untold c.args.shop.now.cat.now c.args.segment c.as_slice.result.now c.in-Ok-place_states.free.items c.args.desk.now c.place_states.new.desk
+    listed c.args.shop.now.cat.now c.args.segment c.as_slice.result.now c.in-Ok-place_states.free.items c.args.desk.now c.place_states.new.desk c.place_answer.result
     (are_numbers c.args.shop.now.cat.now c.args.segment.run.0 c.places.result.now c.in-Ok.numbers.items c.as_slice.result.now c.as_slice.ensures.value c.in-Ok.ensures.numbers c.places.ensures.value) c.in-Ok-place_states.ensures.entries
+    (rw (sym c.as_slice-2.ensures.value) c.place_answer.ensures.told) c.place_answer.ensures.untold
 
-pub returns-in_default-place_states-clause-idle : goal.returns-in_default-place_states-clause-idle
-returns-in_default-place_states-clause-idle c = still_idle c.args.desk.now c.place_states.new.desk c.place_states.ensures.holds c.place_states.ensures.endings c.requires.idle
+pub returns-in_default-place_states-clause-home : goal.returns-in_default-place_states-clause-home
+returns-in_default-place_states-clause-home c = let did = c.place_states.ensures in stays _ _ _ did.own did.holds did.endings did.tidy c.requires.home
 
-pub returns-in-Some-clause-idle : goal.returns-in-Some-clause-idle
-returns-in-Some-clause-idle c = still_idle c.args.desk.now c.place_states.new.desk c.place_states.ensures.holds c.place_states.ensures.endings c.requires.idle
+pub returns-clause-home : goal.returns-clause-home
+returns-clause-home c = let did = c.place_states.ensures in stays _ _ _ did.own did.holds did.endings did.tidy c.requires.home
 
-pub returns-clause-idle : goal.returns-clause-idle
-returns-clause-idle c = still_idle c.args.desk.now c.place_states.new.desk c.place_states.ensures.holds c.place_states.ensures.endings c.requires.idle
+-- no place was looked at
+pub returns-in_default-clause-home : goal.returns-in_default-clause-home
+returns-in_default-clause-home c = record { home = c.requires.home; tidy = λ tidy. tidy }

@@ -21,7 +21,7 @@ pub exchanged_answer-requires : goal.exchanged_answer-requires
 exchanged_answer-requires c =
     let view = c.new_view-view.ensures.view ∙ ap (λ (l : List Item). made_view phase.Confirmed c.args.detail l) c.items.ensures.items in
     record {
-      ids = exchanged_ids c.args.shop.now.books.now c.args.desk.now c.args.hold c.args.ready c.row.result c.args.code.now.row c.new_view-view.result c.args.detail c.args.hold.items c.requires.own c.requires.hold c.requires.ready
+      ids = exchanged_ids c.args.shop.now.books.now c.args.desk.now c.args.hold c.args.ready c.row.result c.args.code.now.row c.new_view-view.result c.args.detail c.args.hold.items c.requires.out.own c.requires.out.held c.requires.ready
           c.row.ensures (sym (ap (λ (x : ExchangeView). x.row) c.requires.same)) view;
     }
 
@@ -59,13 +59,16 @@ returns-in-WrongState-clause-answer c = (
   subst (λ (p : Problem). refused p ≡ reply_told c.args.shop.now.cat.now (problem (lost_problem c.in-WrongState.shown))) (sym c.lost_problem.ensures.problem) (of_problem c.args.shop.now.cat.now (lost_problem c.in-WrongState.shown)),
 )
 
--- no ending is out
-
-pub returns-in_default-clause-none : goal.returns-in_default-clause-none
-returns-in_default-clause-none c = c.abandon.ensures.endings.none c.requires.none
-
 pub accept_exchange-requires-clause-none : goal.accept_exchange-requires-clause-none
 accept_exchange-requires-clause-none c = c.note_detail.ensures.endings.none c.requires.none
 
-pub returns-in-WrongState-clause-none : goal.returns-in-WrongState-clause-none
-returns-in-WrongState-clause-none c = c.abandon-in-WrongState.ensures.endings.none c.accept_exchange.ensures.none
+-- nothing is out
+
+pub returns-in_default-clause-home : goal.returns-in_default-clause-home
+returns-in_default-clause-home c = let gave = c.abandon.ensures in record { own = gave.own; idle = (gave.none, gave.endings.none c.requires.none) }
+
+pub returns-in-Done-clause-home : goal.returns-in-Done-clause-home
+returns-in-Done-clause-home c = let did = c.accept_exchange.ensures in record { own = did.own; idle = (c.in-Done.ensures.holds_none, did.none) }
+
+pub returns-in-WrongState-clause-home : goal.returns-in-WrongState-clause-home
+returns-in-WrongState-clause-home c = let gave = c.abandon-in-WrongState.ensures in record { own = gave.own; idle = (gave.none, gave.endings.none c.accept_exchange.ensures.none) }

@@ -1,7 +1,12 @@
 use Rattle.std.proofs.Common.{◌∙◌}
 use Rattle.std.proofs.lemmas.Option.{IfSome_then}
+use Rattle.shop.proofs.Oks.{ok_if, err_is}
+use Rattle.osdm_texts.specs.declared.problem.Problem.TheVariants.{NoMemory}
 use Rattle.osdm_texts.proofs.Telling.{of_exchange}
 use Rattle.trade_service.proofs.exchanges.exchange_offer_answer.Goals as goal
 
 pub returns : goal.returns
-returns c = record { told = IfSome_then c.write_reply.result c.write_reply.ensures.told (λ written e. e ∙ of_exchange c.args.shop.now.cat.now c.args.code) }
+returns c = record {
+  told = ok_if c.write_reply.result NoMemory _ c.ok_or.result c.ok_or.ensures.value (IfSome_then c.write_reply.result c.write_reply.ensures.told (λ written e. e ∙ of_exchange c.args.shop.now.cat.now c.args.code));
+  untold = err_is c.write_reply.result NoMemory c.ok_or.result c.ok_or.ensures.value;
+}

@@ -1,9 +1,0 @@
-use Rattle.std.proofs.Common.{◌≤◌, length}
-use Rattle.std.proofs.lemmas.List.Elements.{All-weaker}
-use Rattle.train_runs.specs.Stops.{IsRun, most_stops}
-use Rattle.search_service.proofs.ranges.know_stops_by.Goals as goal
-
-pub returns : goal.returns
-returns g c = record {
-  stops = All-weaker (IsRun (length c.args.runs.now.stations)) (λ it. length it.stops ≤ most_stops) (λ it run. run.many) c.args.runs.now.runs c.departures_within-any.ensures.sound;
-}
