@@ -42,7 +42,8 @@ abbrev pub Prebooks : CatalogueView → ℕ → ℕ → OfferView → Bool → D
 Prebooks cat retailer now o together old new reply =
     (row : RowNo) × (items : List Item) × (mid : DeskView)
     × HoldsPlaces cat o together o.segments row Whole items old mid
-    × AddsSteps mid new (detail_notes row.row (detail_of cat o retailer now) (length items) ++ Seal row.row phase.Prebooked
+    × AddsSteps mid new (detail_notes row.row (detail_of cat o retailer now) (length items)
+    ++ Seal row.row phase.Prebooked
     ∷ [])
     × (reply ≡ created row (made_view phase.Prebooked (detail_of cat o retailer now) items))
 

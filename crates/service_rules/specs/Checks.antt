@@ -51,7 +51,8 @@ exchange_checked cat now row None = Err UnknownOffer
 exchange_checked cat now row (Some c) = checked (is_of_row row c.row && is_quoted cat c) c.made now c
 
 -- what is ordered by what was checked
-abbrev pub and_then : {A : Type 0} → Result A Problem → (A → Result order.Ordered Problem) → Result order.Ordered Problem
+abbrev pub and_then : {A : Type 0} → Result A Problem → (A → Result order.Ordered Problem)
+    → Result order.Ordered Problem
 and_then (Err p) next = Err p
 and_then (Ok a) next = next a
 
@@ -73,7 +74,8 @@ ordered cat now (command.Release row) = and_then (row_checked row) (λ r. Ok (or
 ordered cat now (command.Confirm row) = and_then (row_checked row) (λ r. Ok (order.confirm r))
 ordered cat now (command.Fulfil row) = and_then (row_checked row) (λ r. Ok (order.fulfil r))
 ordered cat now (command.QuoteRefund row) = and_then (row_checked row) (λ r. Ok (order.quote_refund r))
-ordered cat now (command.AcceptRefund row code) = and_then (refund_checked now row code) (λ c. Ok (order.accept_refund c))
+ordered cat now (command.AcceptRefund row code) =
+    and_then (refund_checked now row code) (λ c. Ok (order.accept_refund c))
 ordered cat now (command.QuoteExchange row offer) =
     and_then (offer_checked cat now offer) (λ c. and_then (row_checked row) (λ r. Ok (order.quote_exchange r c)))
 ordered cat now (command.AcceptExchange row code) =

@@ -39,7 +39,8 @@ IsExchangeQuote (quoted.WrongState shown) reply = reply ≡ problem (WrongState 
 
 abbrev pub AnswersExchangeQuote : CatalogueView → ℕ → RowNo → ℕ → OfferView → ℕ → Replying
 AnswersExchangeQuote cat rows row retailer offer now old new reply =
-    (a : QuotedExchange) × AddsStepsBy (QuotesExchange cat rows row retailer offer now a) old new × IsExchangeQuote a reply
+    (a : QuotedExchange) × AddsStepsBy (QuotesExchange cat rows row retailer offer now a) old new
+    × IsExchangeQuote a reply
 
 -- why a quote isn't carried out
 abbrev pub IsUnready : Readied → Problem → Type 0
@@ -102,5 +103,6 @@ AnswersReady cat ready old new said =
 -- the same of the whole command
 abbrev pub AnswersExchange : CatalogueView → ℕ → ℕ → ExchangeView → ℕ → DeskView → DeskView → Told → Type 0
 AnswersExchange cat rows retailer code now old new said =
-    (reply : Reply) × AnswersAcceptedExchange cat rows retailer code now old new reply × HasAllOrNone cat code.offer old new reply
+    (reply : Reply) × AnswersAcceptedExchange cat rows retailer code now old new reply
+    × HasAllOrNone cat code.offer old new reply
     × (said ≡ reply_told cat reply)

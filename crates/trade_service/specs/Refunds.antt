@@ -47,4 +47,5 @@ refund_reply code now v a =
 
 abbrev pub RefundsFound : CatalogueView → ℕ → ℕ → RefundCode → ℕ → RowSeen → Replying
 RefundsFound cat rows retailer code now v old new reply =
-    (a : Refunded) × AddsStepsBy (AcceptsRefund cat rows retailer code now a) old new × (reply ≡ refund_reply code now v a)
+    (a : Refunded) × AddsStepsBy (AcceptsRefund cat rows retailer code now a) old new
+    × (reply ≡ refund_reply code now v a)
