@@ -13,12 +13,12 @@ ghost use Rattle.worker_pool.specs.Turns.{KeepsDesk};
 ghost use Rattle.host_serve.specs.declared.shared_listener.ListenerEnd.TheVariants as ended;
 ghost use Rattle.host_serve.specs.Crews.{IsCrew, IsFirst, HasRun};
 ghost use Rattle.host_serve.specs.Over.{EndsOver};
-ghost use Rattle.host_serve.specs.Serve.{BooksEnd};
+ghost use Rattle.host_serve.specs.Serve.{BooksEnd, left_by};
 ghost use Rattle.host_serve.specs.Turns.{HasCatalogue, Asks, Chain, Connection};
 
 use crate::crew::crew_of;
 use crate::draining::drain_listener;
-use crate::end::ServeOutcome;
+use crate::end::BooksOutcome;
 use crate::giving::Gives;
 use crate::letting::Dropping;
 use crate::meeting::meet_others;
@@ -37,9 +37,9 @@ use std::sync::{Mutex, OnceLock, Wait};
 use std::thread::Threads;
 use worker_pool::{Member, Open, run_workers};
 
-/// How serving ended, and what is left of it.
-pub struct ServeRun<L> {
-    pub outcome: ServeOutcome,
+/// How it ended, and what is left of it.
+pub struct Run<O, L> {
+    pub outcome: O,
     pub listener: L,
     pub wall: Option<Wall>,
 }
@@ -143,7 +143,7 @@ pub fn run_books<
     ticker: T,
     clocks: Vec<C>,
     blank: Blank,
-) -> ServeRun<L>
+) -> Run<BooksOutcome, L>
 where
     L::Input: Send,
     L::Output: Send,
@@ -162,13 +162,14 @@ where
     requires over { EndsOver L.told L.faults L.becomes N.limit N.faults N.over listener }
     requires workers { 1 ≤ said.workers }
     ensures never_falls { L.faults listener ≤ L.faults result.listener }
-    ensures ends { BooksEnd cat.now books.layout said (map C.told clocks.items) (Asks T.ticked ticker)
-        (IsGiven N.gives) (L.faults listener) (L.faults result.listener) (L.told result.listener)
-        result.wall result.outcome }
+    ensures ends { BooksEnd cat.now books.layout said
+        (record (left_by L.told L.faults L.becomes L.hands (map C.told clocks.items) (Asks T.ticked ticker)
+        listener result.listener result.wall) { hands = IsGiven N.gives })
+        result.outcome }
 {
     let Ok(crew) = Vec::with_capacity(alloc, said.workers as usize + 1) else {
-        return ServeRun {
-            outcome: ServeOutcome::NoMemory,
+        return Run {
+            outcome: BooksOutcome::NoMemory,
             listener,
             wall: None,
         };
@@ -201,11 +202,11 @@ where
         &mut clock,
     );
     books.meet(&mut first, desk);
-    ServeRun {
+    Run {
         outcome: if all {
-            ServeOutcome::Served
+            BooksOutcome::Served
         } else {
-            ServeOutcome::AcceptFailed
+            BooksOutcome::AcceptFailed
         },
         listener,
         wall: Some(close(books, first)),

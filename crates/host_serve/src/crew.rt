@@ -45,8 +45,8 @@ pub fn crew_of<'s, R: Wait, L: Listener + Drop, N: Named, T: Ticker + Drop, C: C
     requires room { said.workers + 1 ≤ vec_capacity crew }
     ensures first { IsFirst books.now (length result.items) first.new }
     ensures crew { IsCrew FitsBooks books.now result.items }
-    ensures ready { AreReady result.items (λ s. s.share.amount) C.told common.entry.cat.now said ticker
-        (map C.told clocks.items) }
+    ensures ready { AreReady result.items (λ s. s.share.amount) C.told
+        (record { cat = common.entry.cat.now; said = said; ticker = ticker; clocks = map C.told clocks.items }) }
     ensures parts { share.new.parts ≡ 0 }
     ensures nothing { share.new.amount ≡ 0 }
     ensures count { length result.items ≡ said.workers + 1 }

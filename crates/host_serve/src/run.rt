@@ -21,7 +21,7 @@ ghost use Rattle.host_serve.specs.Turns.{Asks, HasCatalogue};
 ghost use Rattle.host_serve.specs.declared.end.ServeOutcome.{ServeOutcome};
 ghost use Rattle.host_serve.specs.declared.end.ServeOutcome.TheVariants as outcome;
 
-use crate::books::{ServeRun, run_books};
+use crate::books::{Run, run_books};
 use crate::end::{ServeEnd, ServeOutcome, command_end};
 use crate::export::write_export;
 use claim_rule::{Books, Desk};
@@ -59,12 +59,12 @@ fn open<F: Shelf>(
 }
 
 /// A run that has ended without books.
-fn without_books<L>(outcome: ServeOutcome, listener: L) -> ServeRun<L>
+fn without_books<L>(outcome: ServeOutcome, listener: L) -> Run<ServeOutcome, L>
     ensures outcome { result.outcome ≡ outcome }
     ensures listener { result.listener ≡ listener }
     ensures wall { result.wall ≡ None }
 {
-    ServeRun {
+    Run {
         outcome,
         listener,
         wall: None,
@@ -86,7 +86,7 @@ fn listen_and_run<
     mut listener: L,
     ticker: T,
     clocks: Vec<C>,
-) -> ServeRun<L>
+) -> Run<ServeOutcome, L>
 where
     L::Input: Send,
     L::Output: Send,
@@ -111,7 +111,7 @@ where
     if let Bound::Failed = listener.bind(said.numbers.port) {
         return without_books(ServeOutcome::NotBound, listener);
     }
-    run_books::<Brand, R, L, T, C>(
+    let run = run_books::<Brand, R, L, T, C>(
         rt,
         alloc,
         &cat,
@@ -122,7 +122,17 @@ where
         ticker,
         clocks,
         Blank::new(said.numbers.workers as u64),
-    )
+    );
+    let Run {
+        outcome,
+        listener,
+        wall,
+    } = run;
+    Run {
+        outcome: outcome.outcome(),
+        listener,
+        wall,
+    }
 }
 
 /// What the words of `serve` say.
@@ -155,7 +165,7 @@ fn run_by_words<
     ticker: T,
     clocks: Vec<C>,
     notes: &mut E,
-) -> ServeRun<L>
+) -> Run<ServeOutcome, L>
 where
     L::Input: Send,
     L::Output: Send,
@@ -189,12 +199,12 @@ where
     if !said.export {
         return run;
     }
-    let ServeRun {
+    let Run {
         outcome,
         listener,
         wall,
     } = run;
-    ServeRun {
+    Run {
         outcome: write_export(alloc, &wall, notes, outcome),
         listener,
         wall,
@@ -312,7 +322,7 @@ where
     ensures steady { (result.status ≡ 3 → ⊥) → L.faults result.listener ≡ L.faults listener }
     ensures files { F.told shelf.new ≡ F.told shelf.old }
 {
-    let ServeRun {
+    let Run {
         outcome,
         listener,
         wall,

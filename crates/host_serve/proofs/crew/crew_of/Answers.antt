@@ -15,7 +15,7 @@ loop-number-init g c =
     record {
       first = subst (λ l. IsFirst books (length l) c.args.first.now) (sym nobody) c.requires.first;
       crew = subst (λ l. IsCrew FitsBooks books l) (sym nobody) (λ i none lt. absurd (omega (arith, lt)));
-      ready = subst (λ l. AreReady l (λ s. s.share.amount) told c.args.common.cat.now c.args.said c.args.ticker (map told clocks)) (sym nobody)
+      ready = subst (λ l. AreReady l (λ s. s.share.amount) told (record { cat = c.args.common.cat.now; said = c.args.said; ticker = c.args.ticker; clocks = map told clocks })) (sym nobody)
           (λ i none lt. absurd (omega (arith, lt)));
       parts = omega (arith, c.requires.parts);
       nothing = c.requires.nothing;
@@ -49,7 +49,7 @@ loop-number-preserved g c =
             fits = c.requires.has;
             desk = parted_desk books n c.loop-number.first c.part.new.desk c.part.result inv.first part.parted part.new.0 part.own.1 part.tidy;
           }));
-      ready = ready_more (λ s. s.share.amount) told c.args.common.cat.now c.args.said c.args.ticker (map told clocks) _ crew _ items inv.ready (record {
+      ready = ready_more (λ s. s.share.amount) told _ _ crew _ items inv.ready (record {
         post = (omega (arith, inv.count, c.loop-number-test.true), refl);
         clock = popped_clock told clocks c.pop.new.self.items c.unwrap.result n front (omega (arith, inv.left, inv.count, popped));
         unserved = c.split_off.ensures.amount;
@@ -98,7 +98,7 @@ returns-clause-ready g c =
     let whole : c.loop-number.clocks.items ≡ c.pop-2.new.self.items ++ c.unwrap-2.result ∷ [] = search rules in
     let popped : length c.loop-number.clocks.items ≡ length c.pop-2.new.self.items + 1 = ap length whole ∙ length-append c.pop-2.new.self.items _ in
     let front = subst (λ l. IsPrefix l clocks) whole inv.front in
-    ready_more (λ s. s.share.amount) told c.args.common.cat.now c.args.said c.args.ticker (map told clocks) _ crew _ c.push_reserved-2.ensures.items inv.ready (record {
+    ready_more (λ s. s.share.amount) told _ _ crew _ c.push_reserved-2.ensures.items inv.ready (record {
       post = (at, refl, refl);
       clock = popped_clock told clocks c.pop-2.new.self.items c.unwrap-2.result (length crew) front (omega (arith, inv.left, inv.count, popped));
       unserved = refl;

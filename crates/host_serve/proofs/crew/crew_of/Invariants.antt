@@ -8,7 +8,7 @@ abbrev pub invariant-loop-number : goal.invariant-loop-number
 invariant-loop-number g l = record {
   first : IsFirst l.books (length l.crew.items) l.first;
   crew : IsCrew FitsBooks l.books l.crew.items;
-  ready : AreReady l.crew.items (λ s. s.share.amount) g.C.Clock.told l.common.cat.now l.said l.ticker (map g.C.Clock.told l.fn.clocks.items);
+  ready : AreReady l.crew.items (λ s. s.share.amount) g.C.Clock.told (record { cat = l.common.cat.now; said = l.said; ticker = l.ticker; clocks = map g.C.Clock.told l.fn.clocks.items });
   parts : l.share.parts + l._number ≡ l.said.workers;
   nothing : l.share.amount ≡ 0;
   count : length l.crew.items ≡ l._number;
