@@ -31,7 +31,7 @@ leads_on : (Does : OneTurn) (a : Stand) (l : List Stand) (b : Stand) (m : List S
 leads_on Does a [] b m c p q = subst (λ (s : Stand). Leads Does s m c) p q
 leads_on Does a (next ∷ l) b m c p q = (p.0, leads_on Does next l b m c p.1 q)
 
--- a chain behind another
+-- a chain after another
 pub chain_on : (Does : OneTurn) (k n : ℕ) (a b c : Stand) → Chain Does k a b → Chain Does n b c → Chain Does (k + n) a c
 chain_on Does k n a b c p q =
     let many : length (p.stands ++ q.stands) ≡ length p.stands + length q.stands = length-append p.stands q.stands in

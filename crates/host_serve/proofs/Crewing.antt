@@ -29,7 +29,7 @@ begins a b c p q = (p.0 ++ q.0, sym (append_assoc a p.0 q.0) ∙ (ap (λ l. l ++
 pub shorter : {A : Type 0} (all rest : List A) (last : A) → IsPrefix (rest ++ last ∷ []) all → IsPrefix rest all
 shorter all rest last front = (last ∷ front.0, sym (append_assoc rest (last ∷ []) front.0) ∙ front.1)
 
--- the clock of the member at place i is the one behind those that are left for later ones
+-- the clock of the member at place i is the one after those that are left for later ones
 pub popped_clock : {C : Type 0} (told : C → Readings) (all rest : List C) (c : C) (i : ℕ) → IsPrefix (rest ++ c ∷ []) all
     → length rest + (i + 1) ≡ length all → told c ≡ clock_for (map told all) i
 popped_clock {C} told all rest c i front count =

@@ -89,7 +89,7 @@ pub record HasGiven {W : Type 0} (has counts : W → ℕ) (crew : List (Member W
 abbrev pub HasIn : DeskView → ℕ → DeskView → Type 0
 HasIn first number desk = In number first.joined × (own first.seen number ≡ own desk.seen number) × IsPrefix desk.seen first.seen
 
--- the first desk has joined all members' desks behind the first `left`, and has done nothing else
+-- the first desk has joined all members' desks after the first `left`, and has done nothing else
 pub record HasMetAll {W : Type 0} (books : BooksView) (crew : List (Member W)) (left : ℕ) (desk : DeskView) : Type 0 where
   pub own : IsOf books desk
   pub tidy : IsTidy desk

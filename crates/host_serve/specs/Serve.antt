@@ -159,7 +159,7 @@ pub record IsUnbound (said : Serving) (faults_before faults_after : ℕ) (before
   pub rose : Rose faults_before faults_after
   pub only : after ≡ record before { limit = said.connections }
 
--- What the words ask for ended so. Where there are books, only a failed bind, and want of memory before any stream was
+-- What the words ask for ended so. Where there are books, only a failed bind, and no memory before any stream was
 -- handed out, hand back no wall.
 abbrev pub Ends : Files → ServeView → Left → ServeOutcome → Type 0
 Ends files said left end.Served = IsSpent said.numbers left.faults_before left.faults_after left.after × HasWall files said left

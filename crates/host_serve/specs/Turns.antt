@@ -16,6 +16,10 @@ use Rattle.host_serve.specs.declared.member.Post.TheVariants.{Serving, Sweeping}
 abbrev pub Readings : Type 0
 Readings = Option (ℕ → ℕ)
 
+-- how many clocks serving takes: for 16 members that serve, and for the one that sweeps
+abbrev pub clock_count : ℕ
+clock_count = 17
+
 -- of what the clocks told, the clock of the member at this place, from 0: the first member has the last one
 abbrev pub clock_for : List Readings → ℕ → Readings
 clock_for clocks i = slice_index_or clocks (length clocks - (i + 1)) None
@@ -56,12 +60,12 @@ abbrev pub ServesStream : CatalogueView → Option (List ℕ) → Option (List �
 ServesStream cat stream sent left after clock old later new =
     (end : ConnEnd) × ServesWhole cat (connection_at old clock stream sent) (connection_at new later left after) end
 
--- behind some calls of this listener, an accept of it handed out the stream
+-- after some calls of this listener, an accept of it handed out the stream
 abbrev pub HandedBy : {L : Type 0} → (L → L → Type 0) → HandingBy L → L → Handing
 HandedBy becomes hands listener = IsGiven (HandsOn becomes hands listener)
 
 -- what a call shows that lets go of a stream: the one that was called, what the stream's source and its sink told as it
--- was let go, and the one behind the call
+-- was let go, and the one after the call
 abbrev pub LettingGo : Type 0 → Type 1
 LettingGo S = S → Option (List ℕ) → Option (List ℕ) → S → Type 0
 

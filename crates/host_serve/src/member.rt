@@ -5,6 +5,7 @@ use crate::shared_listener::Named;
 use crate::streams::{LockedStreams, Streams};
 use crate::sweeping::Sweeper;
 use claim_rule::{Books, Desk};
+use host_words::Serving;
 use rail_catalogue::Catalogue;
 use rail_io::{Clock, Ticker};
 use rail_service::Listener;
@@ -13,11 +14,12 @@ use std::sync::Wait;
 use std::sync::ledger::Share;
 use worker_pool::{TurnEnd, Worker};
 
-/// What all serving members share.
+/// What all members share: memory, the catalogue, and the numbers of the words.
 #[derive(Clone, Copy)]
 pub struct Common<'s> {
     pub alloc: Global,
     pub cat: &'s Catalogue,
+    pub said: Serving,
 }
 
 /// A member's post: it serves, or it sweeps.
