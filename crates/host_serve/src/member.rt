@@ -72,11 +72,11 @@ impl<S: Streams, T: Ticker, C: Clock> Worker for Post<'_, S, T, C> {
     ghost ended = { λ w. HasEnded w };
 
     ghost does = { λ before old after new. DoesTurn (record {
-        told = C.told;
-        handed = S.handed;
-        hands = S.hands;
-        lets_go = S.lets_go;
-        ticked = T.ticked;
+      told = C.told;
+      handed = S.handed;
+      hands = S.hands;
+      lets_go = S.lets_go;
+      ticked = T.ticked;
     }) before old after new };
 
     fn turn(&mut self, books: &Books, desk: &mut Desk) -> TurnEnd {
