@@ -4,10 +4,10 @@ use Rattle.std.proofs.Common.{◌≡◌, ◌∙◌, ◌+◌, ◌<◌, ◌≤◌,
 use Rattle.std.proofs.lemmas.List.{length-append}
 use Rattle.claim_rule.specs.Rule.{DeskView}
 use Rattle.rail_catalogue.specs.Contents.{CatalogueView}
-use Rattle.rail_service.specs.Listeners.{Handing, HandingBy}
+use Rattle.rail_service.specs.Listeners.{Handing}
 use Rattle.worker_pool.specs.Turns.{GoesOn, RunsToEnd}
 use Rattle.host_words.specs.declared.serve.Serving.{Serving as Numbers}
-use Rattle.host_serve.specs.Turns.{Readings, ServesOne, ServesTurn, SweepsTurn, Stand, OneTurn, Connection, Sweep, Leads, Chain, Asks, Counts, Ticks, TickingBy, TicksUntil, SweepsOnce, Rests, HasEnded, DoesTurn, HasChain, HandedOut, IsPosted, LettingGo, Passes, Passing, handed_of, part_of, stand_of}
+use Rattle.host_serve.specs.Turns.{Readings, ServesOne, ServesTurn, SweepsTurn, Stand, OneTurn, Connection, Sweep, Leads, Chain, Asks, Counts, Ticks, TickingBy, TicksUntil, SweepsOnce, Rests, HasEnded, DoesTurn, HasChain, HandedOut, IsPosted, Means, Passes, Passing, handed_of, part_of, stand_of}
 use Rattle.host_serve.specs.declared.member.Post.{Post}
 use Rattle.host_serve.specs.declared.member.Post.TheVariants.{Serving, Sweeping}
 
@@ -31,7 +31,7 @@ leads_on : (Does : OneTurn) (a : Stand) (l : List Stand) (b : Stand) (m : List S
 leads_on Does a [] b m c p q = subst (λ (s : Stand). Leads Does s m c) p q
 leads_on Does a (next ∷ l) b m c p q = (p.0, leads_on Does next l b m c p.1 q)
 
--- a chain behind another
+-- a chain after another
 pub chain_on : (Does : OneTurn) (k n : ℕ) (a b c : Stand) → Chain Does k a b → Chain Does n b c → Chain Does (k + n) a c
 chain_on Does k n a b c p q =
     let many : length (p.stands ++ q.stands) ≡ length p.stands + length q.stands = length-append p.stands q.stands in
@@ -97,69 +97,69 @@ ticks_on {T} ticked seconds k (suc n) a b c p q =
     let at : suc (k + n) ≡ k + suc n = omega arith in
     subst (λ (m : ℕ). Ticks ticked seconds m a c) at (q.0, ticks_on ticked seconds k n a b q.0 p q.1, q.2)
 
-module _ {S T C : Type 0} (told : C → Readings) (handed : S → ℕ) (hands : Handing) (ticked : TickingBy T) where
+module _ {S T C : Type 0} (m : Means S T C) (hands : Handing) where
   -- turns of a member that didn't end it are a chain
   abbrev HasGone : Post S T C → DeskView → Post S T C → DeskView → Type 0
-  HasGone (Serving w) old (Serving v) new = HasChain told handed hands ticked (Serving w) old (Serving v) new
+  HasGone (Serving w) old (Serving v) new = HasChain m hands (Serving w) old (Serving v) new
   HasGone (Sweeping w) old (Sweeping v) new =
-      (v.seconds ≡ w.seconds) × (sweeps : ℕ) × Ticks ticked w.seconds sweeps w.ticker v.ticker
-      × Chain Sweep sweeps (stand_of {S = S} {T = T} {C = C} told (Sweeping w) old) (stand_of {S = S} {T = T} {C = C} told (Sweeping v) new)
+      (v.seconds ≡ w.seconds) × (sweeps : ℕ) × Ticks m.ticked w.seconds sweeps w.ticker v.ticker
+      × Chain Sweep sweeps (stand_of {S = S} {T = T} {C = C} m.told (Sweeping w) old) (stand_of {S = S} {T = T} {C = C} m.told (Sweeping v) new)
   HasGone (Serving w) old (Sweeping v) new = ⊥
   HasGone (Sweeping w) old (Serving v) new = ⊥
 
   still : (w : Post S T C) (d : DeskView) → HasGone w d w d
-  still (Serving w) d = (refl, 0, omega arith, no_turn (Connection hands w.common.cat.now) (record { desk = d; clock = told w.clock }))
-  still (Sweeping w) d = (refl, 0, refl, no_turn Sweep (record { desk = d; clock = told w.clock }))
+  still (Serving w) d = (refl, 0, omega arith, no_turn (Connection hands w.common.cat.now) (record { desk = d; clock = m.told w.clock }))
+  still (Sweeping w) d = (refl, 0, refl, no_turn Sweep (record { desk = d; clock = m.told w.clock }))
 
   next : (a : Post S T C) (x : DeskView) (b : Post S T C) (y : DeskView) (c : Post S T C) (z : DeskView) → HasGone a x b y → HasGone b y c z → HasGone a x c z
   next (Serving a) x (Serving b) y (Serving c) z p q = (
     q.0 ∙ p.0,
     p.1 + q.1,
     (let k = p.2 in let n = q.2 in omega (arith, k, n)),
-    chain_on (Connection hands a.common.cat.now) p.1 q.1 (stand_of {S = S} {T = T} {C = C} told (Serving a) x) (stand_of {S = S} {T = T} {C = C} told (Serving b) y) (stand_of {S = S} {T = T} {C = C} told (Serving c) z) p.3
-        (subst (λ (cat : CatalogueView). Chain (Connection hands cat) q.1 (stand_of {S = S} {T = T} {C = C} told (Serving b) y) (stand_of {S = S} {T = T} {C = C} told (Serving c) z)) p.0 q.3),
+    chain_on (Connection hands a.common.cat.now) p.1 q.1 (stand_of {S = S} {T = T} {C = C} m.told (Serving a) x) (stand_of {S = S} {T = T} {C = C} m.told (Serving b) y) (stand_of {S = S} {T = T} {C = C} m.told (Serving c) z) p.3
+        (subst (λ (cat : CatalogueView). Chain (Connection hands cat) q.1 (stand_of {S = S} {T = T} {C = C} m.told (Serving b) y) (stand_of {S = S} {T = T} {C = C} m.told (Serving c) z)) p.0 q.3),
   )
   next (Sweeping a) x (Sweeping b) y (Sweeping c) z p q = (
     q.0 ∙ p.0,
     p.1 + q.1,
-    ticks_on ticked a.seconds p.1 q.1 a.ticker b.ticker c.ticker p.2 (subst (λ (s : ℕ). Ticks ticked s q.1 b.ticker c.ticker) p.0 q.2),
-    chain_on Sweep p.1 q.1 (stand_of {S = S} {T = T} {C = C} told (Sweeping a) x) (stand_of {S = S} {T = T} {C = C} told (Sweeping b) y) (stand_of {S = S} {T = T} {C = C} told (Sweeping c) z) p.3 q.3,
+    ticks_on m.ticked a.seconds p.1 q.1 a.ticker b.ticker c.ticker p.2 (subst (λ (s : ℕ). Ticks m.ticked s q.1 b.ticker c.ticker) p.0 q.2),
+    chain_on Sweep p.1 q.1 (stand_of {S = S} {T = T} {C = C} m.told (Sweeping a) x) (stand_of {S = S} {T = T} {C = C} m.told (Sweeping b) y) (stand_of {S = S} {T = T} {C = C} m.told (Sweeping c) z) p.3 q.3,
   )
   next (Serving a) x (Sweeping b) y c z p q = absurd p
   next (Sweeping a) x (Serving b) y c z p q = absurd p
   next (Serving a) x (Serving b) y (Sweeping c) z p q = absurd q
   next (Sweeping a) x (Sweeping b) y (Serving c) z p q = absurd q
 
-  module _ (gives : HandingBy S) (lets_go : LettingGo S) (only : (s : S) (stream sent : Option (List ℕ)) (t : S) → gives s stream sent t → hands stream sent) where
-    serving : (w : _) (d : DeskView) (v : _) (e : DeskView) → DoesTurn {S = S} {T = T} {C = C} told handed gives lets_go ticked (Serving w) d (Serving v) e
-        → HasChain {S = S} {T = T} {C = C} told handed hands ticked (Serving w) d (Serving v) e
+  module _ (only : (s : S) (stream sent : Option (List ℕ)) (t : S) → m.hands s stream sent t → hands stream sent) where
+    serving : (w : _) (d : DeskView) (v : _) (e : DeskView) → DoesTurn m (Serving w) d (Serving v) e
+        → HasChain m hands (Serving w) d (Serving v) e
     serving w d v e did =
-        let did_so = turn_so (Passes gives lets_go w.streams v.streams) (HandedOut hands) (λ stream sent left after passed. only w.streams stream sent passed.0 passed.1) w.common.cat.now
-        (told w.clock) d (told v.clock) e v.ended did.2 in
-        let turn = serves hands w.common.cat.now (told w.clock) d (told v.clock) e v.ended did_so (handed w.streams) (handed v.streams) did.1 in
+        let did_so = turn_so (Passes m.hands m.lets_go w.streams v.streams) (HandedOut hands) (λ stream sent left after passed. only w.streams stream sent passed.0 passed.1) w.common.cat.now
+        (m.told w.clock) d (m.told v.clock) e v.ended did.2 in
+        let turn = serves hands w.common.cat.now (m.told w.clock) d (m.told v.clock) e v.ended did_so (m.handed w.streams) (m.handed v.streams) did.1 in
         (did.0, turn.0, turn.1, turn.2)
 
-    goes : (w : Post S T C) (d : DeskView) (v : Post S T C) (e : DeskView) → DoesTurn told handed gives lets_go ticked w d v e → (HasEnded v → ⊥) → HasGone w d v e
+    goes : (w : Post S T C) (d : DeskView) (v : Post S T C) (e : DeskView) → DoesTurn m w d v e → (HasEnded v → ⊥) → HasGone w d v e
     goes (Serving w) d (Serving v) e did on = serving w d v e did
     goes (Sweeping w) d (Sweeping v) e did on =
-        let turn = swept ticked w.seconds w.ticker v.ticker (told w.clock) d (told v.clock) e v.ended on did.1 did.2 in
-        (did.0, 1, (w.ticker, refl, turn.0), one Sweep (record { desk = d; clock = told w.clock }) (record { desk = e; clock = told v.clock }) turn.1)
+        let turn = swept m.ticked w.seconds w.ticker v.ticker (m.told w.clock) d (m.told v.clock) e v.ended on did.1 did.2 in
+        (did.0, 1, (w.ticker, refl, turn.0), one Sweep (record { desk = d; clock = m.told w.clock }) (record { desk = e; clock = m.told v.clock }) turn.1)
     goes (Serving w) d (Sweeping v) e did on = absurd did
     goes (Sweeping w) d (Serving v) e did on = absurd did
 
     -- and the last turn, which ended it
     ends : (a : Post S T C) (x : DeskView) (b : Post S T C) (y : DeskView) (c : Post S T C) (z : DeskView) → HasGone a x b y
-        → DoesTurn told handed gives lets_go ticked b y c z → HasEnded c → HasChain told handed hands ticked a x c z
+        → DoesTurn m b y c z → HasEnded c → HasChain m hands a x c z
     ends (Serving a) x (Serving b) y (Serving c) z p did ended = next (Serving a) x (Serving b) y (Serving c) z p (serving b y c z did)
     ends (Sweeping a) x (Sweeping b) y (Sweeping c) z p did ended =
-        let turn = stopped ticked b.seconds b.ticker c.ticker (told b.clock) y (told c.clock) z c.ended ended did.1 did.2 in
-        let began = stand_of {S = S} {T = T} {C = C} told (Sweeping a) x in (
+        let turn = stopped m.ticked b.seconds b.ticker c.ticker (m.told b.clock) y (m.told c.clock) z c.ended ended did.1 did.2 in
+        let began = stand_of {S = S} {T = T} {C = C} m.told (Sweeping a) x in (
           did.0 ∙ p.0,
           p.1,
           b.ticker,
           p.2,
-          subst (λ (s : ℕ). ticked b.ticker s false c.ticker) p.0 turn.0,
-          subst (λ (d : DeskView). Chain Sweep p.1 began (record { desk = d; clock = told c.clock })) (sym turn.1.same)
+          subst (λ (s : ℕ). m.ticked b.ticker s false c.ticker) p.0 turn.0,
+          subst (λ (d : DeskView). Chain Sweep p.1 began (record { desk = d; clock = m.told c.clock })) (sym turn.1.same)
               (subst (λ (r : Readings). Chain Sweep p.1 began (record { desk = y; clock = r })) (sym turn.1.unread) p.3),
         )
     ends (Serving a) x (Sweeping b) y c z p did ended = absurd p
@@ -169,11 +169,11 @@ module _ {S T C : Type 0} (told : C → Readings) (handed : S → ℕ) (hands : 
 
     -- the turns of a member to its end are a chain
     pub all_turns : (before : Post S T C) (old : DeskView) (after : Post S T C) (new : DeskView)
-        → RunsToEnd (DoesTurn told handed gives lets_go ticked) HasEnded before old after new → HasChain told handed hands ticked before old after new
+        → RunsToEnd (DoesTurn m) HasEnded before old after new → HasChain m hands before old after new
     all_turns before old after new run =
         ends before old run.worker run.desk after new (front run.turns run.worker run.desk run.on) run.last run.ends
       where
-        front : (n : ℕ) (w : Post S T C) (d : DeskView) → GoesOn (DoesTurn told handed gives lets_go ticked) HasEnded n before old w d → HasGone before old w d
+        front : (n : ℕ) (w : Post S T C) (d : DeskView) → GoesOn (DoesTurn m) HasEnded n before old w d → HasGone before old w d
         front zero w d on =
             subst (λ (v : Post S T C). HasGone before old v d) (sym on.0) (subst (λ (e : DeskView). HasGone before old before e) (sym on.1) (still before old))
         front (suc n) w d on = next before old on.0 on.1 w d (front n on.0 on.1 on.2) (goes on.0 on.1 w d on.3 on.4)
@@ -181,30 +181,30 @@ module _ {S T C : Type 0} (told : C → Readings) (handed : S → ℕ) (hands : 
   -- Of a member that serves, which was handed out no stream before: as many connections as it was handed out. It has
   -- one part of the ledger.
   pub serving_chain : (cat : CatalogueView) (said : Numbers) (ticker : T) (i : ℕ) (w : Post S T C) (old : DeskView) (v : Post S T C) (new : DeskView)
-      → i < said.workers → IsPosted cat said ticker i w → handed_of w handed ≡ 0 → HasChain told handed hands ticked w old v new
-      → (part_of v ≡ 1) × Chain (Connection hands cat) (handed_of v handed) (stand_of told w old) (stand_of told v new)
+      → i < said.workers → IsPosted cat said ticker i w → handed_of w m.handed ≡ 0 → HasChain m hands w old v new
+      → (part_of v ≡ 1) × Chain (Connection hands cat) (handed_of v m.handed) (stand_of m.told w old) (stand_of m.told v new)
   serving_chain cat said ticker i (Serving w) old (Serving v) new lt post none chain =
-      let many : chain.1 ≡ handed v.streams = (let more = chain.2 in omega (arith, more, none)) in (
+      let many : chain.1 ≡ m.handed v.streams = (let more = chain.2 in omega (arith, more, none)) in (
         refl,
-        subst (λ (n : ℕ). Chain (Connection hands cat) n (stand_of {S = S} {T = T} {C = C} told (Serving w) old) (stand_of {S = S} {T = T} {C = C} told (Serving v) new)) many
-            (subst (λ (c : CatalogueView). Chain (Connection hands c) chain.1 (stand_of {S = S} {T = T} {C = C} told (Serving w) old) (stand_of {S = S} {T = T} {C = C} told (Serving v) new)) post.1 chain.3),
+        subst (λ (n : ℕ). Chain (Connection hands cat) n (stand_of {S = S} {T = T} {C = C} m.told (Serving w) old) (stand_of {S = S} {T = T} {C = C} m.told (Serving v) new)) many
+            (subst (λ (c : CatalogueView). Chain (Connection hands c) chain.1 (stand_of {S = S} {T = T} {C = C} m.told (Serving w) old) (stand_of {S = S} {T = T} {C = C} m.told (Serving v) new)) post.1 chain.3),
       )
   serving_chain cat said ticker i (Serving w) old (Sweeping v) new lt post none chain = absurd chain
   serving_chain cat said ticker i (Sweeping w) old v new lt post none chain = (let at = post.0 in absurd (omega (arith, lt, at)))
 
   -- of the one that sweeps, which has none
   pub sweeping_chain : (cat : CatalogueView) (said : Numbers) (ticker : T) (i : ℕ) (w : Post S T C) (old : DeskView) (v : Post S T C) (new : DeskView)
-      → said.workers ≡ i → IsPosted cat said ticker i w → HasChain told handed hands ticked w old v new
-      → (sweeps : ℕ) × ((before after : T) × Ticks ticked said.sweep sweeps ticker before × ticked before said.sweep false after)
-      × Chain Sweep sweeps (stand_of told w old) (stand_of told v new)
-      × (part_of v ≡ 0) × (handed_of v handed ≡ 0)
+      → said.workers ≡ i → IsPosted cat said ticker i w → HasChain m hands w old v new
+      → (sweeps : ℕ) × ((before after : T) × Ticks m.ticked said.sweep sweeps ticker before × m.ticked before said.sweep false after)
+      × Chain Sweep sweeps (stand_of m.told w old) (stand_of m.told v new)
+      × (part_of v ≡ 0) × (handed_of v m.handed ≡ 0)
   sweeping_chain cat said ticker i (Sweeping w) old (Sweeping v) new at post chain = (
     chain.1,
     (
       chain.2,
       v.ticker,
-      subst (λ (s : ℕ). Ticks ticked s chain.1 ticker chain.2) post.1 (subst (λ (t : T). Ticks ticked w.seconds chain.1 t chain.2) post.2 chain.3),
-      subst (λ (s : ℕ). ticked chain.2 s false v.ticker) post.1 chain.4,
+      subst (λ (s : ℕ). Ticks m.ticked s chain.1 ticker chain.2) post.1 (subst (λ (t : T). Ticks m.ticked w.seconds chain.1 t chain.2) post.2 chain.3),
+      subst (λ (s : ℕ). m.ticked chain.2 s false v.ticker) post.1 chain.4,
     ),
     chain.5,
     refl,

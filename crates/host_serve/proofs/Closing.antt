@@ -18,12 +18,11 @@ use Rattle.worker_pool.specs.declared.member.Member.{Member}
 use Rattle.worker_pool.proofs.Chains.{keeps_on}
 use Rattle.cold_store.specs.Tidy.{AreSucceeded, IsTidyWall}
 use Rattle.rail_catalogue.specs.Contents.{CatalogueView}
-use Rattle.rail_service.specs.Listeners.{Handing, HandingBy}
 use Rattle.host_words.specs.declared.serve.Serving.{Serving}
 use Rattle.host_serve.specs.declared.member.Post.{Post}
 use Rattle.host_serve.specs.Crews.{OnlyMet, AreReady, IsCrew, HasMetAll, HasRun, Held, of_member, sum_below}
-use Rattle.host_serve.specs.Turns.{FitsBooks, HasEnded, DoesTurn, HasChain, LettingGo, Readings, Stand, OneTurn, TickingBy, Ticks, Chain, Connection, Sweep, clock_for, clock_of, handed_of, part_of, stand_of}
-use Rattle.host_serve.specs.Serve.{AllWorked, HasWorked, IsServedWall}
+use Rattle.host_serve.specs.Turns.{FitsBooks, HasEnded, DoesTurn, HasChain, Means, Readings, Stand, OneTurn, Ticks, Chain, Connection, Sweep, clock_for, clock_of, handed_of, part_of, stand_of}
+use Rattle.host_serve.specs.Serve.{AllWorked, HasWorked, IsServedWall, Left}
 use Rattle.host_serve.proofs.Chaining.{all_turns, chain_on, serving_chain, sweeping_chain}
 use Rattle.host_serve.proofs.Crewing.{begins, has_in, sum_more, sum_ones}
 use Rattle.host_serve.proofs.Tidying.{IsRested, never_worked, rested, tidy_wall}
@@ -35,13 +34,12 @@ pub record IsFit (g : Layout) : Type 0 where
   pub rows : g.rows ≤ most_rows
 
 -- Each desk has what it did from a time between two calls of the service, so the wall is free for an export.
-pub served_wall : (cat : CatalogueView) (said : Serving) (clocks : List Readings) (asks : ℕ → ℕ → Type 0) (hands : Handing) (total : ℕ) (books : BooksView) (desk : DeskView)
-    (wall : WallView)
+pub served_wall : (cat : CatalogueView) (said : Serving) (left : Left) (books : BooksView) (desk : DeskView) (wall : WallView)
     → IsOf books desk → IsTidy desk → AreSucceeded books.layout.opening → wall.layout ≡ books.layout → IsFit wall.layout
     → Finishes books.layout desk wall.words wall.history → IsWhole desk.number desk.parted desk.joined → desk.parted ≡ said.workers + 1 → OnlyMet desk.seen
-    → AllWorked cat books said clocks asks hands total desk.seen
-    → ((n : ℕ) → 1 ≤ n → n ≤ said.workers + 1 → IsRested books.layout desk.seen n) → IsServedWall cat books.layout said clocks asks hands total wall
-served_wall cat said clocks asks hands total books desk wall of tidy succeeded same fit ends whole made meets worked rests =
+    → AllWorked cat books said left desk.seen
+    → ((n : ℕ) → 1 ≤ n → n ≤ said.workers + 1 → IsRested books.layout desk.seen n) → IsServedWall cat books.layout said left wall
+served_wall cat said left books desk wall of tidy succeeded same fit ends whole made meets worked rests =
     let seen : desk.seen ≡ wall.history = sym (ends.whole whole) in
     record {
       books = books;
@@ -56,7 +54,7 @@ served_wall cat said clocks asks hands total books desk wall of tidy succeeded s
       tidy = subst (λ (l : Layout). IsTidyWall (record { layout = l; words = wall.words; history = wall.history })) (sym same)
           (tidy_wall books.layout wall.history ends.legal all wall.words succeeded (subst (λ (l : Layout). l.rows ≤ most_rows) same fit.rows));
       first = subst (λ (h : List Entry). OnlyMet h) seen meets;
-      worked = subst (λ (h : List Entry). AllWorked cat books said clocks asks hands total h) seen worked;
+      worked = subst (λ (h : List Entry). AllWorked cat books said left h) seen worked;
       no_others = λ n beyond. ends.no_others whole.0 n (omega (arith, made, beyond));
     }
   where
@@ -96,41 +94,41 @@ has_worked Does books n clock count old new history began_of ended_of number sta
   entries = entries;
 }
 
-module _ {S T C : Type 0} (handed : S → ℕ) (gives : HandingBy S) (lets_go : LettingGo S) (hands : Handing)
-    (only : (s : S) (stream sent : Option (List ℕ)) (t : S) → gives s stream sent t → hands stream sent) (told : C → Readings) (ticked : TickingBy T) (cat : CatalogueView) (said : Serving) (ticker : T)
-    (clocks : List Readings) (books : BooksView) (old : List (Member (Post S T C))) (before after : Held) (first : DeskView) (member : Member (Post S T C))
-    (crew : IsCrew FitsBooks books old) (ready : AreReady old handed told cat said ticker clocks) (count : length old ≡ said.workers + 1) (some : 1 ≤ said.workers)
-    (run : HasRun FitsBooks (DoesTurn told handed gives lets_go ticked) HasEnded part_of (λ w. handed_of w handed) books old before after first member) where
+module _ {S T C : Type 0} (m : Means S T C) (left : Left)
+    (only : (s : S) (stream sent : Option (List ℕ)) (t : S) → m.hands s stream sent t → left.hands stream sent)
+    (cat : CatalogueView) (said : Serving) (ticker : T) (books : BooksView) (old : List (Member (Post S T C))) (before after : Held) (first : DeskView) (member : Member (Post S T C))
+    (crew : IsCrew FitsBooks books old) (ready : AreReady old m.handed m.told (record { cat = cat; said = said; ticker = ticker; clocks = left.clocks })) (count : length old ≡ said.workers + 1) (some : 1 ≤ said.workers)
+    (run : HasRun FitsBooks (DoesTurn m) HasEnded part_of (λ w. handed_of w m.handed) books old before after first member) where
   behind : (i : ℕ) → i < length old → i < length run.crew
   behind i lt = omega (arith, lt, run.count)
 
-  chain : (i : ℕ) → i < length old → HasChain told handed hands ticked (slice_index_or old i member).worker (slice_index_or old i member).desk
+  chain : (i : ℕ) → i < length old → HasChain m left.hands (slice_index_or old i member).worker (slice_index_or old i member).desk
       (slice_index_or run.crew i member).worker (slice_index_or run.crew i member).desk
-  chain i lt = all_turns told handed hands ticked gives lets_go only (slice_index_or old i member).worker (slice_index_or old i member).desk (slice_index_or run.crew i member).worker
+  chain i lt = all_turns m left.hands only (slice_index_or old i member).worker (slice_index_or old i member).desk (slice_index_or run.crew i member).worker
       (slice_index_or run.crew i member).desk (run.turns i member lt)
 
   last : said.workers < length old
   last = omega (arith, count)
 
-  swept : (sweeps : ℕ) × ((before after : T) × Ticks ticked said.sweep sweeps ticker before × ticked before said.sweep false after)
-      × Chain Sweep sweeps (stand_of told (slice_index_or old said.workers member).worker (slice_index_or old said.workers member).desk)
-      (stand_of told (slice_index_or run.crew said.workers member).worker (slice_index_or run.crew said.workers member).desk)
-      × (part_of (slice_index_or run.crew said.workers member).worker ≡ 0) × (handed_of (slice_index_or run.crew said.workers member).worker handed ≡ 0)
+  swept : (sweeps : ℕ) × ((before after : T) × Ticks m.ticked said.sweep sweeps ticker before × m.ticked before said.sweep false after)
+      × Chain Sweep sweeps (stand_of m.told (slice_index_or old said.workers member).worker (slice_index_or old said.workers member).desk)
+      (stand_of m.told (slice_index_or run.crew said.workers member).worker (slice_index_or run.crew said.workers member).desk)
+      × (part_of (slice_index_or run.crew said.workers member).worker ≡ 0) × (handed_of (slice_index_or run.crew said.workers member).worker m.handed ≡ 0)
   swept =
       let i : ℕ = said.workers in
       let w = slice_index_or old i member in
       let v = slice_index_or run.crew i member in
-      sweeping_chain told handed hands ticked cat said ticker i w.worker w.desk v.worker v.desk refl (ready i member last).post (chain i last)
+      sweeping_chain m left.hands cat said ticker i w.worker w.desk v.worker v.desk refl (ready i member last).post (chain i last)
 
   serves : (i : ℕ) → i < said.workers → (part_of (slice_index_or run.crew i member).worker ≡ 1)
-      × Chain (Connection hands cat) (handed_of (slice_index_or run.crew i member).worker handed)
-      (stand_of told (slice_index_or old i member).worker (slice_index_or old i member).desk)
-      (stand_of told (slice_index_or run.crew i member).worker (slice_index_or run.crew i member).desk)
+      × Chain (Connection left.hands cat) (handed_of (slice_index_or run.crew i member).worker m.handed)
+      (stand_of m.told (slice_index_or old i member).worker (slice_index_or old i member).desk)
+      (stand_of m.told (slice_index_or run.crew i member).worker (slice_index_or run.crew i member).desk)
   serves i less =
       let lt : i < length old = omega (arith, count, less) in
       let w = slice_index_or old i member in
       let v = slice_index_or run.crew i member in
-      serving_chain told handed hands ticked cat said ticker i w.worker w.desk v.worker v.desk less (ready i member lt).post (ready i member lt).unserved (chain i lt)
+      serving_chain m left.hands cat said ticker i w.worker w.desk v.worker v.desk less (ready i member lt).post (ready i member lt).unserved (chain i lt)
 
   -- the parts and the streams of all members
   parts_sum : sum_below (of_member part_of run.crew member) (length run.crew) ≡ said.workers
@@ -140,23 +138,23 @@ module _ {S T C : Type 0} (handed : S → ℕ) (gives : HandingBy S) (lets_go : 
       let at : suc said.workers ≡ length run.crew = omega (arith, count, run.count) in
       subst (λ (n : ℕ). sum_below (of_member part_of run.crew member) n ≡ said.workers) at (omega (arith, ones, none))
 
-  handed_sum : sum_below (of_member (λ w. handed_of w handed) run.crew member) (length run.crew) ≡ sum_below (of_member (λ w. handed_of w handed) run.crew member) said.workers
+  handed_sum : sum_below (of_member (λ w. handed_of w m.handed) run.crew member) (length run.crew) ≡ sum_below (of_member (λ w. handed_of w m.handed) run.crew member) said.workers
   handed_sum =
       let none = swept.4 in
       let at : suc said.workers ≡ length run.crew = omega (arith, count, run.count) in
-      subst (λ (n : ℕ). sum_below (of_member (λ w. handed_of w handed) run.crew member) n ≡ sum_below (of_member (λ w. handed_of w handed) run.crew member) said.workers) at
+      subst (λ (n : ℕ). sum_below (of_member (λ w. handed_of w m.handed) run.crew member) n ≡ sum_below (of_member (λ w. handed_of w m.handed) run.crew member) said.workers) at
       (omega (arith, none))
 
   -- what the first member has, by its place
   first_part : sum_below (of_member part_of run.crew member) 1 ≡ part_of member.worker
   first_part =
-      let this : part_of (slice_index_or run.crew 0 member).worker ≡ part_of member.worker = ap (λ (m : Member (Post S T C)). part_of m.worker) (sym (run.left member)) in
+      let this : part_of (slice_index_or run.crew 0 member).worker ≡ part_of member.worker = ap (λ (n : Member (Post S T C)). part_of n.worker) (sym (run.left member)) in
       omega (arith, this)
 
-  first_handed : sum_below (of_member (λ w. handed_of w handed) run.crew member) 1 ≡ handed_of member.worker handed
+  first_handed : sum_below (of_member (λ w. handed_of w m.handed) run.crew member) 1 ≡ handed_of member.worker m.handed
   first_handed =
-      let this : handed_of (slice_index_or run.crew 0 member).worker handed ≡ handed_of member.worker handed =
-      ap (λ (m : Member (Post S T C)). handed_of m.worker handed) (sym (run.left member)) in
+      let this : handed_of (slice_index_or run.crew 0 member).worker m.handed ≡ handed_of member.worker m.handed =
+      ap (λ (n : Member (Post S T C)). handed_of n.worker m.handed) (sym (run.left member)) in
       omega (arith, this)
 
   -- whoever was given all of it has the parts of all serving members
@@ -169,11 +167,11 @@ module _ {S T C : Type 0} (handed : S → ℕ) (gives : HandingBy S) (lets_go : 
 
   -- how many connections the member at a place served, the first one so many more
   abbrev served_by : ℕ → ℕ → ℕ
-  served_by more zero = handed_of member.worker handed + more
-  served_by more (suc i) = handed_of (slice_index_or run.crew (suc i) member).worker handed
+  served_by more zero = handed_of member.worker m.handed + more
+  served_by more (suc i) = handed_of (slice_index_or run.crew (suc i) member).worker m.handed
 
-  module _ (other new : DeskView) (clock later : Readings) (asks : ℕ → ℕ → Type 0)
-      (asked : (seconds n : ℕ) (before after : T) → Ticks ticked seconds n ticker before → ticked before seconds false after → asks seconds n) where
+  module _ (other new : DeskView) (clock later : Readings)
+      (asked : (seconds n : ℕ) (before after : T) → Ticks m.ticked seconds n ticker before → m.ticked before seconds false after → left.asks seconds n) where
     entries : HasMet first other new → (i : ℕ) → 1 ≤ i → i < length old
         → (own new.seen (i + 1) ≡ own (slice_index_or run.crew i member).desk.seen (i + 1)) × IsPrefix (slice_index_or run.crew i member).desk.seen new.seen
     entries met i low lt = has_in books run.crew first other new run.met met i member low (behind i lt)
@@ -181,11 +179,11 @@ module _ {S T C : Type 0} (handed : S → ℕ) (gives : HandingBy S) (lets_go : 
     -- All that the members of a crew did stands in what the first desk has seen. The first member's desk served on, and
     -- was joined last. All the streams together are as many as the holder of all shares had counted, and those that
     -- were served on.
-    pub all_worked : (more amount total : ℕ) → before.amount ≡ 0 → amount ≡ after.amount + handed_of member.worker handed → total ≡ amount + more
-        → clock ≡ told (clock_of member.worker) → KeepsDesk member.desk other
-        → Chain (Connection hands cat) more (record { desk = member.desk; clock = clock }) (record { desk = other; clock = later })
-        → IsOf books other → HasMet first other new → AllWorked cat books said clocks asks hands total new.seen
-    all_worked more amount total began has sums read kept left of met = record {
+    pub all_worked : (more amount : ℕ) → before.amount ≡ 0 → amount ≡ after.amount + handed_of member.worker m.handed → left.after.handed ≡ amount + more
+        → clock ≡ m.told (clock_of member.worker) → KeepsDesk member.desk other
+        → Chain (Connection left.hands cat) more (record { desk = member.desk; clock = clock }) (record { desk = other; clock = later })
+        → IsOf books other → HasMet first other new → AllWorked cat books said left new.seen
+    all_worked more amount began has sums read kept behind_it of met = record {
       served = served_by more;
       serving = serving;
       together = together;
@@ -194,53 +192,53 @@ module _ {S T C : Type 0} (handed : S → ℕ) (gives : HandingBy S) (lets_go : 
       asked = asked said.sweep swept.0 swept.1.0 swept.1.1 swept.1.2 swept.1.3;
     }
       where
-        together : sum_below (served_by more) said.workers ≡ total
+        together : sum_below (served_by more) said.workers ≡ left.after.handed
         together =
             let one = first_handed in
-            let first_is : served_by more 0 ≡ of_member (λ w. handed_of w handed) run.crew member 0 + more = omega (arith, one) in
-            let plus = sum_more (of_member (λ w. handed_of w handed) run.crew member) (served_by more) more said.workers first_is (λ i. refl) some in
+            let first_is : served_by more 0 ≡ of_member (λ w. handed_of w m.handed) run.crew member 0 + more = omega (arith, one) in
+            let plus = sum_more (of_member (λ w. handed_of w m.handed) run.crew member) (served_by more) more said.workers first_is (λ i. refl) some in
             let given = run.given.all_counted member in
             let all = handed_sum in
             omega (arith, plus, one, given, all, began, has, sums)
 
-        sweeping : HasWorked Sweep books new.seen (said.workers + 1) (clock_for clocks said.workers) swept.0
+        sweeping : HasWorked Sweep books new.seen (said.workers + 1) (clock_for left.clocks said.workers) swept.0
         sweeping =
             let i : ℕ = said.workers in
             let w = slice_index_or old i member in
             let v = slice_index_or run.crew i member in
-            has_worked Sweep books (i + 1) (clock_for clocks i) swept.0 (stand_of told w.worker w.desk) (stand_of told v.worker v.desk) new.seen
+            has_worked Sweep books (i + 1) (clock_for left.clocks i) swept.0 (stand_of m.told w.worker w.desk) (stand_of m.told v.worker v.desk) new.seen
             (crew i member last).desk.own (run.are i member (behind i last)).desk.own (crew i member last).desk.number (ready i member last).clock
             (ready i member last).none (run.keeps i member last) swept.2 (entries met i some last).0 (entries met i some last).1
 
         later_one : (i : ℕ) → 1 ≤ i → i < said.workers
-            → HasWorked (Connection hands cat) books new.seen (i + 1) (clock_for clocks i) (handed_of (slice_index_or run.crew i member).worker handed)
+            → HasWorked (Connection left.hands cat) books new.seen (i + 1) (clock_for left.clocks i) (handed_of (slice_index_or run.crew i member).worker m.handed)
         later_one i low less =
             let lt : i < length old = omega (arith, count, less) in
             let w = slice_index_or old i member in
             let v = slice_index_or run.crew i member in
-            has_worked (Connection hands cat) books (i + 1) (clock_for clocks i) (handed_of v.worker handed) (stand_of told w.worker w.desk) (stand_of told v.worker v.desk) new.seen
+            has_worked (Connection left.hands cat) books (i + 1) (clock_for left.clocks i) (handed_of v.worker m.handed) (stand_of m.told w.worker w.desk) (stand_of m.told v.worker v.desk) new.seen
             (crew i member lt).desk.own (run.are i member (behind i lt)).desk.own (crew i member lt).desk.number (ready i member lt).clock
             (ready i member lt).none (run.keeps i member lt) (serves i less).1 (entries met i low lt).0 (entries met i low lt).1
 
-        first_one : HasWorked (Connection hands cat) books new.seen (0 + 1) (clock_for clocks 0) (handed_of member.worker handed + more)
+        first_one : HasWorked (Connection left.hands cat) books new.seen (0 + 1) (clock_for left.clocks 0) (handed_of member.worker m.handed + more)
         first_one =
             let lt : 0 < length old = omega (arith, count) in
             let w = slice_index_or old 0 member in
             let left_is : slice_index_or run.crew 0 member ≡ member = sym (run.left member) in
-            let keeps : KeepsDesk w.desk member.desk = subst (λ (m : Member (Post S T C)). KeepsDesk w.desk m.desk) left_is (run.keeps 0 member lt) in
-            let before_it = subst (λ (m : Member (Post S T C)). Chain (Connection hands cat) (handed_of m.worker handed) (stand_of told w.worker w.desk) (stand_of told m.worker m.desk))
+            let keeps : KeepsDesk w.desk member.desk = subst (λ (n : Member (Post S T C)). KeepsDesk w.desk n.desk) left_is (run.keeps 0 member lt) in
+            let before_it = subst (λ (n : Member (Post S T C)). Chain (Connection left.hands cat) (handed_of n.worker m.handed) (stand_of m.told w.worker w.desk) (stand_of m.told n.worker n.desk))
             left_is (serves 0 some).1 in
-            let behind_it = subst (λ (r : Readings). Chain (Connection hands cat) more (record { desk = member.desk; clock = r }) (record { desk = other; clock = later })) read left in
+            let rest = subst (λ (r : Readings). Chain (Connection left.hands cat) more (record { desk = member.desk; clock = r }) (record { desk = other; clock = later })) read behind_it in
             let number : other.number ≡ 1 = kept.number ∙ run.is.desk.number in
-            has_worked (Connection hands cat) books (0 + 1) (clock_for clocks 0) (handed_of member.worker handed + more) (stand_of told w.worker w.desk)
+            has_worked (Connection left.hands cat) books (0 + 1) (clock_for left.clocks 0) (handed_of member.worker m.handed + more) (stand_of m.told w.worker w.desk)
             (record { desk = other; clock = later }) new.seen
             (crew 0 member lt).desk.own of (crew 0 member lt).desk.number (ready 0 member lt).clock (ready 0 member lt).none
             (keeps_on w.desk member.desk other keeps kept)
-            (chain_on (Connection hands cat) (handed_of member.worker handed) more (stand_of told w.worker w.desk) (stand_of told member.worker member.desk)
-            (record { desk = other; clock = later }) before_it behind_it)
+            (chain_on (Connection left.hands cat) (handed_of member.worker m.handed) more (stand_of m.told w.worker w.desk) (stand_of m.told member.worker member.desk)
+            (record { desk = other; clock = later }) before_it rest)
             (subst (λ (k : ℕ). own new.seen k ≡ own other.seen k) number met.theirs.0) met.other_front
 
-        serving : (i : ℕ) → i < said.workers → HasWorked (Connection hands cat) books new.seen (i + 1) (clock_for clocks i) (served_by more i)
+        serving : (i : ℕ) → i < said.workers → HasWorked (Connection left.hands cat) books new.seen (i + 1) (clock_for left.clocks i) (served_by more i)
         serving zero less = first_one
         serving (suc i) less = later_one (suc i) (omega arith) less
 

@@ -17,9 +17,7 @@ use Rattle.claim_rule.proofs.Shapes.{step_shape}
 use Rattle.claim_rule.proofs.Views.{each_in}
 use Rattle.worker_pool.specs.Turns.{KeepsDesk, EachMember}
 use Rattle.worker_pool.specs.declared.member.Member.{Member}
-use Rattle.host_serve.specs.Crews.{OnlyMet, IsFirst, IsDesk, IsMember, IsCrew, AreReady, HasGiven, HasMetAll, Held, IsReady, of_member, sum_below}
-use Rattle.host_words.specs.declared.serve.Serving.{Serving}
-use Rattle.rail_catalogue.specs.Contents.{CatalogueView}
+use Rattle.host_serve.specs.Crews.{OnlyMet, IsFirst, IsDesk, IsMember, IsCrew, AreReady, Filling, HasGiven, HasMetAll, Held, IsReady, of_member, sum_below}
 use Rattle.host_serve.specs.declared.member.Post.{Post}
 use Rattle.host_serve.specs.Turns.{Readings, clock_for}
 
@@ -31,7 +29,7 @@ begins a b c p q = (p.0 ++ q.0, sym (append_assoc a p.0 q.0) ∙ (ap (λ l. l ++
 pub shorter : {A : Type 0} (all rest : List A) (last : A) → IsPrefix (rest ++ last ∷ []) all → IsPrefix rest all
 shorter all rest last front = (last ∷ front.0, sym (append_assoc rest (last ∷ []) front.0) ∙ front.1)
 
--- the clock of the member at place i is the one behind those that are left for later ones
+-- the clock of the member at place i is the one after those that are left for later ones
 pub popped_clock : {C : Type 0} (told : C → Readings) (all rest : List C) (c : C) (i : ℕ) → IsPrefix (rest ++ c ∷ []) all
     → length rest + (i + 1) ≡ length all → told c ≡ clock_for (map told all) i
 popped_clock {C} told all rest c i front count =
@@ -130,12 +128,12 @@ met_one {W} Fits books all crew m old new front is before met of tidy = record {
 }
 
 -- one more that is ready
-pub ready_more : {S T C : Type 0} (handed : S → ℕ) (told : C → Readings) (cat : CatalogueView) (said : Serving) (ticker : T) (clocks : List Readings)
-    (all crew : List (Member (Post S T C))) (m : Member (Post S T C)) → all ≡ crew ++ m ∷ [] → AreReady crew handed told cat said ticker clocks
-    → IsReady m handed told cat said ticker clocks (length crew) → AreReady all handed told cat said ticker clocks
-ready_more {S} {T} {C} handed told cat said ticker clocks all crew m items are is =
-    subst (λ (l : List (Member (Post S T C))). AreReady l handed told cat said ticker clocks) (sym items)
-    (joined_each (λ i n. IsReady n handed told cat said ticker clocks i) crew m are is)
+pub ready_more : {S T C : Type 0} (handed : S → ℕ) (told : C → Readings) (with_these : Filling T)
+    (all crew : List (Member (Post S T C))) (m : Member (Post S T C)) → all ≡ crew ++ m ∷ [] → AreReady crew handed told with_these
+    → IsReady m handed told with_these (length crew) → AreReady all handed told with_these
+ready_more {S} {T} {C} handed told with_these all crew m items are is =
+    subst (λ (l : List (Member (Post S T C))). AreReady l handed told with_these) (sym items)
+    (joined_each (λ i n. IsReady n handed told with_these i) crew m are is)
 
 -- a sum with one number more
 sum_step : (f : ℕ → ℕ) (n : ℕ) → sum_below f (n + 1) ≡ sum_below f n + f n

@@ -66,13 +66,13 @@ tells_plain words wall n end.Unwritten plain silent before = absurd before
 
 -- the wall of an end is free for an export
 of_wall : (P : WallView → Type 0) (files : Files) (said : ServeView) (left : Left) → HasWall files said left
-    → ((cat : CatalogueView) (plan : Layout) (w : WallView) → IsServedWall cat plan said.numbers left.clocks left.asks left.hands left.after.handed w → P w) → IfSome left.wall P
+    → ((cat : CatalogueView) (plan : Layout) (w : WallView) → IsServedWall cat plan said.numbers left w → P w) → IfSome left.wall P
 of_wall P files said left has so = go left.wall has.closed
   where
     plan : Layout
     plan = layout_with (legs_in has.cat) has.cat.rows has.kept
 
-    go : (wall : Option WallView) → IsSomeAnd wall (IsServedWall has.cat plan said.numbers left.clocks left.asks left.hands left.after.handed) → IfSome wall P
+    go : (wall : Option WallView) → IsSomeAnd wall (IsServedWall has.cat plan said.numbers left) → IfSome wall P
     go None is = tt
     go (Some w) is = so has.cat plan w is
 
@@ -80,7 +80,7 @@ none_so : (P : WallView → Type 0) (wall : Option WallView) → wall ≡ None �
 none_so P wall none = subst (λ (o : Option WallView). IfSome o P) (sym none) tt
 
 wall_so : (P : WallView → Type 0) (files : Files) (said : ServeView) (left : Left) (o : ServeOutcome) → Ends files said left o
-    → ((cat : CatalogueView) (plan : Layout) (w : WallView) → IsServedWall cat plan said.numbers left.clocks left.asks left.hands left.after.handed w → P w) → IfSome left.wall P
+    → ((cat : CatalogueView) (plan : Layout) (w : WallView) → IsServedWall cat plan said.numbers left w → P w) → IfSome left.wall P
 wall_so P files said left end.Refused ends so = absurd ends
 wall_so P files said left end.NoMemory ends so = none_so P left.wall ends.0
 wall_so P files said left (end.NotLoaded fault) ends so = none_so P left.wall ends.3

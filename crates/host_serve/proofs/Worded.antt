@@ -9,9 +9,9 @@ use Rattle.rail_catalogue.specs.Contents.{CatalogueView}
 use Rattle.rail_service.specs.Listeners.{Handing, ListenerView}
 use Rattle.host_words.specs.declared.serve.Serving.{Serving}
 use Rattle.host_serve.specs.Turns.{Readings, Stand, Leads, Chain, Connection, ConnectionBy, HandedOut, Passing}
-use Rattle.host_serve.specs.Serve.{AllWorked, BooksEnd, HasWorked, IsServedWall}
-use Rattle.host_serve.specs.declared.end.ServeOutcome.{ServeOutcome}
-use Rattle.host_serve.specs.declared.end.ServeOutcome.TheVariants as end
+use Rattle.host_serve.specs.Serve.{AllWorked, BooksEnd, HasWorked, IsServedWall, Left}
+use Rattle.host_serve.specs.declared.end.BooksOutcome.{BooksOutcome}
+use Rattle.host_serve.specs.declared.end.BooksOutcome.TheVariants as books
 use Rattle.host_serve.proofs.Chaining.{one_so}
 
 module _ (here there : Passing) (goes : (stream sent left after : Option (List ℕ)) → here stream sent left after → there stream sent left after) (cat : CatalogueView) where
@@ -40,39 +40,40 @@ module _ (here there : Handing) (goes : (stream sent : Option (List ℕ)) → he
     entries = w.entries;
   }
 
-  all_worked : (books : BooksView) (said : Serving) (clocks : List Readings) (asks : ℕ → ℕ → Type 0) (total : ℕ) (history : List Entry)
-      → AllWorked cat books said clocks asks here total history → AllWorked cat books said clocks asks there total history
-  all_worked books said clocks asks total history all = record {
-    served = all.served;
-    serving = λ i less. worked books history _ _ _ (all.serving i less);
-    together = all.together;
-    sweeps = all.sweeps;
-    sweeping = all.sweeping;
-    asked = all.asked;
-  }
+  -- the same of what is left, but for where its streams came from, and what the listener told before
+  module _ (left : Left) (view : ListenerView) where
+    abbrev pub from_here : Left
+    from_here = record left { before = view; hands = here }
 
-  served_wall : (plan : Layout) (said : Serving) (clocks : List Readings) (asks : ℕ → ℕ → Type 0) (total : ℕ) (wall : Option WallView)
-      → IsSomeAnd wall (IsServedWall cat plan said clocks asks here total) → IsSomeAnd wall (IsServedWall cat plan said clocks asks there total)
-  served_wall plan said clocks asks total None is = is
-  served_wall plan said clocks asks total (Some wall) is = record {
-    books = is.books;
-    layout = is.layout;
-    of = is.of;
-    closed = is.closed;
-    tidy = is.tidy;
-    first = is.first;
-    worked = all_worked is.books said clocks asks total wall.history is.worked;
-    no_others = is.no_others;
-  }
+    abbrev pub from_there : Left
+    from_there = record left { hands = there }
 
-  pub books_end : (plan : Layout) (said : Serving) (clocks : List Readings) (asks : ℕ → ℕ → Type 0) (before after : ℕ) (view : ListenerView)
-      (wall : Option WallView) (o : ServeOutcome) → BooksEnd cat plan said clocks asks here before after view wall o
-      → BooksEnd cat plan said clocks asks there before after view wall o
-  books_end plan said clocks asks before after view wall end.Served ends = (ends.0, served_wall plan said clocks asks view.handed wall ends.1)
-  books_end plan said clocks asks before after view wall end.AcceptFailed ends = (ends.0, served_wall plan said clocks asks view.handed wall ends.1)
-  books_end plan said clocks asks before after view wall end.Unwritten ends = absurd ends
-  books_end plan said clocks asks before after view wall end.NoText ends = absurd ends
-  books_end plan said clocks asks before after view wall end.NotBound ends = absurd ends
-  books_end plan said clocks asks before after view wall end.NoMemory ends = ends
-  books_end plan said clocks asks before after view wall (end.NotLoaded fault) ends = absurd ends
-  books_end plan said clocks asks before after view wall end.Refused ends = absurd ends
+    all_worked : (books : BooksView) (said : Serving) (history : List Entry) → AllWorked cat books said from_here history
+        → AllWorked cat books said from_there history
+    all_worked books said history all = record {
+      served = all.served;
+      serving = λ i less. worked books history _ _ _ (all.serving i less);
+      together = all.together;
+      sweeps = all.sweeps;
+      sweeping = all.sweeping;
+      asked = all.asked;
+    }
+
+    served_wall : (plan : Layout) (said : Serving) (wall : Option WallView) → IsSomeAnd wall (IsServedWall cat plan said from_here)
+        → IsSomeAnd wall (IsServedWall cat plan said from_there)
+    served_wall plan said None is = is
+    served_wall plan said (Some wall) is = record {
+      books = is.books;
+      layout = is.layout;
+      of = is.of;
+      closed = is.closed;
+      tidy = is.tidy;
+      first = is.first;
+      worked = all_worked is.books said wall.history is.worked;
+      no_others = is.no_others;
+    }
+
+    pub books_end : (plan : Layout) (said : Serving) (o : BooksOutcome) → BooksEnd cat plan said from_here o → BooksEnd cat plan said from_there o
+    books_end plan said books.Served ends = (ends.0, served_wall plan said left.wall ends.1)
+    books_end plan said books.AcceptFailed ends = (ends.0, served_wall plan said left.wall ends.1)
+    books_end plan said books.NoMemory ends = ends

@@ -44,18 +44,25 @@ pub record IsMember {W : Type 0} (Fits : W → BooksView → Type 0) (books : Bo
 abbrev pub IsCrew : {W : Type 0} → (W → BooksView → Type 0) → BooksView → List (Member W) → Type 0
 IsCrew {W} Fits books crew = (i : ℕ) (none : Member W) → i < length crew → IsMember Fits books (i + 1) (slice_index_or crew i none)
 
+-- what the posts of a crew are filled with
+pub record Filling (T : Type 0) : Type 0 where
+  pub cat : CatalogueView
+  pub said : Serving
+  pub ticker : T
+  pub clocks : List Readings
+
 -- a member that stands ready at its post, with its own of the clocks, handed out no stream, at a desk without entries
 -- of its own
-pub record IsReady {S T C : Type 0} (m : Member (Post S T C)) (handed : S → ℕ) (told : C → Readings) (cat : CatalogueView) (said : Serving) (ticker : T)
-    (clocks : List Readings) (i : ℕ) : Type 0 where
-  pub post : IsPosted cat said ticker i m.worker
-  pub clock : told (clock_of m.worker) ≡ clock_for clocks i
+pub record IsReady {S T C : Type 0} (m : Member (Post S T C)) (handed : S → ℕ) (told : C → Readings) (with_these : Filling T)
+    (i : ℕ) : Type 0 where
+  pub post : IsPosted with_these.cat with_these.said with_these.ticker i m.worker
+  pub clock : told (clock_of m.worker) ≡ clock_for with_these.clocks i
   pub unserved : handed_of m.worker handed ≡ 0
   pub none : own m.desk.seen (i + 1) ≡ []
 
-abbrev pub AreReady : {S T C : Type 0} → List (Member (Post S T C)) → (S → ℕ) → (C → Readings) → CatalogueView → Serving → T → List Readings → Type 0
-AreReady {S} {T} {C} crew handed told cat said ticker clocks =
-    (i : ℕ) (none : Member (Post S T C)) → i < length crew → IsReady (slice_index_or crew i none) handed told cat said ticker clocks i
+abbrev pub AreReady : {S T C : Type 0} → List (Member (Post S T C)) → (S → ℕ) → (C → Readings) → Filling T → Type 0
+AreReady {S} {T} {C} crew handed told with_these =
+    (i : ℕ) (none : Member (Post S T C)) → i < length crew → IsReady (slice_index_or crew i none) handed told with_these i
 
 -- the sum over all below a number
 abbrev pub sum_below : (ℕ → ℕ) → ℕ → ℕ
@@ -82,7 +89,7 @@ pub record HasGiven {W : Type 0} (has counts : W → ℕ) (crew : List (Member W
 abbrev pub HasIn : DeskView → ℕ → DeskView → Type 0
 HasIn first number desk = In number first.joined × (own first.seen number ≡ own desk.seen number) × IsPrefix desk.seen first.seen
 
--- the first desk has joined all members' desks behind the first `left`, and has done nothing else
+-- the first desk has joined all members' desks after the first `left`, and has done nothing else
 pub record HasMetAll {W : Type 0} (books : BooksView) (crew : List (Member W)) (left : ℕ) (desk : DeskView) : Type 0 where
   pub own : IsOf books desk
   pub tidy : IsTidy desk

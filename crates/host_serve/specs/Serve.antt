@@ -21,6 +21,8 @@ use Rattle.host_words.specs.Commands.{IsFor}
 use Rattle.host_words.specs.declared.command.CommandName.TheVariants as command
 use Rattle.host_serve.specs.Crews.{OnlyMet, sum_below}
 use Rattle.host_serve.specs.Turns.{Readings, Stand, OneTurn, Chain, Connection, HandedBy, Sweep, clock_for}
+use Rattle.host_serve.specs.declared.end.BooksOutcome.{BooksOutcome}
+use Rattle.host_serve.specs.declared.end.BooksOutcome.TheVariants as books
 use Rattle.host_serve.specs.declared.end.ServeOutcome.{ServeOutcome}
 use Rattle.host_serve.specs.declared.end.ServeOutcome.TheVariants as end
 
@@ -61,43 +63,6 @@ pub record HasWorked (Does : OneTurn) (books : BooksView) (history : List Entry)
   pub turns : Chain Does count began ended
   pub entries : own history n ≡ own ended.desk.seen n
 
--- In the history the desks 1 to the number of workers served connections, so many all together, and the one behind them
--- swept, each by its own of the clocks. It made as many sweeps as the ticker ticked, each time after the words'
--- seconds, and the ticker was then asked once more.
-pub record AllWorked (cat : CatalogueView) (books : BooksView) (said : Serving) (clocks : List Readings) (asks : ℕ → ℕ → Type 0) (hands : Handing) (total : ℕ)
-    (history : List Entry) : Type 0 where
-  pub served : ℕ → ℕ
-  pub serving : (i : ℕ) → i < said.workers → HasWorked (Connection hands cat) books history (i + 1) (clock_for clocks i) (served i)
-  pub together : sum_below served said.workers ≡ total
-  pub sweeps : ℕ
-  pub sweeping : HasWorked Sweep books history (said.workers + 1) (clock_for clocks said.workers) sweeps
-  pub asked : asks said.sweep sweeps
-
--- The books were finished by their first desk, which had parted so many others and had joined each: this is the wall
--- that was left, and in its history is what that desk had seen.
-pub record IsWallOf (books : BooksView) (others : ℕ) (wall : WallView) : Type 0 where
-  pub layout : wall.layout ≡ books.layout
-  pub desk : DeskView
-  pub of : IsOf books desk
-  pub parted : desk.parted ≡ others
-  pub whole : IsWhole desk.number desk.parted desk.joined
-  pub seen : wall.history ≡ desk.seen
-  pub finished : Finishes books.layout desk wall.words wall.history
-
--- The wall is that of the books at which the members served, and these have this layout. Its words are those of its
--- history, which is legal, and it is free for an export. In the history the first desk only met others, and the
--- members' entries are those of all their turns at these books: so many connections all together, and the sweeps. No
--- desk beyond these has any.
-pub record IsServedWall (cat : CatalogueView) (plan : Layout) (said : Serving) (clocks : List Readings) (asks : ℕ → ℕ → Type 0) (hands : Handing) (total : ℕ) (wall : WallView) : Type 0 where
-  pub books : BooksView
-  pub layout : books.layout ≡ plan
-  pub of : IsWallOf books (said.workers + 1) wall
-  pub closed : IsClosed wall
-  pub tidy : IsTidyWall wall
-  pub first : OnlyMet wall.history
-  pub worked : AllWorked cat books said clocks asks hands total wall.history
-  pub no_others : (n : ℕ) → said.workers + 1 < n → own wall.history n ≡ []
-
 -- what the listener told and how often it had failed, before and after; what the clocks told, and whether the ticker
 -- ticked so often, each time after so many seconds, and was then asked once more; and the wall
 pub record Left : Type 1 where
@@ -124,13 +89,51 @@ left_by told faults becomes hands clocks asks first last wall = record {
   wall = wall;
 }
 
+-- In the history the desks 1 to the number of workers served connections, all together as many as the listener has
+-- handed out, and the desk after them swept, each by its own of the clocks. It made as many sweeps as the ticker ticked,
+-- each time after the words' seconds, and the ticker was then asked once more.
+pub record AllWorked (cat : CatalogueView) (books : BooksView) (said : Serving) (left : Left) (history : List Entry)
+    : Type 0 where
+  pub served : ℕ → ℕ
+  pub serving : (i : ℕ) → i < said.workers
+      → HasWorked (Connection left.hands cat) books history (i + 1) (clock_for left.clocks i) (served i)
+  pub together : sum_below served said.workers ≡ left.after.handed
+  pub sweeps : ℕ
+  pub sweeping : HasWorked Sweep books history (said.workers + 1) (clock_for left.clocks said.workers) sweeps
+  pub asked : left.asks said.sweep sweeps
+
+-- The books were finished by their first desk, which had parted so many others and had joined each: this is the wall
+-- that was left, and in its history is what that desk had seen.
+pub record IsWallOf (books : BooksView) (others : ℕ) (wall : WallView) : Type 0 where
+  pub layout : wall.layout ≡ books.layout
+  pub desk : DeskView
+  pub of : IsOf books desk
+  pub parted : desk.parted ≡ others
+  pub whole : IsWhole desk.number desk.parted desk.joined
+  pub seen : wall.history ≡ desk.seen
+  pub finished : Finishes books.layout desk wall.words wall.history
+
+-- The wall is that of the books at which the members served, and these have this layout. Its words are those of its
+-- history, which is legal, and it is free for an export. In the history the first desk only met others, and the
+-- members' entries are those of all their turns at these books: the connections and the sweeps. No desk beyond these has
+-- any.
+pub record IsServedWall (cat : CatalogueView) (plan : Layout) (said : Serving) (left : Left) (wall : WallView) : Type 0 where
+  pub books : BooksView
+  pub layout : books.layout ≡ plan
+  pub of : IsWallOf books (said.workers + 1) wall
+  pub closed : IsClosed wall
+  pub tidy : IsTidyWall wall
+  pub first : OnlyMet wall.history
+  pub worked : AllWorked cat books said left wall.history
+  pub no_others : (n : ℕ) → said.workers + 1 < n → own wall.history n ≡ []
+
 -- what was served: the books of the words' catalogue, with its places and rows, which opened with no booking or with
 -- those of the words' export, over just as many connections as the listener has handed out
 pub record HasWall (files : Files) (said : ServeView) (left : Left) : Type 0 where
   pub cat : CatalogueView
   pub kept : List KeptBooking
   pub books : HasBooks files said.catalogue said.from cat kept
-  pub closed : IsSomeAnd left.wall (IsServedWall cat (layout_with (legs_in cat) cat.rows kept) said.numbers left.clocks left.asks left.hands left.after.handed)
+  pub closed : IsSomeAnd left.wall (IsServedWall cat (layout_with (legs_in cat) cat.rows kept) said.numbers left)
 
 -- There are books that the words ask for: the catalogue is there, and the export, if one is named.
 pub record HasOpened (files : Files) (said : ServeView) : Type 0 where
@@ -156,7 +159,7 @@ pub record IsUnbound (said : Serving) (faults_before faults_after : ℕ) (before
   pub rose : Rose faults_before faults_after
   pub only : after ≡ record before { limit = said.connections }
 
--- What the words ask for ended so. Where there are books, only a failed bind, and want of memory before any stream was
+-- What the words ask for ended so. Where there are books, only a failed bind, and no memory before any stream was
 -- handed out, hand back no wall.
 abbrev pub Ends : Files → ServeView → Left → ServeOutcome → Type 0
 Ends files said left end.Served = IsSpent said.numbers left.faults_before left.faults_after left.after × HasWall files said left
@@ -172,19 +175,14 @@ Ends files said left (end.NotLoaded fault) =
 Ends files said left end.NoMemory = (left.wall ≡ None) × (left.after.handed ≡ 0) × (left.faults_after ≡ left.faults_before)
 Ends files said left end.Refused = ⊥
 
--- books with this layout were served and closed so, by these clocks and this ticker, from a count of faults of the
--- listener to one with what it then told
-abbrev pub BooksEnd : CatalogueView → Layout → Serving → List Readings → (ℕ → ℕ → Type 0) → Handing → ℕ → ℕ → ListenerView → Option WallView → ServeOutcome → Type 0
-BooksEnd cat plan said clocks asks hands before after view wall end.Served =
-    IsSpent said before after view × IsSomeAnd wall (IsServedWall cat plan said clocks asks hands view.handed)
-BooksEnd cat plan said clocks asks hands before after view wall end.AcceptFailed =
-    HasFailed said before after view × IsSomeAnd wall (IsServedWall cat plan said clocks asks hands view.handed)
-BooksEnd cat plan said clocks asks hands before after view wall end.Unwritten = ⊥
-BooksEnd cat plan said clocks asks hands before after view wall end.NoText = ⊥
-BooksEnd cat plan said clocks asks hands before after view wall end.NotBound = ⊥
-BooksEnd cat plan said clocks asks hands before after view wall end.NoMemory = (wall ≡ None) × (view.handed ≡ 0) × (after ≡ before)
-BooksEnd cat plan said clocks asks hands before after view wall (end.NotLoaded fault) = ⊥
-BooksEnd cat plan said clocks asks hands before after view wall end.Refused = ⊥
+-- books with this layout were served and closed so
+abbrev pub BooksEnd : CatalogueView → Layout → Serving → Left → BooksOutcome → Type 0
+BooksEnd cat plan said left books.Served =
+    IsSpent said left.faults_before left.faults_after left.after × IsSomeAnd left.wall (IsServedWall cat plan said left)
+BooksEnd cat plan said left books.AcceptFailed =
+    HasFailed said left.faults_before left.faults_after left.after × IsSomeAnd left.wall (IsServedWall cat plan said left)
+BooksEnd cat plan said left books.NoMemory =
+    (left.wall ≡ None) × (left.after.handed ≡ 0) × (left.faults_after ≡ left.faults_before)
 
 -- The command ran so. Words that are refused leave all as it was.
 abbrev pub Runs : List (List ℕ) → Files → Left → ServeOutcome → Type 0
@@ -201,13 +199,7 @@ Runs words files left (end.NotLoaded fault) = (said : ServeView) × IsServe word
 -- Where the shelf gave no books, its counts show why; and at every other end its count of faults is as it was.
 abbrev pub HasShelfCause : ServeOutcome → ℕ → ℕ → ℕ → ℕ → Type 0
 HasShelfCause (end.NotLoaded fault) failed fails missed misses = HasCause fault failed fails missed misses
-HasShelfCause end.Served failed fails missed misses = fails ≡ failed
-HasShelfCause end.AcceptFailed failed fails missed misses = fails ≡ failed
-HasShelfCause end.Unwritten failed fails missed misses = fails ≡ failed
-HasShelfCause end.NoText failed fails missed misses = fails ≡ failed
-HasShelfCause end.NotBound failed fails missed misses = fails ≡ failed
-HasShelfCause end.NoMemory failed fails missed misses = fails ≡ failed
-HasShelfCause end.Refused failed fails missed misses = fails ≡ failed
+HasShelfCause _ failed fails missed misses = fails ≡ failed
 
 -- the words are those of `serve`, and the shelf, where it tells its files, has no books for them
 pub record IsWithoutBooks (words : List (List ℕ)) (files : Files) : Type 0 where

@@ -62,7 +62,7 @@ WritesExport (Some w) n old new =
     ⊎ (IsPart (text_on w) n × (new ≡ cut_short old))
 
 -- What was written of the export by the end: all of it, where as many connections as were asked for have ended; where
--- an accept failed, as much of it as the notes took, or nothing, for want of memory; nothing at other ends, and where
+-- an accept failed, as much of it as the notes took, or nothing, out of memory; nothing at other ends, and where
 -- the words don't ask for it.
 abbrev pub Tells : List (List ℕ) → Option WallView → Noting → ServeOutcome → Type 0
 Tells words wall n end.Served =
@@ -77,7 +77,7 @@ Tells words wall n (end.NotLoaded fault) = IsSilent n
 Tells words wall n end.NoMemory = IsSilent n
 Tells words wall n end.Refused = IsSilent n
 
--- and behind it the note of the end
+-- and after it the note of the end
 pub record IsTold (words : List (List ℕ)) (wall : Option WallView) (n : Noting) (outcome : ServeOutcome) : Type 0 where
   pub between : Option (List ℕ)
   pub count : ℕ

@@ -16,6 +16,10 @@ use Rattle.host_serve.specs.declared.member.Post.TheVariants.{Serving, Sweeping}
 abbrev pub Readings : Type 0
 Readings = Option (ℕ → ℕ)
 
+-- how many clocks serving takes: for 16 members that serve, and for the one that sweeps
+abbrev pub clock_count : ℕ
+clock_count = 17
+
 -- of what the clocks told, the clock of the member at this place, from 0: the first member has the last one
 abbrev pub clock_for : List Readings → ℕ → Readings
 clock_for clocks i = slice_index_or clocks (length clocks - (i + 1)) None
@@ -56,12 +60,12 @@ abbrev pub ServesStream : CatalogueView → Option (List ℕ) → Option (List �
 ServesStream cat stream sent left after clock old later new =
     (end : ConnEnd) × ServesWhole cat (connection_at old clock stream sent) (connection_at new later left after) end
 
--- behind some calls of this listener, an accept of it handed out the stream
+-- after some calls of this listener, an accept of it handed out the stream
 abbrev pub HandedBy : {L : Type 0} → (L → L → Type 0) → HandingBy L → L → Handing
 HandedBy becomes hands listener = IsGiven (HandsOn becomes hands listener)
 
 -- what a call shows that lets go of a stream: the one that was called, what the stream's source and its sink told as it
--- was let go, and the one behind the call
+-- was let go, and the one after the call
 abbrev pub LettingGo : Type 0 → Type 1
 LettingGo S = S → Option (List ℕ) → Option (List ℕ) → S → Type 0
 
@@ -145,6 +149,15 @@ abbrev pub SweepsTurn : Readings → DeskView → Readings → DeskView → Bool
 SweepsTurn clock old later new true = Rests clock old later new
 SweepsTurn clock old later new false = SweepsOnce clock old later new
 
+-- what the devices of members show: the readings of a clock to come, how many streams were handed out, and by which calls,
+-- how streams are let go, and how a ticker ticks
+pub record Means (S T C : Type 0) : Type 1 where
+  pub told : C → Readings
+  pub handed : S → ℕ
+  pub hands : HandingBy S
+  pub lets_go : LettingGo S
+  pub ticked : TickingBy T
+
 module _ {S T C : Type 0} where
   -- a serving member's books have its catalogue
   abbrev pub FitsBooks : Post S T C → BooksView → Type 0
@@ -175,27 +188,29 @@ module _ {S T C : Type 0} where
   -- A member stays at its post, a serving one with its catalogue, and serves the stream that it is handed out in this
   -- turn, which it lets go as it was when its connection had ended. A sweeping one asks its ticker once for a tick,
   -- after its seconds, and sweeps where it ticks, and ends where it doesn't.
-  abbrev pub DoesTurn : (C → Readings) → (S → ℕ) → HandingBy S → LettingGo S → TickingBy T → Post S T C → DeskView → Post S T C → DeskView
-      → Type 0
-  DoesTurn told handed hands lets_go ticked (Serving w) old (Serving v) new =
-      (v.common.cat.now ≡ w.common.cat.now) × Counts v.ended (handed w.streams) (handed v.streams)
-      × ServesTurn (Passes hands lets_go w.streams v.streams) w.common.cat.now (told w.clock) old (told v.clock) new v.ended
-  DoesTurn told handed hands lets_go ticked (Sweeping w) old (Sweeping v) new =
-      (v.seconds ≡ w.seconds) × ticked w.ticker w.seconds (not v.ended) v.ticker × SweepsTurn (told w.clock) old (told v.clock) new v.ended
-  DoesTurn told handed hands lets_go ticked (Serving w) old (Sweeping v) new = ⊥
-  DoesTurn told handed hands lets_go ticked (Sweeping w) old (Serving v) new = ⊥
+  abbrev pub DoesTurn : Means S T C → Post S T C → DeskView → Post S T C → DeskView → Type 0
+  DoesTurn m (Serving w) old (Serving v) new =
+      (v.common.cat.now ≡ w.common.cat.now) × Counts v.ended (m.handed w.streams) (m.handed v.streams)
+      × ServesTurn (Passes m.hands m.lets_go w.streams v.streams) w.common.cat.now (m.told w.clock) old (m.told v.clock) new
+      v.ended
+  DoesTurn m (Sweeping w) old (Sweeping v) new =
+      (v.seconds ≡ w.seconds) × m.ticked w.ticker w.seconds (not v.ended) v.ticker
+      × SweepsTurn (m.told w.clock) old (m.told v.clock) new v.ended
+  DoesTurn m (Serving w) old (Sweeping v) new = ⊥
+  DoesTurn m (Sweeping w) old (Serving v) new = ⊥
 
   -- All turns of a member up to its end are a chain: of as many connections of its catalogue as it was handed out
   -- streams, which were handed out so, or of as many sweeps as its ticker ticked, until it didn't.
-  abbrev pub HasChain : (C → Readings) → (S → ℕ) → Handing → TickingBy T → Post S T C → DeskView → Post S T C → DeskView → Type 0
-  HasChain told handed hands ticked (Serving w) old (Serving v) new =
-      (v.common.cat.now ≡ w.common.cat.now) × (served : ℕ) × (handed v.streams ≡ handed w.streams + served)
-      × Chain (Connection hands w.common.cat.now) served (stand_of told (Serving w) old) (stand_of told (Serving v) new)
-  HasChain told handed hands ticked (Sweeping w) old (Sweeping v) new =
-      (v.seconds ≡ w.seconds) × (sweeps : ℕ) × (before : T) × Ticks ticked w.seconds sweeps w.ticker before × ticked before w.seconds false v.ticker
-      × Chain Sweep sweeps (stand_of told (Sweeping w) old) (stand_of told (Sweeping v) new)
-  HasChain told handed hands ticked (Serving w) old (Sweeping v) new = ⊥
-  HasChain told handed hands ticked (Sweeping w) old (Serving v) new = ⊥
+  abbrev pub HasChain : Means S T C → Handing → Post S T C → DeskView → Post S T C → DeskView → Type 0
+  HasChain m hands (Serving w) old (Serving v) new =
+      (v.common.cat.now ≡ w.common.cat.now) × (served : ℕ) × (m.handed v.streams ≡ m.handed w.streams + served)
+      × Chain (Connection hands w.common.cat.now) served (stand_of m.told (Serving w) old) (stand_of m.told (Serving v) new)
+  HasChain m hands (Sweeping w) old (Sweeping v) new =
+      (v.seconds ≡ w.seconds) × (sweeps : ℕ) × (before : T) × Ticks m.ticked w.seconds sweeps w.ticker before
+      × m.ticked before w.seconds false v.ticker
+      × Chain Sweep sweeps (stand_of m.told (Sweeping w) old) (stand_of m.told (Sweeping v) new)
+  HasChain m hands (Serving w) old (Sweeping v) new = ⊥
+  HasChain m hands (Sweeping w) old (Serving v) new = ⊥
 
   -- The post of member i, from 0: as many as the words say serve the catalogue, and a last one asks this ticker for a
   -- tick each so many seconds.

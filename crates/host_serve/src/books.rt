@@ -10,38 +10,42 @@ ghost use Rattle.claim_rule.specs.Out.{IsIdle, IsTidy};
 ghost use Rattle.claim_rule.specs.Walls.{Finishes};
 ghost use Rattle.cold_store.specs.Tidy.{AreSucceeded};
 ghost use Rattle.worker_pool.specs.Turns.{KeepsDesk};
-ghost use Rattle.host_serve.specs.declared.shared_listener.ListenerEnd.TheVariants as ended;
+ghost use Rattle.host_serve.specs.declared.shared_listener.ListenerEnd.TheVariants as end;
 ghost use Rattle.host_serve.specs.Crews.{IsCrew, IsFirst, HasRun};
 ghost use Rattle.host_serve.specs.Over.{EndsOver};
-ghost use Rattle.host_serve.specs.Serve.{BooksEnd};
+ghost use Rattle.host_serve.specs.Serve.{BooksEnd, left_by};
 ghost use Rattle.host_serve.specs.Turns.{HasCatalogue, Asks, Chain, Connection};
 
-use crate::crew::crew_of;
+use crate::crew::{Means, crew_of};
+use crate::devices::Devices;
 use crate::draining::drain_listener;
-use crate::end::ServeOutcome;
+use crate::end::BooksOutcome;
 use crate::giving::Gives;
 use crate::letting::Dropping;
 use crate::meeting::meet_others;
 use crate::member::Common;
-use crate::shared_listener::{ListenerEnd, Named, SharedListener};
+use crate::shared_listener::{Ended, ListenerEnd, Named, SharedListener};
 use crate::streams::Door;
 use crate::until::Until;
 use claim_rule::{Books, Desk, Wall};
-use host_words::Serving;
-use rail_catalogue::Catalogue;
 use rail_io::{Clock, Ticker};
 use rail_service::Listener;
-use std::alloc::Global;
 use std::sync::ledger::{Blank, Ledger, Share};
 use std::sync::{Mutex, OnceLock, Wait};
 use std::thread::Threads;
 use worker_pool::{Member, Open, run_workers};
 
-/// How serving ended, and what is left of it.
-pub struct ServeRun<L> {
-    pub outcome: ServeOutcome,
+/// How it ended, and what is left of it.
+pub struct Run<O, L> {
+    pub outcome: O,
     pub listener: L,
     pub wall: Option<Wall>,
+}
+
+/// Books and their first desk.
+pub struct Opened {
+    pub books: Books,
+    pub first: Desk,
 }
 
 /// Runs a crew until its members have ended, joins the desks of all but the first, with what those had counted, and
@@ -70,42 +74,46 @@ fn finish_listener<N: Named, L: Listener + Drop, C: Clock>(
     common: Common<'_>,
     books: &Books,
     desk: &mut Desk,
-    listener: &mut L,
-    end: ListenerEnd,
+    ended: &mut Ended<L>,
     limit: u32,
     clock: &mut C,
 ) -> bool
     requires has { HasCatalogue books.now common.cat.now }
     requires own { IsOf books.now desk.old }
     requires tidy { IsTidy desk.old }
-    requires port { (L.told listener.old).port ≡ N.port }
-    requires limit { ((L.told listener.old).limit ≡ N.limit) × (N.limit ≡ limit) }
-    requires within { (L.told listener.old).handed ≤ N.limit }
-    requires gives { GivesOnly L.becomes L.hands listener.old N.gives }
-    requires faults { N.faults ≤ L.faults listener.old }
-    requires steady { end ≢ ended.Failed → L.faults listener.old ≡ N.faults }
-    requires rose { end ≡ ended.Failed → Rose N.faults (L.faults listener.old) }
-    requires failed { end ≡ ended.Failed → (L.told listener.old).handed < N.limit }
-    requires closed { end ≡ ended.Closed → N.limit ≤ (L.told listener.old).handed }
+    requires port { (L.told ended.old.listener).port ≡ N.port }
+    requires limit { ((L.told ended.old.listener).limit ≡ N.limit) × (N.limit ≡ limit) }
+    requires within { (L.told ended.old.listener).handed ≤ N.limit }
+    requires gives { GivesOnly L.becomes L.hands ended.old.listener N.gives }
+    requires faults { N.faults ≤ L.faults ended.old.listener }
+    requires steady { ended.old.end ≢ end.Failed → L.faults ended.old.listener ≡ N.faults }
+    requires rose { ended.old.end ≡ end.Failed → Rose N.faults (L.faults ended.old.listener) }
+    requires failed { ended.old.end ≡ end.Failed → (L.told ended.old.listener).handed < N.limit }
+    requires closed { ended.old.end ≡ end.Closed → N.limit ≤ (L.told ended.old.listener).handed }
     ensures own { IsOf books.now desk.new }
     ensures tidy { IsTidy desk.new }
     ensures keeps { KeepsDesk desk.old desk.new }
-    ensures turns { (n : ℕ) × ((L.told listener.new).handed ≡ (L.told listener.old).handed + n)
+    ensures turns { (n : ℕ) × ((L.told ended.new.listener).handed ≡ (L.told ended.old.listener).handed + n)
         × Chain (Connection (IsGiven N.gives) common.entry.cat.now) n
         (record { desk = desk.old; clock = C.told clock.old })
         (record { desk = desk.new; clock = C.told clock.new }) }
-    ensures never_falls { L.faults listener.old ≤ L.faults listener.new }
-    ensures steady { result ≡ true → L.faults listener.new ≡ N.faults }
-    ensures spent { result ≡ true → L.told listener.new ≡ record { port = N.port; limit = N.limit; handed = N.limit } }
-    ensures failed { result ≡ false → Rose N.faults (L.faults listener.new) × ((L.told listener.new).handed < N.limit) }
-    ensures port { (L.told listener.new).port ≡ N.port }
-    ensures limit { (L.told listener.new).limit ≡ N.limit }
+    ensures never_falls { L.faults ended.old.listener ≤ L.faults ended.new.listener }
+    ensures steady { result ≡ true → L.faults ended.new.listener ≡ N.faults }
+    ensures spent { result ≡ true → L.told ended.new.listener ≡ record { port = N.port; limit = N.limit; handed = N.limit } }
+    ensures failed { result ≡ false → Rose N.faults (L.faults ended.new.listener) × ((L.told ended.new.listener).handed < N.limit) }
+    ensures port { (L.told ended.new.listener).port ≡ N.port }
+    ensures limit { (L.told ended.new.listener).limit ≡ N.limit }
 {
-    match end {
+    match ended.end {
         ListenerEnd::Closed => true,
         ListenerEnd::Failed => false,
         ListenerEnd::Open => drain_listener::<N, L, C, Dropping>(
-            common, books, desk, listener, limit, clock,
+            common,
+            books,
+            desk,
+            &mut ended.listener,
+            limit,
+            clock,
         ),
     }
 }
@@ -134,41 +142,43 @@ pub fn run_books<
     C: Clock + Drop + Send,
 >(
     rt: &'x R,
-    alloc: Global,
-    cat: &'x Catalogue,
-    said: Serving,
-    books: Books,
-    mut first: Desk,
-    listener: L,
-    ticker: T,
-    clocks: Vec<C>,
+    common: Common<'x>,
+    opened: Opened,
+    devices: Devices<L, T, C>,
     blank: Blank,
-) -> ServeRun<L>
+) -> Run<BooksOutcome, L>
 where
     L::Input: Send,
     L::Output: Send,
     requires name { blank.name ≡ N.name }
     requires parts { blank.parts ≡ N.parts }
-    requires one_each { blank.parts ≡ said.workers }
-    requires has { HasCatalogue books cat.now }
-    requires opening { AreSucceeded books.layout.opening }
-    requires first { IsFirst books 0 first }
-    requires clocks { said.workers + 1 ≤ length clocks.items }
-    requires faults { N.faults ≡ L.faults listener }
-    requires view { L.told listener ≡ record { port = N.port; limit = N.limit; handed = 0 } }
-    requires port { N.port ≡ said.port }
-    requires limit { N.limit ≡ said.connections }
-    requires gives { GivesOnly L.becomes L.hands listener N.gives }
-    requires over { EndsOver L.told L.faults L.becomes N.limit N.faults N.over listener }
-    requires workers { 1 ≤ said.workers }
-    ensures never_falls { L.faults listener ≤ L.faults result.listener }
-    ensures ends { BooksEnd cat.now books.layout said (map C.told clocks.items) (Asks T.ticked ticker)
-        (IsGiven N.gives) (L.faults listener) (L.faults result.listener) (L.told result.listener)
-        result.wall result.outcome }
+    requires one_each { blank.parts ≡ common.said.workers }
+    requires has { HasCatalogue opened.books common.cat.now }
+    requires opening { AreSucceeded opened.books.layout.opening }
+    requires first { IsFirst opened.books 0 opened.first }
+    requires clocks { common.said.workers + 1 ≤ length devices.clocks.items }
+    requires faults { N.faults ≡ L.faults devices.listener }
+    requires view { L.told devices.listener ≡ record { port = N.port; limit = N.limit; handed = 0 } }
+    requires port { N.port ≡ common.said.port }
+    requires limit { N.limit ≡ common.said.connections }
+    requires gives { GivesOnly L.becomes L.hands devices.listener N.gives }
+    requires over { EndsOver L.told L.faults L.becomes N.limit N.faults N.over devices.listener }
+    requires workers { 1 ≤ common.said.workers }
+    ensures never_falls { L.faults devices.listener ≤ L.faults result.listener }
+    ensures ends { BooksEnd common.entry.cat.now opened.books.layout common.entry.said
+        (record (left_by L.told L.faults L.becomes L.hands (map C.told devices.clocks.items) (Asks T.ticked devices.ticker)
+        devices.listener result.listener result.wall) { hands = IsGiven N.gives })
+        result.outcome }
 {
-    let Ok(crew) = Vec::with_capacity(alloc, said.workers as usize + 1) else {
-        return ServeRun {
-            outcome: ServeOutcome::NoMemory,
+    let Devices {
+        listener,
+        ticker,
+        clocks,
+    } = devices;
+    let Opened { books, mut first } = opened;
+    let Ok(crew) = Vec::with_capacity(common.alloc, common.said.workers as usize + 1) else {
+        return Run {
+            outcome: BooksOutcome::NoMemory,
             listener,
             wall: None,
         };
@@ -178,36 +188,43 @@ where
         shared: Mutex::new(SharedListener::new(listener, book)),
         mark: OnceLock::new(),
     };
-    let common = Common { alloc, cat };
     let shared = &door;
-    let ticker = Until {
-        ticker,
-        door: shared,
-    };
     let crew = crew_of(
-        rt, shared, common, &books, &mut first, said, ticker, clocks, &mut rest, crew,
+        rt,
+        shared,
+        common,
+        &books,
+        &mut first,
+        Means {
+            ticker: Until {
+                ticker,
+                door: shared,
+            },
+            clocks,
+        },
+        &mut rest,
+        crew,
     );
     let Member { mut desk, worker } = run_crew(rt, &books, &mut first, crew, &mut rest);
     let mut clock = worker.into_clock(&mut rest);
     let Door { shared, mark: _ } = door;
-    let (mut listener, end) = shared.into_inner().into_listener(&mut rest);
+    let mut ended = shared.into_inner().into_listener(&mut rest);
     let all = finish_listener::<N, L, C>(
         common,
         &books,
         &mut desk,
-        &mut listener,
-        end,
-        said.connections,
+        &mut ended,
+        common.said.connections,
         &mut clock,
     );
     books.meet(&mut first, desk);
-    ServeRun {
+    Run {
         outcome: if all {
-            ServeOutcome::Served
+            BooksOutcome::Served
         } else {
-            ServeOutcome::AcceptFailed
+            BooksOutcome::AcceptFailed
         },
-        listener,
+        listener: ended.listener,
         wall: Some(close(books, first)),
     }
 }

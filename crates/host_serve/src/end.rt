@@ -1,6 +1,6 @@
 // How `serve` ends.
 ghost use Rattle.std.specs.Prelude.{◌≡◌};
-ghost use Rattle.host_serve.specs.Ends.{end_of_serve};
+ghost use Rattle.host_serve.specs.Ends.{end_of_serve, outcome_of_books};
 
 use claim_rule::Wall;
 use host_catalogue::LoadFault;
@@ -17,7 +17,7 @@ pub enum ServeOutcome {
     NotLoaded(LoadFault),
     /// The bind failed, and nothing was served.
     NotBound,
-    /// An accept failed, behind the connections that were served.
+    /// An accept failed, after the connections that were served.
     AcceptFailed,
     /// As many connections as were asked for have ended.
     Served,
@@ -25,6 +25,30 @@ pub enum ServeOutcome {
     NoText,
     /// As many connections as were asked for have ended, and the notes failed in the export.
     Unwritten,
+}
+
+/// How books were served.
+#[derive(Clone, Copy, Debug)]
+pub enum BooksOutcome {
+    /// There was no memory for the members.
+    NoMemory,
+    /// An accept failed, after the connections that were served.
+    AcceptFailed,
+    /// As many connections as were asked for have ended.
+    Served,
+}
+
+impl BooksOutcome {
+    /// How serving ended then.
+    pub fn outcome(self) -> ServeOutcome
+        ensures { result ≡ outcome_of_books self }
+    {
+        match self {
+            BooksOutcome::NoMemory => ServeOutcome::NoMemory,
+            BooksOutcome::AcceptFailed => ServeOutcome::AcceptFailed,
+            BooksOutcome::Served => ServeOutcome::Served,
+        }
+    }
 }
 
 /// What is left when serving has ended.

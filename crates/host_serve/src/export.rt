@@ -11,22 +11,22 @@ use rail_io::Sink;
 use session_loop::write_all;
 use std::alloc::Global;
 
-/// Writes the export of the wall, where there is one, to the notes: how serving ends then, which had ended so. A failed
+/// Writes the export of the wall, where there is one: how serving ends then, which had ended so. A failed
 /// accept stays one, whatever becomes of the text.
 pub fn write_export<E: Sink>(
     alloc: Global,
     wall: &Option<Wall>,
-    notes: &mut E,
+    export: &mut E,
     outcome: ServeOutcome,
 ) -> ServeOutcome
     requires closed { IfSome wall.now IsClosed }
     requires tidy { IfSome wall.now IsTidyWall }
     ensures { WritesExport wall.now
         (record {
-          before = E.told notes.old;
-          failed = E.faults notes.old;
-          after = E.told notes.new;
-          fails = E.faults notes.new;
+          before = E.told export.old;
+          failed = E.faults export.old;
+          after = E.told export.new;
+          fails = E.faults export.new;
         })
         outcome result }
 {
@@ -39,7 +39,7 @@ pub fn write_export<E: Sink>(
             other => other,
         };
     };
-    if write_all(notes, text.as_slice()) {
+    if write_all(export, text.as_slice()) {
         return outcome;
     }
     match outcome {

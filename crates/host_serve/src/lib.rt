@@ -12,6 +12,7 @@
 
 mod books;
 mod crew;
+mod devices;
 mod draining;
 mod end;
 mod export;
@@ -28,12 +29,13 @@ mod streams;
 mod sweeping;
 mod until;
 
+pub use devices::CLOCKS;
 pub use end::{ServeEnd, ServeOutcome};
 pub use mark::{Mark, Over};
 pub use member::{Common, Post};
 pub use run::run_serve;
 pub use serving::Server;
-pub use shared_listener::{ListenerEnd, Named, SharedListener};
-pub use streams::Streams;
+pub use shared_listener::{Ended, ListenerEnd, Named, SharedListener};
+pub use streams::{Door, Streams};
 pub use sweeping::Sweeper;
 pub use until::Until;

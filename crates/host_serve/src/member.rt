@@ -5,6 +5,7 @@ use crate::shared_listener::Named;
 use crate::streams::{LockedStreams, Streams};
 use crate::sweeping::Sweeper;
 use claim_rule::{Books, Desk};
+use host_words::Serving;
 use rail_catalogue::Catalogue;
 use rail_io::{Clock, Ticker};
 use rail_service::Listener;
@@ -13,11 +14,12 @@ use std::sync::Wait;
 use std::sync::ledger::Share;
 use worker_pool::{TurnEnd, Worker};
 
-/// What all serving members share.
+/// What all members share: memory, the catalogue, and the numbers of the words.
 #[derive(Clone, Copy)]
 pub struct Common<'s> {
     pub alloc: Global,
     pub cat: &'s Catalogue,
+    pub said: Serving,
 }
 
 /// A member's post: it serves, or it sweeps.
@@ -69,7 +71,13 @@ impl<S: Streams, T: Ticker, C: Clock> Worker for Post<'_, S, T, C> {
 
     ghost ended = { λ w. HasEnded w };
 
-    ghost does = { λ before old after new. DoesTurn C.told S.handed S.hands S.lets_go T.ticked before old after new };
+    ghost does = { λ before old after new. DoesTurn (record {
+      told = C.told;
+      handed = S.handed;
+      hands = S.hands;
+      lets_go = S.lets_go;
+      ticked = T.ticked;
+    }) before old after new };
 
     fn turn(&mut self, books: &Books, desk: &mut Desk) -> TurnEnd {
         match self {

@@ -17,13 +17,15 @@ ghost use Rattle.host_serve.specs.Ends.{status_of_serve};
 ghost use Rattle.host_serve.specs.Serve.{Ends, HasShelfCause, IsExporting, IsNoServe, IsOfRefusedText, IsOnlyLimited, IsServe};
 ghost use Rattle.host_serve.specs.Serve.{IsWithoutBooks, Runs, left_by};
 ghost use Rattle.host_serve.specs.Telling.{IsBefore, IsTold, Tells};
-ghost use Rattle.host_serve.specs.Turns.{Asks, HasCatalogue};
+ghost use Rattle.host_serve.specs.Turns.{Asks, HasCatalogue, clock_count};
 ghost use Rattle.host_serve.specs.declared.end.ServeOutcome.{ServeOutcome};
 ghost use Rattle.host_serve.specs.declared.end.ServeOutcome.TheVariants as outcome;
 
-use crate::books::{ServeRun, run_books};
+use crate::books::{Opened, Run, run_books};
+use crate::devices::Devices;
 use crate::end::{ServeEnd, ServeOutcome, command_end};
 use crate::export::write_export;
+use crate::member::Common;
 use claim_rule::{Books, Desk};
 use host_catalogue::{LoadFault, load_books};
 use host_notes::end_command;
@@ -59,12 +61,12 @@ fn open<F: Shelf>(
 }
 
 /// A run that has ended without books.
-fn without_books<L>(outcome: ServeOutcome, listener: L) -> ServeRun<L>
+fn without_books<L>(outcome: ServeOutcome, listener: L) -> Run<ServeOutcome, L>
     ensures outcome { result.outcome ≡ outcome }
     ensures listener { result.listener ≡ listener }
     ensures wall { result.wall ≡ None }
 {
-    ServeRun {
+    Run {
         outcome,
         listener,
         wall: None,
@@ -83,26 +85,29 @@ fn listen_and_run<
     alloc: Global,
     said: &ServeWords<'_>,
     shelf: &mut F,
-    mut listener: L,
-    ticker: T,
-    clocks: Vec<C>,
-) -> ServeRun<L>
+    devices: Devices<L, T, C>,
+) -> Run<ServeOutcome, L>
 where
     L::Input: Send,
     L::Output: Send,
-    requires clocks { length clocks.items ≡ 17 }
-    requires fresh { (L.told listener).handed ≡ 0 }
+    requires clocks { length devices.clocks.items ≡ clock_count }
+    requires fresh { (L.told devices.listener).handed ≡ 0 }
     requires ranges { IsInRange said.now.numbers }
-    ensures never_falls { L.faults listener ≤ L.faults result.listener }
+    ensures never_falls { L.faults devices.listener ≤ L.faults result.listener }
     ensures ends { Ends (F.told shelf.old) (said_in said.now)
-        (left_by L.told L.faults L.becomes L.hands (map C.told clocks.items) (Asks T.ticked ticker)
-        listener result.listener result.wall)
+        (left_by L.told L.faults L.becomes L.hands (map C.told devices.clocks.items) (Asks T.ticked devices.ticker)
+        devices.listener result.listener result.wall)
         result.outcome }
     ensures before { IsBefore result.outcome }
     ensures same { F.told shelf.new ≡ F.told shelf.old }
     ensures cause { HasShelfCause result.outcome (F.faults shelf.old) (F.faults shelf.new)
         (F.misses shelf.old) (F.misses shelf.new) }
 {
+    let Devices {
+        mut listener,
+        ticker,
+        clocks,
+    } = devices;
     let (cat, books, first) = match open(alloc, shelf, said) {
         Ok(opened) => opened,
         Err(fault) => return without_books(ServeOutcome::NotLoaded(fault), listener),
@@ -111,18 +116,31 @@ where
     if let Bound::Failed = listener.bind(said.numbers.port) {
         return without_books(ServeOutcome::NotBound, listener);
     }
-    run_books::<Brand, R, L, T, C>(
-        rt,
+    let common = Common {
         alloc,
-        &cat,
-        said.numbers,
-        books,
-        first,
+        cat: &cat,
+        said: said.numbers,
+    };
+    let Run {
+        outcome,
         listener,
-        ticker,
-        clocks,
+        wall,
+    } = run_books::<Brand, R, L, T, C>(
+        rt,
+        common,
+        Opened { books, first },
+        Devices {
+            listener,
+            ticker,
+            clocks,
+        },
         Blank::new(said.numbers.workers as u64),
-    )
+    );
+    Run {
+        outcome: outcome.outcome(),
+        listener,
+        wall,
+    }
 }
 
 /// What the words of `serve` say.
@@ -137,8 +155,8 @@ fn said_of<'a>(alloc: Global, words: &'a [String]) -> Result<ServeWords<'a>, Wor
     read_serve(alloc, words)
 }
 
-/// Serves what the words say, if they are those of the command, and writes the export of the books to the notes, if
-/// they ask for it.
+/// Serves what the words say, if they are those of the command, and writes the export of the books, if they ask for
+/// it.
 fn run_by_words<
     R: Threads + Wait + Sync,
     F: Shelf,
@@ -151,51 +169,49 @@ fn run_by_words<
     alloc: Global,
     words: &[String],
     shelf: &mut F,
-    listener: L,
-    ticker: T,
-    clocks: Vec<C>,
-    notes: &mut E,
-) -> ServeRun<L>
+    devices: Devices<L, T, C>,
+    export: &mut E,
+) -> Run<ServeOutcome, L>
 where
     L::Input: Send,
     L::Output: Send,
-    requires clocks { length clocks.items ≡ 17 }
-    requires fresh { (L.told listener).handed ≡ 0 }
-    ensures never_falls { L.faults listener ≤ L.faults result.listener }
+    requires clocks { length devices.clocks.items ≡ clock_count }
+    requires fresh { (L.told devices.listener).handed ≡ 0 }
+    ensures never_falls { L.faults devices.listener ≤ L.faults result.listener }
     ensures runs { Runs (words_texts words.now) (F.told shelf.old)
-        (left_by L.told L.faults L.becomes L.hands (map C.told clocks.items) (Asks T.ticked ticker)
-        listener result.listener result.wall)
+        (left_by L.told L.faults L.becomes L.hands (map C.told devices.clocks.items) (Asks T.ticked devices.ticker)
+        devices.listener result.listener result.wall)
         result.outcome }
     ensures tells { Tells (words_texts words.now) result.wall
         (record {
-          before = E.told notes.old;
-          failed = E.faults notes.old;
-          after = E.told notes.new;
-          fails = E.faults notes.new;
+          before = E.told export.old;
+          failed = E.faults export.old;
+          after = E.told export.new;
+          fails = E.faults export.new;
         })
         result.outcome }
     ensures shelf { result.outcome ≡ outcome.Refused → shelf.new ≡ shelf.old }
-    ensures listener { result.outcome ≡ outcome.Refused → result.listener ≡ listener }
+    ensures listener { result.outcome ≡ outcome.Refused → result.listener ≡ devices.listener }
     ensures same { F.told shelf.new ≡ F.told shelf.old }
     ensures cause { HasShelfCause result.outcome (F.faults shelf.old) (F.faults shelf.new)
         (F.misses shelf.old) (F.misses shelf.new) }
 {
     let said = match said_of(alloc, words) {
         Ok(said) => said,
-        Err(WordsFault::NoMemory) => return without_books(ServeOutcome::NoMemory, listener),
-        Err(WordsFault::Refused) => return without_books(ServeOutcome::Refused, listener),
+        Err(WordsFault::NoMemory) => return without_books(ServeOutcome::NoMemory, devices.listener),
+        Err(WordsFault::Refused) => return without_books(ServeOutcome::Refused, devices.listener),
     };
-    let run = listen_and_run(rt, alloc, &said, shelf, listener, ticker, clocks);
+    let run = listen_and_run(rt, alloc, &said, shelf, devices);
     if !said.export {
         return run;
     }
-    let ServeRun {
+    let Run {
         outcome,
         listener,
         wall,
     } = run;
-    ServeRun {
-        outcome: write_export(alloc, &wall, notes, outcome),
+    Run {
+        outcome: write_export(alloc, &wall, export, outcome),
         listener,
         wall,
     }
@@ -206,7 +222,7 @@ where
 /// are those after the program's name: `serve`, the name of the catalogue's file, `--port`, and with `--workers`,
 /// `--connections` and `--sweep` how many members serve, how many connections are taken, and the seconds from one sweep
 /// to the next. With `--from` the books open with the bookings of the export of this name, and with `--export` the
-/// export of the books is written to the notes at the end, also behind a failed accept.
+/// export of the books is written to the notes at the end, also after a failed accept.
 ///
 /// | status | where |
 /// |---|---|
@@ -217,7 +233,7 @@ where
 /// | 4 | all connections have ended, and the notes failed in the writing of the export |
 /// | 5 | there was no memory to begin with, or, where all connections have ended, for the export |
 ///
-/// Each has the note of its end, behind the export. Behind a failed accept the status is 3, whatever becomes of the
+/// Each has the note of its end, after the export. After a failed accept the status is 3, whatever becomes of the
 /// export: the notes take all of it, a front of it where they fail, or nothing of it where there is no memory for it.
 ///
 /// The end of one connection changes no status, and neither does a note that fails. It may wait, so all this is said
@@ -250,11 +266,11 @@ pub fn run_serve<
 where
     L::Input: Send,
     L::Output: Send,
-    requires clocks { length clocks.items ≡ 17 }
+    requires clocks { length clocks.items ≡ clock_count }
     requires fresh { (L.told listener).handed ≡ 0 }
 
-    // Status 2 comes exactly where the words are refused, but for want of memory to read them. Nothing is then touched
-    // but the notes.
+    // Status 2 comes exactly where the words are refused, but where there is no memory to read them. Nothing is touched
+    // then but the notes.
     ensures words { result.status ≡ 2 → IsNoServe (words_texts words.now) }
     ensures refused_words { IsNoServe (words_texts words.now) → (result.status ≡ 2) ⊎ (result.status ≡ 5) }
     ensures nothing_fetched { result.status ≡ 2 → shelf.new ≡ shelf.old }
@@ -292,8 +308,8 @@ where
         ⊎ IsOnlyLimited (words_texts words.now) (L.told listener) (L.told result.listener) }
 
     // Status 1 comes where the shelf has no books: of the catalogue's name or of the export's no file, one too large,
-    // or a text that is refused. Where it has none, and tells so, no other status comes but for its failure and for
-    // want of memory.
+    // or a text that is refused. Where it has none, and tells so, no other status comes, unless it fails or there is no
+    // memory.
     ensures without { result.status ≡ 1 → IsWithoutBooks (words_texts words.now) (F.told shelf.old) }
     ensures no_books { (files : List ℕ → Option (List ℕ)) → F.told shelf.old ≡ Some files → (said : ServeView)
         → IsServe (words_texts words.now) said → HasNoBooks files said.catalogue said.from
@@ -304,7 +320,7 @@ where
         ⊎ IsOfRefusedText (words_texts words.now) (F.told shelf.old) }
 
     // A failure is answered where a count of faults rose in this call, and both counts are as they were at every other
-    // status: behind a failed accept none other comes. The listener's never falls.
+    // status: after a failed accept none other comes. The listener's never falls.
     ensures read_cause { result.status ≡ 3 → Rose (L.faults listener) (L.faults result.listener)
         ⊎ Rose (F.faults shelf.old) (F.faults shelf.new) }
     ensures shelf_steady { (result.status ≡ 3 → ⊥) → F.faults shelf.new ≡ F.faults shelf.old }
@@ -312,11 +328,16 @@ where
     ensures steady { (result.status ≡ 3 → ⊥) → L.faults result.listener ≡ L.faults listener }
     ensures files { F.told shelf.new ≡ F.told shelf.old }
 {
-    let ServeRun {
+    let devices = Devices {
+        listener,
+        ticker,
+        clocks,
+    };
+    let Run {
         outcome,
         listener,
         wall,
-    } = run_by_words(rt, alloc, words, shelf, listener, ticker, clocks, notes);
+    } = run_by_words(rt, alloc, words, shelf, devices, notes);
     let status = end_command(notes, &command_end(outcome));
     ServeEnd {
         status,

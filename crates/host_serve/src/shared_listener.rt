@@ -48,6 +48,13 @@ pub enum ListenerEnd {
     Failed,
 }
 
+/// A listener that was shared, and how it ended.
+#[derive(Drop)]
+pub struct Ended<L> {
+    pub listener: L,
+    pub end: ListenerEnd,
+}
+
 /// A listener beside how it ended, to stand in a lock. Whoever has the lock knows what is named of it, and why it
 /// ended. The book has as its total how many streams were handed out: so many are counted in all shares of the ledger
 /// together.
@@ -124,18 +131,18 @@ impl<L: Listener + Drop, N: Named> SharedListener<L, N> {
 
     /// Takes the listener out, with what is known of it. The share with all parts of the ledger counts all streams that
     /// were handed out.
-    pub fn into_listener(self, all: &mut Share<N>) -> (L, ListenerEnd)
+    pub fn into_listener(self, all: &mut Share<N>) -> Ended<L>
         requires whole { all.old.parts ≡ N.parts }
-        ensures counted { (L.told result.0).handed ≡ all.old.amount }
-        ensures port { (L.told result.0).port ≡ N.port }
-        ensures limit { (L.told result.0).limit ≡ N.limit }
-        ensures gives { GivesOnly L.becomes L.hands result.0 N.gives }
-        ensures within { (L.told result.0).handed ≤ N.limit }
-        ensures never_falls { N.faults ≤ L.faults result.0 }
-        ensures steady { result.1 ≢ Failed → L.faults result.0 ≡ N.faults }
-        ensures rose { result.1 ≡ Failed → Rose N.faults (L.faults result.0) }
-        ensures failed { result.1 ≡ Failed → (L.told result.0).handed < N.limit }
-        ensures closed { result.1 ≡ Closed → N.limit ≤ (L.told result.0).handed }
+        ensures counted { (L.told result.listener).handed ≡ all.old.amount }
+        ensures port { (L.told result.listener).port ≡ N.port }
+        ensures limit { (L.told result.listener).limit ≡ N.limit }
+        ensures gives { GivesOnly L.becomes L.hands result.listener N.gives }
+        ensures within { (L.told result.listener).handed ≤ N.limit }
+        ensures never_falls { N.faults ≤ L.faults result.listener }
+        ensures steady { result.end ≢ Failed → L.faults result.listener ≡ N.faults }
+        ensures rose { result.end ≡ Failed → Rose N.faults (L.faults result.listener) }
+        ensures failed { result.end ≡ Failed → (L.told result.listener).handed < N.limit }
+        ensures closed { result.end ≡ Closed → N.limit ≤ (L.told result.listener).handed }
     {
         let SharedListener {
             listener,
@@ -143,6 +150,6 @@ impl<L: Listener + Drop, N: Named> SharedListener<L, N> {
             mut book,
         } = self;
         book.audit(all);
-        (listener, end)
+        Ended { listener, end }
     }
 }

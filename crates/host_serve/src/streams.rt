@@ -24,12 +24,12 @@ pub trait Streams {
     ghost handed: { Self → ℕ };
 
     /// That a call handed out a stream: these streams before it, what the stream's source and its sink told, and these
-    /// streams behind it. Who knows nothing of them but this trait can show that only by a call that gave such a
+    /// streams after it. Who knows nothing of them but this trait can show that only by a call that gave such a
     /// stream.
     ghost hands: { HandingBy Self };
 
     /// That a call let go of a stream: these streams before it, what the stream's source and its sink told as it was
-    /// let go, and these streams behind it. Who knows nothing of them but this trait can show that only by a call with
+    /// let go, and these streams after it. Who knows nothing of them but this trait can show that only by a call with
     /// the stream as it then was.
     ghost lets_go: { LettingGo Self };
 
@@ -51,7 +51,7 @@ pub trait Streams {
         ensures handed { handed self.new ≡ handed self.old };
 }
 
-/// Where several members take their streams: a listener behind a lock, and beside it the mark that it hands out no more.
+/// Where members take their streams: a listener behind a lock, and the mark that it hands out no more.
 #[derive(Drop)]
 pub struct Door<L: Listener + Drop, N: Named> {
     pub shared: Mutex<SharedListener<L, N>>,

@@ -175,7 +175,7 @@ fn sweeps_beside_a_connection(rt: HostRuntime) -> Result<(), Fail> {
     Ok(())
 }
 
-/// An accept that fails: the notes take the export and, behind it, the note.
+/// An accept that fails: the notes take the export and, after it, the note.
 #[test]
 fn a_failed_accept(rt: HostRuntime) -> Result<(), Fail> {
     let alloc = rt.alloc();

@@ -188,7 +188,7 @@ fn sweeper_of<'s>(books: &Books, first: &mut Desk) -> Member<Sweeping<'s>>
     }
 }
 
-// Whether the member has ended behind two sweeps, at its clock's readings.
+// Whether the member has ended after two sweeps, at its clock's readings.
 fn has_swept_twice(member: &Member<Sweeping<'_>>) -> bool {
     match &member.worker {
         Post::Sweeping(sweeper) => {

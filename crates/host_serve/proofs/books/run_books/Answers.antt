@@ -1,8 +1,8 @@
-use Rattle.std.proofs.Common.{◌≡◌, ◌∙◌, ◌+◌, ◌<◌, ℕ, length, map, Some, sym, subst, ap, arith}
+use Rattle.std.proofs.Common.{◌≡◌, ◌∙◌, ◌+◌, ◌<◌, ℕ, length, map, Some, None, sym, subst, ap, arith}
 use Rattle.rail_io.specs.Faults.{Rose}
 use Rattle.rail_service.specs.Listeners.{Handing, IsGiven}
-use Rattle.host_serve.specs.declared.end.ServeOutcome.{ServeOutcome}
-use Rattle.host_serve.specs.Serve.{BooksEnd}
+use Rattle.host_serve.specs.declared.end.BooksOutcome.{BooksOutcome}
+use Rattle.host_serve.specs.Serve.{BooksEnd, Left}
 use Rattle.host_serve.proofs.Chaining.{until_asks}
 use Rattle.host_serve.proofs.Crewing.{complete, one_more}
 use Rattle.host_serve.specs.Turns.{Asks, FitsBooks, TicksUntil}
@@ -12,37 +12,53 @@ use Rattle.host_serve.proofs.books.run_books.Goals.{then-all, else-all}
 
 pub returns : goal.returns
 returns g c =
-    let said = c.args.said in
+    let said = c.args.common.said in
     let run = c.run_crew-desk.ensures.run in
     let left = c.finish_listener-all.ensures in
-    let whole = complete c.args.books run.crew c.run_crew-desk.result c.run_crew-desk.new.first c.finish_listener-all.new.desk c.meet.new.desk run.met c.meet.ensures.met
+    let whole = complete c.args.opened.books run.crew c.run_crew-desk.result c.run_crew-desk.new.first c.finish_listener-all.new.desk c.meet.new.desk run.met c.meet.ensures.met
     (left.keeps.number ∙ run.is.desk.number) in
     let members = c.crew_of-crew.ensures in
-    let clocks = map g.C.Clock.told c.args.clocks.items in
-    let asks = Asks g.T.Ticker.ticked c.args.ticker in
+    let clocks = map g.C.Clock.told c.args.devices.clocks.items in
+    let asks = Asks g.T.Ticker.ticked c.args.devices.ticker in
     let hands : Handing = IsGiven g.N.Named.gives in
-    let view = g.L.Listener.told c.finish_listener-all.new.listener in
-    let worked = all_worked _ (λ s stream sent t. hands stream sent) (λ s left after t. t ≡ s) hands (λ s stream sent t given. given) g.C.Clock.told (λ t s answer u. TicksUntil g.T.Ticker.ticked g.N.Named.over t.ticker s answer u.ticker) c.args.cat.now said _ clocks c.args.books c.crew_of-crew.result.items _ _
+    let view = g.L.Listener.told c.finish_listener-all.new.ended.listener in
+    let seen : Left = record {
+      faults_before = g.L.Listener.faults c.args.devices.listener;
+      before = g.L.Listener.told c.args.devices.listener;
+      clocks = clocks;
+      asks = asks;
+      hands = hands;
+      faults_after = g.L.Listener.faults c.finish_listener-all.new.ended.listener;
+      after = view;
+      wall = Some c.close.result;
+    } in
+    let worked = all_worked (record {
+      told = g.C.Clock.told;
+      handed = _;
+      hands = λ s stream sent t. hands stream sent;
+      lets_go = λ s left after t. t ≡ s;
+      ticked = λ t s answer u. TicksUntil g.T.Ticker.ticked g.N.Named.over t.ticker s answer u.ticker;
+    }) seen (λ s stream sent t given. given) c.args.common.cat.now said _ c.args.opened.books c.crew_of-crew.result.items _ _
     c.run_crew-desk.new.first c.run_crew-desk.result members.crew members.ready members.count c.requires.workers run
     c.finish_listener-all.new.desk c.meet.new.desk (g.C.Clock.told c.into_clock-clock.result) (g.C.Clock.told c.finish_listener-all.new.clock)
-    asks (λ seconds n before after on last. until_asks g.T.Ticker.ticked g.N.Named.over (λ t. t.ticker) seconds n _ before after on last)
-    left.turns.0 c.into_clock-clock.new.all.amount view.handed members.nothing c.into_clock-clock.ensures.amount
-    (let counted = c.into_listener-listener.ensures.counted in let more = left.turns.1 in omega (arith, counted, more))
+    (λ seconds n before after on last. until_asks g.T.Ticker.ticked g.N.Named.over (λ t. t.ticker) seconds n _ before after on last)
+    left.turns.0 c.into_clock-clock.new.all.amount members.nothing c.into_clock-clock.ensures.amount
+    (let counted = c.into_listener-ended.ensures.counted in let more = left.turns.1 in omega (arith, counted, more))
     (ap g.C.Clock.told c.into_clock-clock.ensures.clock) left.keeps left.turns.2 left.own c.meet.ensures.met in
-    let books = c.args.books in
+    let books = c.args.opened.books in
     let rests = all_rested FitsBooks books run.crew c.run_crew-desk.result c.run_crew-desk.new.first c.finish_listener-all.new.desk c.meet.new.desk
     run.are run.met left.own left.tidy (left.keeps.number ∙ run.is.desk.number) c.meet.ensures.met in
     let count : length run.crew ≡ said.workers + 1 = run.count ∙ members.count in
     let closed = c.close.ensures in
-    let wall = served_wall c.args.cat.now said clocks asks hands view.handed books c.meet.new.desk c.close.result c.meet.ensures.own (c.meet.ensures.tidy run.met.tidy) c.requires.opening
+    let wall = served_wall c.args.common.cat.now said seen books c.meet.new.desk c.close.result c.meet.ensures.own (c.meet.ensures.tidy run.met.tidy) c.requires.opening
     closed.layout (record { places = closed.places; legs = closed.legs; rows = closed.rows }) closed.history
     whole.0 (whole.1 ∙ count) (one_more c.run_crew-desk.new.first.number c.run_crew-desk.new.first.seen c.meet.new.desk.seen run.met.number c.meet.ensures.met.mine run.met.meets)
     worked (λ n low high. rests n low (omega (arith, high, count))) in
-    let faults = g.L.Listener.faults c.finish_listener-all.new.listener in
+    let faults = g.L.Listener.faults c.finish_listener-all.new.ended.listener in
     record {
-      never_falls = omega (arith, c.requires.faults, c.into_listener-listener.ensures.never_falls, left.never_falls);
+      never_falls = omega (arith, c.requires.faults, c.into_listener-ended.ensures.never_falls, left.never_falls);
       ends = elim c.if-all.branch [
-        | then-all w ↦ subst (λ (o : ServeOutcome). BooksEnd c.args.cat.now c.args.books.layout said clocks asks hands (g.L.Listener.faults c.args.listener) faults view (Some c.close.result) o) (sym w.result-is) (
+        | then-all w ↦ subst (λ (o : BooksOutcome). BooksEnd c.args.common.cat.now c.args.opened.books.layout said seen o) (sym w.result-is) (
           record {
             handed = left.spent w.if-all.true
                 ∙ (ap (λ (n : ℕ). record { port = n; limit = g.N.Named.limit; handed = g.N.Named.limit }) c.requires.port
@@ -51,7 +67,7 @@ returns g c =
           },
           wall,
         )
-        | else-all w ↦ subst (λ (o : ServeOutcome). BooksEnd c.args.cat.now c.args.books.layout said clocks asks hands (g.L.Listener.faults c.args.listener) faults view (Some c.close.result) o) (sym w.result-is) (
+        | else-all w ↦ subst (λ (o : BooksOutcome). BooksEnd c.args.common.cat.now c.args.opened.books.layout said seen o) (sym w.result-is) (
           record {
             rose = subst (λ (n : ℕ). Rose n faults) c.requires.faults (left.failed w.if-all.false).0;
             port = left.port ∙ c.requires.port;
@@ -64,12 +80,28 @@ returns g c =
     }
 
 -- all members have given what they had
-pub into_listener-listener-requires : goal.into_listener-listener-requires
-into_listener-listener-requires g c =
-    let said = c.args.said in
+pub into_listener-ended-requires : goal.into_listener-ended-requires
+into_listener-ended-requires g c =
+    let said = c.args.common.said in
     let members = c.crew_of-crew.ensures in
     let hands : Handing = IsGiven g.N.Named.gives in
-    let parts = all_parts _ (λ s stream sent t. hands stream sent) (λ s left after t. t ≡ s) hands (λ s stream sent t given. given) g.C.Clock.told (λ t s answer u. TicksUntil g.T.Ticker.ticked g.N.Named.over t.ticker s answer u.ticker) c.args.cat.now said _ (map g.C.Clock.told c.args.clocks.items) c.args.books c.crew_of-crew.result.items _ _
+    let seen : Left = record {
+      faults_before = 0;
+      before = g.L.Listener.told c.args.devices.listener;
+      clocks = map g.C.Clock.told c.args.devices.clocks.items;
+      asks = Asks g.T.Ticker.ticked c.args.devices.ticker;
+      hands = hands;
+      faults_after = 0;
+      after = g.L.Listener.told c.args.devices.listener;
+      wall = None;
+    } in
+    let parts = all_parts (record {
+      told = g.C.Clock.told;
+      handed = _;
+      hands = λ s stream sent t. hands stream sent;
+      lets_go = λ s left after t. t ≡ s;
+      ticked = λ t s answer u. TicksUntil g.T.Ticker.ticked g.N.Named.over t.ticker s answer u.ticker;
+    }) seen (λ s stream sent t given. given) c.args.common.cat.now said _ c.args.opened.books c.crew_of-crew.result.items _ _
     c.run_crew-desk.new.first c.run_crew-desk.result members.crew members.ready members.count c.requires.workers c.run_crew-desk.ensures.run
     c.into_clock-clock.new.all.parts members.parts c.into_clock-clock.ensures.parts in
     record { whole = omega (arith, parts, c.requires.parts, c.requires.one_each) }

@@ -11,11 +11,11 @@ loop-number-init g c =
     let books = c.args.books.now in
     let nobody = c.requires.nobody in
     let told = g.C.Clock.told in
-    let clocks = c.args.clocks.items in
+    let clocks = c.args.means.clocks.items in
     record {
       first = subst (λ l. IsFirst books (length l) c.args.first.now) (sym nobody) c.requires.first;
       crew = subst (λ l. IsCrew FitsBooks books l) (sym nobody) (λ i none lt. absurd (omega (arith, lt)));
-      ready = subst (λ l. AreReady l (λ s. s.share.amount) told c.args.common.cat.now c.args.said c.args.ticker (map told clocks)) (sym nobody)
+      ready = subst (λ l. AreReady l (λ s. s.share.amount) told (record { cat = c.args.common.cat.now; said = c.args.common.said; ticker = c.args.means.ticker; clocks = map told clocks })) (sym nobody)
           (λ i none lt. absurd (omega (arith, lt)));
       parts = omega (arith, c.requires.parts);
       nothing = c.requires.nothing;
@@ -39,7 +39,7 @@ loop-number-preserved g c =
     let whole : c.loop-number.clocks.items ≡ c.pop.new.self.items ++ c.unwrap.result ∷ [] = search rules in
     let popped : length c.loop-number.clocks.items ≡ length c.pop.new.self.items + 1 = ap length whole ∙ length-append c.pop.new.self.items _ in
     let told = g.C.Clock.told in
-    let clocks = c.args.clocks.items in
+    let clocks = c.args.means.clocks.items in
     let front = subst (λ l. IsPrefix l clocks) whole inv.front in
     record {
       first = subst (λ (k : ℕ). IsFirst books k c.part.new.desk) (sym many)
@@ -49,7 +49,7 @@ loop-number-preserved g c =
             fits = c.requires.has;
             desk = parted_desk books n c.loop-number.first c.part.new.desk c.part.result inv.first part.parted part.new.0 part.own.1 part.tidy;
           }));
-      ready = ready_more (λ s. s.share.amount) told c.args.common.cat.now c.args.said c.args.ticker (map told clocks) _ crew _ items inv.ready (record {
+      ready = ready_more (λ s. s.share.amount) told _ _ crew _ items inv.ready (record {
         post = (omega (arith, inv.count, c.loop-number-test.true), refl);
         clock = popped_clock told clocks c.pop.new.self.items c.unwrap.result n front (omega (arith, inv.left, inv.count, popped));
         unserved = c.split_off.ensures.amount;
@@ -93,12 +93,12 @@ returns-clause-ready g c =
     let crew = c.loop-number.crew.items in
     let part = c.part-2.ensures in
     let told = g.C.Clock.told in
-    let clocks = c.args.clocks.items in
-    let at : length crew ≡ c.args.said.workers = search (rules, arith) in
+    let clocks = c.args.means.clocks.items in
+    let at : length crew ≡ c.args.common.said.workers = search (rules, arith) in
     let whole : c.loop-number.clocks.items ≡ c.pop-2.new.self.items ++ c.unwrap-2.result ∷ [] = search rules in
     let popped : length c.loop-number.clocks.items ≡ length c.pop-2.new.self.items + 1 = ap length whole ∙ length-append c.pop-2.new.self.items _ in
     let front = subst (λ l. IsPrefix l clocks) whole inv.front in
-    ready_more (λ s. s.share.amount) told c.args.common.cat.now c.args.said c.args.ticker (map told clocks) _ crew _ c.push_reserved-2.ensures.items inv.ready (record {
+    ready_more (λ s. s.share.amount) told _ _ crew _ c.push_reserved-2.ensures.items inv.ready (record {
       post = (at, refl, refl);
       clock = popped_clock told clocks c.pop-2.new.self.items c.unwrap-2.result (length crew) front (omega (arith, inv.left, inv.count, popped));
       unserved = refl;

@@ -8,13 +8,13 @@ abbrev pub invariant-loop-number : goal.invariant-loop-number
 invariant-loop-number g l = record {
   first : IsFirst l.books (length l.crew.items) l.first;
   crew : IsCrew FitsBooks l.books l.crew.items;
-  ready : AreReady l.crew.items (λ s. s.share.amount) g.C.Clock.told l.common.cat.now l.said l.ticker (map g.C.Clock.told l.fn.clocks.items);
-  parts : l.share.parts + l._number ≡ l.said.workers;
+  ready : AreReady l.crew.items (λ s. s.share.amount) g.C.Clock.told (record { cat = l.common.cat.now; said = l.common.said; ticker = l.ticker; clocks = map g.C.Clock.told l.fn.means.clocks.items });
+  parts : l.share.parts + l._number ≡ l.common.said.workers;
   nothing : l.share.amount ≡ 0;
   count : length l.crew.items ≡ l._number;
-  clocks : l.said.workers + 1 ≤ l._number + length l.clocks.items;
-  front : IsPrefix l.clocks.items l.fn.clocks.items;
-  left : length l.clocks.items + l._number ≡ length l.fn.clocks.items;
+  clocks : l.common.said.workers + 1 ≤ l._number + length l.clocks.items;
+  front : IsPrefix l.clocks.items l.fn.means.clocks.items;
+  left : length l.clocks.items + l._number ≡ length l.fn.means.clocks.items;
   len : vec_len l.crew ≡ l._number;
-  room : l.said.workers + 1 ≤ vec_capacity l.crew;
+  room : l.common.said.workers + 1 ≤ vec_capacity l.crew;
 }

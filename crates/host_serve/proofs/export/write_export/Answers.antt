@@ -9,8 +9,8 @@ use Rattle.host_serve.proofs.export.write_export.Goals as goal
 pub returns-then-write_all : goal.returns-then-write_all
 returns-then-write_all g c =
     let n : Noting = record {
-      before = g.E.Sink.told c.args.notes.now;
-      failed = g.E.Sink.faults c.args.notes.now;
+      before = g.E.Sink.told c.args.export.now;
+      failed = g.E.Sink.faults c.args.export.now;
       after = g.E.Sink.told c.write_all.new.sink;
       fails = g.E.Sink.faults c.write_all.new.sink;
     } in

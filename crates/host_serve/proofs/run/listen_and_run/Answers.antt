@@ -11,41 +11,48 @@ use Rattle.host_serve.proofs.run.listen_and_run.Goals as goal
 pub returns-clause-ends : goal.returns-clause-ends
 returns-clause-ends g c =
     let left : Left = record {
-      faults_before = g.L.Listener.faults c.args.listener;
-      before = g.L.Listener.told c.args.listener;
-      clocks = map g.C.Clock.told c.args.clocks.items;
-      asks = Asks g.T.Ticker.ticked c.args.ticker;
-      hands = HandedBy g.L.Listener.becomes g.L.Listener.hands c.args.listener;
-      faults_after = g.L.Listener.faults c.run_books.result.listener;
-      after = g.L.Listener.told c.run_books.result.listener;
-      wall = c.run_books.result.wall;
+      faults_before = g.L.Listener.faults c.args.devices.listener;
+      before = g.L.Listener.told c.args.devices.listener;
+      clocks = map g.C.Clock.told c.args.devices.clocks.items;
+      asks = Asks g.T.Ticker.ticked c.args.devices.ticker;
+      hands = HandedBy g.L.Listener.becomes g.L.Listener.hands c.args.devices.listener;
+      faults_after = g.L.Listener.faults c.run_books-outcome.result.listener;
+      after = g.L.Listener.told c.run_books-outcome.result.listener;
+      wall = c.run_books-outcome.result.wall;
     } in
     let becomes = g.L.Listener.becomes in
     let hands = g.L.Listener.hands in
-    let goes : (stream sent : Option (List ℕ)) → HandedBy becomes hands c.bind.new.self stream sent → HandedBy becomes hands c.args.listener stream sent =
-    λ stream sent given. ∥∥₁_map given (λ on. behind_a_call becomes hands c.args.listener c.set_limit.new.self c.set_limit.ensures.becomes stream sent
+    let goes : (stream sent : Option (List ℕ)) → HandedBy becomes hands c.bind.new.self stream sent → HandedBy becomes hands c.args.devices.listener stream sent =
+    λ stream sent given. ∥∥₁_map given (λ on. behind_a_call becomes hands c.args.devices.listener c.set_limit.new.self c.set_limit.ensures.becomes stream sent
     (behind_a_call becomes hands c.set_limit.new.self c.bind.new.self c.bind.ensures.becomes stream sent on)) in
-    let steady : g.L.Listener.faults c.bind.new.self ≡ g.L.Listener.faults c.args.listener =
+    let steady : g.L.Listener.faults c.bind.new.self ≡ g.L.Listener.faults c.args.devices.listener =
     c.bind.ensures.steady c.in_default.not-Failed ∙ c.set_limit.ensures.faults in
     let books = c.in-Ok.ensures.books in
-    (books_ended c.in-Ok.opened.0 books.0 c.in-Ok.opened.1.layout (g.F.Shelf.told c.args.shelf.now) (said_in c.args.said.now) left books.1 books.2
-    c.run_books.result.outcome
-    (subst (λ (n : ℕ). BooksEnd c.in-Ok.opened.0 c.in-Ok.opened.1.layout c.args.said.now.numbers left.clocks left.asks left.hands n left.faults_after left.after left.wall c.run_books.result.outcome)
-    steady (books_end (HandedBy becomes hands c.bind.new.self) left.hands goes c.in-Ok.opened.0 c.in-Ok.opened.1.layout c.args.said.now.numbers left.clocks left.asks _ _ _ _
-    c.run_books.result.outcome c.run_books.ensures.ends))).0
+    let cat = c.in-Ok.opened.0 in
+    let plan = c.in-Ok.opened.1.layout in
+    let numbers = c.args.said.now.numbers in
+    let view = g.L.Listener.told c.bind.new.self in
+    let began = subst (λ (n : ℕ). BooksEnd cat plan numbers (record left {
+      faults_before = n;
+      before = view;
+      hands = HandedBy becomes hands c.bind.new.self;
+    }) c.run_books-outcome.result.outcome) steady c.run_books-outcome.ensures.ends in
+    (books_ended cat books.0 plan (g.F.Shelf.told c.args.shelf.now) (said_in c.args.said.now) left books.1 books.2
+    c.run_books-outcome.result.outcome _ c.outcome.ensures
+    (books_end (HandedBy becomes hands c.bind.new.self) left.hands goes cat left view plan numbers c.run_books-outcome.result.outcome began)).0
 
 pub returns-clause-before : goal.returns-clause-before
 returns-clause-before g c =
     let left : Left = record {
       faults_before = g.L.Listener.faults c.bind.new.self;
-      before = g.L.Listener.told c.args.listener;
-      clocks = map g.C.Clock.told c.args.clocks.items;
-      asks = Asks g.T.Ticker.ticked c.args.ticker;
+      before = g.L.Listener.told c.bind.new.self;
+      clocks = map g.C.Clock.told c.args.devices.clocks.items;
+      asks = Asks g.T.Ticker.ticked c.args.devices.ticker;
       hands = HandedBy g.L.Listener.becomes g.L.Listener.hands c.bind.new.self;
-      faults_after = g.L.Listener.faults c.run_books.result.listener;
-      after = g.L.Listener.told c.run_books.result.listener;
-      wall = c.run_books.result.wall;
+      faults_after = g.L.Listener.faults c.run_books-outcome.result.listener;
+      after = g.L.Listener.told c.run_books-outcome.result.listener;
+      wall = c.run_books-outcome.result.wall;
     } in
     let books = c.in-Ok.ensures.books in
     (books_ended c.in-Ok.opened.0 books.0 c.in-Ok.opened.1.layout (g.F.Shelf.told c.args.shelf.now) (said_in c.args.said.now) left books.1 books.2
-    c.run_books.result.outcome c.run_books.ensures.ends).1
+    c.run_books-outcome.result.outcome _ c.outcome.ensures c.run_books-outcome.ensures.ends).1

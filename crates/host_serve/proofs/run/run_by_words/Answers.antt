@@ -32,20 +32,20 @@ returns-clause-runs g c =
     let is = c.in-Ok.ensures.ok in
     let asks : said.export ≡ true = search in
     let left : Left = record {
-      faults_before = g.L.Listener.faults c.args.listener;
-      before = g.L.Listener.told c.args.listener;
-      clocks = map g.C.Clock.told c.args.clocks.items;
-      asks = Asks g.T.Ticker.ticked c.args.ticker;
-      hands = HandedBy g.L.Listener.becomes g.L.Listener.hands c.args.listener;
+      faults_before = g.L.Listener.faults c.args.devices.listener;
+      before = g.L.Listener.told c.args.devices.listener;
+      clocks = map g.C.Clock.told c.args.devices.clocks.items;
+      asks = Asks g.T.Ticker.ticked c.args.devices.ticker;
+      hands = HandedBy g.L.Listener.becomes g.L.Listener.hands c.args.devices.listener;
       faults_after = g.L.Listener.faults run.result.listener;
       after = g.L.Listener.told run.result.listener;
       wall = run.result.wall;
     } in
     let n : Noting = record {
-      before = g.E.Sink.told c.args.notes.now;
-      failed = g.E.Sink.faults c.args.notes.now;
-      after = g.E.Sink.told c.write_export.new.notes;
-      fails = g.E.Sink.faults c.write_export.new.notes;
+      before = g.E.Sink.told c.args.export.now;
+      failed = g.E.Sink.faults c.args.export.now;
+      after = g.E.Sink.told c.write_export.new.export;
+      fails = g.E.Sink.faults c.write_export.new.export;
     } in
     let over = exported words files said n is asks (g.F.Shelf.faults c.args.shelf.now) (g.F.Shelf.faults run.new.shelf)
     (g.F.Shelf.misses c.args.shelf.now) (g.F.Shelf.misses run.new.shelf) left run.result.outcome c.write_export.result
@@ -61,20 +61,20 @@ returns-clause-tells g c =
     let is = c.in-Ok.ensures.ok in
     let asks : said.export ≡ true = search in
     let left : Left = record {
-      faults_before = g.L.Listener.faults c.args.listener;
-      before = g.L.Listener.told c.args.listener;
-      clocks = map g.C.Clock.told c.args.clocks.items;
-      asks = Asks g.T.Ticker.ticked c.args.ticker;
-      hands = HandedBy g.L.Listener.becomes g.L.Listener.hands c.args.listener;
+      faults_before = g.L.Listener.faults c.args.devices.listener;
+      before = g.L.Listener.told c.args.devices.listener;
+      clocks = map g.C.Clock.told c.args.devices.clocks.items;
+      asks = Asks g.T.Ticker.ticked c.args.devices.ticker;
+      hands = HandedBy g.L.Listener.becomes g.L.Listener.hands c.args.devices.listener;
       faults_after = g.L.Listener.faults run.result.listener;
       after = g.L.Listener.told run.result.listener;
       wall = run.result.wall;
     } in
     let n : Noting = record {
-      before = g.E.Sink.told c.args.notes.now;
-      failed = g.E.Sink.faults c.args.notes.now;
-      after = g.E.Sink.told c.write_export.new.notes;
-      fails = g.E.Sink.faults c.write_export.new.notes;
+      before = g.E.Sink.told c.args.export.now;
+      failed = g.E.Sink.faults c.args.export.now;
+      after = g.E.Sink.told c.write_export.new.export;
+      fails = g.E.Sink.faults c.write_export.new.export;
     } in
     (exported words files said n is asks (g.F.Shelf.faults c.args.shelf.now) (g.F.Shelf.faults run.new.shelf)
     (g.F.Shelf.misses c.args.shelf.now) (g.F.Shelf.misses run.new.shelf) left run.result.outcome c.write_export.result
@@ -89,20 +89,20 @@ returns-clause-cause g c =
     let is = c.in-Ok.ensures.ok in
     let asks : said.export ≡ true = search in
     let left : Left = record {
-      faults_before = g.L.Listener.faults c.args.listener;
-      before = g.L.Listener.told c.args.listener;
-      clocks = map g.C.Clock.told c.args.clocks.items;
-      asks = Asks g.T.Ticker.ticked c.args.ticker;
-      hands = HandedBy g.L.Listener.becomes g.L.Listener.hands c.args.listener;
+      faults_before = g.L.Listener.faults c.args.devices.listener;
+      before = g.L.Listener.told c.args.devices.listener;
+      clocks = map g.C.Clock.told c.args.devices.clocks.items;
+      asks = Asks g.T.Ticker.ticked c.args.devices.ticker;
+      hands = HandedBy g.L.Listener.becomes g.L.Listener.hands c.args.devices.listener;
       faults_after = g.L.Listener.faults run.result.listener;
       after = g.L.Listener.told run.result.listener;
       wall = run.result.wall;
     } in
     let n : Noting = record {
-      before = g.E.Sink.told c.args.notes.now;
-      failed = g.E.Sink.faults c.args.notes.now;
-      after = g.E.Sink.told c.write_export.new.notes;
-      fails = g.E.Sink.faults c.write_export.new.notes;
+      before = g.E.Sink.told c.args.export.now;
+      failed = g.E.Sink.faults c.args.export.now;
+      after = g.E.Sink.told c.write_export.new.export;
+      fails = g.E.Sink.faults c.write_export.new.export;
     } in
     (exported words files said n is asks (g.F.Shelf.faults c.args.shelf.now) (g.F.Shelf.faults run.new.shelf)
     (g.F.Shelf.misses c.args.shelf.now) (g.F.Shelf.misses run.new.shelf) left run.result.outcome c.write_export.result

@@ -54,11 +54,11 @@ returns-clause-run g c =
       c.end_command-status.ensures.status ∙ ap status_of c.command_end.ensures,
       run.ensures.runs,
       record {
-        between = g.E.Sink.told run.new.notes;
-        count = g.E.Sink.faults run.new.notes;
+        between = g.E.Sink.told run.new.export;
+        count = g.E.Sink.faults run.new.export;
         text = run.ensures.tells;
-        note = subst (λ (e : CommandEnd). IsNoted (g.E.Sink.told run.new.notes) (g.E.Sink.told c.end_command-status.new.notes)
-            (g.E.Sink.faults run.new.notes) (g.E.Sink.faults c.end_command-status.new.notes) (note_of e)) c.command_end.ensures
+        note = subst (λ (e : CommandEnd). IsNoted (g.E.Sink.told run.new.export) (g.E.Sink.told c.end_command-status.new.notes)
+            (g.E.Sink.faults run.new.export) (g.E.Sink.faults c.end_command-status.new.notes) (note_of e)) c.command_end.ensures
             c.end_command-status.ensures.noted;
       },
       run.ensures.cause,
@@ -74,11 +74,11 @@ returns-clause-exported g c zero asked =
       fails = g.E.Sink.faults c.end_command-status.new.notes;
     } in
     told_whole (words_texts c.args.words.now) run.result.wall n run.result.outcome (record {
-      between = g.E.Sink.told run.new.notes;
-      count = g.E.Sink.faults run.new.notes;
+      between = g.E.Sink.told run.new.export;
+      count = g.E.Sink.faults run.new.export;
       text = run.ensures.tells;
-      note = subst (λ (e : CommandEnd). IsNoted (g.E.Sink.told run.new.notes) (g.E.Sink.told c.end_command-status.new.notes)
-          (g.E.Sink.faults run.new.notes) (g.E.Sink.faults c.end_command-status.new.notes) (note_of e)) c.command_end.ensures
+      note = subst (λ (e : CommandEnd). IsNoted (g.E.Sink.told run.new.export) (g.E.Sink.told c.end_command-status.new.notes)
+          (g.E.Sink.faults run.new.export) (g.E.Sink.faults c.end_command-status.new.notes) (note_of e)) c.command_end.ensures
           c.end_command-status.ensures.noted;
     }) (sym (c.end_command-status.ensures.status ∙ ap status_of c.command_end.ensures) ∙ zero) asked
 
@@ -88,8 +88,8 @@ returns-clause-write_cause g c four =
     let n : Noting = record {
       before = g.E.Sink.told c.args.notes.now;
       failed = g.E.Sink.faults c.args.notes.now;
-      after = g.E.Sink.told run.new.notes;
-      fails = g.E.Sink.faults run.new.notes;
+      after = g.E.Sink.told run.new.export;
+      fails = g.E.Sink.faults run.new.export;
     } in
     let part = told_part (words_texts c.args.words.now) run.result.wall n run.result.outcome run.ensures.tells
     (sym (c.end_command-status.ensures.status ∙ ap status_of c.command_end.ensures) ∙ four) in
