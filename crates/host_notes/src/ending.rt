@@ -9,7 +9,7 @@ use rail_io::Sink;
 use session_loop::ConnEnd;
 
 /// How a command ended. Each variant has one status and one note.
-#[derive(Debug, Drop)]
+#[derive(Drop)]
 pub enum CommandEnd {
     /// 0: all that was asked for is done.
     Done,

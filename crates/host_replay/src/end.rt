@@ -7,7 +7,7 @@ use host_notes::CommandEnd;
 use session_loop::ConnEnd;
 
 /// How a replay or an export ended.
-#[derive(Debug, Drop)]
+#[derive(Drop)]
 pub enum ReplayEnd {
     /// There was no memory for the words.
     NoMemory,

@@ -7,7 +7,7 @@ use serde_json::Value;
 use std::alloc::Global;
 
 /// Why there is no value.
-#[derive(Clone, Copy, Debug, PartialEq, Eq)]
+#[derive(Clone, Copy, PartialEq, Eq)]
 pub enum NoValue {
     NotJson,
     NoMemory,

@@ -9,21 +9,21 @@ use leg_masks::Span;
 use std::alloc::Global;
 
 /// A member of the body.
-#[derive(Clone, Copy, Debug, PartialEq, Eq)]
+#[derive(Clone, Copy, PartialEq, Eq)]
 pub enum FieldName {
     From,
     To,
 }
 
 /// Why a body asks for no span.
-#[derive(Clone, Copy, Debug, PartialEq, Eq)]
+#[derive(Clone, Copy, PartialEq, Eq)]
 pub enum WishFault {
     NotJson,
     BadField(FieldName),
     NoMemory,
 }
 
-/// The span that a body asks for, of a run with so many legs.
+/// The span that a body asks for, of a run with this number of legs.
 pub fn read_wish(alloc: Global, body: &[u8], legs: u8) -> Result<Span, WishFault>
     requires some { 0 < legs }
     requires few { legs ≤ most_place_legs }

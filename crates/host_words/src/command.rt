@@ -4,7 +4,7 @@ ghost use Rattle.host_words.specs.Options.{words_texts};
 ghost use Rattle.host_words.specs.Commands.{IsFor, IsNamed};
 
 /// A command of the program, which the first word names.
-#[derive(Clone, Copy, Debug, PartialEq, Eq)]
+#[derive(Clone, Copy, PartialEq, Eq)]
 pub enum CommandName {
     /// `tiny LEGS PLACES`
     Tiny,

@@ -5,7 +5,7 @@ ghost use Rattle.host_words.specs.declared.fault.WordsFault.TheVariants.{NoMemor
 use std::alloc::AllocError;
 
 /// Why the words of a command give no values.
-#[derive(Clone, Copy, Debug, PartialEq, Eq)]
+#[derive(Clone, Copy, PartialEq, Eq)]
 pub enum WordsFault {
     /// They aren't words of the command: `clap` refuses them, a number is out of its range, or a moment is none.
     Refused,

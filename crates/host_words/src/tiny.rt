@@ -20,7 +20,7 @@ fn number_spelled(word: &[u8], most: u16) -> Option<u16>
 }
 
 /// What the words of `tiny` say.
-#[derive(Clone, Copy, Debug, PartialEq, Eq)]
+#[derive(Clone, Copy, PartialEq, Eq)]
 pub struct TinyWords {
     /// How many legs the one run has: 1 to 126.
     pub legs: u8,

@@ -18,10 +18,11 @@ use Rattle.host_replay.specs.Input.{end_of_replay, status_of_replay}
 use Rattle.host_replay.specs.Replay.{IsNoReplay, Replays, RepliesAll, RepliesCut, RepliesPart, RepliesTaken}
 use Rattle.host_replay.specs.Export.{EndsCut, Exports, ExportsAll, IsNoExport}
 use Rattle.host_replay.specs.declared.end.ReplayEnd.{ReplayEnd}
-use Rattle.host_settle.specs.Settle.{HasNoneToSettle, IsOfRefusedFile, IsOfWords, IsTableFor, Settles}
-use Rattle.host_settle.specs.Settle.{HasShelfCause as HasSettleCause, end_of_settle, status_of_settle}
-use Rattle.host_settle.specs.declared.end.SettleEnd.{SettleEnd}
-use Rattle.rail_host.specs.Devices.{Devices, FailsAt, HasFailed, IsSteady, IsUntouched, OfShelf, Shelf, ShelfFailed, Takes, Writes}
+use Rattle.host_replay.specs.Settle.{HasNoneToSettle, IsOfRefusedFile, IsOfWords, IsTableFor, Settles}
+use Rattle.host_replay.specs.Settle.{HasSettleCause, end_of_settle, status_of_settle}
+use Rattle.host_replay.specs.declared.settle_end.SettleEnd.{SettleEnd}
+use Rattle.rail_host.specs.Devices.{Devices, FailsAt, HasFailed, IsSteady, IsUntouched, OfShelf, Shelf, ShelfFailed}
+use Rattle.rail_host.specs.Devices.{Takes, Writes}
 use Rattle.rail_host.specs.Devices.{after, before, files_of}
 
 -- The words are refused, and nothing is touched but the notes.
@@ -56,7 +57,8 @@ FetchesTable words status shelf =
     Fetches (HasNoneToSettle words) (IsOfRefusedFile words)
     (λ files. IsOfWords words (λ catalogue export. HasNoBooks files catalogue (Some export))) status shelf
 
--- `tiny` ran so. Where the input and the output tell their bytes, those written are the host's answers of those to come.
+-- `tiny` ran so. Where the input and the output tell their bytes, those written are the host's answers to those to
+-- come.
 pub record EndsTiny {F S K E : Type 0} (words : List (List ℕ)) (status : ℕ) (d : Devices F S K E) : Type 0 where
   pub end : ConnEnd
   pub is : status ≡ status_of (end_of end)
@@ -70,7 +72,8 @@ pub record EndsTiny {F S K E : Type 0} (words : List (List ℕ)) (status : ℕ) 
   pub output : FailsAt 4 status d.output
   pub unfetched : d.shelf.new ≡ d.shelf.old
 
--- `replay` ran so. The bytes written are likewise the defined answers of those to come, by the books of the words' files.
+-- `replay` ran so. The bytes written are likewise the defined answers to those to come, by the books of the words'
+-- files.
 pub record EndsReplay {F S K E : Type 0} (words : List (List ℕ)) (status : ℕ) (d : Devices F S K E) : Type 0 where
   pub end : ReplayEnd
   pub is : status ≡ status_of_replay end
@@ -105,7 +108,8 @@ pub record EndsExport {F S K E : Type 0} (words : List (List ℕ)) (status : ℕ
   pub cut : (stream : List ℕ) → before d.input ≡ Some stream → status ≡ 6
       → (answers : List ℕ) × EndsCut words (files_of d.shelf) stream answers
   pub nothing_written : (status ≡ 0 → ⊥) → (status ≡ 4 → ⊥) → d.output.new ≡ d.output.old
-  -- the input or the shelf failed at status 3; at 5 the input may have failed after an answer that there was no memory for
+  -- the input or the shelf failed at status 3; at 5 the input may have failed after an answer for which there was no
+  -- memory
   pub read_cause : status ≡ 3 → HasFailed d.input ⊎ ShelfFailed d.shelf
   pub read_steady : (status ≡ 3 → ⊥) → (status ≡ 5 → ⊥) → IsSteady d.input
   pub output : FailsAt 4 status d.output

@@ -3,8 +3,7 @@ ghost use Rattle.host_words.specs.Options.{words_texts};
 ghost use Rattle.rail_host.specs.Plain.{RanPlainly};
 
 use host_notes::{CommandEnd, end_command};
-use host_replay::{run_export, run_replay};
-use host_settle::run_settle;
+use host_replay::{run_export, run_replay, run_settle};
 use host_tiny::run_tiny;
 use host_words::{CommandName, command_of};
 use rail_io::{Shelf, Sink, Source};
@@ -25,7 +24,11 @@ pub fn run_plain<F: Shelf, S: Source, K: Sink, E: Sink>(
 ) -> u8
     ensures { RanPlainly (words_texts words.now) result (record {
       shelf = record {
-        told = F.told; faults = F.faults; misses = F.misses; old = shelf.old; new = shelf.new;
+        told = F.told;
+        faults = F.faults;
+        misses = F.misses;
+        old = shelf.old;
+        new = shelf.new;
       };
       input = record { told = S.told; faults = S.faults; old = input.old; new = input.new };
       output = record { told = K.told; faults = K.faults; old = output.old; new = output.new };
