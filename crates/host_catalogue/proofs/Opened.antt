@@ -1,5 +1,6 @@
 -- What the books of a catalogue are, opened with no booking or with those of an export.
 use Rattle.std.proofs.Common.{◌≡◌, ◌≤◌, ℕ, List, [], map, refl, sym, subst}
+use Rattle.std.specs.Prelude.{Result, Ok, Err, IfErr, IsErrAnd}
 use Rattle.history_model.specs.Booking.{Layout, most_rows}
 use Rattle.history_model.specs.Laws.{IsOpening}
 use Rattle.rail_catalogue.specs.Contents.{CatalogueView, legs_in}
@@ -8,11 +9,14 @@ use Rattle.claim_rule.specs.Openings.{KeptBooking, layout_with}
 use Rattle.claim_rule.specs.Out.{IsTidy}
 use Rattle.claim_rule.specs.Rule.{BooksView, DeskView}
 use Rattle.claim_rule.specs.Desks.{IsNew, IsOf}
-use Rattle.cold_store.specs.Imports.{OpensAs}
+use Rattle.cold_store.specs.Imports.{IsImportFault, OpensAs}
+use Rattle.cold_store.specs.declared.fault.ImportFault.{ImportFault}
+use Rattle.cold_store.specs.declared.fault.ImportFault.TheVariants as fault
 use Rattle.cold_store.specs.Right.{kept_of}
 use Rattle.cold_store.specs.Tidy.{AreSucceeded}
 use Rattle.cold_store.proofs.Begun.{may_open, succeeded}
-use Rattle.host_catalogue.specs.Opening.{IsExportFor, IsOpened}
+use Rattle.host_catalogue.specs.Loading.{fault_of_import}
+use Rattle.host_catalogue.specs.Opening.{IsExportFor, IsNotImported, IsOpened}
 
 -- books open with an opening state
 opens : (books : BooksView) (desk : DeskView) (g : Layout) → IsOf books desk → books.layout ≡ g → IsOpening g g.opening
@@ -49,3 +53,18 @@ module _ (cat : CatalogueView) (books : BooksView) (desk : DeskView) (own : IsOf
           succeeded = subst (λ (g : Layout). AreSucceeded g.opening) (sym is) (succeeded (legs_in cat) cat.rows text said sound few opening);
         },
       )
+
+-- a text that isn't imported is refused for its fault, unless there was no memory
+pub not_imported : (cat : CatalogueView) (text : List ℕ) (fault : ImportFault) → IsImportFault (legs_in cat) cat.rows text fault
+    → IsNotImported cat text (fault_of_import fault)
+not_imported cat text fault.NoMemory is = refl
+not_imported cat text (fault.NotAnExport line) is = is
+not_imported cat text fault.Sizes is = is
+not_imported cat text (fault.RowWrong row) is = is
+not_imported cat text (fault.Overlap place) is = is
+not_imported cat text (fault.OwnSuccessor row) is = is
+
+-- what follows from what is so of an error is so of it
+pub err_is : {T E : Type 0} {P Q : E → Type 0} (r : Result T E) → ((e : E) → P e → Q e) → IsErrAnd r P → IfErr r Q
+err_is (Ok value) follows is = tt
+err_is (Err e) follows is = follows e is

@@ -4,7 +4,8 @@ use Rattle.rail_io.specs.Faults.{Rose}
 use Rattle.host_catalogue.specs.declared.file.File.{File}
 use Rattle.host_catalogue.specs.declared.file.File.TheVariants.{Catalogue, Export}
 use Rattle.host_catalogue.specs.declared.file.LoadFault.{LoadFault}
-use Rattle.host_catalogue.specs.declared.file.LoadFault.TheVariants.{Missing, TooLarge, Refused, RefusedExport, Failed, NoMemory}
+use Rattle.host_catalogue.specs.declared.file.LoadFault.TheVariants.{Missing, TooLarge, Refused, RefusedExport}
+use Rattle.host_catalogue.specs.declared.file.LoadFault.TheVariants.{Failed, NoMemory}
 
 -- files by name, where a shelf tells them
 abbrev pub Files : Type 0
@@ -29,7 +30,7 @@ pub record IsTooLarge (file : File) (files : List ℕ → Option (List ℕ)) (na
 abbrev pub IsTextOf : File → Files → List ℕ → List ℕ → Type 0
 IsTextOf file told name text = IfSome told (λ files. IsText file files name text)
 
--- Why there is no text of the file with the name: by the files. A shelf's failure and want of memory may come with any
+-- Why there is no text of the file with the name: by the files. A shelf's failure and lack of memory may come with any
 -- files.
 abbrev pub IsFileFault : File → Files → List ℕ → LoadFault → Type 0
 IsFileFault file told name (Missing f) = (f ≡ file) × IfSome told (λ files. files name ≡ None)

@@ -3,10 +3,23 @@ use Rattle.std.specs.Prelude.{◌≡◌, ◌⊎◌, ⊤, ℕ, List, Option, None
 use Rattle.rail_catalogue.specs.Contents.{CatalogueView}
 use Rattle.rail_catalogue.specs.Faults.{Fault, fault_of}
 use Rattle.rail_catalogue.specs.Format.{catalogue_of}
+use Rattle.rail_catalogue.specs.declared.fault.CatalogueFault.{CatalogueFault}
+use Rattle.rail_catalogue.specs.declared.fault.CatalogueFault.TheVariants as catalogue
+use Rattle.cold_store.specs.declared.fault.ImportFault.{ImportFault}
+use Rattle.cold_store.specs.declared.fault.ImportFault.TheVariants as import
 use Rattle.host_catalogue.specs.Files.{Files, IsFileFault, IsText, IsTextOf, IsTooLarge}
 use Rattle.host_catalogue.specs.declared.file.File.TheVariants.{Catalogue}
 use Rattle.host_catalogue.specs.declared.file.LoadFault.{LoadFault}
-use Rattle.host_catalogue.specs.declared.file.LoadFault.TheVariants.{Refused, NoMemory}
+use Rattle.host_catalogue.specs.declared.file.LoadFault.TheVariants.{Refused, RefusedExport, NoMemory}
+
+-- a text that is refused, or no memory to read it
+abbrev pub fault_of_catalogue : CatalogueFault → LoadFault
+fault_of_catalogue catalogue.NoMemory = NoMemory
+fault_of_catalogue fault = Refused fault
+
+abbrev pub fault_of_import : ImportFault → LoadFault
+fault_of_import import.NoMemory = NoMemory
+fault_of_import fault = RefusedExport fault
 
 -- The catalogue of a text, or why it is none.
 abbrev pub Reads : List ℕ → Result CatalogueView LoadFault → Type 0

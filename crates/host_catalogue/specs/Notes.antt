@@ -6,7 +6,8 @@ use Rattle.cold_store.specs.declared.fault.ImportFault.{ImportFault}
 use Rattle.cold_store.specs.declared.fault.ImportFault.TheVariants as import
 use Rattle.host_catalogue.specs.declared.file.File.TheVariants as file
 use Rattle.host_catalogue.specs.declared.file.LoadFault.{LoadFault}
-use Rattle.host_catalogue.specs.declared.file.LoadFault.TheVariants.{Missing, TooLarge, Refused, RefusedExport, Failed, NoMemory}
+use Rattle.host_catalogue.specs.declared.file.LoadFault.TheVariants.{Missing, TooLarge, Refused, RefusedExport}
+use Rattle.host_catalogue.specs.declared.file.LoadFault.TheVariants.{Failed, NoMemory}
 
 -- a fault's number, and the path of a member at fault
 abbrev pub fault_note : CatalogueFault → List ℕ

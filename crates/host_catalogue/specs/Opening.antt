@@ -22,7 +22,8 @@ use Rattle.history_model.specs.Booking.{Layout}
 
 -- the text is an export for books of the catalogue, and these are its bookings
 abbrev pub IsExportFor : CatalogueView → List ℕ → List KeptBooking → Type 0
-IsExportFor cat text kept = (said : List SaidBooking) × IsRightText (legs_in cat) cat.rows text said × (kept ≡ map kept_of said)
+IsExportFor cat text kept =
+    (said : List SaidBooking) × IsRightText (legs_in cat) cat.rows text said × (kept ≡ map kept_of said)
 
 -- what new books of the catalogue have
 abbrev pub new_layout : CatalogueView → Layout
@@ -88,7 +89,8 @@ LacksExport told cat (Some name) = IfSome told (λ files.
 -- a shelf has no books for a command, where it tells its files: no catalogue, or not the export that they are to open
 -- with
 abbrev pub LacksBooks : Files → List ℕ → Option (List ℕ) → Type 0
-LacksBooks told name from = LacksCatalogue told name ⊎ ((cat : CatalogueView) × Loads told name (Ok cat) × LacksExport told cat from)
+LacksBooks told name from =
+    LacksCatalogue told name ⊎ ((cat : CatalogueView) × Loads told name (Ok cat) × LacksExport told cat from)
 
 -- the text is no export for books of the catalogue
 abbrev pub IsNoExport : CatalogueView → List ℕ → Type 0

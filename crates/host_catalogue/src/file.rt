@@ -1,11 +1,13 @@
 // The files that a command reads.
 ghost use Rattle.std.specs.Prelude.{◌≡◌, ◌≤◌, IfErr, IfOk};
 ghost use Rattle.host_catalogue.specs.Files.{HasCause, IsFileFault, IsTextOf, most_of, OfCounts};
+ghost use Rattle.host_catalogue.specs.Loading.{fault_of_catalogue, fault_of_import};
+ghost use Rattle.host_catalogue.specs.declared.file.LoadFault.TheVariants.{NoMemory};
 
 use cold_store::ImportFault;
 use rail_catalogue::CatalogueFault;
 use rail_io::{Fetched, Shelf};
-use std::alloc::Global;
+use std::alloc::{AllocError, Global};
 
 /// A file that a command reads.
 #[derive(Clone, Copy, PartialEq, Eq)]
@@ -43,6 +45,36 @@ pub enum LoadFault {
     Failed,
     /// There was no memory for a text or for what it says.
     NoMemory,
+}
+
+impl From<AllocError> for LoadFault {
+    ghost from_gives = { λ _ fault. fault ≡ NoMemory };
+
+    fn from(_: AllocError) -> LoadFault {
+        LoadFault::NoMemory
+    }
+}
+
+impl From<CatalogueFault> for LoadFault {
+    ghost from_gives = { λ cause fault. fault ≡ fault_of_catalogue cause };
+
+    fn from(fault: CatalogueFault) -> LoadFault {
+        match fault {
+            CatalogueFault::NoMemory => LoadFault::NoMemory,
+            fault => LoadFault::Refused(fault),
+        }
+    }
+}
+
+impl From<ImportFault> for LoadFault {
+    ghost from_gives = { λ cause fault. fault ≡ fault_of_import cause };
+
+    fn from(fault: ImportFault) -> LoadFault {
+        match fault {
+            ImportFault::NoMemory => LoadFault::NoMemory,
+            fault => LoadFault::RefusedExport(fault),
+        }
+    }
 }
 
 /// The text of the file with the name. The shelf is asked once.

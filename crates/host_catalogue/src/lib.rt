@@ -1,7 +1,7 @@
 //! The files of a command: the catalogue, loaded from a shelf, and the export that its books may open with; or why
 //! there are no books, with the note on it.
 //!
-//! It is a room of its own since it alone says what a command's files may be: their limits, what is read of them, each
+//! It is a crate of its own, since it alone says what a command's files may be: their limits, what is read of them, each
 //! fault with the count of the shelf that shows it, and the fault's note.
 #![tactic(auto)]
 

@@ -1,22 +1,12 @@
 // A catalogue out of a shelf.
 ghost use Rattle.std.specs.Prelude.{◌≡◌, ◌≤◌, IfErr, IfOk};
 ghost use Rattle.host_catalogue.specs.Files.{HasCause, OfCounts};
-ghost use Rattle.host_catalogue.specs.Loading.{Loads, Reads};
+ghost use Rattle.host_catalogue.specs.Loading.{Loads};
 
 use crate::file::{File, LoadFault, fetch_text};
-use rail_catalogue::{Catalogue, CatalogueFault, read_catalogue};
+use rail_catalogue::{Catalogue, read_catalogue};
 use rail_io::Shelf;
 use std::alloc::Global;
-
-fn read(alloc: Global, text: &[u8]) -> Result<Catalogue, LoadFault>
-    ensures { Reads text.now result }
-{
-    match read_catalogue(alloc, text) {
-        Ok(catalogue) => Ok(catalogue),
-        Err(CatalogueFault::NoMemory) => Err(LoadFault::NoMemory),
-        Err(fault) => Err(LoadFault::Refused(fault)),
-    }
-}
 
 /// The catalogue of the file with the name, of at most 33,554,432 bytes. The shelf is asked once.
 pub fn load_catalogue<F: Shelf>(
@@ -30,8 +20,6 @@ pub fn load_catalogue<F: Shelf>(
     ensures never_falls { F.misses shelf.old ≤ F.misses shelf.new }
     ensures cause { IfErr result (λ e. OfCounts F.faults F.misses shelf.old shelf.new (HasCause e)) }
 {
-    match fetch_text(alloc, shelf, File::Catalogue, name) {
-        Ok(text) => read(alloc, text.as_slice()),
-        Err(fault) => Err(fault),
-    }
+    let text = fetch_text(alloc, shelf, File::Catalogue, name)?;
+    Ok(read_catalogue(alloc, text.as_slice())?)
 }

@@ -1,19 +1,17 @@
 // The books of a catalogue.
-ghost use Rattle.std.specs.Prelude.{◌≡◌, ◌≤◌, List, [], Ok, IfErr, IfOk};
+ghost use Rattle.std.specs.Prelude.{◌≡◌, List, [], IfErr, IfOk};
 ghost use Rattle.claim_rule.specs.Openings.{KeptBooking};
 ghost use Rattle.claim_rule.specs.Desks.{IsNew, IsOf};
 ghost use Rattle.claim_rule.specs.Out.{IsTidy};
 ghost use Rattle.booking_rows.specs.SealedRows.{FitWords};
-ghost use Rattle.history_model.specs.Booking.{most_rows};
-ghost use Rattle.rail_catalogue.specs.Contents.{legs_in};
-ghost use Rattle.cold_store.specs.Imports.{IsImportFault, OpensAs};
 ghost use Rattle.host_catalogue.specs.Files.{HasCause, OfCounts};
-ghost use Rattle.host_catalogue.specs.Opening.{BeginsWith, Fails, HasBooks, IsNotImported, IsNotOpened, IsOpened, IsOpenedFrom, export_name, new_layout};
+ghost use Rattle.host_catalogue.specs.Opening.{BeginsWith, Fails, HasBooks, IsNotImported, IsNotOpened, IsOpened};
+ghost use Rattle.host_catalogue.specs.Opening.{IsOpenedFrom, export_name, new_layout};
 
 use crate::file::{File, LoadFault, fetch_text};
 use crate::load::load_catalogue;
 use claim_rule::{Books, Desk, start_books};
-use cold_store::{ImportFault, import_books};
+use cold_store::import_books;
 use rail_catalogue::Catalogue;
 use rail_io::Shelf;
 use std::alloc::{AllocError, Global};
@@ -30,34 +28,13 @@ pub fn open_books(alloc: Global, catalogue: &Catalogue) -> Result<(Books, Desk),
     start_books(alloc, legs.as_slice(), catalogue.rows())
 }
 
-/// Books of the catalogue that open with the bookings of an export, and their first desk.
-fn import(alloc: Global, catalogue: &Catalogue, text: &[u8]) -> Result<(Books, Desk), ImportFault>
-    ensures layout { IfOk result (λ t. OpensAs (legs_in catalogue.now) catalogue.now.rows text.now t.0.layout) }
-    ensures own { IfOk result (λ t. IsOf t.0 t.1) }
-    ensures desk { IfOk result (λ t. IsNew t.1 0 []) }
-    ensures tidy { IfOk result (λ t. IsTidy t.1) }
-    ensures rows { IfOk result (λ _. catalogue.now.rows ≤ most_rows) }
-    ensures fit { IfOk result (λ _. FitWords (new_layout catalogue.now)) }
-    ensures err { IfErr result (IsImportFault (legs_in catalogue.now) catalogue.now.rows text.now) }
-{
-    let legs = catalogue.legs(alloc)?;
-    import_books(alloc, legs.as_slice(), catalogue.rows(), text)
-}
-
-/// The same, or why the command has no books.
-fn open_export(
-    alloc: Global,
-    catalogue: &Catalogue,
-    text: &[u8],
-) -> Result<(Books, Desk), LoadFault>
+/// Books of the catalogue that open with the bookings of an export, and their first desk, which has seen nothing.
+fn import(alloc: Global, catalogue: &Catalogue, text: &[u8]) -> Result<(Books, Desk), LoadFault>
     ensures ok { IfOk result (λ t. IsOpenedFrom catalogue.now text.now t.0 t.1) }
     ensures err { IfErr result (IsNotImported catalogue.now text.now) }
 {
-    match import(alloc, catalogue, text) {
-        Ok(opened) => Ok(opened),
-        Err(ImportFault::NoMemory) => Err(LoadFault::NoMemory),
-        Err(fault) => Err(LoadFault::RefusedExport(fault)),
-    }
+    let legs = catalogue.legs(alloc)?;
+    Ok(import_books(alloc, legs.as_slice(), catalogue.rows(), text)?)
 }
 
 /// The books of the catalogue: new ones, or those that open with the bookings of the export with the name.
@@ -76,15 +53,10 @@ fn open_from<F: Shelf>(
     ensures cause { IfErr result (λ e. OfCounts F.faults F.misses shelf.old shelf.new (HasCause e)) }
 {
     let Some(name) = from else {
-        let Ok(opened) = open_books(alloc, catalogue) else {
-            return Err(LoadFault::NoMemory);
-        };
-        return Ok(opened);
+        return Ok(open_books(alloc, catalogue)?);
     };
-    match fetch_text(alloc, shelf, File::Export, name) {
-        Ok(text) => open_export(alloc, catalogue, text.as_slice()),
-        Err(fault) => Err(fault),
-    }
+    let text = fetch_text(alloc, shelf, File::Export, name)?;
+    import(alloc, catalogue, text.as_slice())
 }
 
 /// The catalogue of the file with the name, its books, and their first desk, which has seen nothing. The books open
@@ -104,12 +76,7 @@ pub fn load_books<F: Shelf>(
     ensures steady { IfOk result (λ _. F.faults shelf.new ≡ F.faults shelf.old) }
     ensures cause { IfErr result (λ e. OfCounts F.faults F.misses shelf.old shelf.new (HasCause e)) }
 {
-    let catalogue = match load_catalogue(alloc, shelf, name) {
-        Ok(catalogue) => catalogue,
-        Err(fault) => return Err(fault),
-    };
-    match open_from(alloc, shelf, &catalogue, from) {
-        Ok((books, desk)) => Ok((catalogue, books, desk)),
-        Err(fault) => Err(fault),
-    }
+    let catalogue = load_catalogue(alloc, shelf, name)?;
+    let (books, desk) = open_from(alloc, shelf, &catalogue, from)?;
+    Ok((catalogue, books, desk))
 }

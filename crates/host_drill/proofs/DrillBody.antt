@@ -4,8 +4,8 @@ use Rattle.std.specs.Str.{is_utf8, chars}
 use Rattle.serde_json.specs.Data.{Data, unsigned, number, string, object, no_members, member}
 use Rattle.serde_json.proofs.OnLiterals.{serde_json_on_literals}
 use Rattle.rail_catalogue.specs.Json.{json_of}
-use Rattle.drill_totals.specs.Generator.{digit, request_front, request_middle, request_end, request_bytes}
-use Rattle.drill_catalogue.specs.Fits.{station_code}
+use Rattle.host_drill.specs.Generator.{digit, request_front, request_middle, request_end, request_bytes}
+use Rattle.host_drill.specs.Fits.{station_code}
 use Rattle.host_drill.proofs.DrillHead.{head_bytes}
 
 abbrev body_front : List ℕ

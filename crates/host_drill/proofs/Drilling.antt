@@ -11,13 +11,13 @@ use Rattle.claim_rule.specs.Rule.{DeskView, IsWhole}
 use Rattle.claim_rule.specs.Walls.{WallView, Finishes}
 use Rattle.rail_catalogue.specs.Contents.{CatalogueView}
 use Rattle.host_words.specs.declared.drill.DrillWords.{DrillWords}
-use Rattle.drill_totals.specs.Totals.{sold_of}
-use Rattle.drill_totals.specs.Meeting.{AreAnswered, IsFirst}
-use Rattle.drill_totals.specs.declared.line.Totals.{Totals}
-use Rattle.drill_totals.proofs.Doubles.{no_doubles}
-use Rattle.drill_totals.specs.Parts.{IsWholeCount}
+use Rattle.host_drill.specs.Totals.{sold_of}
+use Rattle.host_drill.specs.Meeting.{AreAnswered, IsFirst}
+use Rattle.host_drill.specs.declared.line.Totals.{Totals}
+use Rattle.host_drill.proofs.Doubles.{no_doubles}
+use Rattle.host_drill.specs.Parts.{IsWholeCount}
 use Rattle.host_drill.specs.Connections.{layout_of}
-use Rattle.drill_catalogue.specs.Fits.{HasPlaces}
+use Rattle.host_drill.specs.Fits.{HasPlaces}
 use Rattle.host_drill.specs.Drilled.{IsCatalogue, IsDrilled, connection_of, state_at}
 use Rattle.host_drill.specs.Worked.{all_replies_with}
 use Rattle.host_drill.proofs.Summing.{AllWorked, AreCrew, crew_of, whole_of}

@@ -2,9 +2,9 @@
 use Rattle.std.proofs.Common.{◌≡◌, ◌∙◌, ℕ, ◌+◌, ◌==◌, Bool, true, false, List, [], ◌∷◌, ◌++◌, length, codes, decimal, refl, ap, arith, append_assoc, append-nil}
 use Rattle.std.proofs.lemmas.Bool.{ne_eqb}
 use Rattle.std.specs.List.{AllByRecursion}
-use Rattle.drill_totals.specs.Totals.{one_if, times}
+use Rattle.host_drill.specs.Totals.{one_if, times}
 use Rattle.http_wire.specs.Answers.{head_text, reason_of, media_of}
-use Rattle.drill_totals.proofs.LineSearch.{StartsWith, has, tells_all, times_apart, times_without_first, times_without_stop}
+use Rattle.host_drill.proofs.LineSearch.{StartsWith, has, tells_all, times_apart, times_without_first, times_without_stop}
 use Rattle.host_drill.proofs.Bodies.{HasNoControl, all_both, all_digits}
 
 -- a head up to the number of its body's length

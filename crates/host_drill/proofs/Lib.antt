@@ -1,3 +1,25 @@
+pub mod Counting
+pub mod LineSearch
+pub mod Doubles
+pub mod Meetings
+pub mod Workers
+pub mod Worked
+pub mod Sums
+pub mod Effects
+pub mod Occupancy
+pub mod Rows
+pub mod OwnCounts
+pub mod Takes
+pub mod Outcomes
+pub mod Tallies
+pub mod Law
+mod OneSale
+pub mod Value
+pub mod Text
+pub mod Places
+pub mod Coach
+pub mod Contents
+pub mod Fitting
 pub mod Serving
 pub mod Taking
 pub mod DrillHead

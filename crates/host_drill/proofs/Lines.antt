@@ -9,8 +9,8 @@ use Rattle.osdm_texts.specs.declared.problem.Problem.TheVariants.{BadHead}
 use Rattle.osdm_texts.specs.Problems.{problem_line}
 use Rattle.osdm_texts.specs.Answers.{Reply, offer_list, created, booking, refund_offer, exchange_offer, exchanged, place_list, swept, problem, status_of, is_problem, tree_of}
 use Rattle.rail_service.specs.Bytes.{reply_bytes}
-use Rattle.drill_totals.specs.Totals.{one_if, times, refused_line, no_memory_line, busy_line}
-use Rattle.drill_totals.proofs.LineSearch.{StartsWith, has}
+use Rattle.host_drill.specs.Totals.{one_if, times, refused_line, no_memory_line, busy_line}
+use Rattle.host_drill.proofs.LineSearch.{StartsWith, has}
 use Rattle.host_drill.specs.Worked.{AnswersEach, replies_with}
 use Rattle.host_drill.proofs.Bodies.{none_in_text}
 use Rattle.host_drill.proofs.Heads.{StandsBy, starts_answer, times_in_answer}

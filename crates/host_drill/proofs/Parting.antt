@@ -36,8 +36,8 @@ use Rattle.reservation_service.specs.declared.holding.Placing.{Placing}
 use Rattle.reservation_service.specs.declared.holding.Placing.TheVariants.{Whole, Short, Contended, NoMemory}
 use Rattle.reservation_service.specs.Holding.{In, FindsNoRow, candidates_in, PlacesAll, placing_of, problem_of}
 use Rattle.reservation_service.specs.Reserving.{detail_of, reserved, Prebooks, FailsToHold}
-use Rattle.drill_totals.specs.Parts.{Outcome, Sold, TurnedAway, Busy, WithoutRow, Among, AllMinor, IsSale, IsTurnedAway, IsBusy, IsPart, on_leg, is_turned_away, is_busy, starts_in}
-use Rattle.drill_catalogue.specs.Fits.{HasPlaces, drill_retailer, numbers_from}
+use Rattle.host_drill.specs.Parts.{Outcome, Sold, TurnedAway, Busy, WithoutRow, Among, AllMinor, IsSale, IsTurnedAway, IsBusy, IsPart, on_leg, is_turned_away, is_busy, starts_in}
+use Rattle.host_drill.specs.Fits.{HasPlaces, drill_retailer, numbers_from}
 use Rattle.host_drill.specs.Worked.{ReservesLeg, leg_segment}
 use Rattle.host_drill.proofs.Tries.{AllRefused, AreMinor, IsLooked, IsWinning, all_lost, among_right, contended_last, last_tried, looked, looks_minor, minor_append, no_items_won, refused_minor, seen_taken, starts_append, wins_last}
 

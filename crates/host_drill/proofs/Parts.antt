@@ -11,11 +11,11 @@ use Rattle.claim_rule.specs.Rule.{DeskView}
 use Rattle.rail_catalogue.specs.Contents.{CatalogueView}
 use Rattle.osdm_texts.specs.declared.problem.Problem.TheVariants.{NoMemory}
 use Rattle.osdm_texts.specs.Answers.{Reply, problem, status_of}
-use Rattle.drill_totals.specs.Generator.{drill_leg}
-use Rattle.drill_totals.specs.Totals.{one_if}
-use Rattle.drill_totals.specs.Parts.{Outcome, AreParts, HasWork, is_turned_away, is_busy, outcomes_in}
-use Rattle.drill_totals.proofs.Meetings.{prefix_on}
-use Rattle.drill_catalogue.specs.Fits.{HasPlaces}
+use Rattle.host_drill.specs.Generator.{drill_leg}
+use Rattle.host_drill.specs.Totals.{one_if}
+use Rattle.host_drill.specs.Parts.{Outcome, AreParts, HasWork, is_turned_away, is_busy, outcomes_in}
+use Rattle.host_drill.proofs.Meetings.{prefix_on}
+use Rattle.host_drill.specs.Fits.{HasPlaces}
 use Rattle.host_drill.specs.Worked.{AnswersEach, IsWorked, replies_with}
 use Rattle.host_drill.proofs.Parting.{one_part}
 

@@ -10,7 +10,7 @@ use Rattle.offer_codes.specs.declared.code.Segment.{Segment}
 use Rattle.train_runs.specs.Stations.{station_with}
 use Rattle.train_runs.specs.Stops.{RunView}
 use Rattle.train_runs.specs.Runs.{span_of}
-use Rattle.drill_totals.specs.Parts.{on_leg}
+use Rattle.host_drill.specs.Parts.{on_leg}
 use Rattle.claim_rule.specs.Rule.{DeskView}
 use Rattle.rail_catalogue.specs.Contents.{CatalogueView}
 use Rattle.osdm_texts.specs.declared.problem.Problem.{Problem}
@@ -33,7 +33,7 @@ use Rattle.rail_service.specs.declared.resource.Resource.TheVariants.{Reservatio
 use Rattle.rail_service.specs.Paths.{resource_at}
 use Rattle.rail_service.specs.Routes.{RoutesTo, HasRoute, FindsRoute}
 use Rattle.rail_service.specs.Serving.{admitted, first_after, retailer_of, AsksAt, AsksAdmitted, AnswersAsked, AnswersRequest}
-use Rattle.drill_catalogue.specs.Fits.{FitsDrill, HasLeg, drill_retailer, station_code}
+use Rattle.host_drill.specs.Fits.{FitsDrill, HasLeg, drill_retailer, station_code}
 use Rattle.host_drill.specs.Worked.{ReservesLeg, leg_segment}
 use Rattle.host_drill.proofs.DrillBody.{body_bytes, body_data, body_is}
 use Rattle.host_drill.proofs.DrillPath.{path_resource}

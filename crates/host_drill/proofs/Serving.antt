@@ -12,8 +12,8 @@ use Rattle.claim_rule.specs.Out.{IsIdle}
 use Rattle.rail_catalogue.specs.Contents.{CatalogueView}
 use Rattle.rail_service.specs.Connections.{ServiceView, HasServed, IsServed}
 use Rattle.host_words.specs.declared.drill.DrillWords.{DrillWords}
-use Rattle.drill_totals.specs.Generator.{requests_of}
-use Rattle.drill_totals.specs.Meeting.{EachAt, EachPair, IsFirst}
+use Rattle.host_drill.specs.Generator.{requests_of}
+use Rattle.host_drill.specs.Meeting.{EachAt, EachPair, IsFirst}
 use Rattle.host_drill.specs.declared.connection.Connection.{Connection}
 use Rattle.host_drill.specs.Connections.{IsReady, Serves, beginning, layout_of}
 use Rattle.host_drill.specs.Drilled.{IsDone}

@@ -1,7 +1,7 @@
 -- A worker's bytes spell its requests, one for each leg that they ask for.
 use Rattle.std.proofs.Common.{◌≡◌, ◌∙◌, ℕ, zero, suc, ◌+◌, ◌≤◌, ◌<◌, ◌++◌, List, [], ◌∷◌, inr, refl, sym, ap, subst, arith, append_assoc, append-nil}
 use Rattle.http_wire.specs.Requests.{RequestText, empty, IsRequest, Spells}
-use Rattle.drill_totals.specs.Generator.{drill_leg, request_bytes, requests_from}
+use Rattle.host_drill.specs.Generator.{drill_leg, request_bytes, requests_from}
 use Rattle.host_drill.proofs.DrillHead.{text_with, is_request}
 use Rattle.host_drill.proofs.DrillBody.{body_bytes, body_size, request_split}
 

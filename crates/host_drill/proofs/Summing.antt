@@ -8,12 +8,12 @@ use Rattle.claim_rule.specs.Rule.{DeskView}
 use Rattle.rail_catalogue.specs.Contents.{CatalogueView}
 use Rattle.osdm_texts.specs.Answers.{Reply}
 use Rattle.host_words.specs.declared.drill.DrillWords.{DrillWords}
-use Rattle.drill_totals.specs.Meeting.{AreAll, IsOneOf}
-use Rattle.drill_totals.specs.Parts.{Outcome, AllWork, IsWholeCount, all_outcomes_in, is_busy, is_turned_away, outcomes_in}
-use Rattle.drill_totals.specs.Totals.{busy_line, no_memory_line, refused_line, sold_of, times, times_in}
-use Rattle.drill_totals.proofs.Law.{law}
+use Rattle.host_drill.specs.Meeting.{AreAll, IsOneOf}
+use Rattle.host_drill.specs.Parts.{Outcome, AllWork, IsWholeCount, all_outcomes_in, is_busy, is_turned_away, outcomes_in}
+use Rattle.host_drill.specs.Totals.{busy_line, no_memory_line, refused_line, sold_of, times, times_in}
+use Rattle.host_drill.proofs.Law.{law}
 use Rattle.host_drill.specs.Connections.{IsConnection, layout_of}
-use Rattle.drill_catalogue.specs.Fits.{HasPlaces}
+use Rattle.host_drill.specs.Fits.{HasPlaces}
 use Rattle.host_drill.specs.Drilled.{AreWorkers, connection_of}
 use Rattle.host_drill.specs.Worked.{IsWorked, all_replies_with, replies_with}
 use Rattle.host_drill.proofs.Lines.{lines_counted}

@@ -11,10 +11,10 @@ use Rattle.claim_rule.specs.Desks.{HasMet, IsNew, IsOf}
 use Rattle.claim_rule.specs.Out.{IsIdle}
 use Rattle.rail_catalogue.specs.Contents.{CatalogueView}
 use Rattle.host_words.specs.declared.drill.DrillWords.{DrillWords}
-use Rattle.drill_totals.specs.Meeting.{AreAnswered, EachAt, IsFirst}
-use Rattle.drill_totals.specs.Totals.{times, refused_line, no_memory_line, busy_line}
-use Rattle.drill_totals.proofs.Meetings.{first_meets, one_more}
-use Rattle.drill_totals.proofs.Workers.{each_front}
+use Rattle.host_drill.specs.Meeting.{AreAnswered, EachAt, IsFirst}
+use Rattle.host_drill.specs.Totals.{times, refused_line, no_memory_line, busy_line}
+use Rattle.host_drill.proofs.Meetings.{first_meets, one_more}
+use Rattle.host_drill.proofs.Workers.{each_front}
 use Rattle.host_drill.specs.declared.connection.Connection.{Connection}
 use Rattle.host_drill.specs.Drilled.{IsDone, connection_of}
 

@@ -12,8 +12,8 @@ use Rattle.hold_core.specs.declared.tries.Outcome.{Outcome}
 use Rattle.hold_core.specs.declared.tries.Outcome.TheVariants.{Won, Refused, Contended}
 use Rattle.hold_core.specs.Tries.{Part, Try, AreMoving, AreParts, IsTry, IsOutcome, items_tried, looks_at, part_steps, parts_steps, undone, won_steps, try_steps}
 use Rattle.hold_core.specs.Places.{won_by, items_won, place_won, places_won, tries_steps, tried, AllSettled}
-use Rattle.drill_totals.specs.Parts.{Among, AllMinor, is_minor, is_start, starts_in}
-use Rattle.drill_totals.specs.Totals.{one_if}
+use Rattle.host_drill.specs.Parts.{Among, AllMinor, is_minor, is_start, starts_in}
+use Rattle.host_drill.specs.Totals.{one_if}
 
 -- minor steps, with so many starts
 

@@ -10,9 +10,9 @@ use Rattle.claim_rule.specs.Rule.{DeskView}
 use Rattle.rail_catalogue.specs.Contents.{CatalogueView}
 use Rattle.osdm_texts.specs.Answers.{Reply}
 use Rattle.rail_service.specs.Connections.{ServiceView, IsAnswer, IsReading, answers_of, refusals_of}
-use Rattle.drill_totals.specs.Generator.{drill_leg, requests_from}
+use Rattle.host_drill.specs.Generator.{drill_leg, requests_from}
 use Rattle.host_drill.specs.Connections.{IsConnection, beginning}
-use Rattle.drill_catalogue.specs.Fits.{FitsDrill}
+use Rattle.host_drill.specs.Fits.{FitsDrill}
 use Rattle.host_drill.specs.Worked.{AnswersEach, IsWorked}
 use Rattle.host_drill.proofs.Spelling.{request_for, requests_for, spells}
 use Rattle.host_drill.proofs.Reserved.{IsFirstKnown, first_known, reserves_leg}

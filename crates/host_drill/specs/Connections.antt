@@ -11,7 +11,7 @@ use Rattle.claim_rule.specs.Desks.{IsOf}
 use Rattle.claim_rule.specs.Out.{IsIdle}
 use Rattle.rail_catalogue.specs.Contents.{CatalogueView, legs_in}
 use Rattle.rail_service.specs.Connections.{ServiceView, HasServed, IsServed}
-use Rattle.drill_totals.specs.Generator.{requests_of}
+use Rattle.host_drill.specs.Generator.{requests_of}
 use Rattle.host_drill.specs.declared.connection.Connection.{Connection}
 
 -- the books of a catalogue, as they are opened

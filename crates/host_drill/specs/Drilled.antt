@@ -15,18 +15,19 @@ use Rattle.claim_rule.specs.Walls.{WallView, Finishes}
 use Rattle.rail_catalogue.specs.Contents.{CatalogueView}
 use Rattle.rail_catalogue.specs.Format.{catalogue_of}
 use Rattle.host_words.specs.declared.drill.DrillWords.{DrillWords}
-use Rattle.drill_totals.specs.Generator.{catalogue_text}
-use Rattle.drill_totals.specs.Totals.{most_sold, sold_of, times}
-use Rattle.drill_totals.specs.Doubles.{doubled_of}
-use Rattle.drill_totals.specs.Meeting.{OfWorker, IsOneOf, AreAnswered, IsFirst}
+use Rattle.host_drill.specs.Generator.{catalogue_text}
+use Rattle.host_drill.specs.Totals.{most_sold, sold_of, times}
+use Rattle.host_drill.specs.Doubles.{doubled_of}
+use Rattle.host_drill.specs.Meeting.{OfWorker, IsOneOf, AreAnswered, IsFirst}
 use Rattle.host_drill.specs.declared.connection.Connection.{Connection}
-use Rattle.drill_totals.specs.declared.line.Totals.{Totals}
+use Rattle.host_drill.specs.declared.line.Totals.{Totals}
 use Rattle.osdm_texts.specs.Answers.{Reply}
 use Rattle.host_drill.specs.Connections.{IsConnection, layout_of}
 use Rattle.host_drill.specs.Worked.{IsWorked, all_replies_with}
 
 -- a connection that was served, of this worker
-pub record IsDone (books : BooksView) (cat : CatalogueView) (said : DrillWords) (worker : ℕ) (c : Connection) : Type 0 where
+pub record IsDone (books : BooksView) (cat : CatalogueView) (said : DrillWords) (worker : ℕ)
+    (c : Connection) : Type 0 where
   pub of : IsOf books c.desk
   pub idle : IsIdle c.desk
   pub number : c.desk.number ≡ worker + 1
@@ -49,7 +50,8 @@ abbrev pub state_at : WallView → State
 state_at wall = state_of wall.layout wall.history
 
 -- one worker: its connection, and the replies to its requests
-pub record IsWorker (cat : CatalogueView) (said : DrillWords) (history : List Entry) (worker : ℕ) (replies : List Reply) : Type 0 where
+pub record IsWorker (cat : CatalogueView) (said : DrillWords) (history : List Entry) (worker : ℕ)
+    (replies : List Reply) : Type 0 where
   pub answered : List ℕ
   pub one : IsOneOf (connection_of cat said) history worker answered
   pub worked : IsWorked cat said.seed said.size worker one.is.begins one.desk answered replies
@@ -57,7 +59,8 @@ pub record IsWorker (cat : CatalogueView) (said : DrillWords) (history : List En
 -- so of each worker from the k-th on, in order
 abbrev pub AreWorkers : CatalogueView → DrillWords → List Entry → ℕ → List (List Reply) → Type 0
 AreWorkers cat said history k [] = Unit {0}
-AreWorkers cat said history k (replies ∷ more) = IsWorker cat said history k replies × AreWorkers cat said history (k + 1) more
+AreWorkers cat said history k (replies ∷ more) =
+    IsWorker cat said history k replies × AreWorkers cat said history (k + 1) more
 
 -- The finished books hold in one legal history the entries of each worker's connection and else only meetings of the
 -- first desk, which parted the workers' desks and has joined all of them. And this is counted: the requests, the live

@@ -8,10 +8,10 @@ use Rattle.host_words.specs.Drill.{drill_words}
 use Rattle.host_words.specs.declared.drill.DrillWords.{DrillWords}
 use Rattle.host_notes.specs.declared.ending.CommandEnd.{CommandEnd}
 use Rattle.host_notes.specs.declared.ending.CommandEnd.TheVariants as ended
-use Rattle.drill_totals.specs.Totals.{totals_line}
+use Rattle.host_drill.specs.Totals.{totals_line}
 use Rattle.host_drill.specs.declared.drill.Cause.{Cause}
 use Rattle.host_drill.specs.declared.drill.Cause.TheVariants.{Whole, Words, Write, Memory}
-use Rattle.drill_totals.specs.declared.line.Totals.{Totals}
+use Rattle.host_drill.specs.declared.line.Totals.{Totals}
 use Rattle.host_drill.specs.Drilled.{IsDrilled}
 
 -- the command is `drill`

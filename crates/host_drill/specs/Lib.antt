@@ -1,3 +1,9 @@
+pub mod Generator
+pub mod Totals
+pub mod Doubles
+pub mod Meeting
+pub mod Parts
+pub mod Fits
 pub mod Connections
 pub mod Drilled
 pub mod Ends

@@ -12,10 +12,10 @@ use Rattle.osdm_texts.specs.Answers.{Reply, problem, status_of}
 use Rattle.rail_service.specs.Bytes.{reply_bytes}
 use Rattle.reservation_service.specs.Reserving.{reserved, Reserves}
 use Rattle.service_rules.specs.Performing.{DoesNothing}
-use Rattle.drill_totals.specs.Generator.{drill_leg}
-use Rattle.drill_totals.specs.Totals.{one_if}
-use Rattle.drill_totals.specs.Parts.{on_leg}
-use Rattle.drill_catalogue.specs.Fits.{drill_retailer}
+use Rattle.host_drill.specs.Generator.{drill_leg}
+use Rattle.host_drill.specs.Totals.{one_if}
+use Rattle.host_drill.specs.Parts.{on_leg}
+use Rattle.host_drill.specs.Fits.{drill_retailer}
 
 -- the one leg of the drill's one run
 abbrev pub leg_segment : ℕ → Segment

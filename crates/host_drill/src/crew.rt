@@ -7,14 +7,15 @@ ghost use Rattle.rail_catalogue.specs.Contents.{legs_in};
 ghost use Rattle.session_loop.specs.declared.end.ConnEnd.TheVariants.{Done};
 ghost use Rattle.claim_rule.specs.Desks.{HasMet, IsNew, IsOf};
 ghost use Rattle.claim_rule.specs.Out.{IsIdle};
-ghost use Rattle.drill_totals.specs.Totals.{busy_line, no_memory_line, refused_line};
-ghost use Rattle.drill_totals.specs.Meeting.{AreAnswered, EachAt, EachPair, IsFirst};
+ghost use Rattle.host_drill.specs.Totals.{busy_line, no_memory_line, refused_line};
+ghost use Rattle.host_drill.specs.Meeting.{AreAnswered, EachAt, EachPair, IsFirst};
 ghost use Rattle.host_drill.specs.Connections.{IsReady, Serves};
 ghost use Rattle.host_drill.specs.Drilled.{IsDone, connection_of, answer_count};
 
 use crate::connection::Connection;
+use crate::counts::count_times;
+use crate::generator::worker_requests;
 use claim_rule::{Books, Desk};
-use drill_totals::{count_times, worker_requests};
 use host_words::DrillWords;
 use rail_catalogue::Catalogue;
 use rail_io::{BytesSource, ScriptClock, VecSink};
@@ -186,7 +187,7 @@ fn meet_one(
 }
 
 /// Takes in all desks, and counts what their connections were answered: `None` where one of them didn't come to its
-/// end, or was answered for want of memory.
+/// end, or was answered that there is no memory.
 pub(crate) fn meet_all(
     cat: &Catalogue,
     said: DrillWords,

@@ -8,10 +8,11 @@ ghost use Rattle.host_drill.specs.Ends.{IsForDrill, IsDrill, IsNoDrill, Leaves, 
 ghost use Rattle.host_notes.specs.Ends.{note_of, status_of};
 ghost use Rattle.host_notes.specs.Noted.{TakesNote};
 
+use crate::catalogue::drill_catalogue;
+use crate::counts::count_sold;
 use crate::crew::{meet_all, open_crew, serve_all};
+use crate::line::{Totals, line_of};
 use claim_rule::Wall;
-use drill_catalogue::drill_catalogue;
-use drill_totals::{Totals, count_sold, line_of};
 use host_catalogue::open_books;
 use host_notes::{CommandEnd, end_command};
 use host_words::{CommandName, DrillWords, WordsFault, is_for, read_drill};

@@ -8,11 +8,22 @@
 //! leg as many places are sold as are asked for, or all of them; every other request is refused, and none is answered
 //! busy.
 //!
-//! It is a room of its own since it alone plays retailers, in threads, against the service.
+//! A drill is a large valid input made from a number: as many connections as the words say, each with as many requests
+//! for one place on one leg of a run with eight. `Generator` in `specs/` defines the requests and the catalogue, and
+//! `Totals` what is counted: the bookings sold, the requests refused, and the line that is printed. For 1 to 1,200
+//! places the text is that of a catalogue that has all that the requests name (`FitsDrill`): that is proved of the text
+//! (`catalogue_fits` in `proofs/Fitting`), so nothing is checked when a drill runs, and reading it fails for lack of
+//! memory alone. `Parts` defines what a request adds to a history, and the law in `proofs/Law` says what a history of
+//! such parts comes to: the same in every order.
 #![tactic(auto)]
 
+mod catalogue;
 mod connection;
+mod counts;
 mod crew;
 mod drill;
+mod generator;
+mod line;
 
 pub use drill::{Cause, DrillEnd, run_drill};
+pub use line::Totals;

@@ -6,7 +6,8 @@ use Rattle.host_catalogue.specs.Notes.{load_note}
 use Rattle.host_catalogue.specs.declared.file.LoadFault.{LoadFault}
 use Rattle.host_catalogue.specs.declared.file.LoadFault.TheVariants as load
 use Rattle.host_notes.specs.declared.ending.CommandEnd.{CommandEnd}
-use Rattle.host_notes.specs.declared.ending.CommandEnd.TheVariants.{Done, NotLoaded, WordsRefused, ReadFault, WriteFault, NoMemory, InputCut, InputRefused}
+use Rattle.host_notes.specs.declared.ending.CommandEnd.TheVariants.{Done, NotLoaded, WordsRefused, ReadFault}
+use Rattle.host_notes.specs.declared.ending.CommandEnd.TheVariants.{WriteFault, NoMemory, InputCut, InputRefused}
 
 -- the status without books
 abbrev pub status_of_fault : LoadFault → ℕ

@@ -1,3 +1,4 @@
 pub mod Finishing
 pub mod Replaying
 pub mod Exporting
+pub mod Settling

@@ -42,7 +42,7 @@ IsNoExport words = (said : ReplayView) → IsExport words said → ⊥
 abbrev pub StandsIn : List ℕ → List ℕ → Type 0
 StandsIn line text = (front back : List ℕ) × (text ≡ front ++ (line ++ back))
 
--- the line with which an answer for want of memory begins
+-- the line with which an answer begins that there is no memory
 abbrev pub no_memory_line : List ℕ
 no_memory_line = codes "HTTP/1.1 500 Internal Server Error\r\n"
 
@@ -56,8 +56,8 @@ export_with g s = export_text_in (length g.legs) g.rows s
 abbrev pub export_in : CatalogueView → State → List ℕ
 export_in cat s = export_text_in (length (legs_in cat)) cat.rows s
 
--- All requests were answered at the desk, none of them for want of memory, and the text is that of the state that they
--- left.
+-- All requests were answered at the desk, none of them that there is no memory, and the text is that of the state that
+-- they left.
 pub record IsExportOf (cat : CatalogueView) (desk : DeskView) (said : ReplayView) (taken : List ℕ)
     (left : Option (List ℕ)) (text : List ℕ) : Type 0 where
   pub answers : List ℕ
@@ -67,7 +67,7 @@ pub record IsExportOf (cat : CatalogueView) (desk : DeskView) (said : ReplayView
   pub settled : IsSettled (state_seen after.desk)
   pub is : text ≡ export_in cat (state_seen after.desk)
 
--- The connection ended so, and not with the answer to a last request. No answer was for want of memory.
+-- The connection ended so, and not with the answer to a last request. No answer was that there is no memory.
 pub record IsCutOf (cat : CatalogueView) (desk : DeskView) (said : ReplayView) (taken : List ℕ) (left : Option (List ℕ))
     (e : ConnEnd) : Type 0 where
   pub answers : List ℕ
@@ -108,8 +108,8 @@ ServedSo said files input left output sent conn.WriteFault =
 ServedSo said files input left output sent e =
     IsInputRun said files input left (λ cat desk taken. HasNoText cat desk said taken left e) × (sent ≡ output)
 
-abbrev pub RanExport : ReplayView → Files → Option (List ℕ) → Option (List ℕ) → Option (List ℕ) → Option (List ℕ) → ReplayEnd
-    → Type 0
+abbrev pub RanExport : ReplayView → Files → Option (List ℕ) → Option (List ℕ) → Option (List ℕ) → Option (List ℕ)
+    → ReplayEnd → Type 0
 RanExport said files input left output sent end.NoMemory = IsUntouched input left output sent
 RanExport said files input left output sent (end.NotLoaded fault) =
     Fails files said.catalogue said.from fault × IsUntouched input left output sent
@@ -122,7 +122,7 @@ Exports words files input left output sent e =
     IsUnread command.Export words input left output sent e
     ⊎ ((said : ReplayView) × IsExport words said × RanExport said files input left output sent e)
 
--- A request is answered by a host of one thread, and not for want of memory: so by the outcome of what it asks.
+-- A request is answered by a host of one thread, and not that there is no memory: so by the outcome of what it asks.
 pub record IsSureAnswer (cat : CatalogueView) (before : PlainView) (request : RequestText) (written : List ℕ)
     (after : PlainView) : Type 0 where
   pub answer : IsPlainAnswer cat before request written after
@@ -132,7 +132,7 @@ abbrev pub sure_answers_of : CatalogueView → Answering PlainView
 sure_answers_of cat = λ before request written after. IsSureAnswer cat before request written after
 
 -- The replies to the stream, which ends so, are the defined ones, and those of a host of one thread that begins with
--- the bookings that the books open with. None of them is for want of memory.
+-- the bookings that the books open with. None of them is that there is no memory.
 pub record IsSurelyReplayed (words : List (List ℕ)) (files : Files) (stream : List ℕ) (rest : Rest)
     (replies : List ℕ) : Type 0 where
   pub said : ReplayView

@@ -18,7 +18,8 @@ use Rattle.host_words.specs.declared.command.CommandName.TheVariants as command
 use Rattle.host_words.specs.Replay.{ReplayView}
 use Rattle.host_replay.specs.declared.end.ReplayEnd.{ReplayEnd}
 use Rattle.host_replay.specs.declared.end.ReplayEnd.TheVariants as end
-use Rattle.host_replay.specs.Input.{IsAsked, IsFirstDesk, IsInputEnd, IsInputOf, IsTaken, IsUnread, IsUntouched, opening, plain_opening}
+use Rattle.host_replay.specs.Input.{IsAsked, IsFirstDesk, IsInputEnd, IsInputOf, IsTaken, IsUnread, IsUntouched}
+use Rattle.host_replay.specs.Input.{opening, plain_opening}
 
 -- the command is `replay`
 abbrev pub IsForReplay : List (List ℕ) → Type 0
@@ -47,8 +48,8 @@ pub record IsReplayRun (said : ReplayView) (files : Files) (input left output se
   pub ends : IsInputEnd cat desk said taken left written e
 
 -- what the words ask for ended so
-abbrev pub RanReplay : ReplayView → Files → Option (List ℕ) → Option (List ℕ) → Option (List ℕ) → Option (List ℕ) → ReplayEnd
-    → Type 0
+abbrev pub RanReplay : ReplayView → Files → Option (List ℕ) → Option (List ℕ) → Option (List ℕ) → Option (List ℕ)
+    → ReplayEnd → Type 0
 RanReplay said files input left output sent end.NoMemory = IsUntouched input left output sent
 RanReplay said files input left output sent (end.NotLoaded fault) =
     Fails files said.catalogue said.from fault × IsUntouched input left output sent

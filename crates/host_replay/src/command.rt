@@ -106,7 +106,7 @@ pub fn run_replay<F: Shelf, S: Source, K: Sink, E: Sink>(
 ) -> u8
     requires command { IsForReplay (words_texts words.now) }
 
-    // Status 2 comes exactly where the words are refused, but for want of memory to read them. Nothing is then touched
+    // Status 2 comes exactly where the words are refused, unless there was no memory to read them. Nothing is then touched
     // but the notes.
     ensures words { result ≡ 2 → IsNoReplay (words_texts words.now) }
     ensures refused_words { IsNoReplay (words_texts words.now) → (result ≡ 2) ⊎ (result ≡ 5) }
@@ -144,8 +144,8 @@ pub fn run_replay<F: Shelf, S: Source, K: Sink, E: Sink>(
     ensures shelf_steady { (result ≡ 3 → ⊥) → F.faults shelf.new ≡ F.faults shelf.old }
 
     // Status 1 comes where the shelf has no books: of the catalogue's name or of the export's no file, one too large,
-    // or a text that is refused. Where it has none, and tells so, no other status comes but for its failure and for
-    // want of memory.
+    // or a text that is refused. Where it has none, and tells so, no other status comes but for its failure and
+    // where memory runs out.
     ensures without { result ≡ 1 → IsWithoutBooks Replay (words_texts words.now) (F.told shelf.old) }
     ensures no_books { (files : List ℕ → Option (List ℕ)) → F.told shelf.old ≡ Some files → (said : ReplayView)
         → IsReplay (words_texts words.now) said → HasNoBooks files said.catalogue said.from

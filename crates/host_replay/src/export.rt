@@ -38,7 +38,7 @@ use rail_service::serve_connection;
 use session_loop::{ConnEnd, write_all};
 use std::alloc::{AllocError, Global};
 
-/// The line with which an answer for want of memory begins.
+/// The line with which an answer begins that there is no memory.
 const NO_MEMORY: &[u8] = b"HTTP/1.1 500 Internal Server Error\r\n";
 
 /// Whether the line stands nowhere in the text.
@@ -69,7 +69,7 @@ fn text_of(alloc: Global, books: Books, desk: Desk) -> Result<Vec<u8>, AllocErro
 }
 
 /// The export that one connection at the first desk of the books leaves, with the clock of the words; or how the
-/// connection ended. Its answers are kept until its end, and where one of them is for want of memory, or there is no
+/// connection ended. Its answers are kept until its end, and where one of them is that there is no memory, or there is no
 /// memory to keep them, the end is `NoMemory`.
 fn export_input<S: Source>(
     alloc: Global,
@@ -158,10 +158,10 @@ fn export<F: Shelf, S: Source, K: Sink>(
 /// | 0 | all requests of the input are answered, to its end or to the last of the connection, and the export is written |
 /// | 1 | the catalogue is missing, larger than 33,554,432 bytes, or refused; or the export that the words name is, at 268,435,456 bytes |
 /// | 2 | the words are refused; nothing is read, written or fetched |
-/// | 3 | the input or the shelf failed in this call, and no answer was for want of memory |
+/// | 3 | the input or the shelf failed in this call, and no answer was that there is no memory |
 /// | 4 | the output failed in this call |
 /// | 5 | there was no memory to begin with, for an answer, or for the export |
-/// | 6 | the input ended inside a request, or was refused, and no answer was for want of memory |
+/// | 6 | the input ended inside a request, or was refused, and no answer was that there is no memory |
 pub fn run_export<F: Shelf, S: Source, K: Sink, E: Sink>(
     alloc: Global,
     words: &[String],
@@ -172,7 +172,7 @@ pub fn run_export<F: Shelf, S: Source, K: Sink, E: Sink>(
 ) -> u8
     requires command { IsForExport (words_texts words.now) }
 
-    // Status 2 comes exactly where the words are refused, but for want of memory to read them. Nothing is then touched
+    // Status 2 comes exactly where the words are refused, unless there was no memory to read them. Nothing is then touched
     // but the notes.
     ensures words { result ≡ 2 → IsNoExport (words_texts words.now) }
     ensures refused_words { IsNoExport (words_texts words.now) → (result ≡ 2) ⊎ (result ≡ 5) }
@@ -199,7 +199,7 @@ pub fn run_export<F: Shelf, S: Source, K: Sink, E: Sink>(
     ensures nothing_written { (result ≡ 0 → ⊥) → (result ≡ 4 → ⊥) → output.new ≡ output.old }
 
     // A device's failure is answered where its count of faults rose in this call, and at every other status that count
-    // is as it was; but at status 5 the input may have failed behind an answer for want of memory.
+    // is as it was; but at status 5 the input may have failed after an answer that there is no memory.
     ensures read_cause { result ≡ 3 → Rose (S.faults input.old) (S.faults input.new)
         ⊎ Rose (F.faults shelf.old) (F.faults shelf.new) }
     ensures write_cause { result ≡ 4 → Rose (K.faults output.old) (K.faults output.new) }
@@ -208,8 +208,8 @@ pub fn run_export<F: Shelf, S: Source, K: Sink, E: Sink>(
     ensures shelf_steady { (result ≡ 3 → ⊥) → F.faults shelf.new ≡ F.faults shelf.old }
 
     // Status 1 comes where the shelf has no books: of the catalogue's name or of the export's no file, one too large,
-    // or a text that is refused. Where it has none, and tells so, no other status comes but for its failure and for
-    // want of memory.
+    // or a text that is refused. Where it has none, and tells so, no other status comes but for its failure and
+    // where memory runs out.
     ensures without { result ≡ 1 → IsWithoutBooks Export (words_texts words.now) (F.told shelf.old) }
     ensures no_books { (files : List ℕ → Option (List ℕ)) → F.told shelf.old ≡ Some files → (said : ReplayView)
         → IsExport (words_texts words.now) said → HasNoBooks files said.catalogue said.from

@@ -1,18 +1,22 @@
 //! `replay` and `export`: a catalogue, served to the input as one connection, at one desk, by the clock that the words
-//! set. Its books open with no booking, or with those of an export.
+//! set. Its books open with no booking, or with those of an export. And `settle`, which serves nobody: a catalogue and
+//! an export, and the settlement table of the bookings that books of the catalogue open with.
 //!
 //! The promise of `replay` is that the bytes written are the defined replies to the requests of the bytes read, and
 //! that they are those of a host of one thread that begins with these bookings. `export` writes the bookings that such
-//! a host has at the end, as the text that a later one may open with.
-//!
-//! It is a room of its own since these are the commands that join the service to a clock of words and to standard
-//! input.
+//! a host has at the end, as the text that a later one may open with. `settle` writes the settlement table of the
+//! closed wall of its books, at whose table nothing was done, for the texts that the shelf gave. It writes nothing else
+//! and reads no input.
 #![tactic(auto)]
 
 mod command;
 mod end;
 mod export;
+mod settle;
+mod settle_end;
 
 pub use command::run_replay;
 pub use end::ReplayEnd;
 pub use export::run_export;
+pub use settle::run_settle;
+pub use settle_end::SettleEnd;

@@ -141,7 +141,7 @@ impl Gate for Rounds {
     }
 }
 
-// Takes so many turns, and one at least.
+// Takes this many turns, and one at least.
 #[derive(Drop)]
 struct Counted<'a> {
     number: u32,

@@ -78,7 +78,7 @@ const INPUT_CUT: &str = "rail_host: input cut\n";
 
 const WRITE_FAULT: &str = "rail_host: write fault\n";
 
-const RUNS: [Run; 13] = [
+const RUNS: [Run; 15] = [
     TINY,
     Run {
         read: 1,
@@ -124,6 +124,23 @@ const RUNS: [Run; 13] = [
         ..REPLAY
     },
     Run { fetch: 2, ..REPLAY },
+    // The export is fetched after the catalogue, and not where that is refused.
+    Run {
+        line: "replay k1.json --from e1",
+        fetch: 2,
+        status: 3,
+        output: "",
+        note: READ_FAULT,
+        ..REPLAY
+    },
+    Run {
+        line: "replay refused.json --from e1",
+        fetch: 2,
+        status: 1,
+        output: "",
+        note: "rail_host: catalogue fault 1\n",
+        ..REPLAY
+    },
     Run {
         read: 1,
         status: 3,
@@ -154,11 +171,13 @@ fn words_of(alloc: Global, line: &str) -> Result<Vec<String>, AllocError> {
     Ok(words)
 }
 
-/// The run's shelf, whose listed fetch fails.
+/// The run's shelf, whose listed fetch fails: a catalogue, and a text that is none.
 fn shelf_of(alloc: Global, fetch: u64) -> Result<MapShelf, AllocError> {
     let mut shelf = MapShelf::new(alloc, vec![in alloc; fetch]?);
     let name = String::from_str(alloc, "k1.json")?;
     shelf.put(name, CATALOGUE.as_bytes().to_vec(alloc)?)?;
+    let name = String::from_str(alloc, "refused.json")?;
+    shelf.put(name, "no JSON".as_bytes().to_vec(alloc)?)?;
     Ok(shelf)
 }
 

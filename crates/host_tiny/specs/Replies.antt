@@ -4,7 +4,8 @@ use Rattle.serde_json.specs.Written.{compact_text}
 use Rattle.leg_masks.specs.Interval.{Interval}
 use Rattle.http_wire.specs.Answers.{head_text}
 use Rattle.http_wire.specs.declared.request.WireFault.{WireFault}
-use Rattle.http_wire.specs.declared.request.WireFault.TheVariants.{BadHead, HeadTooLarge, BodyTooLarge, Coding, BadLength}
+use Rattle.http_wire.specs.declared.request.WireFault.TheVariants.{BadHead, HeadTooLarge, BodyTooLarge, Coding}
+use Rattle.http_wire.specs.declared.request.WireFault.TheVariants.{BadLength}
 use Rattle.osdm_texts.specs.declared.field.FieldName as texts
 use Rattle.osdm_texts.specs.declared.field.FieldName.TheVariants as field
 use Rattle.osdm_texts.specs.declared.problem.Problem.{Problem}
@@ -13,7 +14,8 @@ use Rattle.osdm_texts.specs.Problems.{problem_line, problem_tree}
 use Rattle.host_tiny.specs.declared.wish.FieldName.{FieldName}
 use Rattle.host_tiny.specs.declared.wish.FieldName.TheVariants.{From, To}
 use Rattle.host_tiny.specs.declared.reply.Reply.{Reply}
-use Rattle.host_tiny.specs.declared.reply.Reply.TheVariants.{Reserved, NotBuilt, NotJson, BadField, RowsFull, NoPlace, NoMemory}
+use Rattle.host_tiny.specs.declared.reply.Reply.TheVariants.{Reserved, NotBuilt, NotJson, BadField}
+use Rattle.host_tiny.specs.declared.reply.Reply.TheVariants.{RowsFull, NoPlace, NoMemory}
 
 -- the bytes of an answer with this status, as a problem or not, and this body
 abbrev pub whole_text : ℕ → Bool → List ℕ → Bool → List ℕ

@@ -2,6 +2,10 @@
 use Rattle.std.specs.Prelude.{◌≡◌, ℕ, ◌<◌, List, All}
 use Rattle.leg_masks.specs.Interval.{Interval, Meet}
 
+-- how many reservations one run can have
+abbrev pub most_reservations : ℕ
+most_reservations = 1_024
+
 -- a place and the legs on which it is taken
 pub record Held : Type 0 where
   pub place : ℕ

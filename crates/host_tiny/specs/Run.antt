@@ -14,7 +14,8 @@ use Rattle.claim_rule.specs.Desks.{IsOf}
 use Rattle.claim_rule.specs.Out.{HoldsNone}
 use Rattle.hold_core.specs.Tries.{place_number}
 use Rattle.lone_desk.specs.Lone.{IsAlone}
-use Rattle.host_tiny.specs.Reservations.{Held, IsLeastFree, IsNoneFree}
+use Rattle.host_words.specs.Limits.{most_run_places}
+use Rattle.host_tiny.specs.Reservations.{Held, IsLeastFree, IsNoneFree, most_reservations}
 use Rattle.host_tiny.specs.declared.run.Reservation.{Reservation}
 use Rattle.host_tiny.specs.declared.run.Reservation.TheVariants.{Place, RowsFull, NoPlace}
 
@@ -56,21 +57,21 @@ notes_and_seal row retailer limit total count =
     Note row retailer_word retailer ∷ Note row limit_word limit ∷ Note row total_word total ∷ Note row count_word count
     ∷ Seal row Prebooked ∷ []
 
--- a row for each reservation, in order, and behind them at most an empty one
+-- a row for each reservation, in order, and after them at most an empty one
 pub record IsSettled (s : State) : Type 0 where
   pub sold : State
   pub each : AllByRecursion IsSold sold
   pub rows : StandFrom 0 sold
   pub is : (s ≡ sold) ⊎ ((b : Booking) × IsEmptyRow (length sold) b × (s ≡ sold ++ b ∷ []))
 
--- the books have a place of so many legs for each of these numbers, which are all from 0 on, and 1,024 rows; the desk
--- is alone at them
+-- the books have a place with these legs for each of these numbers, which are all from 0 on, and a row for each of the
+-- most reservations; the desk is alone at them
 pub record IsRun (legs : ℕ) (places : List PlaceNo) (books : BooksView) (desk : DeskView) : Type 0 where
   pub some : 0 < legs
   pub few : legs ≤ most_place_legs
-  pub most : length places ≤ 1200
+  pub most : length places ≤ most_run_places
   pub numbers : map place_number places ≡ range_with_len 0 (length places)
-  pub layout : books.layout ≡ record { legs = replicate (length places) legs; rows = 1024; opening = [] }
+  pub layout : books.layout ≡ record { legs = replicate (length places) legs; rows = most_reservations; opening = [] }
   pub own : IsOf books desk
   pub alone : IsAlone desk
   pub none : HoldsNone desk
@@ -86,6 +87,8 @@ pub record RunView : Type 0 where
 -- What a wish for a place on the span comes to where these are held, and what is held after it.
 abbrev pub Reserves : ℕ → List Held → Interval → Reservation → List Held → Type 0
 Reserves places held span (Place place) after =
-    (length held < 1024) × IsLeastFree held places place span × (after ≡ held ++ record { place = place; span = span } ∷ [])
-Reserves places held span RowsFull after = (1024 ≤ length held) × (after ≡ held)
-Reserves places held span NoPlace after = (length held < 1024) × IsNoneFree held places span × (after ≡ held)
+    (length held < most_reservations) × IsLeastFree held places place span
+    × (after ≡ held ++ record { place = place; span = span } ∷ [])
+Reserves places held span RowsFull after = (most_reservations ≤ length held) × (after ≡ held)
+Reserves places held span NoPlace after =
+    (length held < most_reservations) × IsNoneFree held places span × (after ≡ held)

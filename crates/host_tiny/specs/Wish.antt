@@ -16,7 +16,7 @@ abbrev pub with_from : ℕ → Data → Option ℕ → Result Interval WishFault
 with_from legs d None = Err (BadField From)
 with_from legs d (Some from) = with_to from (whole_in (from + 1) legs (get (codes "to") d))
 
--- The span of a value, on a run with so many legs, or the first member at fault. A value that is no
+-- The span of a value, on a run with this many legs, or the first member at fault. A value that is no
 -- object has no members; of a member that stands twice the last counts.
 abbrev pub wish_of : ℕ → Option Data → Result Interval WishFault
 wish_of legs None = Err NotJson

@@ -5,7 +5,7 @@
 //! The program keeps no such list: it takes places on atomic words, by the calls of every service, at a desk that is
 //! alone.
 //!
-//! It is a room of its own since it shares no rule with the other commands: it has no catalogue, no retailer and no
+//! It is a crate of its own, since it shares no rule with the other commands: it has no catalogue, no retailer and no
 //! clock.
 #![tactic(auto)]
 

@@ -53,7 +53,7 @@ impl Model for Run {
     ghost invariant = { λ r. IsRun r.legs r.places.items r.books r.desk };
 }
 
-/// The numbers of so many places, from 0 on.
+/// The numbers of this many places, from 0 on.
 fn place_numbers(alloc: Global, count: u16) -> Result<Vec<PlaceNo>, AllocError>
     ensures { IfOk result (λ places. map place_number places.items ≡ range_with_len 0 count) }
 {

@@ -15,7 +15,8 @@ fn is_reservation(method: &[u8], path: &[u8]) -> bool
 
 /// Replies to a request, and keeps what it reserves.
 pub fn reply_to(alloc: Global, run: &mut Run, method: &[u8], path: &[u8], body: &[u8]) -> Reply
-    ensures reply { IsReply run.old.legs run.old.places run.old.held method.now path.now body.now result run.new.held }
+    ensures reply { IsReply run.old.legs run.old.places run.old.held
+        (record { method = method.now; path = path.now; body = body.now }) result run.new.held }
     ensures legs { run.new.legs ≡ run.old.legs }
     ensures places { run.new.places ≡ run.old.places }
 {

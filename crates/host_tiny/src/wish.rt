@@ -23,7 +23,7 @@ pub enum WishFault {
     NoMemory,
 }
 
-/// The span that a body asks for, of a run with so many legs.
+/// The span that a body asks for, of a run with this number of legs.
 pub fn read_wish(alloc: Global, body: &[u8], legs: u8) -> Result<Span, WishFault>
     requires some { 0 < legs }
     requires few { legs ≤ most_place_legs }

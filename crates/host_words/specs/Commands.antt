@@ -1,5 +1,5 @@
 -- The commands of the program, by their first words.
-use Rattle.std.specs.Prelude.{◌≡◌, List, Some, codes, slice_get}
+use Rattle.std.specs.Prelude.{◌≡◌, List, Option, None, Some, codes, slice_get}
 use Rattle.clap.specs.Words.{Text}
 use Rattle.host_words.specs.declared.command.CommandName.{CommandName}
 use Rattle.host_words.specs.declared.command.CommandName.TheVariants.{Tiny, Replay, Export, Settle, Drill, Serve}
@@ -16,3 +16,8 @@ name_of Serve = codes "serve"
 -- the words are for the command: their first is its name
 abbrev pub IsFor : CommandName → List Text → Type 0
 IsFor command words = slice_get words 0 ≡ Some (name_of command)
+
+-- the first word names this command, or none
+abbrev pub IsNamed : Option CommandName → List Text → Type 0
+IsNamed (Some command) words = IsFor command words
+IsNamed None words = (command : CommandName) → IsFor command words → ⊥

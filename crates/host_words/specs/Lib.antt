@@ -1,4 +1,5 @@
 pub mod Commands
+pub mod Limits
 pub mod Options
 pub mod Replay
 pub mod Said

@@ -1,5 +1,6 @@
 -- What `clap` reads of the words of a command.
-use Rattle.std.specs.Prelude.{ℕ, pos, Bool, true, false, List, [], ◌∷◌, Option, Some, None, map, if◌then◌else◌, option_and_then, String, string_bytes, codes}
+use Rattle.std.specs.Prelude.{ℕ, pos, Bool, true, false, List, [], ◌∷◌, Option, Some, None, map, if◌then◌else◌}
+use Rattle.std.specs.Prelude.{option_and_then, String, string_bytes, codes}
 use Rattle.std.specs.Str.{bytes_eq}
 use Rattle.std.specs.Str.Parse.{digits_value, without_leading_plus}
 use Rattle.std.specs.declared.alloc.Global.{Global}
@@ -35,7 +36,7 @@ required rule = record rule { required = true }
 abbrev pub with_default : Text → Rule → Rule
 with_default text rule = record rule { defaults = text ∷ [] }
 
--- the number that a value spells, if it lies from `least` to `most`: digits, behind a plus or none
+-- the number that a value spells, if it lies from `least` to `most`: digits, after a plus or none
 abbrev pub number_in : ℕ → ℕ → Text → Option ℕ
 number_in least most text =
     if is_unsigned_in least most text then Some (digits_value 10 (without_leading_plus text)) else None

@@ -3,6 +3,7 @@ use Rattle.std.specs.Prelude.{ℕ, List, Option, Some, None, Ok, Err, Result, co
 use Rattle.clap.specs.Words.{App, Row, Text, new_app, new_rule, with_rule, first_of}
 use Rattle.rail_time.specs.Moments.{moment_of}
 use Rattle.rail_time.specs.declared.moment.MomentFault.{MomentFault}
+use Rattle.host_words.specs.Limits.{most_seconds}
 use Rattle.host_words.specs.Options.{option_rule, numbered, required, with_default, number_of, matched}
 
 -- `NAME CATALOGUE --start MOMENT --tick N --from EXPORT`
@@ -10,7 +11,7 @@ abbrev pub input_app : Text → App
 input_app name = with_rule (with_rule (with_rule (with_rule (new_app name)
     (required (new_rule (codes "catalogue"))))
     (with_default (codes "1970-01-01T00:00:00Z") (option_rule (codes "start"))))
-    (with_default (codes "0") (numbered 0 86400 (option_rule (codes "tick")))))
+    (with_default (codes "0") (numbered 0 most_seconds (option_rule (codes "tick")))))
     (option_rule (codes "from"))
 
 -- what the words say
@@ -36,7 +37,7 @@ replay_of rows =
     option_and_then (λ start.
     option_map
     (λ tick. record { catalogue = catalogue; from = first_of (codes "from") rows; start = start; tick = tick })
-    (number_of 0 86400 (codes "tick") rows))
+    (number_of 0 most_seconds (codes "tick") rows))
     (start_of rows))
     (first_of (codes "catalogue") rows)
 

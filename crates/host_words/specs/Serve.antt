@@ -2,16 +2,18 @@
 use Rattle.std.specs.Prelude.{◌≤◌, Bool, List, Option, codes, option_and_then, option_map}
 use Rattle.clap.specs.Words.{App, Row, Text, new_app, new_rule, with_rule, first_of}
 use Rattle.host_words.specs.declared.serve.Serving.{Serving}
-use Rattle.host_words.specs.Options.{flag_rule, is_set, option_rule, numbered, required, with_default, number_of, matched}
+use Rattle.host_words.specs.Limits.{most_connections, most_port, most_seconds, most_workers}
+use Rattle.host_words.specs.Options.{flag_rule, is_set, option_rule, numbered, required, with_default}
+use Rattle.host_words.specs.Options.{matched, number_of}
 
 -- `serve CATALOGUE --port N --workers N --connections N --sweep N --from EXPORT --export`
 abbrev pub serve_app : App
 serve_app = with_rule (with_rule (with_rule (with_rule (with_rule (with_rule (with_rule (new_app (codes "serve"))
     (required (new_rule (codes "catalogue"))))
-    (required (numbered 1 65535 (option_rule (codes "port")))))
-    (with_default (codes "4") (numbered 1 16 (option_rule (codes "workers")))))
-    (with_default (codes "4294967295") (numbered 1 4294967295 (option_rule (codes "connections")))))
-    (with_default (codes "30") (numbered 1 86400 (option_rule (codes "sweep")))))
+    (required (numbered 1 most_port (option_rule (codes "port")))))
+    (with_default (codes "4") (numbered 1 most_workers (option_rule (codes "workers")))))
+    (with_default (codes "4294967295") (numbered 1 most_connections (option_rule (codes "connections")))))
+    (with_default (codes "30") (numbered 1 most_seconds (option_rule (codes "sweep")))))
     (option_rule (codes "from")))
     (flag_rule (codes "export"))
 
@@ -26,10 +28,10 @@ pub record ServeView : Type 0 where
 
 -- the numbers lie in their ranges
 pub record IsInRange (n : Serving) : Type 0 where
-  pub port : (1 ≤ n.port) × (n.port ≤ 65535)
-  pub workers : (1 ≤ n.workers) × (n.workers ≤ 16)
+  pub port : (1 ≤ n.port) × (n.port ≤ most_port)
+  pub workers : (1 ≤ n.workers) × (n.workers ≤ most_workers)
   pub connections : 1 ≤ n.connections
-  pub sweep : (1 ≤ n.sweep) × (n.sweep ≤ 86400)
+  pub sweep : (1 ≤ n.sweep) × (n.sweep ≤ most_seconds)
 
 abbrev pub numbers_of : List Row → Option Serving
 numbers_of rows =
@@ -37,10 +39,10 @@ numbers_of rows =
     option_and_then (λ workers.
     option_and_then (λ connections.
     option_map (λ sweep. record { port = port; workers = workers; connections = connections; sweep = sweep })
-    (number_of 1 86400 (codes "sweep") rows))
-    (number_of 1 4294967295 (codes "connections") rows))
-    (number_of 1 16 (codes "workers") rows))
-    (number_of 1 65535 (codes "port") rows)
+    (number_of 1 most_seconds (codes "sweep") rows))
+    (number_of 1 most_connections (codes "connections") rows))
+    (number_of 1 most_workers (codes "workers") rows))
+    (number_of 1 most_port (codes "port") rows)
 
 abbrev pub serve_of : List Row → Option ServeView
 serve_of rows =

@@ -7,7 +7,7 @@
 //! exactly where it refuses them for another cause than memory, where a number is out of its range, or where the text
 //! of a moment is none. A wish for help or for a version is refused as well.
 //!
-//! It is a room of its own since every command and the program above them ask it which words are meant.
+//! It is a crate of its own, since every command and the program above them ask it which words are meant.
 #![tactic(auto)]
 
 mod command;

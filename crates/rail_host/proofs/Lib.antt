@@ -1,3 +1,4 @@
 mod Naming
+mod Refusing
 mod Untold
 mod Walls

@@ -1,106 +1,59 @@
 -- Words are for one command.
-use Rattle.std.proofs.Common.{◌≡◌, ◌∙◌, ℕ, List, [], ◌∷◌, Option, Some, None, sym, ap, arith}
-use Rattle.std.specs.Prelude.{slice_get}
+use Rattle.std.proofs.Common.{◌≡◌, ◌∙◌, ◌*◌, ◌+◌, ℕ, List, [], ◌∷◌, Option, Some, None, refl, sym, ap}
+use Rattle.std.specs.Prelude.{◌==◌, if◌then◌else◌, slice_get}
 use Rattle.host_words.specs.Commands.{IsFor, name_of}
 use Rattle.host_words.specs.Tiny.{IsNoTiny}
-use Rattle.host_words.specs.Settle.{IsNoSettle, IsSettle}
+use Rattle.host_words.specs.Settle.{IsNoSettle}
 use Rattle.host_words.specs.declared.command.CommandName.{CommandName}
 use Rattle.host_words.specs.declared.command.CommandName.TheVariants.{Tiny, Replay, Export, Settle, Drill, Serve}
+use Rattle.host_replay.specs.Replay.{IsNoReplay}
+use Rattle.host_replay.specs.Export.{IsNoExport}
+use Rattle.host_drill.specs.Ends.{IsNoDrill}
+use Rattle.host_serve.specs.Serve.{IsNoServe}
 
--- so that no two commands have one name
-pub one_name : (a b : CommandName) (words : List (List ℕ)) → IsFor a words → IsFor b words → Some (name_of a) ≡ Some (name_of b)
-one_name a b words one other = sym one ∙ other
+-- the first and the third letter tell the names apart
+abbrev key : Option (List ℕ) → ℕ
+key (Some (a ∷ b ∷ c ∷ rest)) = a * 256 + c
+key o = 0
 
-pub no_tiny : (a : CommandName) (words : List (List ℕ)) → IsFor a words → (Some (name_of a) ≡ Some (name_of Tiny) → ⊥) → IsNoTiny words
-no_tiny a words is other legs places tiny = other (sym is ∙ ap (λ (ws : List (List ℕ)). slice_get ws 0) tiny.2)
+abbrev command_at : ℕ → CommandName
+command_at k =
+    if k == 29806 then Tiny else if k == 29296 then Replay else if k == 25968 then Export
+    else if k == 29556 then Settle else if k == 25705 then Drill else Serve
 
--- the words of `settle` are for it
-pub for_settle : (words : List (List ℕ)) (catalogue export : List ℕ) → IsSettle words catalogue export → IsFor Settle words
-for_settle words catalogue export is = ap (λ (ws : List (List ℕ)). slice_get ws 0) is
+named_at : (a : CommandName) → command_at (key (Some (name_of a))) ≡ a
+named_at Tiny = refl
+named_at Replay = refl
+named_at Export = refl
+named_at Settle = refl
+named_at Drill = refl
+named_at Serve = refl
 
-pub no_settle : (a : CommandName) (words : List (List ℕ)) → IsFor a words → (Some (name_of a) ≡ Some (name_of Settle) → ⊥) → IsNoSettle words
-no_settle a words is other catalogue export settle = other (sym is ∙ for_settle words catalogue export settle)
+-- so that words are for one command alone
+pub one_command : (a b : CommandName) (words : List (List ℕ)) → IsFor a words → IsFor b words → a ≡ b
+one_command a b words one other =
+    sym (named_at a) ∙ ap (λ (o : Option (List ℕ)). command_at (key o)) (sym one ∙ other) ∙ named_at b
 
-abbrev first_of : Option (List ℕ) → ℕ
-first_of None = 0
-first_of (Some []) = 0
-first_of (Some (b ∷ bs)) = b
+-- words that aren't for a command aren't the words of it
+module _ (words : List (List ℕ)) where
+  pub no_tiny : (IsFor Tiny words → ⊥) → IsNoTiny words
+  no_tiny other legs places is = other (ap (λ (ws : List (List ℕ)). slice_get ws 0) is.2)
 
-abbrev third_of : Option (List ℕ) → ℕ
-third_of (Some (a ∷ b ∷ c ∷ rest)) = c
-third_of o = 0
+  pub no_replay : (IsFor Replay words → ⊥) → IsNoReplay words
+  no_replay other said is = other is.command
 
-pub serve_tiny : Some (name_of Serve) ≡ Some (name_of Tiny) → ⊥
-serve_tiny e =
-    let first : 115 ≡ 116 = ap first_of e in
-    absurd (omega (arith, first))
+  pub no_export : (IsFor Export words → ⊥) → IsNoExport words
+  no_export other said is = other is.command
 
-pub serve_replay : Some (name_of Serve) ≡ Some (name_of Replay) → ⊥
-serve_replay e =
-    let first : 115 ≡ 114 = ap first_of e in
-    absurd (omega (arith, first))
+  pub no_settle : (IsFor Settle words → ⊥) → IsNoSettle words
+  no_settle other catalogue export is = other (ap (λ (ws : List (List ℕ)). slice_get ws 0) is)
 
-pub serve_export : Some (name_of Serve) ≡ Some (name_of Export) → ⊥
-serve_export e =
-    let first : 115 ≡ 101 = ap first_of e in
-    absurd (omega (arith, first))
+  pub no_drill : (IsFor Drill words → ⊥) → IsNoDrill words
+  no_drill other said is = other is.command
 
-pub serve_drill : Some (name_of Serve) ≡ Some (name_of Drill) → ⊥
-serve_drill e =
-    let first : 115 ≡ 100 = ap first_of e in
-    absurd (omega (arith, first))
+  pub no_serve : (IsFor Serve words → ⊥) → IsNoServe words
+  no_serve other said is = other is.command
 
-pub drill_tiny : Some (name_of Drill) ≡ Some (name_of Tiny) → ⊥
-drill_tiny e =
-    let first : 100 ≡ 116 = ap first_of e in
-    absurd (omega (arith, first))
-
-pub drill_replay : Some (name_of Drill) ≡ Some (name_of Replay) → ⊥
-drill_replay e =
-    let first : 100 ≡ 114 = ap first_of e in
-    absurd (omega (arith, first))
-
-pub drill_export : Some (name_of Drill) ≡ Some (name_of Export) → ⊥
-drill_export e =
-    let first : 100 ≡ 101 = ap first_of e in
-    absurd (omega (arith, first))
-
-pub replay_export : Some (name_of Replay) ≡ Some (name_of Export) → ⊥
-replay_export e =
-    let first : 114 ≡ 101 = ap first_of e in
-    absurd (omega (arith, first))
-
-pub export_tiny : Some (name_of Export) ≡ Some (name_of Tiny) → ⊥
-export_tiny e =
-    let first : 101 ≡ 116 = ap first_of e in
-    absurd (omega (arith, first))
-
-pub replay_tiny : Some (name_of Replay) ≡ Some (name_of Tiny) → ⊥
-replay_tiny e =
-    let first : 114 ≡ 116 = ap first_of e in
-    absurd (omega (arith, first))
-
-pub replay_settle : Some (name_of Replay) ≡ Some (name_of Settle) → ⊥
-replay_settle e =
-    let first : 114 ≡ 115 = ap first_of e in
-    absurd (omega (arith, first))
-
-pub export_settle : Some (name_of Export) ≡ Some (name_of Settle) → ⊥
-export_settle e =
-    let first : 101 ≡ 115 = ap first_of e in
-    absurd (omega (arith, first))
-
-pub drill_settle : Some (name_of Drill) ≡ Some (name_of Settle) → ⊥
-drill_settle e =
-    let first : 100 ≡ 115 = ap first_of e in
-    absurd (omega (arith, first))
-
-pub serve_settle : Some (name_of Serve) ≡ Some (name_of Settle) → ⊥
-serve_settle e =
-    let third : 114 ≡ 116 = ap third_of e in
-    absurd (omega (arith, third))
-
-pub settle_tiny : Some (name_of Settle) ≡ Some (name_of Tiny) → ⊥
-settle_tiny e =
-    let first : 115 ≡ 116 = ap first_of e in
-    absurd (omega (arith, first))
+  -- words for one command are for no other
+  pub differs : (a b : CommandName) → (a ≡ b → ⊥) → IsFor a words → IsFor b words → ⊥
+  differs a b apart one other = apart (one_command a b words one other)

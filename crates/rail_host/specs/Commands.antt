@@ -1,30 +1,29 @@
 -- The words of all commands, and how the program ends.
-use Rattle.std.specs.Prelude.{◌≡◌, ◌⊎◌, ℕ, List, Option, IsSomeAnd}
+use Rattle.std.specs.Prelude.{◌≡◌, ◌≤◌, ◌⊎◌, ℕ, List, Option, Some, None, IsSomeAnd}
+use Rattle.rail_io.specs.Faults.{Rose}
 use Rattle.rail_io.specs.Told.{with_end}
 use Rattle.cold_store.specs.Exports.{text_on}
-use Rattle.host_words.specs.Tiny.{IsNoTiny}
-use Rattle.host_catalogue.specs.Files.{Files}
-use Rattle.host_notes.specs.Ends.{end_of, note_of, status_of}
-use Rattle.host_notes.specs.Noted.{IsNoted}
-use Rattle.host_notes.specs.declared.ending.CommandEnd.{CommandEnd}
-use Rattle.host_notes.specs.declared.ending.CommandEnd.TheVariants.{WordsRefused}
-use Rattle.session_loop.specs.declared.end.ConnEnd.{ConnEnd}
 use Rattle.claim_rule.specs.Walls.{WallView}
-use Rattle.host_tiny.specs.Host.{IsTinyRun}
+use Rattle.host_words.specs.Commands.{IsNamed}
+use Rattle.host_words.specs.Serve.{ServeView}
 use Rattle.host_words.specs.Settle.{IsNoSettle}
-use Rattle.host_replay.specs.Input.{HasShelfCause as HasInputCause, end_of_replay}
-use Rattle.host_replay.specs.Replay.{IsNoReplay, Replays}
-use Rattle.host_replay.specs.Export.{Exports, IsNoExport}
-use Rattle.host_replay.specs.declared.end.ReplayEnd.{ReplayEnd}
-use Rattle.host_settle.specs.Settle.{HasShelfCause as HasSettleCause, Settles, end_of_settle}
-use Rattle.host_settle.specs.declared.end.SettleEnd.{SettleEnd}
+use Rattle.host_words.specs.Tiny.{IsNoTiny}
+use Rattle.host_words.specs.declared.command.CommandName.{CommandName}
+use Rattle.host_words.specs.declared.command.CommandName.TheVariants.{Drill, Serve}
+use Rattle.host_catalogue.specs.Opening.{HasNoBooks}
+use Rattle.host_notes.specs.Ends.{note_of, status_of}
+use Rattle.host_replay.specs.Replay.{IsNoReplay}
+use Rattle.host_replay.specs.Export.{IsNoExport}
 use Rattle.host_drill.specs.Ends.{IsForDrill, IsNoDrill, Leaves, end_of_drill}
 use Rattle.host_drill.specs.declared.drill.Cause.{Cause}
 use Rattle.host_serve.specs.Ends.{status_of_serve}
-use Rattle.host_serve.specs.Serve.{HasShelfCause, IsExporting, IsForServe, IsNoServe, Left, Runs}
-use Rattle.host_serve.specs.Telling.{IsTold, Noting}
-use Rattle.rail_host.specs.Plain.{IsForSettle}
+use Rattle.host_serve.specs.Serve.{HasShelfCause, IsExporting, IsNoServe, IsOfRefusedText, IsOnlyLimited, IsServe}
+use Rattle.host_serve.specs.Serve.{IsWithoutBooks, Left, Runs}
+use Rattle.host_serve.specs.Telling.{IsTold}
 use Rattle.host_serve.specs.declared.end.ServeOutcome.{ServeOutcome}
+use Rattle.rail_host.specs.Devices.{Devices, FailsAt, HasFailed, IsUntouched, OfShelf, ShelfFailed, Takes}
+use Rattle.rail_host.specs.Devices.{after, before, files_of, noting}
+use Rattle.rail_host.specs.Plain.{EndsPlainly}
 
 -- they are those of no command
 pub record IsNoCommand (words : List (List ℕ)) : Type 0 where
@@ -35,91 +34,63 @@ pub record IsNoCommand (words : List (List ℕ)) : Type 0 where
   pub drill : IsNoDrill words
   pub serve : IsNoServe words
 
--- the command reads no input
-abbrev pub ReadsNothing : List (List ℕ) → Type 0
-ReadsNothing words = IsForServe words ⊎ IsForDrill words ⊎ IsForSettle words
+-- `drill` left this output so, and this wall, which is that of the finished books that its line counts.
+pub record EndsDrill {F S K E : Type 0} (words : List (List ℕ)) (wall : Option WallView) (status : ℕ)
+    (d : Devices F S K E) : Type 0 where
+  pub cause : Cause
+  pub is : status ≡ status_of (end_of_drill cause)
+  pub note : Takes d.notes (note_of (end_of_drill cause))
+  pub leaves : Leaves words (before d.output) (after d.output) wall cause
+  pub refused : status ≡ 2 → IsNoDrill words × IsUntouched d
+  pub output : FailsAt 4 status d.output
+  pub unread : d.input.new ≡ d.input.old
+  pub unfetched : d.shelf.new ≡ d.shelf.old
 
--- how often a shelf had failed and had missed a file, before and after
-pub record Shelved : Type 0 where
-  pub failed : ℕ
-  pub fails : ℕ
-  pub missed : ℕ
-  pub misses : ℕ
+-- What the status of `serve` says of the shelf and of the listener.
+pub record ServesFrom {F S K E : Type 0} (words : List (List ℕ)) (left : Left) (status : ℕ)
+    (d : Devices F S K E) : Type 0 where
+  -- status 1 comes where the shelf has no books; where it tells that it has none, no other comes but for its failure
+  -- and out of memory
+  pub without : status ≡ 1 → IsWithoutBooks words (files_of d.shelf)
+  pub no_books : (files : List ℕ → Option (List ℕ)) → files_of d.shelf ≡ Some files → (said : ServeView)
+      → IsServe words said → HasNoBooks files said.catalogue said.from
+      → (status ≡ 1) ⊎ ((status ≡ 3) × ShelfFailed d.shelf) ⊎ (status ≡ 5)
+  pub missed : status ≡ 1 → Rose (d.shelf.misses d.shelf.old) (d.shelf.misses d.shelf.new)
+      ⊎ IsOfRefusedText words (files_of d.shelf)
+  -- the listener or the shelf failed at status 3, and neither did at any other
+  pub read_cause : status ≡ 3 → Rose left.faults_before left.faults_after ⊎ ShelfFailed d.shelf
+  pub shelf_steady : (status ≡ 3 → ⊥) → d.shelf.faults d.shelf.new ≡ d.shelf.faults d.shelf.old
+  pub steady : (status ≡ 3 → ⊥) → left.faults_after ≡ left.faults_before
+  pub never_falls : left.faults_before ≤ left.faults_after
+  -- a wall is missing at status 3 only where the shelf or the bind failed, and never at 0
+  pub wall : status ≡ 0 → left.wall ≡ None → ⊥
+  pub no_wall : status ≡ 3 → left.wall ≡ None → ShelfFailed d.shelf ⊎ IsOnlyLimited words left.before left.after
+  pub same : d.shelf.told d.shelf.new ≡ d.shelf.told d.shelf.old
 
--- Serving ended so, from what the listener told to what it tells. It is the export of the wall that is left that the
--- notes took, if it was asked for, before the note of the end.
-pub record ServesPort (words : List (List ℕ)) (files : Files) (left : Left) (status : ℕ) (shelf : Shelved) (n : Noting) : Type 0 where
+-- `serve` ran so, from what the listener told to what it tells. The notes took the export of the wall that is left, if
+-- it was asked for, and then the note of the end.
+pub record EndsServe {F S K E : Type 0} (words : List (List ℕ)) (left : Left) (status : ℕ)
+    (d : Devices F S K E) : Type 0 where
   pub outcome : ServeOutcome
   pub is : status ≡ status_of_serve outcome
-  pub ran : Runs words files left outcome
-  pub told : IsTold words left.wall n outcome
-  pub exported : status ≡ 0 → IsExporting words → IsSomeAnd left.wall (λ w. n.after ≡ with_end n.before (text_on w))
-  pub cause : HasShelfCause outcome shelf.failed shelf.fails shelf.missed shelf.misses
+  pub ran : Runs words (files_of d.shelf) left outcome
+  pub told : IsTold words left.wall (noting d.notes) outcome
+  pub exported : status ≡ 0 → IsExporting words
+      → IsSomeAnd left.wall (λ w. after d.notes ≡ with_end (before d.notes) (text_on w))
+  pub write_cause : status ≡ 4 → IsExporting words × HasFailed d.notes
+  pub cause : OfShelf d.shelf (HasShelfCause outcome)
+  pub from : ServesFrom words left status d
+  pub refused : status ≡ 2 → IsNoServe words × IsUntouched d × (left.wall ≡ None)
+  pub refused_words : IsNoServe words → (status ≡ 2) ⊎ (status ≡ 5)
+  pub unread : d.input.new ≡ d.input.old
+  pub unwritten : d.output.new ≡ d.output.old
 
--- what the shelf, the input, the output and the notes of a call told, before and after, and how often they had failed
-pub record Devices : Type 0 where
-  pub files : Files
-  pub shelf : Shelved
-  pub input : Option (List ℕ)
-  pub left : Option (List ℕ)
-  pub output : Option (List ℕ)
-  pub sent : Option (List ℕ)
-  pub notes : Noting
+-- How the command of this name ended. None but `serve` and `drill` leaves a wall.
+abbrev pub Ends : {F S K E : Type 0} → Option CommandName → List (List ℕ) → Left → ℕ → Devices F S K E → Type 0
+Ends (Some Drill) words left status d = EndsDrill words left.wall status d
+Ends (Some Serve) words left status d = EndsServe words left status d
+Ends name words left status d = EndsPlainly name words status d × (left.wall ≡ None)
 
--- the status is that of the end, whose note the notes took
-pub record EndsAs (end : CommandEnd) (status : ℕ) (n : Noting) : Type 0 where
-  pub is : status ≡ status_of end
-  pub note : IsNoted n.before n.after n.failed n.fails (note_of end)
-
--- The words are those of no command, and nothing is read or written but the note.
-pub record EndsRefused (words : List (List ℕ)) (status : ℕ) (d : Devices) : Type 0 where
-  pub none : IsNoCommand words
-  pub no_read : d.left ≡ d.input
-  pub no_write : d.sent ≡ d.output
-  pub ends : EndsAs WordsRefused status d.notes
-
--- `tiny` ran so from this input to this output
-pub record EndsTiny (words : List (List ℕ)) (status : ℕ) (d : Devices) : Type 0 where
-  pub end : ConnEnd
-  pub ran : IsTinyRun words d.input d.left d.output d.sent end
-  pub ends : EndsAs (end_of end) status d.notes
-
--- `replay` ran so on this shelf's files, from this input to this output
-pub record EndsReplay (words : List (List ℕ)) (status : ℕ) (d : Devices) : Type 0 where
-  pub end : ReplayEnd
-  pub ran : Replays words d.files d.input d.left d.output d.sent end
-  pub ends : EndsAs (end_of_replay end) status d.notes
-  pub cause : HasInputCause end d.shelf.failed d.shelf.fails d.shelf.missed d.shelf.misses
-
--- and so `export`
-pub record EndsExport (words : List (List ℕ)) (status : ℕ) (d : Devices) : Type 0 where
-  pub end : ReplayEnd
-  pub ran : Exports words d.files d.input d.left d.output d.sent end
-  pub ends : EndsAs (end_of_replay end) status d.notes
-  pub cause : HasInputCause end d.shelf.failed d.shelf.fails d.shelf.missed d.shelf.misses
-
--- `settle` ran so on this shelf's files, to this output
-pub record EndsSettle (words : List (List ℕ)) (status : ℕ) (d : Devices) : Type 0 where
-  pub end : SettleEnd
-  pub ran : Settles words d.files d.output d.sent end
-  pub ends : EndsAs (end_of_settle end) status d.notes
-  pub cause : HasSettleCause end d.shelf.failed d.shelf.fails d.shelf.missed d.shelf.misses
-
--- `drill` left this output so, and this wall, which is that of the finished books that its line counts
-pub record EndsDrill (words : List (List ℕ)) (wall : Option WallView) (status : ℕ) (d : Devices) : Type 0 where
-  pub command : IsForDrill words
-  pub cause : Cause
-  pub leaves : Leaves words d.output d.sent wall cause
-  pub ends : EndsAs (end_of_drill cause) status d.notes
-
--- as a command over one connection, or one that writes a table
-abbrev pub EndsPlainly : List (List ℕ) → ℕ → Devices → Type 0
-EndsPlainly words status d =
-    EndsRefused words status d ⊎ EndsTiny words status d ⊎ EndsReplay words status d ⊎ EndsExport words status d
-    ⊎ EndsSettle words status d
-
--- so ends the program: as `drill`, as a plain command, or as `serve` at its port
-abbrev pub EndsSo : List (List ℕ) → Left → ℕ → Devices → Type 0
-EndsSo words left status d =
-    EndsDrill words left.wall status d ⊎ EndsPlainly words status d
-    ⊎ (IsForServe words × ServesPort words d.files left status d.shelf d.notes)
+-- so by the words, of which the first names the command
+abbrev pub Ran : {F S K E : Type 0} → List (List ℕ) → Left → ℕ → Devices F S K E → Type 0
+Ran words left status d = (name : Option CommandName) × IsNamed name words × Ends name words left status d

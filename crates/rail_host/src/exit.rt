@@ -2,12 +2,16 @@
 ghost use Rattle.std.specs.Prelude.{◌≡◌, Option, None, IfOk, IfErr, replicate};
 ghost use Rattle.std.specs.Process.{exit_status};
 ghost use Rattle.claim_rule.specs.Walls.{WallView};
+ghost use Rattle.host_words.specs.Limits.{clock_count};
 ghost use Rattle.host_words.specs.Options.{words_texts};
+ghost use Rattle.host_notes.specs.Ends.{note_of, status_of};
+ghost use Rattle.host_notes.specs.Noted.{TakesNote};
 ghost use Rattle.host_notes.specs.declared.ending.CommandEnd.TheVariants.{NoMemory};
 ghost use Rattle.host_serve.specs.Turns.{Asks};
 ghost use Rattle.host_serve.specs.Serve.{left_by};
-ghost use Rattle.rail_host.specs.Commands.{EndsAs, EndsSo};
+ghost use Rattle.rail_host.specs.Commands.{Ran};
 
+use crate::devices::Devices;
 use crate::program::run_command;
 use host_notes::{CommandEnd, end_command};
 use rail_io::{Shelf, Sink, Source, Ticker};
@@ -32,10 +36,7 @@ pub fn run_host<
     rt: &R,
     alloc: Global,
     words: Result<Vec<String>, AllocError>,
-    shelf: &mut F,
-    input: &mut S,
-    output: &mut K,
-    notes: &mut E,
+    devices: &mut Devices<F, S, K, E>,
     listener: L,
     ticker: T,
 ) -> ExitCode
@@ -46,49 +47,34 @@ where
 
     // The command of the words ran so on these devices, and the program's status is that of its end. What is left of
     // the listener and the wall goes with the program.
-    ensures ended { IfOk words (λ said. (last : L) × (wall : Option WallView)
-        × EndsSo (words_texts said.items)
-        (left_by L.told L.faults L.becomes L.hands (replicate 17 None) (Asks T.ticked ticker) listener last wall)
+    ensures ran { IfOk words (λ said. (last : L) × (wall : Option WallView) × Ran (words_texts said.items)
+        (left_by L.told L.faults L.becomes L.hands (replicate clock_count None) (Asks T.ticked ticker) listener last wall)
         (exit_status result)
         (record {
-          files = F.told shelf.old;
           shelf = record {
-            failed = F.faults shelf.old;
-            fails = F.faults shelf.new;
-            missed = F.misses shelf.old;
-            misses = F.misses shelf.new;
+            told = F.told;
+            faults = F.faults;
+            misses = F.misses;
+            old = devices.old.shelf;
+            new = devices.new.shelf;
           };
-          input = S.told input.old;
-          left = S.told input.new;
-          output = K.told output.old;
-          sent = K.told output.new;
-          notes = record {
-            before = E.told notes.old;
-            failed = E.faults notes.old;
-            after = E.told notes.new;
-            fails = E.faults notes.new;
-          };
+          input = record { told = S.told; faults = S.faults; old = devices.old.input; new = devices.new.input };
+          output = record { told = K.told; faults = K.faults; old = devices.old.output; new = devices.new.output };
+          notes = record { told = E.told; faults = E.faults; old = devices.old.notes; new = devices.new.notes };
         })) }
 
     // Without words nothing is touched but the notes.
-    ensures no_words { IfErr words (λ _. EndsAs NoMemory (exit_status result)
-        (record {
-          before = E.told notes.old;
-          failed = E.faults notes.old;
-          after = E.told notes.new;
-          fails = E.faults notes.new;
-        })) }
-    ensures unfetched { IfErr words (λ _. shelf.new ≡ shelf.old) }
-    ensures unread { IfErr words (λ _. input.new ≡ input.old) }
-    ensures unwritten { IfErr words (λ _. output.new ≡ output.old) }
+    ensures no_words { IfErr words (λ _. exit_status result ≡ status_of NoMemory) }
+    ensures note { IfErr words (λ _. TakesNote E.told E.faults devices.old.notes devices.new.notes (note_of NoMemory)) }
+    ensures unfetched { IfErr words (λ _. devices.new.shelf ≡ devices.old.shelf) }
+    ensures unread { IfErr words (λ _. devices.new.input ≡ devices.old.input) }
+    ensures unwritten { IfErr words (λ _. devices.new.output ≡ devices.old.output) }
 {
     match words {
         Ok(words) => {
-            let end = run_command(
-                rt, alloc, &words, shelf, input, output, notes, listener, ticker,
-            );
+            let end = run_command(rt, alloc, &words, devices, listener, ticker);
             ExitCode::from(end.status)
         }
-        Err(_) => ExitCode::from(end_command(notes, &CommandEnd::NoMemory)),
+        Err(_) => ExitCode::from(end_command(&mut devices.notes, &CommandEnd::NoMemory)),
     }
 }

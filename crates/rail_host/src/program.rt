@@ -1,21 +1,17 @@
 // The command of the first word.
-ghost use Rattle.std.specs.Prelude.{◌≡◌, ◌⊎◌, ℕ, List, Option, None, Some, replicate};
-ghost use Rattle.rail_io.specs.Faults.{Rose};
+ghost use Rattle.std.specs.Prelude.{◌≡◌, ◌⊎◌, None, replicate};
+ghost use Rattle.host_words.specs.Limits.{clock_count};
 ghost use Rattle.host_words.specs.Options.{words_texts};
-ghost use Rattle.host_words.specs.Serve.{ServeView};
-ghost use Rattle.host_catalogue.specs.Opening.{HasNoBooks};
-ghost use Rattle.host_drill.specs.Ends.{IsForDrill};
-ghost use Rattle.host_replay.specs.Export.{IsForExport};
-ghost use Rattle.host_serve.specs.Serve.{IsExporting, IsForServe, IsServe, left_by};
+ghost use Rattle.host_serve.specs.Serve.{IsForServe, left_by};
 ghost use Rattle.host_serve.specs.Turns.{Asks};
-ghost use Rattle.rail_host.specs.Commands.{EndsSo, IsNoCommand, ReadsNothing};
-ghost use Rattle.rail_host.specs.Plain.{AsksForFiles};
+ghost use Rattle.rail_host.specs.Commands.{IsNoCommand, Ran};
 
+use crate::devices::Devices;
 use crate::host::run_plain;
 use crate::serve::serve_port;
 use host_drill::{DrillEnd, run_drill};
 use host_serve::ServeEnd;
-use host_words::{CommandName, is_for};
+use host_words::{CommandName, command_of};
 use rail_io::{Shelf, Sink, Source, Ticker};
 use rail_service::Listener;
 use std::alloc::Global;
@@ -38,10 +34,7 @@ pub fn run_command<
     rt: &R,
     alloc: Global,
     words: &[String],
-    shelf: &mut F,
-    input: &mut S,
-    output: &mut K,
-    notes: &mut E,
+    devices: &mut Devices<F, S, K, E>,
     listener: L,
     ticker: T,
 ) -> ServeEnd<L>
@@ -50,86 +43,60 @@ where
     L::Output: Send,
     requires fresh { (L.told listener).handed ≡ 0 }
 
-    // Status 2 comes exactly where the words are those of no command, but for want of memory to read them. Nothing is
-    // then touched but the notes.
-    ensures words { result.status ≡ 2 → IsNoCommand (words_texts words.now) }
-    ensures refused_words { IsNoCommand (words_texts words.now) → (result.status ≡ 2) ⊎ (result.status ≡ 5) }
-    ensures nothing_read { result.status ≡ 2 → input.new ≡ input.old }
-    ensures nothing_written { result.status ≡ 2 → output.new ≡ output.old }
-    ensures nothing_fetched { result.status ≡ 2 → shelf.new ≡ shelf.old }
-    ensures nothing_heard { result.status ≡ 2 → result.listener ≡ listener }
-    ensures refused_wall { result.status ≡ 2 → result.wall ≡ None }
-
-    // The command of the words ran so on the devices handed in: from this input, to this output, on this shelf's files.
-    // The status and the note are those of its end. Of `serve`, and of no other command, the notes took the export
-    // before the note, if it was asked for. The wall that is handed back is that of `serve`, or the one that the line
-    // of `drill` counts.
-    ensures ended { EndsSo (words_texts words.now)
-        (left_by L.told L.faults L.becomes L.hands (replicate 17 None) (Asks T.ticked ticker)
+    // The command of the words ran so on these devices. One record for each says its status and note, what it read and
+    // wrote, which device failed, and what it left as it was.
+    ensures ran { Ran (words_texts words.now)
+        (left_by L.told L.faults L.becomes L.hands (replicate clock_count None) (Asks T.ticked ticker)
         listener result.listener result.wall)
         result.status
         (record {
-          files = F.told shelf.old;
           shelf = record {
-            failed = F.faults shelf.old;
-            fails = F.faults shelf.new;
-            missed = F.misses shelf.old;
-            misses = F.misses shelf.new;
+            told = F.told;
+            faults = F.faults;
+            misses = F.misses;
+            old = devices.old.shelf;
+            new = devices.new.shelf;
           };
-          input = S.told input.old;
-          left = S.told input.new;
-          output = K.told output.old;
-          sent = K.told output.new;
-          notes = record {
-            before = E.told notes.old;
-            failed = E.faults notes.old;
-            after = E.told notes.new;
-            fails = E.faults notes.new;
-          };
+          input = record { told = S.told; faults = S.faults; old = devices.old.input; new = devices.new.input };
+          output = record { told = K.told; faults = K.faults; old = devices.old.output; new = devices.new.output };
+          notes = record { told = E.told; faults = E.faults; old = devices.old.notes; new = devices.new.notes };
         }) }
 
-    // What a command has no use for is left as it was: only `serve` hears of the listener, and neither it nor `drill`
-    // or `settle` reads the input. A command other than `serve` and `drill` hands back no wall. A failure of the input
-    // or the output is answered where its count of faults rose in this call, and at every other status that count is as
-    // it was; but at status 5 of `export` the input may have failed behind an answer for want of memory.
-    ensures unheard { (IsForServe (words_texts words.now) → ⊥) → result.listener ≡ listener }
-    ensures no_wall { (IsForServe (words_texts words.now) → ⊥) → (IsForDrill (words_texts words.now) → ⊥)
-        → result.wall ≡ None }
-    ensures unread { ReadsNothing (words_texts words.now) → input.new ≡ input.old }
-    ensures unwritten { IsForServe (words_texts words.now) → output.new ≡ output.old }
-    ensures unfetched { AsksForFiles (words_texts words.now) ⊎ IsForServe (words_texts words.now)
-        ⊎ (shelf.new ≡ shelf.old) }
-    ensures read_cause { (IsForServe (words_texts words.now) → ⊥) → result.status ≡ 3
-        → Rose (S.faults input.old) (S.faults input.new)
-        ⊎ (AsksForFiles (words_texts words.now) × Rose (F.faults shelf.old) (F.faults shelf.new)) }
-    ensures write_cause { result.status ≡ 4 → Rose (K.faults output.old) (K.faults output.new)
-        ⊎ (IsExporting (words_texts words.now) × Rose (E.faults notes.old) (E.faults notes.new)) }
-    ensures write_steady { (result.status ≡ 4 → ⊥) → K.faults output.new ≡ K.faults output.old }
-    ensures read_steady { (result.status ≡ 3 → ⊥) → (IsForExport (words_texts words.now) → result.status ≡ 5 → ⊥)
-        → S.faults input.new ≡ S.faults input.old }
+    // Status 2 comes exactly where the words are those of no command, unless there was no memory to read them.
+    ensures words { result.status ≡ 2 → IsNoCommand (words_texts words.now) }
+    ensures refused_words { IsNoCommand (words_texts words.now) → (result.status ≡ 2) ⊎ (result.status ≡ 5) }
 
-    // Where the words are those of `serve` and the shelf, which tells so, has no books of theirs, no other status comes
-    // but for its failure and for want of memory.
-    ensures no_books { (files : List ℕ → Option (List ℕ)) → F.told shelf.old ≡ Some files → (said : ServeView)
-        → IsServe (words_texts words.now) said → HasNoBooks files said.catalogue said.from
-        → (result.status ≡ 1)
-        ⊎ ((result.status ≡ 3) × Rose (F.faults shelf.old) (F.faults shelf.new))
-        ⊎ (result.status ≡ 5) }
+    // Only `serve` hears of the listener, and not where its words are refused.
+    ensures unheard { (IsForServe (words_texts words.now) → ⊥) → result.listener ≡ listener }
+    ensures nothing_heard { result.status ≡ 2 → result.listener ≡ listener }
 {
-    if is_for(words, CommandName::Serve) {
-        serve_port(rt, alloc, words, shelf, listener, ticker, notes)
-    } else if is_for(words, CommandName::Drill) {
-        let DrillEnd { status, wall } = run_drill(rt, alloc, words, output, notes);
-        ServeEnd {
-            status,
-            listener,
-            wall,
+    match command_of(words) {
+        Some(CommandName::Serve) => serve_port(rt, alloc, words, devices, listener, ticker),
+        Some(CommandName::Drill) => {
+            let DrillEnd { status, wall } = run_drill(
+                rt,
+                alloc,
+                words,
+                &mut devices.output,
+                &mut devices.notes,
+            );
+            ServeEnd {
+                status,
+                listener,
+                wall,
+            }
         }
-    } else {
-        ServeEnd {
-            status: run_plain(alloc, words, shelf, input, output, notes),
+        _ => ServeEnd {
+            status: run_plain(
+                alloc,
+                words,
+                &mut devices.shelf,
+                &mut devices.input,
+                &mut devices.output,
+                &mut devices.notes,
+            ),
             listener,
             wall: None,
-        }
+        },
     }
 }

@@ -1,8 +1,8 @@
 use Rattle.std.proofs.Common.{◌∙◌, ◌+◌, ◌∷◌, [], ℕ, List, length, sym, subst, ap}
 use Rattle.std.proofs.lemmas.List.{length-append}
-use Rattle.drill_totals.specs.Meeting.{EachAt}
-use Rattle.drill_totals.proofs.Meetings.{first_parts}
-use Rattle.drill_totals.proofs.Workers.{each_push}
+use Rattle.host_drill.specs.Meeting.{EachAt}
+use Rattle.host_drill.proofs.Meetings.{first_parts}
+use Rattle.host_drill.proofs.Workers.{each_push}
 use Rattle.host_drill.specs.declared.connection.Connection.{Connection}
 use Rattle.host_drill.specs.Connections.{IsReady}
 use Rattle.host_drill.proofs.Serving.{ready_new}

@@ -1,7 +1,7 @@
 use Rattle.std.proofs.Common.{◌≡◌, length}
 use Rattle.claim_rule.specs.Desks.{IsOf}
 use Rattle.claim_rule.specs.Out.{IsIdle}
-use Rattle.drill_totals.specs.Meeting.{EachAt, IsFirst}
+use Rattle.host_drill.specs.Meeting.{EachAt, IsFirst}
 use Rattle.host_drill.specs.Connections.{IsReady}
 use Rattle.host_drill.proofs.crew.open_crew.Given as goal
 

@@ -2,10 +2,10 @@ use Rattle.std.proofs.Common.{◌≡◌, ◌∙◌, ◌++◌, ◌<◌, ℕ, List
 use Rattle.std.specs.Prelude.{slice_index_or}
 use Rattle.claim_rule.specs.Desks.{IsOf}
 use Rattle.claim_rule.specs.Out.{IsIdle}
-use Rattle.drill_totals.specs.Meeting.{EachAt, EachPair}
+use Rattle.host_drill.specs.Meeting.{EachAt, EachPair}
 use Rattle.host_drill.specs.declared.connection.Connection.{Connection}
 use Rattle.host_drill.specs.Connections.{Serves}
-use Rattle.drill_totals.specs.Totals.{sold_of}
+use Rattle.host_drill.specs.Totals.{sold_of}
 use Rattle.host_drill.specs.Drilled.{IsDone, state_at}
 use Rattle.host_drill.proofs.Serving.{all_done, all_written}
 use Rattle.host_drill.proofs.Drilling.{drilled}

@@ -1,0 +1,133 @@
+-- Where words are refused: by the name of their command.
+use Rattle.std.proofs.Common.{◌≡◌, ◌⊎◌, ◌∙◌, ℕ, List, Option, Some, None, ap, arith, inl, inr, sym}
+use Rattle.session_loop.specs.declared.end.ConnEnd.{ConnEnd}
+use Rattle.session_loop.specs.declared.end.ConnEnd.TheVariants as conn
+use Rattle.host_words.specs.Commands.{IsFor}
+use Rattle.host_words.specs.Commands.{IsNamed}
+use Rattle.host_words.specs.declared.command.CommandName.{CommandName}
+use Rattle.host_words.specs.declared.command.CommandName.TheVariants.{Tiny, Replay, Export, Settle, Drill, Serve}
+use Rattle.host_catalogue.specs.declared.file.LoadFault.TheVariants as load
+use Rattle.host_notes.specs.Ends.{end_of, status_of}
+use Rattle.host_replay.specs.Input.{status_of_replay}
+use Rattle.host_replay.specs.declared.end.ReplayEnd.{ReplayEnd}
+use Rattle.host_replay.specs.declared.end.ReplayEnd.TheVariants as replay
+use Rattle.host_replay.specs.Settle.{status_of_settle}
+use Rattle.host_replay.specs.declared.settle_end.SettleEnd.{SettleEnd}
+use Rattle.host_replay.specs.declared.settle_end.SettleEnd.TheVariants as settle
+use Rattle.host_serve.specs.Serve.{Left}
+use Rattle.rail_host.specs.Devices.{Devices}
+use Rattle.rail_host.specs.Plain.{EndsPlainly}
+use Rattle.rail_host.specs.Commands.{Ends, IsNoCommand}
+use Rattle.rail_host.proofs.Naming.{differs, no_drill, no_export, no_replay, no_serve, no_settle, no_tiny}
+
+-- no connection ends with status 2
+served : (end : ConnEnd) → status_of (end_of end) ≡ 2 → ⊥
+served conn.Done is = absurd (omega (arith, is))
+served conn.Cut is = absurd (omega (arith, is))
+served (conn.Refused fault) is = absurd (omega (arith, is))
+served conn.ReadFault is = absurd (omega (arith, is))
+served conn.WriteFault is = absurd (omega (arith, is))
+served conn.NoMemory is = absurd (omega (arith, is))
+
+-- neither does a command that has read its words
+replayed : (end : ReplayEnd) → status_of_replay end ≡ 2 → ⊥
+replayed replay.NoMemory is = absurd (omega (arith, is))
+replayed (replay.NotLoaded (load.Missing file)) is = absurd (omega (arith, is))
+replayed (replay.NotLoaded (load.TooLarge file)) is = absurd (omega (arith, is))
+replayed (replay.NotLoaded (load.Refused fault)) is = absurd (omega (arith, is))
+replayed (replay.NotLoaded (load.RefusedExport fault)) is = absurd (omega (arith, is))
+replayed (replay.NotLoaded load.Failed) is = absurd (omega (arith, is))
+replayed (replay.NotLoaded load.NoMemory) is = absurd (omega (arith, is))
+replayed (replay.Served end) is = served end is
+
+settled : (end : SettleEnd) → status_of_settle end ≡ 2 → ⊥
+settled settle.Written is = absurd (omega (arith, is))
+settled (settle.NotLoaded (load.Missing file)) is = absurd (omega (arith, is))
+settled (settle.NotLoaded (load.TooLarge file)) is = absurd (omega (arith, is))
+settled (settle.NotLoaded (load.Refused fault)) is = absurd (omega (arith, is))
+settled (settle.NotLoaded (load.RefusedExport fault)) is = absurd (omega (arith, is))
+settled (settle.NotLoaded load.Failed) is = absurd (omega (arith, is))
+settled (settle.NotLoaded load.NoMemory) is = absurd (omega (arith, is))
+settled settle.WriteFault is = absurd (omega (arith, is))
+settled settle.NoMemory is = absurd (omega (arith, is))
+
+module _ {F S K E : Type 0} (words : List (List ℕ)) (status : ℕ) (d : Devices F S K E) (no_drills : IsFor Drill words → ⊥) (no_serves : IsFor Serve words → ⊥) where
+  -- status 2 of a plain command says that the words are those of none
+  pub plain_words : (name : Option CommandName) → IsNamed name words → EndsPlainly name words status d → status ≡ 2 → IsNoCommand words
+  plain_words (Some Tiny) named ends two = record {
+    tiny = elim ends [ inl refused ↦ refused.0 | inr ran ↦ absurd (served ran.end (sym ran.is ∙ two)) ];
+    replay = no_replay words (differs words Tiny Replay (λ e. absurd cc) named);
+    export = no_export words (differs words Tiny Export (λ e. absurd cc) named);
+    settle = no_settle words (differs words Tiny Settle (λ e. absurd cc) named);
+    drill = no_drill words no_drills;
+    serve = no_serve words no_serves;
+  }
+  plain_words (Some Replay) named ends two = record {
+    tiny = no_tiny words (differs words Replay Tiny (λ e. absurd cc) named);
+    replay = elim ends [ inl refused ↦ refused.0 | inr ran ↦ absurd (replayed ran.end (sym ran.is ∙ two)) ];
+    export = no_export words (differs words Replay Export (λ e. absurd cc) named);
+    settle = no_settle words (differs words Replay Settle (λ e. absurd cc) named);
+    drill = no_drill words no_drills;
+    serve = no_serve words no_serves;
+  }
+  plain_words (Some Export) named ends two = record {
+    tiny = no_tiny words (differs words Export Tiny (λ e. absurd cc) named);
+    replay = no_replay words (differs words Export Replay (λ e. absurd cc) named);
+    export = elim ends [ inl refused ↦ refused.0 | inr ran ↦ absurd (replayed ran.end (sym ran.is ∙ two)) ];
+    settle = no_settle words (differs words Export Settle (λ e. absurd cc) named);
+    drill = no_drill words no_drills;
+    serve = no_serve words no_serves;
+  }
+  plain_words (Some Settle) named ends two = record {
+    tiny = no_tiny words (differs words Settle Tiny (λ e. absurd cc) named);
+    replay = no_replay words (differs words Settle Replay (λ e. absurd cc) named);
+    export = no_export words (differs words Settle Export (λ e. absurd cc) named);
+    settle = elim ends [ inl refused ↦ refused.0 | inr ran ↦ absurd (settled ran.end (sym ran.is ∙ two)) ];
+    drill = no_drill words no_drills;
+    serve = no_serve words no_serves;
+  }
+  plain_words (Some Drill) named ends two = absurd (no_drills named)
+  plain_words (Some Serve) named ends two = absurd (no_serves named)
+  plain_words None named ends two = record {
+    tiny = no_tiny words (named Tiny);
+    replay = no_replay words (named Replay);
+    export = no_export words (named Export);
+    settle = no_settle words (named Settle);
+    drill = no_drill words no_drills;
+    serve = no_serve words no_serves;
+  }
+
+  -- words of no command are refused, unless there was no memory to read them
+  pub plain_refused : (name : Option CommandName) → IsNamed name words → EndsPlainly name words status d → IsNoCommand words → (status ≡ 2) ⊎ (status ≡ 5)
+  plain_refused (Some Tiny) named ends none =
+      elim ends [ inl refused ↦ inl refused.1.is | inr ran ↦ absurd (none.tiny ran.ran.legs ran.ran.places ran.ran.words_are) ]
+  plain_refused (Some Replay) named ends none = elim ends [
+    | inl refused ↦ inl refused.1.is
+    | inr ran ↦ elim ran.ran [
+      | inl unread ↦ inr (ran.is ∙ ap status_of_replay unread.is)
+      | inr said ↦ absurd (none.replay said.0 said.1)
+    ]
+  ]
+  plain_refused (Some Export) named ends none = elim ends [
+    | inl refused ↦ inl refused.1.is
+    | inr ran ↦ elim ran.ran [
+      | inl unread ↦ inr (ran.is ∙ ap status_of_replay unread.is)
+      | inr said ↦ absurd (none.export said.0 said.1)
+    ]
+  ]
+  plain_refused (Some Settle) named ends none =
+      elim ends [ inl refused ↦ inl refused.1.is | inr ran ↦ absurd (none.settle ran.ran.catalogue ran.ran.export ran.ran.said) ]
+  plain_refused (Some Drill) named ends none = inl ends.is
+  plain_refused (Some Serve) named ends none = inl ends.is
+  plain_refused None named ends none = inl ends.is
+
+  -- so a plain command ended as a command does that leaves no wall
+  pub plain_ends : (left : Left) → left.wall ≡ None → (name : Option CommandName) → IsNamed name words → EndsPlainly name words status d
+      → Ends name words left status d
+  plain_ends left none (Some Tiny) named ends = (ends, none)
+  plain_ends left none (Some Replay) named ends = (ends, none)
+  plain_ends left none (Some Export) named ends = (ends, none)
+  plain_ends left none (Some Settle) named ends = (ends, none)
+  plain_ends left none (Some Drill) named ends = absurd (no_drills named)
+  plain_ends left none (Some Serve) named ends = absurd (no_serves named)
+  plain_ends left none None named ends = (ends, none)
