@@ -36,13 +36,15 @@ pub record IsDesk (books : BooksView) (n : ℕ) (desk : DeskView) : Type 0 where
   pub joined : desk.joined ≡ []
 
 -- a member at such a desk, whose worker fits the books
-pub record IsMember {W : Type 0} (Fits : W → BooksView → Type 0) (books : BooksView) (n : ℕ) (m : Member W) : Type 0 where
+pub record IsMember {W : Type 0} (Fits : W → BooksView → Type 0) (books : BooksView) (n : ℕ)
+    (m : Member W) : Type 0 where
   pub fits : Fits m.worker books
   pub desk : IsDesk books n m.desk
 
 -- the members' desks are numbered from 1
 abbrev pub IsCrew : {W : Type 0} → (W → BooksView → Type 0) → BooksView → List (Member W) → Type 0
-IsCrew {W} Fits books crew = (i : ℕ) (none : Member W) → i < length crew → IsMember Fits books (i + 1) (slice_index_or crew i none)
+IsCrew {W} Fits books crew =
+    (i : ℕ) (none : Member W) → i < length crew → IsMember Fits books (i + 1) (slice_index_or crew i none)
 
 -- what the posts of a crew are filled with
 pub record Filling (T : Type 0) : Type 0 where
@@ -53,7 +55,8 @@ pub record Filling (T : Type 0) : Type 0 where
 
 -- a member that stands ready at its post, with its own of the clocks, handed out no stream, at a desk without entries
 -- of its own
-pub record IsReady {S T C : Type 0} (m : Member (Post S T C)) (handed : S → ℕ) (told : C → Readings) (with_these : Filling T)
+pub record IsReady {S T C : Type 0} (m : Member (Post S T C)) (handed : S → ℕ) (told : C → Readings)
+    (with_these : Filling T)
     (i : ℕ) : Type 0 where
   pub post : IsPosted with_these.cat with_these.said with_these.ticker i m.worker
   pub clock : told (clock_of m.worker) ≡ clock_for with_these.clocks i
@@ -62,7 +65,8 @@ pub record IsReady {S T C : Type 0} (m : Member (Post S T C)) (handed : S → �
 
 abbrev pub AreReady : {S T C : Type 0} → List (Member (Post S T C)) → (S → ℕ) → (C → Readings) → Filling T → Type 0
 AreReady {S} {T} {C} crew handed told with_these =
-    (i : ℕ) (none : Member (Post S T C)) → i < length crew → IsReady (slice_index_or crew i none) handed told with_these i
+    (i : ℕ) (none : Member (Post S T C)) → i < length crew
+    → IsReady (slice_index_or crew i none) handed told with_these i
 
 -- the sum over all below a number
 abbrev pub sum_below : (ℕ → ℕ) → ℕ → ℕ
@@ -79,28 +83,35 @@ pub record Held : Type 0 where
   pub amount : ℕ
 
 -- the members from this place on have given away what they had
-pub record HasGiven {W : Type 0} (has counts : W → ℕ) (crew : List (Member W)) (left : ℕ) (old new : Held) : Type 0 where
+pub record HasGiven {W : Type 0} (has counts : W → ℕ) (crew : List (Member W)) (left : ℕ)
+    (old new : Held) : Type 0 where
   pub all_parts : (none : Member W)
-      → new.parts + sum_below (of_member has crew none) left ≡ old.parts + sum_below (of_member has crew none) (length crew)
+      → new.parts + sum_below (of_member has crew none) left
+      ≡ old.parts + sum_below (of_member has crew none) (length crew)
   pub all_counted : (none : Member W)
-      → new.amount + sum_below (of_member counts crew none) left ≡ old.amount + sum_below (of_member counts crew none) (length crew)
+      → new.amount + sum_below (of_member counts crew none) left
+      ≡ old.amount + sum_below (of_member counts crew none) (length crew)
 
 -- the desk has joined this one: it has seen all that this one had seen, and of this one's entries no more
 abbrev pub HasIn : DeskView → ℕ → DeskView → Type 0
-HasIn first number desk = In number first.joined × (own first.seen number ≡ own desk.seen number) × IsPrefix desk.seen first.seen
+HasIn first number desk =
+    In number first.joined × (own first.seen number ≡ own desk.seen number) × IsPrefix desk.seen first.seen
 
 -- the first desk has joined all members' desks after the first `left`, and has done nothing else
-pub record HasMetAll {W : Type 0} (books : BooksView) (crew : List (Member W)) (left : ℕ) (desk : DeskView) : Type 0 where
+pub record HasMetAll {W : Type 0} (books : BooksView) (crew : List (Member W)) (left : ℕ)
+    (desk : DeskView) : Type 0 where
   pub own : IsOf books desk
   pub tidy : IsTidy desk
   pub number : desk.number ≡ 0
   pub parted : desk.parted ≡ length crew
   pub meets : OnlyMet desk.seen
-  pub met : (i : ℕ) (none : Member W) → left ≤ i → i < length crew → HasIn desk (i + 1) (slice_index_or crew i none).desk
+  pub met : (i : ℕ) (none : Member W) → left ≤ i → i < length crew
+      → HasIn desk (i + 1) (slice_index_or crew i none).desk
 
 -- The members of a crew took their turns to their ends; the first desk has joined the desks of all but the first, which
 -- is left, and what these had counted was given away.
-pub record HasRun {W : Type 0} (Fits : W → BooksView → Type 0) (does : Doing W) (ended : W → Type 0) (has counts : W → ℕ) (books : BooksView) (old : List (Member W))
+pub record HasRun {W : Type 0} (Fits : W → BooksView → Type 0) (does : Doing W) (ended : W → Type 0)
+    (has counts : W → ℕ) (books : BooksView) (old : List (Member W))
     (before after : Held) (desk : DeskView) (member : Member W) : Type 0 where
   pub crew : List (Member W)
   pub count : length crew ≡ length old

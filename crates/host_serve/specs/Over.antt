@@ -8,7 +8,8 @@ abbrev pub IsSpentOrFailed : {L : Type 0} → (L → ListenerView) → (L → �
 IsSpentOrFailed told faults limit count listener = (limit ≤ (told listener).handed) ⊎ Rose count (faults listener)
 
 -- After some calls of the first, there is a listener that has handed out so many, or has failed.
-pub record IsOverAfter {L : Type 0} (told : L → ListenerView) (faults : L → ℕ) (becomes : L → L → Type 0) (limit count : ℕ)
+pub record IsOverAfter {L : Type 0} (told : L → ListenerView) (faults : L → ℕ) (becomes : L → L → Type 0)
+    (limit count : ℕ)
     (first : L) : Type 0 where
   pub calls : ℕ
   pub last : L
@@ -17,4 +18,5 @@ pub record IsOverAfter {L : Type 0} (told : L → ListenerView) (faults : L → 
 
 -- this is shown by any listener that has ended after some calls of this one
 abbrev pub EndsOver : {L : Type 0} → (L → ListenerView) → (L → ℕ) → (L → L → Type 0) → ℕ → ℕ → Type 0 → L → Type 0
-EndsOver told faults becomes limit count Shown listener = IsOverAfter told faults becomes limit count listener → ∥ Shown ∥₁
+EndsOver told faults becomes limit count Shown listener =
+    IsOverAfter told faults becomes limit count listener → ∥ Shown ∥₁

@@ -49,7 +49,8 @@ IsPlain words = (said : ServeView) × IsServe words said × (said.export ≡ fal
 -- The entries of desk n of the books in the history are those of so many turns that were made one after the other, at
 -- the books' desk of that number and from this clock on. It had none before them, and what it had seen before the first
 -- and after the last begins the history.
-pub record HasWorked (Does : OneTurn) (books : BooksView) (history : List Entry) (n : ℕ) (clock : Readings) (count : ℕ) : Type 0 where
+pub record HasWorked (Does : OneTurn) (books : BooksView) (history : List Entry) (n : ℕ) (clock : Readings)
+    (count : ℕ) : Type 0 where
   pub began : Stand
   pub began_clock : began.clock ≡ clock
   pub began_of : IsOf books began.desk
@@ -76,7 +77,8 @@ pub record Left : Type 1 where
   pub wall : Option WallView
 
 -- so of a listener that was handed in and the one that was handed back
-abbrev pub left_by : {L : Type 0} → (L → ListenerView) → (L → ℕ) → (L → L → Type 0) → HandingBy L → List Readings → (ℕ → ℕ → Type 0) → L → L
+abbrev pub left_by : {L : Type 0} → (L → ListenerView) → (L → ℕ) → (L → L → Type 0) → HandingBy L → List Readings
+    → (ℕ → ℕ → Type 0) → L → L
     → Option WallView → Left
 left_by told faults becomes hands clocks asks first last wall = record {
   faults_before = faults first;
@@ -117,7 +119,8 @@ pub record IsWallOf (books : BooksView) (others : ℕ) (wall : WallView) : Type 
 -- history, which is legal, and it is free for an export. In the history the first desk only met others, and the
 -- members' entries are those of all their turns at these books: the connections and the sweeps. No desk beyond these has
 -- any.
-pub record IsServedWall (cat : CatalogueView) (plan : Layout) (said : Serving) (left : Left) (wall : WallView) : Type 0 where
+pub record IsServedWall (cat : CatalogueView) (plan : Layout) (said : Serving) (left : Left)
+    (wall : WallView) : Type 0 where
   pub books : BooksView
   pub layout : books.layout ≡ plan
   pub of : IsWallOf books (said.workers + 1) wall
@@ -162,17 +165,22 @@ pub record IsUnbound (said : Serving) (faults_before faults_after : ℕ) (before
 -- What the words ask for ended so. Where there are books, only a failed bind, and no memory before any stream was
 -- handed out, hand back no wall.
 abbrev pub Ends : Files → ServeView → Left → ServeOutcome → Type 0
-Ends files said left end.Served = IsSpent said.numbers left.faults_before left.faults_after left.after × HasWall files said left
+Ends files said left end.Served =
+    IsSpent said.numbers left.faults_before left.faults_after left.after × HasWall files said left
 Ends files said left end.AcceptFailed =
     HasFailed said.numbers left.faults_before left.faults_after left.after × HasWall files said left
-Ends files said left end.Unwritten = IsSpent said.numbers left.faults_before left.faults_after left.after × HasWall files said left
-Ends files said left end.NoText = IsSpent said.numbers left.faults_before left.faults_after left.after × HasWall files said left
+Ends files said left end.Unwritten =
+    IsSpent said.numbers left.faults_before left.faults_after left.after × HasWall files said left
+Ends files said left end.NoText =
+    IsSpent said.numbers left.faults_before left.faults_after left.after × HasWall files said left
 Ends files said left end.NotBound =
-    HasOpened files said × IsUnbound said.numbers left.faults_before left.faults_after left.before left.after × (left.wall ≡ None)
+    HasOpened files said × IsUnbound said.numbers left.faults_before left.faults_after left.before left.after
+    × (left.wall ≡ None)
 Ends files said left (end.NotLoaded fault) =
     Fails files said.catalogue said.from fault × (left.after ≡ left.before) × (left.faults_after ≡ left.faults_before)
     × (left.wall ≡ None)
-Ends files said left end.NoMemory = (left.wall ≡ None) × (left.after.handed ≡ 0) × (left.faults_after ≡ left.faults_before)
+Ends files said left end.NoMemory =
+    (left.wall ≡ None) × (left.after.handed ≡ 0) × (left.faults_after ≡ left.faults_before)
 Ends files said left end.Refused = ⊥
 
 -- books with this layout were served and closed so
@@ -180,7 +188,8 @@ abbrev pub BooksEnd : CatalogueView → Layout → Serving → Left → BooksOut
 BooksEnd cat plan said left books.Served =
     IsSpent said left.faults_before left.faults_after left.after × IsSomeAnd left.wall (IsServedWall cat plan said left)
 BooksEnd cat plan said left books.AcceptFailed =
-    HasFailed said left.faults_before left.faults_after left.after × IsSomeAnd left.wall (IsServedWall cat plan said left)
+    HasFailed said left.faults_before left.faults_after left.after
+    × IsSomeAnd left.wall (IsServedWall cat plan said left)
 BooksEnd cat plan said left books.NoMemory =
     (left.wall ≡ None) × (left.after.handed ≡ 0) × (left.faults_after ≡ left.faults_before)
 
@@ -188,13 +197,15 @@ BooksEnd cat plan said left books.NoMemory =
 abbrev pub Runs : List (List ℕ) → Files → Left → ServeOutcome → Type 0
 Runs words files left end.Refused =
     IsNoServe words × (left.after ≡ left.before) × (left.faults_after ≡ left.faults_before) × (left.wall ≡ None)
-Runs words files left end.NoMemory = (left.wall ≡ None) × (left.after.handed ≡ 0) × (left.faults_after ≡ left.faults_before)
+Runs words files left end.NoMemory =
+    (left.wall ≡ None) × (left.after.handed ≡ 0) × (left.faults_after ≡ left.faults_before)
 Runs words files left end.Served = (said : ServeView) × IsServe words said × Ends files said left end.Served
 Runs words files left end.AcceptFailed = (said : ServeView) × IsServe words said × Ends files said left end.AcceptFailed
 Runs words files left end.Unwritten = (said : ServeView) × IsServe words said × Ends files said left end.Unwritten
 Runs words files left end.NoText = (said : ServeView) × IsServe words said × Ends files said left end.NoText
 Runs words files left end.NotBound = (said : ServeView) × IsServe words said × Ends files said left end.NotBound
-Runs words files left (end.NotLoaded fault) = (said : ServeView) × IsServe words said × Ends files said left (end.NotLoaded fault)
+Runs words files left (end.NotLoaded fault) =
+    (said : ServeView) × IsServe words said × Ends files said left (end.NotLoaded fault)
 
 -- Where the shelf gave no books, its counts show why; and at every other end its count of faults is as it was.
 abbrev pub HasShelfCause : ServeOutcome → ℕ → ℕ → ℕ → ℕ → Type 0

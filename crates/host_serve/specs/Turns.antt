@@ -32,7 +32,8 @@ TickingBy T = T → ℕ → Bool → T → Type 0
 -- from the first ticker to the last it was asked so often, each time after so many seconds, and each time it ticked
 abbrev pub Ticks : {T : Type 0} → TickingBy T → ℕ → ℕ → T → T → Type 0
 Ticks ticked seconds zero first last = last ≡ first
-Ticks {T} ticked seconds (suc n) first last = (mid : T) × Ticks ticked seconds n first mid × ticked mid seconds true last
+Ticks {T} ticked seconds (suc n) first last =
+    (mid : T) × Ticks ticked seconds n first mid × ticked mid seconds true last
 
 -- it ticked so often, and was then asked once more
 abbrev pub Asks : {T : Type 0} → TickingBy T → T → ℕ → ℕ → Type 0
@@ -41,7 +42,8 @@ Asks {T} ticked first seconds n =
 
 -- A ticker was asked once, and this is what was made of its answer: a tick only where it ticked, and none only where it
 -- didn't, or where the other thing was shown.
-pub record TicksUntil {T : Type 0} (ticked : TickingBy T) (Over : Type 0) (old : T) (seconds : ℕ) (answer : Bool) (new : T)
+pub record TicksUntil {T : Type 0} (ticked : TickingBy T) (Over : Type 0) (old : T) (seconds : ℕ) (answer : Bool)
+    (new : T)
     : Type 0 where
   pub told : Bool
   pub asked : ticked old seconds told new
@@ -55,7 +57,8 @@ pub record HasCatalogue (books : BooksView) (cat : CatalogueView) : Type 0 where
 
 -- This stream's connection was served to its end, by the desk's own entries: from what its source and its sink told to
 -- what they tell then, by the bytes that were taken of it and the bytes that answer them, and not one more.
-abbrev pub ServesStream : CatalogueView → Option (List ℕ) → Option (List ℕ) → Option (List ℕ) → Option (List ℕ) → Readings → DeskView → Readings → DeskView
+abbrev pub ServesStream : CatalogueView → Option (List ℕ) → Option (List ℕ) → Option (List ℕ) → Option (List ℕ)
+    → Readings → DeskView → Readings → DeskView
     → Type 0
 ServesStream cat stream sent left after clock old later new =
     (end : ConnEnd) × ServesWhole cat (connection_at old clock stream sent) (connection_at new later left after) end
@@ -80,7 +83,8 @@ HandedOut hands stream sent left after = hands stream sent
 
 -- from these streams to those, one call handed it out, and the next one let it go as it was at its end
 abbrev pub Passes : {S : Type 0} → HandingBy S → LettingGo S → S → S → Passing
-Passes {S} hands lets_go old new stream sent left after = (mid : S) × hands old stream sent mid × lets_go mid left after new
+Passes {S} hands lets_go old new stream sent left after =
+    (mid : S) × hands old stream sent mid × lets_go mid left after new
 
 -- it was handed out so, and let go so as it was at its end
 abbrev pub HandedAndClosed : Handing → Handing → Passing
@@ -191,7 +195,8 @@ module _ {S T C : Type 0} where
   abbrev pub DoesTurn : Means S T C → Post S T C → DeskView → Post S T C → DeskView → Type 0
   DoesTurn m (Serving w) old (Serving v) new =
       (v.common.cat.now ≡ w.common.cat.now) × Counts v.ended (m.handed w.streams) (m.handed v.streams)
-      × ServesTurn (Passes m.hands m.lets_go w.streams v.streams) w.common.cat.now (m.told w.clock) old (m.told v.clock) new
+      × ServesTurn (Passes m.hands m.lets_go w.streams v.streams) w.common.cat.now (m.told w.clock) old
+      (m.told v.clock) new
       v.ended
   DoesTurn m (Sweeping w) old (Sweeping v) new =
       (v.seconds ≡ w.seconds) × m.ticked w.ticker w.seconds (not v.ended) v.ticker
@@ -204,7 +209,8 @@ module _ {S T C : Type 0} where
   abbrev pub HasChain : Means S T C → Handing → Post S T C → DeskView → Post S T C → DeskView → Type 0
   HasChain m hands (Serving w) old (Serving v) new =
       (v.common.cat.now ≡ w.common.cat.now) × (served : ℕ) × (m.handed v.streams ≡ m.handed w.streams + served)
-      × Chain (Connection hands w.common.cat.now) served (stand_of m.told (Serving w) old) (stand_of m.told (Serving v) new)
+      × Chain (Connection hands w.common.cat.now) served (stand_of m.told (Serving w) old)
+      (stand_of m.told (Serving v) new)
   HasChain m hands (Sweeping w) old (Sweeping v) new =
       (v.seconds ≡ w.seconds) × (sweeps : ℕ) × (before : T) × Ticks m.ticked w.seconds sweeps w.ticker before
       × m.ticked before w.seconds false v.ticker

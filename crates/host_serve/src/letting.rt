@@ -7,8 +7,8 @@ use rail_service::Finished;
 
 /// Lets go of streams whose connection has ended.
 pub trait Closing<I: Source, O: Sink> {
-    /// That a call let go of a stream whose source and whose sink told so much then. Who knows nothing of it but this
-    /// trait can show that only by a call with the stream as it then was.
+    /// That a call let go of a stream whose source and whose sink told so much then. Whoever knows nothing of it but
+    /// this trait can show that only by a call with the stream as it then was.
     ghost closes: { Handing };
 
     /// Lets go of a stream, which closes it.

@@ -7,7 +7,7 @@
 //! the history of the wall that it hands back each member's entries are just those of the connections that it served,
 //! one after the other, or of its sweeps, and the first desk, which joined them, has done nothing else.
 //!
-//! It is a room of its own since here alone threads meet the service.
+//! It is a crate of its own since here alone threads meet the service.
 #![tactic(auto)]
 
 mod books;

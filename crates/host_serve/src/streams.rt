@@ -24,13 +24,13 @@ pub trait Streams {
     ghost handed: { Self → ℕ };
 
     /// That a call handed out a stream: these streams before it, what the stream's source and its sink told, and these
-    /// streams after it. Who knows nothing of them but this trait can show that only by a call that gave such a
+    /// streams after it. Whoever knows nothing of them but this trait can show that only by a call that gave such a
     /// stream.
     ghost hands: { HandingBy Self };
 
     /// That a call let go of a stream: these streams before it, what the stream's source and its sink told as it was
-    /// let go, and these streams after it. Who knows nothing of them but this trait can show that only by a call with
-    /// the stream as it then was.
+    /// let go, and these streams after it. Whoever knows nothing of them but this trait can show that only by a call
+    /// with the stream as it then was.
     ghost lets_go: { LettingGo Self };
 
     /// That all may see that there will be no more streams.
