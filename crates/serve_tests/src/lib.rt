@@ -1,6 +1,6 @@
 //! Tests of `serve` in memory, by the public calls of its crate. They stand in a crate of their own, so that `host_serve`
-//! is proved once, without tests. How serving ends, with what status and which notes, is shown by runs of the built program
-//! (`tests/host`), but for an accept that fails.
+//! is proved once, without tests. How serving ends, with what status and which notes, is shown by runs of the built
+//! program (`tests/host`), but for an accept that fails.
 //!
 //! - `connections`: two connections, each with one reservation, and two members: status 0, and two prebooked rows at
 //!   different places on the wall. The same where a read of the first stream waits until the second was answered
