@@ -466,7 +466,7 @@ class Checker:
         if self.last_fee and self.last_fee[1].value < WHOLE_FEE and self.is_charged:
             path, fee = self.last_fee
             left = WHOLE_FEE - fee.value
-            why = "with %s, a ticket is worth %d.%02d %% of its price after the ride, and can be refunded and exchanged" % (format(fee.value, ","), left // 100, left % 100)
+            why = "with %s, a ticket is worth %d.%02d %% of its price after the ride, less ticketFee, in a refund or an exchange" % (format(fee.value, ","), left // 100, left % 100)
             self.hint(path, fee.line, "the last step goes on after departure: %s. 10,000 ends that" % why)
 
     def life(self, rows, line):

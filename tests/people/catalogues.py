@@ -120,7 +120,7 @@ def faults_of_last_fees(path, text):
     for fee, left, priced in [(10_000, None, text), (9_999, "0.01", text), (2_550, "74.50", text), (0, "100.00", text), (0, None, free)]:
         path.write_text(priced.replace('{"before":0,"fee":10000}', '{"before":0,"fee":%d}' % fee))
         lines = run(sys.executable, CHECKER, path, "--now", NOW).stdout.splitlines()
-        worth = "with %s, a ticket is worth %s %% of its price after the ride, and can be refunded and exchanged" % (format(fee, ","), left)
+        worth = "with %s, a ticket is worth %s %% of its price after the ride, less ticketFee, in a refund or an exchange" % (format(fee, ","), left)
         wanted = ["%s:4: hint at refundSteps[2].fee: the last step goes on after departure: %s. 10,000 ends that" % (path, worth)] if left else []
         if lines[:-1] != wanted:
             yield "a last fee of %d: the checker says %s" % (fee, lines)
