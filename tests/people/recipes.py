@@ -39,7 +39,7 @@ def outputs(program, by_ask):
     """What the page's blocks print, up to the first one that fails, and the script's status."""
     with tempfile.TemporaryDirectory() as name:
         script = "set -eu\n" + "".join("%secho '%s'\n" % (commands, MARK % at) for at, (commands, _) in enumerate(blocks()))
-        script = script.replace(BY_ASK, by_ask).replace(BUILT, shlex.quote(str(program))).replace("/tmp/", name + "/")
+        script = script.replace("/tmp/", name + "/").replace(BY_ASK, by_ask).replace(BUILT, shlex.quote(str(program)))
         done = subprocess.run(["bash", "-c", script], cwd=ROOT, env=dict(os.environ, RAIL_HOST=str(program)), stdin=subprocess.DEVNULL, stdout=subprocess.PIPE, stderr=subprocess.STDOUT, text=True, timeout=300)
     said = done.stdout.replace(name + "/", "/tmp/")
     return re.split("|".join(re.escape(MARK % at) + "\n" for at in range(len(blocks()))), said), done.returncode
