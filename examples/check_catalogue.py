@@ -1,13 +1,14 @@
 #!/usr/bin/env python3
 """Says what is wrong with a catalogue: the place, the line, and what to do; and what a note of the host means.
 
-  examples/check_catalogue.py CATALOGUE [--now MOMENT]
+  examples/check_catalogue.py CATALOGUE [--now MOMENT] [--sales N]
   examples/check_catalogue.py CATALOGUE --explain NOTE [--port N]
 
 The host tells the first fault, and of faults 3 to 7 only the number. This goes through the whole file in the host's order and tells all of
 them, each as `FILE:LINE: fault N at PATH: what is wrong. What to do.` It also gives hints (`FILE:LINE: hint at PATH: ..`) on what the host takes
 and what is seldom meant: members that it ignores, runs that have departed by --now (the system's clock where it is left out), fees that look like
-percent or whole units, and members that stand twice. The last line is what the host says of the file.
+percent or whole units, members that stand twice, a last fee that leaves a ticket its worth after the ride, a currency that has other than two
+decimals, and rows too few for what is sold in the catalogue's life. The last line is what the host says of the file.
 
 The second form tells what a note of the host, as "rail_host: read fault", most likely means on this machine, with this file and this port. It looks
 as the user that runs it: run it as the host's user, and with the host stopped.
@@ -30,9 +31,13 @@ import sys
 LARGEST_FILE, DEEPEST = 33_554_432, 127
 MOST_STOPS, MOST_RUNS, MOST_PLACES_OF_A_RUN, MOST_PLACES = 127, 4_096, 1_200, 4_194_304
 LARGEST_NUMBER, LARGEST_AMOUNT, WHOLE_FEE = 4_294_967_295, 10_000_000, 10_000
+DEFAULT_ROWS, PASSENGERS_OF_A_BOOKING = 65_536, 2
 NOT_JSON, MEMBER, RUN, PLACES, TERMS, STATION, TWICE = range(1, 8)
 TRAITS = ["WINDOW", "AISLE", "TABLE", "QUIET", "POWER"]
 MOMENT = re.compile(r"(\d{4})-(\d\d)-(\d\d)[Tt ](\d\d):(\d\d):(\d\d)(?:\.\d+)?(?:([Zz])|([+-])(\d\d):(\d\d))")
+# Currencies whose minor unit isn't a hundredth, by ISO 4217.
+WHOLE_CURRENCIES = "BIF CLP DJF GNF ISK JPY KMF KRW PYG RWF UGX UYI VND VUV XAF XOF XPF".split()
+THOUSANDTHS = "BHD IQD JOD KWD LYD OMR TND".split()
 # The members of each kind of object.
 TOP = ["currency", "rows", "confirmSeconds", "retailers", "stations", "refundSteps", "ticketFee", "exchangeFee", "runs"]
 KINDS = {
@@ -195,9 +200,9 @@ def shown(value):
 class Checker:
     """Goes through the catalogue in the host's order; the first fault is the one that the host tells."""
 
-    def __init__(self, now):
-        self.now, self.found, self.lines, self.departed = now, [], {}, []
-        self.places, self.runs = 0, 0
+    def __init__(self, now, sales=None):
+        self.now, self.sales, self.found, self.lines, self.departed = now, sales, [], {}, []
+        self.places, self.runs, self.last_fee, self.is_charged = 0, 0, None, False
 
     def fault(self, number, path, line, why, do):
         self.found.append(("fault %d" % number, path, line, "%s. %s" % (why, do)))
@@ -280,8 +285,8 @@ class Checker:
             self.fault(MEMBER, "", top.line, "%s is no object" % shown(top.value), "The file has to be one object: {..}")
             return
         self.unknown(top, "", TOP)
-        self.text(top, "currency", "", "three letters from A to Z", lambda text: re.fullmatch("[A-Z]{3}", text))
-        self.number(top, "rows", "", 1, 262_144, needed=False)
+        self.decimals(self.text(top, "currency", "", "three letters from A to Z", lambda text: re.fullmatch("[A-Z]{3}", text)))
+        rows = self.number(top, "rows", "", 1, 262_144, needed=False)
         self.number(top, "confirmSeconds", "", 1, 86_400, " seconds", needed=False)
         self.retailers(top)
         self.stations(top)
@@ -289,6 +294,8 @@ class Checker:
         for path, run in self.items(top, "runs", "", "run", 1):
             self.run(path, run)
         self.past(top)
+        self.after_the_ride()
+        self.life(rows.value if rows else DEFAULT_ROWS, (rows or top).line)
 
     def retailers(self, top):
         numbers, keys = {}, {}
@@ -325,6 +332,8 @@ class Checker:
                 self.fault(TERMS, path + "fee", fee.line, "%s is over 10,000, which is 100 %%" % format(fee.value, ","), "Fees are in hundredths of a percent: 2500 is 25 %")
             elif fee and 0 < fee.value <= 100:
                 self.hint(path + "fee", fee.line, "%d is %d.%02d %% of the price, since fees are in hundredths of a percent; %d %% is %d" % (fee.value, fee.value // 100, fee.value % 100, fee.value, fee.value * 100))
+        if steps and steps[-1][3]:
+            self.last_fee = steps[-1][0] + "fee", steps[-1][3]
         for name, node in fees:
             if node and node.value > LARGEST_AMOUNT:
                 self.fault(TERMS, name, node.line, "%s is over 10,000,000" % format(node.value, ","), "Amounts are in minor units, as cents")
@@ -351,6 +360,7 @@ class Checker:
             self.unknown(fare, "%sfares.%s." % (path, name), KINDS["fare"])
             for part in ("base", "perLeg"):
                 amount = self.number(fare, part, "%sfares.%s." % (path, name), 0, LARGEST_AMOUNT, " minor units")
+                self.is_charged |= bool(amount and amount.value)
                 if part == "base" and amount and 0 < amount.value < 25:
                     self.hint("%sfares.%s.base" % (path, name), amount.line, "%d is 0.%02d, since amounts are in minor units as cents; %d.00 is %d" % (amount.value, amount.value, amount.value, amount.value * 100))
         taken, in_run = {}, 0
@@ -443,9 +453,36 @@ class Checker:
             self.hint(path + "stops[0].depart", node.line, "%s departed already, and a search offers no train that has" % which)
 
 
-def checked(data, now):
+    def decimals(self, node):
+        """A hint on a currency of which an amount isn't a hundredth."""
+        name = node and node.value
+        if name in WHOLE_CURRENCIES:
+            self.hint("currency", node.line, '%s has no decimals, and the host\'s amounts always have two ("scale":2): 100 is 1 %s, so 1,100 %s are 110000' % (name, name, name))
+        elif name in THOUSANDTHS:
+            self.hint("currency", node.line, '%s has three decimals, and the host\'s amounts always have two ("scale":2): 100 is 1.00 %s, and a thousandth can\'t be written' % (name, name))
+
+    def after_the_ride(self):
+        """A hint on a last step that pays back for a train that has left."""
+        if self.last_fee and self.last_fee[1].value < WHOLE_FEE and self.is_charged:
+            path, fee = self.last_fee
+            left = WHOLE_FEE - fee.value
+            why = "with %s, a ticket is worth %d.%02d %% of its price after the ride, less ticketFee, in a refund or an exchange" % (format(fee.value, ","), left // 100, left % 100)
+            self.hint(path, fee.line, "the last step goes on after departure: %s. 10,000 ends that" % why)
+
+    def life(self, rows, line):
+        """A hint on rows that are fewer than what is sold, as --sales says it or by the places."""
+        guess = -(-self.places // PASSENGERS_OF_A_BOOKING)
+        sold = guess if self.sales is None else self.sales
+        if sold <= rows:
+            return
+        whence = "The %s places of %s runs, each sold once and two to a booking, take" % (format(self.places, ","), format(self.runs, ","))
+        whence = whence if self.sales is None else "--sales says"
+        self.hint("rows", line, "rows is %s, and a booking that has travelled never gives its row back. %s %s" % (format(rows, ","), whence, format(sold, ",")))
+
+
+def checked(data, now, sales=None):
     """What is found in the bytes of a catalogue, in the host's order."""
-    checker, text = Checker(now), ""
+    checker, text = Checker(now, sales), ""
     if not data.strip(b" \t\r\n"):
         why = "the file is empty" if not data else "the file has nothing but space"
         checker.fault(NOT_JSON, "", 1, why, "Look whether the program that writes it failed, or the disk is full; begin with examples/k1.json")
@@ -602,6 +639,7 @@ def main():
     words = argparse.ArgumentParser(description=__doc__, formatter_class=argparse.RawDescriptionHelpFormatter)
     words.add_argument("catalogue")
     words.add_argument("--now", help="the moment by which runs have departed")
+    words.add_argument("--sales", type=int, metavar="N", help="how many bookings are sold, and not given back, in the catalogue's life")
     words.add_argument("--explain", metavar="NOTE", help="what this note of the host most likely means, with this file and port")
     words.add_argument("--port", type=int, metavar="N", help="the port of serve, 1 to 65,535, for --explain")
     given = words.parse_args()
@@ -622,7 +660,7 @@ def main():
         print("%s: %s bytes. A catalogue may have 33,554,432: write places in groups from first to last" % (given.catalogue, format(len(data), ",")))
         print("the host says: rail_host: catalogue too large")
         return 1
-    checker = checked(data, now)
+    checker = checked(data, now, given.sales)
     for kind, path, line, why in checker.found[:100]:
         print("%s:%d: %s%s: %s" % (given.catalogue, line, kind, " at " + path if path else "", why))
     if len(checker.found) > 100:

@@ -12,6 +12,7 @@ import json
 import os
 import pathlib
 import random
+import re
 import socket
 import subprocess
 import sys
@@ -96,6 +97,44 @@ def faults_of_hints(path, text):
     for wanted in ["k1.json:5: hint at ticketFee: the member stands twice", "k1.json:5: hint at ticketFee: 5 is 0.05, since amounts are in minor units as cents; 5.00 is 500"]:
         if wanted not in twice:
             yield "hints: no %r in\n%s" % (wanted, twice)
+
+
+def faults_of_decimals(path, text):
+    """A hint for each currency whose minor unit isn't a hundredth, and none for the others."""
+    said = {
+        **dict.fromkeys(["JPY", "KRW", "ISK"], 'hint at currency: %s has no decimals, and the host\'s amounts always have two ("scale":2): 100 is 1 %s, so 1,100 %s are 110000'),
+        **dict.fromkeys(["BHD", "IQD", "JOD", "KWD", "LYD", "OMR", "TND"], 'hint at currency: %s has three decimals, and the host\'s amounts always have two ("scale":2): 100 is 1.00 %s, and a thousandth can\'t be written'),
+        **dict.fromkeys(["EUR", "CHF", "USD"], None),
+    }
+    for currency, hint in said.items():
+        path.write_text(text.replace('"EUR"', '"%s"' % currency))
+        lines = run(sys.executable, CHECKER, path, "--now", NOW).stdout.splitlines()
+        wanted = ["%s:1: %s" % (path, hint.replace("%s", currency))] if hint else []
+        if lines[:-1] != wanted:
+            yield "%s: the checker says %s" % (currency, lines)
+
+
+def faults_of_last_fees(path, text):
+    """What a ticket is worth after the ride: a hint where it is something, and there is something to pay."""
+    free = re.sub(r'"(base|perLeg)":[0-9]+', r'"\1":0', text)
+    for fee, left, priced in [(10_000, None, text), (9_999, "0.01", text), (2_550, "74.50", text), (0, "100.00", text), (0, None, free)]:
+        path.write_text(priced.replace('{"before":0,"fee":10000}', '{"before":0,"fee":%d}' % fee))
+        lines = run(sys.executable, CHECKER, path, "--now", NOW).stdout.splitlines()
+        worth = "with %s, a ticket is worth %s %% of its price after the ride, less ticketFee, in a refund or an exchange" % (format(fee, ","), left)
+        wanted = ["%s:4: hint at refundSteps[2].fee: the last step goes on after departure: %s. 10,000 ends that" % (path, worth)] if left else []
+        if lines[:-1] != wanted:
+            yield "a last fee of %d: the checker says %s" % (fee, lines)
+
+
+def faults_of_rows(path, text):
+    """Rows for all that is sold: half as many as the 18 places, or as many as --sales says."""
+    places = "The 18 places of 2 runs, each sold once and two to a booking, take 9"
+    for rows, sales, wanted in [(9, None, None), (8, None, places), (1, 1, None), (100, 100, None), (100, 101, "--sales says 101"), (None, 65_536, None), (None, 65_537, "--sales says 65,537")]:
+        path.write_text(text.replace('"EUR",', '"EUR",' + ('"rows":%d,' % rows if rows else "")))
+        lines = run(sys.executable, CHECKER, path, "--now", NOW, *(["--sales", sales] if sales else [])).stdout.splitlines()
+        said = "%s:1: hint at rows: rows is %s, and a booking that has travelled never gives its row back. %s" % (path, format(rows or 65_536, ","), wanted)
+        if lines[:-1] != ([said] if wanted else []):
+            yield "%s rows for %s: the checker says %s" % (rows, sales, lines)
 
 
 def faults_of_starts(program, path, text):
@@ -235,6 +274,9 @@ def main():
             path.write_text(text.replace(case[1], case[2], 1))
             found += faults_of_case(program, path, case)
         found += faults_of_hints(path, text)
+        found += faults_of_decimals(path, text)
+        found += faults_of_last_fees(path, text)
+        found += faults_of_rows(path, text)
         found += faults_of_starts(program, path, text)
         found += faults_of_notes(program, pathlib.Path(name), text)
         written = run(sys.executable, ROOT / "examples" / "k1.py").stdout
