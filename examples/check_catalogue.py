@@ -593,7 +593,9 @@ def explain(given, now):
         return 0
     except Unseen as why:
         print("%s: %s" % (given.explain, why))
-        return 1
+    except OSError as error:
+        print("%s: this user can't look: %s: %s" % (given.explain, error.filename, error.strerror))
+    return 1
 
 
 def main():

@@ -303,8 +303,8 @@ class Retailer:
     def day(self, wish, latest):
         """All offers from the wish's earliest departure to the latest that its searches show, one after another.
 
-        Each further search begins a second after the last departure shown. So it passes over trips that leave before
-        that and arrive after all sixteen of that search.
+        Each further search begins a second after the last departure shown. So it passes over trips that leave
+        before that and arrive no earlier than the last of that search.
         """
         offers = []
         while wish["earliest"] <= latest:
@@ -344,7 +344,11 @@ class Retailer:
         raise Unusable("nothing could be booked in %d searches" % TRIES)
 
     def find_lost(self, offer, passengers):
-        """The booking that a request to book the offer has made, where it stands near the newest id that is known."""
+        """The booking that a request to book the offer has made, where it stands near the newest id that is known.
+
+        Another program's new booking by the same key looks just like it. So only one program of a key may look at a
+        time, while no other one waits for an answer.
+        """
         newest = max(map(number_of, self.kept), default=0)
         ids = ["B%06d" % number for number in range(max(0, newest - LOOK_BACK), newest + LOOK_AHEAD)]
         ids = [booking_id for booking_id in ids if booking_id not in self.kept]

@@ -42,6 +42,7 @@ A history that isn't decided within the bounds below is a failure, as one withou
 """
 import itertools
 import json
+import random
 import sys
 import time
 from collections import Counter, namedtuple
@@ -51,7 +52,7 @@ from bookings import Item
 from export import booking_line, stub
 from scripts import (DONE, FREE, HOST, IDLE, LIVE, MAKING, PREBOOKED, Moment, Standing, changed, ending, is_finishable, script_of)
 
-MOST_STATES, MOST_SECONDS = 200_000, 30  # the seconds are of the processor
+FIRST_STATES, MOST_STATES, MOST_SECONDS = 4_000, 200_000, 30  # the seconds are of the processor
 NEVER = 1 << 80
 
 
@@ -71,10 +72,20 @@ class Search:
         self.ends = [NEVER if call.end is None else call.end for call in self.calls]
         self.least_end = list(itertools.accumulate(reversed(self.ends + [NEVER]), min))[::-1]
         self.gone = [call for call in self.calls if not call.answered]
+        self.next_made = dict(self.rows_made_next())
         self.seen, self.states, self.deepest, self.blocked = set(), 0, -1, Counter()
-        self.until = time.process_time() + MOST_SECONDS
+        self.until, self.chance = time.process_time() + MOST_SECONDS, None
 
     # What the facts allow
+
+    def rows_made_next(self):
+        """For the number of each call the row of the booking that its connection made next, where it made one."""
+        following = {}
+        for call in reversed(self.calls):
+            if call.connection in following:
+                yield call.number, following[call.connection]
+            if call.kind in KINDS_OF_BOOKINGS and call.status == 201:
+                following[call.connection] = call.made[0]
 
     def may_end(self, row: Row, status: str, call: Call, moment: int = None, successor: Row = None) -> bool:
         """The booking may be ended so by this call: nothing else is known of its end, and no other call ended it."""
@@ -94,8 +105,14 @@ class Search:
         had_row = any(other.status == 201 or other.problem in ("NoPlace", "Contended") for other in before)
         return self.may_be_served_after(holder, call) and not had_row
 
-    def may_be_sealed_after(self, row: Row, call: Call) -> bool:
-        """Where the booking is known to be sealed, it is by a call that this call's worker may serve."""
+    def may_keep(self, row: Row, call: Call) -> bool:
+        """The call may start the row though it doesn't seal it: its worker does later, or keeps it to the end."""
+        made = self.next_made.get(call.number)
+        if made is not None:
+            return row == made
+        if call.answered and call.connection not in self.history.closed:
+            said = self.history.last.get(row.number)
+            return row.generation == 0 if said is None else said.retailer == 0 and said.row == row
         if row not in self.history.values:
             return True
         maker = self.history.makers.get(row)
@@ -148,12 +165,26 @@ class Search:
             pending = after
 
     def run(self) -> list:
-        """The points in their order, each with the state after it; or Refused."""
+        """The points in their order, each with the state after it; or Refused. A try that finds none in some states begins anew, and
+        tries what may come next in another order of chance: an early choice that leads nowhere is else seen only after all later ones.
+        """
+        most = FIRST_STATES
+        while True:
+            stack = self.attempt(self.states + most)
+            if stack is not None:
+                return stack
+            if self.states > MOST_STATES or time.process_time() > self.until:
+                last = self.calls[min(self.deepest, len(self.calls) - 1)]
+                raise Refused("not decided: %d states were tried, up to %s" % (self.states, last))
+            self.chance = random.Random(most)
+            most *= 2
+
+    def attempt(self, most: int) -> list:
+        """The points, where they are found before there were so many states; or Refused, where all ways were gone to their ends."""
         moment = Moment(self.first, {}, self)
-        stack = [Frame(None, {}, moment, self.moves(0, self.first, {}, moment))]
+        stack = [Frame(None, None, {}, moment, self.moves(0, self.first, {}, moment))]
         while stack:
-            frame = stack[-1]
-            following = next(frame.moves, None)
+            following = next(stack[-1].moves, None)
             if following is None:
                 stack.pop()
                 continue
@@ -164,16 +195,25 @@ class Search:
                 continue
             self.seen.add(key)
             self.states += 1
-            if self.states > MOST_STATES or time.process_time() > self.until:
-                last = self.calls[min(self.deepest, len(self.calls) - 1)]
-                raise Refused("not decided: %d states were tried, up to %s" % (self.states, last))
-            stack.append(Frame(point, pending, moment, self.moves(at, rows, pending, moment)))
+            stack.append(Frame(point, key, pending, moment, self.moves(at, rows, pending, moment)))
             if at == len(self.calls) and self.is_end(rows, pending):
                 return stack
+            if self.states >= most:
+                self.seen -= {frame.key for frame in stack}
+                return None
         raise Refused(self.reason())
 
     def moves(self, at: int, rows: tuple, pending: dict, moment: Moment):
-        """What may come next: the next call begins, a call makes a point, the host ends a booking, or a call without an answer is done."""
+        """What may come next, in the order in which it is tried."""
+        if self.chance is None:
+            return self.all_moves(at, rows, pending, moment)
+        found = list(self.all_moves(at, rows, pending, moment))
+        if self.chance.random() < 0.5:
+            self.chance.shuffle(found)
+        return iter(found)
+
+    def all_moves(self, at: int, rows: tuple, pending: dict, moment: Moment):
+        """The next call begins, a call makes a point, the host ends a booking, or a call without an answer is done."""
         yield from self.advance(at, rows, pending)
         late = []
         for number in sorted(pending, key=lambda one: self.ends[one]):
@@ -252,8 +292,8 @@ class Search:
         return "no order explains %s" % self.calls[worst]
 
 
-# A point (the number of its call, or None where the host makes it, and what it does), what is pending after it, and what may come next.
-Frame = namedtuple("Frame", "point pending moment moves")
+# A point (the number of its call, or None where the host makes it, and what it does), the state after it, and what may come next.
+Frame = namedtuple("Frame", "point key pending moment moves")
 
 
 # What came of it

@@ -118,7 +118,7 @@ PLANTED = [
     (RESETS, problem(44, "WrongState", "EXPIRED"), "its limit is a quarter of an hour away", "no order explains call 44 "),
     (RESETS, left_out(42), "half a request was done: nobody else could have released it", "no order explains call 43 "),
     (RESETS, problem(3, "NoPlace"), "both rows were started before by others, one of whom keeps his", "no order explains call 3 "),
-    (RESETS, problem(15, "RowsFull"), "its worker keeps a row since it was refused", "no order explains call 15 "),
+    (RESETS, problem(15, "RowsFull"), "its worker keeps a row since it was refused", "no order explains call 1 "),
     (RESETS, later(9, 3), "by then the row had been given away", "no order explains call 59 "),
 ]
 

@@ -490,7 +490,7 @@ class Makes(Script):
         row = Row(number, generation)
         if self.result == "made":
             return self.call.made[0] == row
-        return self.search.may_be_sealed_after(row, self.call)
+        return self.search.may_keep(row, self.call)
 
     def turns(self, local, moment) -> list:
         """The exchange's turn of the old booking, with all new places taken, for each that the new booking may have."""

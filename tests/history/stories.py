@@ -21,17 +21,19 @@ class Story:
         self.text = catalogue_of(False, rows, confirm_seconds)
         self.catalogue = read_catalogue(json.dumps(self.text).encode())
         self.host = service.Host(self.catalogue)
-        self.calls, self.last = [], {}
+        self.calls, self.closed, self.last = [], {}, {}
 
     def record(self) -> dict:
         lines = ["rail-export 1 3 %d" % self.catalogue.rows] + [booking_line(self.last[row]) for row in sorted(self.last)]
         text = "".join(line + "\n" for line in lines + ["end %d" % len(self.last)])
-        return {"catalogue": self.text, "calls": self.calls, "closed": {}, "export": text}
+        return {"catalogue": self.text, "calls": self.calls, "closed": self.closed, "export": text}
 
     def call(self, client: int, when: tuple, asked: tuple, status: int, answer: dict) -> "Story":
         """A call from one millisecond to another; without a second one the client was gone before the answer."""
         begin, end = [None if at is None else BEGIN * calls.SECOND + round(at * MILLISECOND) for at in when]
         method, path, body = asked
+        if end is None:
+            self.closed[client] = begin
         self.calls.append({"client": client, "connection": client, "key": "north", "method": method, "path": path,
                            "body": json.dumps(body) if body is not None else "", "begin": begin, "end": end,
                            "status": status if end else None, "answer": answer if end else None})

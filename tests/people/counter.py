@@ -229,6 +229,22 @@ def refusals(browser):
     browser.until("by('said').innerText.includes('401 NoRetailer')")
 
 
+def without_trains(proxy, browser):
+    """Where the operator has put no file of trains there, the page says so, and still sells."""
+    (proxy.folder / "for_retailers.json").rename(proxy.folder / "away.json")
+    browser.write("key", "north")
+    # The key counts once the field is left.
+    browser.click("by('train')")
+    browser.ask("Page.reload")
+    browser.until("document.readyState === 'complete' && by('said').innerText.includes('has no for_retailers.json')")
+    browser.write("earliest", proxy.day + "T06:00:00Z")
+    browser.click("by('find')")
+    browser.until("by('offers').children.length > 0")
+    browser.click(button("Book", "by('offers')"))
+    browser.until("by('B000004')?.innerText.includes('PREBOOKED')")
+    (proxy.folder / "away.json").rename(proxy.folder / "for_retailers.json")
+
+
 def walk(proxy, browser, pictures):
     """The clicks; what is wrong with what they show is answered."""
     begin(proxy, browser)
@@ -240,6 +256,7 @@ def walk(proxy, browser, pictures):
     # Up to here the page has asked for nothing that is refused: it guesses no stops, and there is no icon to miss.
     yield from browser.refused()
     refusals(browser)
+    without_trains(proxy, browser)
     yield from browser.outside("https://localhost:%d/" % proxy.port)
 
 
@@ -266,7 +283,7 @@ def main():
             proxy.close()
     for fault in found:
         print("counter: " + fault)
-    print("counter: two bookings, a confirmation, an exchange, a release, a refund, two reloads and two refusals clicked, at two widths: %d wrong" % len(found))
+    print("counter: two bookings, a confirmation, an exchange, a release, a refund, three reloads and two refusals clicked, at two widths: %d wrong" % len(found))
     return 1 if found else 0
 
 

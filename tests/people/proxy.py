@@ -4,7 +4,7 @@ the page, and a proxy that is closed while the host is started again.
 
   tests/people/proxy.py PROGRAM
 
-It needs nginx (`apt-get install nginx`) and openssl.
+It needs nginx, openssl and pgrep (`apt-get install nginx openssl procps`).
 """
 import concurrent.futures
 import datetime
@@ -169,8 +169,8 @@ def faults_of_closing(proxy):
 
 def main():
     program, found = pathlib.Path(sys.argv[1]).resolve(), []
-    if not shutil.which("nginx") or not shutil.which("openssl"):
-        print("proxy: it needs nginx and openssl: apt-get install nginx openssl")
+    if not all(map(shutil.which, ("nginx", "openssl", "pgrep"))):
+        print("proxy: it needs nginx, openssl and pgrep: apt-get install nginx openssl procps")
         return 1
     with tempfile.TemporaryDirectory() as folder:
         proxy = Proxy(program, pathlib.Path(folder))
