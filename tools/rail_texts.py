@@ -274,8 +274,8 @@ class _CatalogueReader:
             self.wrong("")
         self.kept = kept = Catalogue(tree)
         kept.currency = self.text(tree, "currency", "", "[A-Z]{3}")
-        kept.rows = self.number(tree, "rows", "", 1, MOST_ROWS, 65_536)
-        kept.confirm_seconds = self.number(tree, "confirmSeconds", "", 1, 86_400, 900)
+        kept.rows = self.number(tree, "rows", "", (1, MOST_ROWS), 65_536)
+        kept.confirm_seconds = self.number(tree, "confirmSeconds", "", (1, 86_400), 900)
         self.retailers()
         self.stations()
         self.terms()
@@ -289,11 +289,11 @@ class _CatalogueReader:
     def fault(self, number, path):
         raise Refusal("catalogue fault %d, found at %s" % (number, path))
 
-    def number(self, holder, name, path, low, high, default=None):
+    def number(self, holder, name, path, limits, default=None):
         if name not in holder and default is not None:
             return default
         value = holder.get(name)
-        if type(value) is not int or not low <= value <= high:
+        if type(value) is not int or not limits[0] <= value <= limits[1]:
             self.wrong(path + name)
         return value
 
@@ -315,7 +315,7 @@ class _CatalogueReader:
     def retailers(self):
         keys = set()
         for path, item in self.items(self.tree, "retailers", "", 1, MOST_LISTED):
-            number = self.number(item, "number", path, 1, LARGEST_NUMBER)
+            number = self.number(item, "number", path, (1, LARGEST_NUMBER))
             if number in self.kept.retailers:
                 self.fault(7, path + "number")
             key = self.text(item, "key", path, "[A-Za-z0-9_-]{1,32}")
@@ -329,15 +329,15 @@ class _CatalogueReader:
             code = self.text(item, "code", path, "[A-Z0-9]{1,8}")
             if code in self.kept.stations:
                 self.fault(7, path + "code")
-            self.kept.stations[code] = self.number(item, "change", path, 0, 14_400, 300)
+            self.kept.stations[code] = self.number(item, "change", path, (0, 14_400), 300)
 
     def terms(self):
         kept = self.kept
         for path, item in self.items(self.tree, "refundSteps", "", 0, MOST_STEPS):
-            before = self.number(item, "before", path, 0, LARGEST_NUMBER)
-            kept.steps.append((before, self.number(item, "fee", path, 0, LARGEST_NUMBER)))
-        kept.ticket_fee = self.number(self.tree, "ticketFee", "", 0, LARGEST_NUMBER, 0)
-        kept.exchange_fee = self.number(self.tree, "exchangeFee", "", 0, LARGEST_NUMBER, 0)
+            before = self.number(item, "before", path, (0, LARGEST_NUMBER))
+            kept.steps.append((before, self.number(item, "fee", path, (0, LARGEST_NUMBER))))
+        kept.ticket_fee = self.number(self.tree, "ticketFee", "", (0, LARGEST_NUMBER), 0)
+        kept.exchange_fee = self.number(self.tree, "exchangeFee", "", (0, LARGEST_NUMBER), 0)
         befores = [before for before, _ in kept.steps]
         falls = all(later < earlier for earlier, later in zip(befores, befores[1:]))
         if not befores or not falls or befores[-1] != 0 or any(fee > WHOLE_FEE for _, fee in kept.steps):
@@ -346,14 +346,14 @@ class _CatalogueReader:
             self.fault(5, "ticketFee" if kept.ticket_fee > LARGEST_FEE else "exchangeFee")
 
     def run(self, item, path):
-        train = self.number(item, "train", path, 1, 99_999)
+        train = self.number(item, "train", path, (1, 99_999))
         stops = self.stops(item, path)
         self.course(stops, path)
         fares = item.get("fares") if isinstance(item.get("fares"), dict) else {}
         read = {}
         for name in ("first", "second"):
             fare = fares.get(name) if isinstance(fares.get(name), dict) else {}
-            read[name] = tuple(self.number(fare, part, "%sfares.%s." % (path, name), 0, LARGEST_FARE)
+            read[name] = tuple(self.number(fare, part, "%sfares.%s." % (path, name), (0, LARGEST_FARE))
                                for part in ("base", "perLeg"))
         seats, planned = self.seats(item, path), self.planned(item, stops)
         self.kept.add_run(Run(len(self.kept.runs), train, stops, read, self.kept.places, seats, planned))
@@ -402,11 +402,11 @@ class _CatalogueReader:
         return self.interned.setdefault(tuple(seats), tuple(seats))
 
     def coach(self, item, path, seats, taken):
-        coach = self.number(item, "coach", path, 1, 999)
+        coach = self.number(item, "coach", path, (1, 999))
         kind, before = self.text(item, "class", path, "FIRST|SECOND"), len(seats)
         for at, group in self.items(item, "places", path, 1, None):
-            first = self.number(group, "first", at, 1, 9_999)
-            last = self.number(group, "last", at, first, 9_999)
+            first = self.number(group, "first", at, (1, 9_999))
+            last = self.number(group, "last", at, (first, 9_999))
             traits = self.traits(group, at)
             seats.extend(Seat(coach, number, kind, traits) for number in range(first, last + 1))
         added = {(seat.coach, seat.number) for seat in seats[before:]}

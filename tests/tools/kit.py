@@ -1,4 +1,5 @@
 """What the checks of tools/ share: the programs as modules, the host, the model, and countries of chance with sales."""
+import functools
 import importlib.machinery
 import importlib.util
 import json
@@ -16,6 +17,7 @@ sys.path[:0] = [str(TOOLS), str(ROOT / "tests" / "model")]
 LIMIT = 120
 
 
+@functools.lru_cache(None)
 def tool(name):
     """The program of that name as a module, which is not run."""
     loader = importlib.machinery.SourceFileLoader(name.replace("-", "_"), str(TOOLS / name))

@@ -10,8 +10,6 @@ import pathlib
 import sys
 import time
 
-import kit
-
 PARTS = ["texts", "seats", "manifest", "seating", "amend", "refusals", "roll", "roll_cases"]
 
 

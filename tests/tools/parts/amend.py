@@ -2,7 +2,6 @@
 """
 import copy
 import csv
-import io
 import json
 import pathlib
 import random
@@ -14,7 +13,7 @@ import export
 import moments
 import offers
 from bookings import Books, Phase, reservations
-from catalogue import CatalogueFault, Span, read_catalogue
+from catalogue import CatalogueFault, read_catalogue
 
 SEEDS = 500
 CANCELLED, CLOSED = "2099-12-31", "1970-01-01"
@@ -171,7 +170,7 @@ class Held:
         self.before = {line.row.number: line for line in export.kept_bookings(seller.books)}
         self.after = {line.row.number: line for line in lines}
         self.records = [dict(zip(kit.tool("amend").COLUMNS, record)) for record in records]
-        self.books = Books(new)
+        self.sold, self.books = seller.export(), Books(new)
         self.books.bookings = lines
 
     def parts(self, catalogue, booking):
@@ -497,32 +496,41 @@ def try_seed(found, program, seed, counts):
                    seed)
         return
     held = Held(seed, change, seller, model, export.read_export(model, text), records, now)
-    for check in (try_lines, try_money, try_shut, try_records):
-        check(found, held)
-    counts["groups"] = counts.get("groups", 0) + try_comfort(found, held)
+    try_result(found, program, held, counts, (data, changed, text, plan))
     again, records, _ = amended(tool, new, rail_texts.read_export(new, text), new, plan, now)
     found.need(again == text, "plan %d: a second time it changes something", seed)
     found.need(not sum(record[-1] for record in records), "plan %d: a second time it owes something", seed)
+
+
+def try_result(found, program, held, counts, texts):
+    """What holds of the result by the rules, and that the host takes it. Counts what was met."""
+    data, changed, text, plan = texts
+    for check in (try_lines, try_money, try_shut, try_records):
+        check(found, held)
+    counts["groups"] = counts.get("groups", 0) + try_comfort(found, held)
     with tempfile.TemporaryDirectory() as name:
         folder = pathlib.Path(name)
         (folder / "new.json").write_bytes(changed)
         (folder / "new.export").write_bytes(text)
-        counts["searched"] = counts.get("searched", 0) + try_host(found, program, held, folder, rng)
-        if seed % 50 == 0:
-            try_files(found, seed, folder, data, seller.export(), plan, text, now)
+        counts["searched"] = counts.get("searched", 0) + try_host(found, program, held, folder,
+                                                                  random.Random(held.seed))
+        if held.seed % 50 == 0:
+            try_files(found, held, folder, (data, plan, text))
     for record in held.records:
         counts[record["became"]] = counts.get(record["became"], 0) + 1
 
 
-def try_files(found, seed, folder, data, sold, plan, text, now):
-    for name, content in (("old.json", data), ("old.export", sold), ("plan", plan.encode())):
+def try_files(found, held, folder, texts):
+    data, plan, text = texts
+    for name, content in (("old.json", data), ("old.export", held.sold), ("plan", plan.encode())):
         (folder / name).write_bytes(content)
     files = [folder / name for name in ("old.json", "new.json", "old.export", "plan")]
-    status, said, notes = kit.run_tool("amend", *files, "--now", moments.write_moment(now), "--affected",
+    status, said, notes = kit.run_tool("amend", *files, "--now", moments.write_moment(held.now), "--affected",
                                        folder / "affected.csv")
-    found.need(status == 0 and said.encode() == text, "plan %d by files: status %d, %s", seed, status, notes)
+    found.need(status == 0 and said.encode() == text, "plan %d by files: status %d, %s", held.seed, status, notes)
     with open(folder / "affected.csv", newline="") as file:
-        found.need(next(csv.reader(file)) == kit.tool("amend").COLUMNS, "plan %d: affected.csv has other columns", seed)
+        found.need(next(csv.reader(file)) == kit.tool("amend").COLUMNS, "plan %d: affected.csv has other columns",
+                   held.seed)
 
 
 def faults(program):
