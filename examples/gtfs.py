@@ -11,7 +11,7 @@ catalogue of its own, FOLDER/GROUP.json. docs/timetables.md has the rules and th
 
 What a catalogue can't have is left out, and told on standard error, a line each: `FILE:LINE: what: why`. The last line
 counts. It ends with status 0 where each catalogue is written, 1 where one isn't, 2 for refused words, and 3 for a feed
-or a file of templates that can't be read.
+or a file of templates that can't be read, and for a file that can't be written.
 """
 import argparse
 import csv
@@ -33,7 +33,7 @@ from check_catalogue import checked
 
 MOST_STOPS, MOST_RUNS, MOST_STATIONS = 127, 4_096, 65_536
 MOST_PLACES, LARGEST_FILE, LAST_TRAIN = 4_194_304, 33_554_432, 99_999
-FIRST_DAY, LAST_DAY = datetime.date(1970, 1, 3), datetime.date(2099, 12, 20)
+FIRST_DAY, LAST_DAY = datetime.date(1970, 1, 3), datetime.date(2099, 11, 15)
 WEEKDAYS = ["monday", "tuesday", "wednesday", "thursday", "friday", "saturday", "sunday"]
 CODE, TIME = re.compile("[A-Z0-9]{1,8}"), re.compile(r"(\d{1,3}):([0-5]\d):([0-5]\d)", re.ASCII)
 GROUP_NAME, LAST_NUMBER = re.compile("[A-Za-z0-9_-]+"), re.compile(r"(?<!\d)\d{1,5}(?!.*\d)", re.ASCII)
@@ -83,9 +83,9 @@ class Feed:
                 places = [head.index(column) if column in head else len(head) for column in (*needed, *others)]
                 for row in reader:
                     if row:
-                        row += [""] * (len(head) + 1 - len(row))
+                        row = (row + [""] * len(head))[:len(head)] + [""]
                         yield (reader.line_num, *[row[place].strip() for place in places])
-            except (UnicodeDecodeError, csv.Error) as error:
+            except (UnicodeDecodeError, csv.Error, zipfile.BadZipFile) as error:
                 raise Refusal("%s:%d: %s" % (name, reader.line_num + 1, error)) from None
 
 
@@ -673,6 +673,9 @@ def main():
             day.write_stations(given.stations)
     except Refusal as error:
         told(str(error))
+        return 3
+    except OSError as error:
+        told("%s: %s" % (error.filename or "standard output", error.strerror))
         return 3
     told("%s in %s: %s of %s are runs" % (day.day, day.zone, format(count, ","), counted(len(day.trips), "trip")))
     return 0 if is_whole else 1

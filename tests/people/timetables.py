@@ -428,6 +428,7 @@ REFUSED = [
     ("trips.txt", "R-61,daily", "R-62,daily", 3, "trips.txt:3: routes.txt has no route R-62"),
     ("stop_times.txt", "10:25:00", "10h25", 3, "stop_times.txt:3: '10h25' is no time, as 25:10:00"),
     ("stops.txt", ",0,8500010\n", ",0,8500019\n", 3, "stops.txt:3: parent_station 8500019 is no other stop"),
+    ("stop_times.txt", "13:10:00,8507000:7,1\n", "13:10:00,8507000:7,1,1\n", 0, "2026-06-01 in Europe/Zurich: 4 of 6 trips are runs"),
     ("templates", None, "", 3, "templates.json: No such file or directory"),
     ("templates", '"currency"', "currency", 3, "templates.json: Expecting property name enclosed in double quotes: line 2 column 3 (char 4)"),
     ("templates", '"base": 1000', '"base": 10.5', 3, "template long-distance: fares.first.base: 10.5 is no whole number. Write digits without quotes, point and exponent, 0 to 10,000,000 minor units"),
@@ -455,6 +456,9 @@ def faults_of_refusals(folder):
         done = gtfs(feed, feed / "templates.json")
         if done.returncode != status or not any(text.endswith(line) for text in done.stderr.splitlines()):
             yield "%s, %r: status %d, %s" % (name, new, done.returncode, done.stderr)
+    unwritten = gtfs(ROOT / "examples" / "feed", ROOT / "examples" / "templates.json", "--stations", folder)
+    if (unwritten.returncode, unwritten.stderr.splitlines()[-1]) != (3, "gtfs: %s: Is a directory" % folder):
+        yield "stations into a folder: status %d, %s" % (unwritten.returncode, unwritten.stderr)
     for words in (["--day", "1969-01-01"], ["--day", "2026-6-1"], []):
         done = run(sys.executable, GTFS, ROOT / "examples" / "feed", "--templates", ROOT / "examples" / "templates.json", *words)
         if done.returncode != 2:
