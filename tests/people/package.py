@@ -48,6 +48,7 @@ INSTALLED = [("installed, neither enabled nor started", "apt install $old; state
 STARTED = [
     ("enabled and started", "listens; state", "enabled\nactive\n"),
     ("the unit is in order", "systemd-analyze verify $unit 2>&1 && echo yes", "yes\n"),
+    ("a user of its own", "ps -o user:20= -p $(pid)", "sumacgate\n"),
     ("its page", "ls /usr/share/man/man1/rail_host.1.gz", "/usr/share/man/man1/rail_host.1.gz\n"),
     ("a booking", "ask /reservations -d '%s' | grep -o 'B0*' | head -n 1; pid > /tmp/pid" % RESERVED, "B000000\n"),
     (
