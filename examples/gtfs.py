@@ -428,17 +428,14 @@ class Maker:
         """The station with its times, or None for a stop in between that has none."""
         if call.stop not in self.stations:
             raise LeftOut("stop_times.txt", call.line, "stops.txt has no stop %r" % call.stop)
-        arrive = call.depart if call.arrive is None or place == 0 else call.arrive
-        depart = call.arrive if call.depart is None or place == count - 1 else call.depart
-        if place == 0:
-            arrive = depart
-        if place == count - 1:
-            depart = arrive
-        if arrive is None:
-            if place in (0, count - 1):
+        times = [time for time in (call.arrive, call.depart) if time is not None]
+        is_first, is_last = place == 0, place == count - 1
+        if not times:
+            if is_first or is_last:
                 raise LeftOut("stop_times.txt", call.line, "its first or last stop has no time")
             self.tell(trip, call, "it has no time there, so the run doesn't stop")
             return None
+        arrive, depart = times[-1 if is_first else 0], times[0 if is_last else -1]
         return self.stations[call.stop], arrive, depart
 
     def check(self, trip, kept):
@@ -503,8 +500,8 @@ def number_the_rest(runs, told):
     nameless = [run.trip for run in runs if run.trip.number is None]
     taken = {run.trip.number for run in runs}
     free = (number for number in range(1, LAST_TRAIN + 1) if number not in taken)
-    for trip, trip.number in zip(nameless, free):
-        pass
+    for trip, number in zip(nameless, free):
+        trip.number = number
     if nameless:
         count = counted(len(nameless), "trip")
         told("trips.txt: %s without a number in trip_short_name: given the least free ones" % count)
