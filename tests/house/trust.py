@@ -106,7 +106,7 @@ class Page:
         """What one sentence rests on, and another doesn't."""
         one, other = words.split()
         keys = self.clauses(clauses_of(one)) - self.clauses(clauses_of(other))
-        return "; ".join("`%s` %s" % (name_of(file), self.said(file, names)) for file, names in self.in_order(keys))
+        return "\n".join("%s %s" % (name_of(file), self.said(file, names).strip("`")) for file, names in self.in_order(keys))
 
     def show_edit(self, words):
         crate, edit = words.split()
