@@ -1,12 +1,14 @@
 #!/usr/bin/env python3
 """Holds docs/trust.md, the reading list of the headline, against the crates.
 
-  tests/house/trust.py [--write]
+  tests/house/trust.py [--write | --sentence N]
 
 The page is tests/house/trust_page.md with what stands in double braces filled in: the lines of clauses, the definitions that they rest on,
 edits and checks (each has to be there), lines of effort, and the list of all definitions that the contracts of `serve_connection`,
 `perform` and `run_serve` unfold to. Where the page says something else, what grew or went is named, and the status is 1: so no definition
 comes into what the headline rests on unnoticed. --write makes the page anew.
+
+--sentence N prints what one of README's ten sentences rests on, file by file, in an order to read it in.
 """
 import argparse
 import collections
@@ -73,20 +75,38 @@ class Page:
         return "%s (%s:%d)" % (named, path, contract.line(clause[0] if clause else None))
 
     def clauses(self, words):
-        """All that the clauses unfold to."""
+        """All that the clauses unfold to, and definitions that are named by their file, as in `claim_rule/Rule Kept`."""
         keys = set()
-        for part in words.split(","):
-            path, function, *clause = part.split()
-            keys |= Contract(self.house, path, function).cites(clause[0] if clause else None)
+        for path, name, *clause in (part.split() for part in words.split(",")):
+            if path.endswith(".rt"):
+                keys |= Contract(self.house, path, name).cites(clause[0] if clause else None)
+            else:
+                keys.add(self.definition(path, name))
         return self.house.unfold(keys)
+
+    def definition(self, path, name):
+        crate, _, module = path.partition("/")
+        found = self.house.find((crate, module.replace("/", "."), name))
+        if found is None:
+            raise KeyError("%s has no definition %s" % (path, name))
+        return found
 
     def show_rests(self, words):
         keys = self.clauses(words)
         return "%d, %s lines" % (len(keys), number(self.house.lines(keys)))
 
-    def show_reading(self, words):
+    def show_reading(self, sentence):
         return "\n".join("%d. `%s`: %s" % (n + 1, name_of(file), self.said(file, names))
-                         for n, (file, names) in enumerate(self.in_order(self.clauses(words))))
+                         for n, (file, names) in enumerate(self.in_order(self.clauses(clauses_of(sentence)))))
+
+    def show_size(self, sentence):
+        return self.show_rests(clauses_of(sentence))
+
+    def show_further(self, words):
+        """What one sentence rests on, and another doesn't."""
+        one, other = words.split()
+        keys = self.clauses(clauses_of(one)) - self.clauses(clauses_of(other))
+        return "\n".join("%s %s" % (name_of(file), self.said(file, names).strip("`")) for file, names in self.in_order(keys))
 
     def show_edit(self, words):
         crate, edit = words.split()
@@ -188,6 +208,14 @@ class Page:
         return "\n".join(parts[1:])
 
 
+def clauses_of(sentence):
+    """The clauses by which the template says what a sentence rests on."""
+    found = re.search(r"^\| %s \|.*\{\{rests ([^}]*)\}\}" % sentence, TEMPLATE.read_text(), re.M)
+    if found is None:
+        raise KeyError("the page has no sentence %s" % sentence)
+    return found.group(1)
+
+
 def wrapped(text):
     """The text with each paragraph in lines of at most 120 columns, where one of its lines is longer; tables stay as they are."""
     blocks = []
@@ -260,9 +288,13 @@ def changes(old, new):
 def main():
     words = argparse.ArgumentParser(description=__doc__, formatter_class=argparse.RawDescriptionHelpFormatter)
     words.add_argument("--write", action="store_true", help="make the page anew")
+    words.add_argument("--sentence", metavar="N", help="print what this sentence of README rests on")
     given = words.parse_args()
     try:
         page = Page()
+        if given.sentence:
+            print("%s:\n%s" % (page.show_size(given.sentence), page.show_reading(given.sentence)))
+            return 0
         text = page.fill(TEMPLATE.read_text())
         of_readme = re.findall(r"^\d+\. ", (ROOT / "README.md").read_text().partition("## What is proved")[2], re.M)
         if len(of_readme) != len(re.findall(r"^\| \d+ \|", text, re.M)):
