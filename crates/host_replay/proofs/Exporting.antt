@@ -25,6 +25,7 @@ use Rattle.host_words.specs.Replay.{ReplayView}
 use Rattle.host_words.specs.declared.command.CommandName.TheVariants as command
 use Rattle.host_notes.specs.Ends.{status_of_end}
 use Rattle.host_notes.proofs.Streams.{done_from, cut_from}
+use Rattle.host_replay.specs.Input.{told_of}
 use Rattle.host_replay.specs.Input.{IsAsked, IsFirstDesk, IsUntouched, opening, plain_opening, status_of_replay, HasShelfCause, IsOfRefusedText, IsWithoutBooks}
 use Rattle.host_replay.specs.Export.{RanExport, EndsCut, Exports, ExportsAll, HasNoText, IsCutOf, IsExport, IsSurelyReplayed, IsExportOf, IsInputRun, IsTextRun, ServedSo}
 use Rattle.host_replay.specs.Export.{StandsIn, no_memory_line, sure_answers_of}
@@ -123,20 +124,20 @@ module _ (words : List (List ℕ)) (files : Files) (said : ReplayView) (asked : 
     )
 
 -- a run that has books
-pub export_given : (files : Files) (input left output sent : Option (List ℕ)) (said : ReplayView) (c : ConnEnd) → RanExport said files input left output sent (end.Served c) → Given said files
+pub export_given : (files : Files) (input left output sent : Option (List ℕ)) (said : ReplayView) (c : ConnEnd) → RanExport said files (told_of input left output sent) (end.Served c) → Given said files
 export_given files input left output sent said conn.Done did = (did.1.cat, did.1.kept, did.1.books)
 export_given files input left output sent said conn.WriteFault did = (did.2.cat, did.2.kept, did.2.books)
 export_given files input left output sent said c did = (did.0.cat, did.0.kept, did.0.books)
 
-pub export_fails : (files : Files) (input left output sent : Option (List ℕ)) (said : ReplayView) (fault : _) → RanExport said files input left output sent (end.NotLoaded fault) → Fails files said.catalogue said.from fault × IsUntouched input left output sent
+pub export_fails : (files : Files) (input left output sent : Option (List ℕ)) (said : ReplayView) (fault : _) → RanExport said files (told_of input left output sent) (end.NotLoaded fault) → Fails files said.catalogue said.from fault × IsUntouched (told_of input left output sent)
 export_fails files input left output sent said fault ends = ends
 
 module _ (words : List (List ℕ)) (files : Files) (input left output sent : Option (List ℕ)) where
   abbrev Ran : ReplayEnd → Type 0
-  Ran e = Exports words files input left output sent e
+  Ran e = Exports words files (told_of input left output sent) e
 
   abbrev Made : ReplayView → ReplayEnd → Type 0
-  Made said e = RanExport said files input left output sent e
+  Made said e = RanExport said files (told_of input left output sent) e
 
   pub export_without : (e : ReplayEnd) → Ran e → status_of_replay e ≡ 1 → IsWithoutBooks command.Export words files
   export_without e ran one = without command.Export words files input left output sent Made (export_fails files input left output sent) (export_given files input left output sent) e ran one
@@ -153,7 +154,7 @@ module _ (words : List (List ℕ)) (files : Files) (input left output sent : Opt
 
   -- the statuses that are those of a connection's end alone
   by_end : {A : Type 0} (n : ℕ) → (n ≡ 1 → ⊥) → (n ≡ 3 → ⊥) → (n ≡ 5 → ⊥)
-      → ((said : ReplayView) (c : ConnEnd) → IsExport words said → status_of_end c ≡ n → ServedSo said files input left output sent c → A)
+      → ((said : ReplayView) (c : ConnEnd) → IsExport words said → status_of_end c ≡ n → ServedSo said files (told_of input left output sent) c → A)
       → (e : ReplayEnd) → Ran e → status_of_replay e ≡ n → A
   by_end n one three five so e ran is =
       elim (served_end command.Export words files input left output sent Made (export_fails files input left output sent) (export_given files input left output sent) n one five e ran is) [
@@ -166,7 +167,7 @@ module _ (words : List (List ℕ)) (files : Files) (input left output sent : Opt
     abbrev pub Whole : Type 0
     Whole = (text : List ℕ) × (sent ≡ with_end output text) × ExportsAll words files stream text
 
-    whole_of : (said : ReplayView) (c : ConnEnd) → IsExport words said → status_of_end c ≡ 0 → ServedSo said files input left output sent c → Whole
+    whole_of : (said : ReplayView) (c : ConnEnd) → IsExport words said → status_of_end c ≡ 0 → ServedSo said files (told_of input left output sent) c → Whole
     whole_of said conn.Done asked zero did = (did.0, did.2, exports_all words files said asked input left stream told did.0 did.1)
     whole_of said c asked zero did = absurd (omega (arith, zero))
 
@@ -177,7 +178,7 @@ module _ (words : List (List ℕ)) (files : Files) (input left output sent : Opt
     abbrev pub Beginning : Type 0
     Beginning = (front back : List ℕ) × (sent ≡ with_end output front) × ExportsAll words files stream (front ++ back)
 
-    beginning_of : (said : ReplayView) (c : ConnEnd) → IsExport words said → status_of_end c ≡ 4 → ServedSo said files input left output sent c → Beginning
+    beginning_of : (said : ReplayView) (c : ConnEnd) → IsExport words said → status_of_end c ≡ 4 → ServedSo said files (told_of input left output sent) c → Beginning
     beginning_of said conn.WriteFault asked four did = (did.0, did.1, did.3, exports_all words files said asked input left stream told (did.0 ++ did.1) did.2)
     beginning_of said c asked four did = absurd (omega (arith, four))
 
@@ -188,7 +189,7 @@ module _ (words : List (List ℕ)) (files : Files) (input left output sent : Opt
     abbrev pub Cutting : Type 0
     Cutting = (answers : List ℕ) × EndsCut words files stream answers
 
-    cutting_of : (said : ReplayView) (c : ConnEnd) → IsExport words said → status_of_end c ≡ 6 → ServedSo said files input left output sent c → Cutting
+    cutting_of : (said : ReplayView) (c : ConnEnd) → IsExport words said → status_of_end c ≡ 6 → ServedSo said files (told_of input left output sent) c → Cutting
     cutting_of said conn.Cut asked six did = ends_cut words files said asked input left stream told conn.Cut six did.0
     cutting_of said (conn.Refused fault) asked six did = ends_cut words files said asked input left stream told (conn.Refused fault) six did.0
     cutting_of said c asked six did = absurd (omega (arith, six))
@@ -198,7 +199,7 @@ module _ (words : List (List ℕ)) (files : Files) (input left output sent : Opt
 
 -- where there is no text nothing is written
 pub no_text : (said : ReplayView) (files : Files) (input left output : Option (List ℕ)) (cat : CatalogueView) (kept : List KeptBooking) → HasBooks files said.catalogue said.from cat kept → (desk : DeskView) → IsFirstDesk cat kept desk
-    → (taken : List ℕ) → input ≡ with_front taken left → (e : ConnEnd) → HasNoText cat desk said taken left e → ServedSo said files input left output output e
+    → (taken : List ℕ) → input ≡ with_front taken left → (e : ConnEnd) → HasNoText cat desk said taken left e → ServedSo said files (told_of input left output output) e
 no_text said files input left output cat kept books desk first taken takes conn.Done none = absurd none
 no_text said files input left output cat kept books desk first taken takes conn.WriteFault none = absurd none
 no_text said files input left output cat kept books desk first taken takes e none = (record { cat = cat; kept = kept; books = books; desk = desk; first = first; taken = taken; takes = takes; is = none }, refl)

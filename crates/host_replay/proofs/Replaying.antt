@@ -26,6 +26,7 @@ use Rattle.host_words.specs.Replay.{ReplayView}
 use Rattle.host_words.specs.declared.command.CommandName.{CommandName}
 use Rattle.host_words.specs.declared.command.CommandName.TheVariants as command
 use Rattle.host_notes.specs.Ends.{status_of_end}
+use Rattle.host_replay.specs.Input.{told_of}
 use Rattle.host_replay.specs.Input.{HasShelfCause, IsAsked, IsFirstDesk, IsInputOf, IsOfRefusedText, IsTaken, IsUnread, IsUntouched, IsWithoutBooks}
 use Rattle.host_replay.specs.Input.{opening, plain_opening, status_of_replay}
 use Rattle.host_replay.specs.Replay.{RanReplay, IsReplay, IsReplayRun, IsReplayed, IsReplayCut, Replays}
@@ -85,10 +86,10 @@ end_is_not_one e one = absurd (omega (arith, one))
 -- What a status says where P says what the command did: it had books, or there were none, and nothing was read or
 -- written.
 module _ (name : CommandName) (words : List (List ℕ)) (files : Files) (input left output sent : Option (List ℕ)) (P : ReplayView → ReplayEnd → Type 0)
-    (fails : (said : ReplayView) (fault : _) → P said (end.NotLoaded fault) → Fails files said.catalogue said.from fault × IsUntouched input left output sent)
+    (fails : (said : ReplayView) (fault : _) → P said (end.NotLoaded fault) → Fails files said.catalogue said.from fault × IsUntouched (told_of input left output sent))
     (given : (said : ReplayView) (c : ConnEnd) → P said (end.Served c) → Given said files) where
   abbrev pub Ran : ReplayEnd → Type 0
-  Ran e = IsUnread name words input left output sent e ⊎ ((said : ReplayView) × IsAsked name words said × P said e)
+  Ran e = IsUnread name words (told_of input left output sent) e ⊎ ((said : ReplayView) × IsAsked name words said × P said e)
 
   pub without : (e : ReplayEnd) → Ran e → status_of_replay e ≡ 1 → IsWithoutBooks name words files
   without e (inl unread) one = absurd (omega (arith, ap status_of_replay unread.is, one))
@@ -110,7 +111,7 @@ module _ (name : CommandName) (words : List (List ℕ)) (files : Files) (input l
 
   -- a connection was served, where the status is that of a connection's end alone; or the shelf failed
   pub served_end : (n : ℕ) → (n ≡ 1 → ⊥) → (n ≡ 5 → ⊥) → (e : ReplayEnd) → Ran e → status_of_replay e ≡ n
-      → (IsUntouched input left output sent × (n ≡ 3)) ⊎ ((said : ReplayView) × (c : ConnEnd) × IsAsked name words said × P said (end.Served c) × (status_of_end c ≡ n))
+      → (IsUntouched (told_of input left output sent) × (n ≡ 3)) ⊎ ((said : ReplayView) × (c : ConnEnd) × IsAsked name words said × P said (end.Served c) × (status_of_end c ≡ n))
   served_end n one five e (inl unread) is = absurd (five (sym is ∙ ap status_of_replay unread.is))
   served_end n one five end.NoMemory (inr (said, asked, did)) is = absurd (five (sym is))
   served_end n one five (end.NotLoaded fault) (inr (said, asked, did)) is = elim (fault_status fault) [
@@ -131,26 +132,26 @@ module _ (name : CommandName) (words : List (List ℕ)) (files : Files) (input l
       absurd (never_opened told said.catalogue said.from has.0 has.1 (subst (λ (v : ReplayView). HasNoBooks told v.catalogue v.from) same none) has.2)
 
 -- what a replay had
-pub replay_fails : (files : Files) (input left output sent : Option (List ℕ)) (said : ReplayView) (fault : _) → RanReplay said files input left output sent (end.NotLoaded fault) → Fails files said.catalogue said.from fault × IsUntouched input left output sent
+pub replay_fails : (files : Files) (input left output sent : Option (List ℕ)) (said : ReplayView) (fault : _) → RanReplay said files (told_of input left output sent) (end.NotLoaded fault) → Fails files said.catalogue said.from fault × IsUntouched (told_of input left output sent)
 replay_fails files input left output sent said fault ends = ends
 
-pub replay_given : (files : Files) (input left output sent : Option (List ℕ)) (said : ReplayView) (c : ConnEnd) → RanReplay said files input left output sent (end.Served c) → Given said files
+pub replay_given : (files : Files) (input left output sent : Option (List ℕ)) (said : ReplayView) (c : ConnEnd) → RanReplay said files (told_of input left output sent) (end.Served c) → Given said files
 replay_given files input left output sent said c run = (run.cat, run.kept, run.books)
 
 module _ (words : List (List ℕ)) (files : Files) (input left output sent : Option (List ℕ)) where
   abbrev Made : ReplayView → ReplayEnd → Type 0
-  Made said e = RanReplay said files input left output sent e
+  Made said e = RanReplay said files (told_of input left output sent) e
 
-  pub replay_without : (e : ReplayEnd) → Replays words files input left output sent e → status_of_replay e ≡ 1 → IsWithoutBooks command.Replay words files
+  pub replay_without : (e : ReplayEnd) → Replays words files (told_of input left output sent) e → status_of_replay e ≡ 1 → IsWithoutBooks command.Replay words files
   replay_without e ran one = without command.Replay words files input left output sent Made (replay_fails files input left output sent) (replay_given files input left output sent) e ran one
 
-  pub replay_missed : (e : ReplayEnd) (failed now before after : ℕ) → Replays words files input left output sent e → HasShelfCause e failed now before after
+  pub replay_missed : (e : ReplayEnd) (failed now before after : ℕ) → Replays words files (told_of input left output sent) e → HasShelfCause e failed now before after
       → status_of_replay e ≡ 1 → Rose before after ⊎ IsOfRefusedText command.Replay words files
   replay_missed e failed now before after ran cause one =
       missed command.Replay words files input left output sent Made (replay_fails files input left output sent) (replay_given files input left output sent) e failed now before after ran cause one
 
   pub replay_no_books : (told : List ℕ → Option (List ℕ)) → files ≡ Some told → (wanted : ReplayView) → IsReplay words wanted → HasNoBooks told wanted.catalogue wanted.from
-      → (e : ReplayEnd) → Replays words files input left output sent e → (status_of_replay e ≡ 1) ⊎ (status_of_replay e ≡ 3) ⊎ (status_of_replay e ≡ 5)
+      → (e : ReplayEnd) → Replays words files (told_of input left output sent) e → (status_of_replay e ≡ 1) ⊎ (status_of_replay e ≡ 3) ⊎ (status_of_replay e ≡ 5)
   replay_no_books told tells wanted asked none e ran =
       ends_without command.Replay words files input left output sent Made (replay_fails files input left output sent) (replay_given files input left output sent) told tells wanted asked none e ran
 
@@ -162,11 +163,11 @@ module _ (words : List (List ℕ)) (files : Files) (input left output sent : Opt
 
   -- what a connection that ended with this status wrote
   abbrev Writes : ℕ → (List ℕ → Type 0) → Type 0
-  Writes n P = (said : ReplayView) (c : ConnEnd) (run : IsReplayRun said files input left output sent c) (after : ServiceView) → IsReplay words said
+  Writes n P = (said : ReplayView) (c : ConnEnd) (run : IsReplayRun said files (told_of input left output sent) c) (after : ServiceView) → IsReplay words said
       → IsServed run.cat (opening run.desk said) after run.taken left run.written c → status_of_end c ≡ n → P run.written
 
-  wrote : (P : List ℕ → Type 0) (n : ℕ) → (n ≡ 1 → ⊥) → (n ≡ 5 → ⊥) → Writes n P → (e : ReplayEnd) → Replays words files input left output sent e → status_of_replay e ≡ n
-      → (IsUntouched input left output sent × (n ≡ 3)) ⊎ Wrote P
+  wrote : (P : List ℕ → Type 0) (n : ℕ) → (n ≡ 1 → ⊥) → (n ≡ 5 → ⊥) → Writes n P → (e : ReplayEnd) → Replays words files (told_of input left output sent) e → status_of_replay e ≡ n
+      → (IsUntouched (told_of input left output sent) × (n ≡ 3)) ⊎ Wrote P
   wrote P n one five writes e ran is =
       elim (served_end command.Replay words files input left output sent (Made words files input left output sent) (replay_fails files input left output sent) (replay_given files input left output sent) n one five e ran is) [
         | inl untouched ↦ inl untouched
@@ -176,11 +177,11 @@ module _ (words : List (List ℕ)) (files : Files) (input left output sent : Opt
         ])
       ]
 
-  surely_wrote : (P : List ℕ → Type 0) (n : ℕ) → (n ≡ 1 → ⊥) → (n ≡ 3 → ⊥) → (n ≡ 5 → ⊥) → Writes n P → (e : ReplayEnd) → Replays words files input left output sent e
+  surely_wrote : (P : List ℕ → Type 0) (n : ℕ) → (n ≡ 1 → ⊥) → (n ≡ 3 → ⊥) → (n ≡ 5 → ⊥) → Writes n P → (e : ReplayEnd) → Replays words files (told_of input left output sent) e
       → status_of_replay e ≡ n → Wrote P
   surely_wrote P n one three five writes e ran is = elim (wrote P n one five writes e ran is) [ inl u ↦ absurd (three u.1) | inr w ↦ w ]
 
-  replays : (said : ReplayView) (c : ConnEnd) (run : IsReplayRun said files input left output sent c) (after : ServiceView) → IsReplay words said
+  replays : (said : ReplayView) (c : ConnEnd) (run : IsReplayRun said files (told_of input left output sent) c) (after : ServiceView) → IsReplay words said
       → (taken : List ℕ) (rest : Rest) (written : List ℕ) → IsAnswered (answers_of run.cat) (refusals_of run.cat) (opening run.desk said) after taken rest written
       → IsReplayed words files taken rest written
   replays said c run after asked taken rest written a =
@@ -196,7 +197,7 @@ module _ (words : List (List ℕ)) (files : Files) (input left output sent : Opt
         | inr a ↦ inr (replays said c run after asked _ _ _ a)
       ]
 
-  pub done_replay : (e : ReplayEnd) → Replays words files input left output sent e → status_of_replay e ≡ 0 → Wrote Done
+  pub done_replay : (e : ReplayEnd) → Replays words files (told_of input left output sent) e → status_of_replay e ≡ 0 → Wrote Done
   done_replay e ran zero = surely_wrote Done 0 (λ z. omega (arith, z)) (λ z. omega (arith, z)) (λ z. omega (arith, z)) done e ran zero
 
   abbrev pub Cutting : List ℕ → Type 0
@@ -209,7 +210,7 @@ module _ (words : List (List ℕ)) (files : Files) (input left output sent : Opt
         | inr a ↦ inr (a.0, replays said c run after asked _ _ _ a.1)
       ]
 
-  pub cut_replay : (e : ReplayEnd) → Replays words files input left output sent e → status_of_replay e ≡ 6 → Wrote Cutting
+  pub cut_replay : (e : ReplayEnd) → Replays words files (told_of input left output sent) e → status_of_replay e ≡ 6 → Wrote Cutting
   cut_replay e ran six = surely_wrote Cutting 6 (λ z. omega (arith, z)) (λ z. omega (arith, z)) (λ z. omega (arith, z)) cut e ran six
 
   taken_of : (taken : List ℕ) → input ≡ with_front taken left → IsTaken stream left taken
@@ -228,7 +229,7 @@ module _ (words : List (List ℕ)) (files : Files) (input left output sent : Opt
     ],
   )
 
-  pub read_replay : (e : ReplayEnd) → Replays words files input left output sent e → status_of_replay e ≡ 3 → IsUntouched input left output sent ⊎ Wrote Taking
+  pub read_replay : (e : ReplayEnd) → Replays words files (told_of input left output sent) e → status_of_replay e ≡ 3 → IsUntouched (told_of input left output sent) ⊎ Wrote Taking
   read_replay e ran three = elim (wrote Taking 3 (λ z. omega (arith, z)) (λ z. omega (arith, z)) read e ran three) [ inl u ↦ inl u.0 | inr w ↦ inr w ]
 
   abbrev pub Part : List ℕ → Type 0
@@ -242,5 +243,5 @@ module _ (words : List (List ℕ)) (files : Files) (input left output sent : Opt
         (write_from (answers_of run.cat) (refusals_of run.cat) (opening run.desk said) after run.taken run.written left c served.answered four),
   )
 
-  pub write_replay : (e : ReplayEnd) → Replays words files input left output sent e → status_of_replay e ≡ 4 → Wrote Part
+  pub write_replay : (e : ReplayEnd) → Replays words files (told_of input left output sent) e → status_of_replay e ≡ 4 → Wrote Part
   write_replay e ran four = surely_wrote Part 4 (λ z. omega (arith, z)) (λ z. omega (arith, z)) (λ z. omega (arith, z)) write e ran four

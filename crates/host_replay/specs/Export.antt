@@ -24,7 +24,8 @@ use Rattle.host_words.specs.declared.command.CommandName.TheVariants as command
 use Rattle.host_words.specs.Replay.{ReplayView}
 use Rattle.host_replay.specs.declared.end.ReplayEnd.{ReplayEnd}
 use Rattle.host_replay.specs.declared.end.ReplayEnd.TheVariants as end
-use Rattle.host_replay.specs.Input.{IsAsked, IsFirstDesk, IsInputOf, IsUnread, IsUntouched, opening, plain_opening}
+use Rattle.host_replay.specs.Input.{IsAsked, IsFirstDesk, IsInputOf, IsUnread, IsUntouched, Told}
+use Rattle.host_replay.specs.Input.{opening, plain_opening}
 
 -- the command is `export`
 abbrev pub IsForExport : List (List ℕ) → Type 0
@@ -99,28 +100,25 @@ IsTextRun said files input left text =
     IsInputRun said files input left (λ cat desk taken. IsExportOf cat desk said taken left text)
 
 -- What the words ask for ended so. Nothing is written but the text.
-abbrev pub ServedSo : ReplayView → Files → Option (List ℕ) → Option (List ℕ) → Option (List ℕ) → Option (List ℕ)
-    → ConnEnd → Type 0
-ServedSo said files input left output sent conn.Done =
-    (text : List ℕ) × IsTextRun said files input left text × (sent ≡ with_end output text)
-ServedSo said files input left output sent conn.WriteFault =
-    (front back : List ℕ) × IsTextRun said files input left (front ++ back) × (sent ≡ with_end output front)
-ServedSo said files input left output sent e =
-    IsInputRun said files input left (λ cat desk taken. HasNoText cat desk said taken left e) × (sent ≡ output)
+abbrev pub ServedSo : ReplayView → Files → Told → ConnEnd → Type 0
+ServedSo said files t conn.Done =
+    (text : List ℕ) × IsTextRun said files t.input t.left text × (t.sent ≡ with_end t.output text)
+ServedSo said files t conn.WriteFault =
+    (front back : List ℕ) × IsTextRun said files t.input t.left (front ++ back) × (t.sent ≡ with_end t.output front)
+ServedSo said files t e =
+    IsInputRun said files t.input t.left (λ cat desk taken. HasNoText cat desk said taken t.left e) × (t.sent ≡ t.output)
 
-abbrev pub RanExport : ReplayView → Files → Option (List ℕ) → Option (List ℕ) → Option (List ℕ) → Option (List ℕ)
-    → ReplayEnd → Type 0
-RanExport said files input left output sent end.NoMemory = IsUntouched input left output sent
-RanExport said files input left output sent (end.NotLoaded fault) =
-    Fails files said.catalogue said.from fault × IsUntouched input left output sent
-RanExport said files input left output sent (end.Served e) = ServedSo said files input left output sent e
+abbrev pub RanExport : ReplayView → Files → Told → ReplayEnd → Type 0
+RanExport said files t end.NoMemory = IsUntouched t
+RanExport said files t (end.NotLoaded fault) =
+    Fails files said.catalogue said.from fault × IsUntouched t
+RanExport said files t (end.Served e) = ServedSo said files t e
 
 -- `export` ran so
-abbrev pub Exports : List (List ℕ) → Files → Option (List ℕ) → Option (List ℕ) → Option (List ℕ) → Option (List ℕ)
-    → ReplayEnd → Type 0
-Exports words files input left output sent e =
-    IsUnread command.Export words input left output sent e
-    ⊎ ((said : ReplayView) × IsExport words said × RanExport said files input left output sent e)
+abbrev pub Exports : List (List ℕ) → Files → Told → ReplayEnd → Type 0
+Exports words files t e =
+    IsUnread command.Export words t e
+    ⊎ ((said : ReplayView) × IsExport words said × RanExport said files t e)
 
 -- A request is answered by a host of one thread, and not that there is no memory: so by the outcome of what it asks.
 pub record IsSureAnswer (cat : CatalogueView) (before : PlainView) (request : RequestText) (written : List ℕ)

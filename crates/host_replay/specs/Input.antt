@@ -53,12 +53,12 @@ abbrev pub plain_opening : List KeptBooking → ReplayView → PlainView
 plain_opening kept said =
     record { plain = plain_kept kept; first = None; clock = Some (script_reading said.start said.tick) }
 
--- A connection at the desk, with the clock of the words, ended so after these bytes were taken; or there was no memory,
--- and nothing was taken or written.
-abbrev pub IsInputEnd : CatalogueView → DeskView → ReplayView → List ℕ → Option (List ℕ) → List ℕ → ConnEnd → Type 0
-IsInputEnd cat desk said taken left written e =
+-- A connection that began so ended so after these bytes were taken; or there was no memory, and nothing was taken or
+-- written.
+abbrev pub IsInputEnd : CatalogueView → ServiceView → List ℕ → Option (List ℕ) → List ℕ → ConnEnd → Type 0
+IsInputEnd cat before taken left written e =
     ((e ≡ NoMemory) × (taken ≡ []) × (written ≡ []))
-    ⊎ ((after : ServiceView) × IsServed cat (opening desk said) after taken left written e)
+    ⊎ ((after : ServiceView) × IsServed cat before after taken left written e)
 
 -- the words, the catalogue of their file, and the bookings that its books open with
 pub record IsInputOf (name : CommandName) (words : List (List ℕ)) (files : Files) (said : ReplayView)
@@ -66,17 +66,27 @@ pub record IsInputOf (name : CommandName) (words : List (List ℕ)) (files : Fil
   pub words_are : IsAsked name words said
   pub books : HasBooks files said.catalogue said.from cat kept
 
+-- what the input and the output tell: the bytes to come before the call and what is left of them after it, and the bytes
+-- written before it and after it
+pub record Told : Type 0 where
+  pub input : Option (List ℕ)
+  pub left : Option (List ℕ)
+  pub output : Option (List ℕ)
+  pub sent : Option (List ℕ)
+
+abbrev pub told_of : Option (List ℕ) → Option (List ℕ) → Option (List ℕ) → Option (List ℕ) → Told
+told_of input left output sent = record { input = input; left = left; output = output; sent = sent }
+
 -- nothing was read or written
-pub record IsUntouched (input left output sent : Option (List ℕ)) : Type 0 where
-  pub no_read : left ≡ input
-  pub no_write : sent ≡ output
+pub record IsUntouched (t : Told) : Type 0 where
+  pub no_read : t.left ≡ t.input
+  pub no_write : t.sent ≡ t.output
 
 -- there was no memory to read the words
-pub record IsUnread (name : CommandName) (words : List (List ℕ)) (input left output sent : Option (List ℕ))
-    (e : ReplayEnd) : Type 0 where
+pub record IsUnread (name : CommandName) (words : List (List ℕ)) (t : Told) (e : ReplayEnd) : Type 0 where
   pub command : IsFor name words
   pub is : e ≡ end.NoMemory
-  pub untouched : IsUntouched input left output sent
+  pub untouched : IsUntouched t
 
 -- Where the shelf gave no books, its counts show why; and where it didn't fail, its count of faults is as it was.
 abbrev pub HasShelfCause : ReplayEnd → ℕ → ℕ → ℕ → ℕ → Type 0

@@ -18,7 +18,7 @@ use Rattle.host_words.specs.declared.command.CommandName.TheVariants as command
 use Rattle.host_words.specs.Replay.{ReplayView}
 use Rattle.host_replay.specs.declared.end.ReplayEnd.{ReplayEnd}
 use Rattle.host_replay.specs.declared.end.ReplayEnd.TheVariants as end
-use Rattle.host_replay.specs.Input.{IsAsked, IsFirstDesk, IsInputEnd, IsInputOf, IsTaken, IsUnread, IsUntouched}
+use Rattle.host_replay.specs.Input.{IsAsked, IsFirstDesk, IsInputEnd, IsInputOf, IsTaken, IsUnread, IsUntouched, Told}
 use Rattle.host_replay.specs.Input.{opening, plain_opening}
 
 -- the command is `replay`
@@ -34,8 +34,7 @@ abbrev pub IsNoReplay : List (List ℕ) → Type 0
 IsNoReplay words = (said : ReplayView) → IsReplay words said → ⊥
 
 -- what was taken of the input and written to the output, and how the connection ended
-pub record IsReplayRun (said : ReplayView) (files : Files) (input left output sent : Option (List ℕ))
-    (e : ConnEnd) : Type 0 where
+pub record IsReplayRun (said : ReplayView) (files : Files) (t : Told) (e : ConnEnd) : Type 0 where
   pub cat : CatalogueView
   pub kept : List KeptBooking
   pub books : HasBooks files said.catalogue said.from cat kept
@@ -43,24 +42,22 @@ pub record IsReplayRun (said : ReplayView) (files : Files) (input left output se
   pub first : IsFirstDesk cat kept desk
   pub taken : List ℕ
   pub written : List ℕ
-  pub takes : input ≡ with_front taken left
-  pub writes : sent ≡ with_end output written
-  pub ends : IsInputEnd cat desk said taken left written e
+  pub takes : t.input ≡ with_front taken t.left
+  pub writes : t.sent ≡ with_end t.output written
+  pub ends : IsInputEnd cat (opening desk said) taken t.left written e
 
 -- what the words ask for ended so
-abbrev pub RanReplay : ReplayView → Files → Option (List ℕ) → Option (List ℕ) → Option (List ℕ) → Option (List ℕ)
-    → ReplayEnd → Type 0
-RanReplay said files input left output sent end.NoMemory = IsUntouched input left output sent
-RanReplay said files input left output sent (end.NotLoaded fault) =
-    Fails files said.catalogue said.from fault × IsUntouched input left output sent
-RanReplay said files input left output sent (end.Served e) = IsReplayRun said files input left output sent e
+abbrev pub RanReplay : ReplayView → Files → Told → ReplayEnd → Type 0
+RanReplay said files t end.NoMemory = IsUntouched t
+RanReplay said files t (end.NotLoaded fault) =
+    Fails files said.catalogue said.from fault × IsUntouched t
+RanReplay said files t (end.Served e) = IsReplayRun said files t e
 
 -- `replay` ran so
-abbrev pub Replays : List (List ℕ) → Files → Option (List ℕ) → Option (List ℕ) → Option (List ℕ) → Option (List ℕ)
-    → ReplayEnd → Type 0
-Replays words files input left output sent e =
-    IsUnread command.Replay words input left output sent e
-    ⊎ ((said : ReplayView) × IsReplay words said × RanReplay said files input left output sent e)
+abbrev pub Replays : List (List ℕ) → Files → Told → ReplayEnd → Type 0
+Replays words files t e =
+    IsUnread command.Replay words t e
+    ⊎ ((said : ReplayView) × IsReplay words said × RanReplay said files t e)
 
 -- The bytes are the defined replies to the stream, which ends so, and those of a host of one thread that begins with
 -- the bookings that the books open with.

@@ -14,7 +14,7 @@ ghost use Rattle.host_notes.specs.Ends.{note_of};
 ghost use Rattle.host_notes.specs.Noted.{TakesNote};
 ghost use Rattle.host_notes.specs.declared.ending.CommandEnd.TheVariants.{WordsRefused};
 ghost use Rattle.host_replay.specs.Input.{HasShelfCause, IsInputEnd, IsOfRefusedText, IsUntouched, IsWithoutBooks};
-ghost use Rattle.host_replay.specs.Input.{end_of_replay, status_of_replay};
+ghost use Rattle.host_replay.specs.Input.{end_of_replay, opening, status_of_replay, told_of};
 ghost use Rattle.host_replay.specs.Replay.{RanReplay, IsForReplay, IsNoReplay, IsReplay, RepliesAll, RepliesCut, RepliesPart, RepliesTaken};
 ghost use Rattle.host_replay.specs.Replay.{Replays};
 ghost use Rattle.host_replay.specs.declared.end.ReplayEnd.{ReplayEnd};
@@ -43,7 +43,7 @@ fn serve<S: Source, K: Sink>(
     ensures serves { (taken written : List ℕ)
         × (S.told input.old ≡ with_front taken (S.told input.new))
         × (K.told output.new ≡ with_end (K.told output.old) written)
-        × IsInputEnd opened.0 opened.2 (view_of said.now) taken (S.told input.new) written result }
+        × IsInputEnd opened.0 (opening opened.2 (view_of said.now)) taken (S.told input.new) written result }
     ensures read_cause { result ≡ ReadFault → Rose (S.faults input.old) (S.faults input.new) }
     ensures write_cause { result ≡ WriteFault → Rose (K.faults output.old) (K.faults output.new) }
     ensures read_steady { (result ≡ ReadFault → ⊥) → S.faults input.new ≡ S.faults input.old }
@@ -67,8 +67,8 @@ fn replay<F: Shelf, S: Source, K: Sink>(
     input: &mut S,
     output: &mut K,
 ) -> ReplayEnd
-    ensures ends { RanReplay (view_of said.now) (F.told shelf.old) (S.told input.old) (S.told input.new)
-        (K.told output.old) (K.told output.new) result }
+    ensures ends { RanReplay (view_of said.now) (F.told shelf.old)
+        (told_of (S.told input.old) (S.told input.new) (K.told output.old) (K.told output.new)) result }
     ensures same { F.told shelf.new ≡ F.told shelf.old }
     ensures read_cause { result ≡ Served ReadFault → Rose (S.faults input.old) (S.faults input.new) }
     ensures write_cause { result ≡ Served WriteFault → Rose (K.faults output.old) (K.faults output.new) }
@@ -117,8 +117,8 @@ pub fn run_replay<F: Shelf, S: Source, K: Sink, E: Sink>(
 
     // Else it is that of the command's end, and the bytes written are the answers of the bytes taken.
     ensures run { (result ≡ 2) ⊎ ((end : ReplayEnd) × (result ≡ status_of_replay end)
-        × Replays (words_texts words.now) (F.told shelf.old) (S.told input.old) (S.told input.new)
-        (K.told output.old) (K.told output.new) end
+        × Replays (words_texts words.now) (F.told shelf.old)
+        (told_of (S.told input.old) (S.told input.new) (K.told output.old) (K.told output.new)) end
         × TakesNote E.told E.faults notes.old notes.new (note_of (end_of_replay end))
         × OfCounts F.faults F.misses shelf.old shelf.new (HasShelfCause end)) }
 
@@ -128,7 +128,7 @@ pub fn run_replay<F: Shelf, S: Source, K: Sink, E: Sink>(
     ensures cut { WritesWhere (result ≡ 6) (S.told input.old) (K.told output.old) (K.told output.new)
         (RepliesCut (words_texts words.now) (F.told shelf.old)) }
     ensures read_fault { (stream before : List ℕ) → S.told input.old ≡ Some stream → K.told output.old ≡ Some before
-        → result ≡ 3 → IsUntouched (S.told input.old) (S.told input.new) (K.told output.old) (K.told output.new)
+        → result ≡ 3 → IsUntouched (told_of (S.told input.old) (S.told input.new) (K.told output.old) (K.told output.new))
         ⊎ ((written : List ℕ) × (K.told output.new ≡ Some (before ++ written))
         × RepliesTaken (words_texts words.now) (F.told shelf.old) stream (S.told input.new) written) }
     ensures write_fault { WritesWhere (result ≡ 4) (S.told input.old) (K.told output.old) (K.told output.new)

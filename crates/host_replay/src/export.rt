@@ -19,7 +19,7 @@ ghost use Rattle.host_catalogue.specs.Files.{OfCounts};
 ghost use Rattle.host_notes.specs.Ends.{note_of};
 ghost use Rattle.host_notes.specs.Noted.{TakesNote};
 ghost use Rattle.host_notes.specs.declared.ending.CommandEnd.TheVariants.{WordsRefused};
-ghost use Rattle.host_replay.specs.Input.{HasShelfCause, IsOfRefusedText, IsWithoutBooks, end_of_replay, status_of_replay};
+ghost use Rattle.host_replay.specs.Input.{HasShelfCause, IsOfRefusedText, IsWithoutBooks, end_of_replay, status_of_replay, told_of};
 ghost use Rattle.host_replay.specs.Export.{RanExport, EndsCut, Exports, ExportsAll, HasNoText, IsExport, IsExportOf, IsForExport, IsNoExport, StandsIn};
 ghost use Rattle.host_replay.specs.Export.{export_with};
 ghost use Rattle.host_replay.specs.declared.end.ReplayEnd.{ReplayEnd};
@@ -123,8 +123,8 @@ fn export<F: Shelf, S: Source, K: Sink>(
     input: &mut S,
     output: &mut K,
 ) -> ReplayEnd
-    ensures ends { RanExport (view_of said.now) (F.told shelf.old) (S.told input.old) (S.told input.new)
-        (K.told output.old) (K.told output.new) result }
+    ensures ends { RanExport (view_of said.now) (F.told shelf.old)
+        (told_of (S.told input.old) (S.told input.new) (K.told output.old) (K.told output.new)) result }
     ensures nothing_written { (result ≡ Served Done → ⊥) → (result ≡ Served WriteFault → ⊥) → output.new ≡ output.old }
     ensures same { F.told shelf.new ≡ F.told shelf.old }
     ensures read_cause { result ≡ Served ReadFault → Rose (S.faults input.old) (S.faults input.new) }
@@ -182,8 +182,8 @@ pub fn run_export<F: Shelf, S: Source, K: Sink, E: Sink>(
 
     // Else it is that of the command's end.
     ensures run { (result ≡ 2) ⊎ ((end : ReplayEnd) × (result ≡ status_of_replay end)
-        × Exports (words_texts words.now) (F.told shelf.old) (S.told input.old) (S.told input.new)
-        (K.told output.old) (K.told output.new) end
+        × Exports (words_texts words.now) (F.told shelf.old)
+        (told_of (S.told input.old) (S.told input.new) (K.told output.old) (K.told output.new)) end
         × TakesNote E.told E.faults notes.old notes.new (note_of (end_of_replay end))
         × OfCounts F.faults F.misses shelf.old shelf.new (HasShelfCause end)) }
 

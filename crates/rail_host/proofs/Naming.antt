@@ -1,5 +1,5 @@
 -- Words are for one command.
-use Rattle.std.proofs.Common.{◌≡◌, ◌∙◌, ◌*◌, ◌+◌, ℕ, List, [], ◌∷◌, Option, Some, None, refl, sym, ap}
+use Rattle.std.proofs.Common.{◌≡◌, ◌∙◌, ◌*◌, ◌+◌, ℕ, List, ◌∷◌, Option, Some, refl, sym, ap}
 use Rattle.std.specs.Prelude.{◌==◌, if◌then◌else◌, slice_get}
 use Rattle.host_words.specs.Commands.{IsFor, name_of}
 use Rattle.host_words.specs.Tiny.{IsNoTiny}

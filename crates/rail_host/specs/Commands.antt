@@ -14,7 +14,7 @@ use Rattle.host_catalogue.specs.Opening.{HasNoBooks}
 use Rattle.host_notes.specs.Ends.{note_of, status_of}
 use Rattle.host_replay.specs.Replay.{IsNoReplay}
 use Rattle.host_replay.specs.Export.{IsNoExport}
-use Rattle.host_drill.specs.Ends.{IsForDrill, IsNoDrill, Leaves, end_of_drill}
+use Rattle.host_drill.specs.Ends.{IsNoDrill, Leaves, end_of_drill}
 use Rattle.host_drill.specs.declared.drill.Cause.{Cause}
 use Rattle.host_serve.specs.Ends.{status_of_serve}
 use Rattle.host_serve.specs.Serve.{HasShelfCause, IsExporting, IsNoServe, IsOfRefusedText, IsOnlyLimited, IsServe}

@@ -4,6 +4,7 @@ use Rattle.rail_io.specs.Faults.{Rose}
 use Rattle.rail_io.specs.Told.{WritesWhere}
 use Rattle.host_catalogue.specs.Files.{Files}
 use Rattle.host_notes.specs.Noted.{TakesNote}
+use Rattle.host_replay.specs.Input.{Told, told_of}
 use Rattle.host_serve.specs.Telling.{Noting}
 
 -- a source or a sink, as it was handed in and as it is left
@@ -37,6 +38,10 @@ after s = s.told s.new
 -- the files of a shelf, where it tells them
 abbrev pub files_of : {D : Type 0} → Shelf D → Files
 files_of s = s.told s.old
+
+-- what the input and the output tell, before and after
+abbrev pub streams_of : {F S K E : Type 0} → Devices F S K E → Told
+streams_of d = told_of (before d.input) (after d.input) (before d.output) (after d.output)
 
 -- it failed in this call; or it didn't
 abbrev pub HasFailed : {D : Type 0} → Stream D → Type 0

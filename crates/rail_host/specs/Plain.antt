@@ -23,7 +23,7 @@ use Rattle.host_replay.specs.Settle.{HasSettleCause, end_of_settle, status_of_se
 use Rattle.host_replay.specs.declared.settle_end.SettleEnd.{SettleEnd}
 use Rattle.rail_host.specs.Devices.{Devices, FailsAt, HasFailed, IsSteady, IsUntouched, OfShelf, Shelf, ShelfFailed}
 use Rattle.rail_host.specs.Devices.{Takes, Writes}
-use Rattle.rail_host.specs.Devices.{after, before, files_of}
+use Rattle.rail_host.specs.Devices.{after, before, files_of, streams_of}
 
 -- The words are refused, and nothing is touched but the notes.
 pub record EndsRefused {F S K E : Type 0} (status : ℕ) (d : Devices F S K E) : Type 0 where
@@ -78,11 +78,11 @@ pub record EndsReplay {F S K E : Type 0} (words : List (List ℕ)) (status : ℕ
   pub end : ReplayEnd
   pub is : status ≡ status_of_replay end
   pub note : Takes d.notes (note_of (end_of_replay end))
-  pub ran : Replays words (files_of d.shelf) (before d.input) (after d.input) (before d.output) (after d.output) end
+  pub ran : Replays words (files_of d.shelf) (streams_of d) end
   pub served : Writes (status ≡ 0) d (RepliesAll words (files_of d.shelf))
   pub cut : Writes (status ≡ 6) d (RepliesCut words (files_of d.shelf))
   pub read_fault : (stream front : List ℕ) → before d.input ≡ Some stream → before d.output ≡ Some front → status ≡ 3
-      → IsUnserved (before d.input) (after d.input) (before d.output) (after d.output)
+      → IsUnserved (streams_of d)
       ⊎ ((written : List ℕ) × (after d.output ≡ Some (front ++ written))
       × RepliesTaken words (files_of d.shelf) stream (after d.input) written)
   pub write_fault : Writes (status ≡ 4) d
@@ -100,7 +100,7 @@ pub record EndsExport {F S K E : Type 0} (words : List (List ℕ)) (status : ℕ
   pub end : ReplayEnd
   pub is : status ≡ status_of_replay end
   pub note : Takes d.notes (note_of (end_of_replay end))
-  pub ran : Exports words (files_of d.shelf) (before d.input) (after d.input) (before d.output) (after d.output) end
+  pub ran : Exports words (files_of d.shelf) (streams_of d) end
   pub exported : Writes (status ≡ 0) d (ExportsAll words (files_of d.shelf))
   pub write_fault : (stream start : List ℕ) → before d.input ≡ Some stream → before d.output ≡ Some start → status ≡ 4
       → (front back : List ℕ) × (after d.output ≡ Some (start ++ front))

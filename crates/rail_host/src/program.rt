@@ -5,6 +5,7 @@ ghost use Rattle.host_words.specs.Options.{words_texts};
 ghost use Rattle.host_serve.specs.Serve.{IsForServe, left_by};
 ghost use Rattle.host_serve.specs.Turns.{Asks};
 ghost use Rattle.rail_host.specs.Commands.{IsNoCommand, Ran};
+ghost use Rattle.rail_host.specs.Plain.{RanPlainly};
 
 use crate::devices::Devices;
 use crate::host::run_plain;
@@ -18,6 +19,42 @@ use std::alloc::Global;
 use std::sync::Wait;
 use std::thread::Threads;
 use std::time;
+
+/// Runs the plain command of the words, and hands back its status and the listener as it was.
+fn plain_end<F: Shelf, S: Source, K: Sink, E: Sink, L>(
+    alloc: Global,
+    words: &[String],
+    devices: &mut Devices<F, S, K, E>,
+    listener: L,
+) -> ServeEnd<L>
+    ensures ran { RanPlainly (words_texts words.now) result.status (record {
+      shelf = record {
+        told = F.told;
+        faults = F.faults;
+        misses = F.misses;
+        old = devices.old.shelf;
+        new = devices.new.shelf;
+      };
+      input = record { told = S.told; faults = S.faults; old = devices.old.input; new = devices.new.input };
+      output = record { told = K.told; faults = K.faults; old = devices.old.output; new = devices.new.output };
+      notes = record { told = E.told; faults = E.faults; old = devices.old.notes; new = devices.new.notes };
+    }) }
+    ensures listener { result.listener ≡ listener }
+    ensures wall { result.wall ≡ None }
+{
+    ServeEnd {
+        status: run_plain(
+            alloc,
+            words,
+            &mut devices.shelf,
+            &mut devices.input,
+            &mut devices.output,
+            &mut devices.notes,
+        ),
+        listener,
+        wall: None,
+    }
+}
 
 /// Runs the command that the first word names, and hands back its status and the listener: `drill`, `serve`, or one of
 /// the plain commands, to which all other words go. `serve` alone hears of the listener. It and `drill` alone have
@@ -71,32 +108,24 @@ where
     ensures nothing_heard { result.status ≡ 2 → result.listener ≡ listener }
 {
     match command_of(words) {
-        Some(CommandName::Serve) => serve_port(rt, alloc, words, devices, listener, ticker),
-        Some(CommandName::Drill) => {
-            let DrillEnd { status, wall } = run_drill(
-                rt,
-                alloc,
-                words,
-                &mut devices.output,
-                &mut devices.notes,
-            );
-            ServeEnd {
-                status,
-                listener,
-                wall,
+        Some(command) => match command {
+            CommandName::Serve => serve_port(rt, alloc, words, devices, listener, ticker),
+            CommandName::Drill => {
+                let DrillEnd { status, wall } = run_drill(
+                    rt,
+                    alloc,
+                    words,
+                    &mut devices.output,
+                    &mut devices.notes,
+                );
+                ServeEnd {
+                    status,
+                    listener,
+                    wall,
+                }
             }
-        }
-        _ => ServeEnd {
-            status: run_plain(
-                alloc,
-                words,
-                &mut devices.shelf,
-                &mut devices.input,
-                &mut devices.output,
-                &mut devices.notes,
-            ),
-            listener,
-            wall: None,
+            _ => plain_end(alloc, words, devices, listener),
         },
+        None => plain_end(alloc, words, devices, listener),
     }
 }

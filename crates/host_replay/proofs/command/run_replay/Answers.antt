@@ -3,6 +3,7 @@ use Rattle.std.specs.Prelude.{◌⊎◌}
 use Rattle.host_words.specs.Options.{words_texts}
 use Rattle.host_words.specs.Said.{view_of}
 use Rattle.host_notes.specs.Ends.{status_of}
+use Rattle.host_replay.specs.Input.{told_of}
 use Rattle.host_replay.specs.Input.{status_of_replay}
 use Rattle.host_replay.specs.Replay.{Replays}
 use Rattle.host_replay.proofs.Replaying.{done_replay, cut_replay, read_replay, write_replay, replay_without, replay_missed, replay_no_books}
@@ -11,8 +12,8 @@ use Rattle.host_replay.proofs.command.run_replay.Goals as goal
 use Rattle.host_replay.proofs.command.run_replay.Goals.{Joined-command_end}
 
 ran : (g : given.Over) (c : goal.Joined-command_end g)
-    → Replays (words_texts c.args.words.now) (g.F.Shelf.told c.args.shelf.now) (g.S.Source.told c.args.input.now) (g.S.Source.told c.replay-end.new.input)
-    (g.K.Sink.told c.args.output.now) (g.K.Sink.told c.replay-end.new.output) c.replay-end.result
+    → Replays (words_texts c.args.words.now) (g.F.Shelf.told c.args.shelf.now) (told_of (g.S.Source.told c.args.input.now) (g.S.Source.told c.replay-end.new.input)
+    (g.K.Sink.told c.args.output.now) (g.K.Sink.told c.replay-end.new.output)) c.replay-end.result
 ran g c = inr (view_of c.in-Ok.said, record { command = c.requires.command; is = c.in-Ok.ensures.ok }, c.replay-end.ensures.ends)
 
 status : (g : given.Over) (c : goal.Joined-command_end g) → c.end_command.result ≡ status_of_replay c.replay-end.result

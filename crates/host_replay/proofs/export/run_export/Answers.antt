@@ -4,6 +4,7 @@ use Rattle.rail_io.specs.Told.{with_end}
 use Rattle.host_words.specs.Options.{words_texts}
 use Rattle.host_words.specs.Said.{view_of}
 use Rattle.host_notes.specs.Ends.{status_of}
+use Rattle.host_replay.specs.Input.{told_of}
 use Rattle.host_replay.specs.Input.{status_of_replay}
 use Rattle.host_replay.specs.Export.{Exports}
 use Rattle.host_replay.proofs.Exporting.{whole, beginning, cutting, export_without, export_missed, export_no_books}
@@ -12,8 +13,8 @@ use Rattle.host_replay.proofs.export.run_export.Goals as goal
 use Rattle.host_replay.proofs.export.run_export.Goals.{Joined-command_end}
 
 ran : (g : given.Over) (c : goal.Joined-command_end g)
-    → Exports (words_texts c.args.words.now) (g.F.Shelf.told c.args.shelf.now) (g.S.Source.told c.args.input.now) (g.S.Source.told c.export-end.new.input)
-    (g.K.Sink.told c.args.output.now) (g.K.Sink.told c.export-end.new.output) c.export-end.result
+    → Exports (words_texts c.args.words.now) (g.F.Shelf.told c.args.shelf.now) (told_of (g.S.Source.told c.args.input.now) (g.S.Source.told c.export-end.new.input)
+    (g.K.Sink.told c.args.output.now) (g.K.Sink.told c.export-end.new.output)) c.export-end.result
 ran g c = inr (view_of c.in-Ok.said, record { command = c.requires.command; is = c.in-Ok.ensures.ok }, c.export-end.ensures.ends)
 
 status : (g : given.Over) (c : goal.Joined-command_end g) → c.end_command.result ≡ status_of_replay c.export-end.result

@@ -2,7 +2,8 @@ use Rattle.std.proofs.Common.{◌≡◌, ℕ, List, Ok, ap, subst, sym}
 use Rattle.std.specs.Prelude.{IfOk, Result}
 use Rattle.host_words.specs.Options.{words_texts}
 use Rattle.host_serve.specs.Serve.{Left}
-use Rattle.rail_host.specs.Commands.{Devices, EndsSo}
+use Rattle.rail_host.specs.Devices.{Devices}
+use Rattle.rail_host.specs.Commands.{Ran}
 use Rattle.rail_host.proofs.exit.run_host.Goals as goal
 
 -- what holds of the value holds where there is one
@@ -10,16 +11,16 @@ if_ok : {T E : Type 0} (P : T → Type 0) (r : Result T E) (x : T) → r ≡ Ok 
 if_ok {T} {E} P r x is p = subst (λ (s : Result T E). IfOk s P) (sym is) p
 
 -- the same words and the same status
-ends_as : (words said : List (List ℕ)) (left : Left) (status code : ℕ) (d : Devices) → words ≡ said → code ≡ status → EndsSo words left status d
-    → EndsSo said left code d
-ends_as words said left status code d same is ends =
-    subst (λ (w : List (List ℕ)). EndsSo w left code d) same (subst (λ (n : ℕ). EndsSo words left n d) (sym is) ends)
+ran_as : {F S K E : Type 0} (words said : List (List ℕ)) (left : Left) (status code : ℕ) (d : Devices F S K E) → words ≡ said → code ≡ status
+    → Ran words left status d → Ran said left code d
+ran_as words said left status code d same is ran =
+    subst (λ (w : List (List ℕ)). Ran w left code d) same (subst (λ (n : ℕ). Ran words left n d) (sym is) ran)
 
-pub returns-in-Ok-clause-ended : goal.returns-in-Ok-clause-ended
-returns-in-Ok-clause-ended g c =
+pub returns-in-Ok-clause-ran : goal.returns-in-Ok-clause-ran
+returns-in-Ok-clause-ran g c =
     let end = c.run_command-end in
     if_ok _ _ c.in-Ok.words c.in-Ok.is (
       end.result.listener,
       end.result.wall,
-      ends_as _ _ _ _ _ _ (ap words_texts c.deref.ensures.value) c.from.ensures end.ensures.ended,
+      ran_as _ _ _ _ _ _ (ap words_texts c.deref.ensures.value) c.from.ensures end.ensures.ran,
     )
