@@ -106,7 +106,8 @@ ServedSo said files t conn.Done =
 ServedSo said files t conn.WriteFault =
     (front back : List ℕ) × IsTextRun said files t.input t.left (front ++ back) × (t.sent ≡ with_end t.output front)
 ServedSo said files t e =
-    IsInputRun said files t.input t.left (λ cat desk taken. HasNoText cat desk said taken t.left e) × (t.sent ≡ t.output)
+    IsInputRun said files t.input t.left (λ cat desk taken. HasNoText cat desk said taken t.left e)
+    × (t.sent ≡ t.output)
 
 abbrev pub RanExport : ReplayView → Files → Told → ReplayEnd → Type 0
 RanExport said files t end.NoMemory = IsUntouched t

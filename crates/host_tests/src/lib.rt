@@ -1,5 +1,5 @@
-//! Tests of the rooms of the commands, by their public calls. What a run of the built program shows is tested by
-//! `tests/host` instead, and what `serve` does in memory by `serve_tests`. A room of its own, so that those rooms are
+//! Tests of the crates of the commands, by their public calls. What a run of the built program shows is tested by
+//! `tests/host` instead, and what `serve` does in memory by `serve_tests`. A crate of its own, so that those crates are
 //! proved once, without tests.
 //!
 //! - `crews`: members run at the same time (the first one's turn waits for the second's); each takes its turns up to
