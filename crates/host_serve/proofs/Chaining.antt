@@ -1,6 +1,6 @@
 -- Chains of turns.
 use Rattle.std.specs.Prelude.{not}
-use Rattle.std.proofs.Common.{◌≡◌, ◌∙◌, ◌+◌, ◌<◌, ◌≤◌, ℕ, zero, suc, Bool, true, false, ap, List, [], ◌∷◌, ◌++◌, Option, length, refl, sym, subst, arith}
+use Rattle.std.proofs.Common.{◌≡◌, ◌∙◌, ◌+◌, ◌<◌, ℕ, zero, suc, Bool, true, false, ap, List, [], ◌∷◌, ◌++◌, Option, length, refl, sym, subst, arith}
 use Rattle.std.proofs.lemmas.List.{length-append}
 use Rattle.claim_rule.specs.Rule.{DeskView}
 use Rattle.rail_catalogue.specs.Contents.{CatalogueView}

@@ -1,5 +1,5 @@
 -- When a listener hands out no more streams.
-use Rattle.std.specs.Prelude.{◌≡◌, ◌⊎◌, ◌≤◌, ℕ}
+use Rattle.std.specs.Prelude.{◌⊎◌, ◌≤◌, ℕ}
 use Rattle.rail_io.specs.Faults.{Rose}
 use Rattle.rail_service.specs.Listeners.{ListenerView, Reaches}
 

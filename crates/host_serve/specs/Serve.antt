@@ -1,5 +1,5 @@
 -- What `serve` promises.
-use Rattle.std.specs.Prelude.{◌≡◌, ◌<◌, ◌≤◌, ◌+◌, ℕ, true, false, List, [], Option, Some, None, IsSomeAnd}
+use Rattle.std.specs.Prelude.{◌≡◌, ◌<◌, ◌+◌, ℕ, true, false, List, [], Option, Some, None, IsSomeAnd}
 use Rattle.rail_io.specs.Faults.{Rose}
 use mathlib.Core.List.{IsPrefix}
 use Rattle.history_model.specs.Booking.{Layout}

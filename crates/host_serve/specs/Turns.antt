@@ -1,5 +1,5 @@
 -- What the turns of members do.
-use Rattle.std.specs.Prelude.{◌≡◌, ◌<◌, ◌≤◌, ◌+◌, ◌-◌, ℕ, zero, suc, Bool, true, false, not, ◌⊎◌, List, [], ◌∷◌, Option, None, length, slice_index_or}
+use Rattle.std.specs.Prelude.{◌≡◌, ◌<◌, ◌+◌, ◌-◌, ℕ, zero, suc, Bool, true, false, not, ◌⊎◌, List, [], ◌∷◌, Option, None, length, slice_index_or}
 use Rattle.session_loop.specs.declared.end.ConnEnd.{ConnEnd}
 use Rattle.claim_rule.specs.Rule.{BooksView, DeskView}
 use Rattle.claim_rule.specs.Calls.{AddsStepsBy}

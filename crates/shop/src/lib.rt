@@ -6,6 +6,7 @@
 //! place. It names no head, no wire and no session; `rail_service` writes the head after the decision, since that
 //! takes no memory.
 #![tactic(auto)]
+
 ghost use Rattle.std.specs.Prelude.{◌≡◌};
 ghost use Rattle.rail_catalogue.specs.Contents.{legs_in};
 
