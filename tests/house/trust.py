@@ -288,11 +288,11 @@ def changes(old, new):
 def main():
     words = argparse.ArgumentParser(description=__doc__, formatter_class=argparse.RawDescriptionHelpFormatter)
     words.add_argument("--write", action="store_true", help="make the page anew")
-    words.add_argument("--sentence", metavar="N", help="print what this sentence of README rests on")
+    words.add_argument("--sentence", type=int, metavar="N", help="print what this sentence of README rests on")
     given = words.parse_args()
     try:
         page = Page()
-        if given.sentence:
+        if given.sentence is not None:
             print("%s:\n%s" % (page.show_size(given.sentence), page.show_reading(given.sentence)))
             return 0
         text = page.fill(TEMPLATE.read_text())
