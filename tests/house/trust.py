@@ -102,6 +102,12 @@ class Page:
     def show_size(self, sentence):
         return self.show_rests(clauses_of(sentence))
 
+    def show_compared(self, words):
+        """How much of what one sentence rests on another one needs too, and how much more."""
+        one, other = (self.clauses(clauses_of(sentence)) for sentence in words.split())
+        return "%d of these %d definitions (not the other %d), and %d more" % (
+            len(one & other), len(other), len(other - one), len(one - other))
+
     def show_further(self, words):
         """What one sentence rests on, and another doesn't."""
         one, other = words.split()
