@@ -2,7 +2,7 @@
 use Rattle.std.specs.Prelude.{◌≡◌, ◌<◌, ◌+◌, ◌-◌, ℕ, zero, suc, Bool, true, false, not, ◌⊎◌, List, [], ◌∷◌, Option, None, length, slice_index_or}
 use Rattle.session_loop.specs.declared.end.ConnEnd.{ConnEnd}
 use Rattle.claim_rule.specs.Rule.{BooksView, DeskView}
-use Rattle.claim_rule.specs.Calls.{AddsStepsBy}
+use Rattle.claim_rule.specs.Calls.{ShapeBy}
 use Rattle.rail_catalogue.specs.Contents.{CatalogueView, legs_in}
 use Rattle.expiry_sweeper.specs.AllRows.{Sweeps}
 use Rattle.booking_rows.specs.declared.swept.Swept.{Swept}
@@ -32,8 +32,7 @@ TickingBy T = T → ℕ → Bool → T → Type 0
 -- from the first ticker to the last it was asked so often, each time after so many seconds, and each time it ticked
 abbrev pub Ticks : {T : Type 0} → TickingBy T → ℕ → ℕ → T → T → Type 0
 Ticks ticked seconds zero first last = last ≡ first
-Ticks {T} ticked seconds (suc n) first last =
-    (mid : T) × Ticks ticked seconds n first mid × ticked mid seconds true last
+Ticks {T} ticked seconds (suc n) first last = (mid : T) × Ticks ticked seconds n first mid × ticked mid seconds true last
 
 -- it ticked so often, and was then asked once more
 abbrev pub Asks : {T : Type 0} → TickingBy T → T → ℕ → ℕ → Type 0
@@ -42,8 +41,7 @@ Asks {T} ticked first seconds n =
 
 -- A ticker was asked once, and this is what was made of its answer: a tick only where it ticked, and none only where it
 -- didn't, or where the other thing was shown.
-pub record TicksUntil {T : Type 0} (ticked : TickingBy T) (Over : Type 0) (old : T) (seconds : ℕ) (answer : Bool)
-    (new : T)
+pub record TicksUntil {T : Type 0} (ticked : TickingBy T) (Over : Type 0) (old : T) (seconds : ℕ) (answer : Bool) (new : T)
     : Type 0 where
   pub told : Bool
   pub asked : ticked old seconds told new
@@ -55,13 +53,24 @@ pub record HasCatalogue (books : BooksView) (cat : CatalogueView) : Type 0 where
   pub legs : books.layout.legs ≡ legs_in cat
   pub rows : books.layout.rows ≡ cat.rows
 
+-- a desk, beside the readings to come of the clock that it is worked by
+pub record Stand : Type 0 where
+  pub desk : DeskView
+  pub clock : Readings
+
+-- what a stream's source and its sink told as it was handed out, and what they told at its end
+pub record Passed : Type 0 where
+  pub stream : Option (List ℕ)
+  pub sent : Option (List ℕ)
+  pub left : Option (List ℕ)
+  pub after : Option (List ℕ)
+
 -- This stream's connection was served to its end, by the desk's own entries: from what its source and its sink told to
 -- what they tell then, by the bytes that were taken of it and the bytes that answer them, and not one more.
-abbrev pub ServesStream : CatalogueView → Option (List ℕ) → Option (List ℕ) → Option (List ℕ) → Option (List ℕ)
-    → Readings → DeskView → Readings → DeskView
-    → Type 0
-ServesStream cat stream sent left after clock old later new =
-    (end : ConnEnd) × ServesWhole cat (connection_at old clock stream sent) (connection_at new later left after) end
+abbrev pub ServesStream : CatalogueView → Passed → Stand → Stand → Type 0
+ServesStream cat p old new =
+    (end : ConnEnd)
+    × ServesWhole cat (connection_at old.desk old.clock p.stream p.sent) (connection_at new.desk new.clock p.left p.after) end
 
 -- after some calls of this listener, an accept of it handed out the stream
 abbrev pub HandedBy : {L : Type 0} → (L → L → Type 0) → HandingBy L → L → Handing
@@ -72,46 +81,37 @@ HandedBy becomes hands listener = IsGiven (HandsOn becomes hands listener)
 abbrev pub LettingGo : Type 0 → Type 1
 LettingGo S = S → Option (List ℕ) → Option (List ℕ) → S → Type 0
 
--- what holds of a stream that is served: of what its source and its sink told as it was handed out, and of what they
--- told at its end
+-- what holds of a stream that is served
 abbrev pub Passing : Type 1
-Passing = Option (List ℕ) → Option (List ℕ) → Option (List ℕ) → Option (List ℕ) → Type 0
+Passing = Passed → Type 0
 
--- it was handed out so, whatever they told at its end
+-- it was handed out so, whatever its source and its sink told at its end
 abbrev pub HandedOut : Handing → Passing
-HandedOut hands stream sent left after = hands stream sent
+HandedOut hands p = hands p.stream p.sent
 
 -- from these streams to those, one call handed it out, and the next one let it go as it was at its end
 abbrev pub Passes : {S : Type 0} → HandingBy S → LettingGo S → S → S → Passing
-Passes {S} hands lets_go old new stream sent left after =
-    (mid : S) × hands old stream sent mid × lets_go mid left after new
+Passes {S} hands lets_go old new p = (mid : S) × hands old p.stream p.sent mid × lets_go mid p.left p.after new
 
 -- it was handed out so, and let go so as it was at its end
 abbrev pub HandedAndClosed : Handing → Handing → Passing
-HandedAndClosed hands closes stream sent left after = hands stream sent × closes left after
+HandedAndClosed hands closes p = hands p.stream p.sent × closes p.left p.after
 
 -- one stream was served, of which this holds
-abbrev pub ServesOne : Passing → CatalogueView → Readings → DeskView → Readings → DeskView → Type 0
-ServesOne passes cat clock old later new =
-    (stream : Option (List ℕ)) × (sent : Option (List ℕ)) × (left : Option (List ℕ)) × (after : Option (List ℕ))
-    × passes stream sent left after × ServesStream cat stream sent left after clock old later new
+abbrev pub ServesOne : Passing → CatalogueView → Stand → Stand → Type 0
+ServesOne passes cat old new = (p : Passed) × passes p × ServesStream cat p old new
 
 -- All rows were swept once, at the clock's next reading.
-pub record SweepsOnce (clock : Readings) (old : DeskView) (later : Readings) (new : DeskView) : Type 0 where
+pub record SweepsOnce (old new : Stand) : Type 0 where
   pub moment : ℕ
-  pub reading : IsReading clock moment later
+  pub reading : IsReading old.clock moment new.clock
   pub swept : Swept
-  pub entries : AddsStepsBy (Sweeps old.layout.rows moment swept) old new
+  pub entries : ShapeBy (Sweeps old.desk.layout.rows moment swept) old.desk new.desk
 
 -- nothing was done
-pub record Rests (clock : Readings) (old : DeskView) (later : Readings) (new : DeskView) : Type 0 where
-  pub same : new ≡ old
-  pub unread : later ≡ clock
-
--- a desk, beside the readings to come of the clock that it is worked by
-pub record Stand : Type 0 where
-  pub desk : DeskView
-  pub clock : Readings
+pub record Rests (old new : Stand) : Type 0 where
+  pub same : new.desk ≡ old.desk
+  pub unread : new.clock ≡ old.clock
 
 -- what a turn does, from one stand to the next
 abbrev pub OneTurn : Type 1
@@ -119,13 +119,13 @@ OneTurn = Stand → Stand → Type 0
 
 -- one connection of the catalogue, by a stream of which this holds, or by one handed out so; one sweep
 abbrev pub ConnectionBy : Passing → CatalogueView → OneTurn
-ConnectionBy passes cat old new = ServesOne passes cat old.clock old.desk new.clock new.desk
+ConnectionBy passes cat = ServesOne passes cat
 
 abbrev pub Connection : Handing → CatalogueView → OneTurn
 Connection hands cat = ConnectionBy (HandedOut hands) cat
 
 abbrev pub Sweep : OneTurn
-Sweep old new = SweepsOnce old.clock old.desk new.clock new.desk
+Sweep = SweepsOnce
 
 -- each turn leads from one stand to the next of these, and the last to the end
 abbrev pub Leads : OneTurn → Stand → List Stand → Stand → Type 0
@@ -139,9 +139,9 @@ pub record Chain (Does : OneTurn) (n : ℕ) (old new : Stand) : Type 0 where
   pub leads : Leads Does old stands new
 
 -- a serving member's turn: one connection, by a stream of which this holds, or nothing, where it has then ended
-abbrev pub ServesTurn : Passing → CatalogueView → Readings → DeskView → Readings → DeskView → Bool → Type 0
-ServesTurn passes cat clock old later new true = Rests clock old later new
-ServesTurn passes cat clock old later new false = ServesOne passes cat clock old later new
+abbrev pub ServesTurn : Passing → CatalogueView → Stand → Stand → Bool → Type 0
+ServesTurn passes cat old new true = Rests old new
+ServesTurn passes cat old new false = ServesOne passes cat old new
 
 -- a stream more was handed out, but where the member has ended
 abbrev pub Counts : Bool → ℕ → ℕ → Type 0
@@ -149,9 +149,9 @@ Counts true old new = new ≡ old
 Counts false old new = new ≡ old + 1
 
 -- a sweeping member's turn: one sweep, or nothing, where it has then ended
-abbrev pub SweepsTurn : Readings → DeskView → Readings → DeskView → Bool → Type 0
-SweepsTurn clock old later new true = Rests clock old later new
-SweepsTurn clock old later new false = SweepsOnce clock old later new
+abbrev pub SweepsTurn : Stand → Stand → Bool → Type 0
+SweepsTurn old new true = Rests old new
+SweepsTurn old new false = SweepsOnce old new
 
 -- what the devices of members show: the readings of a clock to come, how many streams were handed out, and by which calls,
 -- how streams are let go, and how a ticker ticks
@@ -195,12 +195,11 @@ module _ {S T C : Type 0} where
   abbrev pub DoesTurn : Means S T C → Post S T C → DeskView → Post S T C → DeskView → Type 0
   DoesTurn m (Serving w) old (Serving v) new =
       (v.common.cat.now ≡ w.common.cat.now) × Counts v.ended (m.handed w.streams) (m.handed v.streams)
-      × ServesTurn (Passes m.hands m.lets_go w.streams v.streams) w.common.cat.now (m.told w.clock) old
-      (m.told v.clock) new
-      v.ended
+      × ServesTurn (Passes m.hands m.lets_go w.streams v.streams) w.common.cat.now
+      (record { desk = old; clock = m.told w.clock }) (record { desk = new; clock = m.told v.clock }) v.ended
   DoesTurn m (Sweeping w) old (Sweeping v) new =
       (v.seconds ≡ w.seconds) × m.ticked w.ticker w.seconds (not v.ended) v.ticker
-      × SweepsTurn (m.told w.clock) old (m.told v.clock) new v.ended
+      × SweepsTurn (record { desk = old; clock = m.told w.clock }) (record { desk = new; clock = m.told v.clock }) v.ended
   DoesTurn m (Serving w) old (Sweeping v) new = ⊥
   DoesTurn m (Sweeping w) old (Serving v) new = ⊥
 
@@ -209,8 +208,7 @@ module _ {S T C : Type 0} where
   abbrev pub HasChain : Means S T C → Handing → Post S T C → DeskView → Post S T C → DeskView → Type 0
   HasChain m hands (Serving w) old (Serving v) new =
       (v.common.cat.now ≡ w.common.cat.now) × (served : ℕ) × (m.handed v.streams ≡ m.handed w.streams + served)
-      × Chain (Connection hands w.common.cat.now) served (stand_of m.told (Serving w) old)
-      (stand_of m.told (Serving v) new)
+      × Chain (Connection hands w.common.cat.now) served (stand_of m.told (Serving w) old) (stand_of m.told (Serving v) new)
   HasChain m hands (Sweeping w) old (Sweeping v) new =
       (v.seconds ≡ w.seconds) × (sweeps : ℕ) × (before : T) × Ticks m.ticked w.seconds sweeps w.ticker before
       × m.ticked before w.seconds false v.ticker
