@@ -2,7 +2,7 @@
 use Rattle.std.specs.Prelude.{◌≡◌, ◌<◌, ◌+◌, ◌-◌, ℕ, zero, suc, Bool, true, false, not, ◌⊎◌, List, [], ◌∷◌, Option, None, length, slice_index_or}
 use Rattle.session_loop.specs.declared.end.ConnEnd.{ConnEnd}
 use Rattle.claim_rule.specs.Rule.{BooksView, DeskView}
-use Rattle.claim_rule.specs.Calls.{ShapeBy}
+use Rattle.claim_rule.specs.Calls.{AddsStepsBy}
 use Rattle.rail_catalogue.specs.Contents.{CatalogueView, legs_in}
 use Rattle.expiry_sweeper.specs.AllRows.{Sweeps}
 use Rattle.booking_rows.specs.declared.swept.Swept.{Swept}
@@ -16,10 +16,6 @@ use Rattle.host_serve.specs.declared.member.Post.TheVariants.{Serving, Sweeping}
 abbrev pub Readings : Type 0
 Readings = Option (ℕ → ℕ)
 
--- how many clocks serving takes: for 16 members that serve, and for the one that sweeps
-abbrev pub clock_count : ℕ
-clock_count = 17
-
 -- of what the clocks told, the clock of the member at this place, from 0: the first member has the last one
 abbrev pub clock_for : List Readings → ℕ → Readings
 clock_for clocks i = slice_index_or clocks (length clocks - (i + 1)) None
@@ -32,7 +28,8 @@ TickingBy T = T → ℕ → Bool → T → Type 0
 -- from the first ticker to the last it was asked so often, each time after so many seconds, and each time it ticked
 abbrev pub Ticks : {T : Type 0} → TickingBy T → ℕ → ℕ → T → T → Type 0
 Ticks ticked seconds zero first last = last ≡ first
-Ticks {T} ticked seconds (suc n) first last = (mid : T) × Ticks ticked seconds n first mid × ticked mid seconds true last
+Ticks {T} ticked seconds (suc n) first last =
+    (mid : T) × Ticks ticked seconds n first mid × ticked mid seconds true last
 
 -- it ticked so often, and was then asked once more
 abbrev pub Asks : {T : Type 0} → TickingBy T → T → ℕ → ℕ → Type 0
@@ -41,7 +38,8 @@ Asks {T} ticked first seconds n =
 
 -- A ticker was asked once, and this is what was made of its answer: a tick only where it ticked, and none only where it
 -- didn't, or where the other thing was shown.
-pub record TicksUntil {T : Type 0} (ticked : TickingBy T) (Over : Type 0) (old : T) (seconds : ℕ) (answer : Bool) (new : T)
+pub record TicksUntil {T : Type 0} (ticked : TickingBy T) (Over : Type 0) (old : T) (seconds : ℕ) (answer : Bool)
+    (new : T)
     : Type 0 where
   pub told : Bool
   pub asked : ticked old seconds told new
@@ -70,7 +68,8 @@ pub record Passed : Type 0 where
 abbrev pub ServesStream : CatalogueView → Passed → Stand → Stand → Type 0
 ServesStream cat p old new =
     (end : ConnEnd)
-    × ServesWhole cat (connection_at old.desk old.clock p.stream p.sent) (connection_at new.desk new.clock p.left p.after) end
+    × ServesWhole cat (connection_at old.desk old.clock p.stream p.sent)
+    (connection_at new.desk new.clock p.left p.after) end
 
 -- after some calls of this listener, an accept of it handed out the stream
 abbrev pub HandedBy : {L : Type 0} → (L → L → Type 0) → HandingBy L → L → Handing
@@ -106,7 +105,7 @@ pub record SweepsOnce (old new : Stand) : Type 0 where
   pub moment : ℕ
   pub reading : IsReading old.clock moment new.clock
   pub swept : Swept
-  pub entries : ShapeBy (Sweeps old.desk.layout.rows moment swept) old.desk new.desk
+  pub entries : AddsStepsBy (Sweeps old.desk.layout.rows moment swept) old.desk new.desk
 
 -- nothing was done
 pub record Rests (old new : Stand) : Type 0 where
@@ -153,8 +152,8 @@ abbrev pub SweepsTurn : Stand → Stand → Bool → Type 0
 SweepsTurn old new true = Rests old new
 SweepsTurn old new false = SweepsOnce old new
 
--- what the devices of members show: the readings of a clock to come, how many streams were handed out, and by which calls,
--- how streams are let go, and how a ticker ticks
+-- what the devices of members show: the readings of a clock to come, how many streams were handed out, and by which
+-- calls, how streams are let go, and how a ticker ticks
 pub record Means (S T C : Type 0) : Type 1 where
   pub told : C → Readings
   pub handed : S → ℕ
@@ -199,7 +198,8 @@ module _ {S T C : Type 0} where
       (record { desk = old; clock = m.told w.clock }) (record { desk = new; clock = m.told v.clock }) v.ended
   DoesTurn m (Sweeping w) old (Sweeping v) new =
       (v.seconds ≡ w.seconds) × m.ticked w.ticker w.seconds (not v.ended) v.ticker
-      × SweepsTurn (record { desk = old; clock = m.told w.clock }) (record { desk = new; clock = m.told v.clock }) v.ended
+      × SweepsTurn (record { desk = old; clock = m.told w.clock })
+      (record { desk = new; clock = m.told v.clock }) v.ended
   DoesTurn m (Serving w) old (Sweeping v) new = ⊥
   DoesTurn m (Sweeping w) old (Serving v) new = ⊥
 
@@ -208,7 +208,8 @@ module _ {S T C : Type 0} where
   abbrev pub HasChain : Means S T C → Handing → Post S T C → DeskView → Post S T C → DeskView → Type 0
   HasChain m hands (Serving w) old (Serving v) new =
       (v.common.cat.now ≡ w.common.cat.now) × (served : ℕ) × (m.handed v.streams ≡ m.handed w.streams + served)
-      × Chain (Connection hands w.common.cat.now) served (stand_of m.told (Serving w) old) (stand_of m.told (Serving v) new)
+      × Chain (Connection hands w.common.cat.now) served (stand_of m.told (Serving w) old)
+      (stand_of m.told (Serving v) new)
   HasChain m hands (Sweeping w) old (Sweeping v) new =
       (v.seconds ≡ w.seconds) × (sweeps : ℕ) × (before : T) × Ticks m.ticked w.seconds sweeps w.ticker before
       × m.ticked before w.seconds false v.ticker
