@@ -66,8 +66,8 @@ pub record IsInputOf (name : CommandName) (words : List (List ℕ)) (files : Fil
   pub words_are : IsAsked name words said
   pub books : HasBooks files said.catalogue said.from cat kept
 
--- what the input and the output tell: the bytes to come before the call and what is left of them after it, and the bytes
--- written before it and after it
+-- what the input and the output tell: the bytes to come before the call and what is left of them after it, and the
+-- bytes written before it and after it
 pub record Told : Type 0 where
   pub input : Option (List ℕ)
   pub left : Option (List ℕ)

@@ -7,7 +7,7 @@ use Rattle.rail_catalogue.specs.Contents.{CatalogueView}
 use Rattle.rail_service.specs.Listeners.{Handing}
 use Rattle.worker_pool.specs.Turns.{GoesOn, RunsToEnd}
 use Rattle.host_words.specs.declared.serve.Serving.{Serving as Numbers}
-use Rattle.host_serve.specs.Turns.{Readings, ServesOne, ServesTurn, SweepsTurn, Stand, OneTurn, Connection, Sweep, Leads, Chain, Asks, Counts, Ticks, TickingBy, TicksUntil, SweepsOnce, Rests, HasEnded, DoesTurn, HasChain, HandedOut, IsPosted, Means, Passes, Passing, handed_of, part_of, stand_of}
+use Rattle.host_serve.specs.Turns.{Readings, ServesOne, ServesTurn, SweepsTurn, Stand, OneTurn, Connection, Sweep, Leads, Chain, Asks, Counts, Ticks, TickingBy, TicksUntil, SweepsOnce, Rests, HasEnded, DoesTurn, HasChain, HandedOut, IsPosted, Means, Passed, Passes, Passing, handed_of, part_of, stand_of}
 use Rattle.host_serve.specs.declared.member.Post.{Post}
 use Rattle.host_serve.specs.declared.member.Post.TheVariants.{Serving, Sweeping}
 
@@ -16,12 +16,10 @@ pub no_turn : (Does : OneTurn) (at : Stand) → Chain Does 0 at at
 no_turn Does at = record { stands = []; count = refl; leads = refl }
 
 -- nothing was done
-pub rests : (Does : OneTurn) (clock : Readings) (old : DeskView) (later : Readings) (new : DeskView) → new ≡ old → later ≡ clock
-    → Chain Does 0 (record { desk = old; clock = clock }) (record { desk = new; clock = later })
-rests Does clock old later new same unread =
-    subst (λ (d : DeskView). Chain Does 0 (record { desk = old; clock = clock }) (record { desk = d; clock = later })) (sym same)
-    (subst (λ (r : Readings). Chain Does 0 (record { desk = old; clock = clock }) (record { desk = old; clock = r })) (sym unread)
-    (no_turn Does (record { desk = old; clock = clock })))
+pub rests : (Does : OneTurn) (old new : Stand) → Rests old new → Chain Does 0 old new
+rests Does old new did =
+    subst (λ (d : DeskView). Chain Does 0 old (record { desk = d; clock = new.clock })) (sym did.same)
+    (subst (λ (r : Readings). Chain Does 0 old (record { desk = old.desk; clock = r })) (sym did.unread) (no_turn Does old))
 
 -- one turn
 pub one : (Does : OneTurn) (a b : Stand) → Does a b → Chain Does 1 a b
@@ -42,37 +40,31 @@ chain_on Does k n a b c p q =
     }
 
 -- what holds of each stream that was served, in other words
-module _ (here there : Passing) (goes : (stream sent left after : Option (List ℕ)) → here stream sent left after → there stream sent left after) (cat : CatalogueView) where
-  pub one_so : (clock : Readings) (old : DeskView) (later : Readings) (new : DeskView) → ServesOne here cat clock old later new → ServesOne there cat clock old later new
-  one_so clock old later new did = (did.0, did.1, did.2, did.3, goes did.0 did.1 did.2 did.3 did.4, did.5)
+module _ (here there : Passing) (goes : (p : Passed) → here p → there p) (cat : CatalogueView) where
+  pub one_so : (old new : Stand) → ServesOne here cat old new → ServesOne there cat old new
+  one_so old new did = (did.0, goes did.0 did.1, did.2)
 
-  turn_so : (clock : Readings) (old : DeskView) (later : Readings) (new : DeskView) (ended : Bool) → ServesTurn here cat clock old later new ended
-      → ServesTurn there cat clock old later new ended
-  turn_so clock old later new true did = did
-  turn_so clock old later new false did = one_so clock old later new did
+  turn_so : (old new : Stand) (ended : Bool) → ServesTurn here cat old new ended → ServesTurn there cat old new ended
+  turn_so old new true did = did
+  turn_so old new false did = one_so old new did
 
 -- a turn is a chain
-serves : (hands : Handing) (cat : CatalogueView) (clock : Readings) (old : DeskView) (later : Readings) (new : DeskView) (ended : Bool) → ServesTurn (HandedOut hands) cat clock old later new ended
-    → (before after : ℕ) → Counts ended before after
-    → (n : ℕ) × (after ≡ before + n) × Chain (Connection hands cat) n (record { desk = old; clock = clock }) (record { desk = new; clock = later })
-serves hands cat clock old later new true did before after counts =
-    (0, (let same = counts in omega (arith, same)), rests (Connection hands cat) clock old later new did.same did.unread)
-serves hands cat clock old later new false did before after counts =
-    (1, counts, one (Connection hands cat) (record { desk = old; clock = clock }) (record { desk = new; clock = later }) did)
+serves : (hands : Handing) (cat : CatalogueView) (old new : Stand) (ended : Bool) → ServesTurn (HandedOut hands) cat old new ended
+    → (before after : ℕ) → Counts ended before after → (n : ℕ) × (after ≡ before + n) × Chain (Connection hands cat) n old new
+serves hands cat old new true did before after counts = (0, (let same = counts in omega (arith, same)), rests (Connection hands cat) old new did)
+serves hands cat old new false did before after counts = (1, counts, one (Connection hands cat) old new did)
 
 -- a turn that doesn't end the one who sweeps is a sweep at a tick
-swept : {T : Type 0} (ticked : TickingBy T) (seconds : ℕ) (first last : T) (clock : Readings) (old : DeskView) (later : Readings) (new : DeskView) (ended : Bool)
-    → (ended ≡ true → ⊥) → ticked first seconds (not ended) last → SweepsTurn clock old later new ended
-    → ticked first seconds true last × SweepsOnce clock old later new
-swept ticked seconds first last clock old later new true on tick did = absurd (on refl)
-swept ticked seconds first last clock old later new false on tick did = (tick, did)
+swept : {T : Type 0} (ticked : TickingBy T) (seconds : ℕ) (first last : T) (old new : Stand) (ended : Bool)
+    → (ended ≡ true → ⊥) → ticked first seconds (not ended) last → SweepsTurn old new ended → ticked first seconds true last × SweepsOnce old new
+swept ticked seconds first last old new true on tick did = absurd (on refl)
+swept ticked seconds first last old new false on tick did = (tick, did)
 
 -- one that ends it is none, where there was no tick
-stopped : {T : Type 0} (ticked : TickingBy T) (seconds : ℕ) (first last : T) (clock : Readings) (old : DeskView) (later : Readings) (new : DeskView) (ended : Bool)
-    → ended ≡ true → ticked first seconds (not ended) last → SweepsTurn clock old later new ended
-    → ticked first seconds false last × Rests clock old later new
-stopped ticked seconds first last clock old later new true is tick did = (tick, did)
-stopped ticked seconds first last clock old later new false is tick did = absurd (let f = is in cc)
+stopped : {T : Type 0} (ticked : TickingBy T) (seconds : ℕ) (first last : T) (old new : Stand) (ended : Bool)
+    → ended ≡ true → ticked first seconds (not ended) last → SweepsTurn old new ended → ticked first seconds false last × Rests old new
+stopped ticked seconds first last old new true is tick did = (tick, did)
+stopped ticked seconds first last old new false is tick did = absurd (let f = is in cc)
 
 -- what was asked of a ticker that ends as well where something is shown
 module _ {T U : Type 0} (ticked : TickingBy T) (Over : Type 0) (of : U → T) where
@@ -134,15 +126,17 @@ module _ {S T C : Type 0} (m : Means S T C) (hands : Handing) where
     serving : (w : _) (d : DeskView) (v : _) (e : DeskView) → DoesTurn m (Serving w) d (Serving v) e
         → HasChain m hands (Serving w) d (Serving v) e
     serving w d v e did =
-        let did_so = turn_so (Passes m.hands m.lets_go w.streams v.streams) (HandedOut hands) (λ stream sent left after passed. only w.streams stream sent passed.0 passed.1) w.common.cat.now
-        (m.told w.clock) d (m.told v.clock) e v.ended did.2 in
-        let turn = serves hands w.common.cat.now (m.told w.clock) d (m.told v.clock) e v.ended did_so (m.handed w.streams) (m.handed v.streams) did.1 in
+        let old : Stand = record { desk = d; clock = m.told w.clock } in
+        let new : Stand = record { desk = e; clock = m.told v.clock } in
+        let did_so = turn_so (Passes m.hands m.lets_go w.streams v.streams) (HandedOut hands) (λ p passed. only w.streams p.stream p.sent passed.0 passed.1) w.common.cat.now
+        old new v.ended did.2 in
+        let turn = serves hands w.common.cat.now old new v.ended did_so (m.handed w.streams) (m.handed v.streams) did.1 in
         (did.0, turn.0, turn.1, turn.2)
 
     goes : (w : Post S T C) (d : DeskView) (v : Post S T C) (e : DeskView) → DoesTurn m w d v e → (HasEnded v → ⊥) → HasGone w d v e
     goes (Serving w) d (Serving v) e did on = serving w d v e did
     goes (Sweeping w) d (Sweeping v) e did on =
-        let turn = swept m.ticked w.seconds w.ticker v.ticker (m.told w.clock) d (m.told v.clock) e v.ended on did.1 did.2 in
+        let turn = swept m.ticked w.seconds w.ticker v.ticker (record { desk = d; clock = m.told w.clock }) (record { desk = e; clock = m.told v.clock }) v.ended on did.1 did.2 in
         (did.0, 1, (w.ticker, refl, turn.0), one Sweep (record { desk = d; clock = m.told w.clock }) (record { desk = e; clock = m.told v.clock }) turn.1)
     goes (Serving w) d (Sweeping v) e did on = absurd did
     goes (Sweeping w) d (Serving v) e did on = absurd did
@@ -152,7 +146,7 @@ module _ {S T C : Type 0} (m : Means S T C) (hands : Handing) where
         → DoesTurn m b y c z → HasEnded c → HasChain m hands a x c z
     ends (Serving a) x (Serving b) y (Serving c) z p did ended = next (Serving a) x (Serving b) y (Serving c) z p (serving b y c z did)
     ends (Sweeping a) x (Sweeping b) y (Sweeping c) z p did ended =
-        let turn = stopped m.ticked b.seconds b.ticker c.ticker (m.told b.clock) y (m.told c.clock) z c.ended ended did.1 did.2 in
+        let turn = stopped m.ticked b.seconds b.ticker c.ticker (record { desk = y; clock = m.told b.clock }) (record { desk = z; clock = m.told c.clock }) c.ended ended did.1 did.2 in
         let began = stand_of {S = S} {T = T} {C = C} m.told (Sweeping a) x in (
           did.0 ∙ p.0,
           p.1,

@@ -8,16 +8,16 @@ use Rattle.claim_rule.specs.Walls.{WallView}
 use Rattle.rail_catalogue.specs.Contents.{CatalogueView}
 use Rattle.rail_service.specs.Listeners.{Handing, ListenerView}
 use Rattle.host_words.specs.declared.serve.Serving.{Serving}
-use Rattle.host_serve.specs.Turns.{Readings, Stand, Leads, Chain, Connection, ConnectionBy, HandedOut, Passing}
+use Rattle.host_serve.specs.Turns.{Readings, Stand, Leads, Chain, Connection, ConnectionBy, HandedOut, Passed, Passing}
 use Rattle.host_serve.specs.Serve.{AllWorked, BooksEnd, HasWorked, IsServedWall, Left}
 use Rattle.host_serve.specs.declared.end.BooksOutcome.{BooksOutcome}
 use Rattle.host_serve.specs.declared.end.BooksOutcome.TheVariants as books
 use Rattle.host_serve.proofs.Chaining.{one_so}
 
-module _ (here there : Passing) (goes : (stream sent left after : Option (List ℕ)) → here stream sent left after → there stream sent left after) (cat : CatalogueView) where
+module _ (here there : Passing) (goes : (p : Passed) → here p → there p) (cat : CatalogueView) where
   led : (old : Stand) (stands : List Stand) (new : Stand) → Leads (ConnectionBy here cat) old stands new → Leads (ConnectionBy there cat) old stands new
   led old [] new same = same
-  led old (next ∷ later) new step = (one_so here there goes cat old.clock old.desk next.clock next.desk step.0, led next later new step.1)
+  led old (next ∷ later) new step = (one_so here there goes cat old next step.0, led next later new step.1)
 
   pub chained : (n : ℕ) (old new : Stand) → Chain (ConnectionBy here cat) n old new → Chain (ConnectionBy there cat) n old new
   chained n old new c = record { stands = c.stands; count = c.count; leads = led old c.stands new c.leads }
@@ -36,7 +36,7 @@ module _ (here there : Handing) (goes : (stream sent : Option (List ℕ)) → he
     ended_of = w.ended_of;
     ended_number = w.ended_number;
     ended_front = w.ended_front;
-    turns = chained (HandedOut here) (HandedOut there) (λ stream sent left after given. goes stream sent given) cat count w.began w.ended w.turns;
+    turns = chained (HandedOut here) (HandedOut there) (λ p given. goes p.stream p.sent given) cat count w.began w.ended w.turns;
     entries = w.entries;
   }
 

@@ -92,8 +92,8 @@ left_by told faults becomes hands clocks asks first last wall = record {
 }
 
 -- In the history the desks 1 to the number of workers served connections, all together as many as the listener has
--- handed out, and the desk after them swept, each by its own of the clocks. It made as many sweeps as the ticker ticked,
--- each time after the words' seconds, and the ticker was then asked once more.
+-- handed out, and the desk after them swept, each by its own of the clocks. It made as many sweeps as the ticker
+-- ticked, each time after the words' seconds, and the ticker was then asked once more.
 pub record AllWorked (cat : CatalogueView) (books : BooksView) (said : Serving) (left : Left) (history : List Entry)
     : Type 0 where
   pub served : ℕ → ℕ
@@ -117,8 +117,8 @@ pub record IsWallOf (books : BooksView) (others : ℕ) (wall : WallView) : Type 
 
 -- The wall is that of the books at which the members served, and these have this layout. Its words are those of its
 -- history, which is legal, and it is free for an export. In the history the first desk only met others, and the
--- members' entries are those of all their turns at these books: the connections and the sweeps. No desk beyond these has
--- any.
+-- members' entries are those of all their turns at these books: the connections and the sweeps. No desk beyond these
+-- has any.
 pub record IsServedWall (cat : CatalogueView) (plan : Layout) (said : Serving) (left : Left)
     (wall : WallView) : Type 0 where
   pub books : BooksView

@@ -16,10 +16,6 @@ use Rattle.host_serve.specs.declared.member.Post.TheVariants.{Serving, Sweeping}
 abbrev pub Readings : Type 0
 Readings = Option (ℕ → ℕ)
 
--- how many clocks serving takes: for 16 members that serve, and for the one that sweeps
-abbrev pub clock_count : ℕ
-clock_count = 17
-
 -- of what the clocks told, the clock of the member at this place, from 0: the first member has the last one
 abbrev pub clock_for : List Readings → ℕ → Readings
 clock_for clocks i = slice_index_or clocks (length clocks - (i + 1)) None
@@ -55,13 +51,25 @@ pub record HasCatalogue (books : BooksView) (cat : CatalogueView) : Type 0 where
   pub legs : books.layout.legs ≡ legs_in cat
   pub rows : books.layout.rows ≡ cat.rows
 
+-- a desk, beside the readings to come of the clock that it is worked by
+pub record Stand : Type 0 where
+  pub desk : DeskView
+  pub clock : Readings
+
+-- what a stream's source and its sink told as it was handed out, and what they told at its end
+pub record Passed : Type 0 where
+  pub stream : Option (List ℕ)
+  pub sent : Option (List ℕ)
+  pub left : Option (List ℕ)
+  pub after : Option (List ℕ)
+
 -- This stream's connection was served to its end, by the desk's own entries: from what its source and its sink told to
 -- what they tell then, by the bytes that were taken of it and the bytes that answer them, and not one more.
-abbrev pub ServesStream : CatalogueView → Option (List ℕ) → Option (List ℕ) → Option (List ℕ) → Option (List ℕ)
-    → Readings → DeskView → Readings → DeskView
-    → Type 0
-ServesStream cat stream sent left after clock old later new =
-    (end : ConnEnd) × ServesWhole cat (connection_at old clock stream sent) (connection_at new later left after) end
+abbrev pub ServesStream : CatalogueView → Passed → Stand → Stand → Type 0
+ServesStream cat p old new =
+    (end : ConnEnd)
+    × ServesWhole cat (connection_at old.desk old.clock p.stream p.sent)
+    (connection_at new.desk new.clock p.left p.after) end
 
 -- after some calls of this listener, an accept of it handed out the stream
 abbrev pub HandedBy : {L : Type 0} → (L → L → Type 0) → HandingBy L → L → Handing
@@ -72,46 +80,37 @@ HandedBy becomes hands listener = IsGiven (HandsOn becomes hands listener)
 abbrev pub LettingGo : Type 0 → Type 1
 LettingGo S = S → Option (List ℕ) → Option (List ℕ) → S → Type 0
 
--- what holds of a stream that is served: of what its source and its sink told as it was handed out, and of what they
--- told at its end
+-- what holds of a stream that is served
 abbrev pub Passing : Type 1
-Passing = Option (List ℕ) → Option (List ℕ) → Option (List ℕ) → Option (List ℕ) → Type 0
+Passing = Passed → Type 0
 
--- it was handed out so, whatever they told at its end
+-- it was handed out so, whatever its source and its sink told at its end
 abbrev pub HandedOut : Handing → Passing
-HandedOut hands stream sent left after = hands stream sent
+HandedOut hands p = hands p.stream p.sent
 
 -- from these streams to those, one call handed it out, and the next one let it go as it was at its end
 abbrev pub Passes : {S : Type 0} → HandingBy S → LettingGo S → S → S → Passing
-Passes {S} hands lets_go old new stream sent left after =
-    (mid : S) × hands old stream sent mid × lets_go mid left after new
+Passes {S} hands lets_go old new p = (mid : S) × hands old p.stream p.sent mid × lets_go mid p.left p.after new
 
 -- it was handed out so, and let go so as it was at its end
 abbrev pub HandedAndClosed : Handing → Handing → Passing
-HandedAndClosed hands closes stream sent left after = hands stream sent × closes left after
+HandedAndClosed hands closes p = hands p.stream p.sent × closes p.left p.after
 
 -- one stream was served, of which this holds
-abbrev pub ServesOne : Passing → CatalogueView → Readings → DeskView → Readings → DeskView → Type 0
-ServesOne passes cat clock old later new =
-    (stream : Option (List ℕ)) × (sent : Option (List ℕ)) × (left : Option (List ℕ)) × (after : Option (List ℕ))
-    × passes stream sent left after × ServesStream cat stream sent left after clock old later new
+abbrev pub ServesOne : Passing → CatalogueView → Stand → Stand → Type 0
+ServesOne passes cat old new = (p : Passed) × passes p × ServesStream cat p old new
 
 -- All rows were swept once, at the clock's next reading.
-pub record SweepsOnce (clock : Readings) (old : DeskView) (later : Readings) (new : DeskView) : Type 0 where
+pub record SweepsOnce (old new : Stand) : Type 0 where
   pub moment : ℕ
-  pub reading : IsReading clock moment later
+  pub reading : IsReading old.clock moment new.clock
   pub swept : Swept
-  pub entries : AddsStepsBy (Sweeps old.layout.rows moment swept) old new
+  pub entries : AddsStepsBy (Sweeps old.desk.layout.rows moment swept) old.desk new.desk
 
 -- nothing was done
-pub record Rests (clock : Readings) (old : DeskView) (later : Readings) (new : DeskView) : Type 0 where
-  pub same : new ≡ old
-  pub unread : later ≡ clock
-
--- a desk, beside the readings to come of the clock that it is worked by
-pub record Stand : Type 0 where
-  pub desk : DeskView
-  pub clock : Readings
+pub record Rests (old new : Stand) : Type 0 where
+  pub same : new.desk ≡ old.desk
+  pub unread : new.clock ≡ old.clock
 
 -- what a turn does, from one stand to the next
 abbrev pub OneTurn : Type 1
@@ -119,13 +118,13 @@ OneTurn = Stand → Stand → Type 0
 
 -- one connection of the catalogue, by a stream of which this holds, or by one handed out so; one sweep
 abbrev pub ConnectionBy : Passing → CatalogueView → OneTurn
-ConnectionBy passes cat old new = ServesOne passes cat old.clock old.desk new.clock new.desk
+ConnectionBy passes cat = ServesOne passes cat
 
 abbrev pub Connection : Handing → CatalogueView → OneTurn
 Connection hands cat = ConnectionBy (HandedOut hands) cat
 
 abbrev pub Sweep : OneTurn
-Sweep old new = SweepsOnce old.clock old.desk new.clock new.desk
+Sweep = SweepsOnce
 
 -- each turn leads from one stand to the next of these, and the last to the end
 abbrev pub Leads : OneTurn → Stand → List Stand → Stand → Type 0
@@ -139,9 +138,9 @@ pub record Chain (Does : OneTurn) (n : ℕ) (old new : Stand) : Type 0 where
   pub leads : Leads Does old stands new
 
 -- a serving member's turn: one connection, by a stream of which this holds, or nothing, where it has then ended
-abbrev pub ServesTurn : Passing → CatalogueView → Readings → DeskView → Readings → DeskView → Bool → Type 0
-ServesTurn passes cat clock old later new true = Rests clock old later new
-ServesTurn passes cat clock old later new false = ServesOne passes cat clock old later new
+abbrev pub ServesTurn : Passing → CatalogueView → Stand → Stand → Bool → Type 0
+ServesTurn passes cat old new true = Rests old new
+ServesTurn passes cat old new false = ServesOne passes cat old new
 
 -- a stream more was handed out, but where the member has ended
 abbrev pub Counts : Bool → ℕ → ℕ → Type 0
@@ -149,12 +148,12 @@ Counts true old new = new ≡ old
 Counts false old new = new ≡ old + 1
 
 -- a sweeping member's turn: one sweep, or nothing, where it has then ended
-abbrev pub SweepsTurn : Readings → DeskView → Readings → DeskView → Bool → Type 0
-SweepsTurn clock old later new true = Rests clock old later new
-SweepsTurn clock old later new false = SweepsOnce clock old later new
+abbrev pub SweepsTurn : Stand → Stand → Bool → Type 0
+SweepsTurn old new true = Rests old new
+SweepsTurn old new false = SweepsOnce old new
 
--- what the devices of members show: the readings of a clock to come, how many streams were handed out, and by which calls,
--- how streams are let go, and how a ticker ticks
+-- what the devices of members show: the readings of a clock to come, how many streams were handed out, and by which
+-- calls, how streams are let go, and how a ticker ticks
 pub record Means (S T C : Type 0) : Type 1 where
   pub told : C → Readings
   pub handed : S → ℕ
@@ -195,12 +194,12 @@ module _ {S T C : Type 0} where
   abbrev pub DoesTurn : Means S T C → Post S T C → DeskView → Post S T C → DeskView → Type 0
   DoesTurn m (Serving w) old (Serving v) new =
       (v.common.cat.now ≡ w.common.cat.now) × Counts v.ended (m.handed w.streams) (m.handed v.streams)
-      × ServesTurn (Passes m.hands m.lets_go w.streams v.streams) w.common.cat.now (m.told w.clock) old
-      (m.told v.clock) new
-      v.ended
+      × ServesTurn (Passes m.hands m.lets_go w.streams v.streams) w.common.cat.now
+      (record { desk = old; clock = m.told w.clock }) (record { desk = new; clock = m.told v.clock }) v.ended
   DoesTurn m (Sweeping w) old (Sweeping v) new =
       (v.seconds ≡ w.seconds) × m.ticked w.ticker w.seconds (not v.ended) v.ticker
-      × SweepsTurn (m.told w.clock) old (m.told v.clock) new v.ended
+      × SweepsTurn (record { desk = old; clock = m.told w.clock })
+      (record { desk = new; clock = m.told v.clock }) v.ended
   DoesTurn m (Serving w) old (Sweeping v) new = ⊥
   DoesTurn m (Sweeping w) old (Serving v) new = ⊥
 

@@ -6,6 +6,7 @@ ghost use Rattle.claim_rule.specs.Openings.{KeptBooking, layout_with};
 ghost use Rattle.cold_store.specs.Exports.{text_on};
 ghost use Rattle.cold_store.specs.Tidy.{AreSucceeded};
 ghost use Rattle.rail_catalogue.specs.Contents.{legs_in};
+ghost use Rattle.host_words.specs.Limits.{clock_count};
 ghost use Rattle.host_words.specs.Options.{words_texts};
 ghost use Rattle.host_words.specs.Said.{said_in};
 ghost use Rattle.host_words.specs.Serve.{IsInRange, ServeView};
@@ -17,7 +18,7 @@ ghost use Rattle.host_serve.specs.Ends.{status_of_serve};
 ghost use Rattle.host_serve.specs.Serve.{Ends, HasShelfCause, IsExporting, IsNoServe, IsOfRefusedText, IsOnlyLimited, IsServe};
 ghost use Rattle.host_serve.specs.Serve.{IsWithoutBooks, Runs, left_by};
 ghost use Rattle.host_serve.specs.Telling.{IsBefore, IsTold, Tells};
-ghost use Rattle.host_serve.specs.Turns.{Asks, HasCatalogue, clock_count};
+ghost use Rattle.host_serve.specs.Turns.{Asks, HasCatalogue};
 ghost use Rattle.host_serve.specs.declared.end.ServeOutcome.{ServeOutcome};
 ghost use Rattle.host_serve.specs.declared.end.ServeOutcome.TheVariants as outcome;
 

@@ -35,8 +35,8 @@ impl<S: Streams, C: Clock> Server<'_, S, C> {
         ensures keeps { KeepsDesk desk.old desk.new }
         ensures cat { self.new.common.cat.now ≡ self.old.common.cat.now }
         ensures turn { ServesTurn (Passes S.hands S.lets_go self.old.streams self.new.streams)
-            self.old.common.cat.now (C.told self.old.clock) desk.old
-            (C.told self.new.clock) desk.new self.new.ended }
+            self.old.common.cat.now (record { desk = desk.old; clock = C.told self.old.clock })
+            (record { desk = desk.new; clock = C.told self.new.clock }) self.new.ended }
         ensures counts { Counts self.new.ended (S.handed self.old.streams) (S.handed self.new.streams) }
         ensures tells { self.new.ended ≡ true → S.tells self.new.streams }
         ensures end { (result ≡ End) ↔ (self.new.ended ≡ true) }

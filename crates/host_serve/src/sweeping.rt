@@ -30,7 +30,8 @@ impl<T: Ticker, C: Clock> Sweeper<T, C> {
         ensures own { IsOf books.now desk.new }
         ensures tidy { IsTidy desk.new }
         ensures keeps { KeepsDesk desk.old desk.new }
-        ensures turn { SweepsTurn (C.told self.old.clock) desk.old (C.told self.new.clock) desk.new self.new.ended }
+        ensures turn { SweepsTurn (record { desk = desk.old; clock = C.told self.old.clock })
+            (record { desk = desk.new; clock = C.told self.new.clock }) self.new.ended }
         ensures ticked { T.ticked self.old.ticker self.old.seconds (not self.new.ended) self.new.ticker }
         ensures interval { self.new.seconds ≡ self.old.seconds }
         ensures end { (result ≡ End) ↔ (self.new.ended ≡ true) }

@@ -8,16 +8,13 @@ ghost use Rattle.rail_host.specs.Commands.{EndsServe};
 
 use crate::devices::Devices;
 use host_notes::{CommandEnd, end_command};
-use host_serve::{ServeEnd, run_serve};
+use host_serve::{CLOCKS, ServeEnd, run_serve};
 use rail_io::{Shelf, Sink, Source, SystemClock, Ticker};
 use rail_service::Listener;
 use std::alloc::{AllocError, Global};
 use std::sync::Wait;
 use std::thread::Threads;
 use std::time;
-
-/// How many clocks serving takes: one for each of 16 members that serve, and one for the member that sweeps.
-const CLOCKS: u8 = 17;
 
 /// Clocks that read this one, as many as serving takes.
 fn system_clocks<C: time::Clock + Copy + Drop>(

@@ -9,5 +9,5 @@ returns-in-Open-clause-turns g c =
     let turns = c.drain_listener.ensures.turns in (
       turns.0,
       turns.1,
-      chained (HandedAndClosed (IsGiven g.N.Named.gives) _) (HandedOut (IsGiven g.N.Named.gives)) (λ stream sent left after so. so.0) c.args.common.cat.now _ _ _ turns.2,
+      chained (HandedAndClosed (IsGiven g.N.Named.gives) _) (HandedOut (IsGiven g.N.Named.gives)) (λ p so. so.0) c.args.common.cat.now _ _ _ turns.2,
     )

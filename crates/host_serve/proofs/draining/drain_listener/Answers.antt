@@ -27,7 +27,7 @@ loop-served-preserved g c =
       turns = (
         inv.turns.0 + 1,
         more,
-        chain_on Does inv.turns.0 1 old at new inv.turns.2 (one Does at new (_, _, _, _, (given, c.close.ensures), (_, did.served))),
+        chain_on Does inv.turns.0 1 old at new inv.turns.2 (one Does at new (record { stream = _; sent = _; left = _; after = _ }, (given, c.close.ensures), (_, did.served))),
       );
       gives = gives_on g.L.Listener.becomes g.L.Listener.hands g.N.Named.gives _ _ c.accept.ensures.becomes inv.gives;
       port = search (rules, arith);
