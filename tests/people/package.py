@@ -16,7 +16,7 @@ import subprocess
 import sys
 import tempfile
 
-from booted import PACKAGES, Booted
+from booted import PACKAGES, Booted, provide
 
 ROOT = pathlib.Path(__file__).resolve().parents[2]
 OLD, NEW = "0.1-1", "0.2-1"
@@ -44,11 +44,14 @@ unit=/lib/systemd/system/sumacgate.service sold=/etc/sumacgate/sold.json
 RESERVED = """{"class":"SECOND","from":"HARBOUR","run":0,"to":"DUNES"}"""
 COUNTS = """{"expired":0,"lost":0,"waiting":0}"""
 # What is done, and the output that has to come of it. README.Debian's own commands come after the first.
-INSTALLED = [("installed, neither enabled nor started", "apt install $old; state", "disabled\ninactive\n")]
+INSTALLED = [
+    ("nothing of an earlier run", "dpkg --purge sumacgate > /dev/null 2>&1", ""),
+    ("installed, neither enabled nor started", "apt install $old; state", "disabled\ninactive\n"),
+]
 STARTED = [
     ("enabled and started", "listens; state", "enabled\nactive\n"),
-    ("the unit is in order", "systemd-analyze verify $unit 2>&1 && echo yes", "yes\n"),
-    ("a user of its own", "ps -o user:20= -p $(pid)", "sumacgate\n"),
+    ("the unit is in order", "systemd-analyze verify --man=no $unit 2>&1 && echo yes", "yes\n"),
+    ("a user of its own", "[ $(stat -c %u /proc/$(pid)) -ge 61184 ] && echo yes", "yes\n"),
     ("its page", "ls /usr/share/man/man1/rail_host.1.gz", "/usr/share/man/man1/rail_host.1.gz\n"),
     ("a booking", "ask /reservations -d '%s' | grep -o 'B0*' | head -n 1; pid > /tmp/pid" % RESERVED, "B000000\n"),
     (
@@ -61,8 +64,8 @@ STARTED = [
     (
         "the tools",
         "cd /usr/lib/sumacgate; "
-        "for tool in client.py same-seats amend roll manifest; do ./$tool --help | head -c 5; done",
-        "usage" * 5,
+        "for tool in client.py movements.py same-seats amend roll manifest; do ./$tool --help | head -c 5; done",
+        "usage" * 6,
     ),
     (
         "an upgrade leaves the host alone",
@@ -112,11 +115,12 @@ def page_commands():
 
 
 def provided(root):
-    if not (root / "usr").is_dir():
-        words = ["debootstrap", "--variant=minbase", "--include=%s,python3" % PACKAGES, "bookworm", str(root)]
-        subprocess.run(words, check=True, stdout=subprocess.DEVNULL)
+    provide(root, PACKAGES + ",python3")
     for left in ("packages", "etc/sumacgate"):
         shutil.rmtree(root / left, ignore_errors=True)
+    # The unit that tests/people/booted.py puts beside those of packages.
+    for left in ("sumacgate.service", "multi-user.target.wants/sumacgate.service"):
+        (root / "etc/systemd/system" / left).unlink(missing_ok=True)
     (root / "packages").mkdir()
 
 
