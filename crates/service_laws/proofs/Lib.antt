@@ -1,0 +1,4 @@
+pub mod Standing
+pub mod Own
+pub mod SweepLemmas
+pub mod QuoteLemmas

@@ -1,0 +1,25 @@
+//! What holds from one call to another, as contracts of functions that do nothing.
+
+ghost use Rattle.service_laws.specs.Begun.{CallsBeginAtSeen};
+ghost use Rattle.service_laws.specs.Complete.{SweepsAreComplete};
+ghost use Rattle.service_laws.specs.Honoured.{RefundQuotesAreHonoured, ExchangeQuotesAreHonoured};
+
+/// Each booking that was prebooked with a limit before now when a sweep began is in another phase in what was seen when
+/// it ended. A call begins just before its first entry, or, as well, where its desk had seen no more.
+pub fn sweeps_are_complete()
+    ensures complete { SweepsAreComplete }
+    ensures begin { CallsBeginAtSeen }
+{}
+
+/// Where a refund was quoted, this retailer's acceptance that begins later, at most 900 seconds after it, refunds the
+/// amount of the quote; or the booking has left the phase that the quote names. The quote is never stale and never
+/// wrong.
+pub fn refund_quotes_are_honoured()
+    ensures honoured { RefundQuotesAreHonoured }
+{}
+
+/// Where an exchange was quoted, this retailer's check of the quote that begins later, at most 900 seconds after it,
+/// finds it right; or the booking has left the phase that the quote names. The quote is never stale and never wrong.
+pub fn exchange_quotes_are_honoured()
+    ensures honoured { ExchangeQuotesAreHonoured }
+{}
