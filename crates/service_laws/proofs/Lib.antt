@@ -2,3 +2,4 @@ pub mod Standing
 pub mod Own
 pub mod SweepLemmas
 pub mod QuoteLemmas
+pub mod Honouring

@@ -27,6 +27,7 @@ use Rattle.claim_rule.specs.Desks.{AddsSteps}
 use Rattle.claim_rule.proofs.Shapes.{shape_rest}
 use Rattle.booking_rows.specs.Aims.{LosesTurn}
 use Rattle.booking_rows.specs.Views.{RowSeen, HasWord, saw_end, saw_phase, saw_row, saw_words, words_read}
+use Rattle.booking_rows.proofs.ViewLemmas.{sealed_not_free}
 use Rattle.refund_core.specs.Quotes.{SeesOwn, SeesNone}
 use Rattle.service_laws.specs.Begun.{BeginsAt, HasLeft}
 use Rattle.service_laws.proofs.Own.{first_of, rest_of, steps_all, steps_since, around}
@@ -46,9 +47,6 @@ pub record Asked (row : RowNo) (v : RowSeen) (g : Layout) (begun : List Entry) :
   pub desk : ℕ
   pub last : ℕ
   pub looks : own quote desk ≡ map (entry desk) (saw_row row v last)
-
-sealed_not_free : (p : Phase) → is_sealed p ≡ true → p ≡ Free → ⊥
-sealed_not_free p sealed e = let no : false ≡ true = sym (ap is_sealed e) ∙ sealed in cc
 
 pub asked_of : (row : RowNo) (retailer : ℕ) (v : RowSeen) (es : List Step) (asking asked : DeskView) (g : Layout) (begun : List Entry) → IsLegal g begun → AddsSteps asking asked es → SeesOwn row retailer v es → IsPrefix asked.seen begun → Asked row v g begun
 asked_of row retailer v es asking asked g begun legal did sees (more, on) =
