@@ -1,16 +1,14 @@
 -- A quote that was given is honoured.
-use Rattle.std.proofs.Common.{◌≡◌, ℕ, ◌+◌, ◌-◌, ◌<◌, ◌≤◌, inl, inr, Bool, true, false, nat_lt, ◌||◌, pos, List, [], ◌∷◌, ◌++◌, refl, sym, ap, ◌∙◌, subst, arith}
+use Rattle.std.proofs.Common.{◌≡◌, ℕ, ◌+◌, ◌-◌, ◌<◌, ◌≤◌, inl, inr, Bool, true, false, ◌||◌, pos, List, [], ◌∷◌, ◌++◌, refl, sym, ap, ◌∙◌, subst, arith}
 use Rattle.std.specs.Prelude.{◌-ℤ◌}
 use Rattle.std.specs.List.{AllByRecursion}
 use Rattle.std.proofs.lemmas.Bool.{le-ltb}
 use Rattle.rail_ids.specs.declared.RowNo.{RowNo}
-use Rattle.history_model.specs.declared.entry.Entry.{Entry}
 use Rattle.history_model.specs.declared.entry.Step.{Step}
 use Rattle.history_model.specs.declared.entry.Step.TheVariants.{SawRow, LostTurn}
 use Rattle.history_model.specs.declared.phase.Phase.{Phase}
 use Rattle.history_model.specs.declared.phase.Phase.TheVariants.{Free}
 use Rattle.history_model.specs.Phase.{is_sealed, is_live, phase_shown, row_word_of}
-use Rattle.history_model.specs.Booking.{Booking}
 use Rattle.history_model.proofs.Keeping.{live_sealed}
 use Rattle.history_model.proofs.ListLemmas.{All-right}
 use Rattle.history_model.proofs.PhaseWords.{row_word_same, shown_back}
@@ -21,10 +19,9 @@ use Rattle.booking_rows.specs.Views.{RowSeen, LooksNone, saw_phase, saw_words, w
 use Rattle.booking_rows.proofs.ViewLemmas.{sealed_not_free}
 use Rattle.rail_catalogue.specs.Contents.{CatalogueView, least_departure}
 use Rattle.tariff.specs.Refunds.{refund_of}
-use Rattle.offer_codes.specs.Offers.{OfferView, valid_seconds}
+use Rattle.offer_codes.specs.Offers.{valid_seconds}
 use Rattle.offer_codes.specs.Exchanges.{ExchangeView, exchange_view}
 use Rattle.offer_codes.specs.declared.code.RefundCode.{RefundCode}
-use Rattle.offer_codes.specs.declared.code.ExchangeCode.{ExchangeCode}
 use Rattle.refund_core.specs.Quotes.{SeesOwn, SeesNone, is_stale, phase_named, refund_at}
 use Rattle.refund_core.specs.Refunding.{AcceptsRefund}
 use Rattle.refund_core.specs.declared.refunding.Refunded.{Refunded}
@@ -34,11 +31,11 @@ use Rattle.exchange_core.specs.Ready.{ReadyView}
 use Rattle.exchange_core.specs.Exchanges.{Readies, difference_at}
 use Rattle.exchange_core.specs.declared.readying.Readied.{Readied}
 use Rattle.exchange_core.specs.declared.readying.Readied.TheVariants as readied
-use Rattle.service_laws.specs.Begun.{BeginsAt, HasLeft}
+use Rattle.service_laws.specs.Begun.{HasLeft}
 use Rattle.service_laws.specs.Honoured.{IsInTime, BeginsAfter, HonoursRefund, HonoursExchange, RefundQuotesAreHonoured, ExchangeQuotesAreHonoured}
 use Rattle.service_laws.proofs.Own.{first_of, rest_of}
 use Rattle.service_laws.proofs.Standing.{ShowsSeal, LeavesPhase}
-use Rattle.service_laws.proofs.QuoteLemmas.{Unmoved, SeesSame, has_left, sees_same, shows_all}
+use Rattle.service_laws.proofs.QuoteLemmas.{Unmoved, has_left, sees_same, shows_all}
 
 in_time : (made now : ℕ) → IsInTime made now → is_stale made now ≡ false
 in_time made now time =
@@ -100,7 +97,7 @@ answered cat rows retailer now code v qs es refunded.QuoteWrong asking asked old
 answered cat rows retailer now code v qs es refunded.Unknown asking asked old new here asks saw in_phase worth fresh accepts did (begun, begins, on) =
     subst (λ (p : Phase). HasLeft p (state_seen new) code.row) in_phase
     (has_left code.row retailer v es qs asking asked old new begun asks saw on did begins (ap is_live in_phase ∙ named_live code.fulfilled)
-        (λ u. unknown accepts (subst (λ (p : Phase). Unmoved code.row retailer p es) in_phase u)))
+    (λ u. unknown accepts (subst (λ (p : Phase). Unmoved code.row retailer p es) in_phase u)))
   where
     unknown : AcceptsRefund cat rows retailer code now refunded.Unknown es → Unmoved code.row retailer (phase_named code.fulfilled) es → ⊥
     unknown (inl (young, none)) u = none_seen rows code.row retailer (phase_named code.fulfilled) es here (live_sealed (phase_named code.fulfilled) (named_live code.fulfilled)) none u
@@ -108,7 +105,7 @@ answered cat rows retailer now code v qs es refunded.Unknown asking asked old ne
 answered cat rows retailer now code v qs es (refunded.WrongState shown) asking asked old new here asks saw in_phase worth fresh accepts did (begun, begins, on) =
     subst (λ (p : Phase). HasLeft p (state_seen new) code.row) in_phase
     (has_left code.row retailer v es qs asking asked old new begun asks saw on did begins (ap is_live in_phase ∙ named_live code.fulfilled)
-        (λ u. wrong accepts (subst (λ (p : Phase). Unmoved code.row retailer p es) in_phase u)))
+    (λ u. wrong accepts (subst (λ (p : Phase). Unmoved code.row retailer p es) in_phase u)))
   where
     wrong : AcceptsRefund cat rows retailer code now (refunded.WrongState shown) es → Unmoved code.row retailer (phase_named code.fulfilled) es → ⊥
     wrong (w, front, right, inl (shows, other, is)) u =
@@ -142,11 +139,11 @@ readied_so cat rows retailer now code v qs es readied.QuoteWrong asking asked ol
 readied_so cat rows retailer now code v qs es readied.Unknown asking asked old new here asks saw in_phase worth fresh (young, none) did (begun, begins, on) =
     subst (λ (p : Phase). HasLeft p (state_seen new) code.row) in_phase
     (has_left code.row retailer v es qs asking asked old new begun asks saw on did begins (ap is_live in_phase ∙ named_live code.fulfilled)
-        (λ u. none_seen rows code.row retailer v.phase es here (ap is_sealed in_phase ∙ live_sealed (phase_named code.fulfilled) (named_live code.fulfilled)) none u))
+    (λ u. none_seen rows code.row retailer v.phase es here (ap is_sealed in_phase ∙ live_sealed (phase_named code.fulfilled) (named_live code.fulfilled)) none u))
 readied_so cat rows retailer now code v qs es (readied.WrongState shown) asking asked old new here asks saw in_phase worth fresh (other, (w, right, shows)) did (begun, begins, on) =
     subst (λ (p : Phase). HasLeft p (state_seen new) code.row) in_phase
     (has_left code.row retailer v es qs asking asked old new begun asks saw on did begins (ap is_live in_phase ∙ named_live code.fulfilled)
-        (λ u. other_phase code.row retailer v.phase w es right.sees (λ e. other (sym shows ∙ (e ∙ in_phase))) u))
+    (λ u. other_phase code.row retailer v.phase w es right.sees (λ e. other (sym shows ∙ (e ∙ in_phase))) u))
 
 pub exchanges_honoured : ExchangeQuotesAreHonoured
 exchanges_honoured cat rows retailer made now row offer code answer asking asked old new (qs, quote, asks) (es, readies, did) after time =

@@ -60,22 +60,22 @@ around d [] [] x ys is = absurd cc
 around d [] (z ∷ zs) x ys is = absurd cc
 around d (e ∷ es) [] x ys is = ⊎_elim
     (λ (t : eqb e.desk d ≡ true).
-        let split : e ∷ own es d ≡ entry d x ∷ map (entry d) ys = sym (own_first d e es t) ∙ is in
-        let here : e ≡ entry d x = cc in
-        let rest : own es d ≡ map (entry d) ys = cc in
-        record { before = []; after = es; is = ap (λ (y : Entry). y ∷ es) here; first = refl; last = rest })
+    let split : e ∷ own es d ≡ entry d x ∷ map (entry d) ys = sym (own_first d e es t) ∙ is in
+    let here : e ≡ entry d x = cc in
+    let rest : own es d ≡ map (entry d) ys = cc in
+    record { before = []; after = es; is = ap (λ (y : Entry). y ∷ es) here; first = refl; last = rest })
     (λ (t : eqb e.desk d ≡ false).
-        let a = around d es [] x ys (sym (own_other d e es t) ∙ is) in
-        more d e es [] [] x ys a (own_other d e a.before t ∙ a.first))
+    let a = around d es [] x ys (sym (own_other d e es t) ∙ is) in
+    more d e es [] [] x ys a (own_other d e a.before t ∙ a.first))
     (cases_Bool (eqb e.desk d))
 around d (e ∷ es) (z ∷ zs) x ys is = ⊎_elim
     (λ (t : eqb e.desk d ≡ true).
-        let split : e ∷ own es d ≡ entry d z ∷ map (entry d) (zs ++ x ∷ ys) = sym (own_first d e es t) ∙ is in
-        let here : e ≡ entry d z = cc in
-        let rest : own es d ≡ map (entry d) (zs ++ x ∷ ys) = cc in
-        let a = around d es zs x ys rest in
-        more d e es zs (z ∷ zs) x ys a (own_first d e a.before t ∙ (λ i. here i ∷ a.first i)))
+    let split : e ∷ own es d ≡ entry d z ∷ map (entry d) (zs ++ x ∷ ys) = sym (own_first d e es t) ∙ is in
+    let here : e ≡ entry d z = cc in
+    let rest : own es d ≡ map (entry d) (zs ++ x ∷ ys) = cc in
+    let a = around d es zs x ys rest in
+    more d e es zs (z ∷ zs) x ys a (own_first d e a.before t ∙ (λ i. here i ∷ a.first i)))
     (λ (t : eqb e.desk d ≡ false).
-        let a = around d es (z ∷ zs) x ys (sym (own_other d e es t) ∙ is) in
-        more d e es (z ∷ zs) (z ∷ zs) x ys a (own_other d e a.before t ∙ a.first))
+    let a = around d es (z ∷ zs) x ys (sym (own_other d e es t) ∙ is) in
+    more d e es (z ∷ zs) (z ∷ zs) x ys a (own_other d e a.before t ∙ a.first))
     (cases_Bool (eqb e.desk d))

@@ -1,5 +1,5 @@
 -- A booking that was seen for a quote, and what the looks of a later call show of it.
-use Rattle.std.proofs.Common.{◌≡◌, ℕ, suc, ◌+◌, ◌≤◌, ◌⊎◌, inl, inr, Bool, cond, true, false, List, [], ◌∷◌, ◌++◌, map, length, Option, Some, IsSomeAnd, refl, sym, ap, ◌∙◌, subst, arith, append_assoc, append-nil, eq-eqb}
+use Rattle.std.proofs.Common.{◌≡◌, ℕ, suc, ◌+◌, ◌≤◌, ◌⊎◌, inl, inr, Bool, cond, true, List, [], ◌∷◌, ◌++◌, map, length, Option, Some, IsSomeAnd, refl, sym, ap, ◌∙◌, subst, arith, append_assoc, append-nil, eq-eqb}
 use Rattle.std.specs.List.{AllByRecursion}
 use mathlib.Core.List.{IsPrefix}
 use Rattle.leg_masks.specs.Interval.{PlacedSpan as Item, item_word}
@@ -7,28 +7,25 @@ use Rattle.leg_masks.proofs.Items.{one_item}
 use Rattle.rail_ids.specs.declared.RowNo.{RowNo}
 use Rattle.history_model.specs.declared.entry.Entry.{Entry}
 use Rattle.history_model.specs.declared.entry.Step.{Step}
-use Rattle.history_model.specs.declared.entry.Step.TheVariants.{SawRow, LostTurn}
+use Rattle.history_model.specs.declared.entry.Step.TheVariants.{SawRow}
 use Rattle.history_model.specs.declared.phase.Phase.{Phase}
-use Rattle.history_model.specs.declared.phase.Phase.TheVariants.{Free}
-use Rattle.history_model.specs.Phase.{is_sealed, is_live, phase_shown, row_word_of}
-use Rattle.history_model.specs.Booking.{Booking, Layout, State, booking_at, next_generation, present, word_at}
+use Rattle.history_model.specs.Phase.{is_sealed, is_live, phase_shown}
+use Rattle.history_model.specs.Booking.{Booking, Layout, State, booking_at, next_generation, word_at}
 use Rattle.history_model.specs.History.{IsLegal, IsLegalFrom, entry, own, state_after, state_of}
 use Rattle.history_model.specs.Words.{row_word}
 use Rattle.history_model.proofs.Generations.{present_key, present_latest}
-use Rattle.history_model.proofs.Keeping.{live_sealed}
 use Rattle.history_model.proofs.ListLemmas.{All-left, All-right}
-use Rattle.history_model.proofs.PhaseWords.{row_word_same, shown_back, present_shown}
-use Rattle.history_model.proofs.Seen.{legal-front, legal-rest, legal_from-append, state_of-append}
+use Rattle.history_model.proofs.PhaseWords.{present_shown}
+use Rattle.history_model.proofs.Seen.{legal-front, legal-rest, state_of-append}
 use Rattle.history_model.proofs.Forward.{legal_left, legal_right}
 use Rattle.history_model.proofs.Writing.{booking_of_word}
 use Rattle.claim_rule.specs.Endings.{item_looks, items_read}
 use Rattle.claim_rule.specs.Rule.{DeskView, OnBooking, state_seen}
 use Rattle.claim_rule.specs.Desks.{AddsSteps}
 use Rattle.claim_rule.proofs.Shapes.{shape_rest}
-use Rattle.booking_rows.specs.Aims.{LosesTurn}
-use Rattle.booking_rows.specs.Views.{RowSeen, HasWord, saw_end, saw_phase, saw_row, saw_words, words_read}
+use Rattle.booking_rows.specs.Views.{RowSeen, HasWord, saw_end, saw_phase, saw_row, saw_words}
 use Rattle.booking_rows.proofs.ViewLemmas.{sealed_not_free}
-use Rattle.refund_core.specs.Quotes.{SeesOwn, SeesNone}
+use Rattle.refund_core.specs.Quotes.{SeesOwn}
 use Rattle.service_laws.specs.Begun.{BeginsAt, HasLeft}
 use Rattle.service_laws.proofs.Own.{first_of, rest_of, steps_all, steps_since, around}
 use Rattle.service_laws.proofs.Standing.{ShowsSeal, LeavesPhase, there, seal_shown, phase_left, phase_of, still_there}
@@ -185,20 +182,20 @@ has_left row retailer v es qs asking asked old new begun asks saw on did begins 
     let final : state_seen new ≡ state_after s since = ap (state_of g) (sym (whole ∙ all)) ∙ last in
     subst (λ (x : State). OnBooking x row (λ y. y.phase ≡ v.phase → ⊥)) (sym final)
     (subst (λ (o : Option Booking). IsSomeAnd o (λ y. y.phase ≡ v.phase → ⊥)) (sym c.1) (λ (is : c.0.phase ≡ v.phase).
-        let later : booking_at (state_of g (a.before ++ since)) row.row row.generation ≡ Some c.0 = ap (λ (x : State). booking_at x row.row row.generation) last ∙ c.1 in
-        let still = ap (λ (x : State). next_generation x row.row) (sym last) ∙ still_there g (a.before ++ since) row.row row.generation c.0 lawful later (ap is_live is ∙ live) in
-        let P = ShowsSeal row.row b in
-        let R = LeavesPhase row.row row.generation v.phase in
-        let Q : Entry → Type 0 = λ (e : Entry). P e.step in
-        let T : Entry → Type 0 = λ (e : Entry). R e.step in
-        let seals = seal_shown g s since row.row row.generation b b l a.at sealed (λ k _. refl) still in
-        let phases = phase_left g s since row.row row.generation v.phase b l a.at a.in_phase live still (phase_of (state_after s since) row.row row.generation c.0 c.1 ∙ is) in
-        let early = All-left Q a.quote a.more (All-left Q (a.quote ++ a.more) rest seals) in
-        let one = shows_all row b v (SawRow row.row 0 a.last ∷ []) (steps_all P a.desk a.quote (saw_row row v a.last) a.looks early) in
-        let mine = steps_since old new begun rest es did begins.none_yet all in
-        moved (record {
-          booking = b;
-          its = sym saw.0 ∙ one.retailer;
-          seals = steps_all P old.number rest es mine (All-right Q (a.quote ++ a.more) rest seals);
-          phases = steps_all R old.number rest es mine (All-right T (a.quote ++ a.more) rest phases);
-        })))
+    let later : booking_at (state_of g (a.before ++ since)) row.row row.generation ≡ Some c.0 = ap (λ (x : State). booking_at x row.row row.generation) last ∙ c.1 in
+    let still = ap (λ (x : State). next_generation x row.row) (sym last) ∙ still_there g (a.before ++ since) row.row row.generation c.0 lawful later (ap is_live is ∙ live) in
+    let P = ShowsSeal row.row b in
+    let R = LeavesPhase row.row row.generation v.phase in
+    let Q : Entry → Type 0 = λ (e : Entry). P e.step in
+    let T : Entry → Type 0 = λ (e : Entry). R e.step in
+    let seals = seal_shown g s since row.row row.generation b b l a.at sealed (λ k _. refl) still in
+    let phases = phase_left g s since row.row row.generation v.phase b l a.at a.in_phase live still (phase_of (state_after s since) row.row row.generation c.0 c.1 ∙ is) in
+    let early = All-left Q a.quote a.more (All-left Q (a.quote ++ a.more) rest seals) in
+    let one = shows_all row b v (SawRow row.row 0 a.last ∷ []) (steps_all P a.desk a.quote (saw_row row v a.last) a.looks early) in
+    let mine = steps_since old new begun rest es did begins.none_yet all in
+    moved (record {
+      booking = b;
+      its = sym saw.0 ∙ one.retailer;
+      seals = steps_all P old.number rest es mine (All-right Q (a.quote ++ a.more) rest seals);
+      phases = steps_all R old.number rest es mine (All-right T (a.quote ++ a.more) rest phases);
+    })))
