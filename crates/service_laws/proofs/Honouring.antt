@@ -1,9 +1,11 @@
 -- A quote that was given is honoured.
-use Rattle.std.proofs.Common.{◌≡◌, ℕ, ◌+◌, ◌-◌, ◌<◌, ◌≤◌, inl, inr, Bool, true, false, ◌||◌, pos, List, [], ◌∷◌, ◌++◌, refl, sym, ap, ◌∙◌, subst, arith}
+use Rattle.std.proofs.Common.{◌≡◌, ℕ, ◌+◌, ◌-◌, ◌<◌, ◌≤◌, inl, inr, Bool, true, false, ◌||◌, pos, List, [], ◌∷◌, ◌++◌, refl, sym, ap, ◌∙◌, subst, arith, append-nil}
 use Rattle.std.specs.Prelude.{◌-ℤ◌}
 use Rattle.std.specs.List.{AllByRecursion}
+use mathlib.Core.List.{IsPrefix}
 use Rattle.std.proofs.lemmas.Bool.{le-ltb}
 use Rattle.rail_ids.specs.declared.RowNo.{RowNo}
+use Rattle.history_model.specs.declared.entry.Entry.{Entry}
 use Rattle.history_model.specs.declared.entry.Step.{Step}
 use Rattle.history_model.specs.declared.entry.Step.TheVariants.{SawRow, LostTurn}
 use Rattle.history_model.specs.declared.phase.Phase.{Phase}
@@ -31,9 +33,9 @@ use Rattle.exchange_core.specs.Ready.{ReadyView}
 use Rattle.exchange_core.specs.Exchanges.{Readies, difference_at}
 use Rattle.exchange_core.specs.declared.readying.Readied.{Readied}
 use Rattle.exchange_core.specs.declared.readying.Readied.TheVariants as readied
-use Rattle.service_laws.specs.Begun.{HasLeft}
+use Rattle.service_laws.specs.Begun.{BeginsAt, HasLeft}
 use Rattle.service_laws.specs.Honoured.{IsInTime, BeginsAfter, HonoursRefund, HonoursExchange, RefundQuotesAreHonoured, ExchangeQuotesAreHonoured}
-use Rattle.service_laws.proofs.Own.{first_of, rest_of}
+use Rattle.service_laws.proofs.Own.{first_of, rest_of, no_steps}
 use Rattle.service_laws.proofs.Standing.{ShowsSeal, LeavesPhase}
 use Rattle.service_laws.proofs.QuoteLemmas.{Unmoved, has_left, sees_same, shows_all}
 
@@ -84,6 +86,34 @@ lost_turn row retailer phase shown front back es (word, other, shows, is) whole 
     let late = subst (AllByRecursion P) is (All-right P front back (subst (AllByRecursion P) whole u.phases)) in
     other (first_of P (LostTurn row.row (row_word_of phase row.generation) word) [] late refl)
 
+-- a call that saw something has a beginning
+
+abbrev IsBegun : DeskView → DeskView → DeskView → Type 0
+IsBegun asked old new = (begun : List Entry) × BeginsAt old new begun × IsPrefix asked.seen begun
+
+begun_at : (es : List Step) (asked old new : DeskView) → AddsSteps old new es → (es ≡ [] → ⊥) → BeginsAfter asked old new → IsBegun asked old new
+begun_at es asked old new did some (inl none) = absurd (some (no_steps old new es did none))
+begun_at es asked old new did some (inr begun) = begun
+
+cons_nil : {x : Step} {xs : List Step} → x ∷ xs ≡ [] → ⊥
+cons_nil e = cc
+
+not_none : {x : Step} {xs es : List Step} → es ≡ x ∷ xs → es ≡ [] → ⊥
+not_none is none = cons_nil (sym is ∙ none)
+
+front_none : (front back : List Step) → front ++ back ≡ [] → front ≡ []
+front_none [] back e = refl
+front_none (x ∷ xs) back e = absurd cc
+
+saw_some : (row : RowNo) (retailer : ℕ) (w : RowSeen) (front back es : List Step) → SeesOwn row retailer w front → es ≡ front ++ back → es ≡ [] → ⊥
+saw_some row retailer w front back es sees is none = not_none sees.1.1.2 (front_none front back (sym is ∙ none))
+
+looked_some : (rows : ℕ) (row : RowNo) (retailer : ℕ) (es : List Step) → row.row < rows → SeesNone rows row retailer es → es ≡ [] → ⊥
+looked_some rows row retailer es here (inl (past, is)) none = omega (arith, past, here)
+looked_some rows row retailer es here (inr (in_row, inl (inl (n, unsealed, is)))) none = not_none is none
+looked_some rows row retailer es here (inr (in_row, inl (inr (ws, last, read, free, is)))) none = not_none is none
+looked_some rows row retailer es here (inr (in_row, inr (w, other, looks))) none = not_none looks.1.2 none
+
 -- a refund
 
 answered : (cat : CatalogueView) (rows retailer now : ℕ) (code : RefundCode) (v : RowSeen) (qs es : List Step) (answer : Refunded) (asking asked old new : DeskView)
@@ -91,22 +121,33 @@ answered : (cat : CatalogueView) (rows retailer now : ℕ) (code : RefundCode) (
     → AcceptsRefund cat rows retailer code now answer es → AddsSteps old new es → BeginsAfter asked old new → HonoursRefund code new answer
 answered cat rows retailer now code v qs es (refunded.Done amount) asking asked old new here asks saw in_phase worth fresh accepts did after = accepts.0
 answered cat rows retailer now code v qs es (refunded.QuoteStale m n) asking asked old new here asks saw in_phase worth fresh accepts did after = both accepts.0 fresh
-answered cat rows retailer now code v qs es refunded.QuoteWrong asking asked old new here asks saw in_phase worth fresh (young, in_row, (w, sees, differs)) did (begun, begins, on) =
-    let same = sees_same code.row retailer v w es qs asking asked old new begun asks saw on did sees begins in
+answered cat rows retailer now code v qs es refunded.QuoteWrong asking asked old new here asks saw in_phase worth fresh (young, in_row, (w, sees, differs)) did after =
+    let b = begun_at es asked old new did (not_none sees.1.1.2) after in
+    let same = sees_same code.row retailer v w es qs asking asked old new b.0 asks saw b.2 did sees b.1 in
     differs (worth ∙ (λ i. refund_of cat.terms (same.total i) (least_departure cat (same.items i) - code.made) code.fulfilled))
-answered cat rows retailer now code v qs es refunded.Unknown asking asked old new here asks saw in_phase worth fresh accepts did (begun, begins, on) =
+answered cat rows retailer now code v qs es refunded.Unknown asking asked old new here asks saw in_phase worth fresh accepts did after =
+    let b = begun_at es asked old new did (some accepts) after in
     subst (λ (p : Phase). HasLeft p (state_seen new) code.row) in_phase
-    (has_left code.row retailer v es qs asking asked old new begun asks saw on did begins (ap is_live in_phase ∙ named_live code.fulfilled)
+    (has_left code.row retailer v es qs asking asked old new b.0 asks saw b.2 did b.1 (ap is_live in_phase ∙ named_live code.fulfilled)
     (λ u. unknown accepts (subst (λ (p : Phase). Unmoved code.row retailer p es) in_phase u)))
   where
+    some : AcceptsRefund cat rows retailer code now refunded.Unknown es → es ≡ [] → ⊥
+    some (inl (young, none)) e = looked_some rows code.row retailer es here none e
+    some (inr (w, front, right, (seen, back, lost, is))) e = saw_some code.row retailer w front back es right.sees is e
+
     unknown : AcceptsRefund cat rows retailer code now refunded.Unknown es → Unmoved code.row retailer (phase_named code.fulfilled) es → ⊥
     unknown (inl (young, none)) u = none_seen rows code.row retailer (phase_named code.fulfilled) es here (live_sealed (phase_named code.fulfilled) (named_live code.fulfilled)) none u
     unknown (inr (w, front, right, (seen, back, lost, is))) u = lost_turn code.row retailer (phase_named code.fulfilled) Free front back es lost is u
-answered cat rows retailer now code v qs es (refunded.WrongState shown) asking asked old new here asks saw in_phase worth fresh accepts did (begun, begins, on) =
+answered cat rows retailer now code v qs es (refunded.WrongState shown) asking asked old new here asks saw in_phase worth fresh accepts did after =
+    let b = begun_at es asked old new did (some accepts) after in
     subst (λ (p : Phase). HasLeft p (state_seen new) code.row) in_phase
-    (has_left code.row retailer v es qs asking asked old new begun asks saw on did begins (ap is_live in_phase ∙ named_live code.fulfilled)
+    (has_left code.row retailer v es qs asking asked old new b.0 asks saw b.2 did b.1 (ap is_live in_phase ∙ named_live code.fulfilled)
     (λ u. wrong accepts (subst (λ (p : Phase). Unmoved code.row retailer p es) in_phase u)))
   where
+    some : AcceptsRefund cat rows retailer code now (refunded.WrongState shown) es → es ≡ [] → ⊥
+    some (w, front, right, inl (shows, other, is)) e = saw_some code.row retailer w front [] es right.sees (is ∙ sym (append-nil front)) e
+    some (w, front, right, inr (free, (seen, back, lost, is))) e = saw_some code.row retailer w front back es right.sees is e
+
     wrong : AcceptsRefund cat rows retailer code now (refunded.WrongState shown) es → Unmoved code.row retailer (phase_named code.fulfilled) es → ⊥
     wrong (w, front, right, inl (shows, other, is)) u =
         other_phase code.row retailer (phase_named code.fulfilled) w es (subst (SeesOwn code.row retailer w) (sym is) right.sees) (λ e. other (sym shows ∙ e)) u
@@ -132,17 +173,20 @@ readied_so : (cat : CatalogueView) (rows retailer now : ℕ) (code : ExchangeVie
     → Readies cat rows retailer code now answer es → AddsSteps old new es → BeginsAfter asked old new → HonoursExchange code new answer
 readied_so cat rows retailer now code v qs es (readied.Fine ready) asking asked old new here asks saw in_phase worth fresh readies did after = ap (λ (r : ReadyView). r.code) readies.0
 readied_so cat rows retailer now code v qs es (readied.QuoteStale m n) asking asked old new here asks saw in_phase worth fresh readies did after = both readies.0 fresh
-readied_so cat rows retailer now code v qs es readied.QuoteWrong asking asked old new here asks saw in_phase worth fresh (young, in_row, (w, sees, differs)) did (begun, begins, on) =
-    let same = sees_same code.row retailer v w es qs asking asked old new begun asks saw on did sees begins in
+readied_so cat rows retailer now code v qs es readied.QuoteWrong asking asked old new here asks saw in_phase worth fresh (young, in_row, (w, sees, differs)) did after =
+    let b = begun_at es asked old new did (not_none sees.1.1.2) after in
+    let same = sees_same code.row retailer v w es qs asking asked old new b.0 asks saw b.2 did sees b.1 in
     let value : refund_at cat v code.made code.fulfilled ≡ refund_at cat w code.made code.fulfilled = λ i. refund_of cat.terms (same.total i) (least_departure cat (same.items i) - code.made) code.fulfilled in
     differs (worth ∙ ap (λ (n : ℕ). pos (offer_price cat code.offer + cat.terms.exchange_fee) -ℤ pos n) value)
-readied_so cat rows retailer now code v qs es readied.Unknown asking asked old new here asks saw in_phase worth fresh (young, none) did (begun, begins, on) =
+readied_so cat rows retailer now code v qs es readied.Unknown asking asked old new here asks saw in_phase worth fresh (young, none) did after =
+    let b = begun_at es asked old new did (looked_some rows code.row retailer es here none) after in
     subst (λ (p : Phase). HasLeft p (state_seen new) code.row) in_phase
-    (has_left code.row retailer v es qs asking asked old new begun asks saw on did begins (ap is_live in_phase ∙ named_live code.fulfilled)
+    (has_left code.row retailer v es qs asking asked old new b.0 asks saw b.2 did b.1 (ap is_live in_phase ∙ named_live code.fulfilled)
     (λ u. none_seen rows code.row retailer v.phase es here (ap is_sealed in_phase ∙ live_sealed (phase_named code.fulfilled) (named_live code.fulfilled)) none u))
-readied_so cat rows retailer now code v qs es (readied.WrongState shown) asking asked old new here asks saw in_phase worth fresh (other, (w, right, shows)) did (begun, begins, on) =
+readied_so cat rows retailer now code v qs es (readied.WrongState shown) asking asked old new here asks saw in_phase worth fresh (other, (w, right, shows)) did after =
+    let b = begun_at es asked old new did (not_none right.sees.1.1.2) after in
     subst (λ (p : Phase). HasLeft p (state_seen new) code.row) in_phase
-    (has_left code.row retailer v es qs asking asked old new begun asks saw on did begins (ap is_live in_phase ∙ named_live code.fulfilled)
+    (has_left code.row retailer v es qs asking asked old new b.0 asks saw b.2 did b.1 (ap is_live in_phase ∙ named_live code.fulfilled)
     (λ u. other_phase code.row retailer v.phase w es right.sees (λ e. other (sym shows ∙ (e ∙ in_phase))) u))
 
 pub exchanges_honoured : ExchangeQuotesAreHonoured

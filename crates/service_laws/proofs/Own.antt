@@ -1,5 +1,5 @@
 -- A desk's own entries of a part of a history.
-use Rattle.std.proofs.Common.{◌≡◌, ℕ, eqb, Bool, cond, true, false, List, [], ◌∷◌, ◌++◌, map, refl, sym, ap, ◌∙◌, subst, ⊎_elim}
+use Rattle.std.proofs.Common.{◌≡◌, ℕ, eqb, Bool, cond, true, false, List, [], ◌∷◌, ◌++◌, map, refl, sym, ap, ◌∙◌, subst, ⊎_elim, append-nil}
 use Rattle.std.specs.List.{AllByRecursion}
 use Rattle.std.proofs.lemmas.Bool.{cases_Bool}
 use mathlib.Core.List.{append_cancel_left}
@@ -43,6 +43,18 @@ steps_since old new begun rest steps did none_yet is =
     let d = old.number in
     append_cancel_left (own begun d) (own rest d) (map (entry d) steps)
     (sym (own-append begun rest d) ∙ (ap (λ (l : List Entry). own l d) is ∙ (did.mine ∙ ap (λ (l : List Entry). l ++ map (entry d) steps) (sym none_yet))))
+
+-- a call without entries has no steps
+
+no_map : (d : ℕ) (steps : List Step) → map (entry d) steps ≡ [] → steps ≡ []
+no_map d [] is = refl
+no_map d (x ∷ xs) is = absurd cc
+
+pub no_steps : (old new : DeskView) (steps : List Step) → AddsSteps old new steps → own new.seen old.number ≡ own old.seen old.number → steps ≡ []
+no_steps old new steps did none =
+    let d = old.number in
+    let had = own old.seen d in
+    no_map d steps (append_cancel_left had (map (entry d) steps) [] (sym did.mine ∙ (none ∙ sym (append-nil had))))
 
 -- the entries around one of the desk's steps
 pub record Around (d : ℕ) (es : List Entry) (xs : List Step) (x : Step) (ys : List Step) : Type 0 where

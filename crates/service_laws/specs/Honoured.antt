@@ -1,8 +1,9 @@
 -- What a quote is worth to the retailer that it was given to.
-use Rattle.std.specs.Prelude.{◌≡◌, ◌≤◌, ◌+◌, ℕ, List}
+use Rattle.std.specs.Prelude.{◌≡◌, ◌⊎◌, ◌≤◌, ◌+◌, ℕ, List}
 use mathlib.Core.List.{IsPrefix}
 use Rattle.rail_ids.specs.declared.RowNo.{RowNo}
 use Rattle.history_model.specs.declared.entry.Entry.{Entry}
+use Rattle.history_model.specs.History.{own}
 use Rattle.claim_rule.specs.Rule.{DeskView, state_seen}
 use Rattle.claim_rule.specs.Calls.{AddsStepsBy}
 use Rattle.rail_catalogue.specs.Contents.{CatalogueView}
@@ -25,9 +26,11 @@ use Rattle.service_laws.specs.Begun.{BeginsAt, HasLeft}
 abbrev pub IsInTime : ℕ → ℕ → Type 0
 IsInTime made now = (made ≤ now) × (now ≤ made + valid_seconds)
 
--- the call begins after all that the desk which quoted had seen when it answered
+-- the call adds no entry, or it begins after all that the desk which quoted had seen when it answered
 abbrev pub BeginsAfter : DeskView → DeskView → DeskView → Type 0
-BeginsAfter asked old new = (begun : List Entry) × BeginsAt old new begun × IsPrefix asked.seen begun
+BeginsAfter asked old new =
+    (own new.seen old.number ≡ own old.seen old.number)
+    ⊎ ((begun : List Entry) × BeginsAt old new begun × IsPrefix asked.seen begun)
 
 -- the refund is paid, of the amount quoted; or the booking has left the phase that the code names
 abbrev pub HonoursRefund : RefundCode → DeskView → Refunded → Type 0

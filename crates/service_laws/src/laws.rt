@@ -5,7 +5,7 @@ ghost use Rattle.service_laws.specs.Complete.{SweepsAreComplete};
 ghost use Rattle.service_laws.specs.Honoured.{RefundQuotesAreHonoured, ExchangeQuotesAreHonoured};
 
 /// Each booking that was prebooked with a limit before now when a sweep began is in another phase in what was seen when
-/// it ended. A call begins just before its first entry, or, as well, where its desk had seen no more.
+/// it ended. Where a call begins is any point from what its desk had seen to the first entry that it adds.
 pub fn sweeps_are_complete()
     ensures complete { SweepsAreComplete }
     ensures begin { CallsBeginAtSeen }
