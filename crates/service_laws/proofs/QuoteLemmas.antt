@@ -110,6 +110,14 @@ same_items row w b (x ∷ xs) (y ∷ ys) high many p q f g =
     let rest = same_items row (suc w) b xs ys (omega (arith, high)) fewer p.1 q.1 f.1 g.1 in
     λ i. record { place = one.0 i; span = one.1 i } ∷ rest i
 
+-- histories in other parts
+
+parted : (a m b f : List Entry) → a ++ ((m ++ b) ++ f) ≡ (a ++ m) ++ (b ++ f)
+parted a m b f = ap (λ (l : List Entry). a ++ l) (append_assoc m b f) ∙ sym (append_assoc a m (b ++ f))
+
+legal_as : (g : Layout) (xs ys : List Entry) → xs ≡ ys → IsLegal g ys → IsLegal g xs
+legal_as g xs ys is legal = subst (IsLegal g) (sym is) legal
+
 -- the quote and the later call saw one total, and the same items
 
 pub record SeesSame (v w : RowSeen) : Type 0 where
@@ -122,7 +130,7 @@ sees_same row retailer v w es qs asking asked old new begun asks saw on did sees
     let d = old.number in
     let rest = begins.goes_on.0 in
     let all : begun ++ rest ≡ new.seen = begins.goes_on.1 in
-    let legal : IsLegal g (begun ++ rest) = subst (IsLegal g) (sym all) did.legal in
+    let legal : IsLegal g (begun ++ rest) = legal_as g (begun ++ rest) new.seen all did.legal in
     let a = asked_of row retailer v qs asking asked g begun (legal-front g begun rest legal) asks saw on in
     let last = sees.1.1.0 in
     let looks = saw_phase row w.phase ∷ saw_words row.row w in
@@ -131,9 +139,8 @@ sees_same row retailer v w es qs asking asked old new begun asks saw on did sees
     let final = entry d (SawRow row.row 0 last) ∷ r.after in
     let s = state_of g a.before in
     let between = (a.quote ++ a.more) ++ r.before in
-    let whole : a.before ++ (between ++ final) ≡ begun ++ rest =
-    ap (λ (l : List Entry). a.before ++ l) (append_assoc (a.quote ++ a.more) r.before final) ∙ (sym (append_assoc a.before (a.quote ++ a.more) (r.before ++ final)) ∙ (λ i. a.is i ++ sym r.is i)) in
-    let l : IsLegalFrom g s (between ++ final) = legal-rest g a.before (between ++ final) (subst (IsLegal g) (sym whole) legal) in
+    let whole : a.before ++ (between ++ final) ≡ begun ++ rest = parted a.before (a.quote ++ a.more) r.before final ∙ (λ i. a.is i ++ sym r.is i) in
+    let l : IsLegalFrom g s (between ++ final) = legal-rest g a.before (between ++ final) (legal_as g (a.before ++ (between ++ final)) (begun ++ rest) whole legal) in
     let first = legal_left g s between final l in
     let then = legal_right g s between final l in
     let t = state_after s between in
@@ -168,12 +175,12 @@ has_left row retailer v es qs asking asked old new begun asks saw on did begins 
     let g = new.layout in
     let rest = begins.goes_on.0 in
     let all : begun ++ rest ≡ new.seen = begins.goes_on.1 in
-    let legal : IsLegal g (begun ++ rest) = subst (IsLegal g) (sym all) did.legal in
+    let legal : IsLegal g (begun ++ rest) = legal_as g (begun ++ rest) new.seen all did.legal in
     let a = asked_of row retailer v qs asking asked g begun (legal-front g begun rest legal) asks saw on in
     let s = state_of g a.before in
     let since = (a.quote ++ a.more) ++ rest in
     let whole : a.before ++ since ≡ begun ++ rest = sym (append_assoc a.before (a.quote ++ a.more) rest) ∙ ap (λ (l : List Entry). l ++ rest) a.is in
-    let lawful : IsLegal g (a.before ++ since) = subst (IsLegal g) (sym whole) legal in
+    let lawful : IsLegal g (a.before ++ since) = legal_as g (a.before ++ since) (begun ++ rest) whole legal in
     let l : IsLegalFrom g s since = legal-rest g a.before since lawful in
     let b = a.booking in
     let sealed : is_sealed b.phase ≡ true = ap is_sealed a.in_phase ∙ a.sealed in

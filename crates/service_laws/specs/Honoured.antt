@@ -1,9 +1,6 @@
 -- What a quote is worth to the retailer that it was given to.
-use Rattle.std.specs.Prelude.{◌≡◌, ◌⊎◌, ◌≤◌, ◌+◌, ℕ, List}
-use mathlib.Core.List.{IsPrefix}
+use Rattle.std.specs.Prelude.{◌≡◌, ◌≤◌, ◌+◌, ℕ}
 use Rattle.rail_ids.specs.declared.RowNo.{RowNo}
-use Rattle.history_model.specs.declared.entry.Entry.{Entry}
-use Rattle.history_model.specs.History.{own}
 use Rattle.claim_rule.specs.Rule.{DeskView, state_seen}
 use Rattle.claim_rule.specs.Calls.{AddsStepsBy}
 use Rattle.rail_catalogue.specs.Contents.{CatalogueView}
@@ -20,17 +17,11 @@ use Rattle.exchange_core.specs.Exchanges.{QuotesExchange, Readies}
 use Rattle.exchange_core.specs.declared.quoting.QuotedExchange.TheVariants as quoted_exchange
 use Rattle.exchange_core.specs.declared.readying.Readied.{Readied}
 use Rattle.exchange_core.specs.declared.readying.Readied.TheVariants as readied
-use Rattle.service_laws.specs.Begun.{BeginsAt, HasLeft}
+use Rattle.service_laws.specs.Begun.{BeginsAfter, HasLeft}
 
 -- at most 900 seconds after it was made
 abbrev pub IsInTime : ℕ → ℕ → Type 0
 IsInTime made now = (made ≤ now) × (now ≤ made + valid_seconds)
-
--- the call adds no entry, or it begins after all that the desk which quoted had seen when it answered
-abbrev pub BeginsAfter : DeskView → DeskView → DeskView → Type 0
-BeginsAfter asked old new =
-    (own new.seen old.number ≡ own old.seen old.number)
-    ⊎ ((begun : List Entry) × BeginsAt old new begun × IsPrefix asked.seen begun)
 
 -- the refund is paid, of the amount quoted; or the booking has left the phase that the code names
 abbrev pub HonoursRefund : RefundCode → DeskView → Refunded → Type 0

@@ -1,14 +1,21 @@
 //! What holds from one call to another, as contracts of functions that do nothing.
 
-ghost use Rattle.service_laws.specs.Begun.{CallsBeginAtSeen};
+ghost use Rattle.service_laws.specs.Begun.{CallsBeginAtSeen, CallsInOrder};
 ghost use Rattle.service_laws.specs.Complete.{SweepsAreComplete};
 ghost use Rattle.service_laws.specs.Honoured.{RefundQuotesAreHonoured, ExchangeQuotesAreHonoured};
 
+/// A call may be said to begin at any point from what its desk had seen to the first entry that it adds. Of two calls at
+/// any desks, where the one was answered before the other began, the other begins after all that the first had seen:
+/// each desk has seen a beginning of the one history that the table keeps, with all its own entries.
+pub fn calls_in_order()
+    ensures begin { CallsBeginAtSeen }
+    ensures in_order { CallsInOrder }
+{}
+
 /// Each booking that was prebooked with a limit before now when a sweep began is in another phase in what was seen when
-/// it ended. Where a call begins is any point from what its desk had seen to the first entry that it adds.
+/// it ended.
 pub fn sweeps_are_complete()
     ensures complete { SweepsAreComplete }
-    ensures begin { CallsBeginAtSeen }
 {}
 
 /// Where a refund was quoted, this retailer's acceptance that begins later, at most 900 seconds after it, refunds the

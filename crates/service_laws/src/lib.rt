@@ -10,4 +10,6 @@
 
 mod laws;
 
-pub use laws::{exchange_quotes_are_honoured, refund_quotes_are_honoured, sweeps_are_complete};
+pub use laws::{
+    calls_in_order, exchange_quotes_are_honoured, refund_quotes_are_honoured, sweeps_are_complete,
+};
