@@ -4,9 +4,9 @@ ghost use Rattle.service_laws.specs.Begun.{CallsBeginAtSeen, CallsInOrder};
 ghost use Rattle.service_laws.specs.Complete.{SweepsAreComplete};
 ghost use Rattle.service_laws.specs.Honoured.{RefundQuotesAreHonoured, ExchangeQuotesAreHonoured};
 
-/// A call may be said to begin at any point from what its desk had seen to the first entry that it adds. Of two calls
-/// at any desks, where the one was answered before the other began, the other begins after all that the first had
-/// seen: each desk has seen a beginning of the one history that the table keeps, with all its own entries.
+/// A call may be said to begin at any point from what its desk had seen to the first entry that it adds. Each desk has
+/// seen a beginning of the one history that the table keeps, with all its own entries. So of two calls at any desks,
+/// where the one was answered before the other began, the other begins after all that the first had seen.
 pub fn calls_in_order()
     ensures begin { CallsBeginAtSeen }
     ensures in_order { CallsInOrder }
