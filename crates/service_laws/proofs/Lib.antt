@@ -1,0 +1,5 @@
+pub mod Standing
+pub mod Own
+pub mod SweepLemmas
+pub mod QuoteLemmas
+pub mod Honouring

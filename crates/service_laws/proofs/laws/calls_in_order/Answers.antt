@@ -1,0 +1,5 @@
+use Rattle.service_laws.proofs.Own.{calls_ordered}
+use Rattle.service_laws.proofs.laws.calls_in_order.Goals as goal
+
+pub returns-clause-in_order : goal.returns-clause-in_order
+returns-clause-in_order c = calls_ordered

@@ -1,0 +1,3 @@
+pub mod Begun
+pub mod Complete
+pub mod Honoured

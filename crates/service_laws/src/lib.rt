@@ -1,0 +1,15 @@
+//! What a retailer may count on over several calls. It is a crate of its own since each of its facts follows from the
+//! contracts of crates below that stand beside one another.
+//!
+//! A sweep leaves no booking prebooked that was past its limit when the sweep began. A quote that was given is honoured
+//! for 900 seconds, as long as the booking stays in the phase in which it was quoted. A desk is any desk here: the one
+//! that accepts need not be the one that quoted.
+//!
+//! The crate has definitions and laws alone: it does nothing when it runs.
+#![tactic(auto)]
+
+mod laws;
+
+pub use laws::{
+    calls_in_order, exchange_quotes_are_honoured, refund_quotes_are_honoured, sweeps_are_complete,
+};
