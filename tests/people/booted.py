@@ -60,6 +60,8 @@ class Booted:
                 if self.run("systemctl is-system-running")[1].strip() in ("running", "degraded"):
                     return
             time.sleep(1)
+        self.machine.terminate()
+        self.machine.wait(timeout=60)
         raise SystemExit("booted: it doesn't come up")
 
     def run(self, script):
@@ -72,10 +74,17 @@ class Booted:
         self.machine.wait(timeout=60)
 
 
+def provide(root, packages):
+    """A Debian with these packages, unless there is one."""
+    if not (root / "usr").is_dir():
+        subprocess.run(["debootstrap", "--variant=minbase", "--include=" + packages, "bookworm", str(root)], check=True, stdout=subprocess.DEVNULL)
+    # The system's own users have to reach its files.
+    root.chmod(0o755)
+
+
 def provided(root, program):
     """A Debian with the repository's part and the catalogue where the page's commands look for them."""
-    if not (root / "usr").is_dir():
-        subprocess.run(["debootstrap", "--variant=minbase", "--include=" + PACKAGES, "bookworm", str(root)], check=True, stdout=subprocess.DEVNULL)
+    provide(root, PACKAGES)
     work = root / "work"
     shutil.rmtree(work, ignore_errors=True)
     (work / "crates" / "rail_host" / "out").mkdir(parents=True)

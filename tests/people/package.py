@@ -16,7 +16,7 @@ import subprocess
 import sys
 import tempfile
 
-from booted import PACKAGES, Booted
+from booted import PACKAGES, Booted, provide
 
 ROOT = pathlib.Path(__file__).resolve().parents[2]
 OLD, NEW = "0.1-1", "0.2-1"
@@ -47,8 +47,8 @@ COUNTS = """{"expired":0,"lost":0,"waiting":0}"""
 INSTALLED = [("installed, neither enabled nor started", "apt install $old; state", "disabled\ninactive\n")]
 STARTED = [
     ("enabled and started", "listens; state", "enabled\nactive\n"),
-    ("the unit is in order", "systemd-analyze verify $unit 2>&1 && echo yes", "yes\n"),
-    ("a user of its own", "ps -o user:20= -p $(pid)", "sumacgate\n"),
+    ("the unit is in order", "systemd-analyze verify --man=no $unit 2>&1 && echo yes", "yes\n"),
+    ("a user of its own", "[ $(stat -c %u /proc/$(pid)) -ge 61184 ] && echo yes", "yes\n"),
     ("its page", "ls /usr/share/man/man1/rail_host.1.gz", "/usr/share/man/man1/rail_host.1.gz\n"),
     ("a booking", "ask /reservations -d '%s' | grep -o 'B0*' | head -n 1; pid > /tmp/pid" % RESERVED, "B000000\n"),
     (
@@ -112,9 +112,7 @@ def page_commands():
 
 
 def provided(root):
-    if not (root / "usr").is_dir():
-        words = ["debootstrap", "--variant=minbase", "--include=%s,python3" % PACKAGES, "bookworm", str(root)]
-        subprocess.run(words, check=True, stdout=subprocess.DEVNULL)
+    provide(root, PACKAGES + ",python3")
     for left in ("packages", "etc/sumacgate"):
         shutil.rmtree(root / left, ignore_errors=True)
     (root / "packages").mkdir()
