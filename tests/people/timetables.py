@@ -331,7 +331,7 @@ def faults_of_checker(path, wanted):
     done = run(sys.executable, CHECKER, path, "--now", "2026-05-01T00:00:00Z")
     places = sum(PLACES[TEMPLATE[trip.route]] for trip, _ in wanted)
     line = "the host takes this catalogue: %s runs, %s places\n" % (format(len(wanted), ","), format(places, ","))
-    if (done.returncode, done.stdout) != (0, line):
+    if done.returncode or ": fault" in done.stdout or not done.stdout.endswith(line):
         yield "the checker: %s" % done.stdout[-1000:]
 
 
