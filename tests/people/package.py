@@ -44,7 +44,10 @@ unit=/lib/systemd/system/sumacgate.service sold=/etc/sumacgate/sold.json
 RESERVED = """{"class":"SECOND","from":"HARBOUR","run":0,"to":"DUNES"}"""
 COUNTS = """{"expired":0,"lost":0,"waiting":0}"""
 # What is done, and the output that has to come of it. README.Debian's own commands come after the first.
-INSTALLED = [("installed, neither enabled nor started", "apt install $old; state", "disabled\ninactive\n")]
+INSTALLED = [
+    ("nothing of an earlier run", "dpkg --purge sumacgate > /dev/null 2>&1", ""),
+    ("installed, neither enabled nor started", "apt install $old; state", "disabled\ninactive\n"),
+]
 STARTED = [
     ("enabled and started", "listens; state", "enabled\nactive\n"),
     ("the unit is in order", "systemd-analyze verify --man=no $unit 2>&1 && echo yes", "yes\n"),
@@ -61,8 +64,8 @@ STARTED = [
     (
         "the tools",
         "cd /usr/lib/sumacgate; "
-        "for tool in client.py same-seats amend roll manifest; do ./$tool --help | head -c 5; done",
-        "usage" * 5,
+        "for tool in client.py movements.py same-seats amend roll manifest; do ./$tool --help | head -c 5; done",
+        "usage" * 6,
     ),
     (
         "an upgrade leaves the host alone",
@@ -115,6 +118,9 @@ def provided(root):
     provide(root, PACKAGES + ",python3")
     for left in ("packages", "etc/sumacgate"):
         shutil.rmtree(root / left, ignore_errors=True)
+    # The unit that tests/people/booted.py puts beside those of packages.
+    for left in ("sumacgate.service", "multi-user.target.wants/sumacgate.service"):
+        (root / "etc/systemd/system" / left).unlink(missing_ok=True)
     (root / "packages").mkdir()
 
 
