@@ -1,6 +1,7 @@
 //! What holds from one call to another, as contracts of functions that do nothing.
 
 ghost use Rattle.service_laws.specs.Begun.{CallsBeginAtSeen, CallsInOrder};
+ghost use Rattle.service_laws.specs.Commands.{SweepCommandsAreComplete, RefundCommandsAreHonoured};
 ghost use Rattle.service_laws.specs.Complete.{SweepsAreComplete};
 ghost use Rattle.service_laws.specs.Honoured.{RefundQuotesAreHonoured, ExchangeQuotesAreHonoured};
 
@@ -16,6 +17,7 @@ pub fn calls_in_order()
 /// it ended.
 pub fn sweeps_are_complete()
     ensures complete { SweepsAreComplete }
+    ensures commands { SweepCommandsAreComplete }
 {}
 
 /// Where a refund was quoted, this retailer's acceptance that begins later, at most 900 seconds after it, refunds the
@@ -23,6 +25,7 @@ pub fn sweeps_are_complete()
 /// wrong.
 pub fn refund_quotes_are_honoured()
     ensures honoured { RefundQuotesAreHonoured }
+    ensures commands { RefundCommandsAreHonoured }
 {}
 
 /// Where an exchange was quoted, this retailer's check of the quote that begins later, at most 900 seconds after it,
