@@ -13,20 +13,30 @@ use Rattle.booking_rows.specs.Views.{RowSeen}
 use Rattle.expiry_sweeper.specs.AllRows.{Sweeps}
 use Rattle.rail_catalogue.specs.Contents.{CatalogueView}
 use Rattle.offer_codes.specs.declared.code.RefundCode.{RefundCode}
+use Rattle.offer_codes.specs.declared.code.ExchangeCode.{ExchangeCode}
+use Rattle.offer_codes.specs.Offers.{OfferView, offer_view}
+use Rattle.offer_codes.specs.Exchanges.{ExchangeView, exchange_view}
 use Rattle.refund_core.specs.Quotes.{is_stale}
 use Rattle.refund_core.specs.Refunding.{QuotesRefund}
 use Rattle.refund_core.specs.declared.quoting.Quoted.{Quoted}
 use Rattle.refund_core.specs.declared.quoting.Quoted.TheVariants as quoted
 use Rattle.refund_core.specs.declared.refunding.Refunded.{Refunded}
 use Rattle.refund_core.specs.declared.refunding.Refunded.TheVariants as refunded
-use Rattle.osdm_texts.specs.Answers.{Reply, refund_offer}
+use Rattle.exchange_core.specs.Exchanges.{QuotesExchange}
+use Rattle.exchange_core.specs.declared.quoting.QuotedExchange.{QuotedExchange}
+use Rattle.exchange_core.specs.declared.quoting.QuotedExchange.TheVariants as quoted_exchange
+use Rattle.exchange_core.specs.declared.readying.Readied.{Readied}
+use Rattle.exchange_core.specs.declared.readying.Readied.TheVariants as readied
+use Rattle.osdm_texts.specs.declared.problem.Problem.{Problem}
+use Rattle.osdm_texts.specs.Answers.{Reply, refund_offer, exchange_offer, problem}
+use Rattle.trade_service.specs.Exchanges.{IsExchangeQuote, IsUnready}
 use Rattle.trade_service.specs.Refunds.{IsQuoteReply, refund_reply}
 use Rattle.service_laws.specs.Begun.{BeginsAfter}
-use Rattle.service_laws.specs.Honoured.{HonoursRefund}
-use Rattle.service_laws.specs.Commands.{SweepCommandsAreComplete, RefundCommandsAreHonoured, RepliesHonour}
+use Rattle.service_laws.specs.Honoured.{HonoursRefund, HonoursExchange}
+use Rattle.service_laws.specs.Commands.{SweepCommandsAreComplete, RefundCommandsAreHonoured, ExchangeCommandsAreHonoured, RepliesHonour, TriesExchange}
 use Rattle.service_laws.proofs.Own.{begin_one}
 use Rattle.service_laws.proofs.SweepLemmas.{sweeps_complete}
-use Rattle.service_laws.proofs.Honouring.{in_time, refunds_honoured}
+use Rattle.service_laws.proofs.Honouring.{in_time, refunds_honoured, exchanges_honoured}
 
 pub sweep_commands_complete : SweepCommandsAreComplete
 sweep_commands_complete cat books old new begun row retailer now reply of rows (swept, swept_by, is) begins over =
@@ -78,3 +88,27 @@ refund_commands_honoured cat retailer made now row code reply asking asked old n
     let quote = quoted_so cat cat.rows retailer made row code a asking asked asks is_quote in
     replied code now v b new reply (refunds_honoured cat cat.rows retailer made now row code b asking asked mid new quote accepts (begins_later asked old mid new found.0 accepts.0 found.2 accepts.2 after) time) is
 refund_commands_honoured cat retailer made now row code reply asking asked old new (a, asks, is_quote) (inr (v, mid, found, inr (same, is))) after time = inr (inl is)
+
+-- an exchange
+
+exchange_quoted : (cat : CatalogueView) (rows retailer made : ℕ) (row : RowNo) (offer : OfferView) (code : ExchangeCode) (a : QuotedExchange) (asking asked : DeskView) → AddsStepsBy (QuotesExchange cat rows row retailer offer made a) asking asked → IsExchangeQuote a (exchange_offer code)
+    → AddsStepsBy (QuotesExchange cat rows row retailer offer made (quoted_exchange.Done code)) asking asked
+exchange_quoted cat rows retailer made row offer code (quoted_exchange.Done c) asking asked did (inl is) =
+    let same : c ≡ code = cc in
+    subst (λ (x : ExchangeCode). AddsStepsBy (QuotesExchange cat rows row retailer offer made (quoted_exchange.Done x)) asking asked) same did
+exchange_quoted cat rows retailer made row offer code (quoted_exchange.Done c) asking asked did (inr is) = absurd cc
+exchange_quoted cat rows retailer made row offer code quoted_exchange.Unknown asking asked did is = absurd cc
+exchange_quoted cat rows retailer made row offer code (quoted_exchange.WrongState shown) asking asked did is = absurd cc
+
+unready : (cat : CatalogueView) (retailer now : ℕ) (code : ExchangeView) (a : Readied) (p : Problem) (old new : DeskView) (reply : Reply) → HonoursExchange code new a → IsUnready a p → reply ≡ problem p → TriesExchange cat retailer code now old new reply
+unready cat retailer now code (readied.Fine ready) p old new reply honours why is = absurd why
+unready cat retailer now code readied.Unknown p old new reply honours why is = inr (honours, inl (is ∙ ap (λ (x : Problem). problem x) why))
+unready cat retailer now code (readied.WrongState shown) p old new reply honours why is = inr (honours, inr (shown, is ∙ ap (λ (x : Problem). problem x) why))
+unready cat retailer now code (readied.QuoteStale made at) p old new reply honours why is = absurd honours
+unready cat retailer now code readied.QuoteWrong p old new reply honours why is = absurd honours
+
+pub exchange_commands_honoured : ExchangeCommandsAreHonoured
+exchange_commands_honoured cat retailer made now row offer code reply asking asked old new (a, asks, is_quote) (inl (b, p, readies, why, is)) after time =
+    let quote = exchange_quoted cat cat.rows retailer made row (offer_view offer) code a asking asked asks is_quote in
+    unready cat retailer now (exchange_view code) b p old new reply (exchanges_honoured cat cat.rows retailer made now row (offer_view offer) code b asking asked old new quote readies after time) why is
+exchange_commands_honoured cat retailer made now row offer code reply asking asked old new quote (inr tried) after time = inl tried

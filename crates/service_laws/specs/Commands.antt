@@ -13,10 +13,17 @@ use Rattle.booking_rows.specs.Aims.{end_of}
 use Rattle.booking_rows.specs.declared.turns.Aim.TheVariants as aim
 use Rattle.rail_catalogue.specs.Contents.{CatalogueView}
 use Rattle.offer_codes.specs.declared.code.RefundCode.{RefundCode}
+use Rattle.offer_codes.specs.declared.code.OfferCode.{OfferCode}
+use Rattle.offer_codes.specs.declared.code.ExchangeCode.{ExchangeCode}
+use Rattle.offer_codes.specs.Exchanges.{ExchangeView, exchange_view}
 use Rattle.refund_core.specs.Quotes.{phase_named}
-use Rattle.osdm_texts.specs.Answers.{Reply, booking, refund_offer, problem}
+use Rattle.exchange_core.specs.Exchanges.{Readies}
+use Rattle.exchange_core.specs.declared.readying.Readied.TheVariants as readied
+use Rattle.osdm_texts.specs.Answers.{Reply, booking, refund_offer, exchange_offer, problem}
 use Rattle.osdm_texts.specs.declared.problem.Problem.TheVariants.{UnknownBooking, WrongState, NoMemory}
-use Rattle.booking_service.specs.Deciding.{at_end}
+use Rattle.booking_service.specs.Deciding.{Replying, at_end}
+use Rattle.claim_rule.specs.Calls.{AddsStepsBy}
+use Rattle.trade_service.specs.Exchanges.{CarriesOut, ready_of}
 use Rattle.service_rules.specs.Ordered as order
 use Rattle.service_rules.specs.Performing.{Performs}
 use Rattle.service_laws.specs.Begun.{BeginsAt, BeginsAfter, HasLeft}
@@ -46,3 +53,22 @@ RefundCommandsAreHonoured =
     → Performs cat retailer made (order.quote_refund row) asking asked (refund_offer code)
     → Performs cat retailer now (order.accept_refund code) old new reply
     → BeginsAfter asked old new → IsInTime made now → RepliesHonour code now new reply
+
+-- the exchange is tried, by a quote that was found right; or the booking is unknown or in another phase, where it has
+-- left the phase that the code names
+abbrev pub TriesExchange : CatalogueView → ℕ → ExchangeView → ℕ → Replying
+TriesExchange cat retailer code now old new reply =
+    ((mid : DeskView)
+    × AddsStepsBy (Readies cat cat.rows retailer code now (readied.Fine (ready_of retailer code now))) old mid
+    × CarriesOut cat (ready_of retailer code now) mid new reply)
+    ⊎ (HasLeft (phase_named code.fulfilled) (state_seen new) code.row
+    × ((reply ≡ problem UnknownBooking) ⊎ ((shown : Phase) × (reply ≡ problem (WrongState shown)))))
+
+abbrev pub ExchangeCommandsAreHonoured : Type 0
+ExchangeCommandsAreHonoured =
+    (cat : CatalogueView) (retailer made now : ℕ) (row : RowNo) (offer : OfferCode) (code : ExchangeCode)
+    (reply : Reply) (asking asked old new : DeskView)
+    → Performs cat retailer made (order.quote_exchange row offer) asking asked (exchange_offer code)
+    → Performs cat retailer now (order.accept_exchange code) old new reply
+    → BeginsAfter asked old new → IsInTime made now
+    → TriesExchange cat retailer (exchange_view code) now old new reply
