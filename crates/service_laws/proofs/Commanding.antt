@@ -22,7 +22,7 @@ use Rattle.refund_core.specs.declared.quoting.Quoted.{Quoted}
 use Rattle.refund_core.specs.declared.quoting.Quoted.TheVariants as quoted
 use Rattle.refund_core.specs.declared.refunding.Refunded.{Refunded}
 use Rattle.refund_core.specs.declared.refunding.Refunded.TheVariants as refunded
-use Rattle.exchange_core.specs.Exchanges.{QuotesExchange}
+use Rattle.exchange_core.specs.Exchanges.{QuotesExchange, Readies}
 use Rattle.exchange_core.specs.declared.quoting.QuotedExchange.{QuotedExchange}
 use Rattle.exchange_core.specs.declared.quoting.QuotedExchange.TheVariants as quoted_exchange
 use Rattle.exchange_core.specs.declared.readying.Readied.{Readied}
@@ -108,7 +108,9 @@ unready cat retailer now code (readied.QuoteStale made at) p old new reply honou
 unready cat retailer now code readied.QuoteWrong p old new reply honours why is = absurd honours
 
 pub exchange_commands_honoured : ExchangeCommandsAreHonoured
-exchange_commands_honoured cat retailer made now row offer code reply asking asked old new (a, asks, is_quote) (inl (b, p, readies, why, is)) after time =
-    let quote = exchange_quoted cat cat.rows retailer made row (offer_view offer) code a asking asked asks is_quote in
-    unready cat retailer now (exchange_view code) b p old new reply (exchanges_honoured cat cat.rows retailer made now row (offer_view offer) code b asking asked old new quote readies after time) why is
-exchange_commands_honoured cat retailer made now row offer code reply asking asked old new quote (inr tried) after time = inl tried
+exchange_commands_honoured cat retailer made now row offer told code reply asking asked old new (a, asks, is_quote) same (inl (b, p, readies, why, is)) after time =
+    let quote = exchange_quoted cat cat.rows retailer made row (offer_view offer) told a asking asked asks is_quote in
+    let checks = subst (λ (x : ExchangeView). AddsStepsBy (Readies cat cat.rows retailer x now b) old new) (sym same) readies in
+    let honours = exchanges_honoured cat cat.rows retailer made now row (offer_view offer) told b asking asked old new quote checks after time in
+    unready cat retailer now (exchange_view code) b p old new reply (subst (λ (x : ExchangeView). HonoursExchange x new b) same honours) why is
+exchange_commands_honoured cat retailer made now row offer told code reply asking asked old new quote same (inr tried) after time = inl tried

@@ -64,11 +64,13 @@ TriesExchange cat retailer code now old new reply =
     ⊎ (HasLeft (phase_named code.fulfilled) (state_seen new) code.row
     × ((reply ≡ problem UnknownBooking) ⊎ ((shown : Phase) × (reply ≡ problem (WrongState shown)))))
 
+-- the code that is accepted spells as the one that was quoted
 abbrev pub ExchangeCommandsAreHonoured : Type 0
 ExchangeCommandsAreHonoured =
-    (cat : CatalogueView) (retailer made now : ℕ) (row : RowNo) (offer : OfferCode) (code : ExchangeCode)
+    (cat : CatalogueView) (retailer made now : ℕ) (row : RowNo) (offer : OfferCode) (told code : ExchangeCode)
     (reply : Reply) (asking asked old new : DeskView)
-    → Performs cat retailer made (order.quote_exchange row offer) asking asked (exchange_offer code)
+    → Performs cat retailer made (order.quote_exchange row offer) asking asked (exchange_offer told)
+    → exchange_view told ≡ exchange_view code
     → Performs cat retailer now (order.accept_exchange code) old new reply
     → BeginsAfter asked old new → IsInTime made now
     → TriesExchange cat retailer (exchange_view code) now old new reply

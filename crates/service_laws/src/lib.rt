@@ -3,7 +3,8 @@
 //!
 //! A sweep leaves no booking prebooked that was past its limit when the sweep began. A quote that was given is honoured
 //! for 900 seconds, as long as the booking stays in the phase in which it was quoted. A desk is any desk here: the one
-//! that accepts need not be the one that quoted. Each is said of the call that does it, and of the command and its reply.
+//! that accepts need not be the one that quoted. Each is said of the call that does it, and of the command with its
+//! reply.
 //!
 //! The crate has definitions and laws alone: it does nothing when it runs.
 //!
