@@ -1,5 +1,5 @@
 -- A booking that was seen for a quote, and what the looks of a later call show of it.
-use Rattle.std.proofs.Common.{◌≡◌, ℕ, suc, ◌+◌, ◌≤◌, ◌⊎◌, inl, inr, Bool, cond, true, List, [], ◌∷◌, ◌++◌, map, length, Option, Some, IsSomeAnd, refl, sym, ap, ◌∙◌, subst, arith, append_assoc, append-nil, eq-eqb}
+use Rattle.std.proofs.Common.{◌≡◌, ℕ, suc, ◌+◌, ◌≤◌, ◌⊎◌, inl, inr, Bool, cond, true, List, [], ◌∷◌, ◌++◌, map, length, Some, refl, sym, ap, ◌∙◌, subst, arith, append_assoc, append-nil, eq-eqb}
 use Rattle.std.specs.List.{AllByRecursion}
 use mathlib.Core.List.{IsPrefix}
 use Rattle.leg_masks.specs.Interval.{PlacedSpan as Item, item_word}
@@ -21,7 +21,7 @@ use Rattle.history_model.proofs.Seen.{legal-front, legal-rest, state_of-append}
 use Rattle.history_model.proofs.Forward.{legal_left, legal_right}
 use Rattle.history_model.proofs.Writing.{booking_of_word}
 use Rattle.claim_rule.specs.Endings.{item_looks, items_read}
-use Rattle.claim_rule.specs.Rule.{DeskView, OnBooking, state_seen}
+use Rattle.claim_rule.specs.Rule.{DeskView, state_seen}
 use Rattle.claim_rule.specs.Desks.{AddsSteps}
 use Rattle.claim_rule.proofs.Shapes.{shape_rest}
 use Rattle.booking_rows.specs.Views.{RowSeen, HasWord, saw_end, saw_phase, saw_row, saw_words}
@@ -29,7 +29,7 @@ use Rattle.booking_rows.proofs.ViewLemmas.{sealed_not_free}
 use Rattle.refund_core.specs.Quotes.{SeesOwn}
 use Rattle.service_laws.specs.Begun.{BeginsAt, HasLeft}
 use Rattle.service_laws.proofs.Own.{first_of, rest_of, steps_all, steps_since, around}
-use Rattle.service_laws.proofs.Standing.{ShowsSeal, LeavesPhase, there, seal_shown, phase_left, phase_of, still_there}
+use Rattle.service_laws.proofs.Standing.{ShowsSeal, LeavesPhase, there, seal_shown, phase_left, phase_of, still_there, stands_so}
 
 -- The quote's first look found the booking. From it on, with the other looks of the quote, the history goes on to
 -- where the later call begins
@@ -124,10 +124,6 @@ still_shown : (t : State) (row : RowNo) (n : ℕ) → n ≡ row_word t row.row 0
 still_shown t row n is kept =
     let c = present_shown t row.row row.generation (phase_shown row.generation n) kept (ap (phase_shown row.generation) (sym is)) in
     sym (present_latest t row.row c.0 c.1).1 ∙ ap (λ (k : ℕ). k + 1) c.2
-
--- what holds of the booking in a state that is this one
-stands_so : (s t : State) (row : RowNo) (c : Booking) (P : Booking → Type 0) → t ≡ s → booking_at s row.row row.generation ≡ Some c → P c → OnBooking t row P
-stands_so s t row c P is at holds = subst (λ (x : State). OnBooking x row P) (sym is) (subst (λ (o : Option Booking). IsSomeAnd o P) (sym at) holds)
 
 -- the quote and the later call saw one total, and the same items
 
