@@ -39,7 +39,7 @@ use Rattle.service_laws.proofs.Own.{first_of, rest_of, no_steps}
 use Rattle.service_laws.proofs.Standing.{ShowsSeal, LeavesPhase}
 use Rattle.service_laws.proofs.QuoteLemmas.{Unmoved, has_left, sees_same, shows_all}
 
-in_time : (made now : ℕ) → IsInTime made now → is_stale made now ≡ false
+pub in_time : (made now : ℕ) → IsInTime made now → is_stale made now ≡ false
 in_time made now time =
     let past = time.0 in
     let soon = time.1 in

@@ -3,3 +3,4 @@ pub mod Own
 pub mod SweepLemmas
 pub mod QuoteLemmas
 pub mod Honouring
+pub mod Commanding

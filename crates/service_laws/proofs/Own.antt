@@ -95,7 +95,7 @@ around d (e ∷ es) (z ∷ zs) x ys is = ⊎_elim
 
 -- calls in order
 
-begin_one : (xs ys s t : List Entry) → xs ++ s ≡ ys ++ t → IsPrefix xs ys ⊎ IsPrefix ys xs
+pub begin_one : (xs ys s t : List Entry) → xs ++ s ≡ ys ++ t → IsPrefix xs ys ⊎ IsPrefix ys xs
 begin_one [] ys s t e = inl (ys, refl)
 begin_one (x ∷ xs) [] s t e = inr (x ∷ xs, refl)
 begin_one (x ∷ xs) (y ∷ ys) s t e =

@@ -1,5 +1,5 @@
 -- A booking that was seen for a quote, and what the looks of a later call show of it.
-use Rattle.std.proofs.Common.{◌≡◌, ℕ, suc, ◌+◌, ◌≤◌, ◌⊎◌, inl, inr, Bool, cond, true, List, [], ◌∷◌, ◌++◌, map, length, Option, Some, IsSomeAnd, refl, sym, ap, ◌∙◌, subst, arith, append_assoc, append-nil, eq-eqb}
+use Rattle.std.proofs.Common.{◌≡◌, ℕ, suc, ◌+◌, ◌≤◌, ◌⊎◌, inl, inr, Bool, cond, true, List, [], ◌∷◌, ◌++◌, map, length, Some, refl, sym, ap, ◌∙◌, subst, arith, append_assoc, append-nil, eq-eqb}
 use Rattle.std.specs.List.{AllByRecursion}
 use mathlib.Core.List.{IsPrefix}
 use Rattle.leg_masks.specs.Interval.{PlacedSpan as Item, item_word}
@@ -9,6 +9,7 @@ use Rattle.history_model.specs.declared.entry.Entry.{Entry}
 use Rattle.history_model.specs.declared.entry.Step.{Step}
 use Rattle.history_model.specs.declared.entry.Step.TheVariants.{SawRow}
 use Rattle.history_model.specs.declared.phase.Phase.{Phase}
+use Rattle.history_model.specs.declared.phase.Phase.TheVariants.{Free}
 use Rattle.history_model.specs.Phase.{is_sealed, is_live, phase_shown}
 use Rattle.history_model.specs.Booking.{Booking, Layout, State, booking_at, next_generation, word_at}
 use Rattle.history_model.specs.History.{IsLegal, IsLegalFrom, entry, own, state_after, state_of}
@@ -20,7 +21,7 @@ use Rattle.history_model.proofs.Seen.{legal-front, legal-rest, state_of-append}
 use Rattle.history_model.proofs.Forward.{legal_left, legal_right}
 use Rattle.history_model.proofs.Writing.{booking_of_word}
 use Rattle.claim_rule.specs.Endings.{item_looks, items_read}
-use Rattle.claim_rule.specs.Rule.{DeskView, OnBooking, state_seen}
+use Rattle.claim_rule.specs.Rule.{DeskView, state_seen}
 use Rattle.claim_rule.specs.Desks.{AddsSteps}
 use Rattle.claim_rule.proofs.Shapes.{shape_rest}
 use Rattle.booking_rows.specs.Views.{RowSeen, HasWord, saw_end, saw_phase, saw_row, saw_words}
@@ -28,7 +29,7 @@ use Rattle.booking_rows.proofs.ViewLemmas.{sealed_not_free}
 use Rattle.refund_core.specs.Quotes.{SeesOwn}
 use Rattle.service_laws.specs.Begun.{BeginsAt, HasLeft}
 use Rattle.service_laws.proofs.Own.{first_of, rest_of, steps_all, steps_since, around}
-use Rattle.service_laws.proofs.Standing.{ShowsSeal, LeavesPhase, there, seal_shown, phase_left, phase_of, still_there}
+use Rattle.service_laws.proofs.Standing.{ShowsSeal, LeavesPhase, there, seal_shown, phase_left, phase_of, still_there, stands_so}
 
 -- The quote's first look found the booking. From it on, with the other looks of the quote, the history goes on to
 -- where the later call begins
@@ -118,6 +119,12 @@ parted a m b f = ap (λ (l : List Entry). a ++ l) (append_assoc m b f) ∙ sym (
 legal_as : (g : Layout) (xs ys : List Entry) → xs ≡ ys → IsLegal g ys → IsLegal g xs
 legal_as g xs ys is legal = subst (IsLegal g) (sym is) legal
 
+-- a look that shows the booking finds it present
+still_shown : (t : State) (row : RowNo) (n : ℕ) → n ≡ row_word t row.row 0 → (phase_shown row.generation n ≡ Free → ⊥) → next_generation t row.row ≡ row.generation + 1
+still_shown t row n is kept =
+    let c = present_shown t row.row row.generation (phase_shown row.generation n) kept (ap (phase_shown row.generation) (sym is)) in
+    sym (present_latest t row.row c.0 c.1).1 ∙ ap (λ (k : ℕ). k + 1) c.2
+
 -- the quote and the later call saw one total, and the same items
 
 pub record SeesSame (v w : RowSeen) : Type 0 where
@@ -144,9 +151,7 @@ sees_same row retailer v w es qs asking asked old new begun asks saw on did sees
     let first = legal_left g s between final l in
     let then = legal_right g s between final l in
     let t = state_after s between in
-    let shown : phase_shown row.generation (row_word t row.row 0) ≡ phase_shown row.generation last = ap (phase_shown row.generation) (sym then.0.2) in
-    let c = present_shown t row.row row.generation (phase_shown row.generation last) sees.1.1.1 shown in
-    let still : next_generation t row.row ≡ row.generation + 1 = sym (present_latest t row.row c.0 c.1).1 ∙ ap (λ (n : ℕ). n + 1) c.2 in
+    let still = still_shown t row last then.0.2 sees.1.1.1 in
     let b = a.booking in
     let P = ShowsSeal row.row b in
     let shows = seal_shown g s between row.row row.generation b b first a.at (ap is_sealed a.in_phase ∙ a.sealed) (λ k _. refl) still in
@@ -187,8 +192,7 @@ has_left row retailer v es qs asking asked old new begun asks saw on did begins 
     let c = there g s since row.row row.generation b l a.at sealed in
     let last : state_of g (a.before ++ since) ≡ state_after s since = state_of-append g a.before since in
     let final : state_seen new ≡ state_after s since = ap (state_of g) (sym (whole ∙ all)) ∙ last in
-    subst (λ (x : State). OnBooking x row (λ y. y.phase ≡ v.phase → ⊥)) (sym final)
-    (subst (λ (o : Option Booking). IsSomeAnd o (λ y. y.phase ≡ v.phase → ⊥)) (sym c.1) (λ (is : c.0.phase ≡ v.phase).
+    stands_so (state_after s since) (state_seen new) row c.0 (λ y. y.phase ≡ v.phase → ⊥) final c.1 (λ (is : c.0.phase ≡ v.phase).
     let later : booking_at (state_of g (a.before ++ since)) row.row row.generation ≡ Some c.0 = ap (λ (x : State). booking_at x row.row row.generation) last ∙ c.1 in
     let still = ap (λ (x : State). next_generation x row.row) (sym last) ∙ still_there g (a.before ++ since) row.row row.generation c.0 lawful later (ap is_live is ∙ live) in
     let P = ShowsSeal row.row b in
@@ -205,4 +209,4 @@ has_left row retailer v es qs asking asked old new begun asks saw on did begins 
       its = sym saw.0 ∙ one.retailer;
       seals = steps_all P old.number rest es mine (All-right Q (a.quote ++ a.more) rest seals);
       phases = steps_all R old.number rest es mine (All-right T (a.quote ++ a.more) rest phases);
-    })))
+    }))

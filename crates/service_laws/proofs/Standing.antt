@@ -1,5 +1,5 @@
 -- A sealed booking that stays its row's present one: what the entries of its row show meanwhile.
-use Rattle.std.proofs.Common.{◌≡◌, ℕ, ◌+◌, ◌≤◌, ◌⊎◌, ⊎_elim, Bool, cond, true, false, List, [], ◌∷◌, Some, refl, sym, ap, ◌∙◌, subst, arith, ne_eqb}
+use Rattle.std.proofs.Common.{◌≡◌, ℕ, ◌+◌, ◌≤◌, ◌⊎◌, ⊎_elim, Bool, cond, true, false, List, [], ◌∷◌, Option, Some, IsSomeAnd, refl, sym, ap, ◌∙◌, subst, arith, ne_eqb}
 use Rattle.std.specs.List.{AllByRecursion}
 use Rattle.std.specs.Option.{option_map_or}
 use Rattle.history_model.specs.declared.entry.Entry.{Entry}
@@ -21,6 +21,8 @@ use Rattle.history_model.proofs.Generations.{generation_below, key_present, key_
 use Rattle.history_model.proofs.Keeping.{found, live_sealed}
 use Rattle.history_model.proofs.Leading.{turn_decides, leads-ending}
 use Rattle.history_model.proofs.Writing.{word_in}
+use Rattle.rail_ids.specs.declared.RowNo.{RowNo}
+use Rattle.claim_rule.specs.Rule.{OnBooking}
 use Rattle.claim_rule.proofs.Moves.{is_sound}
 
 -- the words that a booking is sealed with
@@ -178,3 +180,7 @@ still_there g history row generation c legal at live =
     unended Making l = refl
     unended (Ending k) l = refl
     unended (Ended k) l = absurd (let no : false ≡ true = l in cc)
+
+-- what holds of the booking in a state that is this one
+pub stands_so : (s t : State) (row : RowNo) (c : Booking) (P : Booking → Type 0) → t ≡ s → booking_at s row.row row.generation ≡ Some c → P c → OnBooking t row P
+stands_so s t row c P is at holds = subst (λ (x : State). OnBooking x row P) (sym is) (subst (λ (o : Option Booking). IsSomeAnd o P) (sym at) holds)

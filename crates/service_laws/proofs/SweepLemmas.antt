@@ -1,5 +1,5 @@
 -- A sweep leaves no booking prebooked that was overdue when it began.
-use Rattle.std.proofs.Common.{◌≡◌, ℕ, zero, suc, ◌+◌, ◌<◌, ◌≤◌, ◌%◌, inl, List, [], ◌∷◌, ◌++◌, length, Option, Some, IsSomeAnd, refl, sym, ap, ◌∙◌, subst, arith}
+use Rattle.std.proofs.Common.{◌≡◌, ℕ, zero, suc, ◌+◌, ◌<◌, ◌≤◌, ◌%◌, inl, List, [], ◌∷◌, ◌++◌, length, Some, refl, sym, ap, ◌∙◌, subst, arith}
 use Rattle.std.specs.List.{AllByRecursion}
 use Rattle.history_model.specs.declared.entry.Entry.{Entry}
 use Rattle.history_model.specs.declared.entry.Step.{Step}
@@ -18,7 +18,7 @@ use Rattle.history_model.proofs.Ranges.{ranges_all}
 use Rattle.history_model.proofs.Seen.{legal-front, legal-rest, state_of-append}
 use Rattle.history_model.specs.WholeEnds.{end_turn}
 use Rattle.rail_ids.specs.declared.RowNo.{RowNo}
-use Rattle.claim_rule.specs.Rule.{OnBooking, state_seen}
+use Rattle.claim_rule.specs.Rule.{state_seen}
 use Rattle.claim_rule.specs.Endings.{items_read}
 use Rattle.claim_rule.specs.EndSteps.{ending_steps}
 use Rattle.expiry_sweeper.specs.AllRows.{sweeps_steps}
@@ -29,7 +29,7 @@ use Rattle.booking_rows.specs.Views.{saw_phase}
 use Rattle.row_decisions.specs.Ends.{ends_as}
 use Rattle.service_laws.specs.Complete.{SweepsAreComplete}
 use Rattle.service_laws.proofs.Own.{first_of, rest_of, steps_all, steps_since}
-use Rattle.service_laws.proofs.Standing.{ShowsSeal, LeavesPhase, there, seal_shown, phase_left, phase_of, still_there}
+use Rattle.service_laws.proofs.Standing.{ShowsSeal, LeavesPhase, there, seal_shown, phase_left, phase_of, still_there, stands_so}
 
 -- the sweep of the row of this number
 sweep_at : (P : Step → Type 0) (now k i : ℕ) (sweeps : List RowSweep) → i < length sweeps → AllByRecursion P (sweeps_steps now k sweeps) → AllByRecursion (IsRowSweep now) sweeps → (s : RowSweep) × IsRowSweep now s × AllByRecursion P (row_sweep_steps now (k + i) s)
@@ -104,8 +104,7 @@ sweeps_complete books old new begun row now answer of (steps, sweep, did) begins
     let last : state_of g (begun ++ rest) ≡ state_after s rest = state_of-append g begun rest in
     let final : state_seen new ≡ state_after s rest = ap (λ (x : Layout). state_of x new.seen) layout ∙ (ap (state_of g) (sym all) ∙ last) in
     let in_row : row.row < g.rows = in_range g begun row b.0 (legal-front g begun rest legal) b.1 in
-    subst (λ (x : State). OnBooking x row (λ y. y.phase ≡ Prebooked → ⊥)) (sym final)
-    (subst (λ (o : Option Booking). IsSomeAnd o (λ y. y.phase ≡ Prebooked → ⊥)) (sym c.1) (λ (is : c.0.phase ≡ Prebooked).
+    stands_so (state_after s rest) (state_seen new) row c.0 (λ y. y.phase ≡ Prebooked → ⊥) final c.1 (λ (is : c.0.phase ≡ Prebooked).
     let later : booking_at (state_of g (begun ++ rest)) row.row row.generation ≡ Some c.0 = ap (λ (x : State). booking_at x row.row row.generation) last ∙ c.1 in
     let still = ap (λ (x : State). next_generation x row.row) (sym last) ∙ still_there g (begun ++ rest) row.row row.generation c.0 legal later (ap is_live is) in
     let seals = seal_shown g s rest row.row row.generation b.0 b.0 l b.1 (ap is_sealed b.2.0) (λ w _. refl) still in
@@ -113,7 +112,7 @@ sweeps_complete books old new begun row now answer of (steps, sweep, did) begins
     let mine = steps_all (Fits row.row row.generation b.0) old.number rest steps (steps_since old new begun rest steps did begins.none_yet all) (both_all row.row row.generation b.0 rest seals phases) in
     let its = sweep_at (Fits row.row row.generation b.0) now 0 row.row sweep.sweeps (subst (λ (n : ℕ). row.row < n) (sym sweep.every) in_row) (subst (AllByRecursion (Fits row.row row.generation b.0)) sweep.steps mine) sweep.each in
     let same : 0 + row.row ≡ row.row = omega arith in
-    impossible now row.row row.generation b.0 its.0 b.2.1 its.1 (subst (λ (n : ℕ). AllByRecursion (Fits row.row row.generation b.0) (row_sweep_steps now n its.0)) same its.2)))
+    impossible now row.row row.generation b.0 its.0 b.2.1 its.1 (subst (λ (n : ℕ). AllByRecursion (Fits row.row row.generation b.0) (row_sweep_steps now n its.0)) same its.2))
   where
     in_range : (g : Layout) (h : List Entry) (row : RowNo) (b : Booking) → IsLegal g h → booking_at (state_of g h) row.row row.generation ≡ Some b → row.row < g.rows
     in_range g h row b legal at =

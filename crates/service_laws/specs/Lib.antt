@@ -1,3 +1,4 @@
 pub mod Begun
 pub mod Complete
 pub mod Honoured
+pub mod Commands

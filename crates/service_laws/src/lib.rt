@@ -1,11 +1,15 @@
-//! What a retailer may count on over several calls. It is a crate of its own since each of its facts follows from the
-//! contracts of crates below that stand beside one another.
+//! What a retailer may count on over several calls. It is a crate of its own since each of its facts follows from
+//! contracts of several crates below, of which none stands on all.
 //!
 //! A sweep leaves no booking prebooked that was past its limit when the sweep began. A quote that was given is honoured
 //! for 900 seconds, as long as the booking stays in the phase in which it was quoted. A desk is any desk here: the one
-//! that accepts need not be the one that quoted.
+//! that accepts need not be the one that quoted. Each is said of the call that does it, and of the command with its
+//! reply.
 //!
 //! The crate has definitions and laws alone: it does nothing when it runs.
+//!
+//! Where to look in `specs/`: `Begun` (where a call begins, and which begins after which), `Complete` (sweeps),
+//! `Honoured` (quotes), `Commands` (the same of commands).
 #![tactic(auto)]
 
 mod laws;

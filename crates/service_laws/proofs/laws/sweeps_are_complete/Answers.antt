@@ -1,5 +1,9 @@
 use Rattle.service_laws.proofs.SweepLemmas.{sweeps_complete}
+use Rattle.service_laws.proofs.Commanding.{sweep_commands_complete}
 use Rattle.service_laws.proofs.laws.sweeps_are_complete.Goals as goal
 
-pub returns : goal.returns
-returns c = record { complete = sweeps_complete }
+pub returns-clause-complete : goal.returns-clause-complete
+returns-clause-complete c = sweeps_complete
+
+pub returns-clause-commands : goal.returns-clause-commands
+returns-clause-commands c = sweep_commands_complete
