@@ -1,0 +1,100 @@
+//! The fold of a journal.
+ghost use Rattle.std.specs.Prelude.{IfErr, IfOk};
+ghost use Rattle.journal_text.specs.Faults.{IsJournalFault};
+ghost use Rattle.journal_text.specs.Folds.{IsFold};
+ghost use Rattle.journal_text.specs.Rooms.{fold_view};
+
+use crate::cut::holds_cut;
+use crate::fault::JournalFault;
+use crate::head::Head;
+use crate::lines::put_lines;
+use crate::reader::{Reader, front};
+use crate::sum::Sum;
+use crate::writer::{push_first_line, push_last_line};
+use std::alloc::{AllocError, Global};
+
+/// What a journal says.
+#[derive(Drop)]
+pub struct Folded {
+    /// The export of the last line of each row.
+    pub export: Vec<u8>,
+    pub places: u64,
+    pub rows: u64,
+    pub print: Sum,
+    /// How many whole cuts it has.
+    pub cuts: u64,
+    /// How many bytes its first line and its whole cuts are. What stands after them is a torn end.
+    pub whole: usize,
+    /// The sum of the last whole cut, or of the first line where there is none: what the next cut follows.
+    pub sum: Sum,
+}
+
+/// The cuts that were read: how many, and the sum after them.
+#[derive(Clone, Copy)]
+struct Cuts {
+    count: u64,
+    sum: Sum,
+}
+
+/// The fold of a journal's text.
+pub fn fold(alloc: Global, text: &[u8]) -> Result<Folded, JournalFault>
+    ensures ok { IfOk result (λ folded. IsFold text.now (fold_view folded)) }
+    ensures err { IfErr result (IsJournalFault text.now) }
+{
+    let mut reader = Reader { rest: text };
+    let Some(head) = reader.head() else {
+        return Err(JournalFault::NotAJournal);
+    };
+    let first = Sum::of(front(text, reader.rest));
+    let mut lasts = Vec::from_elem(alloc, None, head.rows as usize)?;
+    let cuts = read_cuts(&mut reader, first, lasts.as_mut_slice())?;
+    if holds_cut(reader.rest) {
+        return Err(JournalFault::BrokenCut {
+            cut: cuts.count.saturating_add(1),
+        });
+    }
+    Ok(Folded {
+        export: export_of(alloc, &head, lasts.as_slice())?,
+        places: head.places,
+        rows: head.rows,
+        print: head.print,
+        cuts: cuts.count,
+        whole: text.len() - reader.rest.len(),
+        sum: cuts.sum,
+    })
+}
+
+// Reads the cuts that follow each other from the front, and puts their lines.
+fn read_cuts<'a>(
+    reader: &mut Reader<'a>,
+    first: Sum,
+    lasts: &mut [Option<&'a [u8]>],
+) -> Result<Cuts, JournalFault> {
+    let mut cuts = Cuts {
+        count: 0,
+        sum: first,
+    };
+    while let Some(cut) = reader.next_cut(cuts.count + 1, &cuts.sum) {
+        put_lines(lasts, &cut)?;
+        cuts = Cuts {
+            count: cut.number,
+            sum: cut.sum,
+        };
+    }
+    Ok(cuts)
+}
+
+// The export of these lines.
+fn export_of(alloc: Global, head: &Head, lasts: &[Option<&[u8]>]) -> Result<Vec<u8>, AllocError> {
+    let mut text = Vec::new(alloc);
+    push_first_line(&mut text, head.places, head.rows)?;
+    let mut count = 0u64;
+    for last in lasts {
+        if let Some(line) = last {
+            text.extend_from_slice(line)?;
+            count = count.saturating_add(1);
+        }
+    }
+    push_last_line(&mut text, count)?;
+    Ok(text)
+}
