@@ -1,1 +1,6 @@
-
+pub mod Splits
+pub mod SumRead
+pub mod HeadRead
+pub mod CutRead
+pub mod Scanned
+pub mod LineRead

@@ -62,7 +62,10 @@ impl<'a> Reader<'a> {
             return None;
         }
         let sum = Sum::of(summed);
-        if !self.eat(&sum.digits) || !self.eat(b"\n") {
+        if !self.eat(&sum.digits) {
+            return None;
+        }
+        if !self.eat(b"\n") {
             return None;
         }
         Some(Cut {

@@ -1,8 +1,9 @@
 //! The fold of a journal.
-ghost use Rattle.std.specs.Prelude.{IfErr, IfOk};
+ghost use Rattle.std.specs.Prelude.{◌≡◌, IfErr, IfOk, List, [], length};
 ghost use Rattle.journal_text.specs.Faults.{IsJournalFault};
-ghost use Rattle.journal_text.specs.Folds.{IsFold};
-ghost use Rattle.journal_text.specs.Rooms.{fold_view};
+ghost use Rattle.journal_text.specs.Folds.{IsFold, fold_text};
+ghost use Rattle.journal_text.specs.Rooms.{IsCutFault, IsTable, ReadsCuts, fold_view};
+ghost use Rattle.journal_text.specs.Texts.{RowLine};
 
 use crate::cut::holds_cut;
 use crate::fault::JournalFault;
@@ -69,7 +70,13 @@ fn read_cuts<'a>(
     reader: &mut Reader<'a>,
     first: Sum,
     lasts: &mut [Option<&'a [u8]>],
-) -> Result<Cuts, JournalFault> {
+) -> Result<Cuts, JournalFault>
+    requires table { IsTable [] lasts.old }
+    ensures ok { IfOk result (λ cuts. ReadsCuts (length lasts.old) first.digits reader.old.rest.now reader.new.rest.now
+        lasts.new cuts) }
+    ensures len { length lasts.new ≡ length lasts.old }
+    ensures err { IfErr result (IsCutFault (length lasts.old) first.digits reader.old.rest.now) }
+{
     let mut cuts = Cuts {
         count: 0,
         sum: first,
@@ -85,7 +92,11 @@ fn read_cuts<'a>(
 }
 
 // The export of these lines.
-fn export_of(alloc: Global, head: &Head, lasts: &[Option<&[u8]>]) -> Result<Vec<u8>, AllocError> {
+fn export_of(alloc: Global, head: &Head, lasts: &[Option<&[u8]>]) -> Result<Vec<u8>, AllocError>
+    requires rows { head.now.rows ≡ length lasts.now }
+    ensures { IfOk result (λ text. (lines : List RowLine) → IsTable lines lasts.now
+        → text.items ≡ fold_text head.now.places head.now.rows lines) }
+{
     let mut text = Vec::new(alloc);
     push_first_line(&mut text, head.places, head.rows)?;
     let mut count = 0u64;

@@ -1,6 +1,9 @@
 //! The lines of a cut, and the last line of each row.
-ghost use Rattle.std.specs.Prelude.{◌≡◌, length};
-ghost use Rattle.journal_text.specs.Reads.{ReadsLine};
+ghost use Rattle.std.specs.Prelude.{◌≡◌, ◌+◌, ◌^◌, ◌<◌, IfErr, IfOk, length};
+ghost use Rattle.journal_text.specs.declared.fault.JournalFault.TheVariants.{WrongLine};
+ghost use Rattle.journal_text.specs.Reads.{ReadsLine, said_cut};
+ghost use Rattle.journal_text.specs.Rooms.{IsLineFault, PutsLines, ReadsBetween};
+ghost use Rattle.journal_text.specs.Texts.{IsSaidCut};
 
 use crate::cut::Cut;
 use crate::fault::JournalFault;
@@ -38,7 +41,10 @@ impl<'a> Reader<'a> {
 
 /// Puts the lines of a cut in the place of those that their rows had, or gives the first that isn't in its place.
 pub(crate) fn put_lines<'a>(lasts: &mut [Option<&'a [u8]>], cut: &Cut<'a>) -> Result<(), JournalFault>
+    requires said { IsSaidCut (said_cut cut.now) }
     ensures len { length lasts.new ≡ length lasts.old }
+    ensures ok { IfOk result (λ _. PutsLines lasts.old (said_cut cut.now) lasts.new) }
+    ensures err { IfErr result (IsLineFault (length lasts.old) (said_cut cut.now)) }
 {
     let mut reader = Reader { rest: cut.body };
     let mut least = 0;
@@ -58,7 +64,9 @@ pub(crate) fn put_lines<'a>(lasts: &mut [Option<&'a [u8]>], cut: &Cut<'a>) -> Re
 }
 
 // The next line, if its row is in these bounds.
-fn next_line<'a>(reader: &mut Reader<'a>, least: u64, rows: usize) -> Option<Line<'a>> {
+fn next_line<'a>(reader: &mut Reader<'a>, least: u64, rows: usize) -> Option<Line<'a>>
+    ensures { ReadsBetween least rows reader.old.rest.now reader.new.rest.now result }
+{
     let line = reader.line()?;
     if line.row < least || line.row >= rows as u64 {
         return None;
@@ -67,9 +75,12 @@ fn next_line<'a>(reader: &mut Reader<'a>, least: u64, rows: usize) -> Option<Lin
 }
 
 // The fault of the line after so many.
-fn wrong(cut: &Cut<'_>, count: u64) -> JournalFault {
+fn wrong(cut: &Cut<'_>, count: u64) -> JournalFault
+    requires { count + 1 < 2 ^ 64 }
+    ensures { result ≡ WrongLine cut.now.number (count + 1) }
+{
     JournalFault::WrongLine {
         cut: cut.number,
-        line: count.saturating_add(1),
+        line: count + 1,
     }
 }
