@@ -27,7 +27,7 @@ opened r c rest is at = r.only (opening_of c) (c.body ++ (end_of c ++ rest)) (ca
 
 pub no_opening : {old mid new : List ℕ} → ReadsWhole said_opening_text IsOpening old mid None → ReadsCut old new None
 no_opening r =
-    record { found = tt; only = λ c rest is at. let h = opened r c rest is at in absurd (let k = h.0 in cc); }
+    record { found = tt; only = λ c rest is at. let h = opened r c rest is at in absurd (let k = h.0 in cc) }
 
 module _ {old m₁ : List ℕ} {o : Opening} (r : ReadsWhole said_opening_text IsOpening old m₁ (Some o)) where
   opening_is : (c : SaidCut) (rest : List ℕ) → IsSaidCut c → old ≡ cut_text c ++ rest → o ≡ opening_of c
@@ -54,15 +54,16 @@ module _ {old m₁ : List ℕ} {o : Opening} (r : ReadsWhole said_opening_text I
     bodies : (c : SaidCut) (rest : List ℕ) → IsSaidCut c → old ≡ cut_text c ++ rest → (c.body ≡ body) × (m₂ ≡ end_of c ++ rest)
     bodies c rest is at =
         let h = opened r c rest is at in
-        let same : length c.body ≡ length body = sym (size ∙ ap (λ (x : Opening). x.size) (opening_is c rest is at)) in
-        (sym (front_is m₁ c.body (end_of c ++ rest) (length body) same h.1) ∙ front_is m₁ body m₂ (length body) refl b,
-        sym (back_is m₁ body m₂ (length body) refl b) ∙ back_is m₁ c.body (end_of c ++ rest) (length body) same h.1)
+        let same : length c.body ≡ length body = sym (size ∙ ap (λ (x : Opening). x.size) (opening_is c rest is at)) in (
+          sym (front_is m₁ c.body (end_of c ++ rest) (length body) same h.1) ∙ front_is m₁ body m₂ (length body) refl b,
+          sym (back_is m₁ body m₂ (length body) refl b) ∙ back_is m₁ c.body (end_of c ++ rest) (length body) same h.1,
+        )
 
     sums : (c : SaidCut) (rest : List ℕ) → IsSaidCut c → old ≡ cut_text c ++ rest → summed ≡ summed_text c
     sums c rest is at =
         summed_is
-            ∙ (ap (λ (x : Opening). said_opening_text x ++ body) (opening_is c rest is at)
-            ∙ ap (λ (x : List ℕ). said_opening_text (opening_of c) ++ x) (sym (bodies c rest is at).0))
+        ∙ (ap (λ (x : Opening). said_opening_text x ++ body) (opening_is c rest is at)
+        ∙ ap (λ (x : List ℕ). said_opening_text (opening_of c) ++ x) (sym (bodies c rest is at).0))
 
     pub no_word : {m₃ new : List ℕ} → Eats (codes "sum ") m₂ m₃ false → ReadsCut old new None
     no_word e =
@@ -77,7 +78,7 @@ module _ {old m₁ : List ℕ} {o : Opening} (r : ReadsWhole said_opening_text I
       behind_word c rest is at =
           let own : own_sum c ≡ sum = ap sum_of (sym (sums c rest is at)) ∙ sym is_sum in
           append_cancel_left (codes "sum ") m₃ ((own_sum c ++ 10 ∷ []) ++ rest) (sym (e.found refl) ∙ (bodies c rest is at).1)
-              ∙ (append_assoc (own_sum c) (10 ∷ []) rest ∙ ap (λ (x : List ℕ). x ++ (10 ∷ rest)) own)
+          ∙ (append_assoc (own_sum c) (10 ∷ []) rest ∙ ap (λ (x : List ℕ). x ++ (10 ∷ rest)) own)
 
       pub no_sum : {m₄ new : List ℕ} → Eats sum m₃ m₄ false → ReadsCut old new None
       no_sum f =
@@ -92,7 +93,7 @@ module _ {old m₁ : List ℕ} {o : Opening} (r : ReadsWhole said_opening_text I
 
         pub no_feed : Eats (10 ∷ []) m₄ new false → ReadsCut old new None
         no_feed g =
-            record { found = tt; only = λ c rest is at. absurd ((g.none refl).1 rest (feed c rest is at)); }
+            record { found = tt; only = λ c rest is at. absurd ((g.none refl).1 rest (feed c rest is at)) }
 
         -- what was read
         abbrev pub said : SaidCut
@@ -112,23 +113,26 @@ module _ {old m₁ : List ℕ} {o : Opening} (r : ReadsWhole said_opening_text I
         pub cut_read : Eats (10 ∷ []) m₄ new true → (k : Cut) → said_cut k ≡ said → k.sum.digits ≡ sum → ReadsCut old new (Some k)
         cut_read g k same digits =
             let tail : m₂ ≡ end_of said ++ new =
-                e.found refl
-                    ∙ (ap (λ (x : List ℕ). codes "sum " ++ x)
-                    (f.found refl ∙ (ap (λ (x : List ℕ). sum ++ x) (g.found refl) ∙ ap (λ (x : List ℕ). x ++ (10 ∷ new)) own_is))
-                    ∙ ap (λ (x : List ℕ). codes "sum " ++ x) (sym (append_assoc (own_sum said) (10 ∷ []) new))) in
+            e.found refl
+            ∙ (ap (λ (x : List ℕ). codes "sum " ++ x)
+            (f.found refl ∙ (ap (λ (x : List ℕ). sum ++ x) (g.found refl) ∙ ap (λ (x : List ℕ). x ++ (10 ∷ new)) own_is))
+            ∙ ap (λ (x : List ℕ). codes "sum " ++ x) (sym (append_assoc (own_sum said) (10 ∷ []) new))) in
             let at : old ≡ cut_text said ++ new =
-                r.found.1
-                    ∙ (ap (λ (x : List ℕ). said_opening_text o ++ x) (b ∙ ap (λ (x : List ℕ). body ++ x) tail)
-                    ∙ (ap (λ (x : List ℕ). x ++ (body ++ (end_of said ++ new))) opens_so ∙ sym (parts_of said new))) in
+            r.found.1
+            ∙ (ap (λ (x : List ℕ). said_opening_text o ++ x) (b ∙ ap (λ (x : List ℕ). body ++ x) tail)
+            ∙ (ap (λ (x : List ℕ). x ++ (body ++ (end_of said ++ new))) opens_so ∙ sym (parts_of said new))) in
             record {
-              found = (subst IsSaidCut (sym same) is_said,
+              found = (
+                subst IsSaidCut (sym same) is_said,
                 at ∙ ap (λ (x : SaidCut). cut_text x ++ new) (sym same),
-                digits ∙ (own_is ∙ ap own_sum (sym same)));
+                digits ∙ (own_is ∙ ap own_sum (sym same)),
+              );
               only = λ c rest is at'.
                   let number = ap (λ (x : Opening). x.number) (opening_is c rest is at') in
                   let count = ap (λ (x : Opening). x.count) (opening_is c rest is at') in
                   let before = ap (λ (x : Opening). x.before.digits) (opening_is c rest is at') in
-                  let bodies' = (bodies c rest is at').0 in
-                  (same ∙ rw (number, count, before, ← bodies') refl,
-                  append_cancel_left (10 ∷ []) new rest (sym (g.found refl) ∙ feed c rest is at'));
+                  let bodies' = (bodies c rest is at').0 in (
+                    same ∙ rw (number, count, before, ← bodies') refl,
+                    append_cancel_left (10 ∷ []) new rest (sym (g.found refl) ∙ feed c rest is at'),
+                  );
             }

@@ -4,3 +4,5 @@ pub mod HeadRead
 pub mod CutRead
 pub mod Scanned
 pub mod LineRead
+pub mod Fields
+pub mod Kept

@@ -48,7 +48,7 @@ module _ {old m₁ m₂ m₃ : List ℕ} {row : ℕ} (w : Eats (codes "row") old
   split_so : (l : RowLine) (rest : List ℕ) → row_text l ++ rest ≡ codes "row" ++ (number_field l.row ++ (32 ∷ (l.more ++ rest)))
   split_so l rest =
       append_assoc (codes "row") (number_field l.row ++ field l.more) rest
-          ∙ ap (λ (x : List ℕ). codes "row" ++ x) (append_assoc (number_field l.row) (field l.more) rest)
+      ∙ ap (λ (x : List ℕ). codes "row" ++ x) (append_assoc (number_field l.row) (field l.more) rest)
 
   more_is : (l : RowLine) (rest : List ℕ) → IsAnyLine l → old ≡ row_text l ++ (10 ∷ rest) → (row ≡ l.row) × (m₃ ≡ l.more ++ (10 ∷ rest))
   more_is l rest is at =
@@ -76,9 +76,9 @@ module _ {old m₁ m₂ m₃ : List ℕ} {row : ℕ} (w : Eats (codes "row") old
     pub all : old ≡ row_text said ++ 10 ∷ drop (e + 1) m₃
     all =
         w.found refl
-            ∙ (ap (λ (x : List ℕ). codes "row" ++ x)
-            (f.found.1 ∙ ap (λ (x : List ℕ). number_field row ++ x) (g.found refl ∙ ap (λ (x : List ℕ). 32 ∷ x) parts))
-            ∙ sym (split_so said (10 ∷ drop (e + 1) m₃)))
+        ∙ (ap (λ (x : List ℕ). codes "row" ++ x)
+        (f.found.1 ∙ ap (λ (x : List ℕ). number_field row ++ x) (g.found refl ∙ ap (λ (x : List ℕ). 32 ∷ x) parts))
+        ∙ sym (split_so said (10 ∷ drop (e + 1) m₃)))
 
     pub shorter : {new : List ℕ} → new ≡ drop (e + 1) m₃ → length new ≤ length old
     shorter {new = new} n =
@@ -89,7 +89,7 @@ module _ {old m₁ m₂ m₃ : List ℕ} {row : ℕ} (w : Eats (codes "row") old
     pub line_read : {new : List ℕ} → new ≡ drop (e + 1) m₃ → (line : Line) → line.row ≡ row → line.text.now ≡ take (length old - length new) old → ReadsLine old new (Some line)
     line_read {new = new} n line is_row text =
         let whole : old ≡ (row_text said ++ 10 ∷ []) ++ new =
-            all ∙ (ap (λ (x : List ℕ). row_text said ++ 10 ∷ x) (sym n) ∙ sym (append_assoc (row_text said) (10 ∷ []) new)) in
+        all ∙ (ap (λ (x : List ℕ). row_text said ++ 10 ∷ x) (sym n) ∙ sym (append_assoc (row_text said) (10 ∷ []) new)) in
         let is_text : line.text.now ≡ row_text said ++ 10 ∷ [] = text ∙ before_rest old (row_text said ++ 10 ∷ []) new whole in
         record {
           found = (said, record { row = f.found.0; line = (line_at m₃ e below none feed).0 }, (is_row, is_text), whole ∙ ap (λ (x : List ℕ). x ++ new) (sym is_text));

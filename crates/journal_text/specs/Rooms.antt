@@ -1,6 +1,8 @@
 -- What the rooms within the fold answer.
-use Rattle.std.specs.Prelude.{◌≡◌, ◌≢◌, ℕ, ◌+◌, ◌<◌, ◌≤◌, List, [], ◌∷◌, ◌++◌, Bor, Option, Some, None, IfSome, IsSomeAnd, length, option_map, slice_index_or}
+use Rattle.std.specs.Prelude.{◌≡◌, ◌≢◌, ℕ, ◌+◌, ◌<◌, ◌≤◌, List, [], ◌∷◌, ◌++◌, Option, Some, None, IfSome, IsSomeAnd, filter_map, flat_map, length, option_map, slice_index_or}
 use Rattle.std.specs.List.{AllByRecursion}
+use Rattle.std.specs.Borrow.{Bor}
+use Rattle.cold_store.specs.Lines.{first_line, last_line}
 use Rattle.journal_text.specs.declared.cut.Cut.{Cut}
 use Rattle.journal_text.specs.declared.fault.JournalFault.{JournalFault}
 use Rattle.journal_text.specs.declared.fault.JournalFault.TheVariants.{WrongLine}
@@ -38,6 +40,16 @@ shown table row = option_map (λ (b : Bor (List ℕ)). b.now) (slice_index_or ta
 abbrev pub IsTable : List RowLine → Table → Type 0
 IsTable lines table = (row : ℕ) → row < length table → shown table row ≡ option_map fed (line_of lines row)
 
+-- the lines that stand in a table, in rising row
+abbrev pub kept : Table → List (List ℕ)
+kept table = filter_map (λ o. option_map (λ (b : Bor (List ℕ)). b.now) o) table
+
+-- and their export
+abbrev pub table_text : ℕ → ℕ → Table → List ℕ
+table_text places rows table =
+    (first_line places rows ++ 10 ∷ []) ++ (flat_map (λ line. line) (kept table)
+    ++ (last_line (length (kept table)) ++ 10 ∷ []))
+
 -- the cut's lines are in their places, and were put in the table
 pub record PutsLines (old : Table) (c : SaidCut) (new : Table) : Type 0 where
   pub lines : List RowLine
@@ -73,13 +85,13 @@ HasNoNext number before rest =
     (c : SaidCut) (more : List ℕ) → IsSaidCut c → c.number ≡ number → c.before ≡ before → rest ≢ cut_text c ++ more
 
 -- all cuts that follow each other from the front are read, and their lines are in the table
-pub record ReadsCuts (rows : ℕ) (first old new : List ℕ) (table : Table) (read : Cuts) : Type 0 where
+pub record ReadsCuts (rows : ℕ) (first old new : List ℕ) (lasts : Table) (read : Cuts) : Type 0 where
   pub cuts : List (List RowLine)
   pub each : AllByRecursion (AreLines rows) cuts
   pub is : old ≡ cuts_text 1 first cuts ++ new
   pub count : read.count ≡ length cuts
   pub sum : read.sum.digits ≡ sum_after 1 first cuts
-  pub table : IsTable (all_lines cuts) table
+  pub table : IsTable (all_lines cuts) lasts
   pub last : HasNoNext (length cuts + 1) (sum_after 1 first cuts) new
 
 -- after cuts that follow each other there is one with a line that isn't in its place

@@ -1,9 +1,8 @@
 //! The fold of a journal.
-ghost use Rattle.std.specs.Prelude.{◌≡◌, IfErr, IfOk, List, [], length};
+ghost use Rattle.std.specs.Prelude.{◌≡◌, ◌∷◌, ◌++◌, [], IfErr, IfOk, OnOk, flat_map, length};
 ghost use Rattle.journal_text.specs.Faults.{IsJournalFault};
-ghost use Rattle.journal_text.specs.Folds.{IsFold, fold_text};
-ghost use Rattle.journal_text.specs.Rooms.{IsCutFault, IsTable, ReadsCuts, fold_view};
-ghost use Rattle.journal_text.specs.Texts.{RowLine};
+ghost use Rattle.journal_text.specs.Folds.{IsFold};
+ghost use Rattle.journal_text.specs.Rooms.{IsCutFault, IsTable, ReadsCuts, fold_view, kept, table_text};
 
 use crate::cut::holds_cut;
 use crate::fault::JournalFault;
@@ -93,19 +92,26 @@ fn read_cuts<'a>(
 
 // The export of these lines.
 fn export_of(alloc: Global, head: &Head, lasts: &[Option<&[u8]>]) -> Result<Vec<u8>, AllocError>
-    requires rows { head.now.rows ≡ length lasts.now }
-    ensures { IfOk result (λ text. (lines : List RowLine) → IsTable lines lasts.now
-        → text.items ≡ fold_text head.now.places head.now.rows lines) }
+    ensures { IfOk result (λ text. text.items ≡ table_text head.now.places head.now.rows lasts.now) }
 {
     let mut text = Vec::new(alloc);
     push_first_line(&mut text, head.places, head.rows)?;
-    let mut count = 0u64;
+    let mut count = 0;
     for last in lasts {
-        if let Some(line) = last {
-            text.extend_from_slice(line)?;
-            count = count.saturating_add(1);
-        }
+        count += push_kept(&mut text, last)?;
     }
     push_last_line(&mut text, count)?;
     Ok(text)
+}
+
+// The line of a row, if it has one, and how many these are.
+fn push_kept(text: &mut Vec<u8>, last: &Option<&[u8]>) -> Result<u64, AllocError>
+    ensures text { OnOk result (text.new.items ≡ text.old.items ++ flat_map (λ line. line) (kept (last.now ∷ []))) }
+    ensures count { IfOk result (λ count. count ≡ length (kept (last.now ∷ []))) }
+{
+    let Some(line) = last else {
+        return Ok(0);
+    };
+    text.extend_from_slice(line)?;
+    Ok(1)
 }

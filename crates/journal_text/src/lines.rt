@@ -40,7 +40,10 @@ impl<'a> Reader<'a> {
 }
 
 /// Puts the lines of a cut in the place of those that their rows had, or gives the first that isn't in its place.
-pub(crate) fn put_lines<'a>(lasts: &mut [Option<&'a [u8]>], cut: &Cut<'a>) -> Result<(), JournalFault>
+pub(crate) fn put_lines<'a>(
+    lasts: &mut [Option<&'a [u8]>],
+    cut: &Cut<'a>,
+) -> Result<(), JournalFault>
     requires said { IsSaidCut (said_cut cut.now) }
     ensures len { length lasts.new ≡ length lasts.old }
     ensures ok { IfOk result (λ _. PutsLines lasts.old (said_cut cut.now) lasts.new) }
