@@ -6,3 +6,4 @@ pub mod Scanned
 pub mod LineRead
 pub mod Fields
 pub mod Kept
+pub mod Putting
