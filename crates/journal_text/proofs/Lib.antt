@@ -7,3 +7,4 @@ pub mod LineRead
 pub mod Fields
 pub mod Kept
 pub mod Putting
+pub mod CutsRead

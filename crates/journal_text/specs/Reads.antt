@@ -41,7 +41,7 @@ pub record ReadsCut (old new : List ℕ) (read : Option Cut) : Type 0 where
   pub only : (c : SaidCut) (rest : List ℕ) → IsSaidCut c → old ≡ cut_text c ++ rest
       → IsSomeAnd read (λ k. said_cut k ≡ c) × (new ≡ rest)
 
--- the cut with this number and this sum before it; where there is none, nothing goes
+-- the cut with this number and this sum before it
 pub record ReadsNext (number : ℕ) (before old new : List ℕ) (read : Option Cut) : Type 0 where
   pub found : IfSome read (λ c. IsSaidCut (said_cut c) × (old ≡ cut_text (said_cut c) ++ new)
       × (c.sum.digits ≡ own_sum (said_cut c)) × (c.number ≡ number) × (c.before.digits ≡ before))

@@ -90,13 +90,13 @@ abbrev pub cut_of : ℕ → List ℕ → List RowLine → SaidCut
 cut_of number before lines = record { number = number; count = length lines; before = before; body = lines_text lines }
 
 -- the texts of cuts that follow each other: each says the number and the sum before it
-pub cuts_text : ℕ → List ℕ → List (List RowLine) → List ℕ
+abbrev pub cuts_text : ℕ → List ℕ → List (List RowLine) → List ℕ
 cuts_text number before [] = []
 cuts_text number before (lines ∷ more) =
     cut_text (cut_of number before lines) ++ cuts_text (number + 1) (own_sum (cut_of number before lines)) more
 
 -- the sum after them
-pub sum_after : ℕ → List ℕ → List (List RowLine) → List ℕ
+abbrev pub sum_after : ℕ → List ℕ → List (List RowLine) → List ℕ
 sum_after number before [] = before
 sum_after number before (lines ∷ more) = sum_after (number + 1) (own_sum (cut_of number before lines)) more
 

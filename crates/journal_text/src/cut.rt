@@ -1,5 +1,5 @@
 //! The cuts of a journal.
-ghost use Rattle.std.specs.Prelude.{◌≡◌, true, ◌↔◌};
+ghost use Rattle.std.specs.Prelude.{◌≡◌, ◌↔◌, IfNone, true};
 ghost use Rattle.journal_text.specs.Texts.{HoldsCut};
 ghost use Rattle.journal_text.specs.Reads.{IsOpening, ReadsCut, ReadsNext, ReadsWhole, said_opening_text};
 
@@ -79,7 +79,8 @@ impl<'a> Reader<'a> {
 
     /// The whole cut at the front, if it has this number and this sum before it. Else nothing goes.
     pub(crate) fn next_cut(&mut self, number: u64, before: &Sum) -> Option<Cut<'a>>
-        ensures { ReadsNext number before.now.digits self.old.rest.now self.new.rest.now result }
+        ensures read { ReadsNext number before.now.digits self.old.rest.now self.new.rest.now result }
+        ensures none { IfNone result (self.new.rest.now ≡ self.old.rest.now) }
     {
         let mut ahead = Reader { rest: self.rest };
         let cut = ahead.cut()?;
