@@ -96,6 +96,7 @@ all_read rows first old rest new table read p r same =
       count = p.counted;
       sum = p.summed;
       table = p.lasts;
+      few = let room = p.room in let len = ap (λ (x : List ℕ). length x) same in omega arith;
       last = λ c more is number before at.
           (r.only c more is (number ∙ ap (λ (x : ℕ). x + 1) (sym p.counted)) (before ∙ sym p.summed) (sym same ∙ at)).0;
     }

@@ -8,3 +8,5 @@ pub mod Fields
 pub mod Kept
 pub mod Putting
 pub mod CutsRead
+pub mod Folding
+pub mod Given

@@ -92,6 +92,7 @@ pub record ReadsCuts (rows : ℕ) (first old new : List ℕ) (lasts : Table) (re
   pub count : read.count ≡ length cuts
   pub sum : read.sum.digits ≡ sum_after 1 first cuts
   pub table : IsTable (all_lines cuts) lasts
+  pub few : read.count + length new ≤ length old
   pub last : HasNoNext (length cuts + 1) (sum_after 1 first cuts) new
 
 -- after cuts that follow each other there is one with a line that isn't in its place

@@ -47,14 +47,15 @@ pub fn fold(alloc: Global, text: &[u8]) -> Result<Folded, JournalFault>
     };
     let first = Sum::of(front(text, reader.rest));
     let mut lasts = Vec::from_elem(alloc, None, head.rows as usize)?;
-    let cuts = read_cuts(&mut reader, first, lasts.as_mut_slice())?;
+    let table = lasts.as_mut_slice();
+    let cuts = read_cuts(&mut reader, first, table)?;
     if holds_cut(reader.rest) {
         return Err(JournalFault::BrokenCut {
-            cut: cuts.count.saturating_add(1),
+            cut: cuts.count + 1,
         });
     }
     Ok(Folded {
-        export: export_of(alloc, &head, lasts.as_slice())?,
+        export: export_of(alloc, &head, table)?,
         places: head.places,
         rows: head.rows,
         print: head.print,
