@@ -1,6 +1,6 @@
 -- A cut, read.
-use Rattle.std.proofs.Common.{◌≡◌, ℕ, ◌+◌, ◌-◌, ◌<◌, true, false, List, [], ◌∷◌, ◌++◌, codes, length, take, Option, Some, None, refl, sym, ap, subst, ◌∙◌, arith, append_assoc}
-use Rattle.std.proofs.lemmas.List.{append_cancel_left, length-append}
+use Rattle.std.proofs.Common.{◌≡◌, ℕ, ◌-◌, ◌<◌, true, false, List, [], ◌∷◌, ◌++◌, codes, length, take, Option, Some, None, refl, sym, ap, subst, ◌∙◌, arith, append_assoc}
+use Rattle.std.proofs.lemmas.List.{append_cancel_left}
 use Rattle.cold_store.specs.Lines.{field}
 use Rattle.cold_store.specs.Reads.{Eats}
 use Rattle.journal_text.specs.declared.cut.Cut.{Cut}

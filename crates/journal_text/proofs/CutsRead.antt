@@ -1,5 +1,5 @@
 -- The cuts of a journal, read one by one.
-use Rattle.std.proofs.Common.{◌≡◌, ◌≢◌, ℕ, ◌+◌, ◌<◌, ◌≤◌, List, [], ◌∷◌, ◌++◌, Option, Some, None, length, refl, sym, ap, subst, ◌∙◌, arith, append_assoc, append-nil}
+use Rattle.std.proofs.Common.{◌≡◌, ℕ, ◌+◌, ◌≤◌, List, [], ◌∷◌, ◌++◌, Some, None, length, refl, sym, ap, subst, ◌∙◌, arith, append_assoc, append-nil}
 use Rattle.std.proofs.lemmas.List.{length-append}
 use Rattle.std.specs.List.{AllByRecursion}
 use Rattle.journal_text.specs.declared.cut.Cut.{Cut}
@@ -9,7 +9,7 @@ use Rattle.journal_text.specs.declared.folded.Cuts.{Cuts}
 use Rattle.journal_text.specs.Folds.{all_lines}
 use Rattle.journal_text.specs.Reads.{ReadsNext, said_cut}
 use Rattle.journal_text.specs.Rooms.{IsCutFault, IsLineFault, IsTable, IsWrongIn, PutsLines, ReadsCuts, Table}
-use Rattle.journal_text.specs.Texts.{AreLines, IsSaidCut, RowLine, SaidCut, cut_of, cut_text, cuts_text, own_sum, sum_after}
+use Rattle.journal_text.specs.Texts.{AreLines, RowLine, SaidCut, cut_of, cut_text, cuts_text, own_sum, sum_after}
 
 pub cuts_more : (n : ℕ) (b : List ℕ) (cuts : List (List RowLine)) (lines : List RowLine) → cuts_text n b (cuts ++ lines ∷ []) ≡ cuts_text n b cuts ++ cut_text (cut_of (n + length cuts) (sum_after n b cuts) lines)
 cuts_more n b [] lines =
@@ -19,8 +19,8 @@ cuts_more n b (x ∷ cuts) lines =
     let e : (n + 1) + length cuts ≡ n + length (x ∷ cuts) = omega arith in
     let own = own_sum (cut_of n b x) in
     ap (λ (y : List ℕ). cut_text (cut_of n b x) ++ y) (cuts_more (n + 1) own cuts lines)
-        ∙ (ap (λ (y : ℕ). cut_text (cut_of n b x) ++ (cuts_text (n + 1) own cuts ++ cut_text (cut_of y (sum_after (n + 1) own cuts) lines))) e
-        ∙ sym (append_assoc (cut_text (cut_of n b x)) (cuts_text (n + 1) own cuts) (cut_text (cut_of (n + length (x ∷ cuts)) (sum_after (n + 1) own cuts) lines))))
+    ∙ (ap (λ (y : ℕ). cut_text (cut_of n b x) ++ (cuts_text (n + 1) own cuts ++ cut_text (cut_of y (sum_after (n + 1) own cuts) lines))) e
+    ∙ sym (append_assoc (cut_text (cut_of n b x)) (cuts_text (n + 1) own cuts) (cut_text (cut_of (n + length (x ∷ cuts)) (sum_after (n + 1) own cuts) lines))))
 
 pub sum_more : (n : ℕ) (b : List ℕ) (cuts : List (List RowLine)) (lines : List RowLine) → sum_after n b (cuts ++ lines ∷ []) ≡ own_sum (cut_of (n + length cuts) (sum_after n b cuts) lines)
 sum_more n b [] lines =
@@ -67,7 +67,7 @@ step rows first old rest new table after count sum k p r put len =
     let f = r.found in
     let number : k.number ≡ 1 + length p.cuts = let c = p.counted in let n = f.3 in omega arith in
     let said : said_cut k ≡ cut_of (1 + length p.cuts) (sum_after 1 first p.cuts) put.lines =
-        said_is (said_cut k) (1 + length p.cuts) (sum_after 1 first p.cuts) rows table after put number (f.4 ∙ p.summed) in
+    said_is (said_cut k) (1 + length p.cuts) (sum_after 1 first p.cuts) rows table after put number (f.4 ∙ p.summed) in
     let same = p.same in
     let counted = p.counted in
     let room = p.room in

@@ -1,5 +1,5 @@
 -- The fold of a journal from its table.
-use Rattle.std.proofs.Common.{◌≡◌, ◌≢◌, ℕ, zero, suc, ◌+◌, ◌-◌, ◌<◌, ◌≤◌, ◌^◌, List, [], ◌∷◌, ◌++◌, Option, Some, None, filter_map, flat_map, map, length, option_map, replicate, slice_index_or, refl, sym, ap, subst, ◌∙◌, arith, append_assoc, append-nil}
+use Rattle.std.proofs.Common.{◌≡◌, ℕ, zero, suc, ◌+◌, ◌-◌, ◌<◌, ◌≤◌, ◌^◌, List, [], ◌∷◌, ◌++◌, Option, Some, None, filter_map, flat_map, map, length, option_map, replicate, refl, sym, ap, subst, ◌∙◌, arith, append_assoc, append-nil}
 use Rattle.std.specs.List.{cons_option, range_with_len}
 use Rattle.std.specs.List.{AllByRecursion}
 use Rattle.std.specs.Borrow.{Bor}
@@ -32,11 +32,11 @@ kept_from : (at : ℕ) (table : Table) (lines : List RowLine) → ((row : ℕ) �
 kept_from at [] lines is = refl
 kept_from at (o ∷ table) lines is =
     let first : option_map (λ (b : Bor (List ℕ)). b.now) o ≡ option_map fed (line_of lines at) =
-        let e : at + 0 ≡ at = omega arith in is 0 (omega arith) ∙ ap (λ (x : ℕ). option_map fed (line_of lines x)) e in
+    let e : at + 0 ≡ at = omega arith in is 0 (omega arith) ∙ ap (λ (x : ℕ). option_map fed (line_of lines x)) e in
     let rest = kept_from (at + 1) table lines
-        (λ row below.
-            let e : at + suc row ≡ (at + 1) + row = omega arith in
-            is (suc row) (omega arith) ∙ ap (λ (x : ℕ). option_map fed (line_of lines x)) e) in
+    (λ row below.
+    let e : at + suc row ≡ (at + 1) + row = omega arith in
+    is (suc row) (omega arith) ∙ ap (λ (x : ℕ). option_map fed (line_of lines x)) e) in
     rw (first, rest) (sym (cons_map (line_of lines at) (filter_map (line_of lines) (range_with_len (at + 1) (length table)))))
 
 pub kept_is : (table : Table) (lines : List RowLine) → IsTable lines table → kept table ≡ map fed (last_lines (length table) lines)
@@ -63,8 +63,8 @@ fold_is places rows table lines is many =
     let count : length (kept table) ≡ length lasts = ap (λ (x : List (List ℕ)). length x) keeps ∙ long_fed lasts in
     let body : flat_map (λ line. line) (kept table) ≡ lines_text lasts = ap (λ (x : List (List ℕ)). flat_map (λ line. line) x) keeps ∙ flat_fed lasts in
     ap (λ (x : List ℕ). (first_line places rows ++ 10 ∷ []) ++ (x ++ (last_line (length (kept table)) ++ 10 ∷ []))) body
-        ∙ (ap (λ (x : ℕ). (first_line places rows ++ 10 ∷ []) ++ (lines_text lasts ++ (last_line x ++ 10 ∷ []))) count
-        ∙ ap (λ (x : List ℕ). (first_line places rows ++ 10 ∷ []) ++ x) (sym (ended lasts (last_line (length lasts)))))
+    ∙ (ap (λ (x : ℕ). (first_line places rows ++ 10 ∷ []) ++ (lines_text lasts ++ (last_line x ++ 10 ∷ []))) count
+    ∙ ap (λ (x : List ℕ). (first_line places rows ++ 10 ∷ []) ++ x) (sym (ended lasts (last_line (length lasts)))))
 
 module _ (text rest : List ℕ) (h : Head) (is_head : IsSaidHead h) (starts : text ≡ said_head_text h ++ rest) (first : List ℕ) (summed : first ≡ sum_of (said_head_text h)) (rows : ℕ) (many : rows ≡ h.rows) (bound : length text < 2 ^ 64) where
   pub begins : (new : List ℕ) (cuts : List (List RowLine)) → AllByRecursion (AreLines rows) cuts → rest ≡ cuts_text 1 first cuts ++ new → length cuts < 2 ^ 64 → Begins text (said_head h) cuts new
@@ -144,7 +144,7 @@ module _ (text rest : List ℕ) (h : Head) (is_head : IsSaidHead h) (starts : te
       let len = ap (λ (x : List ℕ). length x) b.is ∙ length-append (journal_text (said_head h) r.cuts) new in
       let all : whole ≡ length (journal_text (said_head h) r.cuts) = omega arith in
       let export_is : export ≡ fold_text h.places h.rows (all_lines r.cuts) =
-          made ∙ fold_is h.places h.rows table (all_lines r.cuts) r.table (size ∙ many) in
+      made ∙ fold_is h.places h.rows table (all_lines r.cuts) r.table (size ∙ many) in
       let count = r.count in
       let sum : _ ≡ end_sum (said_head h) r.cuts = r.sum ∙ end_is r.cuts in
       record {

@@ -1,5 +1,5 @@
 -- The first line, which begins otherwise.
-use Rattle.std.proofs.Common.{◌≡◌, ℕ, false, List, [], ◌∷◌, ◌++◌, codes, None, refl, ◌∙◌, append_assoc}
+use Rattle.std.proofs.Common.{ℕ, false, List, [], ◌∷◌, ◌++◌, codes, None, refl, ◌∙◌, append_assoc}
 use Rattle.cold_store.specs.Lines.{field, number_field}
 use Rattle.cold_store.specs.Reads.{Eats}
 use Rattle.journal_text.specs.Reads.{IsSaidHead, ReadsWhole, said_head_text}

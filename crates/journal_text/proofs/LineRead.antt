@@ -1,5 +1,5 @@
 -- A line of a row, read.
-use Rattle.std.proofs.Common.{◌≡◌, ◌≢◌, ℕ, zero, suc, ◌+◌, ◌-◌, ◌==◌, ◌<◌, ◌≤◌, true, false, List, [], ◌∷◌, ◌++◌, codes, get_or, length, take, drop, Option, Some, None, refl, sym, ap, subst, ◌∙◌, arith, append_assoc}
+use Rattle.std.proofs.Common.{◌≡◌, ◌≢◌, ℕ, zero, suc, ◌+◌, ◌-◌, ◌==◌, ◌<◌, ◌≤◌, true, List, [], ◌∷◌, ◌++◌, codes, get_or, length, take, drop, Some, None, refl, sym, ap, subst, ◌∙◌, arith, append_assoc}
 use Rattle.std.proofs.lemmas.List.{append_cancel_left}
 use Rattle.std.proofs.lemmas.Bool.Decides.{nat_tests}
 use Rattle.cold_store.specs.Imports.{IsLine}
@@ -7,8 +7,8 @@ use Rattle.cold_store.specs.Lines.{IsNumber, field, number_field}
 use Rattle.cold_store.specs.Reads.{Eats, Reads}
 use Rattle.journal_text.specs.declared.lines.Line.{Line}
 use Rattle.journal_text.specs.Texts.{RowLine, row_text}
-use Rattle.journal_text.specs.Reads.{IsAnyLine, IsLineOf, ReadsLine}
-use Rattle.journal_text.proofs.Splits.{back_is, before_rest, front_is, halves_are, length_of}
+use Rattle.journal_text.specs.Reads.{IsAnyLine, ReadsLine}
+use Rattle.journal_text.proofs.Splits.{before_rest, length_of}
 
 abbrev pub IsFeed : List ℕ → ℕ → Type 0
 IsFeed text k = (get_or text k 0 == 10) ≡ true

@@ -1,5 +1,5 @@
 -- The lines of a cut, put one by one.
-use Rattle.std.proofs.Common.{◌≡◌, ◌≢◌, ℕ, zero, suc, ◌+◌, ◌*◌, ◌==◌, ◌<◌, ◌≤◌, ◌^◌, Bool, true, false, List, [], ◌∷◌, ◌++◌, Option, Some, None, cond, filter, map, length, option_map, slice_index_or, slice_set, inl, inr, refl, sym, ap, subst, ◌∙◌, arith, append_assoc, append-nil}
+use Rattle.std.proofs.Common.{◌≡◌, ◌≢◌, ℕ, ◌+◌, ◌*◌, ◌==◌, ◌<◌, ◌≤◌, Bool, true, false, List, [], ◌∷◌, ◌++◌, Some, None, filter, length, option_map, slice_set, inl, inr, refl, sym, ap, subst, ◌∙◌, arith, append_assoc, append-nil}
 use Rattle.std.proofs.lemmas.List.{get_or-set_other, get_or-set_same, length-append, length-set}
 use Rattle.std.proofs.lemmas.Bool.Decides.{nat_tests}
 use Rattle.std.specs.List.{AllByRecursion}
@@ -8,7 +8,6 @@ use Rattle.history_model.specs.Lists.{Pairwise}
 use Rattle.cold_store.specs.Lines.{IsNumber, text_of}
 use Rattle.journal_text.specs.Folds.{last_of, line_of}
 use Rattle.journal_text.specs.declared.lines.Line.{Line}
-use Rattle.journal_text.specs.Faults.{StopsAfter}
 use Rattle.journal_text.specs.Reads.{IsAnyLine, IsLineOf}
 use Rattle.journal_text.specs.Rooms.{IsTable, IsWrongIn, PutsLines, ReadsBetween, Table, fed, shown}
 use Rattle.journal_text.specs.Texts.{AreLines, IsRowLine, RowLine, SaidCut, lines_text, row_text}
@@ -49,7 +48,7 @@ pub own_line : (seen : List RowLine) (l : RowLine) → line_of (seen ++ l ∷ []
 own_line seen l =
     let own : of_row l.row (l ∷ []) ≡ l ∷ [] = let t : (l.row == l.row) ≡ true = grind (arith, nat_tests) in rw t refl in
     ap (λ (x : List RowLine). last_of x) (filter_both l.row seen (l ∷ []) ∙ ap (λ (x : List RowLine). of_row l.row seen ++ x) own)
-        ∙ last_is (of_row l.row seen) l
+    ∙ last_is (of_row l.row seen) l
 
 pub other_line : (seen : List RowLine) (l : RowLine) (row : ℕ) → l.row ≢ row → line_of (seen ++ l ∷ []) row ≡ line_of seen row
 other_line seen l row other =
@@ -129,11 +128,11 @@ put_step old now c left new least count line p size more l any of is low high =
     let inside : l.row < length old = omega arith in
     let text : line.text.now ≡ fed l = of.1 in
     let all : lines_text (p.lines ++ l ∷ []) ≡ lines_text p.lines ++ fed l =
-        lines_both p.lines (l ∷ []) ∙ ap (λ (x : List ℕ). lines_text p.lines ++ x) (one_text l) in
+    lines_both p.lines (l ∷ []) ∙ ap (λ (x : List ℕ). lines_text p.lines ++ x) (one_text l) in
     let body : c.body ≡ lines_text (p.lines ++ l ∷ []) ++ new =
-        p.body
-            ∙ (ap (λ (x : List ℕ). lines_text p.lines ++ x) (is ∙ ap (λ (x : List ℕ). x ++ new) text)
-            ∙ (sym (append_assoc (lines_text p.lines) (fed l) new) ∙ ap (λ (x : List ℕ). x ++ new) (sym all))) in
+    p.body
+    ∙ (ap (λ (x : List ℕ). lines_text p.lines ++ x) (is ∙ ap (λ (x : List ℕ). x ++ new) text)
+    ∙ (sym (append_assoc (lines_text p.lines) (fed l) new) ∙ ap (λ (x : List ℕ). x ++ new) (sym all))) in
     let whole = ap (λ (x : List ℕ). length x) body ∙ length-append (lines_text (p.lines ++ l ∷ [])) new in
     let many = length-append p.lines (l ∷ []) in
     let taken = ap (λ (x : List ℕ). length x) (is ∙ ap (λ (x : List ℕ). x ++ new) text) ∙ length-append (fed l) new in
@@ -143,10 +142,10 @@ put_step old now c left new least count line p size more l any of is low high =
     record {
       lines = p.lines ++ l ∷ [];
       are = record {
-          each = each_more (IsRowLine (length old)) p.lines l p.are.each (record { row = inside; line = any.line });
-          rising = rises_more p.lines l p.are.rising (below_more p.lines least l.row (omega arith) p.above);
-          size = omega arith;
-        };
+        each = each_more (IsRowLine (length old)) p.lines l p.are.each (record { row = inside; line = any.line });
+        rising = rises_more p.lines l p.are.rising (below_more p.lines least l.row (omega arith) p.above);
+        size = omega arith;
+      };
       body = body;
       counted = omega arith;
       most = omega arith;
@@ -175,11 +174,13 @@ no_line old now c left new least count p size more r =
       right = p.are;
       parts = p.body;
       stops = inr
-        ((omega arith,
-        λ next rest are at.
-            let last = (each_first (IsRowLine (length old)) p.lines next are.each).1 in
-            let inside = last.row in
-            absurd (r.only next rest (record { row = omega arith; line = last.line }) (p.bound next are) (omega arith) (next_is left next rest at)).0));
+          ((
+            omega arith,
+            λ next rest are at.
+                let last = (each_first (IsRowLine (length old)) p.lines next are.each).1 in
+                let inside = last.row in
+                absurd (r.only next rest (record { row = omega arith; line = last.line }) (p.bound next are) (omega arith) (next_is left next rest at)).0,
+          ));
       counted = omega arith;
     }
 

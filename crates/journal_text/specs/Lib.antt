@@ -3,4 +3,3 @@ pub mod Reads
 pub mod Folds
 pub mod Faults
 pub mod Rooms
-pub mod Laws

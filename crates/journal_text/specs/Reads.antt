@@ -1,5 +1,5 @@
 -- What a reader of a part of a journal answers.
-use Rattle.std.specs.Prelude.{◌≡◌, ℕ, ◌+◌, ◌<◌, ◌≤◌, List, [], ◌∷◌, ◌++◌, Bool, true, Option, Some, IfSome, IsSomeAnd, length, codes}
+use Rattle.std.specs.Prelude.{◌≡◌, ℕ, List, [], ◌∷◌, ◌++◌, Option, Some, IfSome, IsSomeAnd, codes}
 use Rattle.cold_store.specs.Lines.{IsNumber, field, number_field}
 use Rattle.journal_text.specs.declared.cut.Cut.{Cut}
 use Rattle.journal_text.specs.declared.cut.Opening.{Opening}

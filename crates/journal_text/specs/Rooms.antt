@@ -1,9 +1,8 @@
 -- What the rooms within the fold answer.
-use Rattle.std.specs.Prelude.{◌≡◌, ◌≢◌, ℕ, ◌+◌, ◌<◌, ◌≤◌, List, [], ◌∷◌, ◌++◌, Option, Some, None, IfSome, IsSomeAnd, filter_map, flat_map, length, option_map, slice_index_or}
+use Rattle.std.specs.Prelude.{◌≡◌, ◌≢◌, ℕ, ◌+◌, ◌<◌, ◌≤◌, List, [], ◌∷◌, ◌++◌, Option, None, IfSome, IsSomeAnd, filter_map, flat_map, length, option_map, slice_index_or}
 use Rattle.std.specs.List.{AllByRecursion}
 use Rattle.std.specs.Borrow.{Bor}
 use Rattle.cold_store.specs.Lines.{first_line, last_line}
-use Rattle.journal_text.specs.declared.cut.Cut.{Cut}
 use Rattle.journal_text.specs.declared.fault.JournalFault.{JournalFault}
 use Rattle.journal_text.specs.declared.fault.JournalFault.TheVariants.{WrongLine}
 use Rattle.journal_text.specs.declared.folded.Folded.{Folded}
@@ -11,7 +10,7 @@ use Rattle.journal_text.specs.declared.lines.Line.{Line}
 use Rattle.journal_text.specs.declared.folded.Cuts.{Cuts}
 use Rattle.journal_text.specs.Faults.{StopsAfter}
 use Rattle.journal_text.specs.Folds.{FoldView, all_lines, line_of}
-use Rattle.journal_text.specs.Reads.{IsAnyLine, IsLineOf, said_cut}
+use Rattle.journal_text.specs.Reads.{IsAnyLine, IsLineOf}
 use Rattle.journal_text.specs.Texts.{AreLines, IsSaidCut, RowLine, SaidCut, cut_text, cuts_text, lines_text, row_text, sum_after}
 
 abbrev pub fold_view : Folded → FoldView

@@ -1,4 +1,4 @@
-use Rattle.std.proofs.Common.{refl, sym}
+use Rattle.std.proofs.Common.{refl}
 use Rattle.std.proofs.lemmas.Bool.{false≢true}
 use Rattle.journal_text.proofs.Scanned.{at_end, at_start, empty, found_some, none_read, step}
 use Rattle.journal_text.proofs.cut.holds_cut.Goals as goal

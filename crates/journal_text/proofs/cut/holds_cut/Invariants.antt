@@ -1,5 +1,4 @@
-use Rattle.std.proofs.Common.{◌≡◌, ◌++◌, List, ℕ, length}
-use Rattle.journal_text.specs.Texts.{HoldsCut}
+use Rattle.std.proofs.Common.{length}
 use Rattle.journal_text.proofs.Scanned.{IsScanned}
 use Rattle.journal_text.proofs.cut.holds_cut.Given as goal
 

@@ -1,7 +1,6 @@
-use Rattle.std.proofs.Common.{◌≡◌, ◌≢◌, ℕ, List, ◌+◌, ◌*◌, ◌^◌, ◌<◌, ◌≤◌, [], arith, length, refl, sym, ap}
+use Rattle.std.proofs.Common.{◌≡◌, ◌≢◌, ℕ, List, ◌^◌, ◌<◌, [], arith, length, ap}
 use Rattle.std.proofs.lemmas.Bool.Decides.{nat_tests}
 use Rattle.journal_text.specs.Reads.{said_cut}
-use Rattle.journal_text.specs.Rooms.{IsLineFault}
 use Rattle.journal_text.proofs.Putting.{all_put, at_start, no_line, put_step, too_many}
 use Rattle.journal_text.proofs.Scanned.{empty}
 use Rattle.journal_text.proofs.lines.put_lines.Goals as goal

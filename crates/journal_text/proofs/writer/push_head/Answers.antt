@@ -1,5 +1,4 @@
-use Rattle.std.proofs.Common.{◌≡◌, ◌++◌, length, vec_len, refl, sym, ap, ◌∙◌}
-use Rattle.cold_store.specs.Lines.{number_field}
+use Rattle.std.proofs.Common.{◌≡◌, ◌++◌, length, vec_len, sym, ap, ◌∙◌}
 use Rattle.journal_text.proofs.Fields.{three_fields}
 use Rattle.journal_text.proofs.Splits.{back_is}
 use Rattle.journal_text.specs.Texts.{SaidHead, head_text, sum_of}

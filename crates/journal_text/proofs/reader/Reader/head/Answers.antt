@@ -1,4 +1,3 @@
-use Rattle.std.proofs.Common.{sym, subst}
 use Rattle.journal_text.proofs.HeadRead.{no_word}
 use Rattle.journal_text.proofs.reader.Reader.head.Goals as goal
 

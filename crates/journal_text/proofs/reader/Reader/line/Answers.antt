@@ -1,4 +1,4 @@
-use Rattle.std.proofs.Common.{◌+◌, ◌≤◌, refl, arith}
+use Rattle.std.proofs.Common.{refl, arith}
 use Rattle.journal_text.proofs.LineRead.{line_read, no_end, shorter}
 use Rattle.journal_text.proofs.reader.Reader.line.Goals as goal
 

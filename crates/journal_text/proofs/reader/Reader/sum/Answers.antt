@@ -1,4 +1,4 @@
-use Rattle.std.proofs.Common.{refl, sym, ◌∙◌}
+use Rattle.std.proofs.Common.{sym, ◌∙◌}
 use Rattle.std.proofs.lemmas.Bool.{false≢true}
 use Rattle.journal_text.proofs.SumRead.{not_hex, sum_read}
 use Rattle.journal_text.proofs.reader.Reader.sum.Goals as goal
