@@ -188,10 +188,8 @@ fn whole_journals_are_folded(rt: HostRuntime) -> Result<(), Fail> {
     let mut text = Vec::new(alloc);
     push(&mut text, HEAD)?;
     check(&rt, alloc, text.as_slice(), 0, text.len());
-    let mut cuts = 0;
-    for cut in [CUT_1, CUT_2, CUT_3, CUT_4] {
+    for (cuts, cut) in [(1, CUT_1), (2, CUT_2), (3, CUT_3), (4, CUT_4)] {
         push(&mut text, cut)?;
-        cuts += 1;
         check(&rt, alloc, text.as_slice(), cuts, text.len());
     }
     Ok(())
@@ -299,7 +297,6 @@ fn broken_cuts_are_refused(rt: HostRuntime) -> Result<(), Fail> {
     Ok(())
 }
 
-// Whether the fault of a text with one byte more by 1 is that of a broken cut.
 #[test]
 fn each_byte_of_a_cut_counts(rt: HostRuntime) -> Result<(), Fail> {
     let alloc = rt.alloc();
