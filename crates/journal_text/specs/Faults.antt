@@ -19,7 +19,8 @@ abbrev pub StopsAfter : ℕ → SaidCut → List RowLine → List ℕ → Type 0
 StopsAfter rows c lines left =
     ((length lines ≡ c.count) × (left ≢ []))
     ⊎ ((length lines < c.count)
-    × ((next : RowLine) (more : List ℕ) → AreLines rows (lines ++ next ∷ []) → left ≢ text_of (row_text next ∷ []) ++ more))
+    × ((next : RowLine) (more : List ℕ) → AreLines rows (lines ++ next ∷ [])
+    → left ≢ text_of (row_text next ∷ []) ++ more))
 
 -- the first line of a whole cut that isn't in its place, counted from 1
 pub record HasWrongLine (text : List ℕ) (cut line : ℕ) : Type 0 where

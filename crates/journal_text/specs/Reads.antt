@@ -68,9 +68,7 @@ pub record IsOpening (o : Opening) : Type 0 where
   pub size : IsNumber o.size
   pub before : IsSum o.before
 
-abbrev pub opening_fields : Opening → List ℕ
-opening_fields o =
-    number_field o.number ++ (number_field o.count ++ (number_field o.size ++ sum_field o.before))
-
 abbrev pub said_opening_text : Opening → List ℕ
-said_opening_text o = codes "cut" ++ (number_field o.number ++ (number_field o.count ++ (number_field o.size ++ (sum_field o.before ++ 10 ∷ []))))
+said_opening_text o =
+    codes "cut" ++ (number_field o.number ++ (number_field o.count ++ (number_field o.size
+    ++ (sum_field o.before ++ 10 ∷ []))))

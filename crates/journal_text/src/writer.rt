@@ -26,8 +26,8 @@ pub(crate) fn push_sum(text: &mut Vec<u8>, sum: &Sum) -> Result<(), AllocError>
     text.extend_from_slice(&sum.digits)
 }
 
-/// Writes the first line of a journal, and gives its sum, which is the one before the first cut. The print says what the
-/// numbers mean.
+/// Writes the first line of a journal, and gives its sum, which is the one before the first cut. The print says what
+/// the numbers mean.
 pub fn push_head(text: &mut Vec<u8>, places: u32, rows: u32, print: &Sum) -> Result<Sum, AllocError>
     ensures text { OnOk result (text.new.items ≡ text.old.items
         ++ head_text (record { places = places; rows = rows; print = print.now.digits })) }
