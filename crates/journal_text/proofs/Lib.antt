@@ -1,0 +1,12 @@
+pub mod Splits
+pub mod SumRead
+pub mod HeadRead
+pub mod CutRead
+pub mod Scanned
+pub mod LineRead
+pub mod Fields
+pub mod Kept
+pub mod Putting
+pub mod CutsRead
+pub mod Folding
+pub mod Given

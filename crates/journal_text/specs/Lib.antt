@@ -1,0 +1,5 @@
+pub mod Texts
+pub mod Reads
+pub mod Folds
+pub mod Faults
+pub mod Rooms
