@@ -77,7 +77,7 @@ fn next_line<'a>(reader: &mut Reader<'a>, least: u64, rows: usize) -> Option<Lin
     Some(line)
 }
 
-// The fault of the line after so many.
+// The fault of the line after that many.
 fn wrong(cut: &Cut<'_>, count: u64) -> JournalFault
     requires { count + 1 < 2 ^ 64 }
     ensures { result ≡ WrongLine cut.now.number (count + 1) }

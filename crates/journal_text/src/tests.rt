@@ -158,7 +158,7 @@ fn fault_of(rt: &impl Abort, alloc: Global, parts: &[&str]) -> Result<JournalFau
     }
 }
 
-// The export after so many cuts.
+// The export after that many cuts.
 fn export_after(cuts: u64) -> &'static str {
     match cuts {
         0 => EXPORT_0,
@@ -169,7 +169,7 @@ fn export_after(cuts: u64) -> &'static str {
     }
 }
 
-// Folds a text that has so many whole cuts, which are so long with the first line.
+// Folds a text that has that many whole cuts, which are that long with the first line.
 fn check(rt: &impl Abort, alloc: Global, text: &[u8], cuts: u64, whole: usize) {
     let Ok(folded) = fold(alloc, text) else {
         panic!(rt; "no journal");
@@ -226,7 +226,7 @@ fn journals_are_written(rt: HostRuntime) -> Result<(), Fail> {
     Ok(())
 }
 
-// Folds the text cut off at every byte of its last two cuts, with so many of a byte after it.
+// Folds the text cut off at every byte of its last two cuts, with some of one byte after it.
 fn cut_off(rt: &impl Abort, alloc: Global, byte: u8, count: usize) -> Result<(), AllocError> {
     let text = joined(alloc, &[HEAD, CUT_1, CUT_2, CUT_3, CUT_4])?;
     let second = HEAD.len() + CUT_1.len() + CUT_2.len();

@@ -43,7 +43,8 @@ pub fn push_head(text: &mut Vec<u8>, places: u32, rows: u32, print: &Sum) -> Res
     Ok(Sum::of(text.as_slice().split_at(start).1))
 }
 
-/// Writes the cut of so many lines, each with its line feed, which follows a text with this sum; and gives its own sum.
+/// Writes the cut of that many lines, each with its line feed, which follows a text with this sum; and gives its own
+/// sum.
 pub fn push_cut(
     text: &mut Vec<u8>,
     number: u64,
