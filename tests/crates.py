@@ -54,12 +54,12 @@ def read_map():
     return crates
 
 
-def text_of(crate, parts=("src", "specs", "proofs")):
-    """All that a crate's files say, without comments."""
+def text_of(crate, parts=("src", "specs", "proofs"), tests=True):
+    """All that a crate's files say, without comments, and without its tests (src/tests.rt) where they aren't asked for."""
     texts = []
     for part in parts:
         for path in sorted((ROOT / "crates" / crate / part).rglob("*")):
-            if path.suffix in (".rt", ".antt"):
+            if path.suffix in (".rt", ".antt") and (tests or path.name != "tests.rt"):
                 texts.append(re.sub(r"(?m)(^|\s)(//|--).*$", "", path.read_text()))
     return "\n".join(texts)
 
@@ -114,7 +114,7 @@ def picture_faults(crates):
 def name_faults(crates):
     """Where a crate names what an invariant of ARCHITECTURE.md keeps from it."""
     for crate, _, layer in crates:
-        code = "" if layer == TESTS else text_of(crate, ["src"])
+        code = "" if layer == TESTS else text_of(crate, ["src"], tests=False)
         for said, pattern, may in KEPT:
             if crate not in may and (found := re.search(pattern, code)):
                 yield "%s names %s: %s (%s)" % (crate, found.group(0), said, " ".join(sorted(may)))
