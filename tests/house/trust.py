@@ -3,7 +3,7 @@
 
   tests/house/trust.py [--write | --sentence N]
 
-The page is tests/house/trust_page.md with what stands in double braces filled in: the lines of clauses, the definitions that they rest on,
+The page is tests/house/trust_page.txt with what stands in double braces filled in: the lines of clauses, the definitions that they rest on,
 edits and checks (each has to be there), lines of effort, and the list of all definitions that the contracts of `serve_connection`,
 `perform` and `run_serve` unfold to. Where the page says something else, what grew or went is named, and the status is 1: so no definition
 comes into what the headline rests on unnoticed. --write makes the page anew.
@@ -21,7 +21,7 @@ import textwrap
 from definitions import CRATES, ROOT, Contract, House, crate_order, crates_of_tests
 
 PAGE = ROOT / "docs" / "trust.md"
-TEMPLATE = ROOT / "tests" / "house" / "trust_page.md"
+TEMPLATE = ROOT / "tests" / "house" / "trust_page.txt"
 SERVED = [("rail_service/src/connection.rt", "serve_connection"), ("rail_service/src/performing.rt", "perform")]
 WHOLE = SERVED + [("host_serve/src/run.rt", "run_serve")]
 DEVICES = [("rail_io/src/source.rt", "read"), ("rail_io/src/sink.rt", "write"), ("rail_io/src/sink.rt", "write_both"),
