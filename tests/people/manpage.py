@@ -95,7 +95,7 @@ def faults_of_commands(program):
         if kind != "code" or BUILT not in text or " serve " in text:
             continue
         done = subprocess.run(["bash", "-c", "set -euo pipefail\n" + text.replace(BUILT, shlex.quote(program))], cwd=ROOT, capture_output=True, text=True, timeout=60)
-        wanted = {"replay": '"status":"FULFILLED"', "settle": "1,1,1,4250,0,0\n", "export": "row 0 0 F 1 1780294500 4250 ", "drill": "requests 160 sold 90 refused 70 busy 0 double 0", "tiny": '{"from":0,"place":0,"to":2}'}
+        wanted = {"replay": '"status":"FULFILLED"', "settle": "1,1,1,4250,0,0\n", "recover": "row 0 0 F 1 1780294500 4250 ", "export": "row 0 0 F 1 1780294500 4250 ", "drill": "requests 160 sold 90 refused 70 busy 0 double 0", "tiny": '{"from":0,"place":0,"to":2}'}
         name = next(name for name in wanted if " %s " % name in text)
         if done.returncode or wanted[name] not in done.stdout:
             yield "%s: status %d, %s" % (name, done.returncode, done.stdout[-300:] + done.stderr)

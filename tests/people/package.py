@@ -75,7 +75,7 @@ STARTED = [
     (
         "seats that were sold by the same catalogue",
         "cp /etc/sumacgate/catalogue.json $sold; again; listens; state; known",
-        "enabled\nactive\n404\n",
+        "enabled\nactive\n200\n",
     ),
     (
         "and by another one",
@@ -116,7 +116,7 @@ def page_commands():
 
 def provided(root):
     provide(root, PACKAGES + ",python3")
-    for left in ("packages", "etc/sumacgate"):
+    for left in ("packages", "etc/sumacgate", "var/lib/private/sumacgate"):
         shutil.rmtree(root / left, ignore_errors=True)
     # The unit that tests/people/booted.py puts beside those of packages.
     for left in ("sumacgate.service", "multi-user.target.wants/sumacgate.service"):

@@ -25,7 +25,7 @@ LooksAt (place ∷ places) span (free ∷ states) es =
 LooksAt [] span (free ∷ states) es = ⊥
 LooksAt (place ∷ places) span [] es = ⊥
 
--- the same looks, of which so many showed their place free
+-- the same looks, of which that many showed their place free
 abbrev pub CountsFree : List PlaceNo → Interval → ℕ → List Step → Type 0
 CountsFree places span free es =
     (states : List Bool) × LooksAt places span states es × (free ≡ count_by (λ state. state) states)
@@ -44,7 +44,7 @@ abbrev pub listed : Interval → Option Interval → List Interval
 listed first None = first ∷ []
 listed first (Some second) = first ∷ second ∷ []
 
--- so many places, from this one up
+-- that many places, from this one up
 abbrev pub row_from : ℕ → ℕ → List PlaceNo
 row_from first zero = []
 row_from first (suc n) = record { 0 = first } ∷ row_from (first + 1) n

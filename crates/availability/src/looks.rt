@@ -37,7 +37,7 @@ pub fn free_places(books: &Books, desk: &mut Desk, places: &[PlaceNo], span: Spa
     free
 }
 
-/// As `free_places`, for so many places from the first one up: no list of them is read.
+/// As `free_places`, for that many places from the first one up: no list of them is read.
 ///
 /// Each place is one of the books.
 #[inline(never)]
@@ -136,7 +136,7 @@ impl Parts {
     }
 }
 
-// How many of so many places from the first one up are free. Inlined, since behind a reference the parts would be
+// How many of that many places from the first one up are free. Inlined, since through a reference the parts would be
 // loaded again at each look.
 #[inline(always)]
 fn free_one_by_one(books: &Books, desk: &mut Desk, first: u32, count: u32, parts: &Parts) -> u32
@@ -188,7 +188,8 @@ fn free_fours(books: &Books, desk: &mut Desk, from: u32, to: u32, parts: &Parts)
     requires places { 4 * to ≤ length books.now.layout.legs }
     requires small { 4 * to ≤ most_places }
     ensures own { IsOf books.now desk.new }
-    ensures entries { AddsStepsBy (CountsFree (row_from (4 * from) (4 * (to - from))) parts.now result) desk.old desk.new }
+    ensures entries { AddsStepsBy (CountsFree (row_from (4 * from) (4 * (to - from))) parts.now result) desk.old
+        desk.new }
     ensures few { result ≤ 4 * (to - from) }
     ensures holds { KeepsHolds desk.old desk.new }
     ensures endings { KeepsEndings desk.old desk.new }

@@ -43,7 +43,7 @@ IsAmountWord Exchange n = Unit {0}
 abbrev pub IsItemWord : ℕ → Type 0
 IsItemWord n = (place : ℕ) × (span : Interval) × IsItemOf place span n
 
--- it is sealed, with so many items
+-- it is sealed, with that many items
 abbrev pub HasItems : DeskView → RowNo → ℕ → Type 0
 HasItems desk row n = OnBooking (state_seen desk) row (λ b. (is_sealed b.phase ≡ true) × (length b.items ≡ n))
 

@@ -7,8 +7,8 @@ use Rattle.claim_rule.specs.Desks.{HasMet, IsOf, AddsSteps, Stepped}
 use Rattle.booking_rows.specs.Starts.{Misses, misses_steps, AreMissesFrom}
 
 -- Calls of a desk after each other, parts and meetings among them, and how many entries of its own came of its searches
--- for a free row: of each at most by how much it moves on the first row that the desk has not seen taken. A search for
--- an ended booking may come after it, and isn't counted
+-- for a free row. A search counts for at most the number of rows by which it moves on the first row that the desk has
+-- not seen taken. A search for an ended booking may come after it, and isn't counted
 pub data Searches (first : DeskView) : DeskView → ℕ → Type 0 where
   no_call : (desk : DeskView) (n : ℕ) → desk ≡ first → n ≡ 0 → Searches first desk n
   a_call : (old new : DeskView) (n : ℕ) (steps : List Step) → Searches first old n → AddsSteps old new steps

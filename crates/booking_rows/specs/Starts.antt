@@ -82,10 +82,10 @@ StartsNone rows es = (passed : List Passed) × (length passed ≡ rows) × AllBy
 abbrev pub IsFull : DeskView → Type 0
 IsFull desk = IsLeastFree (state_seen desk) desk.layout.rows
 
--- The row that a hold is started on: the one that the desk makes already, without an entry; else, after misses, the row
--- below which all are in use in what the desk has then seen; else, where all rows are in use there, the first one that
--- is started again. None where all rows are in use, and none could be started again. The misses begin at the row up to
--- which the desk knew that all are in use.
+-- The row that a hold is started on. It is the one that the desk makes already, without an entry. Else it is, after
+-- misses, the row below which all are in use in what the desk has then seen. Else, where all rows are in use there, it
+-- is the first one that is started again. None where all rows are in use, and none could be started again. The misses
+-- begin at the row up to which the desk knew that all are in use.
 abbrev pub StartsHold : DeskView → DeskView → Option RowNo → List Step → Type 0
 StartsHold old new (Some row) es =
     (MakesBooking old row × (es ≡ []))
@@ -116,7 +116,8 @@ Finds old new (Some hold) =
     × AddsSteps old new (row_looks old.past ns ++ Start hold.row.row 0 ∷ []))
 Finds old new None =
     HoldsNone new × (new.past ≡ old.layout.rows)
-    × ((ns : List ℕ) × (old.past + length ns ≡ old.layout.rows) × AllSome ns × AddsSteps old new (row_looks old.past ns))
+    × ((ns : List ℕ) × (old.past + length ns ≡ old.layout.rows) × AllSome ns
+    × AddsSteps old new (row_looks old.past ns))
 
 -- the second search: the first row that is started again, or none
 abbrev pub FindsAgain : DeskView → DeskView → Option HoldView → Type 0

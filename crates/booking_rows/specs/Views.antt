@@ -28,7 +28,7 @@ pub record RowSeen : Type 0 where
 abbrev pub saw_phase : RowNo → Phase → Step
 saw_phase row phase = SawRow row.row standing_word (row_word_of phase row.generation)
 
--- how many looks at a booking there are beside those at its items: at word 0 first and last, and at words 1 to 7
+-- how many looks at a booking there are besides those at its items: at word 0 first and last, and at words 1 to 7
 abbrev pub other_looks : ℕ
 other_looks = 9
 
@@ -53,8 +53,9 @@ saw_words row v =
 abbrev pub saw_row : RowNo → RowSeen → ℕ → List Step
 saw_row row v last = saw_phase row v.phase ∷ saw_words row.row v ++ SawRow row.row standing_word last ∷ []
 
--- The words that the looks at a sealed booking showed, before it is known whether its row was given away meanwhile:
--- retailer, limit, total, the number of items, those of the items, and the end's three where it showed an ended phase
+-- The words that the looks at a sealed booking showed, before it is known whether its row was given away meanwhile.
+-- They are retailer, limit, total, the number of items, those of the items, and the end's three where it showed an
+-- ended phase
 pub record RowWords : Type 0 where
   pub phase : Phase
   pub retailer : ℕ

@@ -14,7 +14,7 @@ use leg_masks::write_item;
 use rail_ids::{RetailerNo, RowNo};
 use rail_time::Moment;
 
-/// What a maker notes of a booking beside its items: its retailer, its limit of confirmation, and its total in minor
+/// What a maker notes of a booking besides its items: its retailer, its limit of confirmation, and its total in minor
 /// units.
 #[derive(Clone, Copy, PartialEq, Eq)]
 pub struct Detail {

@@ -161,7 +161,7 @@ fn read_words(books: &Books, desk: &mut Desk, row: RowNo, phase: Phase) -> RowWo
     }
 }
 
-// Reads the words of so many items, and of no more than a booking may have.
+// Reads the words of that many items, and of no more than a booking may have.
 fn read_item_words(
     books: &Books,
     desk: &mut Desk,

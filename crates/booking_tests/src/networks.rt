@@ -19,7 +19,7 @@ pub fn stations(rt: &impl Abort, alloc: Global, changes: &[u32]) -> Result<Runs,
     Ok(runs)
 }
 
-/// The moment so many seconds after six.
+/// The moment that many seconds after six.
 pub fn moment(rt: &impl Abort, seconds: u32) -> Moment {
     Moment::of(AT_SIX + u64::from(seconds)).expect(rt, "a moment")
 }

@@ -85,7 +85,7 @@ fn confirms(rt: &impl Abort, books: &Books, desk: &mut Desk, row: RowNo)
     assert!(rt; done == Confirmed::Done);
 }
 
-// Quotes a refund so many seconds after six, of this amount: when it was made.
+// Quotes a refund that many seconds after six, of this amount: when it was made.
 fn quotes(
     rt: &impl Abort,
     cat: &Catalogue,
@@ -109,7 +109,7 @@ fn quotes(
     code.made
 }
 
-// Accepts a quote so many seconds after six.
+// Accepts a quote that many seconds after six.
 fn accepts(
     cat: &Catalogue,
     books: &Books,
@@ -138,7 +138,7 @@ fn word(rt: &impl Abort, books: &Books, desk: &mut Desk, place: PlaceNo) -> u64
     glance(books, desk, place, 0)
 }
 
-// Accepts quotes of then, for so much, so many seconds after six.
+// Accepts quotes of that moment, for this amount, that many seconds after six.
 fn accepts_each(rt: &impl Abort, cat: &Catalogue, books: &Books, desk: &mut Desk, made: Moment)
     requires own { IsOf books.now desk.old }
     requires idle { IsIdle desk.old }

@@ -27,15 +27,17 @@ pub begins : (lay : Layout) (words : List ℕ) → IsOpening lay lay.opening →
     → Kept lay (opening words [] (newcomer lay 0 []))
 begins lay words is are = record {
   history = [];
+  desks = 0 ∷ [];
   legal = (is, tt);
   words = are;
   seats = λ j u at alive. one j u at;
+  told = λ j u at gone. (one j u at).front;
   later = λ k past. refl;
-  first = (newcomer lay 0 [], refl, refl, refl);
+  first = (0, newcomer lay 0 [], refl, refl, refl, refl);
 }
   where
-    one : (j : ℕ) (u : View) → get_elem? (newcomer lay 0 [] ∷ []) j ≡ some u → Fits [] (newcomer lay 0 [] ∷ []) j u
-    one zero u e = subst (Fits [] (newcomer lay 0 [] ∷ []) 0) (some-injective (newcomer lay 0 []) u e)
+    one : (j : ℕ) (u : View) → get_elem? (newcomer lay 0 [] ∷ []) j ≡ some u → Fits [] (0 ∷ []) (newcomer lay 0 [] ∷ []) j u
+    one zero u e = subst (Fits [] (0 ∷ []) (newcomer lay 0 [] ∷ []) 0) (some-injective (newcomer lay 0 []) u e)
         record { number = refl; front = ([], refl); own_all = refl; joined = tt; olds = tt }
     one (suc j) u e = absurd (some-ne-none u (sym e))
 

@@ -24,8 +24,8 @@ ends lay a kept past ws xs fresh (s, (k, at), is, _, _) =
         legal = k.legal;
         front = f.front;
         are = subst (AreWordsOf lay (state_of lay k.history)) is k.words;
-        no_others = λ zero j past. let many = counts lay s k a.me.0 (ap (get_elem? s.views) f.number ∙ at) fresh zero in k.later j (omega (arith, many, past));
-        whole = λ w. sym f.front.1 ∙ (ap (λ l. a.me.0.seen ++ l) (whole lay s k a.me.0 (ap (get_elem? s.views) f.number ∙ at) fresh w f.front.0 f.front.1) ∙ append-nil a.me.0.seen);
+        no_others = λ zero j past. let many = counts lay s k a.id a.me.0 at fresh zero in k.later j (omega (arith, many, past));
+        whole = λ w. sym f.front.1 ∙ (ap (λ l. a.me.0.seen ++ l) (whole lay s k a.id a.me.0 at fresh w f.front.0 f.front.1) ∙ append-nil a.me.0.seen);
       },
     )
 

@@ -5,6 +5,7 @@ pub mod Desks
 pub mod OwnWork
 pub mod Holding
 pub mod Meeting
+pub mod Telling
 pub mod Finishing
 pub mod Shapes
 pub mod EndingLemmas

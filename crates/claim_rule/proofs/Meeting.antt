@@ -5,7 +5,7 @@ use mathlib.Core.Option.{some, some-injective, some-ne-none}
 use mathlib.Core.List.{IsPrefix}
 use lib.ListN.{get_elem?}
 use Rattle.atomic_table.specs.Table.{Splits, Joins}
-use Rattle.atomic_table.proofs.Lists.{at_set, set_here, set_else, at_longer}
+use Rattle.atomic_table.proofs.Lists.{at_set, set_here, set_else, at_longer, at_last}
 use Rattle.claim_rule.specs.declared.rule.View.{View}
 use Rattle.claim_rule.specs.Rule.{Each, In, IsSpent, HasAll, IsOld, Fits, Kept, parting, newly_parted, longer, joining, nobody}
 use Rattle.claim_rule.proofs.Views.{each_map, apart, spent_stays}
@@ -16,12 +16,13 @@ use Rattle.history_model.specs.History.{own}
 use Rattle.history_model.specs.declared.entry.Entry.{Entry}
 
 -- what is so of a view stays so where spent seats stay spent
-pub fits_views : (h : List Entry) (views views' : List View) → ((j : ℕ) → IsSpent views j → IsSpent views' j) → (k : ℕ) (u : View) → Fits h views k u → Fits h views' k u
-fits_views h views views' stay k u f = record {
-  number = f.number;
+pub fits_views : (h : List Entry) (desks desks' : List ℕ) (views views' : List View) → ((j seat : ℕ) → get_elem? desks j ≡ some seat → get_elem? desks' j ≡ some seat) → ((j : ℕ) → IsSpent desks views j → IsSpent desks' views' j)
+    → (k : ℕ) (u : View) → Fits h desks views k u → Fits h desks' views' k u
+fits_views h desks desks' views views' sits stay k u f = record {
+  number = sits u.number k f.number;
   front = f.front;
   own_all = f.own_all;
-  joined = each_map (λ j. IsSpent views j × HasAll h u.seen j) (λ j. IsSpent views' j × HasAll h u.seen j) (λ j p. (stay j p.0, p.1)) u.joined f.joined;
+  joined = each_map (λ j. IsSpent desks views j × HasAll h u.seen j) (λ j. IsSpent desks' views' j × HasAll h u.seen j) (λ j p. (stay j p.0, p.1)) u.joined f.joined;
   olds = f.olds;
 }
 
@@ -36,40 +37,50 @@ splits lay id v fresh zero_is s k at =
     let f = k.seats id v at fresh in
     let h = k.history in
     let views = set s.views id (parting v) in
-    let many = counts lay s k v (ap (get_elem? s.views) f.number ∙ at) fresh zero_is in
-    let stay : (j : ℕ) → IsSpent s.views j → IsSpent (views ++ newly_parted v ∷ []) j = λ j p.
-    let q = spent_stays s.views id (parting v) j (apart s.views id v at fresh j p) p in (q.0, at_longer views (newly_parted v ∷ []) j q.0 q.1, q.2) in
-    let long : length views ≡ v.parted + 1 = length-set s.views id (parting v) ∙ many in
-    let none : own h (v.parted + 1) ≡ [] = subst (λ (n : ℕ). own h n ≡ []) many (k.later (length s.views) (omega arith)) in
-    let at_zero : get_elem? s.views 0 ≡ some v = ap (get_elem? s.views) (sym zero_is ∙ f.number) ∙ at in
+    let desks = k.desks ++ length views ∷ [] in
+    let many = counts lay s k id v at fresh zero_is in
+    let sits : (j seat : ℕ) → get_elem? k.desks j ≡ some seat → get_elem? desks j ≡ some seat = λ j seat e. at_longer k.desks (length views ∷ []) j seat e in
+    let stay : (j : ℕ) → IsSpent k.desks s.views j → IsSpent desks (views ++ newly_parted v ∷ []) j = λ j p.
+    let q = spent_stays k.desks s.views id v (parting v) at fresh j p in (q.0, q.1, sits j q.0 q.2, at_longer views (newly_parted v ∷ []) q.0 q.1 q.3, q.4) in
+    let none : own h (v.parted + 1) ≡ [] = k.later (v.parted + 1) (omega arith) in
     record {
       history = h;
+      desks = desks;
       legal = k.legal;
       words = k.words;
       seats = λ j u there alive. ⊎_elim
           (λ (old : get_elem? views j ≡ some u). ⊎_elim
-          (λ (t : (j ≡ id) × (parting v ≡ u)). subst (λ (y : ℕ × View). Fits h (views ++ newly_parted v ∷ []) y.0 y.1) (λ i. (sym t.0 i, t.1 i)) (as_parting h (views ++ newly_parted v ∷ []) id v (fits_views h s.views (views ++ newly_parted v ∷ []) stay id v f)))
-          (λ (t : (j ≢ id) × (get_elem? s.views j ≡ some u)). fits_views h s.views (views ++ newly_parted v ∷ []) stay j u (k.seats j u t.1 alive))
+          (λ (t : (j ≡ id) × (parting v ≡ u)). subst (λ (y : ℕ × View). Fits h desks (views ++ newly_parted v ∷ []) y.0 y.1) (λ i. (sym t.0 i, t.1 i)) (as_parting h desks (views ++ newly_parted v ∷ []) id v (fits_views h k.desks desks s.views (views ++ newly_parted v ∷ []) sits stay id v f)))
+          (λ (t : (j ≢ id) × (get_elem? s.views j ≡ some u)). fits_views h k.desks desks s.views (views ++ newly_parted v ∷ []) sits stay j u (k.seats j u t.1 alive))
           (at_set s.views id j (parting v) u old))
-          (λ (t : (j ≡ length views) × (newly_parted v ≡ u)). subst (λ (y : ℕ × View). Fits h (views ++ newly_parted v ∷ []) y.0 y.1) (λ i. (sym (t.0 ∙ long) i, t.1 i)) record {
-            number = refl;
+          (λ (t : (j ≡ length views) × (newly_parted v ≡ u)). subst (λ (y : ℕ × View). Fits h desks (views ++ newly_parted v ∷ []) y.0 y.1) (λ i. (sym t.0 i, t.1 i)) record {
+            number = at_last k.desks (length views) (v.parted + 1) many;
             front = f.front;
             own_all = own_none (v.parted + 1) v.seen h f.front none ∙ sym none;
             joined = tt;
             olds = tt;
           })
           (snoc_at views (newly_parted v) u j there);
-      later = λ j past. let total : length (views ++ newly_parted v ∷ []) ≡ length views + 1 = length-append views (newly_parted v ∷ []) in k.later j (omega arith);
+      told = λ j u there gone. ⊎_elim
+          (λ (old : get_elem? views j ≡ some u). ⊎_elim
+          (λ (t : (j ≡ id) × (parting v ≡ u)). subst (λ (y : View). IsPrefix y.seen h) t.1 f.front)
+          (λ (t : (j ≢ id) × (get_elem? s.views j ≡ some u)). k.told j u t.1 gone)
+          (at_set s.views id j (parting v) u old))
+          (λ (t : (j ≡ length views) × (newly_parted v ≡ u)). subst (λ (y : View). IsPrefix y.seen h) t.1 f.front)
+          (snoc_at views (newly_parted v) u j there);
+      later = λ j past. let total : length desks ≡ length k.desks + 1 = length-append k.desks (length views ∷ []) in k.later j (omega arith);
       first = (
+        id,
         parting v,
-        at_longer views (newly_parted v ∷ []) 0 (parting v) (subst (λ (n : ℕ). get_elem? (set s.views id (parting v)) n ≡ some (parting v)) (sym f.number ∙ zero_is) (set_here s.views id (parting v) (in_range s.views id v at))),
+        at_longer views (newly_parted v ∷ []) id (parting v) (set_here s.views id (parting v) (in_range s.views id v at)),
         fresh,
-        length-append views (newly_parted v ∷ []) ∙ ap (λ (n : ℕ). n + 1) long,
+        zero_is,
+        length-append k.desks (length views ∷ []) ∙ ap (λ (n : ℕ). n + 1) many,
       );
     }
   where
-    as_parting : (h : List Entry) (views : List View) (id : ℕ) (v : View) → Fits h views id v → Fits h views id (parting v)
-    as_parting h views id v f = record { number = f.number; front = f.front; own_all = f.own_all; joined = f.joined; olds = each_map (IsOld h v) (IsOld h (parting v)) (λ o p. record { front = p.front; whole = p.whole }) v.olds f.olds }
+    as_parting : (h : List Entry) (desks : List ℕ) (views : List View) (id : ℕ) (v : View) → Fits h desks views id v → Fits h desks views id (parting v)
+    as_parting h desks views id v f = record { number = f.number; front = f.front; own_all = f.own_all; joined = f.joined; olds = each_map (IsOld h v) (IsOld h (parting v)) (λ o p. record { front = p.front; whole = p.whole }) v.olds f.olds }
 
 pub each_append : {A : Type 0} (P : A → Type 0) (xs ys : List A) → Each P xs → Each P ys → Each P (xs ++ ys)
 each_append P [] ys p q = q
@@ -122,7 +133,7 @@ in_there j [] ys i = i
 in_there j (x ∷ xs) ys i = inr (in_there j xs ys i)
 
 -- each member is a member
-each_self : (P : ℕ → Type 0) (xs : List ℕ) → ((j : ℕ) → In j xs → P j) → Each P xs
+pub each_self : (P : ℕ → Type 0) (xs : List ℕ) → ((j : ℕ) → In j xs → P j) → Each P xs
 each_self P [] f = tt
 each_self P (x ∷ xs) f = (f x (inl refl), each_self P xs (λ j i. f j (inr i)))
 
@@ -134,22 +145,23 @@ true_false : true ≡ false → ⊥
 true_false e = true≢false e
 
 -- the joined view, where the other is spent
-fits_joined : (h : List Entry) (views views' : List View) (id other : ℕ) (v w : View) → ((j : ℕ) → IsSpent views j → IsSpent views' j) → IsSpent views' other → Fits h views id v → Fits h views other w → Fits h views' id (joining v w)
-fits_joined h views views' id other v w stay gone f g =
+fits_joined : (h : List Entry) (desks : List ℕ) (views views' : List View) (id other : ℕ) (v w : View) → ((j : ℕ) → IsSpent desks views j → IsSpent desks views' j) → IsSpent desks views' w.number → Fits h desks views id v → Fits h desks views other w
+    → Fits h desks views' id (joining v w)
+fits_joined h desks views views' id other v w stay gone f g =
     let l = longer_is v.seen w.seen h f.front g.front in
     let both : List ℕ = v.joined ++ w.number ∷ w.joined in
     let here : (j : ℕ) → HasAll h v.seen j → HasAll h (longer v.seen w.seen) j = λ j p. own_between j v.seen (longer v.seen w.seen) h l.1 l.0 p in
     let there : (j : ℕ) → HasAll h w.seen j → HasAll h (longer v.seen w.seen) j = λ j p. own_between j w.seen (longer v.seen w.seen) h l.2 l.0 p in
-    let its : HasAll h w.seen w.number = subst (λ (j : ℕ). HasAll h w.seen j) (sym g.number) g.own_all in
-    let mine : HasAll h v.seen v.number = subst (λ (j : ℕ). HasAll h v.seen j) (sym f.number) f.own_all in
+    let its : HasAll h w.seen w.number = g.own_all in
+    let mine : HasAll h v.seen v.number = f.own_all in
     record {
       number = f.number;
       front = l.0;
-      own_all = here id f.own_all;
-      joined = each_append (λ j. IsSpent views' j × HasAll h (longer v.seen w.seen) j) v.joined (w.number ∷ w.joined)
-          (each_map (λ j. IsSpent views j × HasAll h v.seen j) (λ j. IsSpent views' j × HasAll h (longer v.seen w.seen) j) (λ j p. (stay j p.0, here j p.1)) v.joined f.joined) (
-            (subst (IsSpent views') (sym g.number) gone, there w.number its),
-            each_map (λ j. IsSpent views j × HasAll h w.seen j) (λ j. IsSpent views' j × HasAll h (longer v.seen w.seen) j) (λ j p. (stay j p.0, there j p.1)) w.joined g.joined,
+      own_all = here v.number f.own_all;
+      joined = each_append (λ j. IsSpent desks views' j × HasAll h (longer v.seen w.seen) j) v.joined (w.number ∷ w.joined)
+          (each_map (λ j. IsSpent desks views j × HasAll h v.seen j) (λ j. IsSpent desks views' j × HasAll h (longer v.seen w.seen) j) (λ j p. (stay j p.0, here j p.1)) v.joined f.joined) (
+            (gone, there w.number its),
+            each_map (λ j. IsSpent desks views j × HasAll h w.seen j) (λ j. IsSpent desks views' j × HasAll h (longer v.seen w.seen) j) (λ j p. (stay j p.0, there j p.1)) w.joined g.joined,
           );
       olds = (
         record {
@@ -157,7 +169,7 @@ fits_joined h views views' id other v w stay gone f g =
           whole = (
             (mine, inl refl),
             each_both (HasAll h v.seen) (λ j. (j ≡ v.number) ⊎ In j both) v.joined
-                (each_map (λ j. IsSpent views j × HasAll h v.seen j) (HasAll h v.seen) (λ j p. p.1) v.joined f.joined) (each_self (λ j. (j ≡ v.number) ⊎ In j both) v.joined (λ j i. inr (in_here j v.joined (w.number ∷ w.joined) i))),
+                (each_map (λ j. IsSpent desks views j × HasAll h v.seen j) (HasAll h v.seen) (λ j p. p.1) v.joined f.joined) (each_self (λ j. (j ≡ v.number) ⊎ In j both) v.joined (λ j i. inr (in_here j v.joined (w.number ∷ w.joined) i))),
           );
         },
         (
@@ -166,7 +178,7 @@ fits_joined h views views' id other v w stay gone f g =
             whole = (
               (its, inr (in_there w.number v.joined (w.number ∷ w.joined) (inl refl))),
               each_both (HasAll h w.seen) (λ j. (j ≡ v.number) ⊎ In j both) w.joined
-                  (each_map (λ j. IsSpent views j × HasAll h w.seen j) (HasAll h w.seen) (λ j p. p.1) w.joined g.joined) (each_self (λ j. (j ≡ v.number) ⊎ In j both) w.joined (λ j i. inr (in_there j v.joined (w.number ∷ w.joined) (inr i)))),
+                  (each_map (λ j. IsSpent desks views j × HasAll h w.seen j) (HasAll h w.seen) (λ j p. p.1) w.joined g.joined) (each_self (λ j. (j ≡ v.number) ⊎ In j both) w.joined (λ j i. inr (in_there j v.joined (w.number ∷ w.joined) (inr i)))),
             );
           },
           tt,
@@ -183,26 +195,34 @@ joins lay id other v w fresh fresh' apart_zero s k at n there_set =
     let one = set s.views id (joining v w) in
     let two = set one other nobody in
     let inside : other < length one = subst (λ (m : ℕ). other < m) (sym (length-set s.views id (joining v w))) (in_range s.views other w there) in
-    let gone : IsSpent two other = (nobody, set_here one other nobody inside, refl) in
-    let stay : (j : ℕ) → IsSpent s.views j → IsSpent two j = λ j p.
-    spent_stays one other nobody j (apart s.views other w there fresh' j p) (spent_stays s.views id (joining v w) j (apart s.views id v at fresh j p) p) in
-    let many : length two ≡ length s.views = length-set one other nobody ∙ length-set s.views id (joining v w) in
-    let not_zero : 0 ≡ other → ⊥ = λ e. apart_zero (g.number ∙ sym e) in
+    let gone : IsSpent k.desks two w.number = (other, nobody, g.number, set_here one other nobody inside, refl) in
+    let stay : (j : ℕ) → IsSpent k.desks s.views j → IsSpent k.desks two j = λ j p.
+    spent_stays k.desks one other w nobody there_set fresh' j (spent_stays k.desks s.views id v (joining v w) at fresh j p) in
+    let first = k.first in
+    let not_first : first.0 ≡ other → ⊥ = λ e. apart_zero (sym (ap (λ (x : View). x.number) (some-injective first.1 w (sym first.2 ∙ (ap (get_elem? s.views) e ∙ there)))) ∙ first.4) in
     record {
       history = h;
+      desks = k.desks;
       legal = k.legal;
       words = k.words;
       seats = λ j u at' alive. ⊎_elim
           (λ (t : (j ≡ other) × (nobody ≡ u)). absurd (true_false (ap (λ (x : View). x.spent) t.1 ∙ alive)))
           (λ (t : (j ≢ other) × (get_elem? one j ≡ some u)). ⊎_elim
-          (λ (r : (j ≡ id) × (joining v w ≡ u)). subst (λ (y : ℕ × View). Fits h two y.0 y.1) (λ i. (sym r.0 i, r.1 i)) (fits_joined h s.views two id other v w stay gone f g))
-          (λ (r : (j ≢ id) × (get_elem? s.views j ≡ some u)). fits_views h s.views two stay j u (k.seats j u r.1 alive))
+          (λ (r : (j ≡ id) × (joining v w ≡ u)). subst (λ (y : ℕ × View). Fits h k.desks two y.0 y.1) (λ i. (sym r.0 i, r.1 i)) (fits_joined h k.desks s.views two id other v w stay gone f g))
+          (λ (r : (j ≢ id) × (get_elem? s.views j ≡ some u)). fits_views h k.desks k.desks s.views two (λ j seat e. e) stay j u (k.seats j u r.1 alive))
           (at_set s.views id j (joining v w) u t.1))
           (at_set one other j nobody u at');
-      later = λ j past. k.later j (subst (λ (m : ℕ). m ≤ j) many past);
+      told = λ j u at' gone'. ⊎_elim
+          (λ (t : (j ≡ other) × (nobody ≡ u)). subst (λ (y : View). IsPrefix y.seen h) t.1 (h, refl))
+          (λ (t : (j ≢ other) × (get_elem? one j ≡ some u)). ⊎_elim
+          (λ (r : (j ≡ id) × (joining v w ≡ u)). subst (λ (y : View). IsPrefix y.seen h) r.1 (longer_is v.seen w.seen h f.front g.front).0)
+          (λ (r : (j ≢ id) × (get_elem? s.views j ≡ some u)). k.told j u r.1 gone')
+          (at_set s.views id j (joining v w) u t.1))
+          (at_set one other j nobody u at');
+      later = k.later;
       first = ⊎_elim
-          (λ (zero_is : 0 ≡ id). let x = k.first in let same : x.0 ≡ v = some-injective x.0 v (sym x.1 ∙ (ap (get_elem? s.views) zero_is ∙ at)) in
-          (joining v w, set_else one other 0 nobody not_zero ∙ (ap (get_elem? one) zero_is ∙ set_here s.views id (joining v w) (in_range s.views id v at)), fresh, many ∙ (x.3 ∙ ap (λ (y : View). y.parted + 1) same)))
-          (λ (e : 0 ≡ id → ⊥). let x = k.first in (x.0, set_else one other 0 nobody not_zero ∙ (set_else s.views id 0 (joining v w) e ∙ x.1), x.2, many ∙ x.3))
-          (cases_eq 0 id);
+          (λ (its : first.0 ≡ id). let same : first.1 ≡ v = some-injective first.1 v (sym first.2 ∙ (ap (get_elem? s.views) its ∙ at)) in
+          (id, joining v w, set_else one other id nobody (λ e. n (sym e)) ∙ set_here s.views id (joining v w) (in_range s.views id v at), fresh, sym (ap (λ (y : View). y.number) same) ∙ first.4, first.5 ∙ ap (λ (y : View). y.parted + 1) same))
+          (λ (e : first.0 ≡ id → ⊥). (first.0, first.1, set_else one other first.0 nobody not_first ∙ (set_else s.views id first.0 (joining v w) e ∙ first.2), first.3, first.4, first.5))
+          (cases_eq first.0 id);
     }

@@ -34,46 +34,54 @@ has_more j d st h x n e = e ∙ sym (own_more j d st h n)
 unspent : true ≡ false → ⊥
 unspent e = true≢false e
 
--- a seat that isn't spent is another one than a spent seat
-pub apart : (views : List View) (id : ℕ) (v : View) → get_elem? views id ≡ some v → v.spent ≡ false → (j : ℕ) → IsSpent views j → j ≡ id → ⊥
-apart views id v at fresh j (u, there, spent) e =
+-- of one seat there is one view: none that is spent where one isn't
+not_spent : (views : List View) (id : ℕ) (v : View) → get_elem? views id ≡ some v → v.spent ≡ false → (seat : ℕ) (u : View) → get_elem? views seat ≡ some u → u.spent ≡ true → seat ≡ id → ⊥
+not_spent views id v at fresh seat u there spent e =
     let same : some u ≡ some v = sym there ∙ (ap (get_elem? views) e ∙ at) in
     unspent (sym spent ∙ (ap (λ (x : View). x.spent) (some-injective u v same) ∙ fresh))
 
-pub spent_stays : (views : List View) (id : ℕ) (w : View) (j : ℕ) → (j ≡ id → ⊥) → IsSpent views j → IsSpent (set views id w) j
-spent_stays views id w j n (u, there, spent) = (u, set_else views id j w n ∙ there, spent)
+-- a desk whose seat isn't spent is another one than a spent desk
+pub apart : (desks : List ℕ) (views : List View) (id : ℕ) (v : View) → get_elem? desks v.number ≡ some id → get_elem? views id ≡ some v → v.spent ≡ false → (j : ℕ) → IsSpent desks views j → j ≡ v.number → ⊥
+apart desks views id v sits at fresh j (seat, u, its, there, spent) e =
+    not_spent views id v at fresh seat u there spent (some-injective seat id (sym its ∙ (ap (get_elem? desks) e ∙ sits)))
+
+pub spent_stays : (desks : List ℕ) (views : List View) (id : ℕ) (v w : View) → get_elem? views id ≡ some v → v.spent ≡ false → (j : ℕ) → IsSpent desks views j → IsSpent desks (set views id w) j
+spent_stays desks views id v w at fresh j (seat, u, its, there, spent) = (seat, u, its, set_else views id seat w (not_spent views id v at fresh seat u there spent) ∙ there, spent)
 
 -- the view of another seat
-pub fits_other : (h : List Entry) (views : List View) (d : ℕ) (st : Step) (v w : View) → get_elem? views d ≡ some v → v.spent ≡ false → (k : ℕ) (u : View) → (k ≡ d → ⊥) → Fits h views k u → Fits (h ++ entry d st ∷ []) (set views d w) k u
-fits_other h views d st v w at fresh k u n f = record {
-  number = f.number;
-  front = prefix-more u.seen h (entry d st ∷ []) f.front;
-  own_all = has_more k d st h u.seen n f.own_all;
-  joined = each_map (λ j. IsSpent views j × HasAll h u.seen j) (λ j. IsSpent (set views d w) j × HasAll (h ++ entry d st ∷ []) u.seen j)
-      (λ j p. let m = apart views d v at fresh j p.0 in (spent_stays views d w j m p.0, has_more j d st h u.seen m p.1)) u.joined f.joined;
-  olds = each_map (IsOld h u) (IsOld (h ++ entry d st ∷ []) u) (λ o p. record {
-    front = prefix-more o.seen h (entry d st ∷ []) p.front;
-    whole = each_map (λ j. HasAll h o.seen j × ((j ≡ u.number) ⊎ In j u.joined)) (λ j. HasAll (h ++ entry d st ∷ []) o.seen j × ((j ≡ u.number) ⊎ In j u.joined))
-        (λ j q. (
-          has_more j d st h o.seen
-              (⊎_elim (λ (e : j ≡ u.number). λ (m : j ≡ d). n (sym f.number ∙ (sym e ∙ m)))
-              (λ (i : In j u.joined). apart views d v at fresh j (each_in (λ j. IsSpent views j × HasAll h u.seen j) u.joined j f.joined i).0) q.1) q.0,
-          q.1,
-        ))
-        o.whole p.whole;
-  }) u.olds f.olds;
-}
+pub fits_other : (h : List Entry) (desks : List ℕ) (views : List View) (d : ℕ) (st : Step) (v w : View) → get_elem? desks v.number ≡ some d → get_elem? views d ≡ some v → v.spent ≡ false → (k : ℕ) (u : View) → (k ≡ d → ⊥) → Fits h desks views k u
+    → Fits (h ++ entry v.number st ∷ []) desks (set views d w) k u
+fits_other h desks views d st v w sits at fresh k u n f =
+    let other : u.number ≡ v.number → ⊥ = λ e. n (some-injective k d (sym f.number ∙ (ap (get_elem? desks) e ∙ sits))) in
+    record {
+      number = f.number;
+      front = prefix-more u.seen h (entry v.number st ∷ []) f.front;
+      own_all = has_more u.number v.number st h u.seen other f.own_all;
+      joined = each_map (λ j. IsSpent desks views j × HasAll h u.seen j) (λ j. IsSpent desks (set views d w) j × HasAll (h ++ entry v.number st ∷ []) u.seen j)
+          (λ j p. (spent_stays desks views d v w at fresh j p.0, has_more j v.number st h u.seen (apart desks views d v sits at fresh j p.0) p.1)) u.joined f.joined;
+      olds = each_map (IsOld h u) (IsOld (h ++ entry v.number st ∷ []) u) (λ o p. record {
+        front = prefix-more o.seen h (entry v.number st ∷ []) p.front;
+        whole = each_map (λ j. HasAll h o.seen j × ((j ≡ u.number) ⊎ In j u.joined)) (λ j. HasAll (h ++ entry v.number st ∷ []) o.seen j × ((j ≡ u.number) ⊎ In j u.joined))
+            (λ j q. (
+              has_more j v.number st h o.seen
+                  (⊎_elim (λ (e : j ≡ u.number). λ (m : j ≡ v.number). other (sym e ∙ m))
+                  (λ (i : In j u.joined). apart desks views d v sits at fresh j (each_in (λ j. IsSpent desks views j × HasAll h u.seen j) u.joined j f.joined i).0) q.1) q.0,
+              q.1,
+            ))
+            o.whole p.whole;
+      }) u.olds f.olds;
+    }
 
 -- the view of the seat that made the step
 abbrev pub moved : View → List Entry → View
 moved v h = record { plan = v.plan; spent = v.spent; number = v.number; seen = h; joined = v.joined; parted = v.parted; olds = [] }
 
-pub fits_own : (h : List Entry) (views : List View) (d : ℕ) (st : Step) (v : View) → get_elem? views d ≡ some v → v.spent ≡ false → Fits h views d v → Fits (h ++ entry d st ∷ []) (set views d (moved v (h ++ entry d st ∷ []))) d (moved v (h ++ entry d st ∷ []))
-fits_own h views d st v at fresh f = record {
+pub fits_own : (h now : List Entry) (desks : List ℕ) (views : List View) (d : ℕ) (v : View) → get_elem? views d ≡ some v → v.spent ≡ false → Fits h desks views d v → Fits now desks (set views d (moved v now)) d (moved v now)
+fits_own h now desks views d v at fresh f = record {
   number = f.number;
-  front = ([], append-nil (h ++ entry d st ∷ []));
+  front = ([], append-nil now);
   own_all = refl;
-  joined = each_map (λ j. IsSpent views j × HasAll h v.seen j) (λ j. IsSpent (set views d (moved v (h ++ entry d st ∷ []))) j × HasAll (h ++ entry d st ∷ []) (h ++ entry d st ∷ []) j)
-      (λ j p. (spent_stays views d (moved v (h ++ entry d st ∷ [])) j (apart views d v at fresh j p.0) p.0, refl)) v.joined f.joined;
+  joined = each_map (λ j. IsSpent desks views j × HasAll h v.seen j) (λ j. IsSpent desks (set views d (moved v now)) j × HasAll now now j)
+      (λ j p. (spent_stays desks views d v (moved v now) at fresh j p.0, refl)) v.joined f.joined;
   olds = tt;
 }

@@ -41,6 +41,11 @@ pub record DeskView : Type 0 where
   pub kept : Option RowNo
   pub past : ℕ
 
+-- what contracts see of what was told
+pub record ToldView : Type 0 where
+  pub table : TableId
+  pub seen : List Entry
+
 -- the state of what the desk has seen
 abbrev pub state_seen : DeskView → State
 state_seen desk = state_of desk.layout desk.seen
@@ -61,8 +66,11 @@ abbrev pub In : ℕ → List ℕ → Type 0
 In number [] = ⊥
 In number (first ∷ rest) = (number ≡ first) ⊎ In number rest
 
-abbrev pub IsSpent : List View → ℕ → Type 0
-IsSpent views seat = (view : View) × (get_elem? views seat ≡ some view) × (view.spent ≡ true)
+-- the seat of the desk of this number is spent: the desk was joined. The list has the seats of all desks, by number
+abbrev pub IsSpent : List ℕ → List View → ℕ → Type 0
+IsSpent desks views number =
+    (seat : ℕ) × (view : View) × (get_elem? desks number ≡ some seat) × (get_elem? views seat ≡ some view)
+    × (view.spent ≡ true)
 
 -- what was seen has all entries of the desk that the history has
 abbrev pub HasAll : List Entry → List Entry → ℕ → Type 0
@@ -73,23 +81,27 @@ pub record IsOld (history : List Entry) (view : View) (old : Old) : Type 0 where
   pub front : IsPrefix old.seen history
   pub whole : Each (λ j. HasAll history old.seen j × ((j ≡ view.number) ⊎ In j view.joined)) old.whole
 
--- what is so of the view of a seat
-pub record Fits (history : List Entry) (views : List View) (seat : ℕ) (view : View) : Type 0 where
-  pub number : view.number ≡ seat
+-- what is so of the view of a desk's seat
+pub record Fits (history : List Entry) (desks : List ℕ) (views : List View) (seat : ℕ) (view : View) : Type 0 where
+  pub number : get_elem? desks view.number ≡ some seat
   pub front : IsPrefix view.seen history
-  pub own_all : HasAll history view.seen seat
-  pub joined : Each (λ j. IsSpent views j × HasAll history view.seen j) view.joined
+  pub own_all : HasAll history view.seen view.number
+  pub joined : Each (λ j. IsSpent desks views j × HasAll history view.seen j) view.joined
   pub olds : Each (IsOld history view) view.olds
 
+-- A seat that is spent has no desk. Where a word was told by it, what that says begins the history
 pub record Kept (layout : Layout) (table : Table ℕ View) : Type 0 where
   pub history : List Entry
+  pub desks : List ℕ
   pub legal : IsLegal layout history
   pub words : AreWordsOf layout (state_of layout history) table.words
   pub seats : (seat : ℕ) (view : View) → get_elem? table.views seat ≡ some view → view.spent ≡ false
-      → Fits history table.views seat view
-  pub later : (seat : ℕ) → length table.views ≤ seat → own history seat ≡ []
-  pub first : (view : View) × (get_elem? table.views 0 ≡ some view) × (view.spent ≡ false)
-      × (length table.views ≡ view.parted + 1)
+      → Fits history desks table.views seat view
+  pub told : (seat : ℕ) (view : View) → get_elem? table.views seat ≡ some view → view.spent ≡ true
+      → IsPrefix view.seen history
+  pub later : (number : ℕ) → length desks ≤ number → own history number ≡ []
+  pub first : (seat : ℕ) × (view : View) × (get_elem? table.views seat ≡ some view) × (view.spent ≡ false)
+      × (view.number ≡ 0) × (length desks ≡ view.parted + 1)
 
 -- desk 0 which has joined every desk that it parted: it has all entries there are
 abbrev pub IsWhole : ℕ → ℕ → List ℕ → Type 0
@@ -156,14 +168,33 @@ joining view other =
       olds = old_of view ∷ old_of other ∷ [];
     }
 
-abbrev pub nobody : View
-nobody =
+-- a view of no desk, which says what was seen
+abbrev pub telling : List Entry → View
+telling seen =
     record {
       plan = record { legs = []; rows = 0; opening = [] };
       spent = true;
       number = 0;
-      seen = [];
+      seen = seen;
       joined = [];
       parted = 0;
       olds = [];
+    }
+
+abbrev pub nobody : View
+nobody = telling []
+
+-- a view, and one that says what it has seen
+abbrev pub as_it_was : View → View
+as_it_was view = view
+
+abbrev pub told_by : View → View
+told_by view = telling view.seen
+
+-- a view that learns what another says
+abbrev pub learning : View → View → View
+learning view told =
+    record view {
+      seen = longer view.seen told.seen;
+      olds = old_of view ∷ record { seen = told.seen; whole = [] } ∷ [];
     }

@@ -11,6 +11,7 @@ ghost use Rattle.claim_rule.specs.Out.{IsTidy};
 ghost use Rattle.claim_rule.specs.Openings.{AllOpenings, IsLayoutOf, KeptBooking, OpensWith};
 
 use crate::desk::Desk;
+use crate::marks::Marks;
 use crate::numbers::{number_of_place, number_of_row};
 use crate::opening::choose;
 use crate::rule::{Adds, Finds, OneHistory, Plan, Says, View};
@@ -31,6 +32,7 @@ pub struct Books {
     pub(crate) table: Board,
     pub(crate) places: u32,
     pub(crate) rows: u32,
+    pub(crate) marks: Marks,
 }
 
 impl Model for Books {
@@ -92,6 +94,7 @@ pub fn adopt_books(
         table,
         places: legs.len() as u32,
         rows,
+        marks: Marks::new(alloc, rows)?,
     };
     Ok((
         books,
@@ -133,6 +136,13 @@ impl Books {
         ensures most { result ≤ most_rows }
     {
         self.rows
+    }
+
+    /// Clears the marks of 64 rows, and answers which were set: the first row of the block, 64 * `block`, has the lowest
+    /// bit. A row is marked by each step that changes its standing word. None is marked where books open, and past the
+    /// last row none ever is.
+    pub fn take_marks(&self, block: u32) -> u64 {
+        self.marks.take(block)
     }
 
     /// The item of these legs, which lie in one half, at a place of the books.

@@ -196,6 +196,7 @@ impl Books {
         if found != old {
             return Some(found);
         }
+        self.marks.set(row.row);
         None
     }
 
@@ -299,6 +300,7 @@ impl Books {
             read: _,
         } = ending;
         self.close_at(&mut desk.seat, row, kind);
+        self.marks.set(row.row);
     }
 
     fn close_at(&self, seat: &mut Seat<u64, View>, row: RowNo, kind: EndKind)

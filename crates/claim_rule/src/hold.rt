@@ -159,6 +159,7 @@ impl Books {
         if found != expected {
             return Started::Missed { shown: found };
         }
+        self.marks.set(row.row);
         Started::Won(Hold {
             row,
             items: ArrayVec::new(),
@@ -217,6 +218,7 @@ impl Books {
     {
         let Hold { row, items: _ } = hold;
         self.seal_at(&mut desk.seat, row, phase);
+        self.marks.set(row.row);
         row
     }
 

@@ -73,6 +73,7 @@ impl Books {
             table,
             places,
             rows,
+            marks: _,
         } = self;
         let Desk {
             seat,

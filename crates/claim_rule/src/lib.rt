@@ -8,6 +8,9 @@
 //! A row serves one booking after another, each with a generation of its own. Once its booking has ended, a row may be
 //! started again with the next generation; it is never free again.
 //!
+//! Each row has a mark, which the steps set that change its standing word, and `take_marks` clears: so who writes down
+//! what changed need not look at all rows.
+//!
 //! No call takes memory but `start_books` and `adopt_books`, and none waits.
 //!
 //! What contracts say of a desk (`specs/Desks`, `specs/Out`):
@@ -21,10 +24,11 @@
 //!   that a seal leaves.
 //!
 //! `start_books` and `adopt_books` give the first desk; `part` gives another, which has seen what the first has seen;
-//! `meet` joins an idle one; `finish` closes the table to a wall. `Hold::leave` and `Ending::leave` are for a desk
-//! that is given up in the middle. The `step_` calls are for `seat_words` and `booking_rows`; `step_read` is also for
-//! the crates that decide a booking's fate. `Books` may be shared by threads, and desks, holds and endings may go to
-//! one (`crosses`).
+//! `meet` joins an idle one; `finish` closes the table to a wall. `tell` gives what a desk has seen to one that learns
+//! it: that stands before all that the other does from then on, and neither ends. `Hold::leave` and `Ending::leave` are
+//! for a desk that is given up in the middle. The `step_` calls are for `seat_words` and `booking_rows`; `step_read` is
+//! also for the crates that decide a booking's fate. `Books` may be shared by threads, and desks, holds, endings and
+//! what was told may go to one (`crosses`).
 //!
 //! Lemmas for the crates above (`proofs`): `Shapes`, `Out`, `Reading` (a look shows the word of the state that the
 //! desk has then seen), `OpeningKept` and `OpeningWords` (the bookings that books open with follow from the words).
@@ -38,8 +42,10 @@ mod ending;
 mod hold;
 mod joins;
 mod looks;
+mod marks;
 mod numbers;
 mod opening;
+mod order;
 mod rule;
 mod wall;
 
@@ -48,5 +54,6 @@ pub use crossing::crosses;
 pub use desk::Desk;
 pub use ending::{Ending, StepTurned, item_of};
 pub use hold::{Hold, Started};
+pub use order::Told;
 pub use rule::{Plan, View};
 pub use wall::Wall;

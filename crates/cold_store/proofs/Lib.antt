@@ -30,6 +30,8 @@ pub mod AddsLine
 pub mod SearchLines
 pub mod LastLine
 pub mod WallRows
+pub mod ReadAgain
+pub mod Written
 pub mod OpenRows
 pub mod LiveBookings
 pub mod ItemWords

@@ -139,6 +139,6 @@ end_text w row =
     flat_map (λ (k : KeptBooking). end_fields k.phase (said_of k).end)
     (option_to_list (kept_of_row (state_on w) row))
 
--- the lines of all bookings were added, which are so many
+-- the lines of all bookings were added, which are that many
 abbrev pub AddsRows : WallView → List ℕ → List ℕ → ℕ → Type 0
 AddsRows w old new count = (new ≡ old ++ text_of (map booking_line (said_on w))) × (count ≡ length (said_on w))

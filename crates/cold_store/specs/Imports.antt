@@ -92,7 +92,7 @@ abbrev pub OpensAs : List ℕ → ℕ → List ℕ → Layout → Type 0
 OpensAs legs rows text layout =
     (said : List SaidBooking) × IsRightText legs rows text said × (layout ≡ layout_with legs rows (map kept_of said))
 
--- the text is an export of so many places and rows, and the draft is that of its bookings
+-- the text is an export of that many places and rows, and the draft is that of its bookings
 abbrev pub IsReadText : List ℕ → List ℕ → ℕ → ℕ → DraftView → Type 0
 IsReadText legs text places rows d =
     (said : List SaidBooking) × IsExportOf text places rows said × IsDraftOf legs d.rows said d

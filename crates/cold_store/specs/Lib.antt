@@ -6,3 +6,4 @@ pub mod Reads
 pub mod Drafts
 pub mod Imports
 pub mod Laws
+pub mod Written

@@ -137,7 +137,7 @@ pub record IsSayable (b : SaidBooking) : Type 0 where
   pub items : AllByRecursion AreItemNumbers b.items
   pub end : IsEndSaid b.phase b.end
 
--- the text is an export of so many places and rows with these bookings, in rising row
+-- the text is an export of that many places and rows with these bookings, in rising row
 pub record IsExportOf (text : List ℕ) (places rows : ℕ) (said : List SaidBooking) : Type 0 where
   pub sizes : IsNumber places × IsNumber rows
   pub each : AllByRecursion IsSayable said

@@ -64,7 +64,7 @@ pub record IsHeadSaid (h : Head) : Type 0 where
   pub total : IsNumber h.total
   pub count : IsNumber h.count
 
--- the items are those that were said; none are where these are too many, or one doesn't lie within its place
+-- the items are those that were said; there are none where these are too many, or one doesn't lie within its place
 abbrev pub AreItemsOf : List ℕ → List SaidItem → Option (List Item) → Type 0
 AreItemsOf legs said (Some items) =
     AllByRecursion (IsWithin legs) said × (length said ≤ most_items) × (items ≡ map kept_item said)

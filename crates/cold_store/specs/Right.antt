@@ -45,7 +45,7 @@ pub record IsEndIn (kind : EndKind) (limit : ℕ) (end : SaidEnd) : Type 0 where
   pub exchanged : kind ≡ Exchange → IsSome end.successor
   pub others : kind ≢ Exchange → end.successor ≡ None
 
--- the numbers before the items are a sealed booking's in so many rows
+-- the numbers before the items are a sealed booking's in that many rows
 pub record IsHeadRight (rows : ℕ) (h : Head) : Type 0 where
   pub row : h.row < rows
   pub generation : h.generation ≤ last_generation

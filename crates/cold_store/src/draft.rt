@@ -41,9 +41,9 @@ pub struct Follows {
     pub successor: SaidRow,
 }
 
-/// What the lines so far come to: the words of the books, as long as no line was wrong; which rows have a line, and
-/// which a successor; the row of the first line that is wrong by itself; and the least place where live bookings
-/// overlap.
+/// What the lines so far come to. It has the words of the books, as long as no line was wrong, and which rows have a
+/// line, and which a successor. It also has the row of the first line that is wrong by itself, and the least place
+/// where live bookings overlap.
 #[derive(Drop)]
 pub(crate) struct Draft {
     pub(crate) places: u32,
@@ -98,7 +98,7 @@ fn is_end_right(kind: EndKind, limit: u64, end: SaidEnd) -> bool
     kind != EndKind::Expire || limit < end.moment
 }
 
-// Whether the numbers before the items are a sealed booking's in so many rows.
+// Whether the numbers before the items are a sealed booking's in that many rows.
 fn is_head_right(head: &Head, rows: u32) -> bool
     ensures { IsTrue result ↔ IsHeadRight rows head.now }
 {
@@ -236,7 +236,7 @@ fn words_of(head: &Head, end: SaidEnd, items: &[Item]) -> RowWords
 }
 
 impl Draft {
-    /// Books with so many places and rows, all free.
+    /// Books with that many places and rows, all free.
     pub(crate) fn new(alloc: Global, places: u32, rows: u32) -> Result<Draft, AllocError>
         requires places { places ≤ most_places }
         requires rows { rows ≤ most_rows }

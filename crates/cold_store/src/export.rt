@@ -5,11 +5,10 @@ ghost use Rattle.history_model.specs.Booking.{amount_word};
 ghost use Rattle.history_model.specs.Phase.{is_sealed};
 ghost use Rattle.history_model.specs.declared.phase.Phase.TheVariants.{Ended};
 ghost use Rattle.claim_rule.specs.Openings.{kept_of_row};
-ghost use Rattle.cold_store.specs.Exports.{AddsRows, IsClosed, IsExport, IsExportFault, IsShownAs, end_text, items_text, row_text, state_on, stub_text, words_text};
-ghost use Rattle.cold_store.specs.Lines.{head_text};
+ghost use Rattle.cold_store.specs.Exports.{AddsRows, IsClosed, IsExport, IsExportFault, IsShownAs, end_text, items_text, row_text, state_on, words_text};
 
 use crate::fault::ExportFault;
-use crate::letters::letter_of;
+use crate::line::{push_head, push_stub};
 use crate::wall_rows::{first_held, first_open, item_at, live_words, shown_at, word_at};
 use crate::writer::{
     push_amount, push_field, push_first_line, push_item, push_last_line, push_successor,
@@ -78,29 +77,6 @@ fn push_row(text: &mut Vec<u8>, wall: &Wall, row: u32) -> Result<bool, AllocErro
             Ok(true)
         }
     }
-}
-
-// The line of a row that serves again, and whose booking isn't made yet.
-fn push_stub(text: &mut Vec<u8>, row: u32, generation: u32) -> Result<(), AllocError>
-    ensures { OnOk result (text.new.items ≡ text.old.items ++ stub_text row generation) }
-{
-    push_head(text, row, generation, Phase::Ended(EndKind::Release))?;
-    text.extend_from_slice(b" 0 0 0 1 0.0.1 p0 0 -\n")?;
-    Ok(())
-}
-
-// The first four fields of a line.
-fn push_head(text: &mut Vec<u8>, row: u32, generation: u32, phase: Phase) -> Result<(), AllocError>
-    ensures { OnOk result (text.new.items ≡ text.old.items ++ head_text row generation phase) }
-{
-    text.extend_from_slice(b"row")?;
-    push_field(text, u64::from(row))?;
-    push_field(text, u64::from(generation))?;
-    text.push(b' ')?;
-    if let Some(letter) = letter_of(phase) {
-        text.push(letter)?;
-    }
-    Ok(())
 }
 
 // The line of a booking that is sealed.

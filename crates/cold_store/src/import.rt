@@ -99,7 +99,7 @@ fn read_text(draft: &mut Draft, legs: &[u8], text: &[u8]) -> Result<(u64, u64), 
     Ok(sizes)
 }
 
-// The number of the line that is so many after those of the bookings; the greatest where it is greater.
+// The number of the line that comes this many after those of the bookings; the greatest where it is greater.
 fn line_behind(draft: &Draft, more: u32) -> u32
     ensures few { IsNumber (length draft.now.lines) }
     ensures number { result ≡ min (length draft.now.lines + more) last_number }
@@ -136,7 +136,7 @@ fn next_line(reader: &mut Reader<'_>, draft: &Draft, legs: &[u8]) -> Option<Line
     Some(line)
 }
 
-// Whether the last line, after `end`, says that so many bookings were read.
+// Whether the last line, after `end`, says that this many bookings were read.
 fn last_line(reader: &mut Reader<'_>, count: u64) -> bool
     ensures { EatsLast count reader.old.rest.now reader.new.rest.now result }
 {

@@ -3,15 +3,15 @@ ghost use Rattle.std.specs.Prelude.{◌≡◌, decimal};
 ghost use Rattle.cold_store.specs.Lines.{IsNumber, number_field};
 ghost use Rattle.cold_store.specs.Reads.{AreNumbers, Eats, Reads, TakesDigit, number_part, number_with, two_fields};
 
-/// What is left of the text. What is read goes.
+/// What is left of a text. What is read goes.
 #[derive(Drop)]
-pub(crate) struct Reader<'a> {
-    pub(crate) rest: &'a [u8],
+pub struct Reader<'a> {
+    pub rest: &'a [u8],
 }
 
 impl<'a> Reader<'a> {
     /// Whether these bytes stand at the front, which then go.
-    pub(crate) fn eat(&mut self, bytes: &[u8]) -> bool
+    pub fn eat(&mut self, bytes: &[u8]) -> bool
         ensures { Eats bytes.now self.old.rest.now self.new.rest.now result }
     {
         let Some(rest) = self.rest.strip_prefix(bytes) else {
@@ -48,7 +48,7 @@ impl<'a> Reader<'a> {
     }
 
     /// The number that is the next field.
-    pub(crate) fn field(&mut self) -> Option<u64>
+    pub fn field(&mut self) -> Option<u64>
         ensures { Reads number_field IsNumber self.old.rest.now self.new.rest.now result }
     {
         if !self.eat(b" ") {

@@ -16,7 +16,7 @@ pub(crate) fn push_number(text: &mut Vec<u8>, number: u64) -> Result<(), AllocEr
 }
 
 /// A number as the next field of a line.
-pub(crate) fn push_field(text: &mut Vec<u8>, number: u64) -> Result<(), AllocError>
+pub fn push_field(text: &mut Vec<u8>, number: u64) -> Result<(), AllocError>
     ensures { OnOk result (text.new.items ≡ text.old.items ++ number_field number) }
 {
     text.push(b' ')?;

@@ -27,10 +27,10 @@ pub enum Exchanged {
     WrongState { shown: Phase, hold: Hold },
 }
 
-/// Exchanges a booking for the one that is held, by a quote that was checked: turns the old booking from the phase that
-/// the code names, seals the new one as confirmed, and ends the old one with all its items given back. Its end has the
-/// moment of the check, the code's difference, and the new booking as its successor. Where the turn is lost, nothing
-/// else has changed.
+/// Exchanges a booking for the one that is held, by a quote that was checked. It turns the old booking from the phase
+/// that the code names, seals the new one as confirmed, and ends the old one with all its items given back. Its end has
+/// the moment of the check, the code's difference, and the new booking as its successor. Where the turn is lost,
+/// nothing else has changed.
 ///
 /// The hold is ready to be sealed, and the desk has no ending out. At most 103 entries are added.
 pub fn accept_exchange(

@@ -18,9 +18,9 @@ row_words = 64
 abbrev pub most_items : ℕ
 most_items = 48
 
--- the words of a row by their numbers: how its booking stands, which is its phase and its generation; whose it is,
--- until when it may be confirmed, what it costs, and how many items it has; its end's successor, amount and moment; and
--- its first item. The words past those of the items stay 0
+-- the words of a row by their numbers. They are how its booking stands, which is its phase and its generation; whose it
+-- is, until when it may be confirmed, what it costs, and how many items it has. Then come its end's successor, amount
+-- and moment, and its first item. The words past those of the items stay 0
 abbrev pub standing_word : ℕ
 standing_word = 0
 

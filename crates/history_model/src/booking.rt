@@ -109,7 +109,7 @@ impl Model for BookingRow {
 impl BookedItem {
     ghost use Rattle.history_model.specs.Allowed.{Blocks};
 
-    /// Whether the span may be taken at the place beside this item.
+    /// Whether the span may be taken at the place besides this item.
     pub fn is_clear(self, place: u32, span: Span) -> bool
         ensures { IsTrue result ↔ (¬ Blocks place span self) }
     {
@@ -167,7 +167,7 @@ impl BookingRow {
         self.phase == Phase::Making && self.owner == desk
     }
 
-    /// Whether the span may be taken at the place beside all items.
+    /// Whether the span may be taken at the place besides all items.
     pub fn is_clear(&self, place: u32, span: Span) -> bool
         ensures { IsTrue result ↔ All (λ i. ¬ Blocks place span i) self.now.items }
     {

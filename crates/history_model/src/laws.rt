@@ -41,8 +41,8 @@ pub fn phases_go_forward()
     ensures generations { GenerationsRise }
 {}
 
-/// Of all turns of a booking from one phase, as from prebooked, the first decides: no other stands in the history, the
-/// phase stays one that the first leads to, and that is what each lost turn after it shows, unless it shows a later
+/// Of all turns of a booking from one phase, as from prebooked, the first decides. No other stands in the history, and
+/// the phase stays one that the first leads to. That is what each lost turn after it shows, unless it shows a later
 /// booking of the row.
 pub fn first_turn_decides()
     ensures once { OneTurnFrom }

@@ -8,16 +8,16 @@
 //! above speaks of them.
 //!
 //! `list_host::ListHost` is the plain program that computes them. The functions of `laws` say what holds of every legal
-//! history: no two live bookings share a place on a leg, an owner alone changes what it owns, a booking's phases go
-//! only forward, of all turns from one phase the first decides, and an ended booking has given back what it was sealed
+//! history. No two live bookings share a place on a leg, and an owner alone changes what it owns. A booking's phases go
+//! only forward, and of all turns from one phase the first decides. An ended booking has given back what it was sealed
 //! with.
 //!
 //! Where to look in `specs/`: `Booking` and `Words` (bookings, and what the words hold), `Allowed` and `Apply` (which
-//! step may come, and what it makes), `History`, `Laws` (well formed, no double), `Life` and `Phase` (how phases lead
-//! on), `WholeEnds` (an end as one value), `Looks`, `Quiet` and `Work` (steps that change a word, that leave a row as
-//! it is, and what a desk makes or ends), `Lists`; `Overall` and `Allows` name what the laws and the list host say.
-//! Each number that code and definitions share (`most_items`, `row_words`, `host_legs`, ..) is defined once there and
-//! stands once in the code, proved to be the same. Only `ListHost` takes memory.
+//! step may come, and what it makes), `History`, `Laws` (well formed, no double). `Life` and `Phase` say how phases
+//! lead on, and `WholeEnds` has an end as one value. `Looks`, `Quiet` and `Work` have steps that change a word, that
+//! leave a row as it is, and what a desk makes or ends. There is also `Lists`; `Overall` and `Allows` name what the
+//! laws and the list host say. Each number that code and definitions share (`most_items`, `row_words`, `host_legs`, ..)
+//! is defined once there and stands once in the code, proved to be the same. Only `ListHost` takes memory.
 #![tactic(auto)]
 
 mod allowed;

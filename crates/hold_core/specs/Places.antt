@@ -53,8 +53,9 @@ pub record EndsWith (tries : List Try) (outcome : Outcome) : Type 0 where
   pub settled : AllSettled before
   pub ends : last.outcome ≡ outcome
 
--- The tries, one for each of the first candidates in order, and what came of them: as many places won as were wanted,
--- the last among them; all candidates tried, and too few won; or the last one contended, with too few won before it
+-- The tries, one for each of the first candidates in order, and what came of them. Either as many places were won as
+-- were wanted, the last among them. Or all candidates were tried, and too few won; or the last one was contended, with
+-- too few won before it
 abbrev pub IsAdding : Interval → ℕ → List ℕ → List Try → Added → Type 0
 IsAdding span count candidates tries added.All =
     EndsWith tries Won × (length (places_won tries) ≡ count) × ((left : List ℕ) × (candidates ≡ tried tries ++ left))
@@ -64,7 +65,7 @@ IsAdding span count candidates tries (added.Contended place) =
     ((ends : EndsWith tries Contended) × (ends.last.place ≡ place.0))
     × (length (places_won tries) < count) × ((left : List ℕ) × (candidates ≡ tried tries ++ left))
 
--- the steps of adding places to a hold of the row that has so many items, with the items won
+-- the steps of adding places to a hold of the row that has that many items, with the items won
 pub record Adds (row k : ℕ) (span : Interval) (count : ℕ) (candidates : List ℕ) (answer : Added) (won : List Item)
     (es : List Step) : Type 0 where
   pub tries : List Try

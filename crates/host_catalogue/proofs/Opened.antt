@@ -1,6 +1,6 @@
 -- What the books of a catalogue are, opened with no booking or with those of an export.
 use Rattle.std.proofs.Common.{◌≡◌, ◌≤◌, ℕ, List, [], map, refl, sym, subst}
-use Rattle.std.specs.Prelude.{Result, Ok, Err, IfErr, IsErrAnd}
+use Rattle.std.specs.Prelude.{Result, Ok, Err, IfErr, IfOk, IsErrAnd}
 use Rattle.history_model.specs.Booking.{Layout, most_rows}
 use Rattle.history_model.specs.Laws.{IsOpening}
 use Rattle.rail_catalogue.specs.Contents.{CatalogueView, legs_in}
@@ -16,7 +16,7 @@ use Rattle.cold_store.specs.Right.{kept_of}
 use Rattle.cold_store.specs.Tidy.{AreSucceeded}
 use Rattle.cold_store.proofs.Begun.{may_open, succeeded}
 use Rattle.host_catalogue.specs.Loading.{fault_of_import}
-use Rattle.host_catalogue.specs.Opening.{IsExportFor, IsNotImported, IsOpened}
+use Rattle.host_catalogue.specs.Opening.{IsExportFor, IsNotImported, IsOpened, IsOpenedFrom}
 
 -- books open with an opening state
 opens : (books : BooksView) (desk : DeskView) (g : Layout) → IsOf books desk → books.layout ≡ g → IsOpening g g.opening
@@ -53,6 +53,12 @@ module _ (cat : CatalogueView) (books : BooksView) (desk : DeskView) (own : IsOf
           succeeded = subst (λ (g : Layout). AreSucceeded g.opening) (sym is) (succeeded (legs_in cat) cat.rows text said sound few opening);
         },
       )
+
+pub imported : (cat : CatalogueView) (text : List ℕ) (r : Result (BooksView × DeskView) ImportFault) → cat.rows ≤ most_rows
+    → FitWords (record { legs = legs_in cat; rows = cat.rows; opening = [] }) → IfOk r (λ t. OpensAs (legs_in cat) cat.rows text t.0.layout)
+    → IfOk r (λ t. IsOf t.0 t.1) → IfOk r (λ t. IsNew t.1 0 []) → IfOk r (λ t. IsTidy t.1) → IfOk r (λ t. IsOpenedFrom cat text t.0 t.1)
+imported cat text (Ok t) few fit layout own new tidy = opened_as cat t.0 t.1 own new tidy text few fit layout
+imported cat text (Err e) few fit layout own new tidy = tt
 
 -- a text that isn't imported is refused for its fault, unless there was no memory
 pub not_imported : (cat : CatalogueView) (text : List ℕ) (fault : ImportFault) → IsImportFault (legs_in cat) cat.rows text fault

@@ -2,7 +2,7 @@
 use Rattle.std.specs.Prelude.{◌≡◌, ◌≤◌, ◌<◌, ⊤, ℕ, List, length, Option, Some, None, IfSome}
 use Rattle.rail_io.specs.Faults.{Rose}
 use Rattle.host_catalogue.specs.declared.file.File.{File}
-use Rattle.host_catalogue.specs.declared.file.File.TheVariants.{Catalogue, Export}
+use Rattle.host_catalogue.specs.declared.file.File.TheVariants.{Catalogue, Export, Journal}
 use Rattle.host_catalogue.specs.declared.file.LoadFault.{LoadFault}
 use Rattle.host_catalogue.specs.declared.file.LoadFault.TheVariants.{Missing, TooLarge, Refused, RefusedExport}
 use Rattle.host_catalogue.specs.declared.file.LoadFault.TheVariants.{Failed, NoMemory}
@@ -15,6 +15,7 @@ Files = Option (List ℕ → Option (List ℕ))
 abbrev pub most_of : File → ℕ
 most_of Catalogue = 33_554_432
 most_of Export = 268_435_456
+most_of Journal = 4_294_967_295
 
 -- the text of the file, which isn't too large
 pub record IsText (file : File) (files : List ℕ → Option (List ℕ)) (name text : List ℕ) : Type 0 where

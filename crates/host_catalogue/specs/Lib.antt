@@ -1,4 +1,5 @@
 pub mod Files
 pub mod Loading
 pub mod Opening
+pub mod Journals
 pub mod Notes

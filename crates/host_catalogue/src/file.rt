@@ -16,6 +16,8 @@ pub enum File {
     Catalogue,
     /// The bookings that the books open with.
     Export,
+    /// The bookings as they changed while they were sold.
+    Journal,
 }
 
 impl File {
@@ -26,6 +28,7 @@ impl File {
         match self {
             File::Catalogue => 33_554_432,
             File::Export => 268_435_456,
+            File::Journal => u32::MAX,
         }
     }
 }

@@ -4,6 +4,8 @@ ghost use Rattle.claim_rule.specs.Openings.{KeptBooking};
 ghost use Rattle.claim_rule.specs.Desks.{IsNew, IsOf};
 ghost use Rattle.claim_rule.specs.Out.{IsTidy};
 ghost use Rattle.booking_rows.specs.SealedRows.{FitWords};
+ghost use Rattle.cold_store.specs.Imports.{IsImportFault};
+ghost use Rattle.rail_catalogue.specs.Contents.{legs_in};
 ghost use Rattle.host_catalogue.specs.Files.{HasCause, OfCounts};
 ghost use Rattle.host_catalogue.specs.Opening.{BeginsWith, Fails, HasBooks, IsNotImported, IsNotOpened, IsOpened};
 ghost use Rattle.host_catalogue.specs.Opening.{IsOpenedFrom, export_name, new_layout};
@@ -11,7 +13,7 @@ ghost use Rattle.host_catalogue.specs.Opening.{IsOpenedFrom, export_name, new_la
 use crate::file::{File, LoadFault, fetch_text};
 use crate::load::load_catalogue;
 use claim_rule::{Books, Desk, start_books};
-use cold_store::import_books;
+use cold_store::{ImportFault, import_books};
 use rail_catalogue::Catalogue;
 use rail_io::Shelf;
 use std::alloc::{AllocError, Global};
@@ -28,13 +30,26 @@ pub fn open_books(alloc: Global, catalogue: &Catalogue) -> Result<(Books, Desk),
     start_books(alloc, legs.as_slice(), catalogue.rows())
 }
 
-/// Books of the catalogue that open with the bookings of an export, and their first desk, which has seen nothing.
+/// Books of the catalogue that open with the bookings of an export, and their first desk, which has seen nothing; or
+/// why the text is no export of such books.
+pub(crate) fn import_text(
+    alloc: Global,
+    catalogue: &Catalogue,
+    text: &[u8],
+) -> Result<(Books, Desk), ImportFault>
+    ensures ok { IfOk result (λ t. IsOpenedFrom catalogue.now text.now t.0 t.1) }
+    ensures err { IfErr result (IsImportFault (legs_in catalogue.now) catalogue.now.rows text.now) }
+{
+    let legs = catalogue.legs(alloc)?;
+    import_books(alloc, legs.as_slice(), catalogue.rows(), text)
+}
+
+/// The same, or why a command has no books.
 fn import(alloc: Global, catalogue: &Catalogue, text: &[u8]) -> Result<(Books, Desk), LoadFault>
     ensures ok { IfOk result (λ t. IsOpenedFrom catalogue.now text.now t.0 t.1) }
     ensures err { IfErr result (IsNotImported catalogue.now text.now) }
 {
-    let legs = catalogue.legs(alloc)?;
-    Ok(import_books(alloc, legs.as_slice(), catalogue.rows(), text)?)
+    Ok(import_text(alloc, catalogue, text)?)
 }
 
 /// The books of the catalogue: new ones, or those that open with the bookings of the export with the name.

@@ -46,8 +46,8 @@ pub record IsReady (books : BooksView) (seed size worker : ℕ) (c : Connection)
   pub first : c.clock.next ≡ 0
   pub tick : c.clock.tick ≡ 0
 
--- A worker's connection, over its requests and up to its end: the bytes that it was answered are the defined replies,
--- as of every connection, and the desk that it began at, which is of the catalogue's books, had no entry before.
+-- A worker's connection, over its requests and up to its end. The bytes that it was answered are the defined replies,
+-- as of every connection. The desk that it began at, which is of the catalogue's books, had no entry before.
 pub record IsConnection (cat : CatalogueView) (seed size worker : ℕ) (desk : DeskView)
     (answered : List ℕ) : Type 0 where
   pub begins : DeskView

@@ -40,8 +40,7 @@ abbrev pub AreAll : OfWorker → List Entry → ℕ → List (List ℕ) → Type
 AreAll So history k [] = Unit {0}
 AreAll So history k (answered ∷ more) = IsOneOf So history k answered × AreAll So history (k + 1) more
 
--- what the workers from the k-th on were answered, and what is counted of it. None of them was answered for want of
--- memory
+-- what the workers from the k-th on were answered, and what is counted of it. No answer says that memory ran out
 pub record AreAnswered (So : OfWorker) (history : List Entry) (workers k refused busy : ℕ) : Type 0 where
   pub answered : List (List ℕ)
   pub number : k + length answered ≡ workers

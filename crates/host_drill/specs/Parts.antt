@@ -139,8 +139,8 @@ abbrev pub all_outcomes_in : (Outcome → Bool) → List (List Outcome) → ℕ
 all_outcomes_in test [] = 0
 all_outcomes_in test (os ∷ more) = outcomes_in test os + all_outcomes_in test more
 
--- What a drill comes to, whatever the threads did: over the eight legs the lesser of the requests for the leg and the
--- places is sold, each other request is turned away for want of a place, and none is answered busy.
+-- What a drill comes to, whatever the threads did. Over the eight legs the lesser of the requests for the leg and the
+-- places is sold. Each other request is turned away for lack of a place, and none is answered busy.
 pub record IsWholeCount (sold seed requests places : ℕ) (outcomes : List (List Outcome)) : Type 0 where
   pub sold_is : sold ≡ most_sold seed requests places
   pub all : sold + all_outcomes_in is_turned_away outcomes ≡ requests

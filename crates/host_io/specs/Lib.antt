@@ -1,2 +1,5 @@
 pub mod Tcp
 pub mod Outbox
+pub mod Opened
+pub mod Wires
+pub mod Talks

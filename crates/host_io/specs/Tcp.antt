@@ -10,18 +10,18 @@ use Rattle.host_io.specs.declared.tcp_port.AfterRefusal.{AfterRefusal}
 use Rattle.host_io.specs.declared.tcp_port.AfterRefusal.TheVariants.{Fail, Again, Pause}
 use Rattle.rail_service.specs.Listeners.{ListenerView}
 
-abbrev pub tcp_view : {N : Type 0} → TcpPort N → ListenerView
+abbrev pub tcp_view : {N K : Type 0} → TcpPort N K → ListenerView
 tcp_view l = record { port = l.port; limit = l.limit; handed = l.handed }
 
-abbrev pub tcp_faults : {N : Type 0} → TcpPort N → ℕ
+abbrev pub tcp_faults : {N K : Type 0} → TcpPort N K → ℕ
 tcp_faults l = l.faults
 
 -- the later one has handed out no fewer
-abbrev pub IsLaterOf : {N : Type 0} → TcpPort N → TcpPort N → Type 0
+abbrev pub IsLaterOf : {N K : Type 0} → TcpPort N K → TcpPort N K → Type 0
 IsLaterOf first later = (tcp_view first).handed ≤ (tcp_view later).handed
 
 -- one stream more was handed out, which tells no content
-abbrev pub HandsUntold : {N : Type 0} → TcpPort N → Option (List ℕ) → Option (List ℕ) → TcpPort N → Type 0
+abbrev pub HandsUntold : {N K : Type 0} → TcpPort N K → Option (List ℕ) → Option (List ℕ) → TcpPort N K → Type 0
 HandsUntold old stream sent new = ((tcp_view new).handed ≡ (tcp_view old).handed + 1) × (stream ≡ None) × (sent ≡ None)
 
 -- the seconds that a read may wait: between two requests, and inside one

@@ -6,12 +6,24 @@
 //! does is trusted there, and what is made of each answer is proved.
 #![tactic(auto)]
 
+mod address;
+mod bell;
+mod journal;
+mod keeper;
+mod kept_line;
 mod line;
+mod opened;
 mod outbox;
+mod pace;
 mod socket;
+mod talk;
 mod tcp_port;
 mod ticker;
+mod wire;
 
+pub use bell::TcpBell;
+pub use journal::FileJournal;
+pub use keeper::NoKeeper;
 pub use outbox::Outbox;
 pub use socket::{SocketReader, SocketSink, make_ready};
 pub use tcp_port::{AfterRefusal, TcpPort, after_refusal};

@@ -1,11 +1,10 @@
 // A stream whose reads look for a moment before they wait.
-ghost use Rattle.std.specs.Prelude.{◌≤◌, IfOk, length};
-ghost use Rattle.std.specs.Io.Slices.{io_slices_bytes};
+ghost use Rattle.std.specs.Prelude.{◌≡◌, ◌++◌};
+ghost use Rattle.host_io.specs.Wires.{Receives, Sends};
 
+use crate::wire::Wire;
 use rail_io::RETRIES;
-use std::io::{ErrorKind, IoSlice, Read, Write};
-use std::net::TcpStream;
-use std::sync::atomic::{AtomicBool, AtomicU32, Ordering};
+use std::io::ErrorKind;
 use std::{io, thread};
 
 /// How often a read looks whether more has come before it waits for it. Between two looks it lets other threads run.
@@ -16,63 +15,69 @@ const READS_WITHOUT: u32 = 32;
 
 /// A stream that is read and written by one thread. A client that is near asks again within some microseconds: a read
 /// that looks so long spares both sides a sleep and a wake-up. Where the looks find nothing, the client is far or idle,
-/// and the next reads do without. Both halves of a connection have the line, so what changes in it is atomic.
+/// and the next reads do without.
 #[derive(Drop)]
-pub(crate) struct Line {
-    pub(crate) stream: TcpStream,
+pub(crate) struct Line<W: Wire + Drop> {
+    pub(crate) wire: W,
     /// Whether a call of the system waits; else it answers at once that it would have to.
-    waits: AtomicBool,
+    waits: bool,
     /// How many of the next reads don't look.
-    without: AtomicU32,
+    without: u32,
 }
 
-impl Line {
+impl<W: Wire + Drop> Line<W> {
     /// A stream as it was accepted, whose calls wait.
-    pub(crate) fn of(stream: TcpStream) -> Line {
+    pub(crate) fn of(wire: W) -> Line<W>
+        ensures { result.wire ≡ wire }
+    {
         Line {
-            stream,
-            waits: AtomicBool::new(true),
-            without: AtomicU32::new(0),
+            wire,
+            waits: true,
+            without: 0,
         }
     }
 
     // Sets whether calls of the system wait. Where the system refuses it, they do as before.
-    fn set_waits(&self, waits: bool) -> io::Result<()> {
-        if self.waits.load(Ordering::SeqCst) == waits {
+    fn set_waits(&mut self, waits: bool) -> io::Result<()>
+        ensures left { W.incoming self.new.wire ≡ W.incoming self.old.wire }
+        ensures sent { W.outgoing self.new.wire ≡ W.outgoing self.old.wire }
+    {
+        if self.waits == waits {
             return Ok(());
         }
-        self.stream.set_nonblocking(!waits)?;
-        self.waits.store(waits, Ordering::SeqCst);
+        self.wire.set_waits(waits)?;
+        self.waits = waits;
         Ok(())
     }
 
     /// Reads some of what has come, or waits for it as long as the stream's time limit says.
-    pub(crate) fn read(&self, room: &mut [u8]) -> io::Result<usize>
-        ensures { IfOk result (λ count. count ≤ length room.new) }
+    pub(crate) fn read(&mut self, room: &mut [u8]) -> io::Result<usize>
+        ensures receives { Receives (W.incoming self.old.wire) (W.incoming self.new.wire) room.new result }
+        ensures sent { W.outgoing self.new.wire ≡ W.outgoing self.old.wire }
     {
-        let without = self.without.load(Ordering::SeqCst);
-        if without == 0 {
+        if self.without == 0 {
             match self.look(room) {
                 Err(error) if error.kind() == ErrorKind::WouldBlock => {}
                 outcome => return outcome,
             }
-            self.without.store(READS_WITHOUT, Ordering::SeqCst);
+            self.without = READS_WITHOUT;
         } else {
-            self.without.store(without - 1, Ordering::SeqCst);
+            self.without -= 1;
         }
         self.set_waits(true)?;
-        (&self.stream).read(room)
+        self.wire.receive(room)
     }
 
     // Looks a few times whether something has come; an error says that nothing has, as one of the system does.
-    fn look(&self, room: &mut [u8]) -> io::Result<usize>
-        ensures { IfOk result (λ count. count ≤ length room.new) }
+    fn look(&mut self, room: &mut [u8]) -> io::Result<usize>
+        ensures receives { Receives (W.incoming self.old.wire) (W.incoming self.new.wire) room.new result }
+        ensures sent { W.outgoing self.new.wire ≡ W.outgoing self.old.wire }
     {
         if self.set_waits(false).is_err() {
             return Err(io::Error::from(ErrorKind::WouldBlock));
         }
         for _ in 0..LOOKS {
-            match (&self.stream).read(room) {
+            match self.wire.receive(room) {
                 Err(error) if error.kind() == ErrorKind::WouldBlock => thread::yield_now(),
                 outcome => return outcome,
             }
@@ -82,39 +87,42 @@ impl Line {
 
     // Whether a write that failed so is made again: one that a signal interrupted, or one that would have had to wait.
     // From then on the stream waits.
-    fn tries_again(&self, error: &io::Error) -> bool {
-        match error.kind() {
+    fn tries_again(&mut self, kind: ErrorKind) -> bool
+        ensures left { W.incoming self.new.wire ≡ W.incoming self.old.wire }
+        ensures sent { W.outgoing self.new.wire ≡ W.outgoing self.old.wire }
+    {
+        match kind {
             ErrorKind::Interrupted => true,
-            ErrorKind::WouldBlock => {
-                !self.waits.load(Ordering::SeqCst) && self.set_waits(true).is_ok()
-            }
+            ErrorKind::WouldBlock => !self.waits && self.set_waits(true).is_ok(),
             _ => false,
         }
     }
 
-    /// Writes some of the piece, for which it waits as long as the stream's time limit says.
-    pub(crate) fn send(&self, piece: &[u8]) -> io::Result<usize>
-        ensures { IfOk result (λ count. count ≤ length piece.now) }
+    /// Sends some of the piece, for which it waits as long as the stream's time limit says.
+    pub(crate) fn send(&mut self, piece: &[u8]) -> io::Result<usize>
+        ensures sends { Sends (W.outgoing self.old.wire) (W.outgoing self.new.wire) piece.now result }
+        ensures left { W.incoming self.new.wire ≡ W.incoming self.old.wire }
     {
         for _ in 0..RETRIES {
-            match (&self.stream).write(piece) {
-                Err(error) if self.tries_again(&error) => {}
+            match self.wire.send(piece) {
+                Err(error) if self.tries_again(error.kind()) => {}
                 outcome => return outcome,
             }
         }
-        (&self.stream).write(piece)
+        self.wire.send(piece)
     }
 
-    /// Writes some of the pieces, one after the other, by one call of the system, for which it waits likewise.
-    pub(crate) fn send_pieces(&self, pieces: &[IoSlice<'_>]) -> io::Result<usize>
-        ensures { IfOk result (λ count. count ≤ length (io_slices_bytes pieces.now)) }
+    /// Sends some of both pieces, one after the other, by one call of the system, for which it waits likewise.
+    pub(crate) fn send_both(&mut self, first: &[u8], second: &[u8]) -> io::Result<usize>
+        ensures sends { Sends (W.outgoing self.old.wire) (W.outgoing self.new.wire) (first.now ++ second.now) result }
+        ensures left { W.incoming self.new.wire ≡ W.incoming self.old.wire }
     {
         for _ in 0..RETRIES {
-            match self.stream.write_vectored(pieces) {
-                Err(error) if self.tries_again(&error) => {}
+            match self.wire.send_both(first, second) {
+                Err(error) if self.tries_again(error.kind()) => {}
                 outcome => return outcome,
             }
         }
-        self.stream.write_vectored(pieces)
+        self.wire.send_both(first, second)
     }
 }

@@ -1,13 +1,14 @@
 // A port of this machine as a listener. Its streams tell no content.
 ghost use Rattle.std.specs.Prelude.{◌≡◌, ◌≤◌};
 ghost use Rattle.rail_io.specs.Faults.{Rose};
-ghost use Rattle.host_io.specs.Tcp.{after_refusal as after_of, tcp_view, tcp_faults, IsLaterOf, HandsUntold, IsLocal};
+ghost use Rattle.host_io.specs.Tcp.{after_refusal as after_of, tcp_view, tcp_faults, IsLaterOf, HandsUntold};
 
+use crate::address::local_address;
 use crate::socket::{SocketReader, SocketSink, halves_of};
-use rail_io::ReaderSource;
+use rail_io::{Keeper, ReaderSource};
 use rail_service::{Accepted, Bound, Listener, Waiting};
 use std::alloc::Global;
-use std::net::{IpAddr, Ipv4Addr, Net, SocketAddr, TcpListener, TcpStream};
+use std::net::{Net, TcpListener, TcpStream};
 use std::time::Duration;
 use std::{io, thread, time};
 
@@ -37,20 +38,19 @@ pub fn after_refusal(code: u32) -> AfterRefusal
     }
 }
 
-// This machine's own address with the port.
-fn local_address(port: u16) -> SocketAddr
-    ensures local { IsLocal result port }
-{
-    SocketAddr::new(IpAddr::V4(Ipv4Addr::LOCALHOST), port)
-}
-
 /// Listens on 127.0.0.1. Its streams send without delay. A read fails that waits for more than 5 seconds between two
 /// requests, or for more than 30 inside one, or until 60 have gone by since its first byte, and a write that waits for
 /// more than 30.
+///
+/// No answer leaves before the cut is kept that it is held for, and where the journal is lost, an accept fails.
 #[derive(Drop)]
-pub struct TcpPort<N: Net<Listener = TcpListener, Stream = TcpStream> + time::Clock + Copy + Drop> {
+pub struct TcpPort<
+    N: Net<Listener = TcpListener, Stream = TcpStream> + time::Clock + Copy + Drop,
+    K: Keeper + Copy + Drop,
+> {
     net: N,
     alloc: Global,
+    keeper: K,
     listener: Option<TcpListener>,
     port: u16,
     limit: u32,
@@ -58,14 +58,18 @@ pub struct TcpPort<N: Net<Listener = TcpListener, Stream = TcpStream> + time::Cl
     faults: u64,
 }
 
-// The next connection, made ready.
-fn accept_one<C: time::Clock + Drop>(
+// The next connection, made ready. None where the journal is lost.
+fn accept_one<C: time::Clock + Drop, K: Keeper + Drop>(
     clock: C,
     alloc: Global,
+    keeper: K,
     listener: &TcpListener,
-) -> io::Result<(SocketReader<C>, SocketSink)> {
+) -> io::Result<Option<(SocketReader<C, K>, SocketSink<K>)>> {
     let (stream, _) = listener.accept()?;
-    halves_of(clock, alloc, stream)
+    if keeper.is_lost() {
+        return Ok(None);
+    }
+    Ok(Some(halves_of(clock, alloc, keeper, stream)?))
 }
 
 // The number of the system's error, or 0 for one of our own.
@@ -76,15 +80,19 @@ fn code_of(error: io::Error) -> u32 {
     }
 }
 
-impl<N: Net<Listener = TcpListener, Stream = TcpStream> + time::Clock + Copy + Drop> TcpPort<N> {
+impl<
+    N: Net<Listener = TcpListener, Stream = TcpStream> + time::Clock + Copy + Drop,
+    K: Keeper + Copy + Drop,
+> TcpPort<N, K> {
     /// A listener at port 0 with limit 0 that has handed out nothing and hasn't failed.
-    pub fn new(net: N, alloc: Global) -> Self
+    pub fn new(net: N, alloc: Global, keeper: K) -> Self
         ensures view { tcp_view result ≡ record { port = 0; limit = 0; handed = 0 } }
         ensures faults { tcp_faults result ≡ 0 }
     {
         TcpPort {
             net,
             alloc,
+            keeper,
             listener: None,
             port: 0,
             limit: 0,
@@ -103,12 +111,15 @@ impl<N: Net<Listener = TcpListener, Stream = TcpStream> + time::Clock + Copy + D
     }
 
     // The next connection, for which it may wait, also until handles and memory are there again. None where the
-    // listener is gone.
-    fn next_stream(&self) -> Option<(SocketReader<N>, SocketSink)> {
+    // listener is gone or the journal is lost: it is asked before each wait and after it, since a bell may end one.
+    fn next_stream(&self) -> Option<(SocketReader<N, K>, SocketSink<K>)> {
         let listener = self.listener.as_ref()?;
         for _ in 0..u64::MAX {
-            let error = match accept_one(self.net, self.alloc, listener) {
-                Ok(halves) => return Some(halves),
+            if self.keeper.is_lost() {
+                return None;
+            }
+            let error = match accept_one(self.net, self.alloc, self.keeper, listener) {
+                Ok(halves) => return halves,
                 Err(error) => error,
             };
             match after_refusal(code_of(error)) {
@@ -123,11 +134,13 @@ impl<N: Net<Listener = TcpListener, Stream = TcpStream> + time::Clock + Copy + D
     }
 }
 
-impl<N: Net<Listener = TcpListener, Stream = TcpStream> + time::Clock + Copy + Drop> Listener
-    for TcpPort<N> {
-    type Input = ReaderSource<SocketReader<N>>;
+impl<
+    N: Net<Listener = TcpListener, Stream = TcpStream> + time::Clock + Copy + Drop,
+    K: Keeper + Copy + Drop,
+> Listener for TcpPort<N, K> {
+    type Input = ReaderSource<SocketReader<N, K>>;
 
-    type Output = SocketSink;
+    type Output = SocketSink<K>;
 
     ghost told = { tcp_view };
 
@@ -153,7 +166,7 @@ impl<N: Net<Listener = TcpListener, Stream = TcpStream> + time::Clock + Copy + D
         }
     }
 
-    fn accept(&mut self) -> Accepted<ReaderSource<SocketReader<N>>, SocketSink> {
+    fn accept(&mut self) -> Accepted<ReaderSource<SocketReader<N, K>>, SocketSink<K>> {
         if self.handed >= self.limit {
             return Accepted::Closed;
         }

@@ -42,7 +42,7 @@ missed files name load.Failed failed fails before after one is cause = absurd (o
 missed files name load.NoMemory failed fails before after one is cause = absurd (omega (arith, one))
 
 -- a file that is missing or too large gives no text
-never_text : (file : File) (told : List ℕ → Option (List ℕ)) (name text : List ℕ) → (told name ≡ None) ⊎ IsTooLarge file told name → IsText file told name text → ⊥
+pub never_text : (file : File) (told : List ℕ → Option (List ℕ)) (name text : List ℕ) → (told name ≡ None) ⊎ IsTooLarge file told name → IsText file told name text → ⊥
 never_text file told name text (inl none) is =
     let bad : None ≡ Some text = sym none ∙ is.is in
     absurd cc
@@ -52,7 +52,7 @@ never_text file told name text (inr large) is =
     let many : most_of file < length large.text = large.many in
     absurd (omega (arith, few, many))
 
-same_text : (file : File) (told : List ℕ → Option (List ℕ)) (name one other : List ℕ) → IsText file told name one → IsText file told name other → one ≡ other
+pub same_text : (file : File) (told : List ℕ → Option (List ℕ)) (name one other : List ℕ) → IsText file told name one → IsText file told name other → one ≡ other
 same_text file told name one other a b = (let e : Some one ≡ Some other = sym a.is ∙ b.is in cc)
 
 -- a shelf that has none gives no catalogue

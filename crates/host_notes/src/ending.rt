@@ -1,10 +1,11 @@
 // How a command ends: its status and its note.
 ghost use Rattle.std.specs.Prelude.{◌≡◌, ◌≤◌, ◌++◌};
+ghost use Rattle.host_catalogue.specs.Notes.{place_text};
 ghost use Rattle.host_notes.specs.Ends.{end_of, note_of, status_of};
 ghost use Rattle.host_notes.specs.Noted.{TakesNote};
 
 use crate::noting::note_parts;
-use host_catalogue::{LoadFault, NoteText};
+use host_catalogue::{JournalRefusal, LoadFault, NoteText};
 use rail_io::Sink;
 use session_loop::ConnEnd;
 
@@ -16,12 +17,20 @@ pub enum CommandEnd {
     /// 1: there is no catalogue, or not the export that its books are to open with; 3 where the shelf failed, and 5
     /// where there was no memory for them.
     NotLoaded(LoadFault),
+    /// 1: the journal is kept by another host.
+    JournalLocked,
+    /// 1: the text of the journal is refused; 5 where there was no memory for it.
+    JournalRefused(JournalRefusal),
     /// 2: the words are refused.
     WordsRefused,
     /// 3: the input or the listener failed.
     ReadFault,
+    /// 3: the journal's file couldn't be opened, or couldn't be put in its place.
+    JournalFailed,
     /// 4: the output failed.
     WriteFault,
+    /// 4: the journal failed while it was kept.
+    JournalLost,
     /// 5: there was no memory.
     NoMemory,
     /// 6: the input ended inside a request.
@@ -54,9 +63,12 @@ impl CommandEnd {
             CommandEnd::NotLoaded(LoadFault::Failed) => 3,
             CommandEnd::NotLoaded(LoadFault::NoMemory) => 5,
             CommandEnd::NotLoaded(_) => 1,
+            CommandEnd::JournalLocked => 1,
+            CommandEnd::JournalRefused(JournalRefusal::NoMemory) => 5,
+            CommandEnd::JournalRefused(_) => 1,
             CommandEnd::WordsRefused => 2,
-            CommandEnd::ReadFault => 3,
-            CommandEnd::WriteFault => 4,
+            CommandEnd::ReadFault | CommandEnd::JournalFailed => 3,
+            CommandEnd::WriteFault | CommandEnd::JournalLost => 4,
             CommandEnd::NoMemory => 5,
             CommandEnd::InputCut | CommandEnd::InputRefused => 6,
         }
@@ -64,14 +76,18 @@ impl CommandEnd {
 
     /// Its note, with its line feed; none where all is done.
     pub fn note(&self) -> NoteText<'_>
-        ensures { result.front.now ++ (result.path.now ++ result.end.now) ≡ note_of self.now }
+        ensures { result.front.now ++ (place_text result.place ++ result.end.now) ≡ note_of self.now }
     {
         match self {
             CommandEnd::Done => NoteText::of(b""),
             CommandEnd::NotLoaded(fault) => fault.note(),
+            CommandEnd::JournalLocked => NoteText::of(b"rail_host: journal locked\n"),
+            CommandEnd::JournalRefused(refusal) => refusal.note(),
             CommandEnd::WordsRefused => NoteText::of(b"rail_host: words refused\n"),
             CommandEnd::ReadFault => NoteText::of(b"rail_host: read fault\n"),
+            CommandEnd::JournalFailed => NoteText::of(b"rail_host: journal failed\n"),
             CommandEnd::WriteFault => NoteText::of(b"rail_host: write fault\n"),
+            CommandEnd::JournalLost => NoteText::of(b"rail_host: journal lost\n"),
             CommandEnd::NoMemory => NoteText::of(b"rail_host: no memory\n"),
             CommandEnd::InputCut => NoteText::of(b"rail_host: input cut\n"),
             CommandEnd::InputRefused => NoteText::of(b"rail_host: input refused\n"),

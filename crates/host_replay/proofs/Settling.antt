@@ -1,5 +1,5 @@
 -- The wall of books that were just opened, and what a settlement's status says of its bytes.
-use Rattle.std.proofs.Common.{◌≡◌, ◌≤◌, ◌<◌, ◌++◌, ◌∷◌, ℕ, List, [], true, false, Option, Some, refl, sym, ◌∙◌, ap, subst, arith, inl, inr, append-nil}
+use Rattle.std.proofs.Common.{◌≡◌, ◌≤◌, ◌++◌, ◌∷◌, ℕ, List, [], true, false, Option, Some, refl, sym, ◌∙◌, ap, subst, arith, inl, inr, append-nil}
 use Rattle.std.specs.Prelude.{◌⊎◌, codes}
 use Rattle.std.specs.List.{AllByRecursion}
 use Rattle.rail_io.specs.Faults.{Rose}
@@ -74,19 +74,19 @@ kept_are legs rows kept w may u =
     ∙ ap (λ (h : List Entry). kept_bookings rows (state_of (layout_with legs rows kept) h)) u.history
     ∙ kept_back legs rows kept may
 
-fault_not_zero : (fault : LoadFault) → status_of_fault fault ≡ 0 → ⊥
+pub fault_not_zero : (fault : LoadFault) → status_of_fault fault ≡ 0 → ⊥
 fault_not_zero fault zero = elim (fault_status fault) [
   | inl h ↦ omega (arith, h, zero)
   | inr more ↦ elim more [ inl h ↦ omega (arith, h, zero) | inr h ↦ omega (arith, h, zero) ]
 ]
 
-fault_not_four : (fault : LoadFault) → status_of_fault fault ≡ 4 → ⊥
+pub fault_not_four : (fault : LoadFault) → status_of_fault fault ≡ 4 → ⊥
 fault_not_four fault four = elim (fault_status fault) [
   | inl h ↦ omega (arith, h, four)
   | inr more ↦ elim more [ inl h ↦ omega (arith, h, four) | inr h ↦ omega (arith, h, four) ]
 ]
 
-fault_few : (fault : LoadFault) → status_of_fault fault ≤ 5
+pub fault_few : (fault : LoadFault) → status_of_fault fault ≤ 5
 fault_few fault = elim (fault_status fault) [
   | inl h ↦ omega (arith, h)
   | inr more ↦ elim more [ inl h ↦ omega (arith, h) | inr h ↦ omega (arith, h) ]

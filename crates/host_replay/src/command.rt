@@ -15,8 +15,8 @@ ghost use Rattle.host_notes.specs.Noted.{TakesNote};
 ghost use Rattle.host_notes.specs.declared.ending.CommandEnd.TheVariants.{WordsRefused};
 ghost use Rattle.host_replay.specs.Input.{HasShelfCause, IsInputEnd, IsOfRefusedText, IsUntouched, IsWithoutBooks};
 ghost use Rattle.host_replay.specs.Input.{end_of_replay, opening, status_of_replay, told_of};
-ghost use Rattle.host_replay.specs.Replay.{RanReplay, IsForReplay, IsNoReplay, IsReplay, RepliesAll, RepliesCut, RepliesPart, RepliesTaken};
-ghost use Rattle.host_replay.specs.Replay.{Replays};
+ghost use Rattle.host_replay.specs.Replay.{RanReplay, IsForReplay, IsNoReplay, IsReplay, RepliesAll, RepliesCut};
+ghost use Rattle.host_replay.specs.Replay.{Replays, RepliesPart, RepliesTaken};
 ghost use Rattle.host_replay.specs.declared.end.ReplayEnd.{ReplayEnd};
 ghost use Rattle.host_replay.specs.declared.end.ReplayEnd.TheVariants.{Served};
 
@@ -106,8 +106,8 @@ pub fn run_replay<F: Shelf, S: Source, K: Sink, E: Sink>(
 ) -> u8
     requires command { IsForReplay (words_texts words.now) }
 
-    // Status 2 comes exactly where the words are refused, unless there was no memory to read them. Nothing is then touched
-    // but the notes.
+    // Status 2 comes exactly where the words are refused, unless there was no memory to read them. Nothing is then
+    // touched but the notes.
     ensures words { result ≡ 2 → IsNoReplay (words_texts words.now) }
     ensures refused_words { IsNoReplay (words_texts words.now) → (result ≡ 2) ⊎ (result ≡ 5) }
     ensures nothing_read { result ≡ 2 → input.new ≡ input.old }
@@ -128,7 +128,8 @@ pub fn run_replay<F: Shelf, S: Source, K: Sink, E: Sink>(
     ensures cut { WritesWhere (result ≡ 6) (S.told input.old) (K.told output.old) (K.told output.new)
         (RepliesCut (words_texts words.now) (F.told shelf.old)) }
     ensures read_fault { (stream before : List ℕ) → S.told input.old ≡ Some stream → K.told output.old ≡ Some before
-        → result ≡ 3 → IsUntouched (told_of (S.told input.old) (S.told input.new) (K.told output.old) (K.told output.new))
+        → result ≡ 3
+        → IsUntouched (told_of (S.told input.old) (S.told input.new) (K.told output.old) (K.told output.new))
         ⊎ ((written : List ℕ) × (K.told output.new ≡ Some (before ++ written))
         × RepliesTaken (words_texts words.now) (F.told shelf.old) stream (S.told input.new) written) }
     ensures write_fault { WritesWhere (result ≡ 4) (S.told input.old) (K.told output.old) (K.told output.new)

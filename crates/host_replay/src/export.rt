@@ -19,9 +19,10 @@ ghost use Rattle.host_catalogue.specs.Files.{OfCounts};
 ghost use Rattle.host_notes.specs.Ends.{note_of};
 ghost use Rattle.host_notes.specs.Noted.{TakesNote};
 ghost use Rattle.host_notes.specs.declared.ending.CommandEnd.TheVariants.{WordsRefused};
-ghost use Rattle.host_replay.specs.Input.{HasShelfCause, IsOfRefusedText, IsWithoutBooks, end_of_replay, status_of_replay, told_of};
-ghost use Rattle.host_replay.specs.Export.{RanExport, EndsCut, Exports, ExportsAll, HasNoText, IsExport, IsExportOf, IsForExport, IsNoExport, StandsIn};
-ghost use Rattle.host_replay.specs.Export.{export_with};
+ghost use Rattle.host_replay.specs.Input.{HasShelfCause, IsOfRefusedText, IsWithoutBooks, end_of_replay};
+ghost use Rattle.host_replay.specs.Input.{status_of_replay, told_of};
+ghost use Rattle.host_replay.specs.Export.{RanExport, EndsCut, Exports, ExportsAll, HasNoText, IsExport, IsExportOf};
+ghost use Rattle.host_replay.specs.Export.{IsForExport, IsNoExport, StandsIn, export_with};
 ghost use Rattle.host_replay.specs.declared.end.ReplayEnd.{ReplayEnd};
 ghost use Rattle.host_replay.specs.declared.end.ReplayEnd.TheVariants.{Served};
 
@@ -69,8 +70,8 @@ fn text_of(alloc: Global, books: Books, desk: Desk) -> Result<Vec<u8>, AllocErro
 }
 
 /// The export that one connection at the first desk of the books leaves, with the clock of the words; or how the
-/// connection ended. Its answers are kept until its end, and where one of them is that there is no memory, or there is no
-/// memory to keep them, the end is `NoMemory`.
+/// connection ended. Its answers are kept until its end, and where one of them is that there is no memory, or there is
+/// no memory to keep them, the end is `NoMemory`.
 fn export_input<S: Source>(
     alloc: Global,
     opened: (Catalogue, Books, Desk),
@@ -155,8 +156,8 @@ fn export<F: Shelf, S: Source, K: Sink>(
 ///
 /// | status | where |
 /// |---|---|
-/// | 0 | all requests of the input are answered, to its end or to the last of the connection, and the export is written |
-/// | 1 | the catalogue is missing, larger than 33,554,432 bytes, or refused; or the export that the words name is, at 268,435,456 bytes |
+/// | 0 | all requests are answered, to the input's end or to the last of the connection, and the export is written |
+/// | 1 | the catalogue is missing, larger than 33,554,432 bytes, or refused; or the export is, at 268,435,456 bytes |
 /// | 2 | the words are refused; nothing is read, written or fetched |
 /// | 3 | the input or the shelf failed in this call, and no answer was that there is no memory |
 /// | 4 | the output failed in this call |
@@ -172,8 +173,8 @@ pub fn run_export<F: Shelf, S: Source, K: Sink, E: Sink>(
 ) -> u8
     requires command { IsForExport (words_texts words.now) }
 
-    // Status 2 comes exactly where the words are refused, unless there was no memory to read them. Nothing is then touched
-    // but the notes.
+    // Status 2 comes exactly where the words are refused, unless there was no memory to read them. Nothing is then
+    // touched but the notes.
     ensures words { result ≡ 2 → IsNoExport (words_texts words.now) }
     ensures refused_words { IsNoExport (words_texts words.now) → (result ≡ 2) ⊎ (result ≡ 5) }
     ensures nothing_read { result ≡ 2 → input.new ≡ input.old }
@@ -199,7 +200,7 @@ pub fn run_export<F: Shelf, S: Source, K: Sink, E: Sink>(
     ensures nothing_written { (result ≡ 0 → ⊥) → (result ≡ 4 → ⊥) → output.new ≡ output.old }
 
     // A device's failure is answered where its count of faults rose in this call, and at every other status that count
-    // is as it was; but at status 5 the input may have failed after an answer that there is no memory.
+    // is as it was. But at status 5 the input may have failed after an answer that there is no memory.
     ensures read_cause { result ≡ 3 → Rose (S.faults input.old) (S.faults input.new)
         ⊎ Rose (F.faults shelf.old) (F.faults shelf.new) }
     ensures write_cause { result ≡ 4 → Rose (K.faults output.old) (K.faults output.new) }

@@ -1,15 +1,23 @@
 -- Chains of turns.
 use Rattle.std.specs.Prelude.{not}
-use Rattle.std.proofs.Common.{◌≡◌, ◌∙◌, ◌+◌, ◌<◌, ℕ, zero, suc, Bool, true, false, ap, List, [], ◌∷◌, ◌++◌, Option, length, refl, sym, subst, arith}
-use Rattle.std.proofs.lemmas.List.{length-append}
+use Rattle.std.proofs.Common.{◌≡◌, ◌∙◌, ◌+◌, ◌<◌, ℕ, zero, suc, Bool, true, false, ap, List, [], ◌∷◌, ◌++◌, Option, Some, length, map, refl, sym, subst, arith, append-nil, append_assoc}
+use Rattle.std.proofs.lemmas.List.{length-append, map-append}
+use Rattle.std.specs.List.{AllByRecursion}
+use Rattle.history_model.specs.History.{entry, own}
+use Rattle.history_model.specs.declared.entry.Entry.{Entry}
+use Rattle.history_model.specs.declared.entry.Step.{Step}
+use Rattle.history_model.proofs.ListLemmas.{All-append}
+use Rattle.claim_rule.specs.Calls.{AddsStepsBy}
+use Rattle.claim_rule.specs.Out.{AllLooks, is_look}
 use Rattle.claim_rule.specs.Rule.{DeskView}
 use Rattle.rail_catalogue.specs.Contents.{CatalogueView}
 use Rattle.rail_service.specs.Listeners.{Handing}
 use Rattle.worker_pool.specs.Turns.{GoesOn, RunsToEnd}
 use Rattle.host_words.specs.declared.serve.Serving.{Serving as Numbers}
-use Rattle.host_serve.specs.Turns.{Readings, ServesOne, ServesTurn, SweepsTurn, Stand, OneTurn, Connection, Sweep, Leads, Chain, Asks, Counts, Ticks, TickingBy, TicksUntil, SweepsOnce, Rests, HasEnded, DoesTurn, HasChain, HandedOut, IsPosted, Means, Passed, Passes, Passing, handed_of, part_of, stand_of}
+use Rattle.host_serve.specs.Turns.{Readings, ServesOne, ServesTurn, SweepsTurn, Stand, OneTurn, Connection, Sweep, Leads, LooksOn, Chain, Asks, Counts, Ticks, TickingBy, TicksUntil, SweepsOnce, Rests, HasClock, HasEnded, DoesTurn, HasChain, HandedOut, IsPosted, Means, Passed, Passes, Passing, clock_for, clock_of, handed_of, part_of, readings_of, stand_of}
+use Rattle.host_serve.specs.declared.serving.Server.{Server}
 use Rattle.host_serve.specs.declared.member.Post.{Post}
-use Rattle.host_serve.specs.declared.member.Post.TheVariants.{Serving, Sweeping}
+use Rattle.host_serve.specs.declared.member.Post.TheVariants.{Serving, Sweeping, Watching}
 
 -- no turn
 pub no_turn : (Does : OneTurn) (at : Stand) → Chain Does 0 at at
@@ -89,65 +97,122 @@ ticks_on {T} ticked seconds k (suc n) a b c p q =
     let at : suc (k + n) ≡ k + suc n = omega arith in
     subst (λ (m : ℕ). Ticks ticked seconds m a c) at (q.0, ticks_on ticked seconds k n a b q.0 p q.1, q.2)
 
-module _ {S T C : Type 0} (m : Means S T C) (hands : Handing) where
+-- no look, looks that a call made, and looks after others
+no_looks : (d : DeskView) → LooksOn d d
+no_looks d = record { looks = []; alone = tt; number = refl; mine = sym (append-nil (own d.seen d.number)) }
+
+looked : (old new : DeskView) → AddsStepsBy AllLooks old new → LooksOn old new
+looked old new did = record { looks = did.0; alone = did.1; number = did.2.same.2; mine = did.2.mine }
+
+looks_on : (a b c : DeskView) → LooksOn a b → LooksOn b c → LooksOn a c
+looks_on a b c p q =
+    let later : own c.seen a.number ≡ own b.seen a.number ++ map (entry a.number) q.looks =
+    subst (λ (n : ℕ). own c.seen n ≡ own b.seen n ++ map (entry n) q.looks) p.number q.mine in
+    record {
+      looks = p.looks ++ q.looks;
+      alone = All-append (λ (step : Step). is_look step ≡ true) p.looks q.looks p.alone q.alone;
+      number = q.number ∙ p.number;
+      mine = later
+          ∙ (ap (λ (l : List Entry). l ++ map (entry a.number) q.looks) p.mine
+          ∙ (append_assoc (own a.seen a.number) (map (entry a.number) p.looks) (map (entry a.number) q.looks)
+          ∙ ap (λ (l : List Entry). own a.seen a.number ++ l) (sym (map-append (entry a.number) p.looks q.looks))));
+    }
+
+-- entries that look
+are_looks : (n : ℕ) (steps : List Step) → AllLooks steps → AllByRecursion (λ (e : Entry). is_look e.step ≡ true) (map (entry n) steps)
+are_looks n [] all = tt
+are_looks n (step ∷ steps) all = (all.0, are_looks n steps all.1)
+
+-- a desk that had no entry of its own, and looked, has nothing but looks
+pub only_looks : (n : ℕ) (old new : DeskView) → old.number ≡ n → own old.seen n ≡ [] → LooksOn old new
+    → AllByRecursion (λ (e : Entry). is_look e.step ≡ true) (own new.seen n)
+only_looks n old new number none did =
+    let mine : own new.seen n ≡ own old.seen n ++ map (entry n) did.looks =
+    subst (λ (k : ℕ). own new.seen k ≡ own old.seen k ++ map (entry k) did.looks) number did.mine in
+    let are : own new.seen n ≡ map (entry n) did.looks = mine ∙ ap (λ (l : List Entry). l ++ map (entry n) did.looks) none in
+    subst (λ (l : List Entry). AllByRecursion (λ (e : Entry). is_look e.step ≡ true) l) (sym are) (are_looks n did.looks did.alone)
+
+-- a serving member's turn is a chain
+serving : {S T C : Type 0} (m : Means S T C) (hands : Handing) (only : (s : S) (stream sent : Option (List ℕ)) (t : S) → m.hands s stream sent t → hands stream sent)
+    (w : Server S C) (d : DeskView) (v : Server S C) (e : DeskView)
+    → (v.common.cat.now ≡ w.common.cat.now) × Counts v.ended (m.handed w.streams) (m.handed v.streams)
+    × ServesTurn (Passes m.hands m.lets_go w.streams v.streams) w.common.cat.now
+    (record { desk = d; clock = m.told w.clock }) (record { desk = e; clock = m.told v.clock }) v.ended
+    → (v.common.cat.now ≡ w.common.cat.now) × (served : ℕ) × (m.handed v.streams ≡ m.handed w.streams + served)
+    × Chain (Connection hands w.common.cat.now) served (record { desk = d; clock = m.told w.clock })
+    (record { desk = e; clock = m.told v.clock })
+serving m hands only w d v e did =
+    let old : Stand = record { desk = d; clock = m.told w.clock } in
+    let new : Stand = record { desk = e; clock = m.told v.clock } in
+    let did_so = turn_so (Passes m.hands m.lets_go w.streams v.streams) (HandedOut hands) (λ p passed. only w.streams p.stream p.sent passed.0 passed.1) w.common.cat.now
+    old new v.ended did.2 in
+    let turn = serves hands w.common.cat.now old new v.ended did_so (m.handed w.streams) (m.handed v.streams) did.1 in
+    (did.0, turn.0, turn.1, turn.2)
+
+module _ {S T C W : Type 0} (m : Means S T C) (hands : Handing) where
   -- turns of a member that didn't end it are a chain
-  abbrev HasGone : Post S T C → DeskView → Post S T C → DeskView → Type 0
-  HasGone (Serving w) old (Serving v) new = HasChain m hands (Serving w) old (Serving v) new
+  abbrev HasGone : Post S T C W → DeskView → Post S T C W → DeskView → Type 0
+  HasGone (Serving w) old (Serving v) new = HasChain {S = S} {T = T} {C = C} {W = W} m hands (Serving w) old (Serving v) new
   HasGone (Sweeping w) old (Sweeping v) new =
       (v.seconds ≡ w.seconds) × (sweeps : ℕ) × Ticks m.ticked w.seconds sweeps w.ticker v.ticker
-      × Chain Sweep sweeps (stand_of {S = S} {T = T} {C = C} m.told (Sweeping w) old) (stand_of {S = S} {T = T} {C = C} m.told (Sweeping v) new)
-  HasGone (Serving w) old (Sweeping v) new = ⊥
-  HasGone (Sweeping w) old (Serving v) new = ⊥
+      × Chain Sweep sweeps (record { desk = old; clock = m.told w.clock }) (record { desk = new; clock = m.told v.clock })
+  HasGone (Watching w) old (Watching v) new = LooksOn old new
+  HasGone w old v new = ⊥
 
-  still : (w : Post S T C) (d : DeskView) → HasGone w d w d
+  still : (w : Post S T C W) (d : DeskView) → HasGone w d w d
   still (Serving w) d = (refl, 0, omega arith, no_turn (Connection hands w.common.cat.now) (record { desk = d; clock = m.told w.clock }))
   still (Sweeping w) d = (refl, 0, refl, no_turn Sweep (record { desk = d; clock = m.told w.clock }))
+  still (Watching w) d = no_looks d
 
-  next : (a : Post S T C) (x : DeskView) (b : Post S T C) (y : DeskView) (c : Post S T C) (z : DeskView) → HasGone a x b y → HasGone b y c z → HasGone a x c z
+  next : (a : Post S T C W) (x : DeskView) (b : Post S T C W) (y : DeskView) (c : Post S T C W) (z : DeskView) → HasGone a x b y → HasGone b y c z → HasGone a x c z
   next (Serving a) x (Serving b) y (Serving c) z p q = (
     q.0 ∙ p.0,
     p.1 + q.1,
     (let k = p.2 in let n = q.2 in omega (arith, k, n)),
-    chain_on (Connection hands a.common.cat.now) p.1 q.1 (stand_of {S = S} {T = T} {C = C} m.told (Serving a) x) (stand_of {S = S} {T = T} {C = C} m.told (Serving b) y) (stand_of {S = S} {T = T} {C = C} m.told (Serving c) z) p.3
-        (subst (λ (cat : CatalogueView). Chain (Connection hands cat) q.1 (stand_of {S = S} {T = T} {C = C} m.told (Serving b) y) (stand_of {S = S} {T = T} {C = C} m.told (Serving c) z)) p.0 q.3),
+    chain_on (Connection hands a.common.cat.now) p.1 q.1 (record { desk = x; clock = m.told a.clock }) (record { desk = y; clock = m.told b.clock }) (record { desk = z; clock = m.told c.clock }) p.3
+        (subst (λ (cat : CatalogueView). Chain (Connection hands cat) q.1 (record { desk = y; clock = m.told b.clock }) (record { desk = z; clock = m.told c.clock })) p.0 q.3),
   )
   next (Sweeping a) x (Sweeping b) y (Sweeping c) z p q = (
     q.0 ∙ p.0,
     p.1 + q.1,
     ticks_on m.ticked a.seconds p.1 q.1 a.ticker b.ticker c.ticker p.2 (subst (λ (s : ℕ). Ticks m.ticked s q.1 b.ticker c.ticker) p.0 q.2),
-    chain_on Sweep p.1 q.1 (stand_of {S = S} {T = T} {C = C} m.told (Sweeping a) x) (stand_of {S = S} {T = T} {C = C} m.told (Sweeping b) y) (stand_of {S = S} {T = T} {C = C} m.told (Sweeping c) z) p.3 q.3,
+    chain_on Sweep p.1 q.1 (record { desk = x; clock = m.told a.clock }) (record { desk = y; clock = m.told b.clock }) (record { desk = z; clock = m.told c.clock }) p.3 q.3,
   )
+  next (Watching a) x (Watching b) y (Watching c) z p q = looks_on x y z p q
   next (Serving a) x (Sweeping b) y c z p q = absurd p
+  next (Serving a) x (Watching b) y c z p q = absurd p
   next (Sweeping a) x (Serving b) y c z p q = absurd p
+  next (Sweeping a) x (Watching b) y c z p q = absurd p
+  next (Watching a) x (Serving b) y c z p q = absurd p
+  next (Watching a) x (Sweeping b) y c z p q = absurd p
   next (Serving a) x (Serving b) y (Sweeping c) z p q = absurd q
+  next (Serving a) x (Serving b) y (Watching c) z p q = absurd q
   next (Sweeping a) x (Sweeping b) y (Serving c) z p q = absurd q
+  next (Sweeping a) x (Sweeping b) y (Watching c) z p q = absurd q
+  next (Watching a) x (Watching b) y (Serving c) z p q = absurd q
+  next (Watching a) x (Watching b) y (Sweeping c) z p q = absurd q
 
   module _ (only : (s : S) (stream sent : Option (List ℕ)) (t : S) → m.hands s stream sent t → hands stream sent) where
-    serving : (w : _) (d : DeskView) (v : _) (e : DeskView) → DoesTurn m (Serving w) d (Serving v) e
-        → HasChain m hands (Serving w) d (Serving v) e
-    serving w d v e did =
-        let old : Stand = record { desk = d; clock = m.told w.clock } in
-        let new : Stand = record { desk = e; clock = m.told v.clock } in
-        let did_so = turn_so (Passes m.hands m.lets_go w.streams v.streams) (HandedOut hands) (λ p passed. only w.streams p.stream p.sent passed.0 passed.1) w.common.cat.now
-        old new v.ended did.2 in
-        let turn = serves hands w.common.cat.now old new v.ended did_so (m.handed w.streams) (m.handed v.streams) did.1 in
-        (did.0, turn.0, turn.1, turn.2)
-
-    goes : (w : Post S T C) (d : DeskView) (v : Post S T C) (e : DeskView) → DoesTurn m w d v e → (HasEnded v → ⊥) → HasGone w d v e
-    goes (Serving w) d (Serving v) e did on = serving w d v e did
+    goes : (w : Post S T C W) (d : DeskView) (v : Post S T C W) (e : DeskView) → DoesTurn m w d v e → (HasEnded v → ⊥) → HasGone w d v e
+    goes (Serving w) d (Serving v) e did on = serving m hands only w d v e did
     goes (Sweeping w) d (Sweeping v) e did on =
         let turn = swept m.ticked w.seconds w.ticker v.ticker (record { desk = d; clock = m.told w.clock }) (record { desk = e; clock = m.told v.clock }) v.ended on did.1 did.2 in
         (did.0, 1, (w.ticker, refl, turn.0), one Sweep (record { desk = d; clock = m.told w.clock }) (record { desk = e; clock = m.told v.clock }) turn.1)
+    goes (Watching w) d (Watching v) e did on = looked d e did
     goes (Serving w) d (Sweeping v) e did on = absurd did
+    goes (Serving w) d (Watching v) e did on = absurd did
     goes (Sweeping w) d (Serving v) e did on = absurd did
+    goes (Sweeping w) d (Watching v) e did on = absurd did
+    goes (Watching w) d (Serving v) e did on = absurd did
+    goes (Watching w) d (Sweeping v) e did on = absurd did
 
     -- and the last turn, which ended it
-    ends : (a : Post S T C) (x : DeskView) (b : Post S T C) (y : DeskView) (c : Post S T C) (z : DeskView) → HasGone a x b y
+    ends : (a : Post S T C W) (x : DeskView) (b : Post S T C W) (y : DeskView) (c : Post S T C W) (z : DeskView) → HasGone a x b y
         → DoesTurn m b y c z → HasEnded c → HasChain m hands a x c z
-    ends (Serving a) x (Serving b) y (Serving c) z p did ended = next (Serving a) x (Serving b) y (Serving c) z p (serving b y c z did)
+    ends (Serving a) x (Serving b) y (Serving c) z p did ended = next (Serving a) x (Serving b) y (Serving c) z p (serving m hands only b y c z did)
     ends (Sweeping a) x (Sweeping b) y (Sweeping c) z p did ended =
         let turn = stopped m.ticked b.seconds b.ticker c.ticker (record { desk = y; clock = m.told b.clock }) (record { desk = z; clock = m.told c.clock }) c.ended ended did.1 did.2 in
-        let began = stand_of {S = S} {T = T} {C = C} m.told (Sweeping a) x in (
+        let began : Stand = record { desk = x; clock = m.told a.clock } in (
           did.0 ∙ p.0,
           p.1,
           b.ticker,
@@ -156,38 +221,51 @@ module _ {S T C : Type 0} (m : Means S T C) (hands : Handing) where
           subst (λ (d : DeskView). Chain Sweep p.1 began (record { desk = d; clock = m.told c.clock })) (sym turn.1.same)
               (subst (λ (r : Readings). Chain Sweep p.1 began (record { desk = y; clock = r })) (sym turn.1.unread) p.3),
         )
+    ends (Watching a) x (Watching b) y (Watching c) z p did ended = looks_on x y z p (looked y z did)
     ends (Serving a) x (Sweeping b) y c z p did ended = absurd p
+    ends (Serving a) x (Watching b) y c z p did ended = absurd p
     ends (Sweeping a) x (Serving b) y c z p did ended = absurd p
+    ends (Sweeping a) x (Watching b) y c z p did ended = absurd p
+    ends (Watching a) x (Serving b) y c z p did ended = absurd p
+    ends (Watching a) x (Sweeping b) y c z p did ended = absurd p
     ends (Serving a) x (Serving b) y (Sweeping c) z p did ended = absurd did
+    ends (Serving a) x (Serving b) y (Watching c) z p did ended = absurd did
     ends (Sweeping a) x (Sweeping b) y (Serving c) z p did ended = absurd did
+    ends (Sweeping a) x (Sweeping b) y (Watching c) z p did ended = absurd did
+    ends (Watching a) x (Watching b) y (Serving c) z p did ended = absurd did
+    ends (Watching a) x (Watching b) y (Sweeping c) z p did ended = absurd did
 
     -- the turns of a member to its end are a chain
-    pub all_turns : (before : Post S T C) (old : DeskView) (after : Post S T C) (new : DeskView)
+    pub all_turns : (before : Post S T C W) (old : DeskView) (after : Post S T C W) (new : DeskView)
         → RunsToEnd (DoesTurn m) HasEnded before old after new → HasChain m hands before old after new
     all_turns before old after new run =
         ends before old run.worker run.desk after new (front run.turns run.worker run.desk run.on) run.last run.ends
       where
-        front : (n : ℕ) (w : Post S T C) (d : DeskView) → GoesOn (DoesTurn m) HasEnded n before old w d → HasGone before old w d
+        front : (n : ℕ) (w : Post S T C W) (d : DeskView) → GoesOn (DoesTurn m) HasEnded n before old w d → HasGone before old w d
         front zero w d on =
-            subst (λ (v : Post S T C). HasGone before old v d) (sym on.0) (subst (λ (e : DeskView). HasGone before old before e) (sym on.1) (still before old))
+            subst (λ (v : Post S T C W). HasGone before old v d) (sym on.0) (subst (λ (e : DeskView). HasGone before old before e) (sym on.1) (still before old))
         front (suc n) w d on = next before old on.0 on.1 w d (front n on.0 on.1 on.2) (goes on.0 on.1 w d on.3 on.4)
 
   -- Of a member that serves, which was handed out no stream before: as many connections as it was handed out. It has
-  -- one part of the ledger.
-  pub serving_chain : (cat : CatalogueView) (said : Numbers) (ticker : T) (i : ℕ) (w : Post S T C) (old : DeskView) (v : Post S T C) (new : DeskView)
+  -- one part of the ledger, and a clock.
+  pub serving_chain : (cat : CatalogueView) (said : Numbers) (ticker : T) (i : ℕ) (w : Post S T C W) (old : DeskView) (v : Post S T C W) (new : DeskView)
       → i < said.workers → IsPosted cat said ticker i w → handed_of w m.handed ≡ 0 → HasChain m hands w old v new
       → (part_of v ≡ 1) × Chain (Connection hands cat) (handed_of v m.handed) (stand_of m.told w old) (stand_of m.told v new)
+      × ((c : C) × (clock_of v ≡ Some c) × (m.told c ≡ readings_of m.told v))
   serving_chain cat said ticker i (Serving w) old (Serving v) new lt post none chain =
       let many : chain.1 ≡ m.handed v.streams = (let more = chain.2 in omega (arith, more, none)) in (
         refl,
-        subst (λ (n : ℕ). Chain (Connection hands cat) n (stand_of {S = S} {T = T} {C = C} m.told (Serving w) old) (stand_of {S = S} {T = T} {C = C} m.told (Serving v) new)) many
-            (subst (λ (c : CatalogueView). Chain (Connection hands c) chain.1 (stand_of {S = S} {T = T} {C = C} m.told (Serving w) old) (stand_of {S = S} {T = T} {C = C} m.told (Serving v) new)) post.1 chain.3),
+        subst (λ (n : ℕ). Chain (Connection hands cat) n (record { desk = old; clock = m.told w.clock }) (record { desk = new; clock = m.told v.clock })) many
+            (subst (λ (c : CatalogueView). Chain (Connection hands c) chain.1 (record { desk = old; clock = m.told w.clock }) (record { desk = new; clock = m.told v.clock })) post.1 chain.3),
+        (v.clock, refl, refl),
       )
   serving_chain cat said ticker i (Serving w) old (Sweeping v) new lt post none chain = absurd chain
+  serving_chain cat said ticker i (Serving w) old (Watching v) new lt post none chain = absurd chain
   serving_chain cat said ticker i (Sweeping w) old v new lt post none chain = (let at = post.0 in absurd (omega (arith, lt, at)))
+  serving_chain cat said ticker i (Watching w) old v new lt post none chain = absurd (omega (arith, lt, post))
 
   -- of the one that sweeps, which has none
-  pub sweeping_chain : (cat : CatalogueView) (said : Numbers) (ticker : T) (i : ℕ) (w : Post S T C) (old : DeskView) (v : Post S T C) (new : DeskView)
+  pub sweeping_chain : (cat : CatalogueView) (said : Numbers) (ticker : T) (i : ℕ) (w : Post S T C W) (old : DeskView) (v : Post S T C W) (new : DeskView)
       → said.workers ≡ i → IsPosted cat said ticker i w → HasChain m hands w old v new
       → (sweeps : ℕ) × ((before after : T) × Ticks m.ticked said.sweep sweeps ticker before × m.ticked before said.sweep false after)
       × Chain Sweep sweeps (stand_of m.told w old) (stand_of m.told v new)
@@ -205,4 +283,23 @@ module _ {S T C : Type 0} (m : Means S T C) (hands : Handing) where
     refl,
   )
   sweeping_chain cat said ticker i (Sweeping w) old (Serving v) new at post chain = absurd chain
+  sweeping_chain cat said ticker i (Sweeping w) old (Watching v) new at post chain = absurd chain
   sweeping_chain cat said ticker i (Serving w) old v new at post chain = (let lt = post.0 in absurd (omega (arith, at, lt)))
+  sweeping_chain cat said ticker i (Watching w) old v new at post chain = absurd (omega (arith, at, post))
+
+  -- of one that watches, which has none either
+  pub watching_chain : (cat : CatalogueView) (said : Numbers) (ticker : T) (i : ℕ) (w : Post S T C W) (old : DeskView) (v : Post S T C W) (new : DeskView)
+      → said.workers < i → IsPosted cat said ticker i w → HasChain m hands w old v new
+      → LooksOn old new × (part_of v ≡ 0) × (handed_of v m.handed ≡ 0)
+  watching_chain cat said ticker i (Watching w) old (Watching v) new low post chain = (chain, refl, refl)
+  watching_chain cat said ticker i (Watching w) old (Serving v) new low post chain = absurd chain
+  watching_chain cat said ticker i (Watching w) old (Sweeping v) new low post chain = absurd chain
+  watching_chain cat said ticker i (Serving w) old v new low post chain = (let lt = post.0 in absurd (omega (arith, low, lt)))
+  watching_chain cat said ticker i (Sweeping w) old v new low post chain = (let at = post.0 in absurd (omega (arith, low, at)))
+
+-- a member that doesn't watch has its own of the clocks
+pub clocked : {S T C W : Type 0} (told : C → Readings) (clocks : List Readings) (cat : CatalogueView) (said : Numbers) (ticker : T) (i : ℕ) (w : Post S T C W)
+    → i < said.workers + 1 → IsPosted cat said ticker i w → HasClock told clocks i w → readings_of told w ≡ clock_for clocks i
+clocked told clocks cat said ticker i (Serving w) low post has = has
+clocked told clocks cat said ticker i (Sweeping w) low post has = has
+clocked told clocks cat said ticker i (Watching w) low post has = absurd (omega (arith, low, post))

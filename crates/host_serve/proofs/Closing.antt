@@ -1,5 +1,5 @@
 -- The wall that is handed back.
-use Rattle.std.proofs.Common.{◌≡◌, ◌∙◌, ◌+◌, ◌<◌, ◌≤◌, ℕ, zero, suc, false, List, [], Option, length, slice_index_or, refl, sym, subst, ap, arith, append-nil}
+use Rattle.std.proofs.Common.{◌≡◌, ◌∙◌, ◌+◌, ◌<◌, ◌≤◌, ℕ, zero, suc, false, true, List, [], Option, Some, length, slice_index_or, refl, sym, subst, ap, arith, append-nil}
 use Rattle.std.proofs.Math.Logic.{⊎_elim}
 use Rattle.std.proofs.lemmas.Bool.{cases_lt}
 use Rattle.std.specs.Prelude.{All}
@@ -10,7 +10,8 @@ use Rattle.history_model.specs.History.{IsLegal, own, state_of}
 use Rattle.history_model.specs.declared.entry.Entry.{Entry}
 use Rattle.history_model.specs.Words.{AreWordsOf}
 use Rattle.claim_rule.specs.Rule.{BooksView, DeskView, IsWhole}
-use Rattle.claim_rule.specs.Out.{IsTidy}
+use Rattle.claim_rule.specs.Out.{IsTidy, is_look}
+use Rattle.std.specs.List.{AllByRecursion}
 use Rattle.claim_rule.specs.Desks.{HasMet, IsOf}
 use Rattle.claim_rule.specs.Walls.{WallView, Finishes}
 use Rattle.worker_pool.specs.Turns.{KeepsDesk}
@@ -21,10 +22,10 @@ use Rattle.rail_catalogue.specs.Contents.{CatalogueView}
 use Rattle.host_words.specs.declared.serve.Serving.{Serving}
 use Rattle.host_serve.specs.declared.member.Post.{Post}
 use Rattle.host_serve.specs.Crews.{OnlyMet, AreReady, IsCrew, HasMetAll, HasRun, Held, of_member, sum_below}
-use Rattle.host_serve.specs.Turns.{FitsBooks, HasEnded, DoesTurn, HasChain, Means, Readings, Stand, OneTurn, Ticks, Chain, Connection, Sweep, clock_for, clock_of, handed_of, part_of, stand_of}
-use Rattle.host_serve.specs.Serve.{AllWorked, HasWorked, IsServedWall, Left}
-use Rattle.host_serve.proofs.Chaining.{all_turns, chain_on, serving_chain, sweeping_chain}
-use Rattle.host_serve.proofs.Crewing.{begins, has_in, sum_more, sum_ones}
+use Rattle.host_serve.specs.Turns.{FitsBooks, HasEnded, DoesTurn, HasChain, LooksOn, Means, Readings, Stand, OneTurn, Ticks, Chain, Connection, Sweep, clock_for, clock_of, handed_of, part_of, readings_of, stand_of}
+use Rattle.host_serve.specs.Serve.{AllWorked, HasWorked, IsServedWall, Left, OnlyLooks}
+use Rattle.host_serve.proofs.Chaining.{all_turns, chain_on, clocked, only_looks, serving_chain, sweeping_chain, watching_chain}
+use Rattle.host_serve.proofs.Crewing.{begins, has_in, sum_more, sum_ones, sum_rest}
 use Rattle.host_serve.proofs.Tidying.{IsRested, never_worked, rested, tidy_wall}
 
 -- a layout in the limits of books
@@ -36,10 +37,11 @@ pub record IsFit (g : Layout) : Type 0 where
 -- Each desk has what it did from a time between two calls of the service, so the wall is free for an export.
 pub served_wall : (cat : CatalogueView) (said : Serving) (left : Left) (books : BooksView) (desk : DeskView) (wall : WallView)
     → IsOf books desk → IsTidy desk → AreSucceeded books.layout.opening → wall.layout ≡ books.layout → IsFit wall.layout
-    → Finishes books.layout desk wall.words wall.history → IsWhole desk.number desk.parted desk.joined → desk.parted ≡ said.workers + 1 → OnlyMet desk.seen
+    → Finishes books.layout desk wall.words wall.history → IsWhole desk.number desk.parted desk.joined → desk.parted ≡ said.workers + 1 + left.watchers → OnlyMet desk.seen
     → AllWorked cat books said left desk.seen
-    → ((n : ℕ) → 1 ≤ n → n ≤ said.workers + 1 → IsRested books.layout desk.seen n) → IsServedWall cat books.layout said left wall
-served_wall cat said left books desk wall of tidy succeeded same fit ends whole made meets worked rests =
+    → ((n : ℕ) → said.workers + 1 < n → n ≤ said.workers + 1 + left.watchers → OnlyLooks desk.seen n)
+    → ((n : ℕ) → 1 ≤ n → n ≤ said.workers + 1 + left.watchers → IsRested books.layout desk.seen n) → IsServedWall cat books.layout said left wall
+served_wall cat said left books desk wall of tidy succeeded same fit ends whole made meets worked looked rests =
     let seen : desk.seen ≡ wall.history = sym (ends.whole whole) in
     record {
       books = books;
@@ -55,6 +57,7 @@ served_wall cat said left books desk wall of tidy succeeded same fit ends whole 
           (tidy_wall books.layout wall.history ends.legal all wall.words succeeded (subst (λ (l : Layout). l.rows ≤ most_rows) same fit.rows));
       first = subst (λ (h : List Entry). OnlyMet h) seen meets;
       worked = subst (λ (h : List Entry). AllWorked cat books said left h) seen worked;
+      watched = λ n low high. subst (λ (h : List Entry). OnlyLooks h n) seen (looked n low high);
       no_others = λ n beyond. ends.no_others whole.0 n (omega (arith, made, beyond));
     }
   where
@@ -67,9 +70,9 @@ served_wall cat said left books desk wall of tidy succeeded same fit ends whole 
 
     some : (n : ℕ) → 1 ≤ n → IsRested books.layout wall.history n
     some n low = ⊎_elim
-        (λ (beyond : said.workers + 1 < n). never_worked books.layout wall.history n ends.legal (ends.no_others whole.0 n (omega (arith, made, beyond))))
-        (λ (within : n ≤ said.workers + 1). subst (λ (h : List Entry). IsRested books.layout h n) at (rests n low within))
-        (cases_lt (said.workers + 1) n)
+        (λ (beyond : said.workers + 1 + left.watchers < n). never_worked books.layout wall.history n ends.legal (ends.no_others whole.0 n (omega (arith, made, beyond))))
+        (λ (within : n ≤ said.workers + 1 + left.watchers). subst (λ (h : List Entry). IsRested books.layout h n) at (rests n low within))
+        (cases_lt (said.workers + 1 + left.watchers) n)
 
     all : (n : ℕ) → IsRested books.layout wall.history n
     all zero = first
@@ -94,10 +97,10 @@ has_worked Does books n clock count old new history began_of ended_of number sta
   entries = entries;
 }
 
-module _ {S T C : Type 0} (m : Means S T C) (left : Left)
+module _ {S T C W : Type 0} (m : Means S T C) (left : Left)
     (only : (s : S) (stream sent : Option (List ℕ)) (t : S) → m.hands s stream sent t → left.hands stream sent)
-    (cat : CatalogueView) (said : Serving) (ticker : T) (books : BooksView) (old : List (Member (Post S T C))) (before after : Held) (first : DeskView) (member : Member (Post S T C))
-    (crew : IsCrew FitsBooks books old) (ready : AreReady old m.handed m.told (record { cat = cat; said = said; ticker = ticker; clocks = left.clocks })) (count : length old ≡ said.workers + 1) (some : 1 ≤ said.workers)
+    (cat : CatalogueView) (said : Serving) (ticker : T) (books : BooksView) (old : List (Member (Post S T C W))) (before after : Held) (first : DeskView) (member : Member (Post S T C W))
+    (crew : IsCrew FitsBooks books old) (ready : AreReady old m.handed m.told (record { cat = cat; said = said; ticker = ticker; clocks = left.clocks })) (count : length old ≡ said.workers + 1 + left.watchers) (some : 1 ≤ said.workers)
     (run : HasRun FitsBooks (DoesTurn m) HasEnded part_of (λ w. handed_of w m.handed) books old before after first member) where
   behind : (i : ℕ) → i < length old → i < length run.crew
   behind i lt = omega (arith, lt, run.count)
@@ -124,37 +127,52 @@ module _ {S T C : Type 0} (m : Means S T C) (left : Left)
       × Chain (Connection left.hands cat) (handed_of (slice_index_or run.crew i member).worker m.handed)
       (stand_of m.told (slice_index_or old i member).worker (slice_index_or old i member).desk)
       (stand_of m.told (slice_index_or run.crew i member).worker (slice_index_or run.crew i member).desk)
+      × ((c : C) × (clock_of (slice_index_or run.crew i member).worker ≡ Some c) × (m.told c ≡ readings_of m.told (slice_index_or run.crew i member).worker))
   serves i less =
       let lt : i < length old = omega (arith, count, less) in
       let w = slice_index_or old i member in
       let v = slice_index_or run.crew i member in
       serving_chain m left.hands cat said ticker i w.worker w.desk v.worker v.desk less (ready i member lt).post (ready i member lt).unserved (chain i lt)
 
+  looks : (i : ℕ) → said.workers < i → i < length old → LooksOn (slice_index_or old i member).desk (slice_index_or run.crew i member).desk
+      × (part_of (slice_index_or run.crew i member).worker ≡ 0) × (handed_of (slice_index_or run.crew i member).worker m.handed ≡ 0)
+  looks i low lt =
+      let w = slice_index_or old i member in
+      let v = slice_index_or run.crew i member in
+      watching_chain m left.hands cat said ticker i w.worker w.desk v.worker v.desk low (ready i member lt).post (chain i lt)
+
+  -- the first member has a clock
+  pub has_clock : (c : C) × (clock_of member.worker ≡ Some c) × (m.told c ≡ readings_of m.told member.worker)
+  has_clock =
+      subst (λ (n : Member (Post S T C W)). (c : C) × (clock_of n.worker ≡ Some c) × (m.told c ≡ readings_of m.told n.worker)) (sym (run.left member))
+      (serves 0 some).2
+
   -- the parts and the streams of all members
   parts_sum : sum_below (of_member part_of run.crew member) (length run.crew) ≡ said.workers
   parts_sum =
       let ones = sum_ones (of_member part_of run.crew member) said.workers (λ i less. (serves i less).0) in
       let none = swept.3 in
-      let at : suc said.workers ≡ length run.crew = omega (arith, count, run.count) in
-      subst (λ (n : ℕ). sum_below (of_member part_of run.crew member) n ≡ said.workers) at (omega (arith, ones, none))
+      let rest = sum_rest (of_member part_of run.crew member) (suc said.workers) (length run.crew) (omega (arith, count, run.count))
+      (λ i low lt. (looks i (omega (arith, low)) (omega (arith, lt, run.count))).1) in
+      omega (arith, ones, none, rest)
 
   handed_sum : sum_below (of_member (λ w. handed_of w m.handed) run.crew member) (length run.crew) ≡ sum_below (of_member (λ w. handed_of w m.handed) run.crew member) said.workers
   handed_sum =
       let none = swept.4 in
-      let at : suc said.workers ≡ length run.crew = omega (arith, count, run.count) in
-      subst (λ (n : ℕ). sum_below (of_member (λ w. handed_of w m.handed) run.crew member) n ≡ sum_below (of_member (λ w. handed_of w m.handed) run.crew member) said.workers) at
-      (omega (arith, none))
+      let rest = sum_rest (of_member (λ w. handed_of w m.handed) run.crew member) (suc said.workers) (length run.crew) (omega (arith, count, run.count))
+      (λ i low lt. (looks i (omega (arith, low)) (omega (arith, lt, run.count))).2) in
+      omega (arith, none, rest)
 
   -- what the first member has, by its place
   first_part : sum_below (of_member part_of run.crew member) 1 ≡ part_of member.worker
   first_part =
-      let this : part_of (slice_index_or run.crew 0 member).worker ≡ part_of member.worker = ap (λ (n : Member (Post S T C)). part_of n.worker) (sym (run.left member)) in
+      let this : part_of (slice_index_or run.crew 0 member).worker ≡ part_of member.worker = ap (λ (n : Member (Post S T C W)). part_of n.worker) (sym (run.left member)) in
       omega (arith, this)
 
   first_handed : sum_below (of_member (λ w. handed_of w m.handed) run.crew member) 1 ≡ handed_of member.worker m.handed
   first_handed =
       let this : handed_of (slice_index_or run.crew 0 member).worker m.handed ≡ handed_of member.worker m.handed =
-      ap (λ (n : Member (Post S T C)). handed_of n.worker m.handed) (sym (run.left member)) in
+      ap (λ (n : Member (Post S T C W)). handed_of n.worker m.handed) (sym (run.left member)) in
       omega (arith, this)
 
   -- whoever was given all of it has the parts of all serving members
@@ -176,11 +194,23 @@ module _ {S T C : Type 0} (m : Means S T C) (left : Left)
         → (own new.seen (i + 1) ≡ own (slice_index_or run.crew i member).desk.seen (i + 1)) × IsPrefix (slice_index_or run.crew i member).desk.seen new.seen
     entries met i low lt = has_in books run.crew first other new run.met met i member low (behind i lt)
 
+    -- those who watched looked
+    pub all_looked : HasMet first other new → (n : ℕ) → said.workers + 1 < n → n ≤ said.workers + 1 + left.watchers → OnlyLooks new.seen n
+    all_looked met zero low high = absurd (omega (arith, low))
+    all_looked met (suc i) low high =
+        let lt : i < length old = omega (arith, count, high) in
+        let w = slice_index_or old i member in
+        let v = slice_index_or run.crew i member in
+        let at : i + 1 ≡ suc i = omega arith in
+        let alone = only_looks (i + 1) w.desk v.desk (crew i member lt).desk.number (ready i member lt).none (looks i (omega (arith, low)) lt).0 in
+        subst (λ (n : ℕ). OnlyLooks new.seen n) at
+        (subst (λ (l : List Entry). AllByRecursion (λ (e : Entry). is_look e.step ≡ true) l) (sym (entries met i (omega (arith, low)) lt).0) alone)
+
     -- All that the members of a crew did stands in what the first desk has seen. The first member's desk served on, and
     -- was joined last. All the streams together are as many as the holder of all shares had counted, and those that
     -- were served on.
     pub all_worked : (more amount : ℕ) → before.amount ≡ 0 → amount ≡ after.amount + handed_of member.worker m.handed → left.after.handed ≡ amount + more
-        → clock ≡ m.told (clock_of member.worker) → KeepsDesk member.desk other
+        → clock ≡ readings_of m.told member.worker → KeepsDesk member.desk other
         → Chain (Connection left.hands cat) more (record { desk = member.desk; clock = clock }) (record { desk = other; clock = later })
         → IsOf books other → HasMet first other new → AllWorked cat books said left new.seen
     all_worked more amount began has sums read kept behind_it of met = record {
@@ -207,7 +237,8 @@ module _ {S T C : Type 0} (m : Means S T C) (left : Left)
             let w = slice_index_or old i member in
             let v = slice_index_or run.crew i member in
             has_worked Sweep books (i + 1) (clock_for left.clocks i) swept.0 (stand_of m.told w.worker w.desk) (stand_of m.told v.worker v.desk) new.seen
-            (crew i member last).desk.own (run.are i member (behind i last)).desk.own (crew i member last).desk.number (ready i member last).clock
+            (crew i member last).desk.own (run.are i member (behind i last)).desk.own (crew i member last).desk.number
+            (clocked m.told left.clocks cat said ticker i w.worker (omega arith) (ready i member last).post (ready i member last).clock)
             (ready i member last).none (run.keeps i member last) swept.2 (entries met i some last).0 (entries met i some last).1
 
         later_one : (i : ℕ) → 1 ≤ i → i < said.workers
@@ -217,7 +248,8 @@ module _ {S T C : Type 0} (m : Means S T C) (left : Left)
             let w = slice_index_or old i member in
             let v = slice_index_or run.crew i member in
             has_worked (Connection left.hands cat) books (i + 1) (clock_for left.clocks i) (handed_of v.worker m.handed) (stand_of m.told w.worker w.desk) (stand_of m.told v.worker v.desk) new.seen
-            (crew i member lt).desk.own (run.are i member (behind i lt)).desk.own (crew i member lt).desk.number (ready i member lt).clock
+            (crew i member lt).desk.own (run.are i member (behind i lt)).desk.own (crew i member lt).desk.number
+            (clocked m.told left.clocks cat said ticker i w.worker (omega (arith, less)) (ready i member lt).post (ready i member lt).clock)
             (ready i member lt).none (run.keeps i member lt) (serves i less).1 (entries met i low lt).0 (entries met i low lt).1
 
         first_one : HasWorked (Connection left.hands cat) books new.seen (0 + 1) (clock_for left.clocks 0) (handed_of member.worker m.handed + more)
@@ -225,14 +257,15 @@ module _ {S T C : Type 0} (m : Means S T C) (left : Left)
             let lt : 0 < length old = omega (arith, count) in
             let w = slice_index_or old 0 member in
             let left_is : slice_index_or run.crew 0 member ≡ member = sym (run.left member) in
-            let keeps : KeepsDesk w.desk member.desk = subst (λ (n : Member (Post S T C)). KeepsDesk w.desk n.desk) left_is (run.keeps 0 member lt) in
-            let before_it = subst (λ (n : Member (Post S T C)). Chain (Connection left.hands cat) (handed_of n.worker m.handed) (stand_of m.told w.worker w.desk) (stand_of m.told n.worker n.desk))
+            let keeps : KeepsDesk w.desk member.desk = subst (λ (n : Member (Post S T C W)). KeepsDesk w.desk n.desk) left_is (run.keeps 0 member lt) in
+            let before_it = subst (λ (n : Member (Post S T C W)). Chain (Connection left.hands cat) (handed_of n.worker m.handed) (stand_of m.told w.worker w.desk) (stand_of m.told n.worker n.desk))
             left_is (serves 0 some).1 in
             let rest = subst (λ (r : Readings). Chain (Connection left.hands cat) more (record { desk = member.desk; clock = r }) (record { desk = other; clock = later })) read behind_it in
             let number : other.number ≡ 1 = kept.number ∙ run.is.desk.number in
             has_worked (Connection left.hands cat) books (0 + 1) (clock_for left.clocks 0) (handed_of member.worker m.handed + more) (stand_of m.told w.worker w.desk)
             (record { desk = other; clock = later }) new.seen
-            (crew 0 member lt).desk.own of (crew 0 member lt).desk.number (ready 0 member lt).clock (ready 0 member lt).none
+            (crew 0 member lt).desk.own of (crew 0 member lt).desk.number
+            (clocked m.told left.clocks cat said ticker 0 w.worker (omega arith) (ready 0 member lt).post (ready 0 member lt).clock) (ready 0 member lt).none
             (keeps_on w.desk member.desk other keeps kept)
             (chain_on (Connection left.hands cat) (handed_of member.worker m.handed) more (stand_of m.told w.worker w.desk) (stand_of m.told member.worker member.desk)
             (record { desk = other; clock = later }) before_it rest)

@@ -128,11 +128,11 @@ met_one {W} Fits books all crew m old new front is before met of tidy = record {
 }
 
 -- one more that is ready
-pub ready_more : {S T C : Type 0} (handed : S → ℕ) (told : C → Readings) (with_these : Filling T)
-    (all crew : List (Member (Post S T C))) (m : Member (Post S T C)) → all ≡ crew ++ m ∷ [] → AreReady crew handed told with_these
+pub ready_more : {S T C W : Type 0} (handed : S → ℕ) (told : C → Readings) (with_these : Filling T)
+    (all crew : List (Member (Post S T C W))) (m : Member (Post S T C W)) → all ≡ crew ++ m ∷ [] → AreReady crew handed told with_these
     → IsReady m handed told with_these (length crew) → AreReady all handed told with_these
-ready_more {S} {T} {C} handed told with_these all crew m items are is =
-    subst (λ (l : List (Member (Post S T C))). AreReady l handed told with_these) (sym items)
+ready_more {S} {T} {C} {W} handed told with_these all crew m items are is =
+    subst (λ (l : List (Member (Post S T C W))). AreReady l handed told with_these) (sym items)
     (joined_each (λ i n. IsReady n handed told with_these i) crew m are is)
 
 -- a sum with one number more
@@ -164,6 +164,17 @@ sum_ones f (suc n) ones =
     let before : sum_below f n ≡ n = sum_ones f n (λ i lt. ones i (omega (arith, lt))) in
     let last : f n ≡ 1 = ones n (omega arith) in
     omega (arith, before, last)
+
+-- a sum of which all after the first ones is nothing
+pub sum_rest : (f : ℕ → ℕ) (k n : ℕ) → k ≤ n → ((i : ℕ) → k ≤ i → i < n → f i ≡ 0) → sum_below f n ≡ sum_below f k
+sum_rest f k zero low none = let at : k ≡ 0 = omega (arith, low) in ap (λ (j : ℕ). sum_below f j) (sym at)
+sum_rest f k (suc n) low none = ⊎_elim
+    (λ (more : n < k). let at : suc n ≡ k = omega (arith, low, more) in ap (λ (j : ℕ). sum_below f j) at)
+    (λ (less : k ≤ n).
+    let before : sum_below f n ≡ sum_below f k = sum_rest f k n less (λ i has lt. none i has (omega (arith, lt))) in
+    let last : f n ≡ 0 = none n less (omega arith) in
+    omega (arith, before, last))
+    (cases_lt n k)
 
 -- a sum whose first number alone is greater
 pub sum_more : (f g : ℕ → ℕ) (more n : ℕ) → g 0 ≡ f 0 + more → ((i : ℕ) → g (suc i) ≡ f (suc i)) → 1 ≤ n → sum_below g n ≡ sum_below f n + more

@@ -7,3 +7,5 @@ pub mod BooksEnded
 pub mod Tidying
 pub mod Telling
 pub mod Worded
+pub mod Alone
+pub mod Leaving

@@ -70,6 +70,7 @@ module _ (here there : Handing) (goes : (stream sent : Option (List ℕ)) → he
       tidy = is.tidy;
       first = is.first;
       worked = all_worked is.books said wall.history is.worked;
+      watched = is.watched;
       no_others = is.no_others;
     }
 

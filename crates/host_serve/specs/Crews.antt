@@ -12,14 +12,14 @@ use Rattle.worker_pool.specs.Turns.{Doing, KeepsDesk, RunsToEnd, EachMember}
 use Rattle.worker_pool.specs.declared.member.Member.{Member}
 use Rattle.rail_catalogue.specs.Contents.{CatalogueView}
 use Rattle.host_words.specs.declared.serve.Serving.{Serving}
-use Rattle.host_serve.specs.Turns.{IsPosted, Readings, clock_for, clock_of, handed_of}
+use Rattle.host_serve.specs.Turns.{HasClock, IsPosted, Readings, handed_of}
 use Rattle.host_serve.specs.declared.member.Post.{Post}
 
 -- in the history the first desk has nothing but meetings
 abbrev pub OnlyMet : List Entry → Type 0
 OnlyMet history = AllByRecursion (λ e. e.step ≡ Met) (own history 0)
 
--- the first desk of the books, which has parted so many others, has joined none, and has done nothing else
+-- the first desk of the books, which has parted that many others, has joined none, and has done nothing else
 pub record IsFirst (books : BooksView) (others : ℕ) (desk : DeskView) : Type 0 where
   pub own : IsOf books desk
   pub tidy : IsTidy desk
@@ -55,17 +55,17 @@ pub record Filling (T : Type 0) : Type 0 where
 
 -- a member that stands ready at its post, with its own of the clocks, handed out no stream, at a desk without entries
 -- of its own
-pub record IsReady {S T C : Type 0} (m : Member (Post S T C)) (handed : S → ℕ) (told : C → Readings)
+pub record IsReady {S T C W : Type 0} (m : Member (Post S T C W)) (handed : S → ℕ) (told : C → Readings)
     (with_these : Filling T)
     (i : ℕ) : Type 0 where
   pub post : IsPosted with_these.cat with_these.said with_these.ticker i m.worker
-  pub clock : told (clock_of m.worker) ≡ clock_for with_these.clocks i
+  pub clock : HasClock told with_these.clocks i m.worker
   pub unserved : handed_of m.worker handed ≡ 0
   pub none : own m.desk.seen (i + 1) ≡ []
 
-abbrev pub AreReady : {S T C : Type 0} → List (Member (Post S T C)) → (S → ℕ) → (C → Readings) → Filling T → Type 0
-AreReady {S} {T} {C} crew handed told with_these =
-    (i : ℕ) (none : Member (Post S T C)) → i < length crew
+abbrev pub AreReady : {S T C W : Type 0} → List (Member (Post S T C W)) → (S → ℕ) → (C → Readings) → Filling T → Type 0
+AreReady {S} {T} {C} {W} crew handed told with_these =
+    (i : ℕ) (none : Member (Post S T C W)) → i < length crew
     → IsReady (slice_index_or crew i none) handed told with_these i
 
 -- the sum over all below a number
@@ -77,7 +77,7 @@ sum_below f (suc n) = sum_below f n + f n
 abbrev pub of_member : {W : Type 0} → (W → ℕ) → List (Member W) → Member W → ℕ → ℕ
 of_member number crew none i = number (slice_index_or crew i none).worker
 
--- so many parts of a ledger, and what is counted on them
+-- how many parts of a ledger, and what is counted on them
 pub record Held : Type 0 where
   pub parts : ℕ
   pub amount : ℕ

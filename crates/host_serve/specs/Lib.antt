@@ -5,3 +5,5 @@ pub mod Crews
 pub mod Ends
 pub mod Serve
 pub mod Telling
+pub mod Logs
+pub mod Kept

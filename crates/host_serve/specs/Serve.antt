@@ -1,6 +1,7 @@
 -- What `serve` promises.
-use Rattle.std.specs.Prelude.{◌≡◌, ◌<◌, ◌+◌, ℕ, true, false, List, [], Option, Some, None, IsSomeAnd}
+use Rattle.std.specs.Prelude.{◌≡◌, ◌<◌, ◌≤◌, ◌+◌, ℕ, true, false, List, [], Option, Some, None, IsSomeAnd}
 use Rattle.rail_io.specs.Faults.{Rose}
+use Rattle.std.specs.List.{AllByRecursion}
 use mathlib.Core.List.{IsPrefix}
 use Rattle.history_model.specs.Booking.{Layout}
 use Rattle.history_model.specs.History.{own}
@@ -8,6 +9,7 @@ use Rattle.history_model.specs.declared.entry.Entry.{Entry}
 use Rattle.claim_rule.specs.Openings.{KeptBooking, layout_with}
 use Rattle.claim_rule.specs.Rule.{BooksView, DeskView, IsWhole}
 use Rattle.claim_rule.specs.Desks.{IsOf}
+use Rattle.claim_rule.specs.Out.{is_look}
 use Rattle.claim_rule.specs.Walls.{WallView, Finishes}
 use Rattle.cold_store.specs.Exports.{IsClosed}
 use Rattle.cold_store.specs.Tidy.{IsTidyWall}
@@ -30,10 +32,11 @@ use Rattle.host_serve.specs.declared.end.ServeOutcome.TheVariants as end
 abbrev pub IsForServe : List (List ℕ) → Type 0
 IsForServe words = IsFor command.Serve words
 
--- the words are those of `serve`, and say this
+-- the words are those of `serve`, say this, and name no journal
 pub record IsServe (words : List (List ℕ)) (said : ServeView) : Type 0 where
   pub command : IsForServe words
   pub is : serve_words words ≡ Some said
+  pub alone : said.journal ≡ None
 
 -- not the words of `serve`
 abbrev pub IsNoServe : List (List ℕ) → Type 0
@@ -64,8 +67,9 @@ pub record HasWorked (Does : OneTurn) (books : BooksView) (history : List Entry)
   pub turns : Chain Does count began ended
   pub entries : own history n ≡ own ended.desk.seen n
 
--- what the listener told and how often it had failed, before and after; what the clocks told, and whether the ticker
--- ticked so often, each time after so many seconds, and was then asked once more; and the wall
+-- What the listener told and how often it had failed, before and after; what the clocks told; how many members watched;
+-- and the wall. Of the ticker, whether it ticked so often, each time after that many seconds, and was then asked once
+-- more.
 pub record Left : Type 1 where
   pub faults_before : ℕ
   pub before : ListenerView
@@ -74,9 +78,10 @@ pub record Left : Type 1 where
   pub hands : Handing
   pub faults_after : ℕ
   pub after : ListenerView
+  pub watchers : ℕ
   pub wall : Option WallView
 
--- so of a listener that was handed in and the one that was handed back
+-- so of a listener that was handed in and the one that was handed back, where nobody watched
 abbrev pub left_by : {L : Type 0} → (L → ListenerView) → (L → ℕ) → (L → L → Type 0) → HandingBy L → List Readings
     → (ℕ → ℕ → Type 0) → L → L
     → Option WallView → Left
@@ -88,6 +93,7 @@ left_by told faults becomes hands clocks asks first last wall = record {
   hands = HandedBy becomes hands first;
   faults_after = faults last;
   after = told last;
+  watchers = 0;
   wall = wall;
 }
 
@@ -104,7 +110,7 @@ pub record AllWorked (cat : CatalogueView) (books : BooksView) (said : Serving) 
   pub sweeping : HasWorked Sweep books history (said.workers + 1) (clock_for left.clocks said.workers) sweeps
   pub asked : left.asks said.sweep sweeps
 
--- The books were finished by their first desk, which had parted so many others and had joined each: this is the wall
+-- The books were finished by their first desk, which had parted that many others and had joined each: this is the wall
 -- that was left, and in its history is what that desk had seen.
 pub record IsWallOf (books : BooksView) (others : ℕ) (wall : WallView) : Type 0 where
   pub layout : wall.layout ≡ books.layout
@@ -115,20 +121,25 @@ pub record IsWallOf (books : BooksView) (others : ℕ) (wall : WallView) : Type 
   pub seen : wall.history ≡ desk.seen
   pub finished : Finishes books.layout desk wall.words wall.history
 
+-- in the history this desk only looks
+abbrev pub OnlyLooks : List Entry → ℕ → Type 0
+OnlyLooks history n = AllByRecursion (λ e. is_look e.step ≡ true) (own history n)
+
 -- The wall is that of the books at which the members served, and these have this layout. Its words are those of its
 -- history, which is legal, and it is free for an export. In the history the first desk only met others, and the
--- members' entries are those of all their turns at these books: the connections and the sweeps. No desk beyond these
--- has any.
+-- members' entries are those of all their turns at these books: the connections and the sweeps. The desks of those who
+-- watched, which are the next ones, only look. No desk beyond these has any entries.
 pub record IsServedWall (cat : CatalogueView) (plan : Layout) (said : Serving) (left : Left)
     (wall : WallView) : Type 0 where
   pub books : BooksView
   pub layout : books.layout ≡ plan
-  pub of : IsWallOf books (said.workers + 1) wall
+  pub of : IsWallOf books (said.workers + 1 + left.watchers) wall
   pub closed : IsClosed wall
   pub tidy : IsTidyWall wall
   pub first : OnlyMet wall.history
   pub worked : AllWorked cat books said left wall.history
-  pub no_others : (n : ℕ) → said.workers + 1 < n → own wall.history n ≡ []
+  pub watched : (n : ℕ) → said.workers + 1 < n → n ≤ said.workers + 1 + left.watchers → OnlyLooks wall.history n
+  pub no_others : (n : ℕ) → said.workers + 1 + left.watchers < n → own wall.history n ≡ []
 
 -- what was served: the books of the words' catalogue, with its places and rows, which opened with no booking or with
 -- those of the words' export, over just as many connections as the listener has handed out

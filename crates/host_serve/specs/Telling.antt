@@ -61,9 +61,9 @@ WritesExport (Some w) n old new =
     ⊎ (IsWhole (text_on w) n × (new ≡ old))
     ⊎ (IsPart (text_on w) n × (new ≡ cut_short old))
 
--- What was written of the export by the end: all of it, where as many connections as were asked for have ended; where
--- an accept failed, as much of it as the notes took, or nothing, out of memory; nothing at other ends, and where
--- the words don't ask for it.
+-- What was written of the export by the end: all of it, where as many connections as were asked for have ended. Where
+-- an accept failed, as much of it as the notes took, or nothing, out of memory. Nothing at other ends, and where the
+-- words don't ask for it.
 abbrev pub Tells : List (List ℕ) → Option WallView → Noting → ServeOutcome → Type 0
 Tells words wall n end.Served =
     (IsPlain words × IsSilent n) ⊎ (IsExporting words × IsSomeAnd wall (λ w. IsWhole (text_on w) n))

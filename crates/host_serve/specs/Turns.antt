@@ -1,20 +1,29 @@
 -- What the turns of members do.
-use Rattle.std.specs.Prelude.{◌≡◌, ◌<◌, ◌+◌, ◌-◌, ℕ, zero, suc, Bool, true, false, not, ◌⊎◌, List, [], ◌∷◌, Option, None, length, slice_index_or}
+use Rattle.std.specs.Prelude.{◌≡◌, ◌<◌, ◌+◌, ◌-◌, ℕ, zero, suc, Bool, true, false, not, ◌⊎◌, List, [], ◌∷◌, ◌++◌, map}
+use Rattle.std.specs.Prelude.{Option, Some, None, length, slice_index_or}
+use Rattle.history_model.specs.History.{entry, own}
+use Rattle.history_model.specs.declared.entry.Step.{Step}
 use Rattle.session_loop.specs.declared.end.ConnEnd.{ConnEnd}
 use Rattle.claim_rule.specs.Rule.{BooksView, DeskView}
 use Rattle.claim_rule.specs.Calls.{AddsStepsBy}
+use Rattle.claim_rule.specs.Out.{AllLooks}
 use Rattle.rail_catalogue.specs.Contents.{CatalogueView, legs_in}
 use Rattle.expiry_sweeper.specs.AllRows.{Sweeps}
 use Rattle.booking_rows.specs.declared.swept.Swept.{Swept}
 use Rattle.rail_service.specs.Connections.{IsReading, ServesWhole, connection_at}
 use Rattle.rail_service.specs.Listeners.{Handing, HandingBy, HandsOn, IsGiven}
+use Rattle.answer_gate.specs.declared.clock.GatedClock.{GatedClock}
 use Rattle.host_words.specs.declared.serve.Serving.{Serving as Numbers}
 use Rattle.host_serve.specs.declared.member.Post.{Post}
-use Rattle.host_serve.specs.declared.member.Post.TheVariants.{Serving, Sweeping}
+use Rattle.host_serve.specs.declared.member.Post.TheVariants.{Serving, Sweeping, Watching}
 
 -- the readings of a clock to come, where it tells them
 abbrev pub Readings : Type 0
 Readings = Option (ℕ → ℕ)
+
+-- what a clock tells that goes through a gate
+abbrev pub gated : {R C : Type 0} → (C → Readings) → GatedClock R C → Readings
+gated told c = told c.clock
 
 -- of what the clocks told, the clock of the member at this place, from 0: the first member has the last one
 abbrev pub clock_for : List Readings → ℕ → Readings
@@ -25,7 +34,7 @@ clock_for clocks i = slice_index_or clocks (length clocks - (i + 1)) None
 abbrev pub TickingBy : Type 0 → Type 1
 TickingBy T = T → ℕ → Bool → T → Type 0
 
--- from the first ticker to the last it was asked so often, each time after so many seconds, and each time it ticked
+-- from the first ticker to the last it was asked so often, each time after these seconds, and each time it ticked
 abbrev pub Ticks : {T : Type 0} → TickingBy T → ℕ → ℕ → T → T → Type 0
 Ticks ticked seconds zero first last = last ≡ first
 Ticks {T} ticked seconds (suc n) first last =
@@ -51,7 +60,7 @@ pub record HasCatalogue (books : BooksView) (cat : CatalogueView) : Type 0 where
   pub legs : books.layout.legs ≡ legs_in cat
   pub rows : books.layout.rows ≡ cat.rows
 
--- a desk, beside the readings to come of the clock that it is worked by
+-- a desk, with the readings to come of the clock that it is worked by
 pub record Stand : Type 0 where
   pub desk : DeskView
   pub clock : Readings
@@ -63,8 +72,8 @@ pub record Passed : Type 0 where
   pub left : Option (List ℕ)
   pub after : Option (List ℕ)
 
--- This stream's connection was served to its end, by the desk's own entries: from what its source and its sink told to
--- what they tell then, by the bytes that were taken of it and the bytes that answer them, and not one more.
+-- This stream's connection was served to its end, by the desk's own entries, from what its source and its sink told to
+-- what they tell then. The bytes that were taken of it were answered, and not one byte more was written.
 abbrev pub ServesStream : CatalogueView → Passed → Stand → Stand → Type 0
 ServesStream cat p old new =
     (end : ConnEnd)
@@ -131,7 +140,7 @@ abbrev pub Leads : OneTurn → Stand → List Stand → Stand → Type 0
 Leads Does old [] new = new ≡ old
 Leads Does old (next ∷ later) new = Does old next × Leads Does next later new
 
--- so many turns one after the other, from stand to stand
+-- turns one after the other, from stand to stand, and how many
 pub record Chain (Does : OneTurn) (n : ℕ) (old new : Stand) : Type 0 where
   pub stands : List Stand
   pub count : length stands ≡ n
@@ -152,6 +161,13 @@ abbrev pub SweepsTurn : Stand → Stand → Bool → Type 0
 SweepsTurn old new true = Rests old new
 SweepsTurn old new false = SweepsOnce old new
 
+-- of its own the desk has these looks more, and nothing else
+pub record LooksOn (old new : DeskView) : Type 0 where
+  pub looks : List Step
+  pub alone : AllLooks looks
+  pub number : new.number ≡ old.number
+  pub mine : own new.seen old.number ≡ own old.seen old.number ++ map (entry old.number) looks
+
 -- what the devices of members show: the readings of a clock to come, how many streams were handed out, and by which
 -- calls, how streams are let go, and how a ticker ticks
 pub record Means (S T C : Type 0) : Type 1 where
@@ -161,37 +177,50 @@ pub record Means (S T C : Type 0) : Type 1 where
   pub lets_go : LettingGo S
   pub ticked : TickingBy T
 
-module _ {S T C : Type 0} where
+module _ {S T C W : Type 0} where
   -- a serving member's books have its catalogue
-  abbrev pub FitsBooks : Post S T C → BooksView → Type 0
+  abbrev pub FitsBooks : Post S T C W → BooksView → Type 0
   FitsBooks (Serving w) books = HasCatalogue books w.common.cat.now
   FitsBooks (Sweeping w) books = Unit {0}
+  FitsBooks (Watching w) books = Unit {0}
 
-  abbrev pub HasEnded : Post S T C → Type 0
+  abbrev pub HasEnded : Post S T C W → Type 0
   HasEnded (Serving w) = w.ended ≡ true
   HasEnded (Sweeping w) = w.ended ≡ true
+  HasEnded (Watching w) = w.ended ≡ true
 
-  abbrev pub clock_of : Post S T C → C
-  clock_of (Serving w) = w.clock
-  clock_of (Sweeping w) = w.clock
+  -- a member that watches has no clock
+  abbrev pub clock_of : Post S T C W → Option C
+  clock_of (Serving w) = Some w.clock
+  clock_of (Sweeping w) = Some w.clock
+  clock_of (Watching w) = None
 
   -- how many streams a member was handed out, and in how many parts of a ledger they are counted
-  abbrev pub handed_of : Post S T C → (S → ℕ) → ℕ
+  abbrev pub handed_of : Post S T C W → (S → ℕ) → ℕ
   handed_of (Serving w) handed = handed w.streams
   handed_of (Sweeping w) handed = 0
+  handed_of (Watching w) handed = 0
 
-  abbrev pub part_of : Post S T C → ℕ
+  abbrev pub part_of : Post S T C W → ℕ
   part_of (Serving w) = 1
   part_of (Sweeping w) = 0
+  part_of (Watching w) = 0
 
-  -- a member's desk, beside its clock
-  abbrev pub stand_of : (C → Readings) → Post S T C → DeskView → Stand
-  stand_of told w d = record { desk = d; clock = told (clock_of w) }
+  -- what a member's clock tells
+  abbrev pub readings_of : (C → Readings) → Post S T C W → Readings
+  readings_of told (Serving w) = told w.clock
+  readings_of told (Sweeping w) = told w.clock
+  readings_of told (Watching w) = None
+
+  -- a member's desk, with what its clock tells
+  abbrev pub stand_of : (C → Readings) → Post S T C W → DeskView → Stand
+  stand_of told w d = record { desk = d; clock = readings_of told w }
 
   -- A member stays at its post, a serving one with its catalogue, and serves the stream that it is handed out in this
   -- turn, which it lets go as it was when its connection had ended. A sweeping one asks its ticker once for a tick,
-  -- after its seconds, and sweeps where it ticks, and ends where it doesn't.
-  abbrev pub DoesTurn : Means S T C → Post S T C → DeskView → Post S T C → DeskView → Type 0
+  -- after its seconds, and sweeps where it ticks, and ends where it doesn't. A watching one looks, and does nothing
+  -- else.
+  abbrev pub DoesTurn : Means S T C → Post S T C W → DeskView → Post S T C W → DeskView → Type 0
   DoesTurn m (Serving w) old (Serving v) new =
       (v.common.cat.now ≡ w.common.cat.now) × Counts v.ended (m.handed w.streams) (m.handed v.streams)
       × ServesTurn (Passes m.hands m.lets_go w.streams v.streams) w.common.cat.now
@@ -200,25 +229,34 @@ module _ {S T C : Type 0} where
       (v.seconds ≡ w.seconds) × m.ticked w.ticker w.seconds (not v.ended) v.ticker
       × SweepsTurn (record { desk = old; clock = m.told w.clock })
       (record { desk = new; clock = m.told v.clock }) v.ended
-  DoesTurn m (Serving w) old (Sweeping v) new = ⊥
-  DoesTurn m (Sweeping w) old (Serving v) new = ⊥
+  DoesTurn m (Watching w) old (Watching v) new = AddsStepsBy AllLooks old new
+  DoesTurn m w old v new = ⊥
 
-  -- All turns of a member up to its end are a chain: of as many connections of its catalogue as it was handed out
-  -- streams, which were handed out so, or of as many sweeps as its ticker ticked, until it didn't.
-  abbrev pub HasChain : Means S T C → Handing → Post S T C → DeskView → Post S T C → DeskView → Type 0
+  -- All turns of a member up to its end are a chain. A serving one's are as many connections of its catalogue as it
+  -- was handed out streams, and these were handed out so. A sweeping one's are as many sweeps as its ticker ticked,
+  -- until it didn't. A watching one's are looks.
+  abbrev pub HasChain : Means S T C → Handing → Post S T C W → DeskView → Post S T C W → DeskView → Type 0
   HasChain m hands (Serving w) old (Serving v) new =
       (v.common.cat.now ≡ w.common.cat.now) × (served : ℕ) × (m.handed v.streams ≡ m.handed w.streams + served)
-      × Chain (Connection hands w.common.cat.now) served (stand_of m.told (Serving w) old)
-      (stand_of m.told (Serving v) new)
+      × Chain (Connection hands w.common.cat.now) served (record { desk = old; clock = m.told w.clock })
+      (record { desk = new; clock = m.told v.clock })
   HasChain m hands (Sweeping w) old (Sweeping v) new =
       (v.seconds ≡ w.seconds) × (sweeps : ℕ) × (before : T) × Ticks m.ticked w.seconds sweeps w.ticker before
       × m.ticked before w.seconds false v.ticker
-      × Chain Sweep sweeps (stand_of m.told (Sweeping w) old) (stand_of m.told (Sweeping v) new)
-  HasChain m hands (Serving w) old (Sweeping v) new = ⊥
-  HasChain m hands (Sweeping w) old (Serving v) new = ⊥
+      × Chain Sweep sweeps (record { desk = old; clock = m.told w.clock })
+      (record { desk = new; clock = m.told v.clock })
+  HasChain m hands (Watching w) old (Watching v) new = LooksOn old new
+  HasChain m hands w old v new = ⊥
 
-  -- The post of member i, from 0: as many as the words say serve the catalogue, and a last one asks this ticker for a
-  -- tick each so many seconds.
-  abbrev pub IsPosted : CatalogueView → Numbers → T → ℕ → Post S T C → Type 0
+  -- The post of member i, from 0: as many as the words say serve the catalogue, the next one asks this ticker for a
+  -- tick each time after the words' seconds, and all after it watch.
+  abbrev pub IsPosted : CatalogueView → Numbers → T → ℕ → Post S T C W → Type 0
   IsPosted cat said ticker i (Serving w) = (i < said.workers) × (w.common.cat.now ≡ cat)
   IsPosted cat said ticker i (Sweeping w) = (i ≡ said.workers) × (w.seconds ≡ said.sweep) × (w.ticker ≡ ticker)
+  IsPosted cat said ticker i (Watching w) = said.workers < i
+
+  -- its clock is its own of these
+  abbrev pub HasClock : (C → Readings) → List Readings → ℕ → Post S T C W → Type 0
+  HasClock told clocks i (Serving w) = told w.clock ≡ clock_for clocks i
+  HasClock told clocks i (Sweeping w) = told w.clock ≡ clock_for clocks i
+  HasClock told clocks i (Watching w) = Unit {0}

@@ -1,5 +1,5 @@
 // The books of a catalogue, served by the members.
-ghost use Rattle.std.specs.Prelude.{◌≡◌, ◌≢◌, ◌≤◌, ◌<◌, ◌+◌, ℕ, All, true, false, length, map};
+ghost use Rattle.std.specs.Prelude.{◌≡◌, ◌≢◌, ◌≤◌, ◌<◌, ◌+◌, ◌^◌, ℕ, All, true, false, length, map};
 ghost use Rattle.rail_io.specs.Faults.{Rose};
 ghost use Rattle.rail_service.specs.Listeners.{GivesOnly, IsGiven};
 ghost use Rattle.leg_masks.specs.Interval.{most_places};
@@ -16,7 +16,7 @@ ghost use Rattle.host_serve.specs.Over.{EndsOver};
 ghost use Rattle.host_serve.specs.Serve.{BooksEnd, left_by};
 ghost use Rattle.host_serve.specs.Turns.{HasCatalogue, Asks, Chain, Connection};
 
-use crate::crew::{Means, crew_of};
+use crate::crew::{Crewed, Means, crew_of};
 use crate::devices::Devices;
 use crate::draining::drain_listener;
 use crate::end::BooksOutcome;
@@ -27,11 +27,13 @@ use crate::member::Common;
 use crate::shared_listener::{Ended, ListenerEnd, Named, SharedListener};
 use crate::streams::Door;
 use crate::until::Until;
+use crate::watching::Watcher;
+use answer_gate::GatedClock;
 use claim_rule::{Books, Desk, Wall};
 use rail_io::{Clock, Ticker};
 use rail_service::Listener;
+use std::sync::Wait;
 use std::sync::ledger::{Blank, Ledger, Share};
-use std::sync::{Mutex, OnceLock, Wait};
 use std::thread::Threads;
 use worker_pool::{Member, Open, run_workers};
 
@@ -42,7 +44,25 @@ pub struct Run<O, L> {
     pub wall: Option<Wall>,
 }
 
+impl<O, L> Run<O, L> {
+    ghost use Rattle.std.specs.Prelude.{◌≡◌, None};
+
+    /// A run that has left no wall.
+    pub fn without_wall(outcome: O, listener: L) -> Run<O, L>
+        ensures outcome { result.outcome ≡ outcome }
+        ensures listener { result.listener ≡ listener }
+        ensures wall { result.wall ≡ None }
+    {
+        Run {
+            outcome,
+            listener,
+            wall: None,
+        }
+    }
+}
+
 /// Books and their first desk.
+#[derive(Drop)]
 pub struct Opened {
     pub books: Books,
     pub first: Desk,
@@ -75,14 +95,13 @@ fn finish_listener<N: Named, L: Listener + Drop, C: Clock>(
     books: &Books,
     desk: &mut Desk,
     ended: &mut Ended<L>,
-    limit: u32,
     clock: &mut C,
 ) -> bool
     requires has { HasCatalogue books.now common.cat.now }
     requires own { IsOf books.now desk.old }
     requires tidy { IsTidy desk.old }
     requires port { (L.told ended.old.listener).port ≡ N.port }
-    requires limit { ((L.told ended.old.listener).limit ≡ N.limit) × (N.limit ≡ limit) }
+    requires limit { ((L.told ended.old.listener).limit ≡ N.limit) × (N.limit ≡ common.said.connections) }
     requires within { (L.told ended.old.listener).handed ≤ N.limit }
     requires gives { GivesOnly L.becomes L.hands ended.old.listener N.gives }
     requires faults { N.faults ≤ L.faults ended.old.listener }
@@ -99,8 +118,10 @@ fn finish_listener<N: Named, L: Listener + Drop, C: Clock>(
         (record { desk = desk.new; clock = C.told clock.new }) }
     ensures never_falls { L.faults ended.old.listener ≤ L.faults ended.new.listener }
     ensures steady { result ≡ true → L.faults ended.new.listener ≡ N.faults }
-    ensures spent { result ≡ true → L.told ended.new.listener ≡ record { port = N.port; limit = N.limit; handed = N.limit } }
-    ensures failed { result ≡ false → Rose N.faults (L.faults ended.new.listener) × ((L.told ended.new.listener).handed < N.limit) }
+    ensures spent { result ≡ true
+        → L.told ended.new.listener ≡ record { port = N.port; limit = N.limit; handed = N.limit } }
+    ensures failed { result ≡ false → Rose N.faults (L.faults ended.new.listener)
+        × ((L.told ended.new.listener).handed < N.limit) }
     ensures port { (L.told ended.new.listener).port ≡ N.port }
     ensures limit { (L.told ended.new.listener).limit ≡ N.limit }
 {
@@ -112,7 +133,7 @@ fn finish_listener<N: Named, L: Listener + Drop, C: Clock>(
             books,
             desk,
             &mut ended.listener,
-            limit,
+            common.said.connections,
             clock,
         ),
     }
@@ -132,7 +153,7 @@ fn close(books: Books, first: Desk) -> Wall
     books.finish(first)
 }
 
-/// Serves the listener's streams by a crew, and closes the books.
+/// Serves the listener's streams by a crew, while others watch, and closes the books.
 pub fn run_books<
     'x,
     N: Named + Send + Sync,
@@ -140,11 +161,13 @@ pub fn run_books<
     L: Listener + Drop + Send,
     T: Ticker + Drop + Send,
     C: Clock + Drop + Send,
+    W: Watcher + Drop + Send,
 >(
     rt: &'x R,
     common: Common<'x>,
     opened: Opened,
     devices: Devices<L, T, C>,
+    watchers: Vec<W>,
     blank: Blank,
 ) -> Run<BooksOutcome, L>
 where
@@ -164,66 +187,50 @@ where
     requires gives { GivesOnly L.becomes L.hands devices.listener N.gives }
     requires over { EndsOver L.told L.faults L.becomes N.limit N.faults N.over devices.listener }
     requires workers { 1 ≤ common.said.workers }
+    requires few { common.said.workers + 1 + length watchers.items < 2 ^ 63 }
     ensures never_falls { L.faults devices.listener ≤ L.faults result.listener }
     ensures ends { BooksEnd common.entry.cat.now opened.books.layout common.entry.said
-        (record (left_by L.told L.faults L.becomes L.hands (map C.told devices.clocks.items) (Asks T.ticked devices.ticker)
-        devices.listener result.listener result.wall) { hands = IsGiven N.gives })
+        (record
+        (left_by L.told L.faults L.becomes L.hands (map C.told devices.clocks.items) (Asks T.ticked devices.ticker)
+        devices.listener result.listener result.wall) { hands = IsGiven N.gives; watchers = length watchers.items })
         result.outcome }
 {
-    let Devices {
-        listener,
-        ticker,
-        clocks,
-    } = devices;
-    let Opened { books, mut first } = opened;
-    let Ok(crew) = Vec::with_capacity(common.alloc, common.said.workers as usize + 1) else {
-        return Run {
-            outcome: BooksOutcome::NoMemory,
-            listener,
-            wall: None,
-        };
+    let mut opened = opened;
+    let members = common.said.workers as usize + 1 + watchers.len();
+    let Ok(room) = Vec::with_capacity(common.alloc, members) else {
+        return Run::without_wall(BooksOutcome::NoMemory, devices.listener);
     };
-    let (book, mut rest) = blank.open::<N>();
-    let door = Door {
-        shared: Mutex::new(SharedListener::new(listener, book)),
-        mark: OnceLock::new(),
-    };
+    let (book, rest) = blank.open::<N>();
+    let door = Door::to(SharedListener::new(devices.listener, book));
     let shared = &door;
-    let crew = crew_of(
+    let Crewed { crew, mut rest } = crew_of(
         rt,
         shared,
         common,
-        &books,
-        &mut first,
+        &mut opened,
         Means {
-            ticker: Until {
-                ticker,
-                door: shared,
-            },
-            clocks,
+            ticker: Until::of(devices.ticker, shared, common.gate, rt),
+            clocks: devices.clocks,
+            watchers,
+            share: rest,
         },
-        &mut rest,
+        room,
+    );
+    let Member { mut desk, worker } = run_crew(
+        rt,
+        &opened.books,
+        &mut opened.first,
         crew,
+        &mut rest,
     );
-    let Member { mut desk, worker } = run_crew(rt, &books, &mut first, crew, &mut rest);
-    let mut clock = worker.into_clock(&mut rest);
-    let Door { shared, mark: _ } = door;
-    let mut ended = shared.into_inner().into_listener(&mut rest);
-    let all = finish_listener::<N, L, C>(
-        common,
-        &books,
-        &mut desk,
-        &mut ended,
-        common.said.connections,
-        &mut clock,
-    );
+    let clock = worker.into_clock(&mut rest).unwrap().into_inner();
+    let mut clock = GatedClock::new(clock, common.gate, rt);
+    let Opened { books, mut first } = opened;
+    let mut ended = door.shared.into_inner().into_listener(&mut rest);
+    let all = finish_listener::<N, L, _>(common, &books, &mut desk, &mut ended, &mut clock);
     books.meet(&mut first, desk);
     Run {
-        outcome: if all {
-            BooksOutcome::Served
-        } else {
-            BooksOutcome::AcceptFailed
-        },
+        outcome: BooksOutcome::of(all),
         listener: ended.listener,
         wall: Some(close(books, first)),
     }

@@ -1,4 +1,4 @@
-// What serving is given beside words and files.
+// What serving is given with words and files.
 
 /// How many clocks serving takes: one for each of 16 members that serve, and one for the member that sweeps.
 pub const CLOCKS: u8 = 17;

@@ -1,9 +1,10 @@
 // How `serve` ends.
-ghost use Rattle.std.specs.Prelude.{◌≡◌};
-ghost use Rattle.host_serve.specs.Ends.{end_of_serve, outcome_of_books};
+ghost use Rattle.std.specs.Prelude.{◌≡◌, false, true};
+ghost use Rattle.host_serve.specs.Ends.{end_of_kept, end_of_serve, lost_or, outcome_of_books};
+ghost use Rattle.host_serve.specs.declared.end.BooksOutcome.TheVariants.{AcceptFailed, Served};
 
 use claim_rule::Wall;
-use host_catalogue::LoadFault;
+use host_catalogue::{File, JournalRefusal, LoadFault};
 use host_notes::CommandEnd;
 
 /// Why serving ended.
@@ -39,6 +40,18 @@ pub enum BooksOutcome {
 }
 
 impl BooksOutcome {
+    /// How they were served where no accept failed, or where one did.
+    pub fn of(all: bool) -> BooksOutcome
+        ensures all { all ≡ true → result ≡ Served }
+        ensures failed { all ≡ false → result ≡ AcceptFailed }
+    {
+        if all {
+            BooksOutcome::Served
+        } else {
+            BooksOutcome::AcceptFailed
+        }
+    }
+
     /// How serving ended then.
     pub fn outcome(self) -> ServeOutcome
         ensures { result ≡ outcome_of_books self }
@@ -49,6 +62,35 @@ impl BooksOutcome {
             BooksOutcome::Served => ServeOutcome::Served,
         }
     }
+}
+
+impl ServeOutcome {
+    /// How serving with a journal ended, where books were served so: the journal may be lost by then.
+    pub fn kept(self, is_lost: bool) -> KeptOutcome
+        ensures { result ≡ lost_or is_lost self }
+    {
+        match self {
+            ServeOutcome::Served | ServeOutcome::AcceptFailed if is_lost => KeptOutcome::Lost,
+            other => KeptOutcome::Plain(other),
+        }
+    }
+}
+
+/// Why serving ended, with a journal or without one.
+#[derive(Drop)]
+pub enum KeptOutcome {
+    /// As it ends without one.
+    Plain(ServeOutcome),
+    /// Another host has the journal.
+    Locked,
+    /// The journal has more bytes than it may have.
+    TooLarge,
+    /// The journal's text gives no books.
+    Refused(JournalRefusal),
+    /// The journal couldn't be read, or not be written anew, and nothing was served.
+    Failed,
+    /// The journal failed while its bookings were served. All connections have ended.
+    Lost,
 }
 
 /// What is left when serving has ended.
@@ -73,5 +115,19 @@ pub fn command_end(outcome: ServeOutcome) -> CommandEnd
         ServeOutcome::NotBound | ServeOutcome::AcceptFailed => CommandEnd::ReadFault,
         ServeOutcome::Unwritten => CommandEnd::WriteFault,
         ServeOutcome::Served => CommandEnd::Done,
+    }
+}
+
+/// The command's end, with a journal or without one.
+pub fn kept_end(outcome: KeptOutcome) -> CommandEnd
+    ensures { result ≡ end_of_kept outcome }
+{
+    match outcome {
+        KeptOutcome::Plain(outcome) => command_end(outcome),
+        KeptOutcome::Locked => CommandEnd::JournalLocked,
+        KeptOutcome::TooLarge => CommandEnd::NotLoaded(LoadFault::TooLarge(File::Journal)),
+        KeptOutcome::Refused(refusal) => CommandEnd::JournalRefused(refusal),
+        KeptOutcome::Failed => CommandEnd::JournalFailed,
+        KeptOutcome::Lost => CommandEnd::JournalLost,
     }
 }

@@ -3,21 +3,30 @@
 //!
 //! A serving member's turn takes the next stream, for which alone the lock is held, and adds to its desk the entries of
 //! that one connection. One further member sweeps the rows at each tick. `run_serve` starts them, waits for them, joins
-//! their desks and closes the books, which may open with the bookings of an export, and of which it may write one. In
-//! the history of the wall that it hands back each member's entries are just those of the connections that it served,
-//! one after the other, or of its sweeps, and the first desk, which joined them, has done nothing else.
+//! their desks and closes the books, which may open with the bookings of an export, and of which it may write one. It
+//! hands back the wall. In its history each member's entries are just those of the connections that it served, one
+//! after the other, or of its sweeps. The first desk, which joined them, has done nothing else.
+//!
+//! `serve_kept` does so with a journal: the books open with the bookings that it leaves, and one member more, the
+//! committer, has all changes kept there. It is one of the members that watch, whose desks only look, and whose trait
+//! is `Watcher`. `Log` knows the journal's text, and `Committer` takes the cuts.
 //!
 //! It is a crate of its own since here alone threads meet the service.
 #![tactic(auto)]
 
 mod books;
+mod committing;
 mod crew;
 mod devices;
 mod draining;
 mod end;
 mod export;
 mod giving;
+mod keeping;
+mod kept;
 mod letting;
+mod listening;
+mod log;
 mod mark;
 mod meeting;
 mod member;
@@ -28,9 +37,12 @@ mod stream;
 mod streams;
 mod sweeping;
 mod until;
+mod watching;
 
-pub use devices::CLOCKS;
-pub use end::{ServeEnd, ServeOutcome};
+pub use devices::{CLOCKS, Devices};
+pub use end::{KeptOutcome, ServeEnd, ServeOutcome};
+pub use keeping::Keeping;
+pub use kept::serve_kept;
 pub use mark::{Mark, Over};
 pub use member::{Common, Post};
 pub use run::run_serve;
@@ -39,3 +51,4 @@ pub use shared_listener::{Ended, ListenerEnd, Named, SharedListener};
 pub use streams::{Door, Streams};
 pub use sweeping::Sweeper;
 pub use until::Until;
+pub use watching::{Lookout, NoWatcher, Watcher};

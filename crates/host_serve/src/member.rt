@@ -4,6 +4,8 @@ use crate::serving::Server;
 use crate::shared_listener::Named;
 use crate::streams::{LockedStreams, Streams};
 use crate::sweeping::Sweeper;
+use crate::watching::{Lookout, Watcher};
+use answer_gate::Gate;
 use claim_rule::{Books, Desk};
 use host_words::Serving;
 use rail_catalogue::Catalogue;
@@ -14,27 +16,36 @@ use std::sync::Wait;
 use std::sync::ledger::Share;
 use worker_pool::{TurnEnd, Worker};
 
-/// What all members share: memory, the catalogue, and the numbers of the words.
+/// What all members share: memory, the catalogue, the numbers of the words, and the gate.
 #[derive(Clone, Copy)]
 pub struct Common<'s> {
     pub alloc: Global,
     pub cat: &'s Catalogue,
     pub said: Serving,
+    /// What commands go through that change bookings, where a journal is kept.
+    pub gate: Option<&'s Gate>,
 }
 
-/// A member's post: it serves, or it sweeps.
+/// A member's post: it serves, it sweeps, or it watches.
 #[derive(Drop)]
-pub enum Post<'s, S, T, C> {
+pub enum Post<'s, S, T, C, W> {
     Serving(Server<'s, S, C>),
     Sweeping(Sweeper<T, C>),
+    Watching(Lookout<W>),
 }
 
-impl<R, L: Listener + Drop, N: Named, T: Drop, C> Post<'_, LockedStreams<'_, R, L, N>, T, C> {
+impl<R, L: Listener + Drop, N: Named, T: Drop, C, W: Drop> Post<
+    '_,
+    LockedStreams<'_, R, L, N>,
+    T,
+    C,
+    W,
+> {
     ghost use Rattle.std.specs.Prelude.{◌≡◌, ◌+◌};
     ghost use Rattle.host_serve.specs.Turns.{clock_of, handed_of, part_of};
 
-    /// The clock of the post, at its end. What it was handed out is counted in the share from then on.
-    pub fn into_clock(self, all: &mut Share<N>) -> C
+    /// The clock of the post, at its end, if it has one. What it was handed out is counted in the share from then on.
+    pub fn into_clock(self, all: &mut Share<N>) -> Option<C>
         ensures clock { result ≡ clock_of self.entry }
         ensures parts { all.new.parts ≡ all.old.parts + part_of self.entry }
         ensures amount { all.new.amount ≡ all.old.amount + handed_of self.entry (λ s. s.share.amount) }
@@ -44,15 +55,22 @@ impl<R, L: Listener + Drop, N: Named, T: Drop, C> Post<'_, LockedStreams<'_, R, 
                 let Server { streams, clock, .. } = server;
                 let LockedStreams { share, .. } = streams;
                 all.merge(share);
-                clock
+                Some(clock)
             }
-            Post::Sweeping(sweeper) => sweeper.clock,
+            Post::Sweeping(sweeper) => Some(sweeper.clock),
+            Post::Watching(_) => None,
         }
     }
 }
 
-impl<R: Wait, L: Listener + Drop, N: Named, T: Ticker + Drop, C: Clock + Drop> Gives<N>
-    for Post<'_, LockedStreams<'_, R, L, N>, T, C> {
+impl<
+    R: Wait,
+    L: Listener + Drop,
+    N: Named,
+    T: Ticker + Drop,
+    C: Clock + Drop,
+    W: Watcher + Drop,
+> Gives<N> for Post<'_, LockedStreams<'_, R, L, N>, T, C, W> {
     ghost use Rattle.host_serve.specs.Turns.{handed_of, part_of};
 
     ghost parts = { λ w. part_of w };
@@ -64,7 +82,7 @@ impl<R: Wait, L: Listener + Drop, N: Named, T: Ticker + Drop, C: Clock + Drop> G
     }
 }
 
-impl<S: Streams, T: Ticker, C: Clock> Worker for Post<'_, S, T, C> {
+impl<S: Streams, T: Ticker, C: Clock, W: Watcher> Worker for Post<'_, S, T, C, W> {
     ghost use Rattle.host_serve.specs.Turns.{FitsBooks, HasEnded, DoesTurn};
 
     ghost fits = { λ w books. FitsBooks w books };
@@ -83,6 +101,7 @@ impl<S: Streams, T: Ticker, C: Clock> Worker for Post<'_, S, T, C> {
         match self {
             Post::Serving(server) => server.take_turn(books, desk),
             Post::Sweeping(sweeper) => sweeper.take_turn(books, desk),
+            Post::Watching(lookout) => lookout.take_turn(books, desk),
         }
     }
 }

@@ -1,5 +1,6 @@
 // `serve` by its words.
-ghost use Rattle.std.specs.Prelude.{◌≡◌, ◌⊎◌, ◌≤◌, ℕ, List, Option, Some, None, IfOk, IfErr, IsSomeAnd, length, map, option_map};
+ghost use Rattle.std.specs.Prelude.{◌≡◌, ◌⊎◌, ◌≤◌, ℕ, List, Option, Some, None, IfOk, IfErr, IsSomeAnd, length, map};
+ghost use Rattle.std.specs.Prelude.{option_map};
 ghost use Rattle.rail_io.specs.Faults.{Rose};
 ghost use Rattle.rail_io.specs.Told.{with_end};
 ghost use Rattle.claim_rule.specs.Openings.{KeptBooking, layout_with};
@@ -15,211 +16,26 @@ ghost use Rattle.host_catalogue.specs.Files.{HasCause};
 ghost use Rattle.host_catalogue.specs.Opening.{Fails, HasBooks, HasNoBooks};
 ghost use Rattle.host_serve.specs.Crews.{IsFirst};
 ghost use Rattle.host_serve.specs.Ends.{status_of_serve};
-ghost use Rattle.host_serve.specs.Serve.{Ends, HasShelfCause, IsExporting, IsNoServe, IsOfRefusedText, IsOnlyLimited, IsServe};
+ghost use Rattle.host_serve.specs.Serve.{Ends, HasShelfCause, IsExporting, IsNoServe, IsOfRefusedText, IsOnlyLimited};
+ghost use Rattle.host_serve.specs.Serve.{IsServe};
 ghost use Rattle.host_serve.specs.Serve.{IsWithoutBooks, Runs, left_by};
 ghost use Rattle.host_serve.specs.Telling.{IsBefore, IsTold, Tells};
 ghost use Rattle.host_serve.specs.Turns.{Asks, HasCatalogue};
 ghost use Rattle.host_serve.specs.declared.end.ServeOutcome.{ServeOutcome};
 ghost use Rattle.host_serve.specs.declared.end.ServeOutcome.TheVariants as outcome;
 
-use crate::books::{Opened, Run, run_books};
 use crate::devices::Devices;
-use crate::end::{ServeEnd, ServeOutcome, command_end};
-use crate::export::write_export;
-use crate::member::Common;
-use claim_rule::{Books, Desk};
-use host_catalogue::{LoadFault, load_books};
-use host_notes::end_command;
-use host_words::{CommandName, ServeWords, WordsFault, is_for, read_serve};
-use rail_catalogue::Catalogue;
-use rail_io::{Clock, Shelf, Sink, Ticker};
-use rail_service::{Bound, Listener};
+use crate::end::ServeEnd;
+use crate::keeping::Keeping;
+use crate::kept::serve_kept;
+use rail_io::{Clock, MemoryJournal, NoBell, Shelf, Sink, Ticker};
+use rail_service::Listener;
 use std::alloc::Global;
-use std::marker::Brand;
 use std::sync::Wait;
-use std::sync::ledger::Blank;
 use std::thread::Threads;
 
-/// The catalogue of the words, and its books with their first desk.
-fn open<F: Shelf>(
-    alloc: Global,
-    shelf: &mut F,
-    said: &ServeWords<'_>,
-) -> Result<(Catalogue, Books, Desk), LoadFault>
-    ensures books { IfOk result (λ t. (kept : List KeptBooking)
-        × HasBooks (F.told shelf.old) (said_in said.now).catalogue (said_in said.now).from t.0 kept
-        × (t.1.layout ≡ layout_with (legs_in t.0) t.0.rows kept)) }
-    ensures fault { IfErr result (Fails (F.told shelf.old) (said_in said.now).catalogue (said_in said.now).from) }
-    ensures has { IfOk result (λ t. HasCatalogue t.1 t.0) }
-    ensures opening { IfOk result (λ t. AreSucceeded t.1.layout.opening) }
-    ensures first { IfOk result (λ t. IsFirst t.1 0 t.2) }
-    ensures same { F.told shelf.new ≡ F.told shelf.old }
-    ensures cause { IfErr result (λ e. HasCause e (F.faults shelf.old) (F.faults shelf.new)
-        (F.misses shelf.old) (F.misses shelf.new)) }
-    ensures steady { IfOk result (λ _. F.faults shelf.new ≡ F.faults shelf.old) }
-{
-    load_books(alloc, shelf, said.catalogue, said.from)
-}
-
-/// A run that has ended without books.
-fn without_books<L>(outcome: ServeOutcome, listener: L) -> Run<ServeOutcome, L>
-    ensures outcome { result.outcome ≡ outcome }
-    ensures listener { result.listener ≡ listener }
-    ensures wall { result.wall ≡ None }
-{
-    Run {
-        outcome,
-        listener,
-        wall: None,
-    }
-}
-
-/// Serves what the words say: opens their books, listens at their port, and runs the members.
-fn listen_and_run<
-    R: Threads + Wait + Sync,
-    F: Shelf,
-    L: Listener + Drop + Send,
-    T: Ticker + Drop + Send,
-    C: Clock + Drop + Send,
->(
-    rt: &R,
-    alloc: Global,
-    said: &ServeWords<'_>,
-    shelf: &mut F,
-    devices: Devices<L, T, C>,
-) -> Run<ServeOutcome, L>
-where
-    L::Input: Send,
-    L::Output: Send,
-    requires clocks { length devices.clocks.items ≡ clock_count }
-    requires fresh { (L.told devices.listener).handed ≡ 0 }
-    requires ranges { IsInRange said.now.numbers }
-    ensures never_falls { L.faults devices.listener ≤ L.faults result.listener }
-    ensures ends { Ends (F.told shelf.old) (said_in said.now)
-        (left_by L.told L.faults L.becomes L.hands (map C.told devices.clocks.items) (Asks T.ticked devices.ticker)
-        devices.listener result.listener result.wall)
-        result.outcome }
-    ensures before { IsBefore result.outcome }
-    ensures same { F.told shelf.new ≡ F.told shelf.old }
-    ensures cause { HasShelfCause result.outcome (F.faults shelf.old) (F.faults shelf.new)
-        (F.misses shelf.old) (F.misses shelf.new) }
-{
-    let Devices {
-        mut listener,
-        ticker,
-        clocks,
-    } = devices;
-    let (cat, books, first) = match open(alloc, shelf, said) {
-        Ok(opened) => opened,
-        Err(fault) => return without_books(ServeOutcome::NotLoaded(fault), listener),
-    };
-    listener.set_limit(said.numbers.connections);
-    if let Bound::Failed = listener.bind(said.numbers.port) {
-        return without_books(ServeOutcome::NotBound, listener);
-    }
-    let common = Common {
-        alloc,
-        cat: &cat,
-        said: said.numbers,
-    };
-    let Run {
-        outcome,
-        listener,
-        wall,
-    } = run_books::<Brand, R, L, T, C>(
-        rt,
-        common,
-        Opened { books, first },
-        Devices {
-            listener,
-            ticker,
-            clocks,
-        },
-        Blank::new(said.numbers.workers as u64),
-    );
-    Run {
-        outcome: outcome.outcome(),
-        listener,
-        wall,
-    }
-}
-
-/// What the words of `serve` say.
-fn said_of<'a>(alloc: Global, words: &'a [String]) -> Result<ServeWords<'a>, WordsFault>
-    ensures ok { IfOk result (λ said. IsServe (words_texts words.now) (said_in said)) }
-    ensures ranges { IfOk result (λ said. IsInRange said.numbers) }
-    ensures refused { IfErr result (λ e. e ≡ words_fault.Refused → IsNoServe (words_texts words.now)) }
-{
-    if !is_for(words, CommandName::Serve) {
-        return Err(WordsFault::Refused);
-    }
-    read_serve(alloc, words)
-}
-
-/// Serves what the words say, if they are those of the command, and writes the export of the books, if they ask for
-/// it.
-fn run_by_words<
-    R: Threads + Wait + Sync,
-    F: Shelf,
-    L: Listener + Drop + Send,
-    T: Ticker + Drop + Send,
-    C: Clock + Drop + Send,
-    E: Sink,
->(
-    rt: &R,
-    alloc: Global,
-    words: &[String],
-    shelf: &mut F,
-    devices: Devices<L, T, C>,
-    export: &mut E,
-) -> Run<ServeOutcome, L>
-where
-    L::Input: Send,
-    L::Output: Send,
-    requires clocks { length devices.clocks.items ≡ clock_count }
-    requires fresh { (L.told devices.listener).handed ≡ 0 }
-    ensures never_falls { L.faults devices.listener ≤ L.faults result.listener }
-    ensures runs { Runs (words_texts words.now) (F.told shelf.old)
-        (left_by L.told L.faults L.becomes L.hands (map C.told devices.clocks.items) (Asks T.ticked devices.ticker)
-        devices.listener result.listener result.wall)
-        result.outcome }
-    ensures tells { Tells (words_texts words.now) result.wall
-        (record {
-          before = E.told export.old;
-          failed = E.faults export.old;
-          after = E.told export.new;
-          fails = E.faults export.new;
-        })
-        result.outcome }
-    ensures shelf { result.outcome ≡ outcome.Refused → shelf.new ≡ shelf.old }
-    ensures listener { result.outcome ≡ outcome.Refused → result.listener ≡ devices.listener }
-    ensures same { F.told shelf.new ≡ F.told shelf.old }
-    ensures cause { HasShelfCause result.outcome (F.faults shelf.old) (F.faults shelf.new)
-        (F.misses shelf.old) (F.misses shelf.new) }
-{
-    let said = match said_of(alloc, words) {
-        Ok(said) => said,
-        Err(WordsFault::NoMemory) => return without_books(ServeOutcome::NoMemory, devices.listener),
-        Err(WordsFault::Refused) => return without_books(ServeOutcome::Refused, devices.listener),
-    };
-    let run = listen_and_run(rt, alloc, &said, shelf, devices);
-    if !said.export {
-        return run;
-    }
-    let Run {
-        outcome,
-        listener,
-        wall,
-    } = run;
-    Run {
-        outcome: write_export(alloc, &wall, export, outcome),
-        listener,
-        wall,
-    }
-}
-
-/// Serves a catalogue to connections: by as many members as the words say, which take streams in turn from the listener
-/// behind a lock, each at a desk and a clock of its own, and by one further member that sweeps at each tick. The words
+/// Serves a catalogue to connections. As many members as the words say take streams in turn from the listener behind a
+/// lock, each at a desk and a clock of its own, and one further member sweeps at each tick. The words
 /// are those after the program's name: `serve`, the name of the catalogue's file, `--port`, and with `--workers`,
 /// `--connections` and `--sweep` how many members serve, how many connections are taken, and the seconds from one sweep
 /// to the next. With `--from` the books open with the bookings of the export of this name, and with `--export` the
@@ -227,8 +43,8 @@ where
 ///
 /// | status | where |
 /// |---|---|
-/// | 0 | as many connections as were asked for have been handed out and have ended, and the export is written, if it was asked for |
-/// | 1 | the catalogue is missing, larger than 33,554,432 bytes, or refused; or the export that the words name is, at 268,435,456 bytes |
+/// | 0 | as many connections as were asked for have ended, and the export is written, if it was asked for |
+/// | 1 | the catalogue is missing, larger than 33,554,432 bytes, or refused; or the export is, at 268,435,456 bytes |
 /// | 2 | the words are refused, before anything is read |
 /// | 3 | the shelf failed in this call, or the listener did, and has handed out fewer connections than were asked for |
 /// | 4 | all connections have ended, and the notes failed in the writing of the export |
@@ -334,15 +150,6 @@ where
         ticker,
         clocks,
     };
-    let Run {
-        outcome,
-        listener,
-        wall,
-    } = run_by_words(rt, alloc, words, shelf, devices, notes);
-    let status = end_command(notes, &command_end(outcome));
-    ServeEnd {
-        status,
-        listener,
-        wall,
-    }
+    let none: Option<Keeping<'_, MemoryJournal, NoBell>> = None;
+    serve_kept(rt, alloc, words, shelf, devices, none, notes)
 }

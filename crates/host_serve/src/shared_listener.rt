@@ -10,9 +10,9 @@ use rail_service::{Accepted, Listener, Waiting};
 use std::marker::Brand;
 use std::sync::ledger::{Book, Ledger, Share};
 
-/// What is named of a listener while it stands behind a lock: its count of faults when it was handed in, its port and
-/// its limit, what its streams and their sinks may tell, and what is shown once it hands out no more; and the ledger in
-/// which those who take its streams count them.
+/// What is named of a listener while it stands behind a lock: its count of faults when it was handed in, its port, its
+/// limit, what its streams may tell, and what is shown once it hands out no more. Those who take its streams count them
+/// in a ledger of this name.
 pub trait Named: Ledger {
     ghost faults: { ℕ };
 
@@ -55,9 +55,8 @@ pub struct Ended<L> {
     pub end: ListenerEnd,
 }
 
-/// A listener beside how it ended, to stand in a lock. Whoever has the lock knows what is named of it, and why it
-/// ended. The book has as its total how many streams were handed out: so many are counted in all shares of the ledger
-/// together.
+/// A listener and how it ended, to stand in a lock. Whoever has the lock knows what is named of it, and why it ended.
+/// The book's total is how many streams were handed out, and that many are counted in all shares together.
 #[derive(Drop)]
 pub struct SharedListener<L: Listener + Drop, N: Named> {
     listener: L,
@@ -77,7 +76,7 @@ pub struct SharedListener<L: Listener + Drop, N: Named> {
 }
 
 impl<L: Listener + Drop, N: Named> SharedListener<L, N> {
-    /// A listener with what is named, which hasn't ended, beside the ledger's book.
+    /// A listener with what is named, which hasn't ended, and the ledger's book.
     pub fn new(listener: L, book: Book<N>) -> Self
         requires counted { book.total ≡ (L.told listener).handed }
         requires port { (L.told listener).port ≡ N.port }

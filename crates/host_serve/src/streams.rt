@@ -6,10 +6,11 @@ ghost use Rattle.host_serve.specs.Turns.{LettingGo};
 use crate::letting::drop_stream;
 use crate::mark::{Mark, Over};
 use crate::shared_listener::{Named, SharedListener};
+use answer_gate::Gate;
 use rail_io::{Sink, Source};
 use rail_service::{Finished, Listener, Waiting};
 use std::sync::ledger::Share;
-use std::sync::{Mutex, OnceToken, Wait};
+use std::sync::{Mutex, OnceLock, OnceToken, Wait};
 
 /// Hands out streams one after the other, and none once it has ended; and takes each back whose connection has ended,
 /// to let it go.
@@ -58,12 +59,24 @@ pub struct Door<L: Listener + Drop, N: Named> {
     pub mark: Mark<N>,
 }
 
+impl<L: Listener + Drop, N: Named> Door<L, N> {
+    /// A door to a listener, whose mark isn't set.
+    pub fn to(shared: SharedListener<L, N>) -> Self {
+        Door {
+            shared: Mutex::new(shared),
+            mark: OnceLock::new(),
+        }
+    }
+}
+
 /// The streams of a listener behind a lock, which is held only while a stream is taken. Those that were taken here are
 /// counted in the share. Where there are no more, the mark was seen set.
 #[derive(Drop)]
 pub struct LockedStreams<'s, R, L: Listener + Drop, N: Named> {
     pub rt: &'s R,
     pub door: &'s Door<L, N>,
+    /// Is told once there are no more streams here, where there is one.
+    pub gate: Option<&'s Gate>,
     pub marked: Option<OnceToken<'s, Over<N>>>,
     pub share: Share<N>,
     ghost one_part: { share.parts ≡ 1 },
@@ -88,6 +101,7 @@ impl<R: Wait, L: Listener + Drop, N: Named> Streams for LockedStreams<'_, R, L, 
             self.marked = Some(match self.door.mark.try_insert(self.rt, Over::new()) {
                 Ok(token) | Err((token, _)) => token,
             });
+            part(self.gate, self.rt);
         }
         next
     }
@@ -97,5 +111,12 @@ impl<R: Wait, L: Listener + Drop, N: Named> Streams for LockedStreams<'_, R, L, 
         ensures handed { self.new.share.amount ≡ self.old.share.amount }
     {
         drop_stream(finished);
+    }
+}
+
+/// Tells the gate, where there is one, that no more commands come from here.
+pub fn part<R: Wait>(gate: Option<&Gate>, rt: &R) {
+    if let Some(gate) = gate {
+        gate.part(rt);
     }
 }

@@ -8,7 +8,7 @@ ghost use Rattle.host_serve.specs.Turns.{SweepsTurn};
 
 use claim_rule::{Books, Desk};
 use expiry_sweeper::sweep;
-use rail_io::{Clock, Ticker};
+use rail_io::{Clock, Reach, Ticker};
 use worker_pool::TurnEnd;
 
 /// Sweeps all rows at each tick, at its clock's moment, until the ticker ends.
@@ -41,7 +41,9 @@ impl<T: Ticker, C: Clock> Sweeper<T, C> {
             return TurnEnd::End;
         }
         let now = self.clock.now();
+        self.clock.begin(Reach::Changes);
         let _swept = sweep(books, desk, now);
+        let _cut = self.clock.end();
         self.ended = false;
         TurnEnd::Again
     }

@@ -1,22 +1,47 @@
 // A ticker that ends with the streams.
 use crate::shared_listener::Named;
-use crate::streams::Door;
+use crate::streams::{Door, part};
+use answer_gate::Gate;
 use rail_io::Ticker;
 use rail_service::Listener;
+use std::sync::Wait;
 
 /// Ticks as its ticker does, until that one ends, or no more streams are handed out here.
 #[derive(Drop)]
-pub struct Until<'s, T, L: Listener + Drop, N: Named> {
+pub struct Until<'d, 's, R, T, L: Listener + Drop, N: Named> {
     pub ticker: T,
-    pub door: &'s Door<L, N>,
+    pub door: &'d Door<L, N>,
+    /// Is told once it has ended, where there is one.
+    pub gate: Option<&'s Gate>,
+    pub rt: &'s R,
 }
 
-impl<T: Ticker, L: Listener + Drop, N: Named> Ticker for Until<'_, T, L, N> {
+impl<'d, 's, R, T, L: Listener + Drop, N: Named> Until<'d, 's, R, T, L, N> {
+    ghost use Rattle.std.specs.Prelude.{◌≡◌};
+
+    /// One that ends with this ticker or with these streams, and then tells the gate.
+    pub fn of(ticker: T, door: &'d Door<L, N>, gate: Option<&'s Gate>, rt: &'s R) -> Self
+        ensures { result.ticker ≡ ticker }
+    {
+        Until {
+            ticker,
+            door,
+            gate,
+            rt,
+        }
+    }
+}
+
+impl<R: Wait, T: Ticker, L: Listener + Drop, N: Named> Ticker for Until<'_, '_, R, T, L, N> {
     ghost use Rattle.host_serve.specs.Turns.{TicksUntil};
 
     ghost ticked = { λ t seconds answer u. TicksUntil T.ticked N.over t.ticker seconds answer u.ticker };
 
     fn next_tick(&mut self, seconds: u32) -> bool {
-        self.ticker.next_tick(seconds) && self.door.mark.get().is_none()
+        let ticks = self.ticker.next_tick(seconds) && self.door.mark.get().is_none();
+        if !ticks {
+            part(self.gate, self.rt);
+        }
+        ticks
     }
 }

@@ -32,13 +32,15 @@ const REQUEST: &str =
 const HEAD: &str =
     "HTTP/1.1 201 Created\r\nContent-Type: application/json\r\nContent-Length: 27\r\n\r\n";
 
-const SOLD: &str =
-    "HTTP/1.1 201 Created\r\nContent-Type: application/json\r\nContent-Length: 27\r\n\r\n{\"from\":0,\"place\":0,\"to\":2}";
+const SOLD: &str = "\
+HTTP/1.1 201 Created\r\nContent-Type: application/json\r\nContent-Length: 27\r\n\r\n\
+{\"from\":0,\"place\":0,\"to\":2}";
 
 const ASKS: &str = "GET /bookings/B000000 HTTP/1.1\r\nRetailer-Key: north\r\n\r\n";
 
-const UNKNOWN: &str =
-    "HTTP/1.1 404 Not Found\r\nContent-Type: application/problem+json\r\nContent-Length: 64\r\n\r\n{\"code\":\"UnknownBooking\",\"status\":404,\"title\":\"Unknown booking\"}";
+const UNKNOWN: &str = "\
+HTTP/1.1 404 Not Found\r\nContent-Type: application/problem+json\r\nContent-Length: 64\r\n\r\n\
+{\"code\":\"UnknownBooking\",\"status\":404,\"title\":\"Unknown booking\"}";
 
 const CATALOGUE: &str = r#"{"currency":"EUR",
  "retailers":[{"number":1,"key":"north"}],

@@ -8,6 +8,8 @@
 //!   note; a failing note changes nothing. Each happy path of `run_tiny` and `run_replay`.
 //! - `held`: bytes that an outbox holds back go out in order when they are sent, and not before unless it is full; what
 //!   a sink failed to take stays held.
+//! - `recoveries`: `run_recover` of a journal with a torn end, of each kind that is refused, and over devices that
+//!   fail.
 //! - `port`: a stream that is made ready sends without delay and has its time limits.
 #![tactic(auto)]
 
@@ -19,3 +21,5 @@ mod devices;
 mod held;
 #[cfg(test)]
 mod port;
+#[cfg(test)]
+mod recoveries;

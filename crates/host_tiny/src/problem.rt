@@ -24,5 +24,6 @@ pub fn problem_answer(problem: &Problem, last: bool) -> Answer
     Answer {
         head,
         body: Body::Small(body),
+        after: 0,
     }
 }

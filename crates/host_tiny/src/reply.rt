@@ -51,6 +51,7 @@ fn reserved_answer(place: u16, span: Span, last: bool) -> Answer
     Answer {
         head,
         body: Body::Small(body),
+        after: 0,
     }
 }
 

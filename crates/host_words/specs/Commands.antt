@@ -2,7 +2,8 @@
 use Rattle.std.specs.Prelude.{◌≡◌, List, Option, None, Some, codes, slice_get}
 use Rattle.clap.specs.Words.{Text}
 use Rattle.host_words.specs.declared.command.CommandName.{CommandName}
-use Rattle.host_words.specs.declared.command.CommandName.TheVariants.{Tiny, Replay, Export, Settle, Drill, Serve}
+use Rattle.host_words.specs.declared.command.CommandName.TheVariants.{Tiny, Replay, Export, Settle, Recover}
+use Rattle.host_words.specs.declared.command.CommandName.TheVariants.{Drill, Serve}
 
 -- the word that names a command
 abbrev pub name_of : CommandName → Text
@@ -10,6 +11,7 @@ name_of Tiny = codes "tiny"
 name_of Replay = codes "replay"
 name_of Export = codes "export"
 name_of Settle = codes "settle"
+name_of Recover = codes "recover"
 name_of Drill = codes "drill"
 name_of Serve = codes "serve"
 

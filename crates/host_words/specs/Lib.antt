@@ -7,3 +7,4 @@ pub mod Serve
 pub mod Drill
 pub mod Tiny
 pub mod Settle
+pub mod Recover

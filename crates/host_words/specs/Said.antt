@@ -19,6 +19,7 @@ said_in words =
     record {
       catalogue = words.catalogue.now;
       from = option_map (λ name. name.now) words.from;
+      journal = option_map (λ name. name.now) words.journal;
       numbers = words.numbers;
       export = words.export;
     }

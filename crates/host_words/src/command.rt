@@ -14,9 +14,11 @@ pub enum CommandName {
     Export,
     /// `settle CATALOGUE EXPORT`
     Settle,
+    /// `recover CATALOGUE JOURNAL`
+    Recover,
     /// `drill --seed N --workers N --size N --places N`
     Drill,
-    /// `serve CATALOGUE --port N --workers N --connections N --sweep N --from EXPORT --export`
+    /// `serve CATALOGUE --port N --workers N --connections N --sweep N --from EXPORT --journal JOURNAL --export`
     Serve,
 }
 
@@ -29,6 +31,7 @@ pub fn command_of(words: &[String]) -> Option<CommandName>
         "replay" => Some(CommandName::Replay),
         "export" => Some(CommandName::Export),
         "settle" => Some(CommandName::Settle),
+        "recover" => Some(CommandName::Recover),
         "drill" => Some(CommandName::Drill),
         "serve" => Some(CommandName::Serve),
         _ => None,

@@ -27,7 +27,7 @@ IsHead head =
     (blank : List LineEnd) × (lines : List (List ℕ)) × (last : LineEnd)
     × (0 < length lines) × AllByRecursion IsLine lines × (head ≡ print_lines blank lines ++ print_end last)
 
--- the same, of so many lines that aren't empty
+-- the same, of that many lines that aren't empty
 abbrev pub IsHeadOfLines : ℕ → List ℕ → Type 0
 IsHeadOfLines count head =
     (blank : List LineEnd) × (lines : List (List ℕ)) × (last : LineEnd)

@@ -63,7 +63,7 @@ end_behind filled Failed = filled
 abbrev pub EndsWithin : ℕ → Pulled → ℕ → Type 0
 EndsWithin filled answer room = end_behind filled answer < room
 
--- What a read does to the bytes held: those that it got stand behind them.
+-- What a read does to the bytes held: those that it got stand after them.
 abbrev pub Draws : Option (List ℕ) → Option (List ℕ) → List ℕ → List ℕ → Pulled → Type 0
 Draws before after held now (Got n) =
     (pulled : List ℕ) × (0 < length pulled) × (before ≡ with_front pulled after) × (now ≡ held ++ pulled)

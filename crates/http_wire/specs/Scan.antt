@@ -58,7 +58,7 @@ StandsFor scan bytes = StandsWith scan bytes scan.ended
 abbrev pub is_blank : HeadScan → Bool
 is_blank scan = scan.line_empty && not scan.begun && not scan.carriage
 
--- the search with so many bytes more, none of which tells lines apart
+-- the search with that many bytes more, none of which tells lines apart
 abbrev pub with_plain : HeadScan → ℕ → HeadScan
 with_plain scan zero = scan
 with_plain scan (suc n) = record scan { at = scan.at + suc n; line_empty = false; carriage = false }

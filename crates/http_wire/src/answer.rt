@@ -18,6 +18,8 @@ pub enum Body {
 pub struct Answer {
     pub head: ArrayVec<u8, 256>,
     pub body: Body,
+    /// The number of the cut of the bookings after which it may leave; 0: at once.
+    pub after: u64,
 }
 
 fn reason(status: u16) -> &'static [u8]

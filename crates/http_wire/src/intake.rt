@@ -97,7 +97,7 @@ fn key_piece(key: Option<Span>) -> Option<Piece>
 pub enum Stage {
     /// No end of its head was found.
     Head(HeadScan),
-    /// Its head has so many bytes, and says this.
+    /// Its head has that many bytes, and says this.
     Body(usize, ServedHead),
 }
 

@@ -133,7 +133,7 @@ impl HeadScan {
         }
     }
 
-    /// The search with so many bytes more, none of which tells lines apart.
+    /// The search with that many bytes more, none of which tells lines apart.
     fn with_plain(self, count: u32) -> HeadScan
         requires small { self.at + count < 2 ^ 32 }
         ensures { result ≡ with_plain_bytes self count }

@@ -10,3 +10,6 @@ pub mod Putting
 pub mod CutsRead
 pub mod Folding
 pub mod Given
+pub mod SumForm
+pub mod OneWay
+pub mod FoldedBack

@@ -3,3 +3,4 @@ pub mod Reads
 pub mod Folds
 pub mod Faults
 pub mod Rooms
+pub mod Laws

@@ -16,7 +16,8 @@ abbrev pub said_cut : Cut → SaidCut
 said_cut c = record { number = c.number; count = c.count; before = c.before.digits; body = c.body.now }
 
 -- what was read stood at the front; and what stands at the front is read
-pub record ReadsWhole {A : Type 0} (text : A → List ℕ) (Is : A → Type 0) (old new : List ℕ) (read : Option A) : Type 0 where
+pub record ReadsWhole {A : Type 0} (text : A → List ℕ) (Is : A → Type 0) (old new : List ℕ) (read : Option A)
+    : Type 0 where
   pub found : IfSome read (λ a. Is a × (old ≡ text a ++ new))
   pub only : (a : A) (rest : List ℕ) → Is a → old ≡ text a ++ rest → (read ≡ Some a) × (new ≡ rest)
 

@@ -1,7 +1,7 @@
 //! A reader of a journal's text, from its front.
-ghost use Rattle.std.specs.Prelude.{◌≡◌, ◌-◌, ◌++◌, ◌<◌, ◌≤◌, decimal, length, MatchOption, take};
+ghost use Rattle.std.specs.Prelude.{◌≡◌, ◌-◌, ◌++◌, ◌<◌, ◌≤◌, length, MatchOption, take};
 ghost use Rattle.cold_store.specs.Lines.{IsNumber, number_field};
-ghost use Rattle.cold_store.specs.Reads.{Eats, Reads, TakesDigit, number_with};
+ghost use Rattle.cold_store.specs.Reads.{Eats, Reads};
 ghost use Rattle.journal_text.specs.Reads.{IsSum, sum_field};
 
 use crate::sum::{SUM_DIGITS, Sum, are_hex};
@@ -17,47 +17,20 @@ impl<'a> Reader<'a> {
     pub(crate) fn eat(&mut self, bytes: &[u8]) -> bool
         ensures { Eats bytes.now self.old.rest.now self.new.rest.now result }
     {
-        let Some(rest) = self.rest.strip_prefix(bytes) else {
-            return false;
-        };
-        self.rest = rest;
-        true
-    }
-
-    /// The number at the front: digits, of which the first is 0 only where it is the one.
-    pub(crate) fn number(&mut self) -> Option<u64>
-        ensures { Reads decimal IsNumber self.old.rest.now self.new.rest.now result }
-    {
-        if self.eat(b"0") {
-            return Some(0);
-        }
-        let mut number = self.digit()?;
-        while let Some(digit) = self.digit() {
-            number = with_digit(number, digit)?;
-        }
-        Some(number)
-    }
-
-    // The value of the digit at the front, which then goes.
-    fn digit(&mut self) -> Option<u64>
-        ensures { TakesDigit self.old.rest.now self.new.rest.now result }
-    {
-        let (first, more) = self.rest.split_first()?;
-        if !first.is_ascii_digit() {
-            return None;
-        }
-        self.rest = more;
-        Some(u64::from(*first - b'0'))
+        let mut reader = cold_store::Reader { rest: self.rest };
+        let stood = reader.eat(bytes);
+        self.rest = reader.rest;
+        stood
     }
 
     /// The number that is the next field.
     pub(crate) fn field(&mut self) -> Option<u64>
         ensures { Reads number_field IsNumber self.old.rest.now self.new.rest.now result }
     {
-        if !self.eat(b" ") {
-            return None;
-        }
-        self.number()
+        let mut reader = cold_store::Reader { rest: self.rest };
+        let number = reader.field();
+        self.rest = reader.rest;
+        number
     }
 
     /// The sum that is the next field.
@@ -75,7 +48,7 @@ impl<'a> Reader<'a> {
         Some(Sum { digits: *digits })
     }
 
-    /// So many bytes from the front.
+    /// That many bytes from the front.
     pub(crate) fn bytes(&mut self, count: u64) -> Option<&'a [u8]>
         ensures { MatchOption result (length self.old.rest.now < count)
             (λ bytes. (self.old.rest.now ≡ bytes.now ++ self.new.rest.now) × (length bytes.now ≡ count)) }
@@ -87,13 +60,6 @@ impl<'a> Reader<'a> {
         self.rest = more;
         Some(bytes)
     }
-}
-
-// The number with one digit more, if it isn't too great.
-fn with_digit(number: u64, digit: u64) -> Option<u64>
-    ensures { result ≡ number_with number digit }
-{
-    number.checked_mul(10)?.checked_add(digit)
 }
 
 /// What of a text stands before what is left of it.

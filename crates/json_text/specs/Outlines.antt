@@ -48,7 +48,7 @@ abbrev pub behind_members : ℕ → List Token → Option (List Token)
 behind_members depth ts =
     option_map (λ p. p.1) (converted (λ ms. of_members ms no_members) (members (value depth) (length ts) ts))
 
--- What follows so many members, whatever their names, and however large their numbers. A closing brace passes for a
+-- What follows that many members, whatever their names, and however large their numbers. A closing brace passes for a
 -- name too: a value that stands after it counts as one more member. After the outermost object of a text that is JSON
 -- none stands, so there it has no more members than are written.
 unfoldable pub behind_so_many : ℕ → ℕ → List Token → Option (List Token)
@@ -92,7 +92,7 @@ pub record IsOutlineOf (name : List ℕ) (ts : List Token) (kept : Data) (place 
   pub there : IfSome place (λ i. is_some (option_and_then data_at (value_tokens i ts)) ≡ true)
 
 -- The text's value is `whole`. Where that is an object, `kept` is one in which each other name finds what it finds in
--- `whole`, and the name nothing; what the name finds in `whole` stands at the place, and there is no place where it
+-- `whole`, and the name nothing. What the name finds in `whole` stands at the place, and there is no place where it
 -- finds nothing. Where `whole` is no object there is no place, and `kept` is no object either; which value it is isn't
 -- said.
 pub record IsOutline (name : List ℕ) (text : List ℕ) (kept : Data) (place : Option ℕ) : Type 0 where

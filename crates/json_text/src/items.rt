@@ -24,7 +24,7 @@ impl<'a> Items<'a> {
     ///
     /// Only this item is looked at. Of a list that is no JSON further on, the items before the fault are handed out,
     /// and then comes an error and never `None`. What stands after the list isn't looked at. After `None` or an error
-    /// nothing is said of what a further call answers: it may be a value from behind the end, or from behind the fault.
+    /// nothing is said of what a further call answers: it may be a value from after the end, or from after the fault.
     pub fn next(&mut self, alloc: Global) -> Result<Option<Value<'a>>, ReadFault>
         ensures ok { IfOk result (λ v. MatchOption v (ahead self.old ≡ Some no_items)
             (λ v. ahead self.old ≡ option_map (item (view v)) (ahead self.new))) }

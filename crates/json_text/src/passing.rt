@@ -58,7 +58,7 @@ fn pass_members(reader: &mut Reader<'_>, depth: usize) -> Result<(), Invalid>
     Ok(())
 }
 
-/// Passes over so many members of an object, as they stand, without a look at their numbers.
+/// Passes over that many members of an object, as they stand, without a look at their numbers.
 pub(crate) fn pass_so_many(
     reader: &mut Reader<'_>,
     depth: usize,

@@ -35,8 +35,8 @@ pub record IsDecided (s : State) (span : Interval) (t : Try) : Type 0 where
   pub one : AllByRecursion (ShowsWord s t.place) t.parts
   pub ends : EndsBy (IsFreeAt s span t.place) t.outcome
 
--- one place wanted of so many, numbered from 0: the least that is free on the span is won, or none is free and none is
--- won
+-- one place wanted of that many, numbered from 0: the least that is free on the span is won, or none is free and none
+-- is won
 abbrev pub FindsFirst : State → Interval → ℕ → Added → List Item → Type 0
 FindsFirst s span places added.All won =
     (place : ℕ) × (won ≡ items_at span place) × (place < places) × IsFreeAt s span place

@@ -63,9 +63,9 @@ IsLeastEnded s row =
 abbrev pub with_started : State → RowNo → ℕ → State
 with_started s row desk = s ++ started row.row row.generation desk (words_of_row s row.row) ∷ []
 
--- Where a start found a row: the one that the desk makes, and nothing changes; or the least row that is not in use,
--- which is in use now; or, where all rows are in use, the least whose booking may be followed by another. Where it
--- found none: all rows are in use, no booking may be followed by another, and nothing changes.
+-- Where a start found a row, it is the one that the desk makes, and nothing changes; or the least row that is not in
+-- use, which is in use now. Or, where all rows are in use, it is the least whose booking may be followed by another.
+-- Where it found none: all rows are in use, no booking may be followed by another, and nothing changes.
 abbrev pub StartsLeast : DeskView → DeskView → Option RowNo → Type 0
 StartsLeast old new (Some row) =
     (MakesBooking old row × (state_seen new ≡ state_seen old))

@@ -2,7 +2,7 @@
 //! rests on no service, needs it as the plain host does.
 //!
 //! A desk that parted no other has all entries there are, so each call adds just the call's own. On such a desk a try
-//! of a candidate needs one look at each piece, which decides it, and nothing is contended; a hold starts on the least
+//! of a candidate needs one look at each piece, which decides it, and nothing is contended. A hold starts on the least
 //! row that is not in use, or, where all are, on the least whose booking may be followed by another. Services of one
 //! thread rest on this. The crate has laws alone: it does nothing when it runs.
 #![tactic(auto)]
@@ -25,11 +25,11 @@ ghost use Rattle.hold_core.specs.declared.adds.Added.{Added};
 ghost use Rattle.lone_desk.specs.Lone.{IsAlone, Follows, StartsLeast, entries_of};
 ghost use Rattle.lone_desk.specs.Decided.{IsDecided, IsFreeAt, HasClearWords, FindsFirst};
 
-/// The laws of a lone desk: a call's own steps are all that it then has seen more; each try of unlike places has one
+/// The laws of a lone desk. A call's own steps are all that it then has seen more. Each try of unlike places has one
 /// look at each piece that it comes to, and ends by what was free before it, so one place wanted of all is the least
-/// that is free; a hold starts on the row in the making, or on the least row not in use, or, where all are, on the
-/// least whose booking may be followed by another; and the words of a place are clear on the pieces of a span exactly
-/// where no item of the place that is not given back meets it.
+/// that is free. A hold starts on the row in the making, or on the least row not in use, or, where all are, on the
+/// least whose booking may be followed by another. The words of a place are clear on the pieces of a span exactly where
+/// no item of the place that is not given back meets it.
 pub fn lone_laws()
     ensures follows { (old new : DeskView) (steps : List Step) → IsAlone old → AddsSteps old new steps
         → Follows old new steps }

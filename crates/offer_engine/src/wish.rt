@@ -1,7 +1,7 @@
 use place_map::Class;
 use trip_builder::TripWish;
 
-/// Who wishes to travel, in which class, with which traits of each place, and from where to where.
+/// How many wish to travel, in which class, with which traits of each place, and from where to where.
 #[derive(Clone, Copy, PartialEq, Eq)]
 pub struct OfferWish {
     pub trip: TripWish,

@@ -22,7 +22,7 @@ pub enum Command {
         /// places had one with a leg that was taken or contended when it was looked at or tried.
         together: bool,
     },
-    /// A booking of one segment, without an offer, for so many adults.
+    /// A booking of one segment, without an offer, for that many adults.
     Reserve {
         segment: Segment,
         class: Class,

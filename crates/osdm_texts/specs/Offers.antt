@@ -12,7 +12,7 @@ use Rattle.osdm_texts.specs.Ids.{offer_id}
 use Rattle.osdm_texts.specs.Amounts.{count_tree, amount_tree}
 use Rattle.osdm_texts.specs.Spots.{run_stop, stop_code, train_of}
 
--- an offer or a quote is valid for so many seconds, and never past the last moment
+-- an offer or a quote is valid for that many seconds, and never past the last moment
 abbrev pub valid_until : ℕ → ℕ
 valid_until made = min (made + valid_seconds) last_second
 

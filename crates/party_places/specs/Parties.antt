@@ -16,7 +16,7 @@ use Rattle.party_places.specs.declared.party.PartyAdded.{PartyAdded}
 use Rattle.party_places.specs.declared.party.PartyAdded.TheVariants.{Together, Apart, NoPlace, Contended}
 use Rattle.party_places.specs.Searches.{Looked, LooksAtEach, Finds, FindsNone, places_looked}
 
--- what is asked for: so many of the candidates for the span, for a hold of this row that has so many items
+-- what is asked for: that many of the candidates for the span, for a hold of this row that has that many items
 pub record Party : Type 0 where
   pub places : List Place
   pub row : ℕ
@@ -47,7 +47,7 @@ TakesEach row k span (p ∷ rest) won es =
     × Adds row k span 1 (p ∷ []) added.All mine first × TakesEach row (k + length mine) span rest more others
     × (won ≡ mine ++ more) × (es ≡ first ++ others)
 
--- so many items from the number k on are given back, the last first
+-- that many items from the number k on are given back, the last first
 abbrev pub gives_down : ℕ → ℕ → ℕ → List Step
 gives_down row k zero = []
 gives_down row k (suc n) = Give row (k + n) ∷ gives_down row k n
@@ -69,7 +69,8 @@ pub record Loses (row k : ℕ) (span : Interval) (stretch : List ℕ) (won : Lis
 -- all of them are taken so for a hold, which has their items then
 abbrev pub Takes : HoldView → Interval → List PlaceNo → DeskView → DeskView → HoldView → Type 0
 Takes hold span stretch old new held =
-    (won : List Item) × AddsStepsBy (TakesEach hold.row.row (length hold.items) span (map place_number stretch) won) old new
+    (won : List Item)
+    × AddsStepsBy (TakesEach hold.row.row (length hold.items) span (map place_number stretch) won) old new
     × (held ≡ with_items hold won)
 
 -- the one that isn't won is the n-th
@@ -79,7 +80,8 @@ LosesAt row k span stretch n won es = (loses : Loses row k span stretch won es) 
 -- they are taken up to that one for a hold, which has the items won then
 abbrev pub LosesOne : HoldView → Interval → List PlaceNo → ℕ → DeskView → DeskView → HoldView → Type 0
 LosesOne hold span stretch n old new held =
-    (won : List Item) × AddsStepsBy (LosesAt hold.row.row (length hold.items) span (map place_number stretch) n won) old new
+    (won : List Item)
+    × AddsStepsBy (LosesAt hold.row.row (length hold.items) span (map place_number stretch) n won) old new
     × (held ≡ with_items hold won)
 
 -- and what was won is given back

@@ -23,7 +23,7 @@ LooksAtEach span (l ∷ rest) es =
     (mine : List Step) × (more : List Step) × LooksPieces l.place (pieces span) l.free mine × LooksAtEach span rest more
     × (es ≡ mine ++ more)
 
--- the last of them are a stretch of so many, and all showed free
+-- the last of them are a stretch of that many, and all showed free
 pub record EndsFree (places : List Place) (count : ℕ) (looked : List Looked) : Type 0 where
   pub front : List Looked
   pub stretch : List Looked

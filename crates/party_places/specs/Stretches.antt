@@ -18,7 +18,7 @@ AreSideBySide places [] = Unit {0}
 AreSideBySide places (p ∷ []) = Unit {0}
 AreSideBySide places (p ∷ q ∷ rest) = (is_beside places p q ≡ true) × AreSideBySide places (q ∷ rest)
 
--- so many neighbours in the list of candidates, side by side
+-- that many neighbours in the list of candidates, side by side
 pub record IsStretch (places : List Place) (count : ℕ) (candidates stretch : List ℕ) : Type 0 where
   pub front : List ℕ
   pub back : List ℕ

@@ -43,7 +43,7 @@ fn take_each(
     None
 }
 
-// Gives the hold's last items back, until so many are left.
+// Gives the hold's last items back, until that many are left.
 fn give_back(books: &Books, desk: &mut Desk, hold: &mut Hold, left: usize)
     requires own { IsOf books.now desk.old }
     requires hold { IsHolding desk.old hold.old }

@@ -20,7 +20,7 @@ abbrev pub with_numbers : Class → List PlaceNo → ByClass → ByClass
 with_numbers First more n = record { first = n.first ++ more; second = n.second }
 with_numbers Second more n = record { first = n.first; second = n.second ++ more }
 
--- so many numbers, from this one up
+-- that many numbers, from this one up
 abbrev pub numbers_up : ℕ → ℕ → List PlaceNo
 numbers_up from zero = []
 numbers_up from (suc n) = record { 0 = from } ∷ numbers_up (from + 1) n

@@ -44,7 +44,7 @@ impl ClassNumbers {
         }
     }
 
-    /// Adds so many numbers to a class, from this one up. Where memory runs out all is as before.
+    /// Adds that many numbers to a class, from this one up. Where memory runs out all is as before.
     pub(crate) fn add(&mut self, class: Class, from: usize, count: usize) -> Result<(), AllocError>
         requires { from + count ≤ 4_194_304 }
         ensures ok { OnOk result (self.new ≡ with_numbers class (numbers_up from count) self.old) }

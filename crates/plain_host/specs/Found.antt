@@ -10,7 +10,7 @@ use Rattle.party_places.specs.declared.party.PartyAdded.TheVariants as party
 use Rattle.party_places.specs.Parties.{Party}
 use Rattle.plain_host.specs.Plain.{is_free_stretch, neighbours, Plain, Choice, choice_for, keeping}
 
--- so many of the candidates are wanted: the first free ones are won, each with an item for each piece of the span, or
+-- that many of the candidates are wanted: the first free ones are won, each with an item for each piece of the span, or
 -- too few are free; nothing is contended
 abbrev pub FindsFree : (ℕ → Bool) → Interval → ℕ → List ℕ → Added → List Item → Type 0
 FindsFree free span count candidates added.All won =
@@ -33,7 +33,7 @@ SeatsFree g free (party.NoPlace n) won =
     (stretch_of g free ≡ None) × FindsFree free g.span g.count g.candidates (added.NoPlace n) won
 SeatsFree g free (party.Contended place) won = ⊥
 
--- the row started is the plain host's choice, and is kept beside what that leaves; or there is none to choose, and
+-- the row started is the plain host's choice, and is kept with what that leaves; or there is none to choose, and
 -- nothing changes
 abbrev pub ChoosesRow : ℕ → Plain → Option RowNo → Plain → Type 0
 ChoosesRow rows before (Some row) after =

@@ -64,12 +64,12 @@ are_beside places [] = true
 are_beside places (p ∷ []) = true
 are_beside places (p ∷ q ∷ rest) = is_beside places p q && are_beside places (q ∷ rest)
 
--- so many neighbours, side by side and all free
+-- that many neighbours, side by side and all free
 abbrev pub is_free_stretch : List Place → (ℕ → Bool) → ℕ → List ℕ → Bool
 is_free_stretch places free count stretch =
     length stretch == count && (are_beside places stretch && list_all free stretch)
 
--- the first so many of the candidates from each one on
+-- the first candidates from each one on, that many of them
 abbrev pub neighbours : ℕ → List ℕ → List (List ℕ)
 neighbours count [] = []
 neighbours count (p ∷ rest) = take count (p ∷ rest) ∷ neighbours count rest
@@ -87,7 +87,7 @@ seats cat bookings o together s =
     let apart = first_free cat bookings o s in
     if together then option_map_or (λ (stretch : List ℕ). stretch) (first_stretch cat bookings o s) apart else apart
 
--- what is had of the segment at these places, and the rest, where there are as many places as wanted
+-- what there is of the segment at these places, and the rest, where there are as many places as wanted
 abbrev pub with_places : ℕ → Interval → List ℕ → Option (List Item) → Option (List Item)
 with_places count span places rest =
     if length places == count then option_map (λ more. flat_map (items_at span) places ++ more) rest else None
@@ -111,11 +111,11 @@ least_unused rows bookings = find (λ row. not (uses_row bookings row)) (range_w
 abbrev pub gives_way : ℕ → Standing → Bool
 gives_way row b = b.row.row == row && (is_ended b.view.phase && nat_lt b.row.generation last_generation)
 
--- the first of so many rows whose booking gives way
+-- the first of that many rows whose booking gives way
 abbrev pub least_ended : ℕ → List Standing → Option ℕ
 least_ended rows bookings = find (λ row. list_any (gives_way row) bookings) (range_with_len 0 rows)
 
--- a row chosen for a new booking, and the bookings that are left beside it
+-- a row chosen for a new booking, and the bookings that are left besides it
 pub record Choice : Type 0 where
   pub row : RowNo
   pub left : List Standing

@@ -11,7 +11,7 @@ ghost use Rattle.service_rules.specs.Checks.{ordered};
 ghost use Rattle.plain_host.specs.Plainly.{AnswersPlainly};
 
 /// The laws of a lone desk's orders on a booking, of its quotes, refunds and sweeps, and of commands that are refused
-/// by their codes and ids: each is answered as by a host of one thread, and after each the desk still is such a desk.
+/// by their codes and ids. Each is answered as by a host of one thread, and after each the desk still is such a desk.
 ///
 /// The law of refunds is on the command: one by a quote that is unknown or too old orders none, and is refused for
 /// that.

@@ -5,10 +5,10 @@
 //! and leaves the list that the plain host leaves. The crate has definitions and laws alone: it does nothing when it
 //! runs.
 //!
-//! Lemmas by subject: `Standings`, `Changes`, `Shown`, `Staying`, `Decided`, `Commands`, `Sweeping`, `Sweeps` (a
-//! row's booking among all, and the commands on it); the files whose names begin with `Places`, `BookingMade` and
-//! `OwnWork` (tries, rows, items held and sealed); `Seeing`, `Trades`, `ExchangesMade`, `ExchangeLaws` (quotes,
-//! refunds, exchanges).
+//! Lemmas by subject: `Standings`, `Changes`, `Shown`, `Staying`, `Decided`, `Commands`, `Sweeping`, `Sweeps` (a row's
+//! booking among all, and the commands on it). The files whose names begin with `Places`, `BookingMade` and `OwnWork`
+//! are on tries, rows, and items held and sealed. Then there are `Seeing`, `Trades`, `ExchangesMade`, `ExchangeLaws`
+//! (quotes, refunds, exchanges).
 #![tactic(auto)]
 
 mod alone;

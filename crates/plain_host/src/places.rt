@@ -33,10 +33,10 @@ ghost use Rattle.plain_host.specs.PlainOf.{plain_of};
 ghost use Rattle.plain_host.specs.Found.{FindsFree, SeatsFree, ChoosesRow};
 ghost use Rattle.plain_host.specs.Plainly.{IsLone, AnswersPlainly};
 
-/// What a lone desk finds: of each place the plain list says whether it is free on the span, which is whether its words
-/// are clear on the pieces; of so many candidates wanted the first free ones are won, or too few are free, and nothing
-/// is contended; a party gets the first stretch that is free, and else the first free ones; and a hold starts on the
-/// plain host's row, and leaves what that one leaves.
+/// What a lone desk finds. Of each place the plain list says whether it is free on the span, which is whether its words
+/// are clear on the pieces. Where that many candidates are wanted, the first free ones are won, or too few are free,
+/// and nothing is contended. A party gets the first stretch that is free, and else the first free ones. A hold starts
+/// on the plain host's row, and leaves what that one leaves.
 pub fn places_are_found()
     ensures free { (cat : CatalogueView) (desk : DeskView) (span : Interval) (place : ℕ) → IsLone cat desk
         → IsTrue (is_free (plain_of desk).bookings span place) ↔ IsFreeAt (state_seen desk) span place }
@@ -76,8 +76,8 @@ pub fn places_are_plain()
         → AnswersPlainly cat retailer now (ordered cat now (AcceptExchange row code)) }
 {}
 
-/// The law of all commands: what a lone desk answers to a command that can be read, by what it orders or is refused
-/// for, is what a host of one thread answers at the list of the desk's bookings, and it leaves the list that the host
+/// The law of all commands. What a lone desk answers to a command that can be read, by what it orders or is refused
+/// for, is what a host of one thread answers at the list of the desk's bookings. It also leaves the list that the host
 /// of one thread leaves.
 pub fn commands_are_plain()
     ensures plain { (cat : CatalogueView) (retailer now : ℕ) (c : Command) → IsReadable cat c

@@ -24,7 +24,7 @@ abbrev pub unless_faulty : RefundTerms → Option TermsFault → Result RefundTe
 unless_faulty terms None = Ok terms
 unless_faulty terms (Some e) = Err (tariff e)
 
--- the terms of the whole, where a booking can be confirmed for so many seconds
+-- the terms of the whole, where a booking can be confirmed for that many seconds
 abbrev pub terms_of : ℕ → Data → Result RefundTerms Fault
 terms_of confirm d =
     need (codes "refundSteps") (list_in 0 64 (get (codes "refundSteps") d)) (λ items.

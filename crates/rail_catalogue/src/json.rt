@@ -73,7 +73,7 @@ pub fn list_of<'v, 'a>(value: Option<&'v Value<'a>>) -> Option<&'v [Value<'a>]>
     }
 }
 
-/// A list of so many items.
+/// A list of that many items.
 pub fn list_in<'v, 'a>(
     value: Option<&'v Value<'a>>,
     least: usize,

@@ -1,3 +1,4 @@
+mod Alone
 mod Naming
 mod Refusing
 mod Untold

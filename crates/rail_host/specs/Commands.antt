@@ -5,6 +5,7 @@ use Rattle.rail_io.specs.Told.{with_end}
 use Rattle.cold_store.specs.Exports.{text_on}
 use Rattle.claim_rule.specs.Walls.{WallView}
 use Rattle.host_words.specs.Commands.{IsNamed}
+use Rattle.host_words.specs.Recover.{IsNoRecover}
 use Rattle.host_words.specs.Serve.{ServeView}
 use Rattle.host_words.specs.Settle.{IsNoSettle}
 use Rattle.host_words.specs.Tiny.{IsNoTiny}
@@ -17,6 +18,7 @@ use Rattle.host_replay.specs.Export.{IsNoExport}
 use Rattle.host_drill.specs.Ends.{IsNoDrill, Leaves, end_of_drill}
 use Rattle.host_drill.specs.declared.drill.Cause.{Cause}
 use Rattle.host_serve.specs.Ends.{status_of_serve}
+use Rattle.host_serve.specs.Kept.{EndsKept, IsNoKeptServe, Scene}
 use Rattle.host_serve.specs.Serve.{HasShelfCause, IsExporting, IsNoServe, IsOfRefusedText, IsOnlyLimited, IsServe}
 use Rattle.host_serve.specs.Serve.{IsWithoutBooks, Left, Runs}
 use Rattle.host_serve.specs.Telling.{IsTold}
@@ -31,8 +33,10 @@ pub record IsNoCommand (words : List (List ℕ)) : Type 0 where
   pub replay : IsNoReplay words
   pub export : IsNoExport words
   pub settle : IsNoSettle words
+  pub recover : IsNoRecover words
   pub drill : IsNoDrill words
   pub serve : IsNoServe words
+  pub kept : IsNoKeptServe words
 
 -- `drill` left this output so, and this wall, which is that of the finished books that its line counts.
 pub record EndsDrill {F S K E : Type 0} (words : List (List ℕ)) (wall : Option WallView) (status : ℕ)
@@ -85,12 +89,41 @@ pub record EndsServe {F S K E : Type 0} (words : List (List ℕ)) (left : Left) 
   pub unread : d.input.new ≡ d.input.old
   pub unwritten : d.output.new ≡ d.output.old
 
--- How the command of this name ended. None but `serve` and `drill` leaves a wall.
-abbrev pub Ends : {F S K E : Type 0} → Option CommandName → List (List ℕ) → Left → ℕ → Devices F S K E → Type 0
-Ends (Some Drill) words left status d = EndsDrill words left.wall status d
-Ends (Some Serve) words left status d = EndsServe words left status d
-Ends name words left status d = EndsPlainly name words status d × (left.wall ≡ None)
+-- a run of `serve`, as what it left and its devices show it
+abbrev pub scene : {F S K E : Type 0} → List (List ℕ) → Left → Devices F S K E → Scene
+scene words left d =
+    record {
+      words = words;
+      files = files_of d.shelf;
+      failed = d.shelf.faults d.shelf.old;
+      fails = d.shelf.faults d.shelf.new;
+      missed = d.shelf.misses d.shelf.old;
+      misses = d.shelf.misses d.shelf.new;
+      left = left;
+      notes = noting d.notes;
+    }
+
+-- `serve` ran so with the journal that its words name, which had told this.
+pub record EndsKeeping {F S K E : Type 0} (words : List (List ℕ)) (left : Left) (journal : Option (List ℕ)) (status : ℕ)
+    (d : Devices F S K E) : Type 0 where
+  pub kept : EndsKept (scene words left d) journal status
+  pub never_falls : left.faults_before ≤ left.faults_after
+  pub same : d.shelf.told d.shelf.new ≡ d.shelf.told d.shelf.old
+  pub unread : d.input.new ≡ d.input.old
+  pub unwritten : d.output.new ≡ d.output.old
+
+-- `serve` ran so: without a journal, or with one.
+abbrev pub EndsServing : {F S K E : Type 0} → List (List ℕ) → Left → Option (List ℕ) → ℕ → Devices F S K E → Type 0
+EndsServing words left journal status d = EndsServe words left status d ⊎ EndsKeeping words left journal status d
+
+-- How the command of this name ended, where the journal had told this. None but `serve` and `drill` leaves a wall.
+abbrev pub Ends : {F S K E : Type 0} → Option CommandName → List (List ℕ) → Left → Option (List ℕ) → ℕ
+    → Devices F S K E → Type 0
+Ends (Some Drill) words left journal status d = EndsDrill words left.wall status d
+Ends (Some Serve) words left journal status d = EndsServing words left journal status d
+Ends name words left journal status d = EndsPlainly name words status d × (left.wall ≡ None)
 
 -- so by the words, of which the first names the command
-abbrev pub Ran : {F S K E : Type 0} → List (List ℕ) → Left → ℕ → Devices F S K E → Type 0
-Ran words left status d = (name : Option CommandName) × IsNamed name words × Ends name words left status d
+abbrev pub Ran : {F S K E : Type 0} → List (List ℕ) → Left → Option (List ℕ) → ℕ → Devices F S K E → Type 0
+Ran words left journal status d =
+    (name : Option CommandName) × IsNamed name words × Ends name words left journal status d

@@ -3,12 +3,15 @@ use Rattle.std.specs.Prelude.{◌≡◌, ◌⊎◌, ◌++◌, ℕ, List, Option,
 use Rattle.rail_io.specs.Faults.{Rose}
 use Rattle.session_loop.specs.declared.end.ConnEnd.{ConnEnd}
 use Rattle.host_words.specs.Commands.{IsNamed}
+use Rattle.host_words.specs.Recover.{IsNoRecover}
 use Rattle.host_words.specs.Replay.{ReplayView}
 use Rattle.host_words.specs.Settle.{IsNoSettle}
 use Rattle.host_words.specs.Tiny.{IsNoTiny}
 use Rattle.host_words.specs.declared.command.CommandName.{CommandName}
-use Rattle.host_words.specs.declared.command.CommandName.TheVariants.{Tiny, Replay, Export, Settle, Drill, Serve}
+use Rattle.host_words.specs.declared.command.CommandName.TheVariants.{Tiny, Replay, Export, Settle, Recover}
+use Rattle.host_words.specs.declared.command.CommandName.TheVariants.{Drill, Serve}
 use Rattle.host_catalogue.specs.Files.{Files}
+use Rattle.host_catalogue.specs.Journals.{HasNoRecovery}
 use Rattle.host_catalogue.specs.Opening.{HasNoBooks}
 use Rattle.host_notes.specs.Ends.{end_of, note_of, status_of}
 use Rattle.host_notes.specs.declared.ending.CommandEnd.TheVariants.{WordsRefused}
@@ -21,6 +24,9 @@ use Rattle.host_replay.specs.declared.end.ReplayEnd.{ReplayEnd}
 use Rattle.host_replay.specs.Settle.{HasNoneToSettle, IsOfRefusedFile, IsOfWords, IsTableFor, Settles}
 use Rattle.host_replay.specs.Settle.{HasSettleCause, end_of_settle, status_of_settle}
 use Rattle.host_replay.specs.declared.settle_end.SettleEnd.{SettleEnd}
+use Rattle.host_replay.specs.Recover.{HasEndCause, HasNoneToRecover, IsExportFrom, IsOfNames, IsOfRefusedSource}
+use Rattle.host_replay.specs.Recover.{Recovers, end_of_recover, status_of_recover}
+use Rattle.host_replay.specs.declared.recover_end.RecoverEnd.{RecoverEnd}
 use Rattle.rail_host.specs.Devices.{Devices, FailsAt, HasFailed, IsSteady, IsUntouched, OfShelf, Shelf, ShelfFailed}
 use Rattle.rail_host.specs.Devices.{Takes, Writes}
 use Rattle.rail_host.specs.Devices.{after, before, files_of, streams_of}
@@ -56,6 +62,12 @@ abbrev pub FetchesTable : {F : Type 0} → List (List ℕ) → ℕ → Shelf F �
 FetchesTable words status shelf =
     Fetches (HasNoneToSettle words) (IsOfRefusedFile words)
     (λ files. IsOfWords words (λ catalogue export. HasNoBooks files catalogue (Some export))) status shelf
+
+-- and of those that the words of `recover` name
+abbrev pub FetchesJournal : {F : Type 0} → List (List ℕ) → ℕ → Shelf F → Type 0
+FetchesJournal words status shelf =
+    Fetches (HasNoneToRecover words) (IsOfRefusedSource words)
+    (λ files. IsOfNames words (λ catalogue journal. HasNoRecovery files catalogue journal)) status shelf
 
 -- `tiny` ran so. Where the input and the output tell their bytes, those written are the host's answers to those to
 -- come.
@@ -135,12 +147,32 @@ pub record EndsSettle {F S K E : Type 0} (words : List (List ℕ)) (status : ℕ
   pub cause : OfShelf d.shelf (HasSettleCause end)
   pub shelf : FetchesTable words status d.shelf
 
+-- `recover` ran so. It reads no input, and the bytes written are the export of the words' journal: all of it at
+-- status 0, a front of it at 4, and nothing at every other status.
+pub record EndsRecover {F S K E : Type 0} (words : List (List ℕ)) (status : ℕ) (d : Devices F S K E) : Type 0 where
+  pub end : RecoverEnd
+  pub is : status ≡ status_of_recover end
+  pub note : Takes d.notes (note_of (end_of_recover end))
+  pub ran : Recovers words (files_of d.shelf) (before d.output) (after d.output) end
+  pub recovered : (start : List ℕ) → before d.output ≡ Some start → status ≡ 0
+      → (text : List ℕ) × (after d.output ≡ Some (start ++ text)) × IsExportFrom words (files_of d.shelf) text
+  pub write_fault : (start : List ℕ) → before d.output ≡ Some start → status ≡ 4
+      → (front back : List ℕ) × (after d.output ≡ Some (start ++ front))
+      × IsExportFrom words (files_of d.shelf) (front ++ back)
+  pub nothing_written : (status ≡ 0 → ⊥) → (status ≡ 4 → ⊥) → d.output.new ≡ d.output.old
+  pub unread : d.input.new ≡ d.input.old
+  pub read_cause : status ≡ 3 → ShelfFailed d.shelf
+  pub output : FailsAt 4 status d.output
+  pub cause : OfShelf d.shelf (HasEndCause end)
+  pub shelf : FetchesJournal words status d.shelf
+
 -- How the plain command of this name ended: its words are refused, or it ran. Words of no plain command are refused.
 abbrev pub EndsPlainly : {F S K E : Type 0} → Option CommandName → List (List ℕ) → ℕ → Devices F S K E → Type 0
 EndsPlainly (Some Tiny) words status d = (IsNoTiny words × EndsRefused status d) ⊎ EndsTiny words status d
 EndsPlainly (Some Replay) words status d = (IsNoReplay words × EndsRefused status d) ⊎ EndsReplay words status d
 EndsPlainly (Some Export) words status d = (IsNoExport words × EndsRefused status d) ⊎ EndsExport words status d
 EndsPlainly (Some Settle) words status d = (IsNoSettle words × EndsRefused status d) ⊎ EndsSettle words status d
+EndsPlainly (Some Recover) words status d = (IsNoRecover words × EndsRefused status d) ⊎ EndsRecover words status d
 EndsPlainly (Some Drill) words status d = EndsRefused status d
 EndsPlainly (Some Serve) words status d = EndsRefused status d
 EndsPlainly None words status d = EndsRefused status d

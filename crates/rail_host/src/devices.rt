@@ -1,4 +1,5 @@
 // What commands touch.
+use host_serve::Keeping;
 
 /// The devices of a command.
 #[derive(Drop)]
@@ -11,4 +12,15 @@ pub struct Devices<F, S, K, E> {
     pub output: K,
     /// What the notes go to, and the export of `serve`.
     pub notes: E,
+}
+
+/// What `serve` alone is given.
+#[derive(Drop)]
+pub struct ForServe<'g, L, T, J, B> {
+    /// Where connections come from.
+    pub listener: L,
+    /// When it is time to sweep.
+    pub ticker: T,
+    /// What keeps the bookings, where the words name a journal.
+    pub keeping: Keeping<'g, J, B>,
 }

@@ -11,10 +11,10 @@ ghost use Rattle.host_serve.specs.Turns.{Asks};
 ghost use Rattle.host_serve.specs.Serve.{left_by};
 ghost use Rattle.rail_host.specs.Commands.{Ran};
 
-use crate::devices::Devices;
+use crate::devices::{Devices, ForServe};
 use crate::program::run_command;
 use host_notes::{CommandEnd, end_command};
-use rail_io::{Shelf, Sink, Source, Ticker};
+use rail_io::{Bell, Journal, Shelf, Sink, Source, Ticker};
 use rail_service::Listener;
 use std::alloc::{AllocError, Global};
 use std::process::ExitCode;
@@ -25,6 +25,7 @@ use std::time;
 /// Runs the command of the words on these devices, and ends with its status; or, where there was no memory for the
 /// words, with status 5 and its note.
 pub fn run_host<
+    'g,
     R: Threads + Wait + Sync + time::Clock,
     F: Shelf,
     S: Source,
@@ -32,23 +33,26 @@ pub fn run_host<
     E: Sink,
     L: Listener + Drop + Send,
     T: Ticker + Drop + Send,
+    J: Journal + Drop + Send,
+    B: Bell + Drop + Send,
 >(
-    rt: &R,
+    rt: &'g R,
     alloc: Global,
     words: Result<Vec<String>, AllocError>,
     devices: &mut Devices<F, S, K, E>,
-    listener: L,
-    ticker: T,
+    given: ForServe<'g, L, T, J, B>,
 ) -> ExitCode
 where
     L::Input: Send,
     L::Output: Send,
-    requires fresh { (L.told listener).handed ≡ 0 }
+    requires fresh { (L.told given.listener).handed ≡ 0 }
 
     // The command of the words ran so on these devices, and the program's status is that of its end. What is left of
     // the listener and the wall goes with the program.
     ensures ran { IfOk words (λ said. (last : L) × (wall : Option WallView) × Ran (words_texts said.items)
-        (left_by L.told L.faults L.becomes L.hands (replicate clock_count None) (Asks T.ticked ticker) listener last wall)
+        (left_by L.told L.faults L.becomes L.hands (replicate clock_count None) (Asks T.ticked given.entry.ticker)
+        given.entry.listener last wall)
+        (J.told given.entry.keeping.journal)
         (exit_status result)
         (record {
           shelf = record {
@@ -72,7 +76,7 @@ where
 {
     match words {
         Ok(words) => {
-            let end = run_command(rt, alloc, &words, devices, listener, ticker);
+            let end = run_command(rt, alloc, &words, devices, given);
             ExitCode::from(end.status)
         }
         Err(_) => ExitCode::from(end_command(&mut devices.notes, &CommandEnd::NoMemory)),

@@ -3,14 +3,15 @@ ghost use Rattle.host_words.specs.Options.{words_texts};
 ghost use Rattle.rail_host.specs.Plain.{RanPlainly};
 
 use host_notes::{CommandEnd, end_command};
-use host_replay::{run_export, run_replay, run_settle};
+use host_replay::{run_export, run_recover, run_replay, run_settle};
 use host_tiny::run_tiny;
 use host_words::{CommandName, command_of};
 use rail_io::{Shelf, Sink, Source};
 use std::alloc::Global;
 
 /// Runs the plain command that the first word names, and answers its status: `tiny`, `replay` or `export` over one
-/// connection, or `settle`, which reads no input. Other words are refused. A failing note changes no status.
+/// connection, or `settle` or `recover`, which read no input. Other words are refused. A failing note changes no
+/// status.
 ///
 /// What each command does is one record of `specs/Plain`: its status and its note, the bytes that it wrote, which
 /// device failed, and what the shelf lacked.
@@ -40,6 +41,7 @@ pub fn run_plain<F: Shelf, S: Source, K: Sink, E: Sink>(
         Some(CommandName::Replay) => run_replay(alloc, words, shelf, input, output, notes),
         Some(CommandName::Export) => run_export(alloc, words, shelf, input, output, notes),
         Some(CommandName::Settle) => run_settle(alloc, words, shelf, output, notes),
+        Some(CommandName::Recover) => run_recover(alloc, words, shelf, output, notes),
         Some(CommandName::Drill | CommandName::Serve) | None => {
             end_command(notes, &CommandEnd::WordsRefused)
         }

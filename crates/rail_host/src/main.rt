@@ -14,9 +14,11 @@ mod host;
 mod program;
 mod serve;
 
-use devices::Devices;
+use answer_gate::{Gate, GateKeeper};
+use devices::{Devices, ForServe};
 use exit::run_host;
-use host_io::{SleepTicker, TcpPort};
+use host_io::{FileJournal, SleepTicker, TcpBell, TcpPort};
+use host_serve::Keeping;
 use rail_io::{FileShelf, ReaderSource, WriterSink};
 use std::alloc::{AllocError, Global};
 use std::env;
@@ -48,18 +50,21 @@ fn given_words(rt: &(impl Env + AllocGlobal)) -> Result<Vec<String>, AllocError>
 fn main(rt: HostRuntime) -> ExitCode {
     let alloc = rt.alloc();
     let words = given_words(&rt);
+    let gate = Gate::new();
     let mut devices = Devices {
         shelf: FileShelf::new(&rt),
         input: ReaderSource::new(rt.stdin()),
         output: WriterSink::new(rt.stdout()),
         notes: WriterSink::new(rt.stderr()),
     };
-    run_host(
-        &rt,
-        alloc,
-        words,
-        &mut devices,
-        TcpPort::new(&rt, alloc),
-        SleepTicker::new(&rt),
-    )
+    let given = ForServe {
+        listener: TcpPort::new(&rt, alloc, GateKeeper::new(&gate, &rt)),
+        ticker: SleepTicker::new(&rt),
+        keeping: Keeping {
+            gate: &gate,
+            journal: FileJournal::new(&rt, alloc),
+            bell: TcpBell::new(&rt),
+        },
+    };
+    run_host(&rt, alloc, words, &mut devices, given)
 }

@@ -7,13 +7,13 @@ ghost use Rattle.host_serve.specs.Turns.{Asks};
 ghost use Rattle.rail_host.specs.Commands.{IsNoCommand, Ran};
 ghost use Rattle.rail_host.specs.Plain.{RanPlainly};
 
-use crate::devices::Devices;
+use crate::devices::{Devices, ForServe};
 use crate::host::run_plain;
 use crate::serve::serve_port;
 use host_drill::{DrillEnd, run_drill};
 use host_serve::ServeEnd;
 use host_words::{CommandName, command_of};
-use rail_io::{Shelf, Sink, Source, Ticker};
+use rail_io::{Bell, Journal, Shelf, Sink, Source, Ticker};
 use rail_service::Listener;
 use std::alloc::Global;
 use std::sync::Wait;
@@ -60,6 +60,7 @@ fn plain_end<F: Shelf, S: Source, K: Sink, E: Sink, L>(
 /// the plain commands, to which all other words go. `serve` alone hears of the listener. It and `drill` alone have
 /// finished books to hand back.
 pub fn run_command<
+    'g,
     R: Threads + Wait + Sync + time::Clock,
     F: Shelf,
     S: Source,
@@ -67,24 +68,26 @@ pub fn run_command<
     E: Sink,
     L: Listener + Drop + Send,
     T: Ticker + Drop + Send,
+    J: Journal + Drop + Send,
+    B: Bell + Drop + Send,
 >(
-    rt: &R,
+    rt: &'g R,
     alloc: Global,
     words: &[String],
     devices: &mut Devices<F, S, K, E>,
-    listener: L,
-    ticker: T,
+    given: ForServe<'g, L, T, J, B>,
 ) -> ServeEnd<L>
 where
     L::Input: Send,
     L::Output: Send,
-    requires fresh { (L.told listener).handed ≡ 0 }
+    requires fresh { (L.told given.listener).handed ≡ 0 }
 
     // The command of the words ran so on these devices. One record for each says its status and note, what it read and
     // wrote, which device failed, and what it left as it was.
     ensures ran { Ran (words_texts words.now)
-        (left_by L.told L.faults L.becomes L.hands (replicate clock_count None) (Asks T.ticked ticker)
-        listener result.listener result.wall)
+        (left_by L.told L.faults L.becomes L.hands (replicate clock_count None) (Asks T.ticked given.entry.ticker)
+        given.entry.listener result.listener result.wall)
+        (J.told given.entry.keeping.journal)
         result.status
         (record {
           shelf = record {
@@ -104,12 +107,12 @@ where
     ensures refused_words { IsNoCommand (words_texts words.now) → (result.status ≡ 2) ⊎ (result.status ≡ 5) }
 
     // Only `serve` hears of the listener, and not where its words are refused.
-    ensures unheard { (IsForServe (words_texts words.now) → ⊥) → result.listener ≡ listener }
-    ensures nothing_heard { result.status ≡ 2 → result.listener ≡ listener }
+    ensures unheard { (IsForServe (words_texts words.now) → ⊥) → result.listener ≡ given.entry.listener }
+    ensures nothing_heard { result.status ≡ 2 → result.listener ≡ given.entry.listener }
 {
     match command_of(words) {
         Some(command) => match command {
-            CommandName::Serve => serve_port(rt, alloc, words, devices, listener, ticker),
+            CommandName::Serve => serve_port(rt, alloc, words, devices, given),
             CommandName::Drill => {
                 let DrillEnd { status, wall } = run_drill(
                     rt,
@@ -120,12 +123,12 @@ where
                 );
                 ServeEnd {
                     status,
-                    listener,
+                    listener: given.listener,
                     wall,
                 }
             }
-            _ => plain_end(alloc, words, devices, listener),
+            _ => plain_end(alloc, words, devices, given.listener),
         },
-        None => plain_end(alloc, words, devices, listener),
+        None => plain_end(alloc, words, devices, given.listener),
     }
 }

@@ -4,12 +4,13 @@ ghost use Rattle.host_words.specs.Limits.{clock_count};
 ghost use Rattle.host_words.specs.Options.{words_texts};
 ghost use Rattle.host_serve.specs.Serve.{left_by};
 ghost use Rattle.host_serve.specs.Turns.{Asks};
-ghost use Rattle.rail_host.specs.Commands.{EndsServe};
+ghost use Rattle.host_serve.specs.Kept.{IsNotSaid};
+ghost use Rattle.rail_host.specs.Commands.{EndsServing};
 
-use crate::devices::Devices;
+use crate::devices::{Devices, ForServe};
 use host_notes::{CommandEnd, end_command};
-use host_serve::{CLOCKS, ServeEnd, run_serve};
-use rail_io::{Shelf, Sink, Source, SystemClock, Ticker};
+use host_serve::{CLOCKS, Devices as ServeDevices, ServeEnd, serve_kept};
+use rail_io::{Bell, Journal, Shelf, Sink, Source, SystemClock, Ticker};
 use rail_service::Listener;
 use std::alloc::{AllocError, Global};
 use std::sync::Wait;
@@ -36,6 +37,7 @@ fn system_clocks<C: time::Clock + Copy + Drop>(
 /// The program's listener stands before a port of this machine, and its streams tell no content: that a connection's
 /// bytes came from a client, and reached one, is said by no clause.
 pub fn serve_port<
+    'g,
     R: Threads + Wait + Sync + time::Clock,
     F: Shelf,
     S: Source,
@@ -43,24 +45,26 @@ pub fn serve_port<
     E: Sink,
     L: Listener + Drop + Send,
     T: Ticker + Drop + Send,
+    J: Journal + Drop + Send,
+    B: Bell + Drop + Send,
 >(
-    rt: &R,
+    rt: &'g R,
     alloc: Global,
     words: &[String],
     devices: &mut Devices<F, S, K, E>,
-    listener: L,
-    ticker: T,
+    given: ForServe<'g, L, T, J, B>,
 ) -> ServeEnd<L>
 where
     L::Input: Send,
     L::Output: Send,
-    requires fresh { (L.told listener).handed ≡ 0 }
+    requires fresh { (L.told given.listener).handed ≡ 0 }
 
-    // The command ran so over this listener, by this ticker and clocks that tell nothing. Where its words are refused,
-    // the listener isn't called.
-    ensures ended { EndsServe (words_texts words.now)
-        (left_by L.told L.faults L.becomes L.hands (replicate clock_count None) (Asks T.ticked ticker)
-        listener result.listener result.wall)
+    // The command ran so over this listener, by this ticker and clocks that tell nothing, and with this journal where
+    // its words name one. Where they are refused, the listener isn't called.
+    ensures ended { EndsServing (words_texts words.now)
+        (left_by L.told L.faults L.becomes L.hands (replicate clock_count None) (Asks T.ticked given.entry.ticker)
+        given.entry.listener result.listener result.wall)
+        (J.told given.entry.keeping.journal)
         result.status
         (record {
           shelf = record {
@@ -74,23 +78,28 @@ where
           output = record { told = K.told; faults = K.faults; old = devices.old.output; new = devices.new.output };
           notes = record { told = E.told; faults = E.faults; old = devices.old.notes; new = devices.new.notes };
         }) }
-    ensures nothing_heard { result.status ≡ 2 → result.listener ≡ listener }
+    ensures refused { result.status ≡ 2 → IsNotSaid (words_texts words.now) }
+    ensures nothing_heard { result.status ≡ 2 → result.listener ≡ given.entry.listener }
 {
     let Ok(clocks) = system_clocks(rt, alloc) else {
         return ServeEnd {
             status: end_command(&mut devices.notes, &CommandEnd::NoMemory),
-            listener,
+            listener: given.listener,
             wall: None,
         };
     };
-    run_serve(
+    let of_serve = ServeDevices {
+        listener: given.listener,
+        ticker: given.ticker,
+        clocks,
+    };
+    serve_kept(
         rt,
         alloc,
         words,
         &mut devices.shelf,
-        listener,
-        ticker,
-        clocks,
+        of_serve,
+        Some(given.keeping),
         &mut devices.notes,
     )
 }

@@ -12,13 +12,13 @@ use Rattle.rail_io.specs.declared.sink.Pushed.TheVariants as pushed
 use Rattle.rail_io.specs.declared.shelf.Fetched.{Fetched}
 use Rattle.rail_io.specs.declared.shelf.Fetched.TheVariants as fetched
 
--- a read of so many bytes
+-- a read of that many bytes
 abbrev pub pulled_by : Result ℕ Error → Pulled
 pulled_by (Ok zero) = pulled.End
 pulled_by (Ok (suc n)) = pulled.Got (suc n)
 pulled_by (Err e) = pulled.Failed
 
--- a write of so many bytes
+-- a write of that many bytes
 abbrev pub pushed_by : Result ℕ Error → Pushed
 pushed_by (Ok zero) = pushed.Failed
 pushed_by (Ok (suc n)) = pushed.Took (suc n)

@@ -3,7 +3,7 @@ use Rattle.std.specs.Prelude.{◌≡◌, ◌≤◌, ◌<◌, ℕ, List, length, 
 use Rattle.rail_io.specs.declared.shelf.Fetched.{Fetched}
 use Rattle.rail_io.specs.declared.shelf.Fetched.TheVariants.{Got, Missing, TooLarge, Failed, NoMemory}
 
--- What a fetch of the name answers, where there is room for so many bytes.
+-- What a fetch of the name answers, where there is room for that many bytes.
 abbrev pub Fetches : (List ℕ → Option (List ℕ)) → List ℕ → ℕ → Fetched → Type 0
 Fetches files name room (Got content) = (files name ≡ Some content.items) × (length content.items ≤ room)
 Fetches files name room Missing = files name ≡ None

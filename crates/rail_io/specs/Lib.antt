@@ -4,3 +4,4 @@ pub mod Files
 pub mod Told
 pub mod Memory
 pub mod Answers
+pub mod Journals

@@ -5,13 +5,14 @@ use Rattle.rail_io.specs.declared.sink.PushedBoth.{PushedBoth}
 use Rattle.rail_io.specs.declared.sink.PushedBoth.TheVariants.{Took, Failed}
 use Rattle.rail_io.specs.declared.memory_source.BytesSource.{BytesSource}
 use Rattle.rail_io.specs.declared.memory_sink.VecSink.{VecSink}
+use Rattle.rail_io.specs.declared.memory_journal.MemoryJournal.{MemoryJournal}
 use Rattle.rail_io.specs.declared.memory_shelf.MapShelf.{MapShelf}
 use Rattle.rail_io.specs.declared.file_shelf.FileShelf.{FileShelf}
 use Rattle.rail_io.specs.declared.standard.ReaderSource.{ReaderSource}
 use Rattle.rail_io.specs.declared.standard.WriterSink.{WriterSink}
 use Rattle.rail_io.specs.declared.system_clock.SystemClock.{SystemClock}
 
--- the number of the call after so many, of a count that stands still at its last value
+-- the number of the call after that many, of a count that stands still at its last value
 abbrev pub call_after : ℕ → ℕ
 call_after calls = min (calls + 1) (2 ^ 64 - 1)
 
@@ -49,8 +50,8 @@ sink_calls s = s.calls
 abbrev pub sink_fails : VecSink → List ℕ
 sink_fails s = s.fails.items
 
--- What a write of two pieces came to, whose sink writes the first by its next call, and the second, if it has bytes, by
--- the call after that, unless the first failed: by which calls, and which of them failed. A listed call fails.
+-- What a write of two pieces came to: by which calls, and which of them failed. The sink writes the first piece by its
+-- next call. Unless that failed, it writes the second, if it has bytes, by the call after that. A listed call fails.
 abbrev pub WritesInTurn : List ℕ → ℕ → ℕ → List ℕ → List ℕ → PushedBoth → Type 0
 WritesInTurn fails old new first [] (Took n) =
     (new ≡ call_after old) × (Contains fails (call_after old) → ⊥) × (n ≡ length first)
@@ -81,6 +82,21 @@ shelf_calls s = s.calls
 -- the numbers of the fetches that fail
 abbrev pub shelf_fails : MapShelf → List ℕ
 shelf_fails s = s.fails.items
+
+-- all bytes that the journal keeps
+abbrev pub journal_kept : MemoryJournal → List ℕ
+journal_kept j = j.bytes.items
+
+abbrev pub journal_faults : MemoryJournal → ℕ
+journal_faults j = j.faults
+
+-- the calls made
+abbrev pub journal_calls : MemoryJournal → ℕ
+journal_calls j = j.calls
+
+-- the numbers of the calls that fail
+abbrev pub journal_fails : MemoryJournal → List ℕ
+journal_fails j = j.fails.items
 
 abbrev pub reader_faults : {R : Type 0} → ReaderSource R → ℕ
 reader_faults s = s.faults

@@ -6,7 +6,7 @@ use crate::{Fetched, Pulled, Pushed};
 use std::io;
 use std::io::ErrorKind;
 
-/// What a read means: so many bytes came, or, where it read none, none are to come.
+/// What a read means: that many bytes came, or, where it read none, no byte is to come.
 pub(crate) fn pulled_of(answer: io::Result<usize>) -> Pulled
     ensures { result ≡ pulled_by answer }
 {
@@ -17,7 +17,7 @@ pub(crate) fn pulled_of(answer: io::Result<usize>) -> Pulled
     }
 }
 
-/// What a write means: so many bytes were taken. One that takes none counts as failed.
+/// What a write means: that many bytes were taken. One that takes none counts as failed.
 pub fn pushed_of(answer: io::Result<usize>) -> Pushed
     ensures { result ≡ pushed_by answer }
 {

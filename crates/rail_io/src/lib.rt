@@ -1,13 +1,16 @@
 //! The outside of the program as traits: where bytes come from, where they go, files by name, moments, and ticks.
 //!
-//! Each trait says what an object holds, where the object tells it, and counts its failures. A call
-//! answers `Failed` only where that count rose in it. The program above speaks of the outside by
-//! these traits alone, so that what it promises holds over a socket as over memory.
+//! Each trait says what an object holds, where the object tells it, and counts its failures. A call answers `Failed`
+//! only where that count rose in it. The program above speaks of the outside by these traits alone, so that what it
+//! promises holds over a socket as over memory.
 //!
-//! `BytesSource`, `VecSink` and `MapShelf` hold their bytes in memory and tell them; each has a list
-//! of the calls that are to fail. `ScriptClock` and `ListClock` tell their readings, and `CountTicker` ticks
-//! so many times. `ReaderSource` and
-//! `WriterSink` stand before a reader and a writer of std, as standard input and output, `FileShelf`
+//! A journal has its places here: a clock is told when a command begins and when it has its answer, and a sink after
+//! which cut of the bookings its bytes may leave. A `Keeper` says when a cut is kept. Where no journal is kept, none of
+//! them does anything.
+//!
+//! `BytesSource`, `VecSink` and `MapShelf` hold their bytes in memory and tell them; each has a list of the calls that
+//! are to fail. `ScriptClock` and `ListClock` tell their readings, and `CountTicker` ticks a given number of times.
+//! `ReaderSource` and `WriterSink` stand before a reader and a writer of std, as standard input and output, `FileShelf`
 //! before the system's files and `SystemClock` before its clock; they tell nothing.
 //!
 //! `write_both` writes two pieces, one after the other, without joining them; a sink that has no better way makes two
@@ -16,9 +19,13 @@
 #![tactic(auto)]
 
 mod answers;
+mod bell;
 mod clock;
 mod file_shelf;
+mod journal;
+mod keeper;
 mod memory_clock;
+mod memory_journal;
 mod memory_shelf;
 mod memory_sink;
 mod memory_source;
@@ -30,9 +37,13 @@ mod system_clock;
 mod ticker;
 
 pub use answers::pushed_of;
-pub use clock::Clock;
+pub use bell::{Bell, NoBell};
+pub use clock::{Clock, Reach};
 pub use file_shelf::FileShelf;
+pub use journal::{Journal, JournalOpened};
+pub use keeper::Keeper;
 pub use memory_clock::{ListClock, ScriptClock};
+pub use memory_journal::MemoryJournal;
 pub use memory_shelf::MapShelf;
 pub use memory_sink::VecSink;
 pub use memory_source::BytesSource;

@@ -92,4 +92,8 @@ impl Sink for VecSink {
             Pushed::Failed => PushedBoth::Failed(count),
         }
     }
+
+    fn hold_until(&mut self, cut: u64) {
+        let _ = cut;
+    }
 }

@@ -31,6 +31,11 @@ pub trait Sink {
     /// call that doesn't fail.
     ghost faults: { Self → ℕ };
 
+    /// That it was told once that what is written from then on may leave only once the cut of a number is kept: the
+    /// sink before it, the number, and the sink after it. Whoever knows nothing of a sink but this trait can show that
+    /// of it only by telling it. A sink that knows no journal stays as it was.
+    ghost held: { Self → ℕ → Self → Type 0 } = { λ before _ after. after ≡ before };
+
     /// Takes some of the bytes at the front of `piece`, which isn't empty.
     fn write(&mut self, piece: &[u8]) -> Pushed
         requires { 0 < length piece.now }
@@ -59,4 +64,11 @@ pub trait Sink {
             Pushed::Failed => PushedBoth::Failed(count),
         }
     }
+
+    /// What is written from now on may leave only once the cut of this number is kept. A sink that knows no journal
+    /// doesn't hear it.
+    fn hold_until(&mut self, cut: u64)
+        ensures held { held self.old cut self.new }
+        ensures same { told self.new ≡ told self.old }
+        ensures faults { faults self.new ≡ faults self.old };
 }

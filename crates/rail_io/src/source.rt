@@ -25,7 +25,7 @@ pub trait Source {
     ghost faults: { Self → ℕ };
 
     /// Reads some of the bytes to the front of `room`, which isn't empty. `End` comes, of a source
-    /// that tells its bytes, exactly where none are to come and the read doesn't fail.
+    /// that tells its bytes, exactly where no byte is to come and the read doesn't fail.
     fn read(&mut self, room: &mut [u8]) -> Pulled
         requires { 0 < length room.old }
         ensures pulls { Pulls (told self.old) (told self.new) room.new result }

@@ -131,4 +131,8 @@ impl<W: Write> Sink for WriterSink<W> {
             Pushed::Failed => PushedBoth::Failed(count),
         }
     }
+
+    fn hold_until(&mut self, cut: u64) {
+        let _ = cut;
+    }
 }

@@ -3,17 +3,17 @@ ghost use Rattle.std.specs.Prelude.{◌≡◌, ℕ, Bool};
 
 /// Ticks, and ends at some time.
 pub trait Ticker {
-    /// That it was asked once for a tick, after so many seconds, and answered so: the ticker before it, the seconds,
+    /// That it was asked once for a tick, after that many seconds, and answered so: the ticker before it, the seconds,
     /// whether it ticked, and the ticker after it. Whoever knows nothing of a ticker but this trait can show that of it
     /// only by asking it, and only of the answer that it gave.
     ghost ticked: { Self → ℕ → Bool → Self → Type 0 };
 
-    /// True at the next tick, for which it may wait about so many seconds. False ends the sweeping.
+    /// True at the next tick, for which it may wait about that many seconds. False ends the sweeping.
     fn next_tick(&mut self, seconds: u32) -> bool
         ensures ticked { ticked self.old seconds result self.new };
 }
 
-/// Ticks so many times, at once.
+/// Ticks as often as it is told to, at once.
 #[derive(Drop)]
 pub struct CountTicker {
     /// How many ticks are left.

@@ -6,6 +6,7 @@ pub mod Connecting
 pub mod Alone
 pub mod Carried
 pub mod Going
+pub mod Looking
 pub mod Sparing
 pub mod Walking
 pub mod Pathways

@@ -1,5 +1,5 @@
 -- What paths name, and the parts between their slashes.
-use Rattle.std.proofs.Common.{◌≡◌, ℕ, zero, suc, ◌+◌, ◌-◌, ◌<◌, Bool, true, false, List, map, length, drop, get_or, Option, None, refl, sym, ap, ◌∙◌, arith}
+use Rattle.std.proofs.Common.{◌≡◌, ℕ, ◌+◌, ◌<◌, Bool, true, false, List, map, length, drop, get_or, Option, None, refl, sym, ap, ◌∙◌}
 use Rattle.std.proofs.lemmas.List.{drop_more}
 use Rattle.std.proofs.lemmas.Str.{is_utf8-from_IsUtf8, IsUtf8-from_is_utf8}
 use Rattle.std.specs.Prelude.{fold, option_map, if◌then◌else◌}
@@ -7,7 +7,7 @@ use Rattle.std.specs.Str.{IsUtf8, is_utf8}
 use Rattle.matchit.specs.Seek.{first}
 use Rattle.matchit.specs.Router.{RouteOf}
 use Rattle.rail_service.specs.declared.resource.Resource.{Resource}
-use Rattle.rail_service.specs.Paths.{all_rows, resource_at, after_slash, part}
+use Rattle.rail_service.specs.Paths.{all_rows, resource_at}
 
 -- one item more of a fold over the items left
 pub fold_on : {A B R : Type 0} (put : R → B → R) (view : A → B) (items : List A) (i : ℕ) (d : A) (r next all : R)

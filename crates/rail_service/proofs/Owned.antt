@@ -1,5 +1,5 @@
 -- Every answer is a list of the desk's own steps.
-use Rattle.std.proofs.Common.{◌≡◌, ℕ, Bool, false, List, [], ◌++◌, Option, Ok, Err, sym, subst, inl, inr}
+use Rattle.std.proofs.Common.{◌≡◌, ℕ, Bool, false, List, [], ◌++◌, Ok, Err, sym, subst, inl, inr}
 use Rattle.std.specs.Prelude.{Result}
 use Rattle.leg_masks.specs.Interval.{PlacedSpan as Item}
 use Rattle.offer_codes.specs.declared.code.Segment.{Segment}
@@ -15,14 +15,11 @@ use Rattle.claim_rule.specs.Rule.{DeskView}
 use Rattle.claim_rule.specs.Desks.{AddsSteps}
 use Rattle.claim_rule.specs.Calls.{Calls, AddsStepsBy}
 use Rattle.claim_rule.proofs.Shapes.{shape_then, shape_none}
-use Rattle.rail_ids.specs.declared.RetailerNo.{RetailerNo}
 use Rattle.rail_ids.specs.declared.RowNo.{RowNo}
 use Rattle.rail_catalogue.specs.Contents.{CatalogueView}
-use Rattle.http_wire.specs.Requests.{RequestText}
 use Rattle.booking_rows.specs.Views.{RowSeen}
 use Rattle.osdm_texts.specs.declared.problem.Problem.{Problem}
 use Rattle.osdm_texts.specs.Answers.{Reply}
-use Rattle.osdm_json.specs.declared.command.Command.{Command}
 use Rattle.booking_service.specs.Deciding.{Replying, OnBooking, shows, ConfirmsFound, FulfilsFound, ReleasesFound}
 use Rattle.reservation_service.specs.declared.holding.Placing.{Placing}
 use Rattle.reservation_service.specs.Holding.{HoldsPlaces}
@@ -30,10 +27,8 @@ use Rattle.reservation_service.specs.Reserving.{reserved, FailsToHold, Reserves}
 use Rattle.reservation_service.proofs.Adding.{places_only}
 use Rattle.search_service.specs.Searching.{SearchesOffers, ListsPlaces}
 use Rattle.service_rules.specs.Ordered as order
-use Rattle.service_rules.specs.Checks.{ordered}
 use Rattle.service_rules.specs.Performing.{Performs}
 use Rattle.service_rules.specs.Answering.{AnswersBy}
-use Rattle.rail_service.specs.Serving.{AnswersAsked, AnswersRequest}
 
 -- one list of the desk's own steps, and nothing else of it
 abbrev pub Own : DeskView → DeskView → Type 0

@@ -1,9 +1,7 @@
 -- A request that there was no memory for changes no booking's fate.
 use Rattle.std.proofs.Common.{◌≡◌, ◌∙◌, ℕ, suc, zero, Bool, true, false, List, [], ◌∷◌, ◌++◌, length, Option, Some, None, Ok, Err, refl, sym, ap, subst, inl, inr}
 use Rattle.std.specs.Prelude.{Result}
-use Rattle.leg_masks.specs.Interval.{Interval, pieces}
 use Rattle.leg_masks.specs.Interval.{PlacedSpan as Item}
-use Rattle.rail_ids.specs.declared.PlaceNo.{PlaceNo}
 use Rattle.rail_ids.specs.declared.RetailerNo.{RetailerNo}
 use Rattle.history_model.specs.declared.entry.Step.{Step}
 use Rattle.history_model.specs.declared.entry.Step.TheVariants.{Look, Take, Give, Start, SawRow, Note, Seal, Turn, LostTurn, Close, Met}
@@ -31,13 +29,10 @@ use Rattle.exchange_core.specs.Ready.{ReadyView}
 use Rattle.exchange_core.specs.declared.quoting.QuotedExchange.TheVariants as quoted_exchange
 use Rattle.exchange_core.specs.declared.readying.Readied.TheVariants as readied
 use Rattle.offer_codes.specs.declared.code.Segment.{Segment}
-use Rattle.offer_codes.specs.declared.code.Offer.{Offer}
 use Rattle.offer_codes.specs.declared.code.RefundCode.{RefundCode}
 use Rattle.offer_codes.specs.Offers.{OfferView, offer_view}
 use Rattle.offer_codes.specs.Exchanges.{ExchangeView, exchange_view}
 use Rattle.offer_engine.specs.declared.wish.OfferWish.{OfferWish}
-use Rattle.offer_engine.specs.Offers.{CountsSegments, OffersFor}
-use Rattle.availability.specs.Looks.{LooksPieces, LooksAt}
 use Rattle.http_wire.specs.Requests.{RequestText}
 use Rattle.rail_catalogue.specs.Contents.{CatalogueView}
 use Rattle.osdm_texts.specs.declared.problem.Problem.{Problem}
@@ -62,6 +57,7 @@ use Rattle.service_rules.specs.Performing.{Performs}
 use Rattle.service_rules.specs.Answering.{AnswersBy}
 use Rattle.rail_service.specs.Serving.{AnswersAsked, AnswersRequest}
 use Rattle.rail_service.specs.Sparing.{decides, MakesFor}
+use Rattle.rail_service.proofs.Looking.{searches_look, lists_look}
 use Rattle.rail_service.proofs.Owned.{Own, own_same, decides_own}
 
 -- steps that decide nothing
@@ -95,6 +91,9 @@ look (Turn row from to moment amount successor) is = absurd (let no : false ≡ 
 looks : (es : List Step) → AllLooks es → NoStep decides es
 looks [] all = tt
 looks (st ∷ es) all = (look st all.0, looks es all.1)
+
+spares_looks : (old new : DeskView) → AddsStepsBy AllLooks old new → Spares old new
+spares_looks old new did = (did.0, looks did.0 did.1, did.2)
 
 saw : (row : RowNo) (retailer : ℕ) (v : RowSeen) (es : List Step) → SeesOwn row retailer v es → NoStep decides es
 saw row retailer v es (mine, is) = looks es (row_looked row (Some v) es is)
@@ -137,34 +136,6 @@ holds cat o together segments row p items old new (mid, started, placed) =
 gave : (row : RowNo) (items : List Item) (old new : DeskView) → GivesUp row items old new → Spares old new
 gave row items old new did = (gives_back row.row (length items), gives row.row (length items), did)
 
--- the looks of searches
-
-pieces_count : (place : ℕ) (spans : List Interval) (free : Bool) (es : List Step) → LooksPieces place spans free es → NoStep decides es
-pieces_count place [] free es is = subst (NoStep decides) (sym is.1) tt
-pieces_count place (piece ∷ rest) free es (word, here, others, more, so, did, all, is) =
-    subst (NoStep decides) (sym is) (refl, pieces_count place rest others more did)
-
-counts : (ps : List PlaceNo) (span : Interval) (states : List Bool) (es : List Step) → LooksAt ps span states es → NoStep decides es
-counts [] span [] es is = subst (NoStep decides) (sym is) tt
-counts (p ∷ ps) span (free ∷ states) es (first, rest, did, more, is) =
-    subst (NoStep decides) (sym is) (append first rest (pieces_count p.0 (pieces span) free first did) (counts ps span states rest more))
-counts [] span (free ∷ states) es is = absurd is
-counts (p ∷ ps) span [] es is = absurd is
-
-segments_count : (cat : CatalogueView) (w : OfferWish) (ss : List Segment) (free : List ℕ) (es : List Step) → CountsSegments cat w ss free es → NoStep decides es
-segments_count cat w [] [] es is = subst (NoStep decides) (sym is) tt
-segments_count cat w (s ∷ ss) (n ∷ free) es (first, more, did, rest, is) =
-    subst (NoStep decides) (sym is) (append first more (counts _ s.span did.0 first did.1) (segments_count cat w ss free more rest))
-segments_count cat w [] (n ∷ free) es is = absurd is
-segments_count cat w (s ∷ ss) [] es is = absurd is
-
-offers_count : (cat : CatalogueView) (w : OfferWish) (now : ℕ) (trips : List (List Segment)) (offers : List Offer) (es : List Step) → OffersFor cat w now trips offers es → NoStep decides es
-offers_count cat w now [] [] es is = subst (NoStep decides) (sym is) tt
-offers_count cat w now (t ∷ trips) (o ∷ offers) es (first, more, did, rest, is) =
-    subst (NoStep decides) (sym is) (append first more (segments_count cat w t o.free.items first did.2) (offers_count cat w now trips offers more rest))
-offers_count cat w now [] (o ∷ offers) es is = absurd is
-offers_count cat w now (t ∷ trips) [] es is = absurd is
-
 -- a reply is that there is no memory, and nothing was decided, or it is another
 
 abbrev is_500 : Reply → Bool
@@ -183,15 +154,15 @@ makes_then a b c reply p q = (p.0 ++ q.0, shape_then a b c p.0 q.0 p.2 q.1, λ n
 
 -- the commands
 
-searches : (cat : CatalogueView) (wish : OfferWish) (now : ℕ) (old new : DeskView) (reply : Reply) → SearchesOffers cat wish now old new reply → MakesFor old new reply
-searches cat wish now old new reply (inl (offers, did, told)) = spared old new reply (did.0, offers_count cat wish now _ offers did.0 did.1, did.2)
-searches cat wish now old new reply (inr (did, eq)) =
-    let (front, rest, free, is, so) = did.1 in
-    spared old new reply (did.0, segments_count cat wish front free did.0 so, did.2)
+searches : (cat : CatalogueView) (wish : OfferWish) (now : ℕ) (old new : DeskView) (reply : Reply)
+    → SearchesOffers cat wish now old new reply → MakesFor old new reply
+searches cat wish now old new reply did =
+    spared old new reply (spares_looks old new (searches_look cat wish now old new reply did))
 
-lists : (cat : CatalogueView) (s : Segment) (old new : DeskView) (reply : Reply) → IsLegal old.layout old.seen → ListsPlaces cat s old new reply → MakesFor old new reply
-lists cat s old new reply legal (inl (free, did, told)) = spared old new reply (did.0, counts _ s.span free did.0 did.1, did.2)
-lists cat s old new reply legal (inr (same, eq)) = spared old new reply (spares_same old new legal same)
+lists : (cat : CatalogueView) (s : Segment) (old new : DeskView) (reply : Reply) → IsLegal old.layout old.seen
+    → ListsPlaces cat s old new reply → MakesFor old new reply
+lists cat s old new reply legal did =
+    spared old new reply (spares_looks old new (lists_look cat s old new reply legal did))
 
 fails : (cat : CatalogueView) (o : OfferView) (together : Bool) (old new : DeskView) (reply : Reply) → FailsToHold cat o together old new reply → MakesFor old new reply
 fails cat o together old new reply (inl (none, eq)) = other old new reply (problem RowsFull) (none.0, none.2) eq refl

@@ -11,3 +11,4 @@ pub mod Listeners
 pub mod Memory
 pub mod Commands
 pub mod Sparing
+pub mod Reaching

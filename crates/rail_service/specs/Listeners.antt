@@ -24,7 +24,7 @@ Accepts old new (Stream waiting) = (old.handed < old.limit) × (new ≡ record o
 Accepts old new Failed = (old.handed < old.limit) × (new ≡ old)
 Accepts old new Closed = (old.limit ≤ old.handed) × (new ≡ old)
 
--- no stream could be had
+-- it failed to get a stream
 abbrev pub HasFailed : {I O : Type 0} → Accepted I O → Type 0
 HasFailed (Stream waiting) = ⊥
 HasFailed Failed = ⊤
@@ -36,7 +36,7 @@ OfStream (Stream waiting) P = P waiting
 OfStream Failed P = ⊤
 OfStream Closed P = ⊤
 
--- so many calls made the last listener of the first
+-- the last listener came of the first by that many calls
 abbrev pub Reaches : {L : Type 0} → (L → L → Type 0) → ℕ → L → L → Type 0
 Reaches becomes zero first last = last ≡ first
 Reaches {L} becomes (suc n) first last = (next : L) × becomes first next × Reaches becomes n next last

@@ -64,7 +64,7 @@ before_slash path = take_while (λ b. not (b == 47)) path
 abbrev pub after_slash : List ℕ → List ℕ
 after_slash path = drop (length (before_slash path) + 1) path
 
--- what stands in the path after so many slashes, up to the next one
+-- what stands in the path after that many slashes, up to the next one
 abbrev pub part : ℕ → List ℕ → List ℕ
 part zero path = before_slash path
 part (suc n) path = part n (after_slash path)

@@ -55,9 +55,9 @@ fn serve<S: Source, K: Sink, C: Clock>(
 /// All memory of the wire and of the routes is taken first; where there is none, the end is `NoMemory`, and nothing is
 /// read, written or done. A later lack of memory is answered 500, and changes no booking's fate.
 ///
-/// Where source and sink don't tell their bytes, as those of a socket don't, `served` names none that came or went:
-/// what is left of it there is safety (the desk's entries are those of some requests, answered in order, and no place
-/// is sold twice), beside the cause of each end.
+/// Where source and sink don't tell their bytes, as those of a socket don't, `served` names none that came or went.
+/// What is left of it there is safety: the desk's entries are those of some requests, answered in order, and no place
+/// is sold twice. The cause of each end holds there too.
 pub fn serve_connection<S: Source, K: Sink, C: Clock>(
     alloc: Global,
     cat: &Catalogue,

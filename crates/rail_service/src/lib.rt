@@ -8,6 +8,9 @@
 //! `serve_connection` takes the memory of the wire and of the routes first, and later that of bodies and answers
 //! alone. It requires that the books have the catalogue's places and rows, and that nothing is out at the desk; it
 //! has no premise about other desks. `paths_name_resources` is the table of paths as a law.
+//!
+//! The clock is told of each command before it is done, whether it may change bookings, and gives after it the number of
+//! the cut that the answer waits for. `unchanging_commands_look` says what a command does that isn't said to change any.
 #![tactic(auto)]
 
 mod answering;
@@ -17,6 +20,7 @@ mod listener;
 mod memory_listener;
 mod parts;
 mod performing;
+mod reach;
 mod refusal;
 mod resource;
 mod routing;
@@ -27,5 +31,6 @@ pub use connection::serve_connection;
 pub use listener::{Accepted, Bound, Listener};
 pub use memory_listener::ListListener;
 pub use performing::perform;
+pub use reach::unchanging_commands_look;
 pub use resource::paths_name_resources;
 pub use waiting::{Finished, Waiting, serve_waiting};

@@ -20,7 +20,7 @@ pub enum Bound {
 pub enum Accepted<I, O> {
     /// The next stream.
     Stream(Waiting<I, O>),
-    /// No stream could be had.
+    /// It failed to get a stream.
     Failed,
     /// As many streams as the limit says were handed out.
     Closed,

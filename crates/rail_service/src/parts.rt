@@ -21,7 +21,7 @@ fn after_slash(path: &[u8]) -> &[u8]
     path.get(skipped..).unwrap_or(b"")
 }
 
-/// What stands in the path after so many slashes, up to the next one.
+/// What stands in the path after that many slashes, up to the next one.
 pub fn part(path: &[u8], number: u8) -> &[u8]
     ensures { result.now ≡ part_of number path.now }
 {

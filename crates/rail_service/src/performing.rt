@@ -14,14 +14,14 @@ ghost use Rattle.rail_service.specs.Bytes.{reply_bytes};
 ghost use Rattle.rail_service.specs.Commands.{Says, GoesOn};
 ghost use Rattle.rail_service.specs.Sparing.{MakesFor};
 
-use crate::answering::{counts_answer, problem_answer};
+use crate::answering::answer_of;
 use booking_service::{
     confirm_booking, fulfil_booking, release_booking, show_booking, sweep_bookings,
 };
 use claim_rule::{Books, Desk};
-use http_wire::{Answer, Body, write_head};
+use http_wire::Answer;
 use osdm_json::{Command, Problem};
-use osdm_texts::{Text, Written};
+use osdm_texts::Written;
 use rail_catalogue::Catalogue;
 use rail_ids::RetailerNo;
 use rail_time::Moment;
@@ -70,50 +70,12 @@ pub fn perform(
         retailer,
         moment: now,
     };
-    answer_command(&shop, desk, asker, command, last)
+    let said = say(&shop, desk, asker, command);
+    answer_of(said, last, 0)
 }
 
-/// Does what a retailer's command asks at the moment of its asker, and answers it: `perform` at a shop.
-#[inline(always)]
-pub(crate) fn answer_command(
-    shop: &Shop<'_>,
-    desk: &mut Desk,
-    asker: Asker,
-    command: &Command,
-    last: bool,
-) -> Answer
-    requires home { IsAtHome shop.now.books.now desk.old }
-    requires command { IsReadable shop.now.cat.now command.now }
-    ensures home { StaysHome shop.now.books.now desk.old desk.new }
-    ensures no_item { MakesEmpty desk.new }
-    ensures goes_on { GoesOn desk.old desk.new }
-    ensures answer { (reply : Reply)
-        × Answers shop.now.cat.now asker.retailer.0 asker.moment command.now desk.old desk.new reply
-        × BooksAllOrNone shop.now.cat.now asker.moment command.now desk.old desk.new reply
-        × MakesFor desk.old desk.new reply
-        × (answer_bytes result ≡ reply_bytes shop.now.cat.now last reply) }
-{
-    let Written {
-        success,
-        length,
-        text,
-    } = match say(shop, desk, asker, command) {
-        Ok(written) => written,
-        Err(problem) => return problem_answer(&problem, last),
-    };
-    let status = success.status();
-    let text = match text {
-        Text::Large(text) => text,
-        Text::Counts(swept) => return counts_answer(status, length, swept, last),
-    };
-    Answer {
-        head: write_head(status, false, length, last),
-        body: Body::Large(text),
-    }
-}
-
-// What the services answer to a command.
-fn say(
+/// What the services answer to a command.
+pub(crate) fn say(
     shop: &Shop<'_>,
     desk: &mut Desk,
     asker: Asker,

@@ -26,5 +26,5 @@ fn problem_of_wire(fault: WireFault) -> Problem
 pub fn refusal_of(fault: WireFault) -> Answer
     ensures bytes { (cat : CatalogueView) → answer_bytes result ≡ reply_bytes cat true (problem (problem_of fault)) }
 {
-    problem_answer(&problem_of_wire(fault), true)
+    problem_answer(&problem_of_wire(fault), true, 0)
 }

@@ -1,7 +1,8 @@
 //! The service as it answers the requests of one connection.
-use crate::answering::problem_answer;
+use crate::answering::{answer_of, problem_answer};
 use crate::asking::{admit, asked, first_after, retailer_of};
-use crate::performing::perform;
+use crate::performing::say;
+use crate::reach::reach_of;
 use crate::refusal::refusal_of;
 use crate::resource::Resource;
 use claim_rule::{Books, Desk};
@@ -12,6 +13,7 @@ use rail_catalogue::Catalogue;
 use rail_ids::RetailerNo;
 use rail_io::Clock;
 use session_loop::Responder;
+use shop::{Asker, Shop};
 use std::alloc::Global;
 
 /// Answers the requests of one connection at a desk, at the clock's moments.
@@ -49,11 +51,20 @@ impl<C: Clock> Responder for Service<'_, '_, '_, C> {
         self.first = first_after(self.first, retailer);
         let (retailer, command) = match asking {
             Ok(asked) => asked,
-            Err(problem) => return problem_answer(&problem, last),
+            Err(problem) => return problem_answer(&problem, last, 0),
         };
-        perform(
-            self.alloc, self.cat, self.books, self.desk, retailer, &command, now, last,
-        )
+        let shop = Shop {
+            alloc: self.alloc,
+            cat: self.cat,
+            books: self.books,
+        };
+        let asker = Asker {
+            retailer,
+            moment: now,
+        };
+        self.clock.begin(reach_of(&command));
+        let said = say(&shop, self.desk, asker, &command);
+        answer_of(said, last, self.clock.end())
     }
 
     fn refuse(&mut self, fault: WireFault) -> Answer {

@@ -54,7 +54,7 @@ pub struct Finished<I, O> {
 }
 
 /// Serves the connection of a stream that was handed out, at a desk of the books, as `serve_connection` does over the
-/// stream's source and sink, and hands both back beside the connection's end. This call alone spends a waiting stream.
+/// stream's source and sink, and hands both back with the connection's end. This call alone spends a waiting stream.
 pub fn serve_waiting<I: Source, O: Sink, C: Clock>(
     alloc: Global,
     cat: &Catalogue,

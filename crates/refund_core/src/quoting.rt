@@ -40,7 +40,8 @@ pub fn quote_refund(
 ) -> Quoted
     requires own { IsOf books.now desk.old }
     ensures own { IsOf books.now desk.new }
-    ensures entries { AddsStepsBy (QuotesRefund cat.now books.now.layout.rows row retailer.0 now result) desk.old desk.new }
+    ensures entries { AddsStepsBy (QuotesRefund cat.now books.now.layout.rows row retailer.0 now result) desk.old
+        desk.new }
     ensures range { IfQuoted result (λ code. is_refund code ≡ true) }
     ensures holds { KeepsHolds desk.old desk.new }
     ensures endings { KeepsEndings desk.old desk.new }

@@ -3,7 +3,6 @@ pub mod Adding
 pub mod Won
 pub mod Placed
 pub mod Outs
-pub mod Runs
 pub mod Calm
 pub mod Replying
 pub mod WantedTries

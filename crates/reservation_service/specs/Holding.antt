@@ -50,7 +50,7 @@ placing_of_party party.Apart = Whole
 placing_of_party (party.NoPlace won) = Short
 placing_of_party (party.Contended place) = Contended
 
--- what is asked for a party at a segment, on a hold of the row that has so many items
+-- what is asked for a party at a segment, on a hold of the row that has that many items
 abbrev pub party_at : CatalogueView → OfferView → RowNo → ℕ → Segment → Party
 party_at cat o row items s = record {
   places = cat.places;
@@ -61,8 +61,8 @@ party_at cat o row items s = record {
   candidates = candidates_in cat o s;
 }
 
--- Places were added for this segment to a hold of the row that had these items: as for a party where that was asked
--- for, which sits apart only where each stretch of the candidates was spoilt; else one by one
+-- Places were added for this segment to a hold of the row that had these items. That is done as for a party where it
+-- was asked for, which sits apart only where each stretch of the candidates was spoilt; else one by one
 abbrev pub AddsSegment : CatalogueView → OfferView → Bool → RowNo → List Item → Segment → Placing → List Item → DeskView
     → DeskView → Type 0
 AddsSegment cat o false row items s placing won old new =
@@ -111,8 +111,8 @@ abbrev pub In : ℕ → List ℕ → Type 0
 In p [] = ⊥
 In p (q ∷ rest) = (p ≡ q) ⊎ In p rest
 
--- the items of so many passengers at a segment: each has a place of the candidates, all of these are different, and at
--- each in turn there are exactly the pieces of the segment's span
+-- the items of that many passengers at a segment: each has a place of the candidates, all of these are different, and
+-- at each in turn there are exactly the pieces of the segment's span
 pub record AreOf (s : Segment) (count : ℕ) (candidates : List ℕ) (items : List Item) : Type 0 where
   pub places : List ℕ
   pub many : length places ≡ count

@@ -23,7 +23,7 @@ use Rattle.reservation_service.specs.declared.holding.Placing.{Placing}
 use Rattle.reservation_service.specs.declared.holding.Placing.TheVariants.{Whole}
 use Rattle.reservation_service.specs.Holding.{PlacesAll, HoldsPlaces, FindsNoRow, GivesUp, problem_of, HasAllPlaces}
 
--- what a reservation asks for: one segment, for so many adults
+-- what a reservation asks for: one segment, for that many adults
 abbrev pub reserved : Segment → Class → ℕ → ℕ → ℕ → OfferView
 reserved s class count wanted now =
     record { made = now; adults = count; children = 0; class = class; wanted = wanted; segments = s ∷ [] }

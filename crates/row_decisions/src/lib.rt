@@ -4,10 +4,10 @@
 //!
 //! No call takes memory, and none waits.
 //!
-//! Which look at a booking to use: `find_owned` where only its phase and its retailer matter (three looks);
-//! `find_terms` of `confirm_core` where its limit does too; `find_booking` of `refund_core` where the whole booking
-//! is shown or priced (at most 57 looks). Each looks at word 0 again at the end, so none answers of a row that was
-//! given away meanwhile.
+//! Which look at a booking to use: `find_owned` where only its phase and its retailer matter (three looks), and
+//! `find_terms` of `confirm_core` where its limit does too. `find_booking` of `refund_core` is for where the whole
+//! booking is shown or priced (at most 57 looks). Each looks at word 0 again at the end, so none answers of a row that
+//! was given away meanwhile.
 #![tactic(auto)]
 
 mod ends;

@@ -1,5 +1,5 @@
 //! What a retailer may ask of the whole timetable: offers of a wish, and the places of a run. It is a crate of its own
-//! since none of this is asked of one booking, and no other service needs it.
+//! since nothing here is about one booking, and no other service needs it.
 //!
 //! Every answer is the defined reply of the command, by the desk's own entries in this very call, whatever other desks
 //! do meanwhile. None of these commands takes a place: what is free is what this call's looks showed.

@@ -114,10 +114,14 @@ impl Sink for GateSink<'_> {
             }
         }
     }
+
+    fn hold_until(&mut self, cut: u64) {
+        let _ = cut;
+    }
 }
 
-/// Hands out streams with this text, up to its limit. The first one waits until so much is counted, and the sinks of the
-/// others count.
+/// Hands out streams with this text, up to its limit. The first one waits until so much is counted, and the sinks of
+/// the others count.
 #[derive(Drop)]
 pub struct GateListener<'a> {
     alloc: Global,
@@ -209,7 +213,7 @@ impl<'a> Listener for GateListener<'a> {
     }
 }
 
-/// Ticks at once, so many times, and counts each time that it is asked.
+/// Ticks at once, as often as is left, and counts each time that it is asked.
 #[derive(Drop)]
 pub struct GateTicker<'a> {
     pub left: u64,

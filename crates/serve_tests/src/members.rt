@@ -8,7 +8,7 @@ ghost use Rattle.host_serve.specs.Turns.{FitsBooks, HasCatalogue};
 use crate::connections::RESERVES;
 use claim_rule::{Books, Desk};
 use history_model::phase::{EndKind, Phase, phase_word};
-use host_serve::{Post, Streams, Sweeper};
+use host_serve::{NoWatcher, Post, Streams, Sweeper};
 use rail_catalogue::Catalogue;
 use rail_io::{BytesSource, CountTicker, ScriptClock, VecSink};
 use rail_service::{Finished, Waiting, serve_waiting};
@@ -162,7 +162,7 @@ impl Streams for NoStreams {
     }
 }
 
-type Sweeping<'s> = Post<'s, NoStreams, CountTicker, ScriptClock>;
+type Sweeping<'s> = Post<'s, NoStreams, CountTicker, ScriptClock, NoWatcher>;
 
 // A sweeping member of two ticks, whose clock goes on by a second a reading.
 fn sweeper_of<'s>(books: &Books, first: &mut Desk) -> Member<Sweeping<'s>>
@@ -194,7 +194,7 @@ fn has_swept_twice(member: &Member<Sweeping<'_>>) -> bool {
         Post::Sweeping(sweeper) => {
             sweeper.ended && sweeper.ticker.left == 0 && sweeper.clock.next == after_six(903)
         }
-        Post::Serving(_) => false,
+        Post::Serving(_) | Post::Watching(_) => false,
     }
 }
 

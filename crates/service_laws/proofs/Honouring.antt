@@ -45,7 +45,7 @@ in_time made now time =
     let soon = time.1 in
     λ i. le-ltb now made past i || le-ltb valid_seconds (now - made) (let e : now - made ≤ valid_seconds = omega (arith, past, soon) in e) i
 
-both : {b : Bool} → b ≡ true → b ≡ false → ⊥
+pub both : {b : Bool} → b ≡ true → b ≡ false → ⊥
 both t f = let no : true ≡ false = sym t ∙ f in cc
 
 named_live : (fulfilled : Bool) → is_live (phase_named fulfilled) ≡ true
@@ -88,17 +88,17 @@ lost_turn row retailer phase shown front back es (word, other, shows, is) whole 
 
 -- a call that saw something has a beginning
 
-abbrev IsBegun : DeskView → DeskView → DeskView → Type 0
+abbrev pub IsBegun : DeskView → DeskView → DeskView → Type 0
 IsBegun asked old new = (begun : List Entry) × BeginsAt old new begun × IsPrefix asked.seen begun
 
-begun_at : (es : List Step) (asked old new : DeskView) → AddsSteps old new es → (es ≡ [] → ⊥) → BeginsAfter asked old new → IsBegun asked old new
+pub begun_at : (es : List Step) (asked old new : DeskView) → AddsSteps old new es → (es ≡ [] → ⊥) → BeginsAfter asked old new → IsBegun asked old new
 begun_at es asked old new did some (inl none) = absurd (some (no_steps old new es did none))
 begun_at es asked old new did some (inr begun) = begun
 
 cons_nil : {x : Step} {xs : List Step} → x ∷ xs ≡ [] → ⊥
 cons_nil e = cc
 
-not_none : {x : Step} {xs es : List Step} → es ≡ x ∷ xs → es ≡ [] → ⊥
+pub not_none : {x : Step} {xs es : List Step} → es ≡ x ∷ xs → es ≡ [] → ⊥
 not_none is none = cons_nil (sym is ∙ none)
 
 front_none : (front back : List Step) → front ++ back ≡ [] → front ≡ []
@@ -108,7 +108,7 @@ front_none (x ∷ xs) back e = absurd cc
 saw_some : (row : RowNo) (retailer : ℕ) (w : RowSeen) (front back es : List Step) → SeesOwn row retailer w front → es ≡ front ++ back → es ≡ [] → ⊥
 saw_some row retailer w front back es sees is none = not_none sees.1.1.2 (front_none front back (sym is ∙ none))
 
-looked_some : (rows : ℕ) (row : RowNo) (retailer : ℕ) (es : List Step) → row.row < rows → SeesNone rows row retailer es → es ≡ [] → ⊥
+pub looked_some : (rows : ℕ) (row : RowNo) (retailer : ℕ) (es : List Step) → row.row < rows → SeesNone rows row retailer es → es ≡ [] → ⊥
 looked_some rows row retailer es here (inl (past, is)) none = omega (arith, past, here)
 looked_some rows row retailer es here (inr (in_row, inl (inl (n, unsealed, is)))) none = not_none is none
 looked_some rows row retailer es here (inr (in_row, inl (inr (ws, last, read, free, is)))) none = not_none is none

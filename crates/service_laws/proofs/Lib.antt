@@ -4,3 +4,9 @@ pub mod SweepLemmas
 pub mod QuoteLemmas
 pub mod Honouring
 pub mod Commanding
+pub mod Finding
+pub mod Refusing
+pub mod Saying
+pub mod Making
+pub mod Bounding
+pub mod Placing

@@ -10,7 +10,7 @@ use Rattle.history_model.proofs.ListLemmas.{All-under_map}
 use Rattle.history_model.proofs.Seen.{own-append, own_between}
 use Rattle.claim_rule.specs.Rule.{DeskView}
 use Rattle.claim_rule.specs.Desks.{AddsSteps}
-use Rattle.service_laws.specs.Begun.{CallsInOrder}
+use Rattle.service_laws.specs.Begun.{CallsInOrder, LearnedCallsAreLater}
 
 -- the first of a list for which all holds, and the others
 pub first_of : {X : Type 0} (P : X → Type 0) (x : X) (xs : List X) → AllByRecursion P (x ∷ xs) → P x
@@ -113,3 +113,6 @@ calls_ordered asked old new steps between later did saw had all on seen =
     (λ (p : IsPrefix between new.seen). inr (between, record { had = had; goes_on = p; none_yet = sym all }, saw))
     (λ (p : IsPrefix new.seen between). inl (own_between d old.seen new.seen between did.front p all ∙ sym all))
     (begin_one between new.seen on.0 seen.0 (on.1 ∙ sym seen.1))
+
+pub learned_later : LearnedCallsAreLater
+learned_later told old new steps did front = inr (old.seen, record { had = ([], append-nil old.seen); goes_on = did.front; none_yet = refl }, front)

@@ -120,7 +120,7 @@ legal_as : (g : Layout) (xs ys : List Entry) → xs ≡ ys → IsLegal g ys → 
 legal_as g xs ys is legal = subst (IsLegal g) (sym is) legal
 
 -- a look that shows the booking finds it present
-still_shown : (t : State) (row : RowNo) (n : ℕ) → n ≡ row_word t row.row 0 → (phase_shown row.generation n ≡ Free → ⊥) → next_generation t row.row ≡ row.generation + 1
+pub still_shown : (t : State) (row : RowNo) (n : ℕ) → n ≡ row_word t row.row 0 → (phase_shown row.generation n ≡ Free → ⊥) → next_generation t row.row ≡ row.generation + 1
 still_shown t row n is kept =
     let c = present_shown t row.row row.generation (phase_shown row.generation n) kept (ap (phase_shown row.generation) (sym is)) in
     sym (present_latest t row.row c.0 c.1).1 ∙ ap (λ (k : ℕ). k + 1) c.2

@@ -34,6 +34,12 @@ CallsInOrder =
     → IsPrefix earlier.seen between → IsPrefix old.seen between → HasAll between old.seen old.number
     → IsPrefix between later → IsPrefix new.seen later → BeginsAfter earlier old new
 
+-- where a desk has learned what another told, each of its calls begins after all that the other had seen
+abbrev pub LearnedCallsAreLater : Type 0
+LearnedCallsAreLater =
+    (told old new : DeskView) (steps : List Step) → AddsSteps old new steps → IsPrefix told.seen old.seen
+    → BeginsAfter told old new
+
 -- the booking stands in the state, in another phase than this
 abbrev pub HasLeft : Phase → State → RowNo → Type 0
 HasLeft phase s row = OnBooking s row (λ b. b.phase ≢ phase)

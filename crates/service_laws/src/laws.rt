@@ -1,17 +1,23 @@
 //! What holds from one call to another, as contracts of functions that do nothing.
 
-ghost use Rattle.service_laws.specs.Begun.{CallsBeginAtSeen, CallsInOrder};
+ghost use Rattle.service_laws.specs.Begun.{CallsBeginAtSeen, CallsInOrder, LearnedCallsAreLater};
+ghost use Rattle.service_laws.specs.Bounded.{CommandsAreBounded};
 ghost use Rattle.service_laws.specs.Commands.{SweepCommandsAreComplete};
 ghost use Rattle.service_laws.specs.Commands.{RefundCommandsAreHonoured, ExchangeCommandsAreHonoured};
 ghost use Rattle.service_laws.specs.Complete.{SweepsAreComplete};
 ghost use Rattle.service_laws.specs.Honoured.{RefundQuotesAreHonoured, ExchangeQuotesAreHonoured};
+ghost use Rattle.service_laws.specs.Told.{BookingsAreFound, BookingsAreShown, RefusalsShowFurther};
+ghost use Rattle.service_laws.specs.Told.{ShownIsSo, ConfirmedIsSo, FulfilledIsSo, ReleasedIsSo};
+ghost use Rattle.service_laws.specs.Told.{CreatedIsSo, ExchangedIsSo};
 
 /// A call may be said to begin at any point from what its desk had seen to the first entry that it adds. Each desk has
 /// seen a beginning of the one history that the table keeps, with all its own entries. So of two calls at any desks,
-/// where the one was answered before the other began, the other begins after all that the first had seen.
+/// where the one was answered before the other began, the other begins after all that the first had seen. A desk that
+/// learned what another told has that in what it had seen, so each of its calls begins after it.
 pub fn calls_in_order()
     ensures begin { CallsBeginAtSeen }
     ensures in_order { CallsInOrder }
+    ensures learned { LearnedCallsAreLater }
 {}
 
 /// Each booking that was prebooked with a limit before now when a sweep began is in another phase in what was seen when
@@ -36,4 +42,33 @@ pub fn refund_quotes_are_honoured()
 pub fn exchange_quotes_are_honoured()
     ensures honoured { ExchangeQuotesAreHonoured }
     ensures commands { ExchangeCommandsAreHonoured }
+{}
+
+/// Whatever a call does that begins after a booking was told of, at whatever desk: each of its looks that shows the
+/// booking shows it in the phase told, or in one that follows. So a later show of its retailer answers with the booking
+/// in such a phase; or that there is no memory (500); or that it is unknown, where it has ended and its row was given
+/// away since. A command that finds it in another phase than it asks for shows such a phase too.
+pub fn told_bookings_are_found()
+    ensures found { BookingsAreFound }
+    ensures shown { BookingsAreShown }
+    ensures refused { RefusalsShowFurther }
+{}
+
+/// What a retailer is told of its booking is so in what was seen by then: it stands as this retailer's, in the phase
+/// told or in one that follows it. Of a command that made, confirmed, collected or released it, that rests also on what
+/// the command's own contract says of the booking afterwards.
+pub fn told_bookings_stand()
+    ensures shown { ShownIsSo }
+    ensures confirmed { ConfirmedIsSo }
+    ensures fulfilled { FulfilledIsSo }
+    ensures released { ReleasedIsSo }
+    ensures created { CreatedIsSo }
+    ensures exchanged { ExchangedIsSo }
+{}
+
+/// Each order is carried out within a number of steps that the catalogue, the moment and the order give, whatever other
+/// desks do meanwhile. A step is one atomic operation on the table, and none of them waits: so within its steps no
+/// command waits for another.
+pub fn commands_are_bounded()
+    ensures bounded { CommandsAreBounded }
 {}

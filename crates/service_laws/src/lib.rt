@@ -6,14 +6,22 @@
 //! that accepts need not be the one that quoted. Each is said of the call that does it, and of the command with its
 //! reply.
 //!
+//! Whoever was told of a booking finds it so or further, at any desk. What a reply tells of a booking is so in what
+//! was seen by then, and each look of a later call that shows the booking shows it in that phase or in one that follows.
+//!
+//! Each order is carried out within a number of steps that the catalogue, the moment and the order give, whatever other
+//! desks do.
+//!
 //! The crate has definitions and laws alone: it does nothing when it runs.
 //!
 //! Where to look in `specs/`: `Begun` (where a call begins, and which begins after which), `Complete` (sweeps),
-//! `Honoured` (quotes), `Commands` (the same of commands).
+//! `Honoured` (quotes), `Commands` (the same of commands), `Told` (a booking that was told of),
+//! `Bounded` (how many steps a command has at most).
 #![tactic(auto)]
 
 mod laws;
 
 pub use laws::{
-    calls_in_order, exchange_quotes_are_honoured, refund_quotes_are_honoured, sweeps_are_complete,
+    calls_in_order, commands_are_bounded, exchange_quotes_are_honoured, refund_quotes_are_honoured,
+    sweeps_are_complete, told_bookings_are_found, told_bookings_stand,
 };

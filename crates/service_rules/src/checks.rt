@@ -14,9 +14,9 @@ use rail_time::Moment;
 use reservation_service::Reservation;
 
 /// What the command orders, with its ids and codes read and checked; or what it is refused for by these and the moment
-/// alone: an id or a code that is no spelling, an offer that the catalogue doesn't have or that was made after now, and
-/// then one that was made over 900 seconds ago; of quotes also those of another booking than the id's, and those whose
-/// offer wasn't good when the quote was made.
+/// alone. It is refused for an id or a code that is no spelling, and for an offer that the catalogue doesn't have or
+/// that was made after now. Then comes an offer that was made over 900 seconds ago. Quotes are also refused where they
+/// are of another booking than the id's, and where their offer wasn't good when the quote was made.
 ///
 /// No memory is taken.
 pub fn order_of<'c>(

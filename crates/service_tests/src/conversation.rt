@@ -113,8 +113,8 @@ fn clock_of(rt: &(impl Abort + AllocGlobal), talk: &Talk) -> ListClock {
     ListClock::new(readings)
 }
 
-/// Devices of a connection. Reads give and writes take at most so many bytes, and of each one call fails, or none where
-/// it is 0.
+/// Devices of a connection. Reads give and writes take at most that many bytes, and of each one call fails, or none
+/// where it is 0.
 pub fn devices_of<'a>(
     rt: &(impl Abort + AllocGlobal),
     talk: &'a Talk,

@@ -16,11 +16,11 @@ const CALLS: u16 = 1_000;
 /// all: free, prebooked, confirmed, collected.
 const PHASES: [u64; 5] = [0, 2, 3, 4, 4];
 
-/// The first words of the places at the end of the usual life: 11 to 13 of the first run are taken from stop 0 to
-/// stop 2, and 11 to 13 of the second from stop 0 to stop 1.
+/// The first words of the places at the end of the usual life. Places 11 to 13 of the first run are taken from stop 0
+/// to stop 2, and 11 to 13 of the second from stop 0 to stop 1.
 const WORDS: [u64; 18] = [0, 0, 0, 0, 3, 3, 3, 0, 0, 0, 0, 0, 1, 1, 1, 0, 0, 0];
 
-/// The words of the usual life where so many of its answers are whole: the request after them is done.
+/// The words of the usual life where that many of its answers are whole: the request after them is done.
 fn check_words(rt: &impl Abort, wall: &Wall, whole: usize) {
     assert!(rt; wall.row_word(0, 0) == PHASES.get(whole).copied());
     for (place, word) in (0..18).zip(WORDS) {
@@ -30,7 +30,7 @@ fn check_words(rt: &impl Abort, wall: &Wall, whole: usize) {
     }
 }
 
-/// How many of these are whole in so many bytes.
+/// How many of these are whole in that many bytes.
 fn whole_in(ends: &[usize], bytes: usize) -> usize {
     let mut whole = 0usize;
     for end in ends {
@@ -41,7 +41,7 @@ fn whole_in(ends: &[usize], bytes: usize) -> usize {
     whole
 }
 
-/// The answers to the requests that are whole in so many bytes of the connection.
+/// The answers to the requests that are whole in that many bytes of the connection.
 fn answers_in(talk: &Talk, bytes: usize) -> Option<&[u8]> {
     let whole = whole_in(talk.asked.as_slice(), bytes);
     if whole == 0 {
@@ -60,7 +60,7 @@ fn check_pieces(rt: &(impl Abort + AllocGlobal), cat: &Catalogue, talk: &Talk, s
     check_words(rt, &wall, 4);
 }
 
-// The usual life by reads of 64 bytes, of which one fails after so many: what is whole in the bytes before it is
+// The usual life by reads of 64 bytes, of which one fails after that many: what is whole in the bytes before it is
 // answered.
 fn end_of_reads(
     rt: &(impl Abort + AllocGlobal),
@@ -91,7 +91,7 @@ fn check_reads(rt: &(impl Abort + AllocGlobal), cat: &Catalogue, talk: &Talk) {
     panic!(rt; "no end");
 }
 
-// The usual life by writes of 100 bytes, of which one fails after so many: a front of the answers is written. With
+// The usual life by writes of 100 bytes, of which one fails after that many: a front of the answers is written. With
 // how many are whole.
 fn end_of_writes(
     rt: &(impl Abort + AllocGlobal),

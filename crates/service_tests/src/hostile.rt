@@ -8,7 +8,7 @@ use std::process::Abort;
 use std::test::Fail;
 use test_kit::{Wanted, after_six, answer_text, sample_with_rows};
 
-/// What comes (a front, a piece so many times, an end), and why the connection is closed, with its one answer. What
+/// What comes (a front, a piece that many times, an end), and why the connection is closed, with its one answer. What
 /// stands in a request's place is refused. After the last request of a connection the rest is left unread.
 const CLOSED: &str = "GET / HTTP/1.1\r\n|a: b\r\n|65|\r\n|HeadTooLarge~\
 GET /|a|16379||HeadTooLarge~\

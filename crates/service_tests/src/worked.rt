@@ -10,7 +10,7 @@ use std::process::Abort;
 use std::test::Fail;
 use test_kit::{CATALOGUE, open_books, sample_with_rows};
 
-/// A case at new books of the sample with so many rows.
+/// A case at new books of the sample with that many rows.
 fn check_case(rt: &(impl Abort + AllocGlobal), rows: u32, text: &'static str) -> Result<(), Fail> {
     let cat = sample_with_rows(rt.alloc(), rows).expect(rt, "a catalogue");
     check_alone(rt, &cat, &talk_of(rt.alloc(), "north", text)?);

@@ -1,9 +1,11 @@
 //! One connection: its requests are read, answered and written in turn, until an end.
 //!
-//! `run_session` is told by a `Responder` how a request is answered. It promises that the bytes
-//! written are the answers of the requests that the connection's bytes spell, each request answered
-//! once, in order, and last the answer to a wire fault where one stands after them. Each end has its
-//! cause in the bytes, or in a count of faults that rose. It takes no memory.
+//! A `Responder` says how a request is answered. `run_session` promises that the bytes written are the answers of the
+//! requests that the connection's bytes spell, each request answered once, in order, and last the answer to a wire
+//! fault where one stands after them. Each end has its cause in the bytes, or in a count of faults that rose. It takes
+//! no memory.
+//!
+//! An answer may have the number of a cut of the bookings. The sink is told of it before the first byte of that answer.
 //!
 //! `proofs/Views`: a session seen through a view of its responder; `proofs/Keeping`: what every answer keeps, the
 //! session keeps.

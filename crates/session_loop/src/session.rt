@@ -12,8 +12,8 @@ use crate::writing::write_answer;
 use http_wire::{Intake, Next, WireFault};
 use rail_io::{Sink, Source};
 
-/// Answers what stands in a request's place, and writes the answer. It stands apart, since room for an answer is dear to
-/// clear.
+/// Answers what stands in a request's place, and writes the answer. It stands apart, since it is costly to clear the
+/// room for an answer.
 #[cold]
 #[inline(never)]
 fn refuse<K: Sink, R: Responder>(sink: &mut K, responder: &mut R, fault: WireFault) -> bool

@@ -2,7 +2,7 @@
 ghost use Rattle.std.specs.Prelude.{◌≡◌, ◌≤◌, ◌+◌, ◌++◌, ◌⊎◌, drop, length, true, false};
 ghost use Rattle.rail_io.specs.Faults.{Rose};
 ghost use Rattle.session_loop.specs.Answered.{answer_bytes};
-ghost use Rattle.session_loop.specs.Writes.{Writes};
+ghost use Rattle.session_loop.specs.Writes.{Writes, WritesHeld};
 
 use http_wire::{Answer, Body};
 use rail_io::{Pushed, PushedBoth, Sink};
@@ -24,7 +24,7 @@ pub fn write_all<K: Sink>(sink: &mut K, piece: &[u8]) -> bool
     true
 }
 
-/// What is left of both pieces after so many bytes of them.
+/// What is left of both pieces after that many bytes of them.
 fn behind<'a>(first: &'a [u8], second: &'a [u8], count: usize) -> (&'a [u8], &'a [u8])
     requires { count ≤ length (first.now ++ second.now) }
     ensures left { result.0.now ++ result.1.now ≡ drop count (first.now ++ second.now) }
@@ -55,16 +55,21 @@ fn write_two<K: Sink>(sink: &mut K, first: &[u8], second: &[u8]) -> bool
     write_all(sink, left)
 }
 
-/// Writes head and body one after the other, without joining them, and drops the answer. It takes the answer apart, so
-/// that one that an inlined call made never stands in memory as a whole: it is large to clear and to copy.
+/// Writes head and body one after the other, without joining them, and drops the answer. Before the first byte the sink
+/// is told after which cut they may leave, where the answer has one. It takes the answer apart, so that one that an
+/// inlined call made never stands in memory as a whole: it is large to clear and to copy.
 #[inline(always)]
 pub fn write_answer<K: Sink>(sink: &mut K, answer: Answer) -> bool
     ensures writes { Writes (K.told sink.old) (K.told sink.new) (answer_bytes answer) result }
+    ensures held { WritesHeld K.held K.told sink.old answer.after (answer_bytes answer) result sink.new }
     ensures never_falls { K.faults sink.old ≤ K.faults sink.new }
     ensures cause { result ≡ false → Rose (K.faults sink.old) (K.faults sink.new) }
     ensures steady { result ≡ true → K.faults sink.new ≡ K.faults sink.old }
 {
-    let Answer { head, body } = answer;
+    let Answer { head, body, after } = answer;
+    if after != 0 {
+        sink.hold_until(after);
+    }
     match body {
         Body::Small(text) => write_two(sink, head.as_slice(), text.as_slice()),
         Body::Large(text) => write_two(sink, head.as_slice(), text.as_slice()),

@@ -43,7 +43,7 @@ IsInPhase s row phase = OnRow s row (λ b. b.phase ≡ phase)
 abbrev pub IsEndAmount : State → ℕ → ℤ → Type 0
 IsEndAmount s row amount = OnRow s row (λ b. amount ≡ (end_in b.phase b.end).amount)
 
--- as far from 0 as so many amounts of ends can sum to
+-- as far from 0 as that many amounts of ends can sum to
 abbrev pub most_paid : ℕ
 most_paid = 100009999999
 
@@ -55,7 +55,7 @@ pub record IsFair (sale : Sale) : Type 0 where
   pub total : sale.total ≤ greatest_amount
   pub amount : IsSumOfFew 1 sale.amount
 
--- the account is no greater than one of so many bookings can be
+-- the account is no greater than one of that many bookings can be
 pub record IsOfFew (count : ℕ) (a : Account) : Type 0 where
   pub bookings : a.bookings ≤ count
   pub live : a.live ≤ count

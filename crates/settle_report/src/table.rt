@@ -96,7 +96,7 @@ fn write_table(alloc: Global, accounts: &Accounts) -> Result<Vec<u8>, AllocError
     }
 }
 
-// A record of so many fields.
+// A record of that many fields.
 fn write_record(writer: &mut Writer<Vec<u8>>, fields: &[&[u8]]) -> Result<(), AllocError>
     ensures { OnOk result (AddsLine (line_of (map (λ f. f.now) fields.now)) writer.old writer.new) }
 {

@@ -133,9 +133,9 @@ fn fee(steps: &[RefundStep], seconds_before: u64) -> u32
     0
 }
 
-/// What a refund pays of a total, this many seconds before the first departure: the total less the fee of the first
-/// step whose `before` is at most `seconds_before`, rounded down, and for a collected ticket also less the ticket fee,
-/// though never below 0.
+/// What a refund pays of a total, this many seconds before the first departure. It is the total less the fee of the
+/// first step whose `before` is at most `seconds_before`, rounded down, and for a collected ticket also less the ticket
+/// fee, though never below 0.
 pub fn refund_value(terms: &Terms, total: u64, seconds_before: u64, fulfilled: bool) -> u64
     requires { total ≤ 99_999_999_999 }
     ensures value { result ≡ refund_of terms.now total seconds_before fulfilled }

@@ -59,7 +59,7 @@ pub fn sample(alloc: Global) -> Option<Catalogue> {
     read_catalogue(alloc, CATALOGUE.as_bytes()).ok()
 }
 
-/// The sample's catalogue with so many booking rows. `None` where it may not have as many, or for lack of memory.
+/// The sample's catalogue with that many booking rows. `None` where it may not have as many, or for lack of memory.
 pub fn sample_with_rows(alloc: Global, rows: u32) -> Option<Catalogue> {
     let members = CATALOGUE.strip_prefix("{")?;
     let text = format!(in alloc; "{{\"rows\":{rows},{members}").ok()?;

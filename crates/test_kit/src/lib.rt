@@ -1,10 +1,10 @@
 //! What crates of tests share, and no crate of the host uses: a sample catalogue, and slow streams.
 //!
 //! - The sample catalogue of `examples/k1.json` and what tests of every layer make of it: its books, its moments, its
-//!   retailers, and requests of a connection beside their answers.
-//! - Streams as a slow or failing peer makes them: a source and a sink that move at most so many bytes a call, and of
-//!   which one listed call fails. They tell nothing, as a socket tells nothing: what a test sees of them is what came and
-//!   what was taken.
+//!   retailers, and requests of a connection next to their answers.
+//! - Streams as a slow or failing peer makes them: a source and a sink that move at most that many bytes a call, and of
+//!   which one listed call fails. They tell nothing, as a socket tells nothing: what a test sees of them is what came
+//!   and what was taken.
 #![tactic(auto)]
 
 mod catalogue;

@@ -4,7 +4,7 @@ ghost use Rattle.std.specs.Prelude.{◌≡◌, None};
 use rail_io::{Pushed, Sink};
 use std::alloc::Global;
 
-/// Takes at most so many bytes a write, and fails at one.
+/// Takes at most that many bytes a write, and fails at one.
 #[derive(Drop)]
 pub struct SlowSink {
     bytes: Vec<u8>,
@@ -53,5 +53,9 @@ impl Sink for SlowSink {
         }
         self.faults = self.faults.saturating_add(1);
         Pushed::Failed
+    }
+
+    fn hold_until(&mut self, cut: u64) {
+        let _ = cut;
     }
 }

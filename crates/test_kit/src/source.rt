@@ -3,7 +3,7 @@ ghost use Rattle.std.specs.Prelude.{None};
 
 use rail_io::{Pulled, Source};
 
-/// Hands out at most so many bytes a read, and fails at one.
+/// Hands out at most that many bytes a read, and fails at one.
 #[derive(Drop)]
 pub struct SlowSource<'a> {
     left: &'a [u8],

@@ -1,4 +1,4 @@
-//! Requests of a connection beside their answers.
+//! Requests of a connection next to their answers.
 ghost use Rattle.std.specs.Prelude.{◌≡◌, codes};
 
 use std::alloc::{AllocError, Global};

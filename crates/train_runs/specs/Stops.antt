@@ -16,7 +16,7 @@ no_stop = record { station = record { 0 = 0 }; arrive = 0; depart = 0 }
 abbrev pub stop_at : List Stop → ℕ → Stop
 stop_at stops n = slice_index_or stops n no_stop
 
--- how many legs lie between so many stops
+-- how many legs lie between that many stops
 abbrev pub legs_of : RunView → ℕ
 legs_of run = length run.stops - 1
 

@@ -2,9 +2,9 @@
 //!
 //! A run stops at two to 127 stations, each once, and its times rise from stop to stop; between two neighbouring stops
 //! lies a leg. `Runs` takes stations and runs one after the other, with the first fault of each named, and is as before
-//! after a refusal. Then it is only asked: for a station by its code, for a run, for the legs between two stations, and
-//! for the departures of a station from one moment to another. These are found by two binary searches, since `Runs`
-//! keeps a list of its departures in order for each station.
+//! after a refusal. Then it only finds a station by its code, a run, the legs between two stations, and the departures
+//! of a station from one moment to another. These departures are found by two binary searches, since `Runs` keeps a
+//! list of its departures in order for each station.
 //!
 //! Memory is taken while it is filled, and none when it is asked. `crosses` is the proof that threads may share it.
 #![tactic(auto)]

@@ -97,7 +97,7 @@ pub record AreSpanned (board : List Useful) (parts : Parts) (last : ℕ) : Type 
   pub starts : (j : ℕ) (none : Useful) → j < length board → parts.start ≤ (slice_index_or board j none).moment
   pub stops : (j : ℕ) (none : Useful) → j < length board → (slice_index_or board j none).moment ≤ last
 
--- likewise in so many parts, with the two of each
+-- likewise in that many parts, with the two of each
 pub record AreHints (board : List Useful) (parts : Parts) (last count : ℕ) (rest : ℕ → FirstTwo) : Type 0 where
   pub spanned : AreSpanned board parts last
   pub few : (j : ℕ) (none : Useful) → j < length board → part_at parts (slice_index_or board j none).moment < count

@@ -1,4 +1,5 @@
--- What bounds a search from behind: for each departure the earliest arrival at the destination, with so many changes.
+-- What bounds a search from the destination back: for each departure the earliest arrival at the destination, with that
+-- many changes.
 use Rattle.std.specs.Prelude.{◌≡◌, ◌<◌, ◌≤◌, ◌+◌, ◌-◌, ◌*◌, ◌++◌, ◌==◌, ◌&&◌, ◌⊎◌, ℕ, length, nat_lt, Bool, true, false, List, [], ◌∷◌, slice_index_or, if◌then◌else◌}
 use Rattle.std.specs.List.{AllByRecursion}
 use Rattle.rail_ids.specs.declared.StationNo.{StationNo}
@@ -176,7 +177,7 @@ HasBest board two =
 
 -- ---- the board of a station, by what leads to the destination
 
--- what leaves the station and goes on with so many changes is posted, unless it comes too late
+-- what leaves the station and goes on with that many changes is posted, unless it comes too late
 abbrev pub IsBoardOf : RunsView → TripWish → RanksView → ℕ → ℕ → List Useful → Type 0
 IsBoardOf r w v changes station board =
     (s : Segment) (rest : List Segment) → length rest ≡ changes → LeadsTo r w s rest → (first_stop r s).station.0
@@ -203,7 +204,7 @@ abbrev pub firsts_in : Rides → ℕ → ℕ → FirstTwo
 firsts_in rides run stop =
     if nat_lt stop rides.width then slice_index_or rides.firsts.items (run * rides.width + stop) unknown else unknown
 
--- the two precede what takes the run at the stop, and goes on with so many changes to the destination
+-- the two precede what takes the run at the stop, and goes on with that many changes to the destination
 abbrev pub FirstsOfRide : RunsView → TripWish → RanksView → ℕ → ℕ → ℕ → FirstTwo → Type 0
 FirstsOfRide r w v changes run stop two =
     (s : Segment) (rest : List Segment) → s.run.0 ≡ run → s.span.from ≡ stop → length rest ≡ changes
@@ -232,7 +233,7 @@ pub record AreRides (r : RunsView) (w : TripWish) (v : RanksView) (changes : ℕ
       → IsMarkedRun r w v changes run rides.marks.items
   pub whole : rides.all ≡ true → (run : ℕ) → IsMarkedRun r w v changes run rides.marks.items
 
--- rides of so many runs of which nothing is known
+-- rides of that many runs of which nothing is known
 pub record AreUnknown (runs : ℕ) (rides : Rides) : Type 0 where
   pub firsts : (run stop : ℕ) → firsts_in rides run stop ≡ unknown
   pub count : length rides.done.items ≡ runs
@@ -281,7 +282,7 @@ PrecedeFrom boards station from two = (station < length boards)
     × ((depart rank : ℕ) (none : List Useful) → IsPosted (slice_index_or boards station none) depart rank
     → from ≤ depart → Precede two rank)
 
--- likewise so many stations
+-- likewise that many stations
 abbrev pub PrecedeAfter : List (List Useful) → ℕ → ℕ → FirstTwo → Type 0
 PrecedeAfter boards stations from two = (n : ℕ) → n < stations → PrecedeFrom boards n from two
 
@@ -306,7 +307,7 @@ NarrowsLeaving r w changes station from to first last =
     (s : Segment) (rest : List Segment) → length rest ≡ changes → LeadsTo r w s rest
     → leaves station from to (first_stop r s) ≡ true → leaves station first last (first_stop r s) ≡ true
 
--- the two precede what gets off a train at this stop, and goes on with so many changes to the destination
+-- the two precede what gets off a train at this stop, and goes on with that many changes to the destination
 abbrev pub FirstsOfStop : RunsView → TripWish → RanksView → ℕ → Stop → FirstTwo → Type 0
 FirstsOfStop r w v changes off two =
     (s : Segment) (rest : List Segment) → last_stop r s ≡ off → length rest ≡ changes → LeadsTo r w s rest

@@ -34,7 +34,7 @@ pub record IsSearch (r : RunsView) (w : TripWish) (found : Found) : Type 0 where
 
 -- ---- what can't come among the best
 
--- what begins so and has so many more segments stands after the trip, if it arrives with it: it departs earlier, or
+-- what begins so and has that many more segments stands after the trip, if it arrives with it: it departs earlier, or
 -- then has more segments, or then higher ones
 abbrev pub BeginsBehind : RunsView → List Segment → List Segment → ℕ → Type 0
 BeginsBehind r trip begun more =
@@ -49,6 +49,6 @@ pub record IsBehindLast (r : RunsView) (best : List (List Segment)) (bound : ℕ
   pub arrival : last_arrival r (sixteenth best) ≤ bound
   pub key : BeginsBehind r (sixteenth best) begun more
 
--- what begins so, has so many more segments and arrives no earlier than the bound stands after sixteen
+-- what begins so, has that many more segments and arrives no earlier than the bound stands after sixteen
 abbrev pub IsOutdone : RunsView → List (List Segment) → ℕ → List Segment → ℕ → Type 0
 IsOutdone r best bound begun more = AllArriveBefore r best bound ⊎ IsBehindLast r best bound begun more

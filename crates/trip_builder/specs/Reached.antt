@@ -1,4 +1,4 @@
--- Where one may be after so many trains of a wish: from when to when a train may be taken at each station.
+-- Where one may be after that many trains of a wish: from when to when a train may be taken at each station.
 use Rattle.std.specs.Prelude.{◌≡◌, ◌<◌, ◌≤◌, ◌+◌, ◌++◌, ◌∷◌, ℕ, length, Bool, true, List, slice_index_or}
 use Rattle.offer_codes.specs.declared.code.Segment.{Segment}
 use Rattle.train_runs.specs.declared.run.Stop.{Stop}
@@ -36,7 +36,7 @@ IsRidden r before after run =
     (j k : ℕ) → j < k → k < length (stops_of r run) → HoldTrain before (stop_at (stops_of r run) j)
     → HoldWait after (stop_at (stops_of r run) k)
 
--- each trip's train that comes after so many at most may be taken
+-- each trip's train that comes after that many at most may be taken
 abbrev pub AreReached : RunsView → TripWish → ℕ → List Times → Type 0
 AreReached r w trains times =
     (way : List Segment) (s : Segment) (rest : List Segment) → length way ≤ trains → IsTrip r w (way ++ s ∷ rest)

@@ -113,7 +113,7 @@ pub record Grows (r : RunsView) (w : TripWish) (old new : List (List Segment)) :
   pub best : AreBest r w new
   pub stays : (t : List Segment) → IsDecided r old t → IsDecided r new t
 
--- all trips that go on from the way with this segment and so many more are decided
+-- all trips that go on from the way with this segment and that many more are decided
 abbrev pub AreDecidedWith : RunsView → TripWish → List (List Segment) → List Segment → ℕ → Segment → Type 0
 AreDecidedWith r w best way more s =
     (rest : List Segment) → length rest ≡ more → IsTrip r w (way ++ s ∷ rest) → IsDecided r best (way ++ s ∷ rest)

@@ -39,7 +39,7 @@ AreFromDepartures r ds rides =
 abbrev pub AreShortest : RunsView → TripWish → List ℕ → Type 0
 AreShortest r w rides = Rise r → (run to : ℕ) → IsThere r w run to → AreRidesTo r run to rides
 
--- what leaves the station and comes to the destination with so many changes takes so many seconds at least
+-- what leaves the station and comes to the destination with that many changes takes at least the given seconds
 abbrev pub TakesAtLeast : RunsView → TripWish → ℕ → StationNo → ℕ → Type 0
 TakesAtLeast r w changes station seconds =
     (s : Segment) (rest : List Segment) → length rest ≡ changes → LeadsTo r w s rest → (first_stop r s).station.0

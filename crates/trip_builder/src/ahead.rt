@@ -88,7 +88,7 @@ fn look_until(
     Ok(())
 }
 
-// How many of the departures leave before the last of so many.
+// How many of the departures leave before the last of that many.
 fn group_before(departures: &[Departure], end: usize) -> usize
     requires some { 0 < end }
     requires within { end ≤ length departures.now }
@@ -180,7 +180,7 @@ fn take(
     Ok(())
 }
 
-// Tries what goes on from the way with so many further trains.
+// Tries what goes on from the way with that many further trains.
 #[cycle(ahead)]
 fn reach(
     runs: &Runs,

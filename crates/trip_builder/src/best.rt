@@ -75,7 +75,7 @@ impl Best {
         self.limit < seconds
     }
 
-    /// Whether what begins so, has so many more segments and arrives no earlier than the bound doesn't come among the
+    /// Whether what begins so, has that many more segments and arrives no earlier than the bound doesn't come among the
     /// best.
     pub(crate) fn outdo(&self, runs: &Runs, bound: u64, begun: &[Segment], more: usize) -> bool
         requires few { length begun.now + more ≤ 3 }
@@ -116,7 +116,7 @@ impl Best {
     }
 }
 
-// Whether what begins so, has so many more segments and arrives no earlier than the bound stands after the trip.
+// Whether what begins so, has that many more segments and arrives no earlier than the bound stands after the trip.
 fn begins_behind(runs: &Runs, trip: &[Segment], bound: u64, begun: &[Segment], more: usize) -> bool
     requires some { (1 ≤ length trip.now) × (1 ≤ length begun.now) }
     requires few { length begun.now + more ≤ 3 }

@@ -61,7 +61,7 @@ impl Board {
         }
     }
 
-    /// Takes all departures off, for blocks of so many seconds. The memory stays.
+    /// Takes all departures off, for blocks of that many seconds. The memory stays.
     pub(crate) fn clear(&mut self, seconds: u64)
         ensures { self.new ≡ [] }
     {
@@ -189,7 +189,7 @@ pub(crate) fn moment_at(useful: &[Useful], place: usize) -> u64
     u64::from(useful[place].moment)
 }
 
-/// Whether so many of the departures leave before these seconds.
+/// Whether that many of the departures leave before these seconds.
 pub(crate) fn are_before(useful: &[Useful], count: usize, seconds: u64) -> bool
     requires rises { Rises useful.now }
     ensures within { result ≡ true → count ≤ length useful.now }

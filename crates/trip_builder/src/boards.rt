@@ -66,7 +66,7 @@ pub(crate) struct Draft {
 }
 
 impl Draft {
-    /// No station yet, with room for so many stations and departures.
+    /// No station yet, with room for that many stations and departures.
     pub(crate) fn new(alloc: Global, stations: usize, room: usize) -> Result<Draft, AllocError>
         ensures { IfOk result (λ d. d.boards ≡ []) }
     {
@@ -86,7 +86,7 @@ impl Draft {
     }
 
     /// Adds the next station's board: those of the departures that lead to the destination before this rank, by the
-    /// first two of each, in blocks of so many seconds.
+    /// first two of each, in blocks of that many seconds.
     pub(crate) fn add(
         &mut self,
         departures: &[Departure],
@@ -117,7 +117,7 @@ impl Draft {
 }
 
 impl Boards {
-    // No station yet, with room for so many stations and departures.
+    // No station yet, with room for that many stations and departures.
     fn none(alloc: Global, stations: usize, room: usize) -> Result<Boards, AllocError>
         ensures { IfOk result (λ b. b ≡ []) }
     {

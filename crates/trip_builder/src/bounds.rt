@@ -28,7 +28,7 @@ const BOUNDED_CHANGES: usize = 3;
 const LONGEST_WINDOW: u32 = 14_401;
 
 /// The bounds with one number of changes: of each ride, of what leaves each station, and of what leaves any of them
-/// from a moment on. Without a change rides are told by the ranks.
+/// from a moment on. Without a change rides are known by the ranks.
 #[derive(Drop)]
 struct Reach {
     rides: Rides,
@@ -55,7 +55,7 @@ impl Reach {
         (station.0 as usize) < self.boards.count() && self.afters.precede(seconds, two)
     }
 
-    // Whether these two precede all that leaves any of so many stations from these seconds on.
+    // Whether these two precede all that leaves any of that many stations from these seconds on.
     fn precede_after(&self, stations: u32, seconds: u64, two: FirstTwo) -> bool
         ensures { result ≡ true → PrecedeAfter self.now.boards stations seconds two }
     {
@@ -188,7 +188,7 @@ impl Bounds {
         self.ranks.arrival(two, way)
     }
 
-    /// The part of the window in which what leads to the destination with so many changes leaves.
+    /// The part of the window in which what leads to the destination with that many changes leaves.
     pub(crate) fn narrowed(&self, changes: usize, window: &Window) -> Window
         requires end { window.now.to < 2 ^ 63 }
         ensures station { result.station ≡ window.now.station }
@@ -226,7 +226,7 @@ impl Bounds {
     }
 }
 
-// The first two of the departure with so many changes.
+// The first two of the departure with that many changes.
 fn firsts_of(ranks: &Ranks, rides: &Rides, changes: usize, departure: &Departure) -> FirstTwo
     ensures { (r : RunsView) (w : TripWish) → AreRanks r w ranks.now → AreRides r w ranks.now changes rides.now
         → FirstsOfRide r w ranks.now changes departure.now.run.0 departure.now.stop result }
@@ -237,7 +237,7 @@ fn firsts_of(ranks: &Ranks, rides: &Rides, changes: usize, departure: &Departure
     rides.at(departure.run, departure.stop)
 }
 
-// The bounds with so many changes, by the rides with as many.
+// The bounds with that many changes, by the rides with as many.
 fn reach_of(
     alloc: Global,
     runs: &Runs,
@@ -513,8 +513,8 @@ fn bound_each(
     }
 }
 
-// For each stop of the run, the first two by what gets off further on. A run's stops stand together, and what is asked
-// of a station's board is few numbers.
+// For each stop of the run, the first two by what gets off further on. A run's stops stand together, and a station's
+// board is read for few numbers only.
 fn bound_run(runs: &Runs, ranks: &Ranks, reach: &Reach, run: RunNo, rides: &mut Rides)
     ensures { StayRides runs.now ranks.now reach.now rides.old rides.new }
 {

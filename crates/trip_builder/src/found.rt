@@ -22,9 +22,9 @@ use offer_codes::Segment;
 use std::alloc::AllocError;
 use train_runs::{Departure, Runs};
 
-/// What a search has so far: the best trips, where runs come to the destination, how short a ride there is at least,
-/// the bounds from behind once they are made, whether it is known that there is no trip, how many tries come before
-/// both, and by when what is looked at ahead arrives.
+/// What a search has so far. It has the best trips, where runs come to the destination, how short a ride there is at
+/// least, and the bounds from the destination back once they are made. It also has whether it is known that there is no
+/// trip, how many tries come before both, and by when what is looked at ahead arrives.
 #[derive(Drop)]
 pub(crate) struct Found {
     pub best: Best,
@@ -82,7 +82,8 @@ fn misses(found: &Found, departure: &Departure) -> bool
     }
 }
 
-/// Whether what begins so, has so many more segments and arrives no earlier than the bound doesn't come among the best.
+/// Whether what begins so, has that many more segments and arrives no earlier than the bound doesn't come among the
+/// best.
 pub(crate) fn is_hopeless(
     runs: &Runs,
     found: &Found,

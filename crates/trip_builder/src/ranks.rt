@@ -112,7 +112,8 @@ impl Ranks {
         }
     }
 
-    /// Those of all runs, of which what comes after the limit is too late. Whoever takes them checks that they are right.
+    /// Those of all runs, of which what comes after the limit is too late. Whoever takes them checks that they are
+    /// right.
     pub(crate) fn of(
         alloc: Global,
         runs: &Runs,

@@ -25,7 +25,7 @@ const NOT_AT_ALL: Times = Times {
     to: 0,
 };
 
-/// Where one may be after so many trains of a wish at most, and from when to when a train may be taken there. It may
+/// Where one may be after that many trains of a wish at most, and from when to when a train may be taken there. It may
 /// say more than there is: a time of change isn't asked for, nor what lies between the first moment and the last.
 #[derive(Drop)]
 pub(crate) struct Reached {
@@ -198,7 +198,7 @@ impl Near {
         Ok(Near { one, two })
     }
 
-    /// Where a trip may take a train that so many changes come after.
+    /// Where a trip may take a train after which that many changes come.
     pub(crate) fn before(&self, changes: usize) -> &Reached
         ensures { (r : RunsView) (w : TripWish) → IsNear r w self.now → AreReached r w (2 - changes) result.now }
     {

@@ -12,7 +12,7 @@ pub(crate) struct Parts {
 }
 
 impl Parts {
-    /// Parts of which about so many, and no more, lie between the two seconds.
+    /// Parts of which about that many, and no more, lie between the two seconds.
     pub(crate) fn between(start: u64, end: u64, most: u64) -> Parts
         ensures { result.start ≡ start }
     {

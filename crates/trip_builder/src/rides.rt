@@ -10,8 +10,9 @@ use rail_ids::{RunNo, StationNo};
 use std::alloc::{AllocError, Global};
 use train_runs::Runs;
 
-/// For each run and each of so many of its first stops, the first two that come to the destination by what takes the
-/// run there; and which stations something leaves that comes there in time, once that was looked at for all runs.
+/// For each run and each of that many of its first stops, the first two that come to the destination by what takes the
+/// run there. It also has which stations something leaves that comes there in time, once that was looked at for all
+/// runs.
 #[derive(Drop)]
 pub(crate) struct Rides {
     width: u8,
@@ -22,7 +23,7 @@ pub(crate) struct Rides {
 }
 
 impl Rides {
-    /// Nothing is known of the rides from the first so many stops of each run, nor of the stations.
+    /// Nothing is known of the rides from the first stops of each run, that many of them, nor of the stations.
     pub(crate) fn unknown(
         alloc: Global,
         runs: &Runs,
@@ -138,7 +139,8 @@ impl Rides {
         true
     }
 
-    /// Takes the marks of those of so many stations away to which one doesn't come: no trip of the wish goes on there.
+    /// Takes away the marks of those of that many stations to which one doesn't come: no trip of the wish goes on
+    /// there.
     pub(crate) fn leave_far(&mut self, stations: u32, reached: &Reached)
         ensures { (r : RunsView) (w : TripWish) (v : RanksView) (changes : ℕ)
             → AreReached r w (2 - changes) reached.now → AreRides r w v changes self.old
@@ -162,7 +164,7 @@ impl Rides {
     }
 }
 
-// Takes the marks of those of so many stations away to which one doesn't come.
+// Takes away the marks of those of that many stations to which one doesn't come.
 fn unmark_far(marks: &mut [bool], stations: u32, reached: &Reached)
     ensures { StayMarked reached.now marks.old marks.new }
 {
@@ -184,7 +186,7 @@ fn unmark(marks: &mut [bool], station: StationNo, reached: &Reached)
     }
 }
 
-// Where the two of the run at the stop stand, with so many stops for each run.
+// Where the two of the run at the stop stand, with that many stops for each run.
 fn place(width: u8, run: RunNo, stop: u8) -> usize
     ensures { result ≡ run.0 * width + stop }
 {

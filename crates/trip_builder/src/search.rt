@@ -25,7 +25,7 @@ pub(crate) const MOST_SEGMENTS: usize = 3;
 /// station, and some passes over all runs and their departures.
 const SHORT_SEARCH: u32 = 50_000;
 
-/// A train with so many stops is a try more: each of them is looked at.
+/// A train with that many stops is a try more: each of them is looked at.
 const STOPS_OF_A_TRY: u32 = 16;
 
 /// The first sixteen trips of the wish: by their last arrival, then the later first departure, then fewer segments,
@@ -69,7 +69,7 @@ fn time_rides(runs: &Runs, wish: &TripWish, found: &mut Found) -> Result<(), All
     Ok(())
 }
 
-// Tries all trips that go on from the way with one train and so many changes to others.
+// Tries all trips that go on from the way with one train and that many changes to others.
 #[cycle(search)]
 fn go_on(
     runs: &Runs,

@@ -65,7 +65,7 @@ impl Shortest {
         Ok(shortest)
     }
 
-    /// How many seconds what leaves the station takes at least, with so many changes, to the destination.
+    /// How many seconds what leaves the station takes at least, with that many changes, to the destination.
     pub(crate) fn least_from(&self, changes: usize, station: StationNo) -> u64
         ensures least { (r : RunsView) (w : TripWish) → Rise r → AreShortest r w self.now
             → TakesAtLeast r w changes station result }

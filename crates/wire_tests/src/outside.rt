@@ -16,7 +16,7 @@ fn is_content(fetched: &Fetched, content: &[u8]) -> bool {
     }
 }
 
-/// Is interrupted so many times, then moves one byte, then fails.
+/// Is interrupted that many times, then moves one byte, then fails.
 #[derive(Drop)]
 struct Unsteady {
     interrupts: u32,
@@ -57,7 +57,7 @@ impl Write for Unsteady {
     }
 }
 
-// A read after so many interrupts, of a device that then gives so many bytes.
+// A read after that many interrupts, of a device that then gives that many bytes.
 fn read_behind(interrupts: u32, moves: u32) -> Pulled {
     let mut room = [0u8; 4];
     let mut source = ReaderSource::new(Unsteady { interrupts, moves });
@@ -75,7 +75,7 @@ fn reader_source_retries_interrupts(rt: HostRuntime) {
     assert!(rt; input.read(&mut room) == Pulled::End);
 }
 
-// A write of two bytes after so many interrupts, to a device that then takes so many.
+// A write of two bytes after that many interrupts, to a device that then takes that many.
 fn write_behind(interrupts: u32, moves: u32) -> Pushed {
     let mut sink = WriterSink::new(Unsteady { interrupts, moves });
     sink.write(b"ab")

@@ -8,8 +8,8 @@ use std::process::Abort;
 use std::test::Fail;
 use test_kit::SlowSource;
 
-/// Streams: a front, a piece so many times, an end; how many requests are given, and what comes after them, unless the
-/// last of them is the last of its connection.
+/// Streams: a front, a piece that many times, an end; how many requests are given, and what comes after them, unless
+/// the last of them is the last of its connection.
 const STREAMS: &str = "||0||0|End~\
 \r\n\n\r\n||0||0|End~\
 |\n|16383||0|End~\

@@ -25,6 +25,7 @@ impl Responder for Echo {
         Answer {
             head,
             body: Body::Small(body),
+            after: 0,
         }
     }
 
@@ -33,6 +34,7 @@ impl Responder for Echo {
         Answer {
             head,
             body: Body::Small(ArrayVec::new()),
+            after: 0,
         }
     }
 }
@@ -70,6 +72,10 @@ impl Sink for JoiningSink {
             Ok(()) => PushedBoth::Took(first.len() + second.len()),
             Err(_) => PushedBoth::Took(first.len()),
         }
+    }
+
+    fn hold_until(&mut self, cut: u64) {
+        let _ = cut;
     }
 }
 

@@ -2,20 +2,22 @@ use Rattle.std.proofs.Common.{◌≡◌, ◌∙◌, ◌+◌, ◌++◌, ◌∷◌
 use mathlib.Core.List.{IsPrefix}
 use Rattle.std.proofs.lemmas.List.{length-append}
 use Rattle.host_serve.specs.Crews.{AreReady, IsCrew, IsFirst}
-use Rattle.host_serve.specs.Turns.{FitsBooks}
+use Rattle.claim_rule.specs.Rule.{BooksView}
+use Rattle.host_serve.specs.Turns.{FitsBooks, HasCatalogue, gated}
 use Rattle.host_serve.proofs.Crewing.{joined, parted_first, parted_desk, parted_empty, popped_clock, ready_more, shorter}
 use Rattle.host_serve.proofs.crew.crew_of.Goals as goal
 
 pub loop-number-init : goal.loop-number-init
 loop-number-init g c =
-    let books = c.args.books.now in
+    let books = c.args.opened.now.books in
     let nobody = c.requires.nobody in
     let told = g.C.Clock.told in
     let clocks = c.args.means.clocks.items in
     record {
-      first = subst (λ l. IsFirst books (length l) c.args.first.now) (sym nobody) c.requires.first;
+      books = refl;
+      first = subst (λ l. IsFirst books (length l) c.args.opened.now.first) (sym nobody) c.requires.first;
       crew = subst (λ l. IsCrew FitsBooks books l) (sym nobody) (λ i none lt. absurd (omega (arith, lt)));
-      ready = subst (λ l. AreReady l (λ s. s.share.amount) told (record { cat = c.args.common.cat.now; said = c.args.common.said; ticker = c.args.means.ticker; clocks = map told clocks })) (sym nobody)
+      ready = subst (λ l. AreReady l (λ s. s.share.amount) (gated told) (record { cat = c.args.common.cat.now; said = c.args.common.said; ticker = c.args.means.ticker; clocks = map told clocks })) (sym nobody)
           (λ i none lt. absurd (omega (arith, lt)));
       parts = omega (arith, c.requires.parts);
       nothing = c.requires.nothing;
@@ -29,7 +31,7 @@ loop-number-init g c =
 
 pub loop-number-preserved : goal.loop-number-preserved
 loop-number-preserved g c =
-    let books = c.args.books.now in
+    let books = c.loop-number.opened.books in
     let inv = c.loop-number.invariant in
     let crew = c.loop-number.crew.items in
     let items = c.push_reserved.ensures.items in
@@ -42,16 +44,17 @@ loop-number-preserved g c =
     let clocks = c.args.means.clocks.items in
     let front = subst (λ l. IsPrefix l clocks) whole inv.front in
     record {
+      books = inv.books;
       first = subst (λ (k : ℕ). IsFirst books k c.part.new.desk) (sym many)
-          (parted_first books n c.loop-number.first c.part.new.desk inv.first part.own.0 part.met part.parted (part.still.1 inv.first.tidy));
+          (parted_first books n c.loop-number.opened.first c.part.new.desk inv.first part.own.0 part.met part.parted (part.still.1 inv.first.tidy));
       crew = subst (λ l. IsCrew FitsBooks books l) (sym items)
           (joined FitsBooks books crew _ inv.crew (record {
-            fits = c.requires.has;
-            desk = parted_desk books n c.loop-number.first c.part.new.desk c.part.result inv.first part.parted part.new.0 part.own.1 part.tidy;
+            fits = subst (λ (b : BooksView). HasCatalogue b c.args.common.cat.now) (sym inv.books) c.requires.has;
+            desk = parted_desk books n c.loop-number.opened.first c.part.new.desk c.part.result inv.first part.parted part.new.0 part.own.1 part.tidy;
           }));
-      ready = ready_more (λ s. s.share.amount) told _ _ crew _ items inv.ready (record {
+      ready = ready_more (λ s. s.share.amount) (gated told) _ _ crew _ items inv.ready (record {
         post = (omega (arith, inv.count, c.loop-number-test.true), refl);
-        clock = popped_clock told clocks c.pop.new.self.items c.unwrap.result n front (omega (arith, inv.left, inv.count, popped));
+        clock = c.new.ensures.clock ∙ popped_clock told clocks c.pop.new.self.items c.unwrap.result n front (omega (arith, inv.left, inv.count, popped));
         unserved = c.split_off.ensures.amount;
         none = parted_empty n c.part.new.desk c.part.result (part.parted ∙ ap (λ (k : ℕ). k + 1) inv.first.parted) part.new.0 part.new.1;
       });
@@ -65,26 +68,27 @@ loop-number-preserved g c =
       room = omega (arith, c.push_reserved.ensures.capacity, inv.room);
     }
 
-pub returns-clause-first : goal.returns-clause-first
-returns-clause-first g c =
-    let books = c.args.books.now in
+-- the crew with the member that sweeps
+pub with_watchers-requires-clause-first : goal.with_watchers-requires-clause-first
+with_watchers-requires-clause-first g c =
+    let books = c.loop-number.opened.books in
     let inv = c.loop-number.invariant in
     let crew = c.loop-number.crew.items in
     let part = c.part-2.ensures in
     let many : length c.push_reserved-2.new.self.items ≡ length crew + 1 = ap length c.push_reserved-2.ensures.items ∙ length-append crew _ in
     subst (λ (k : ℕ). IsFirst books k c.part-2.new.desk) (sym many)
-    (parted_first books (length crew) c.loop-number.first c.part-2.new.desk inv.first part.own.0 part.met part.parted (part.still.1 inv.first.tidy))
+    (parted_first books (length crew) c.loop-number.opened.first c.part-2.new.desk inv.first part.own.0 part.met part.parted (part.still.1 inv.first.tidy))
 
-pub returns-clause-crew : goal.returns-clause-crew
-returns-clause-crew g c =
-    let books = c.args.books.now in
+pub with_watchers-requires-clause-crew : goal.with_watchers-requires-clause-crew
+with_watchers-requires-clause-crew g c =
+    let books = c.loop-number.opened.books in
     let inv = c.loop-number.invariant in
     let crew = c.loop-number.crew.items in
     let part = c.part-2.ensures in
     subst (λ l. IsCrew FitsBooks books l) (sym c.push_reserved-2.ensures.items)
     (joined FitsBooks books crew _ inv.crew (record {
       fits = tt {0};
-      desk = parted_desk books (length crew) c.loop-number.first c.part-2.new.desk c.part-2.result inv.first part.parted part.new.0 part.own.1 part.tidy;
+      desk = parted_desk books (length crew) c.loop-number.opened.first c.part-2.new.desk c.part-2.result inv.first part.parted part.new.0 part.own.1 part.tidy;
     }))
 
 pub returns-clause-ready : goal.returns-clause-ready
@@ -98,9 +102,11 @@ returns-clause-ready g c =
     let whole : c.loop-number.clocks.items ≡ c.pop-2.new.self.items ++ c.unwrap-2.result ∷ [] = search rules in
     let popped : length c.loop-number.clocks.items ≡ length c.pop-2.new.self.items + 1 = ap length whole ∙ length-append c.pop-2.new.self.items _ in
     let front = subst (λ l. IsPrefix l clocks) whole inv.front in
-    ready_more (λ s. s.share.amount) told _ _ crew _ c.push_reserved-2.ensures.items inv.ready (record {
+    let many : length c.push_reserved-2.new.self.items ≡ length crew + 1 = ap length c.push_reserved-2.ensures.items ∙ length-append crew _ in
+    c.with_watchers.ensures.ready _ (omega (arith, many, at))
+    (ready_more (λ s. s.share.amount) (gated told) _ _ crew _ c.push_reserved-2.ensures.items inv.ready (record {
       post = (at, refl, refl);
-      clock = popped_clock told clocks c.pop-2.new.self.items c.unwrap-2.result (length crew) front (omega (arith, inv.left, inv.count, popped));
+      clock = c.new-2.ensures.clock ∙ popped_clock told clocks c.pop-2.new.self.items c.unwrap-2.result (length crew) front (omega (arith, inv.left, inv.count, popped));
       unserved = refl;
       none = parted_empty (length crew) c.part-2.new.desk c.part-2.result (part.parted ∙ ap (λ (k : ℕ). k + 1) inv.first.parted) part.new.0 part.new.1;
-    })
+    }))

@@ -1,14 +1,15 @@
 use Rattle.std.proofs.Common.{◌≡◌, ◌≤◌, ◌+◌, length, map, vec_len, vec_capacity}
 use mathlib.Core.List.{IsPrefix}
 use Rattle.host_serve.specs.Crews.{AreReady, IsCrew, IsFirst}
-use Rattle.host_serve.specs.Turns.{FitsBooks}
+use Rattle.host_serve.specs.Turns.{FitsBooks, gated}
 use Rattle.host_serve.proofs.crew.crew_of.Given as goal
 
 abbrev pub invariant-loop-number : goal.invariant-loop-number
 invariant-loop-number g l = record {
-  first : IsFirst l.books (length l.crew.items) l.first;
-  crew : IsCrew FitsBooks l.books l.crew.items;
-  ready : AreReady l.crew.items (λ s. s.share.amount) g.C.Clock.told (record { cat = l.common.cat.now; said = l.common.said; ticker = l.ticker; clocks = map g.C.Clock.told l.fn.means.clocks.items });
+  books : l.opened.books ≡ l.fn.opened.books;
+  first : IsFirst l.opened.books (length l.crew.items) l.opened.first;
+  crew : IsCrew FitsBooks l.opened.books l.crew.items;
+  ready : AreReady l.crew.items (λ s. s.share.amount) (gated g.C.Clock.told) (record { cat = l.common.cat.now; said = l.common.said; ticker = l.ticker; clocks = map g.C.Clock.told l.fn.means.clocks.items });
   parts : l.share.parts + l._number ≡ l.common.said.workers;
   nothing : l.share.amount ≡ 0;
   count : length l.crew.items ≡ l._number;
@@ -16,5 +17,5 @@ invariant-loop-number g l = record {
   front : IsPrefix l.clocks.items l.fn.means.clocks.items;
   left : length l.clocks.items + l._number ≡ length l.fn.means.clocks.items;
   len : vec_len l.crew ≡ l._number;
-  room : l.common.said.workers + 1 ≤ vec_capacity l.crew;
+  room : l.common.said.workers + 1 + length l.watchers.items ≤ vec_capacity l.crew;
 }

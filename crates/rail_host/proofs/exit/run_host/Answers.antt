@@ -1,4 +1,4 @@
-use Rattle.std.proofs.Common.{◌≡◌, ℕ, List, Ok, ap, subst, sym}
+use Rattle.std.proofs.Common.{◌≡◌, ℕ, List, Option, Ok, ap, subst, sym}
 use Rattle.std.specs.Prelude.{IfOk, Result}
 use Rattle.host_words.specs.Options.{words_texts}
 use Rattle.host_serve.specs.Serve.{Left}
@@ -11,10 +11,10 @@ if_ok : {T E : Type 0} (P : T → Type 0) (r : Result T E) (x : T) → r ≡ Ok 
 if_ok {T} {E} P r x is p = subst (λ (s : Result T E). IfOk s P) (sym is) p
 
 -- the same words and the same status
-ran_as : {F S K E : Type 0} (words said : List (List ℕ)) (left : Left) (status code : ℕ) (d : Devices F S K E) → words ≡ said → code ≡ status
-    → Ran words left status d → Ran said left code d
-ran_as words said left status code d same is ran =
-    subst (λ (w : List (List ℕ)). Ran w left code d) same (subst (λ (n : ℕ). Ran words left n d) (sym is) ran)
+ran_as : {F S K E : Type 0} (words said : List (List ℕ)) (left : Left) (journal : Option (List ℕ)) (status code : ℕ) (d : Devices F S K E) → words ≡ said
+    → code ≡ status → Ran words left journal status d → Ran said left journal code d
+ran_as words said left journal status code d same is ran =
+    subst (λ (w : List (List ℕ)). Ran w left journal code d) same (subst (λ (n : ℕ). Ran words left journal n d) (sym is) ran)
 
 pub returns-in-Ok-clause-ran : goal.returns-in-Ok-clause-ran
 returns-in-Ok-clause-ran g c =
@@ -22,5 +22,5 @@ returns-in-Ok-clause-ran g c =
     if_ok _ _ c.in-Ok.words c.in-Ok.is (
       end.result.listener,
       end.result.wall,
-      ran_as _ _ _ _ _ _ (ap words_texts c.deref.ensures.value) c.from.ensures end.ensures.ran,
+      ran_as _ _ _ _ _ _ _ (ap words_texts c.deref.ensures.value) c.from.ensures end.ensures.ran,
     )

@@ -2,7 +2,7 @@ use Rattle.std.proofs.Common.{Some, arith, inl, inr, refl, subst}
 use Rattle.host_words.specs.Commands.{IsFor}
 use Rattle.host_words.specs.Options.{words_texts}
 use Rattle.host_words.specs.declared.command.CommandName.{CommandName}
-use Rattle.host_words.specs.declared.command.CommandName.TheVariants.{Tiny, Replay, Export, Settle}
+use Rattle.host_words.specs.declared.command.CommandName.TheVariants.{Tiny, Replay, Export, Settle, Recover}
 use Rattle.rail_host.proofs.host.run_plain.Goals as goal
 
 pub returns-in-Some-Tiny : goal.returns-in-Some-Tiny
@@ -152,6 +152,47 @@ returns-in-Some-Settle g c =
           shelf = record {
             without = e.without;
             no_books = λ files told none. e.no_books files told none.catalogue none.export none.said none.is;
+            missed = e.missed;
+            steady = e.shelf_steady;
+            same = e.files;
+          };
+        })
+      ],
+    )
+
+pub returns-in-Some-Recover : goal.returns-in-Some-Recover
+returns-in-Some-Recover g c =
+    let e = c.run_recover.ensures in (
+      Some Recover,
+      subst (λ (n : CommandName). IsFor n (words_texts c.args.words.now)) c.in-Some-Recover.field-0-is c.in-Some-Recover.ensures,
+      elim e.run [
+        | inl two ↦ inl (
+          e.words two,
+          record {
+            is = two;
+            untouched = record {
+              unfetched = e.nothing_fetched two;
+              unread = refl;
+              unwritten = e.nothing_written (λ zero. omega (arith, zero, two)) (λ four. omega (arith, four, two));
+            };
+            note = e.refused two;
+          },
+        )
+        | inr ran ↦ inr (record {
+          end = ran.0;
+          is = ran.1;
+          note = ran.3;
+          ran = ran.2;
+          recovered = e.recovered;
+          write_fault = e.write_fault;
+          nothing_written = e.nothing_written;
+          unread = refl;
+          read_cause = e.read_cause;
+          output = record { cause = e.write_cause; steady = e.write_steady };
+          cause = ran.4;
+          shelf = record {
+            without = e.without;
+            no_books = λ files told none. e.no_books files told none.catalogue none.journal none.said none.is;
             missed = e.missed;
             steady = e.shelf_steady;
             same = e.files;

@@ -1,11 +1,11 @@
-use Rattle.std.proofs.Common.{Option, Some, refl, subst}
+use Rattle.std.proofs.Common.{Option, Some, refl, subst, inl, inr}
 use Rattle.claim_rule.specs.Walls.{WallView}
 use Rattle.host_words.specs.Commands.{IsFor}
 use Rattle.host_words.specs.Options.{words_texts}
 use Rattle.host_words.specs.declared.command.CommandName.{CommandName}
-use Rattle.host_words.specs.declared.command.CommandName.TheVariants.{Tiny, Replay, Export, Settle, Drill, Serve}
+use Rattle.host_words.specs.declared.command.CommandName.TheVariants.{Tiny, Replay, Export, Settle, Recover, Drill, Serve}
 use Rattle.host_drill.specs.Ends.{Leaves}
-use Rattle.rail_host.proofs.Naming.{differs, no_drill, no_export, no_replay, no_serve, no_settle, no_tiny, one_command}
+use Rattle.rail_host.proofs.Naming.{differs, no_drill, no_export, no_kept, no_recover, no_replay, no_serve, no_settle, no_tiny, one_command}
 use Rattle.rail_host.proofs.Refusing.{plain_ends, plain_refused, plain_words}
 use Rattle.rail_host.proofs.Walls.{same_wall}
 use Rattle.rail_host.proofs.program.run_command.Goals as goal
@@ -19,9 +19,17 @@ returns-in-Serve-clause-words g c two =
       replay = no_replay words (differs words Serve Replay (λ e. absurd cc) serve);
       export = no_export words (differs words Serve Export (λ e. absurd cc) serve);
       settle = no_settle words (differs words Serve Settle (λ e. absurd cc) serve);
+      recover = no_recover words (differs words Serve Recover (λ e. absurd cc) serve);
       drill = no_drill words (differs words Serve Drill (λ e. absurd cc) serve);
-      serve = (c.serve_port.ensures.ended.refused two).0;
+      serve = λ said is. c.serve_port.ensures.refused two said (record { command = is.command; is = is.is });
+      kept = λ said name is. c.serve_port.ensures.refused two said (record { command = is.command; is = is.is });
     }
+
+pub returns-in-Serve-clause-refused_words : goal.returns-in-Serve-clause-refused_words
+returns-in-Serve-clause-refused_words g c none = elim c.serve_port.ensures.ended [
+  | inl alone ↦ alone.refused_words none.serve
+  | inr keeping ↦ absurd (none.kept keeping.kept.said keeping.kept.name keeping.kept.words_are)
+]
 
 pub returns-in-Drill-clause-ran : goal.returns-in-Drill-clause-ran
 returns-in-Drill-clause-ran g c =
@@ -51,8 +59,10 @@ returns-in-Drill-clause-words g c two =
       replay = no_replay words (differs words Drill Replay (λ e. absurd cc) drill);
       export = no_export words (differs words Drill Export (λ e. absurd cc) drill);
       settle = no_settle words (differs words Drill Settle (λ e. absurd cc) drill);
+      recover = no_recover words (differs words Drill Recover (λ e. absurd cc) drill);
       drill = c.run_drill-status.ensures.words two;
       serve = no_serve words (differs words Drill Serve (λ e. absurd cc) drill);
+      kept = no_kept words (differs words Drill Serve (λ e. absurd cc) drill);
     }
 
 pub returns-in_default-clause-ran : goal.returns-in_default-clause-ran
@@ -61,7 +71,7 @@ returns-in_default-clause-ran g c =
     let no_drills : IsFor Drill words → ⊥ = λ drill. c.in_default.not-Drill (one_command _ Drill words c.in-Some.ensures drill) in
     let no_serves : IsFor Serve words → ⊥ = λ serve. c.in_default.not-Serve (one_command _ Serve words c.in-Some.ensures serve) in
     let ran = c.plain_end.ensures.ran in
-    (ran.0, ran.1, plain_ends words _ _ no_drills no_serves _ c.plain_end.ensures.wall ran.0 ran.1 ran.2)
+    (ran.0, ran.1, plain_ends words _ _ no_drills no_serves _ _ c.plain_end.ensures.wall ran.0 ran.1 ran.2)
 
 pub returns-in_default-clause-words : goal.returns-in_default-clause-words
 returns-in_default-clause-words g c two =
@@ -84,7 +94,7 @@ returns-in-None-clause-ran g c =
     let ran = c.plain_end-in-None.ensures.ran in (
       ran.0,
       ran.1,
-      plain_ends (words_texts c.args.words.now) _ _ (c.in-None.ensures Drill) (c.in-None.ensures Serve) _
+      plain_ends (words_texts c.args.words.now) _ _ (c.in-None.ensures Drill) (c.in-None.ensures Serve) _ _
           c.plain_end-in-None.ensures.wall ran.0 ran.1 ran.2,
     )
 

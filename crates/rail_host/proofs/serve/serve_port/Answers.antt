@@ -1,16 +1,20 @@
-use Rattle.std.proofs.Common.{List, None, arith, inr, refl, subst}
+use Rattle.std.proofs.Common.{◌⊎◌, List, None, arith, inl, inr, refl, replicate, subst}
 use Rattle.host_words.specs.Limits.{clock_count}
 use Rattle.host_words.specs.Options.{words_texts}
-use Rattle.host_serve.specs.Serve.{Runs}
-use Rattle.host_serve.specs.Turns.{Asks, HandedBy, Readings}
+use Rattle.host_serve.specs.Kept.{EndsAlone, EndsKept}
+use Rattle.host_serve.specs.Serve.{left_by}
+use Rattle.host_serve.specs.Turns.{Asks, Readings}
 use Rattle.host_serve.specs.declared.end.ServeOutcome.TheVariants.{NoMemory}
+use Rattle.rail_host.specs.Commands.{scene}
+use Rattle.rail_host.specs.Devices.{Devices}
+use Rattle.rail_host.proofs.Alone.{alone}
 use Rattle.rail_host.proofs.Untold.{untold}
 use Rattle.rail_host.proofs.serve.serve_port.Goals as goal
 
 -- there was no memory for the clocks
 pub returns-in_default-clause-ended : goal.returns-in_default-clause-ended
 returns-in_default-clause-ended g c =
-    let five = c.end_command.ensures.status in record {
+    let five = c.end_command.ensures.status in inl (record {
       outcome = NoMemory;
       is = five;
       ran = (refl, c.requires.fresh, refl);
@@ -39,44 +43,50 @@ returns-in_default-clause-ended g c =
       refused_words = λ none. inr five;
       unread = refl;
       unwritten = refl;
-    }
+    })
 
 pub returns-clause-ended : goal.returns-clause-ended
 returns-clause-ended g c =
-    let e = c.run_serve.ensures in
-    let run = e.run in
-    record {
-      outcome = run.0;
-      is = run.1;
-      ran = subst (λ (clocks : List Readings). Runs (words_texts c.args.words.now) (g.F.Shelf.told c.args.devices.now.shelf)
-          (record {
-            faults_before = g.L.Listener.faults c.args.listener;
-            before = g.L.Listener.told c.args.listener;
-            clocks = clocks;
-            asks = Asks g.T.Ticker.ticked c.args.ticker;
-            hands = HandedBy g.L.Listener.becomes g.L.Listener.hands c.args.listener;
-            faults_after = g.L.Listener.faults c.run_serve.result.listener;
-            after = g.L.Listener.told c.run_serve.result.listener;
-            wall = c.run_serve.result.wall;
-          }) run.0) (untold (λ clock. None) (λ clock. refl) _ clock_count c.in-Ok.ensures) run.2;
-      told = run.3;
-      exported = e.exported;
-      write_cause = e.write_cause;
-      cause = run.4;
-      from = record {
-        without = e.without;
-        no_books = e.no_books;
-        missed = e.missed;
-        read_cause = e.read_cause;
-        shelf_steady = e.shelf_steady;
-        steady = e.steady;
-        never_falls = e.never_falls;
-        wall = e.wall;
-        no_wall = e.no_wall;
-        same = e.files;
+    let e = c.serve_kept.ensures in
+    let words = words_texts c.args.words.now in
+    let status = c.serve_kept.result.status in
+    let journal = g.J.Journal.told c.args.given.keeping.journal in
+    let left = λ (clocks : List Readings). left_by g.L.Listener.told g.L.Listener.faults g.L.Listener.becomes g.L.Listener.hands clocks
+    (Asks g.T.Ticker.ticked c.args.given.ticker) c.args.given.listener c.serve_kept.result.listener c.serve_kept.result.wall in
+    let d : Devices _ _ _ _ = record {
+      shelf = record {
+        told = g.F.Shelf.told;
+        faults = g.F.Shelf.faults;
+        misses = g.F.Shelf.misses;
+        old = c.args.devices.now.shelf;
+        new = c.serve_kept.new.shelf;
       };
-      refused = λ two. (e.words two, record { unfetched = e.nothing_fetched two; unread = refl; unwritten = refl }, e.refused_wall two);
-      refused_words = e.refused_words;
-      unread = refl;
-      unwritten = refl;
-    }
+      input = record {
+        told = g.S.Source.told;
+        faults = g.S.Source.faults;
+        old = c.args.devices.now.input;
+        new = c.args.devices.now.input;
+      };
+      output = record {
+        told = g.K.Sink.told;
+        faults = g.K.Sink.faults;
+        old = c.args.devices.now.output;
+        new = c.args.devices.now.output;
+      };
+      notes = record {
+        told = g.E.Sink.told;
+        faults = g.E.Sink.faults;
+        old = c.args.devices.now.notes;
+        new = c.serve_kept.new.notes;
+      };
+    } in
+    let ended = subst (λ (clocks : List Readings). EndsAlone (scene words (left clocks) d) status ⊎ EndsKept (scene words (left clocks) d) journal status)
+    (untold (λ clock. None) (λ clock. refl) _ clock_count c.in-Ok.ensures) e.ended in
+    elim ended [
+      | inl alone_so ↦ inl (alone words (left (replicate clock_count None)) status d alone_so e.never_falls e.files
+          (λ two. record { unfetched = e.nothing_fetched two; unread = refl; unwritten = refl }) refl refl)
+      | inr kept ↦ inr (record { kept = kept; never_falls = e.never_falls; same = e.files; unread = refl; unwritten = refl })
+    ]
+
+pub returns-clause-refused : goal.returns-clause-refused
+returns-clause-refused g c two = c.serve_kept.ensures.words two

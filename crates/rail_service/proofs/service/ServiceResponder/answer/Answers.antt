@@ -1,4 +1,4 @@
-use Rattle.std.proofs.Common.{Bool, Option, Result, Ok, Err, refl, ap, subst, ◌∙◌}
+use Rattle.std.proofs.Common.{Bool, Option, Result, Ok, Err, refl, sym, ap, subst, ◌∙◌}
 use Rattle.rail_ids.specs.declared.RetailerNo.{RetailerNo}
 use Rattle.http_wire.specs.Pieces.{request_text}
 use Rattle.claim_rule.proofs.Shapes.{shape_none}
@@ -8,26 +8,39 @@ use Rattle.rail_service.specs.Bytes.{reply_bytes}
 use Rattle.rail_service.proofs.Telling.{of_problem}
 use Rattle.osdm_texts.specs.declared.problem.Problem.{Problem}
 use Rattle.rail_service.specs.Serving.{first_after, admitted, AsksAdmitted}
+use Rattle.rail_service.specs.Connections.{IsReading}
 use Rattle.rail_service.specs.Responding.{view_of}
+use Rattle.service_rules.specs.Checks.{ordered}
+use Rattle.rail_service.proofs.Performed.{told_so}
 use Rattle.rail_service.proofs.Replying.{reading_of, answer_by}
 use Rattle.rail_service.proofs.service.ServiceResponder.answer.Goals as goal
 
 pub returns-clause-answers : goal.returns-clause-answers
 returns-clause-answers g c =
     let cat = c.args.self.now.cat.now in
-    let did = c.perform.ensures.answer in
     let first = c.args.self.now.first in
     let request = request_text c.args.intake.now.taken c.args.request.now in
-    let may = c.admit-admitted.ensures.value ∙ ap (λ (retailer : Option RetailerNo). admitted first retailer) c.retailer_of-retailer.ensures.value in
-    let asks = subst (λ (a : Result RetailerNo Problem). AsksAdmitted cat request a (Ok (c.in-Ok.asked.0, c.in-Ok.asked.1))) may c.in-Ok.ensures.asks in
+    let may = c.admit-admitted.ensures.value
+    ∙ ap (λ (retailer : Option RetailerNo). admitted first retailer) c.retailer_of-retailer.ensures.value in
+    let asks = subst (λ (a : Result RetailerNo Problem). AsksAdmitted cat request a (Ok (c.in-Ok.asked.0, c.in-Ok.asked.1)))
+    may c.in-Ok.ensures.asks in
+    let told = g.C.Clock.told in
+    let reading = subst (IsReading (told c.args.self.now.clock.now) c.now-now.result)
+    (sym (c.end.ensures.same ∙ c.begin.ensures.same))
+    (reading_of _ _ _ c.now-now.ensures.first c.now-now.ensures.rest) in
+    let did = told_so cat c.in-Ok.asked.0.0 c.now-now.result c.args.last
+    (ordered cat c.now-now.result c.in-Ok.asked.1) _ _ _ _
+    c.requires.ready.own.legal c.say-said.ensures.said c.answer_of.ensures.bytes in
     record {
-      answer = answer_by cat (view_of g.C.Clock.told c.args.self.now) (request_text c.args.intake.now.taken c.args.request.now) _ _ c.now-now.result did.0
-          c.requires.ready.own.legal (reading_of _ _ _ c.now-now.ensures.first c.now-now.ensures.rest)
+      answer = answer_by cat (view_of told c.args.self.now) request _ _ c.now-now.result did.0
+          c.requires.ready.own.legal reading
           (Ok (c.in-Ok.asked.0, c.in-Ok.asked.1), asks, (did.1, did.2))
           (did.4 ∙ ap (λ (last : Bool). reply_bytes cat last did.0) c.requires.last)
-          (c.first_after-self.ensures.value ∙ ap (λ (retailer : Option RetailerNo). first_after c.args.self.now.first retailer) c.retailer_of-retailer.ensures.value)
-          c.perform.ensures.idle c.perform.ensures.no_item;
-      tidy = c.perform.ensures.tidy;
+          (c.first_after-self.ensures.value
+          ∙ ap (λ (retailer : Option RetailerNo). first_after first retailer) c.retailer_of-retailer.ensures.value)
+          c.say-said.ensures.home.home.idle
+          (makes_empty c.args.self.now.books.now _ c.say-said.ensures.home.home.own c.say-said.ensures.home.home.idle.0);
+      tidy = c.say-said.ensures.home.tidy;
       cat = refl;
       books = refl;
       desk = refl;

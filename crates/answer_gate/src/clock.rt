@@ -1,0 +1,79 @@
+// A clock that goes through a gate.
+ghost use Rattle.std.specs.Prelude.{◌≡◌};
+ghost use Rattle.rail_io.specs.declared.clock.Reach.TheVariants.{Apart};
+
+use crate::gate::Gate;
+use rail_io::{Clock, Reach};
+use rail_time::Moment;
+use std::sync::Wait;
+
+/// A clock that enters the gate where a command begins that may change bookings, and leaves it where that command has
+/// its answer. Where there is no gate it does as its clock does.
+#[derive(Drop)]
+pub struct GatedClock<'g, R, C> {
+    clock: C,
+    gate: Option<&'g Gate>,
+    rt: &'g R,
+    /// What the command that is under way has to do with bookings.
+    reach: Reach,
+}
+
+impl<'g, R, C: Clock> GatedClock<'g, R, C> {
+    /// The clock before the gate, with no command under way.
+    pub fn new(clock: C, gate: Option<&'g Gate>, rt: &'g R) -> GatedClock<'g, R, C>
+        ensures clock { C.told result.clock ≡ C.told clock }
+        ensures gate { result.gate ≡ gate.entry }
+        ensures idle { result.reach ≡ Apart }
+    {
+        GatedClock {
+            clock,
+            gate,
+            rt,
+            reach: Reach::Apart,
+        }
+    }
+
+    /// The clock before the gate, at its end.
+    pub fn into_inner(self) -> C
+        ensures { C.told result ≡ C.told self.entry.clock }
+    {
+        let GatedClock { clock, .. } = self;
+        clock
+    }
+}
+
+impl<R: Wait, C: Clock> Clock for GatedClock<'_, R, C> {
+    ghost told = { λ c. C.told c.clock };
+
+    fn now(&mut self) -> Moment {
+        self.clock.now()
+    }
+
+    fn begin(&mut self, reach: Reach)
+        ensures same { C.told self.new.clock ≡ C.told self.old.clock }
+        ensures reach { self.new.reach ≡ reach }
+    {
+        self.reach = reach;
+        match self.gate {
+            Some(gate) if reach == Reach::Changes => gate.enter(self.rt),
+            Some(_) => {}
+            None => self.clock.begin(reach),
+        }
+    }
+
+    fn end(&mut self) -> u64
+        ensures same { C.told self.new.clock ≡ C.told self.old.clock }
+        ensures idle { self.new.reach ≡ Apart }
+    {
+        let reach = self.reach;
+        self.reach = Reach::Apart;
+        let Some(gate) = self.gate else {
+            return self.clock.end();
+        };
+        match reach {
+            Reach::Apart => 0,
+            Reach::Tells => gate.tell(self.rt),
+            Reach::Changes => gate.leave(self.rt),
+        }
+    }
+}

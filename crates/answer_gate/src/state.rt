@@ -1,0 +1,257 @@
+// What a gate's lock keeps.
+ghost use Rattle.std.specs.Prelude.{◌≡◌, ◌≢◌, ◌≤◌, ◌<◌, ◌+◌, ◌-◌, ◌^◌, ◌↔◌, ◌⊎◌, IfSome, IfNone, true, false};
+ghost use Rattle.answer_gate.specs.declared.state.Phase.TheVariants.{Open, Closing, Looking};
+ghost use Rattle.answer_gate.specs.declared.state.Course.TheVariants.{Going, Over, Lost};
+ghost use Rattle.answer_gate.specs.Standings.{entered, left, shown_by, closed, looked_at, opened, kept_by, over, lost};
+
+/// Who may be inside a gate.
+#[derive(Clone, Copy, PartialEq, Eq)]
+pub enum Phase {
+    /// Whoever comes is let in.
+    Open,
+    /// Nobody is let in, and some may be inside still.
+    Closing,
+    /// Nobody is inside: the rows are looked at.
+    Looking,
+}
+
+/// Whether there will be more cuts.
+#[derive(Clone, Copy, PartialEq, Eq)]
+pub enum Course {
+    /// One more, once something has changed.
+    Going,
+    /// None: all servers have parted, and nothing is left to be kept.
+    Over,
+    /// None: the journal is lost.
+    Lost,
+}
+
+/// How a gate stands.
+#[derive(Clone, Copy)]
+pub struct Standing {
+    pub phase: Phase,
+    pub course: Course,
+    /// How many have entered and not left.
+    pub inside: u64,
+    /// Whether something may have changed since the last cut was taken.
+    pub changed: bool,
+    /// How many cuts were taken, which is the number of the last.
+    pub taken: u64,
+    /// The last cut that is kept. All before it are.
+    pub kept: u64,
+    /// How many of the members that serve haven't parted.
+    pub servers: u32,
+}
+
+/// The last number of a cut: each answer's is at most one more.
+const LAST: u64 = u64::MAX - 1;
+
+/// How a gate stands, with what is always so.
+#[derive(Drop)]
+pub struct State {
+    standing: Standing,
+    ghost alone: { standing.phase ≡ Looking → standing.inside ≡ 0 },
+    ghost in_order: { standing.kept ≤ standing.taken },
+    ghost has_next: { standing.taken + 1 < 2 ^ 64 },
+    ghost ended_open: { standing.course ≢ Going → standing.phase ≡ Open },
+}
+
+impl State {
+    /// Open, with nobody inside and nothing changed.
+    pub fn new() -> State
+        ensures { result.standing ≡ record { phase = Open; course = Going; inside = 0; changed = false; taken = 0; kept = 0; servers = 0 } }
+    {
+        State {
+            standing: Standing {
+                phase: Phase::Open,
+                course: Course::Going,
+                inside: 0,
+                changed: false,
+                taken: 0,
+                kept: 0,
+                servers: 0,
+            },
+        }
+    }
+
+    /// How the gate stands.
+    pub fn standing(&self) -> Standing
+        ensures { result ≡ self.now.standing }
+    {
+        self.standing
+    }
+
+    /// Whether one more may enter. The last test never fails on a machine of this world.
+    pub fn is_open(&self) -> bool
+        ensures { (result ≡ true) ↔ ((self.now.standing.phase ≡ Open) × (self.now.standing.inside + 1 < 2 ^ 64)) }
+    {
+        self.standing.phase == Phase::Open && self.standing.inside < u64::MAX
+    }
+
+    /// One enters.
+    pub fn enter(&mut self)
+        requires open { self.old.standing.phase ≡ Open }
+        requires room { self.old.standing.inside + 1 < 2 ^ 64 }
+        ensures { self.new.standing ≡ entered self.old.standing }
+    {
+        self.standing.inside += 1;
+    }
+
+    /// Whether the committer may be waiting for the next one to leave: nothing has changed yet, or no other is inside a
+    /// closed gate.
+    pub fn holds_committer(&self) -> bool
+        ensures { (result ≡ true) ↔ ((self.now.standing.changed ≡ false) ⊎ ((self.now.standing.phase ≡ Closing) × (self.now.standing.inside ≤ 1))) }
+    {
+        !self.standing.changed || self.standing.phase == Phase::Closing && self.standing.inside <= 1
+    }
+
+    /// One leaves, and is told the cut of its answer: the next to be taken.
+    pub fn leave(&mut self) -> u64
+        ensures standing { self.new.standing ≡ left self.old.standing }
+        ensures cut { result ≡ self.old.standing.taken + 1 }
+    {
+        self.standing.inside = self.standing.inside.saturating_sub(1);
+        self.standing.changed = true;
+        self.standing.taken + 1
+    }
+
+    /// The cut of an answer that only tells.
+    pub fn tell(&self) -> u64
+        ensures { result ≡ shown_by self.now.standing }
+    {
+        let now = &self.standing;
+        if now.changed || now.inside > 0 {
+            now.taken + 1
+        } else if now.kept < now.taken {
+            now.taken
+        } else {
+            0
+        }
+    }
+
+    /// Whether the committer has nothing to do yet: nothing has changed, and something still may.
+    pub fn is_quiet(&self) -> bool
+        ensures { (result ≡ true) ↔ ((self.now.standing.course ≡ Going) × (self.now.standing.changed ≡ false)
+            × ((0 < self.now.standing.inside) ⊎ (0 < self.now.standing.servers))) }
+    {
+        let now = &self.standing;
+        now.course == Course::Going && !now.changed && (now.inside > 0 || now.servers > 0)
+    }
+
+    /// Whether something changed that no cut shows, and there will be a cut.
+    pub fn has_work(&self) -> bool
+        ensures { (result ≡ true) ↔ ((self.now.standing.course ≡ Going) × (self.now.standing.changed ≡ true)) }
+    {
+        self.standing.course == Course::Going && self.standing.changed
+    }
+
+    /// There will be no more cuts.
+    pub fn finish(&mut self)
+        ensures going { self.old.standing.course ≡ Going → self.new.standing ≡ over self.old.standing }
+        ensures ended { self.old.standing.course ≢ Going → self.new.standing ≡ self.old.standing }
+    {
+        if self.standing.course == Course::Going {
+            self.end(Course::Over);
+        }
+    }
+
+    /// The journal is lost.
+    pub fn lose(&mut self)
+        ensures { self.new.standing ≡ lost self.old.standing }
+    {
+        self.end(Course::Lost);
+    }
+
+    fn end(&mut self, course: Course)
+        ensures { self.new.standing ≡ record self.old.standing { phase = Open; course = course } }
+    {
+        self.standing.phase = Phase::Open;
+        self.standing.course = course;
+    }
+
+    /// Closes the gate.
+    pub fn close(&mut self)
+        requires { self.old.standing.course ≡ Going }
+        ensures { self.new.standing ≡ closed self.old.standing }
+    {
+        self.standing.phase = Phase::Closing;
+    }
+
+    /// Whether the gate is closed, with somebody inside.
+    pub fn is_closing(&self) -> bool
+        ensures { (result ≡ true) ↔ ((self.now.standing.phase ≡ Closing) × (0 < self.now.standing.inside)) }
+    {
+        self.standing.phase == Phase::Closing && self.standing.inside > 0
+    }
+
+    /// Takes a cut, whose number it says. Nobody is inside until the gate opens. None where the gate isn't closed; and
+    /// where the numbers are spent, with which the journal is lost.
+    pub fn look(&mut self) -> Option<u64>
+        requires empty { self.old.standing.phase ≡ Closing → self.old.standing.inside ≡ 0 }
+        ensures some { IfSome result (λ cut. (self.old.standing.phase ≡ Closing) × (cut ≡ self.new.standing.taken) × (self.new.standing ≡ looked_at self.old.standing)) }
+        ensures none { IfNone result ((self.old.standing.phase ≢ Closing × (self.new.standing ≡ self.old.standing)) ⊎ (self.new.standing ≡ lost self.old.standing)) }
+    {
+        if self.standing.phase != Phase::Closing {
+            return None;
+        }
+        if self.standing.taken >= LAST {
+            self.lose();
+            return None;
+        }
+        self.standing.phase = Phase::Looking;
+        self.standing.changed = false;
+        self.standing.taken += 1;
+        Some(self.standing.taken)
+    }
+
+    /// Opens the gate.
+    pub fn open(&mut self)
+        ensures { self.new.standing ≡ opened self.old.standing }
+    {
+        self.standing.phase = Phase::Open;
+    }
+
+    /// The cut of this number is kept, where it was taken.
+    pub fn keep(&mut self, cut: u64)
+        ensures { self.new.standing ≡ kept_by cut self.old.standing }
+    {
+        if self.standing.kept < cut && cut <= self.standing.taken {
+            self.standing.kept = cut;
+        }
+    }
+
+    /// Whether the cut of this number isn't kept yet, and may be.
+    pub fn is_awaited(&self, cut: u64) -> bool
+        ensures { (result ≡ true) ↔ ((self.now.standing.course ≡ Going) × (self.now.standing.kept < cut)) }
+    {
+        self.standing.course == Course::Going && self.standing.kept < cut
+    }
+
+    /// Whether the cut of this number is kept.
+    pub fn has_kept(&self, cut: u64) -> bool
+        ensures { (result ≡ true) ↔ (cut ≤ self.now.standing.kept) }
+    {
+        cut <= self.standing.kept
+    }
+
+    /// Whether the journal is lost.
+    pub fn is_lost(&self) -> bool
+        ensures { (result ≡ true) ↔ (self.now.standing.course ≡ Lost) }
+    {
+        self.standing.course == Course::Lost
+    }
+
+    /// So many members will serve.
+    pub fn expect(&mut self, servers: u32)
+        ensures { self.new.standing ≡ record self.old.standing { servers = servers } }
+    {
+        self.standing.servers = servers;
+    }
+
+    /// One of them has ended.
+    pub fn part(&mut self)
+        ensures { self.new.standing ≡ record self.old.standing { servers = self.old.standing.servers - 1 } }
+    {
+        self.standing.servers = self.standing.servers.saturating_sub(1);
+    }
+}

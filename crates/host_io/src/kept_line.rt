@@ -1,0 +1,83 @@
+// A line as a sink whose bytes leave only once they may.
+ghost use Rattle.std.specs.Prelude.{◌≡◌, ◌≤◌, ◌⊎◌, ℕ, max, true, false};
+
+use crate::line::Line;
+use crate::wire::Wire;
+use rail_io::{Keeper, Pushed, PushedBoth, Sink, pushed_of};
+
+/// A line as a sink. One piece goes out by a call for one, and two go out by a call for both, which costs the system
+/// more. Nothing goes out before the cut is kept that it is held for.
+#[derive(Drop)]
+pub(crate) struct KeptLine<W: Wire + Drop, K: Keeper + Drop> {
+    pub(crate) line: Line<W>,
+    keeper: K,
+    /// The cut that has to be kept before anything more goes out: 0 for none.
+    cut: u64,
+    faults: u64,
+}
+
+impl<W: Wire + Drop, K: Keeper + Drop> KeptLine<W, K> {
+    /// A line that is held for no cut.
+    pub(crate) fn of(line: Line<W>, keeper: K) -> KeptLine<W, K>
+        ensures line { result.line ≡ line }
+        ensures free { result.cut ≡ 0 }
+    {
+        KeptLine {
+            line,
+            keeper,
+            cut: 0,
+            faults: 0,
+        }
+    }
+
+    // Waits until bytes may go out: false, where they never may. Then they may not at a later call either.
+    fn may_leave(&mut self) -> bool
+        ensures line { self.new.line ≡ self.old.line }
+        ensures faults { self.new.faults ≡ self.old.faults }
+        ensures free { result ≡ true → self.new.cut ≡ 0 }
+        ensures held { result ≡ false → self.new.cut ≡ self.old.cut }
+    {
+        if self.cut == 0 || self.keeper.wait_kept(self.cut) {
+            self.cut = 0;
+            return true;
+        }
+        false
+    }
+}
+
+impl<W: Wire + Drop, K: Keeper + Drop> Sink for KeptLine<W, K> {
+    ghost told = { λ s. W.outgoing s.line.wire };
+
+    ghost faults = { λ s. s.faults };
+
+    fn write(&mut self, piece: &[u8]) -> Pushed {
+        let pushed = if self.may_leave() {
+            pushed_of(self.line.send(piece))
+        } else {
+            Pushed::Failed
+        };
+        if let Pushed::Failed = pushed {
+            self.faults = self.faults.saturating_add(1);
+        }
+        pushed
+    }
+
+    fn write_both(&mut self, first: &[u8], second: &[u8]) -> PushedBoth {
+        let pushed = if self.may_leave() {
+            pushed_of(self.line.send_both(first, second))
+        } else {
+            Pushed::Failed
+        };
+        let Pushed::Took(count) = pushed else {
+            self.faults = self.faults.saturating_add(1);
+            return PushedBoth::Failed(0);
+        };
+        PushedBoth::Took(count)
+    }
+
+    ghost held = { λ before cut after. (after.cut ≡ max before.cut cut) × (after.line ≡ before.line) };
+
+    fn hold_until(&mut self, cut: u64) {
+        self.cut = self.cut.max(cut);
+    }
+}

@@ -1,0 +1,157 @@
+// A connection, whose answers are held back until the next read.
+ghost use Rattle.std.specs.Prelude.{◌≡◌, ◌≤◌, ◌<◌, ◌++◌, [], IsOk, IfOk, length, max};
+ghost use Rattle.rail_io.specs.Told.{Pushes, PushesBoth};
+ghost use Rattle.host_io.specs.Talks.{answered_by};
+
+use crate::kept_line::KeptLine;
+use crate::line::Line;
+use crate::outbox::Outbox;
+use crate::pace::Pace;
+use crate::wire::Wire;
+use rail_io::{Keeper, Pushed, PushedBoth, Sink};
+use std::io::ErrorKind;
+use std::time::{Duration, Instant};
+use std::{io, time};
+
+/// How long a drain waits for each piece, how long it takes as a whole, and how many pieces it reads at most.
+const DRAIN_MILLISECONDS: u64 = 250;
+
+const DRAIN_SECONDS: u64 = 2;
+
+const DRAIN_PIECES: u32 = 1_000_000;
+
+const DRAIN_ROOM: usize = 16_384;
+
+/// A connection as both its halves have it. Answers are held back until the next read, or until they are many: so one
+/// call of the system sends the answers to all requests that one read gave.
+#[derive(Drop)]
+pub(crate) struct Talk<W: Wire + Drop, K: Keeper + Drop> {
+    sink: KeptLine<W, K>,
+    /// What was answered and isn't sent yet.
+    outbox: Outbox,
+    /// Whether something was answered since the last read.
+    answered: bool,
+    /// Whether a write has failed: then nothing more goes out.
+    failed: bool,
+    pace: Pace,
+}
+
+impl<W: Wire + Drop, K: Keeper + Drop> Talk<W, K> {
+    /// A connection of which nothing has come and to which nothing went out.
+    pub(crate) fn new(sink: KeptLine<W, K>, outbox: Outbox) -> Talk<W, K> {
+        Talk {
+            sink,
+            outbox,
+            answered: false,
+            failed: false,
+            pace: Pace::new(),
+        }
+    }
+
+    /// What is answered from now on leaves only once the cut of this number is kept.
+    pub(crate) fn hold_until(&mut self, cut: u64)
+        ensures cut { self.new.sink.cut ≡ max self.old.sink.cut cut }
+        ensures same { answered_by W.outgoing self.new ≡ answered_by W.outgoing self.old }
+    {
+        self.sink.hold_until(cut);
+    }
+
+    /// Sends what was answered, and says whether anything was since the last call. Once it has failed, nothing is sent.
+    pub(crate) fn send_answers(&mut self) -> io::Result<bool>
+        ensures same { answered_by W.outgoing self.new ≡ answered_by W.outgoing self.old }
+        ensures all { IsOk result → self.new.outbox.held ≡ [] }
+    {
+        if self.failed || !self.outbox.send(&mut self.sink) {
+            self.failed = true;
+            return Err(io::Error::from(ErrorKind::BrokenPipe));
+        }
+        let answered = self.answered;
+        self.answered = false;
+        Ok(answered)
+    }
+
+    /// Takes some of an answer, to be sent with others.
+    pub(crate) fn take(&mut self, piece: &[u8]) -> Pushed
+        requires { 0 < length piece.now }
+        ensures { Pushes (answered_by W.outgoing self.old) (answered_by W.outgoing self.new) piece.now result }
+    {
+        if self.failed {
+            return Pushed::Failed;
+        }
+        self.answered = true;
+        let taken = self.outbox.write(&mut self.sink, piece);
+        self.failed = taken == Pushed::Failed;
+        taken
+    }
+
+    /// Takes some of both pieces of an answer, to be sent with others, or at once where they are too long to be held.
+    pub(crate) fn take_both(&mut self, first: &[u8], second: &[u8]) -> PushedBoth
+        requires { 0 < length first.now }
+        ensures { PushesBoth (answered_by W.outgoing self.old) (answered_by W.outgoing self.new)
+            (first.now ++ second.now) result }
+    {
+        if self.failed {
+            return PushedBoth::Failed(0);
+        }
+        self.answered = true;
+        let taken = self.outbox.write_both(&mut self.sink, first, second);
+        self.failed = matches!(taken, PushedBoth::Failed(_));
+        taken
+    }
+
+    // Sends what was answered, and sets the time limit of the next read, which fails where none is left.
+    fn prepare<C: time::Clock>(&mut self, clock: &C) -> io::Result<()>
+        ensures same { answered_by W.outgoing self.new ≡ answered_by W.outgoing self.old }
+        ensures all { IsOk result → self.new.outbox.held ≡ [] }
+    {
+        if self.send_answers()? {
+            self.pace.rest();
+        }
+        if let Some(limit) = self.pace.next_limit(clock)? {
+            self.sink.line.wire.set_read_limit(limit)?;
+        }
+        Ok(())
+    }
+
+    /// Reads some of what has come, or waits for it, once all that was answered is sent.
+    pub(crate) fn read<C: time::Clock>(&mut self, clock: &C, room: &mut [u8]) -> io::Result<usize>
+        ensures same { answered_by W.outgoing self.new ≡ answered_by W.outgoing self.old }
+        ensures all { IsOk result → self.new.outbox.held ≡ [] }
+        ensures bound { IfOk result (λ count. count ≤ length room.new) }
+    {
+        let answer = match self.prepare(clock) {
+            Ok(()) => self.sink.line.read(room),
+            Err(error) => Err(error),
+        };
+        self.pace.note(&answer);
+        answer
+    }
+
+    /// Sends what was answered, and reads away for a moment what still comes where the other side hasn't ended the
+    /// connection, so that it gets to read the last answer.
+    pub(crate) fn end<C: time::Clock>(&mut self, clock: &C)
+        ensures same { answered_by W.outgoing self.new ≡ answered_by W.outgoing self.old }
+    {
+        let _sent = self.send_answers();
+        if self.pace.is_open() {
+            let _drained = drain(clock, &mut self.sink.line);
+        }
+    }
+}
+
+/// Tells the other side that no more comes, and reads away what it still sends, for about two seconds at most.
+fn drain<W: Wire + Drop, C: time::Clock>(clock: &C, line: &mut Line<W>) -> io::Result<()>
+    ensures sent { W.outgoing line.new.wire ≡ W.outgoing line.old.wire }
+{
+    let start = Instant::now(clock)?;
+    line.wire.end_sending()?;
+    line.wire.set_read_limit(DRAIN_MILLISECONDS)?;
+    let mut room = [0u8; DRAIN_ROOM];
+    for _piece in 0..DRAIN_PIECES {
+        let none_left = line.read(&mut room)? == 0;
+        if none_left || start.elapsed(clock)? >= Duration::from_secs(DRAIN_SECONDS) {
+            return Ok(());
+        }
+    }
+    Ok(())
+}

@@ -1,0 +1,7 @@
+use Rattle.host_catalogue.proofs.Opened.{opened_new}
+use Rattle.host_serve.proofs.keeping.new_found.Goals as goal
+
+pub returns : goal.returns
+returns c =
+    let is = c.in_ok-books.ensures in
+    opened_new c.args.cat.now c.in_ok-books.books c.in_ok-books.first is.own is.desk is.tidy is.fit is.layout

@@ -1,0 +1,36 @@
+use Rattle.std.proofs.Common.{ℕ, map, sym, subst}
+use Rattle.host_serve.specs.Kept.{ListensTo, ServesBooks}
+use Rattle.host_serve.specs.Serve.{Left}
+use Rattle.host_serve.specs.Turns.{Asks, HandedBy}
+use Rattle.host_serve.specs.declared.end.KeptOutcome.{KeptOutcome}
+use Rattle.host_serve.proofs.Leaving.{opened_first, opened_has, served_left}
+use Rattle.host_serve.proofs.kept.serve_left.Goals as goal
+
+pub listen_and_serve-outcome-requires-clause-has : goal.listen_and_serve-outcome-requires-clause-has
+listen_and_serve-outcome-requires-clause-has g c κs within =
+    let ok = c.in-Ok.ensures.ok in opened_has c.args.common.cat.now ok.0 c.in-Ok.opened.0.books c.in-Ok.opened.0.first ok.2
+
+pub listen_and_serve-outcome-requires-clause-first : goal.listen_and_serve-outcome-requires-clause-first
+listen_and_serve-outcome-requires-clause-first g c κs within =
+    let ok = c.in-Ok.ensures.ok in opened_first c.args.common.cat.now ok.0 c.in-Ok.opened.0.books c.in-Ok.opened.0.first ok.2
+
+pub returns-clause-serves : goal.returns-clause-serves
+returns-clause-serves g c =
+    let run = c.listen_and_serve-outcome in
+    let left : Left = record {
+      faults_before = g.L.Listener.faults c.args.devices.listener;
+      before = g.L.Listener.told c.args.devices.listener;
+      clocks = map g.C.Clock.told c.args.devices.clocks.items;
+      asks = Asks g.T.Ticker.ticked c.args.devices.ticker;
+      hands = HandedBy g.L.Listener.becomes g.L.Listener.hands c.args.devices.listener;
+      faults_after = g.L.Listener.faults run.result.listener;
+      after = g.L.Listener.told run.result.listener;
+      watchers = 1;
+      wall = run.result.wall;
+    } in
+    let ok = c.in-Ok.ensures.ok in
+    let cat = c.args.common.cat.now in
+    let plan = c.in-Ok.opened.0.books.layout in
+    let listens = subst (λ (k : ℕ). ListensTo cat plan c.args.common.said (record left { watchers = k }) run.result.outcome) c.in-Ok-list_of.ensures run.ensures.ends in
+    subst (λ (o : KeptOutcome). ServesBooks cat c.args.common.said (g.J.Journal.told c.args.keeping.journal) left o) (sym c.kept-2.ensures)
+    (served_left cat c.args.common.said (g.J.Journal.told c.args.keeping.journal) left ok.0 plan ok.1 ok.2.layout c.is_lost.result run.result.outcome listens)

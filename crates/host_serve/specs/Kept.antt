@@ -1,0 +1,167 @@
+-- What `serve` promises with a journal.
+use Rattle.std.specs.Prelude.{◌≡◌, ◌⊎◌, ◌<◌, ◌≤◌, ℕ, Bool, true, false, List, [], Option, Some, None, IfSome}
+use Rattle.std.specs.Prelude.{IsSomeAnd, Ok, Err, length}
+use Rattle.claim_rule.specs.Openings.{KeptBooking, layout_with}
+use Rattle.claim_rule.specs.Walls.{WallView}
+use Rattle.history_model.specs.Booking.{Layout}
+use Rattle.rail_catalogue.specs.Contents.{CatalogueView, legs_in}
+use Rattle.journal_text.specs.Folds.{FoldView}
+use Rattle.host_words.specs.Serve.{ServeView, serve_words}
+use Rattle.host_words.specs.declared.serve.Serving.{Serving}
+use Rattle.host_catalogue.specs.Files.{Files, most_of}
+use Rattle.host_catalogue.specs.Journals.{IsFoldFor, IsNotFolded}
+use Rattle.host_catalogue.specs.Loading.{Loads}
+use Rattle.host_catalogue.specs.Opening.{IsExportFor, IsOpened, IsOpenedFrom}
+use Rattle.host_catalogue.specs.declared.file.File.TheVariants.{Journal}
+use Rattle.host_notes.specs.Ends.{note_of}
+use Rattle.host_notes.specs.Noted.{IsNoted}
+use Rattle.host_serve.specs.Ends.{end_of_kept, status_of_kept, status_of_serve}
+use Rattle.host_serve.specs.Serve.{HasFailed, HasShelfCause, IsForServe, IsServedWall, IsSpent, IsUnbound, Left, Runs}
+use Rattle.host_serve.specs.Telling.{IsSilent, IsTold, Noting, WritesExport}
+use Rattle.host_serve.specs.declared.books.Opened.{Opened}
+use Rattle.host_serve.specs.declared.keeping.KeepFault.{KeepFault}
+use Rattle.host_serve.specs.declared.keeping.KeepFault.TheVariants as fault
+use Rattle.host_serve.specs.declared.end.KeptOutcome.{KeptOutcome}
+use Rattle.host_serve.specs.declared.end.KeptOutcome.TheVariants as kept
+use Rattle.host_serve.specs.declared.end.ServeOutcome.{ServeOutcome}
+use Rattle.host_serve.specs.declared.end.ServeOutcome.TheVariants as end
+
+-- the words are those of `serve`, say this, and name this journal
+pub record IsKeptServe (words : List (List ℕ)) (said : ServeView) (name : List ℕ) : Type 0 where
+  pub command : IsForServe words
+  pub is : serve_words words ≡ Some said
+  pub journal : said.journal ≡ Some name
+
+-- so, whether they name a journal or not
+pub record IsSaid (words : List (List ℕ)) (said : ServeView) : Type 0 where
+  pub command : IsForServe words
+  pub is : serve_words words ≡ Some said
+
+abbrev pub IsNotSaid : List (List ℕ) → Type 0
+IsNotSaid words = (said : ServeView) → IsSaid words said → ⊥
+
+-- they name none
+abbrev pub IsNoKeptServe : List (List ℕ) → Type 0
+IsNoKeptServe words = (said : ServeView) (name : List ℕ) → IsKeptServe words said name → ⊥
+
+-- the bookings that a journal leaves for books of the catalogue, where it told this: none where there is no journal, or
+-- those of the export that it folds to
+abbrev pub LeavesBookings : Option (List ℕ) → CatalogueView → List KeptBooking → Type 0
+LeavesBookings told cat kept =
+    (IfSome told (λ text. text ≡ []) × (kept ≡ []))
+    ⊎ ((text : List ℕ) × IfSome told (λ all. all ≡ text) × (view : FoldView) × IsFoldFor cat text view
+    × IsExportFor cat view.export kept)
+
+-- books and their first desk have opened with just these
+abbrev pub LeavesOpened : Option (List ℕ) → CatalogueView → Opened → Type 0
+LeavesOpened told cat opened =
+    (kept : List KeptBooking) × LeavesBookings told cat kept × IsOpened cat kept opened.books opened.first
+
+-- so of a text, which books and their first desk open with
+abbrev pub LeavesIn : CatalogueView → List ℕ → Opened → Type 0
+LeavesIn cat text opened =
+    (view : FoldView) × IsFoldFor cat text view × IsOpenedFrom cat view.export opened.books opened.first
+
+-- why no books were opened with what a journal leaves
+abbrev pub IsNotLeft : CatalogueView → Option (List ℕ) → KeepFault → Type 0
+IsNotLeft cat told fault.TooLarge = IfSome told (λ text. most_of Journal < length text)
+IsNotLeft cat told (fault.Refused refusal) =
+    (text : List ℕ) × IfSome told (λ all. all ≡ text) × IsNotFolded cat text refusal
+IsNotLeft cat told _ = Unit {0}
+
+-- books with this layout were listened for, and served and closed so
+abbrev pub ListensTo : CatalogueView → Layout → Serving → Left → ServeOutcome → Type 0
+ListensTo cat plan said left end.Served =
+    IsSpent said left.faults_before left.faults_after left.after × IsSomeAnd left.wall (IsServedWall cat plan said left)
+ListensTo cat plan said left end.AcceptFailed =
+    HasFailed said left.faults_before left.faults_after left.after
+    × IsSomeAnd left.wall (IsServedWall cat plan said left)
+ListensTo cat plan said left end.NotBound =
+    IsUnbound said left.faults_before left.faults_after left.before left.after × (left.wall ≡ None)
+ListensTo cat plan said left end.NoMemory =
+    (left.wall ≡ None) × (left.after.handed ≡ 0) × (left.faults_after ≡ left.faults_before)
+ListensTo cat plan said left outcome = ⊥
+
+-- nothing was listened for
+pub record IsUnheard (left : Left) : Type 0 where
+  pub same : left.after ≡ left.before
+  pub steady : left.faults_after ≡ left.faults_before
+  pub no_wall : left.wall ≡ None
+
+-- the catalogue's books with the bookings that the journal left were served so
+pub record ServesLeft (cat : CatalogueView) (said : Serving) (told : Option (List ℕ)) (left : Left)
+    (outcome : ServeOutcome) : Type 0 where
+  pub kept : List KeptBooking
+  pub leaves : LeavesBookings told cat kept
+  pub listens : ListensTo cat (layout_with (legs_in cat) cat.rows kept) said left outcome
+
+-- Serving the catalogue's books with a journal ended so. A journal is lost only in serving, and then all connections
+-- have ended.
+abbrev pub ServesBooks : CatalogueView → Serving → Option (List ℕ) → Left → KeptOutcome → Type 0
+ServesBooks cat said told left (kept.Plain end.NoMemory) =
+    (left.wall ≡ None) × (left.after.handed ≡ 0) × (left.faults_after ≡ left.faults_before)
+ServesBooks cat said told left (kept.Plain outcome) = ServesLeft cat said told left outcome
+ServesBooks cat said told left kept.Locked = IsUnheard left
+ServesBooks cat said told left kept.TooLarge =
+    IfSome told (λ text. most_of Journal < length text) × IsUnheard left
+ServesBooks cat said told left (kept.Refused refusal) =
+    ((text : List ℕ) × IfSome told (λ all. all ≡ text) × IsNotFolded cat text refusal) × IsUnheard left
+ServesBooks cat said told left kept.Failed = IsUnheard left
+ServesBooks cat said told left kept.Lost =
+    ServesLeft cat said told left end.Served ⊎ ServesLeft cat said told left end.AcceptFailed
+
+-- What the words ask for ended so, before its export: there is no catalogue, or its books were served so.
+abbrev pub ServesKept : Files → ServeView → Option (List ℕ) → Left → KeptOutcome → Type 0
+ServesKept files said told left (kept.Plain (end.NotLoaded fault)) =
+    Loads files said.catalogue (Err fault) × IsUnheard left
+ServesKept files said told left outcome =
+    (cat : CatalogueView) × Loads files said.catalogue (Ok cat) × ServesBooks cat said.numbers told left outcome
+
+-- what was written of the export by the end, where it is asked for, and what that makes of the end
+abbrev pub WritesKept : Bool → Option WallView → Noting → KeptOutcome → KeptOutcome → Type 0
+WritesKept false wall n old new = IsSilent n × (new ≡ old)
+WritesKept true wall n (kept.Plain old) new =
+    (outcome : ServeOutcome) × WritesExport wall n old outcome × (new ≡ kept.Plain outcome)
+WritesKept true wall n old new =
+    (outcome : ServeOutcome) × WritesExport wall n end.AcceptFailed outcome × (new ≡ old)
+
+-- where the shelf gave no catalogue, its counts show why; and at every other end its count of faults is as it was
+abbrev pub HasKeptCause : KeptOutcome → ℕ → ℕ → ℕ → ℕ → Type 0
+HasKeptCause (kept.Plain outcome) failed fails missed misses = HasShelfCause outcome failed fails missed misses
+HasKeptCause _ failed fails missed misses = fails ≡ failed
+
+-- a run of `serve`: its words, its files and how often the shelf failed and missed, what is left, and what was noted
+pub record Scene : Type 1 where
+  pub words : List (List ℕ)
+  pub files : Files
+  pub failed : ℕ
+  pub fails : ℕ
+  pub missed : ℕ
+  pub misses : ℕ
+  pub left : Left
+  pub notes : Noting
+
+-- it ended without a journal
+pub record EndsAlone (s : Scene) (status : ℕ) : Type 0 where
+  pub outcome : ServeOutcome
+  pub is : status ≡ status_of_serve outcome
+  pub runs : Runs s.words s.files s.left outcome
+  pub told : IsTold s.words s.left.wall s.notes outcome
+  pub later : told.count ≤ s.notes.fails
+  pub cause : HasShelfCause outcome s.failed s.fails s.missed s.misses
+
+-- it ended with the journal that the words name, which had told this; one further member watched
+pub record EndsKept (s : Scene) (told : Option (List ℕ)) (status : ℕ) : Type 0 where
+  pub said : ServeView
+  pub name : List ℕ
+  pub words_are : IsKeptServe s.words said name
+  pub served : KeptOutcome
+  pub ends : ServesKept s.files said told (record s.left { watchers = 1 }) served
+  pub outcome : KeptOutcome
+  pub between : Option (List ℕ)
+  pub count : ℕ
+  pub export : WritesKept said.export s.left.wall
+      (record { before = s.notes.before; failed = s.notes.failed; after = between; fails = count }) served outcome
+  pub note : IsNoted between s.notes.after count s.notes.fails (note_of (end_of_kept outcome))
+  pub is : status ≡ status_of_kept outcome
+  pub cause : HasKeptCause served s.failed s.fails s.missed s.misses

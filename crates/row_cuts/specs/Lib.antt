@@ -1,0 +1,6 @@
+pub mod Looks
+pub mod Lines
+pub mod Prints
+pub mod Cuts
+pub mod Quiet
+pub mod Kept

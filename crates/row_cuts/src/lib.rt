@@ -1,0 +1,24 @@
+//! The rows of books as lines of a journal, by looks of a desk while the books sell.
+//!
+//! `push_marked_lines` writes the lines of the rows whose standing changed, `push_all_lines` those of all rows. A line
+//! is the one that an export has for the row, byte for byte, by `cold_store`'s own writer. A desk that writes them only
+//! looks: nothing of the books changes, and what the desk has out stays as it is.
+//!
+//! A line says what its looks showed. While other desks step, looks at two rows may be of two moments; lines of one
+//! moment need that nobody changes a booking between the first look and the last.
+//!
+//! `print_of` is a print of what the numbers of a catalogue's places mean.
+//!
+//! `specs/Looks` has what looks at rows show, `Lines` what is written of them, `Quiet` when they are of one moment,
+//! `Kept` what of a row stays, `Cuts` what cuts fold to, and `Prints` the text of a print. `laws` says what holds of them.
+#![tactic(auto)]
+
+pub mod laws;
+mod lines;
+mod looks;
+mod prints;
+#[cfg(test)]
+mod tests;
+
+pub use lines::{push_all_lines, push_marked_lines};
+pub use prints::print_of;
