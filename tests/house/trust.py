@@ -37,7 +37,7 @@ SUBJECTS = [
     ("The booking machine", "history_model"),
     ("Desks and their calls", "claim_rule seat_words booking_rows"),
     ("Searches", "trip_builder availability offer_engine"),
-    ("A booking's life", "hold_core party_places row_decisions confirm_core refund_core exchange_core expiry_sweeper"),
+    ("A booking's life", "hold_core party_places confirm_core refund_core exchange_core expiry_sweeper"),
     ("The wire", "rail_io http_wire session_loop"),
     ("Messages", "osdm_texts osdm_json"),
     ("What commands do", "booking_service reservation_service trade_service search_service service_rules"),

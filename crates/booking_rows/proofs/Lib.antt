@@ -6,3 +6,6 @@ pub mod ViewLemmas
 pub mod TurnLemmas
 pub mod Looked
 pub mod Ended
+pub mod Seeing
+pub mod Deciding
+pub mod Finishing

@@ -5,3 +5,5 @@ pub mod Aims
 pub mod Views
 pub mod Ends
 pub mod SealedRows
+pub mod Looks
+pub mod RowEnds

@@ -8,7 +8,7 @@ use Rattle.atomic_table.specs.Table.{Splits, Joins}
 use Rattle.atomic_table.proofs.Lists.{at_set, set_here, set_else, at_longer, at_last}
 use Rattle.claim_rule.specs.declared.rule.View.{View}
 use Rattle.claim_rule.specs.Rule.{Each, In, IsSpent, HasAll, IsOld, Fits, Kept, parting, newly_parted, longer, joining, nobody}
-use Rattle.claim_rule.proofs.Views.{each_map, apart, spent_stays}
+use Rattle.claim_rule.proofs.Views.{each_map, spent_stays}
 use Rattle.claim_rule.proofs.Adds.{in_range, counts}
 use Rattle.history_model.proofs.Seen.{own_between, own_none}
 use Rattle.history_model.specs.Booking.{Layout}

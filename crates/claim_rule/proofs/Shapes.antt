@@ -4,7 +4,7 @@ use Rattle.std.proofs.lemmas.List.{length-map}
 use mathlib.Core.List.{map-append, append_cancel_left}
 use Rattle.rail_ids.specs.declared.RowNo.{RowNo}
 use Rattle.claim_rule.specs.Rule.{DeskView, In, Each}
-use Rattle.claim_rule.specs.Holds.{HoldView, StandsFor, IsHoldOf, IsItem}
+use Rattle.claim_rule.specs.Holds.{HoldView, StandsFor, IsItem}
 use Rattle.claim_rule.specs.Desks.{Stepped, AddsSteps, AddsAtMost}
 use Rattle.history_model.proofs.Owners.{firm_making, quiet_stays}
 use Rattle.history_model.proofs.Seen.{legal-rest, own-append, state_of-append}

@@ -10,7 +10,7 @@ use Rattle.atomic_table.specs.declared.shared.Seat.{Seat}
 use Rattle.atomic_table.proofs.Lists.{at_set, set_here, set_else, set_again, at_longer, at_snoc}
 use Rattle.rail_ids.specs.declared.RowNo.{RowNo}
 use Rattle.claim_rule.specs.declared.rule.View.{View}
-use Rattle.claim_rule.specs.Rule.{Added, AddedTo, DeskView, Each, In, IsSpent, IsWhole, HasAll, IsOld, Fits, Kept, as_it_was, told_by, telling, longer, learning, nobody}
+use Rattle.claim_rule.specs.Rule.{Added, DeskView, In, IsSpent, HasAll, Fits, Kept, as_it_was, told_by, telling, longer, learning, nobody}
 use Rattle.claim_rule.specs.Desks.{Stepped}
 use Rattle.claim_rule.specs.Seats.{HasMade, desk_view}
 use Rattle.claim_rule.proofs.Views.{each_map, each_in, spent_stays}
@@ -20,7 +20,6 @@ use Rattle.history_model.proofs.Seen.{own-append, own_between, own_none}
 use Rattle.history_model.specs.Booking.{Layout}
 use Rattle.history_model.specs.History.{IsLegal, entry, own}
 use Rattle.history_model.specs.declared.entry.Entry.{Entry}
-use Rattle.history_model.specs.declared.entry.Step.{Step}
 use Rattle.history_model.specs.declared.entry.Step.TheVariants.{Met}
 
 -- telling

@@ -62,7 +62,7 @@ pub record AddsSteps (old new : DeskView) (steps : List Step) : Type 0 where
       × (new.parted ≡ old.parted)
   pub further : old.past ≤ new.past
 
--- the desk has at most so many entries of its own more
+-- the desk has at most this number of entries of its own more
 abbrev pub AddsAtMost : ℕ → DeskView → DeskView → Type 0
 AddsAtMost most old new = length (own new.seen old.number) ≤ length (own old.seen old.number) + most
 

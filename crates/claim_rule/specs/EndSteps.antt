@@ -7,7 +7,7 @@ use Rattle.history_model.specs.declared.entry.Step.TheVariants.{Give, Note, Clos
 use Rattle.history_model.specs.declared.phase.EndKind.{EndKind}
 use Rattle.history_model.specs.Booking.{amount_word, end_successor_word, end_amount_word, end_moment_word}
 
--- so many gives of a row's items, from the item of this number on
+-- this number of gives of a row's items, from the item of the second number on
 abbrev pub gives_from : ℕ → ℕ → ℕ → List Step
 gives_from row item zero = []
 gives_from row item (suc more) = Give row item ∷ gives_from row (suc item) more

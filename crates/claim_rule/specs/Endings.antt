@@ -24,7 +24,7 @@ pub record EndingView : Type 0 where
   pub given : ℕ
   pub read : Bool
 
--- the items with so many from the front given back
+-- the items with this number from the front given back
 abbrev pub given_front : ℕ → List BookedItem → List BookedItem
 given_front zero items = items
 given_front (suc more) [] = []

@@ -76,7 +76,7 @@ IsSpent desks views number =
 abbrev pub HasAll : List Entry → List Entry → ℕ → Type 0
 HasAll history seen desk = own seen desk ≡ own history desk
 
--- a former history is a beginning, and has all of the desks beside it
+-- a former history is a beginning, and has all of the desks that its list names
 pub record IsOld (history : List Entry) (view : View) (old : Old) : Type 0 where
   pub front : IsPrefix old.seen history
   pub whole : Each (λ j. HasAll history old.seen j × ((j ≡ view.number) ⊎ In j view.joined)) old.whole
@@ -89,7 +89,7 @@ pub record Fits (history : List Entry) (desks : List ℕ) (views : List View) (s
   pub joined : Each (λ j. IsSpent desks views j × HasAll history view.seen j) view.joined
   pub olds : Each (IsOld history view) view.olds
 
--- A seat that is spent has no desk. Where a word was told by it, what that says begins the history
+-- A seat that is spent has no desk, and what its view has seen begins the history
 pub record Kept (layout : Layout) (table : Table ℕ View) : Type 0 where
   pub history : List Entry
   pub desks : List ℕ

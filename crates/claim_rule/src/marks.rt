@@ -12,7 +12,7 @@ pub(crate) struct Marks {
 }
 
 impl Marks {
-    /// Marks for so many rows, of which none is set.
+    /// A mark for each of these rows, of which none is set.
     pub(crate) fn new(alloc: Global, rows: u32) -> Result<Marks, AllocError> {
         let mut words = Vec::new(alloc);
         for _block in 0..rows.div_ceil(BLOCK_ROWS) {
@@ -29,10 +29,11 @@ impl Marks {
     }
 
     /// Clears the marks of a block of rows, and answers which were set. The first row of the block has the lowest bit.
+    /// Most blocks have none: such a word is only read, since to write it would take its line from other processors.
     pub(crate) fn take(&self, block: u32) -> u64 {
         match self.words.get(block as usize) {
-            Some(word) => word.swap(0, Ordering::SeqCst),
-            None => 0,
+            Some(word) if word.load(Ordering::SeqCst) != 0 => word.swap(0, Ordering::SeqCst),
+            _ => 0,
         }
     }
 }

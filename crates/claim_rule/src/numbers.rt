@@ -14,7 +14,8 @@ pub(crate) fn number_of_place(place: u32, half: u8) -> usize
     HALVES as usize * place as usize + half as usize
 }
 
-/// The number of a row's word in a table of so many places. That of the row after the last is the number of all words.
+/// The number of a row's word in a table of this number of places. That of the row after the last is the number of all
+/// words.
 pub(crate) fn number_of_row(places: u32, row: u32, word: u8) -> usize
     ensures { result ≡ halves * places + (row_words * row + word) }
 {

@@ -6,11 +6,10 @@ ghost use Rattle.claim_rule.specs.Turns.{IsPresentIn};
 ghost use Rattle.history_model.specs.declared.phase.Phase.TheVariants.{Fulfilled};
 ghost use Rattle.confirm_core.specs.Fulfilling.{Fulfils, IfFulfilled};
 
-use booking_rows::{Aim, Turned, turn};
+use booking_rows::{Aim, Turned, find_owned, turn};
 use claim_rule::{Books, Desk};
 use history_model::phase::Phase;
 use rail_ids::{RetailerNo, RowNo};
-use row_decisions::find_owned;
 
 /// What came of fulfilling.
 #[derive(Clone, Copy, PartialEq, Eq)]

@@ -10,12 +10,11 @@ ghost use Rattle.exchange_core.specs.Ready.{IsReadyFor};
 ghost use Rattle.exchange_core.specs.Accepting.{AcceptsExchange, OnDone, OnLost, IsExchanged, exchange_end};
 
 use crate::readying::ExchangeReady;
-use booking_rows::{Aim, Sealed, Turned, seal, turn};
+use booking_rows::{Aim, Sealed, Turned, finish_end, seal, turn};
 use claim_rule::{Books, Desk, Hold};
 use history_model::phase::Phase;
 use rail_ids::RowNo;
 use refund_core::phase_named;
-use row_decisions::finish_end;
 
 /// What came of carrying an exchange out.
 pub enum Exchanged {

@@ -4,13 +4,12 @@ ghost use Rattle.claim_rule.specs.Desks.{IsOf};
 ghost use Rattle.claim_rule.specs.Out.{EndsNone, KeepsHolds};
 ghost use Rattle.expiry_sweeper.specs.OneRow.{SweepsRow};
 
-use booking_rows::Aim;
+use booking_rows::{Aim, end_row, look_phase, look_word};
 use claim_rule::{Books, Desk};
 use history_model::booking::{LIMIT_WORD, STANDING_WORD};
 use history_model::phase::{Phase, read_row_word};
 use rail_ids::RowNo;
 use rail_time::Moment;
-use row_decisions::{end_row, look_phase, look_word};
 
 // What came of the sweep of a row.
 #[derive(Clone, Copy, PartialEq, Eq)]

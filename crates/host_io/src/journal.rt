@@ -22,7 +22,8 @@ const STANDARD_FILES: i32 = 3;
 struct Holding {
     path: PathBuf,
     /// A file of its own beside the journal, which is locked, and is never renamed nor removed: so no two processes can
-    /// have locked different files of one name, as they could if the lock lay on the text, which others take the name of.
+    /// have locked different files of one name, as they could if the lock lay on the text, which others take the name
+    /// of.
     lock: File,
     /// The journal's text, where there is one.
     text: Option<File>,

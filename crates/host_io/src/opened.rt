@@ -16,8 +16,8 @@ pub(crate) fn refused_of(kind: ErrorKind) -> JournalOpened
     }
 }
 
-/// What a read of the journal means, which is one byte longer than there is room for where there are more: None says that
-/// there is no journal.
+/// What a read of the journal means, which is one byte longer than there is room for where there are more: None says
+/// that there is no journal.
 pub(crate) fn opened_of(answer: io::Result<Option<Vec<u8>>>, room: u32) -> JournalOpened
     ensures { result ≡ opened_by room answer }
 {

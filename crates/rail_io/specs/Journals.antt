@@ -4,7 +4,7 @@ use Rattle.rail_io.specs.Told.{with_end}
 use Rattle.rail_io.specs.declared.journal.JournalOpened.{JournalOpened}
 use Rattle.rail_io.specs.declared.journal.JournalOpened.TheVariants.{Text, Missing, TooLarge, Locked, Failed, NoMemory}
 
--- What the opening of a journal with these bytes answers, where there is room for so many.
+-- What the opening of a journal with these bytes answers, where there is room for this number of bytes.
 abbrev pub Opens : List ℕ → ℕ → JournalOpened → Type 0
 Opens kept room (Text text) = (kept ≡ text.items) × (length text.items ≤ room)
 Opens kept room Missing = kept ≡ []

@@ -25,13 +25,15 @@ pub enum JournalOpened {
 
 /// A text that outlives the process and the machine's sudden end.
 ///
-/// A journal that has failed once does nothing more: after a write that failed nobody knows what the next one would find.
+/// A journal that has failed once does nothing more: after a write that failed nobody knows what the next one would
+/// find.
 pub trait Journal {
-    /// The bytes that are kept, where the journal tells them: what is there if the machine stops now. A journal that isn't
-    /// there keeps none.
+    /// The bytes that are kept, where the journal tells them: what is there if the machine stops now. A journal that
+    /// isn't there keeps none.
     ghost told: { Self → Option (List ℕ) };
 
-    /// How often it has failed. The count stands still at the last value of 64 bits, and at every call that doesn't fail.
+    /// How often it has failed. The count stands still at the last value of 64 bits, and at every call that doesn't
+    /// fail.
     ghost faults: { Self → ℕ };
 
     /// Opens the journal of this name for this process alone, and reads it whole, at most `room` bytes. Nothing in it
@@ -43,8 +45,8 @@ pub trait Journal {
         ensures cause { result ≡ Failed → Rose (faults self.old) (faults self.new) }
         ensures steady { (result ≡ Failed → ⊥) → faults self.new ≡ faults self.old };
 
-    /// Puts this text in the place of all that is kept, and answers whether it is kept now. At each moment the one or the
-    /// other is there, and whole.
+    /// Puts this text in the place of all that is kept, and answers whether it is kept now. At each moment the one or
+    /// the other is there, and whole.
     fn replace(&mut self, text: &[u8]) -> bool
         ensures replaces { Replaces (told self.old) (told self.new) text.now result }
         ensures spent { 0 < faults self.old → (result ≡ false) × (told self.new ≡ told self.old) }

@@ -9,8 +9,9 @@
 //! alone. It requires that the books have the catalogue's places and rows, and that nothing is out at the desk; it
 //! has no premise about other desks. `paths_name_resources` is the table of paths as a law.
 //!
-//! The clock is told of each command before it is done, whether it may change bookings, and gives after it the number of
-//! the cut that the answer waits for. `unchanging_commands_look` says what a command does that isn't said to change any.
+//! The clock is told of each command before it is done, whether it may change bookings, and gives after it the number
+//! of the cut that the answer waits for. `unchanging_commands_look` says what a command does that isn't said to change
+//! any.
 #![tactic(auto)]
 
 mod answering;

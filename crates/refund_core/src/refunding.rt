@@ -7,14 +7,13 @@ ghost use Rattle.claim_rule.specs.Out.{EndsNone, KeepsHolds};
 ghost use Rattle.refund_core.specs.Refunding.{AcceptsRefund, IfRefunded, IsRefunded};
 
 use crate::quotes::{find_booking, is_named, is_stale, phase_named, refund_at};
-use booking_rows::Aim;
+use booking_rows::{Aim, end_row};
 use claim_rule::{Books, Desk};
 use history_model::phase::Phase;
 use offer_codes::RefundCode;
 use rail_catalogue::Catalogue;
 use rail_ids::RetailerNo;
 use rail_time::Moment;
-use row_decisions::end_row;
 
 /// What came of accepting a refund.
 #[derive(Clone, Copy, PartialEq, Eq)]

@@ -6,12 +6,11 @@ ghost use Rattle.claim_rule.specs.Calls.{AddsStepsBy};
 ghost use Rattle.claim_rule.specs.Out.{EndsNone, KeepsHolds};
 ghost use Rattle.refund_core.specs.Releasing.{Releases, IfReleased, IsReleased};
 
-use booking_rows::Aim;
+use booking_rows::{Aim, end_row, find_owned};
 use claim_rule::{Books, Desk};
 use history_model::phase::Phase;
 use rail_ids::{RetailerNo, RowNo};
 use rail_time::Moment;
-use row_decisions::{end_row, find_owned};
 
 /// What came of releasing.
 #[derive(Clone, Copy, PartialEq, Eq)]

@@ -10,7 +10,8 @@
 //! `print_of` is a print of what the numbers of a catalogue's places mean.
 //!
 //! `specs/Looks` has what looks at rows show, `Lines` what is written of them, `Quiet` when they are of one moment,
-//! `Kept` what of a row stays, `Cuts` what cuts fold to, and `Prints` the text of a print. `laws` says what holds of them.
+//! `Kept` what of a row stays, `Cuts` what cuts fold to, and `Prints` the text of a print. `laws` says what holds of
+//! them.
 #![tactic(auto)]
 
 pub mod laws;

@@ -7,7 +7,8 @@
 //! reply.
 //!
 //! Whoever was told of a booking finds it so or further, at any desk. What a reply tells of a booking is so in what
-//! was seen by then, and each look of a later call that shows the booking shows it in that phase or in one that follows.
+//! was seen by then, and each look of a later call that shows the booking shows it in that phase or in one that
+//! follows.
 //!
 //! Each order is carried out within a number of steps that the catalogue, the moment and the order give, whatever other
 //! desks do.

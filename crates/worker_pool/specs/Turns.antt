@@ -14,7 +14,7 @@ pub record KeepsDesk (old new : DeskView) : Type 0 where
 abbrev pub Doing : Type 0 → Type 1
 Doing W = W → DeskView → W → DeskView → Type 0
 
--- so many turns, one after the other, none of which ended the worker
+-- this number of turns, one after the other, none of which ended the worker
 abbrev pub GoesOn : {W : Type 0} → Doing W → (W → Type 0) → ℕ → W → DeskView → W → DeskView → Type 0
 GoesOn does ended zero before old after new = (after ≡ before) × (new ≡ old)
 GoesOn {W} does ended (suc turns) before old after new =
