@@ -6,6 +6,3 @@ pub mod ViewLemmas
 pub mod TurnLemmas
 pub mod Looked
 pub mod Ended
-pub mod Seeing
-pub mod Deciding
-pub mod Finishing

@@ -5,5 +5,3 @@ pub mod Aims
 pub mod Views
 pub mod Ends
 pub mod SealedRows
-pub mod Looks
-pub mod RowEnds

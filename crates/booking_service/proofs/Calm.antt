@@ -24,7 +24,7 @@ use Rattle.shop.proofs.Homes.{stays}
 use Rattle.booking_rows.specs.Views.{RowSeen, LooksRow}
 use Rattle.booking_rows.specs.Aims.{end_of, LosesTurn}
 use Rattle.booking_rows.proofs.Looked.{row_looked}
-use Rattle.booking_rows.specs.Looks.{saw_owner, IsUnknown, IsWrong, LosesRow, SawOwned, FindsOwned}
+use Rattle.confirm_core.specs.Looks.{saw_owner, IsUnknown, IsWrong, LosesRow, SawOwned, FindsOwned}
 use Rattle.confirm_core.specs.Confirming.{SawTerms, SawInTime, Confirms}
 use Rattle.confirm_core.specs.declared.confirming.Confirmed.{Confirmed}
 use Rattle.confirm_core.specs.declared.confirming.Confirmed.TheVariants as confirmed

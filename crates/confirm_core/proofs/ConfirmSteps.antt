@@ -9,8 +9,8 @@ use Rattle.claim_rule.specs.Calls.{AddsStepsBy}
 use Rattle.claim_rule.proofs.Shapes.{shape_then}
 use Rattle.booking_rows.specs.declared.turns.Aim.TheVariants as aim
 use Rattle.booking_rows.specs.Aims.{turn_of, LosesTurn}
-use Rattle.booking_rows.specs.Looks.{saw_terms}
-use Rattle.booking_rows.proofs.Deciding.{unknown_most, wrong_most, loses_most}
+use Rattle.confirm_core.specs.Looks.{saw_terms}
+use Rattle.confirm_core.proofs.Deciding.{unknown_most, wrong_most, loses_most}
 use Rattle.confirm_core.specs.declared.confirming.Terms.{Terms}
 use Rattle.confirm_core.specs.declared.confirming.Confirmed.{Confirmed}
 use Rattle.confirm_core.specs.declared.confirming.Confirmed.TheVariants as confirmed

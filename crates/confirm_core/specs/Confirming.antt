@@ -7,7 +7,7 @@ use Rattle.history_model.specs.Phase.{is_sealed}
 use Rattle.booking_rows.specs.declared.turns.Aim.TheVariants as aim
 use Rattle.booking_rows.specs.Aims.{turn_of}
 use Rattle.rail_ids.specs.declared.RowNo.{RowNo}
-use Rattle.booking_rows.specs.Looks.{saw_terms, IsKept, IsUnknown, IsWrong, LosesRow}
+use Rattle.confirm_core.specs.Looks.{saw_terms, IsKept, IsUnknown, IsWrong, LosesRow}
 use Rattle.confirm_core.specs.declared.confirming.Terms.{Terms}
 use Rattle.confirm_core.specs.declared.confirming.Confirmed.{Confirmed}
 use Rattle.confirm_core.specs.declared.confirming.Confirmed.TheVariants as confirmed

@@ -5,7 +5,7 @@ use Rattle.history_model.specs.declared.phase.Phase.TheVariants.{Confirmed}
 use Rattle.booking_rows.specs.declared.turns.Aim.TheVariants as aim
 use Rattle.booking_rows.specs.Aims.{turn_of}
 use Rattle.rail_ids.specs.declared.RowNo.{RowNo}
-use Rattle.booking_rows.specs.Looks.{saw_owner, IsKept, FindsOwned, SawOwned, IsWrong, LosesRow}
+use Rattle.confirm_core.specs.Looks.{saw_owner, IsKept, FindsOwned, SawOwned, IsWrong, LosesRow}
 use Rattle.confirm_core.specs.declared.fulfilling.Fulfilment.{Fulfilment}
 use Rattle.confirm_core.specs.declared.fulfilling.Fulfilment.TheVariants as fulfilled
 

@@ -1,2 +1,4 @@
 pub mod Confirming
 pub mod Fulfilling
+pub mod Looks
+pub mod RowEnds

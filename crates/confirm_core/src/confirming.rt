@@ -3,12 +3,13 @@ ghost use Rattle.std.specs.Prelude.{IfSome};
 ghost use Rattle.claim_rule.specs.Desks.{IsOf, AddsAtMost};
 ghost use Rattle.claim_rule.specs.Calls.{AddsStepsBy};
 ghost use Rattle.claim_rule.specs.Out.{KeepsHolds, KeepsEndings};
-ghost use Rattle.booking_rows.specs.Looks.{HasLimit};
+ghost use Rattle.confirm_core.specs.Looks.{HasLimit};
 ghost use Rattle.claim_rule.specs.Turns.{IsPresentIn};
 ghost use Rattle.history_model.specs.declared.phase.Phase.TheVariants.{Confirmed as IsConfirmedPhase};
 ghost use Rattle.confirm_core.specs.Confirming.{Confirms, IfConfirmed, FindsTerms};
 
-use booking_rows::{Aim, Turned, is_sealed, look_phase, look_word, turn};
+use crate::looks::{is_sealed, look_phase, look_word};
+use booking_rows::{Aim, Turned, turn};
 use claim_rule::{Books, Desk};
 use history_model::booking::{LIMIT_WORD, RETAILER_WORD};
 use history_model::phase::Phase;

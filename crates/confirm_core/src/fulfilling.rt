@@ -6,7 +6,8 @@ ghost use Rattle.claim_rule.specs.Turns.{IsPresentIn};
 ghost use Rattle.history_model.specs.declared.phase.Phase.TheVariants.{Fulfilled};
 ghost use Rattle.confirm_core.specs.Fulfilling.{Fulfils, IfFulfilled};
 
-use booking_rows::{Aim, Turned, find_owned, turn};
+use crate::looks::find_owned;
+use booking_rows::{Aim, Turned, turn};
 use claim_rule::{Books, Desk};
 use history_model::phase::Phase;
 use rail_ids::{RetailerNo, RowNo};

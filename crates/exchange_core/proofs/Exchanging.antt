@@ -29,7 +29,7 @@ use Rattle.claim_rule.proofs.Shapes.{shape_then, adds_length}
 use Rattle.booking_rows.specs.declared.turns.Aim.TheVariants as aim
 use Rattle.booking_rows.specs.declared.turns.Turned.TheVariants as turned
 use Rattle.booking_rows.specs.Aims.{end_of, fresh_ending, Turns, LosesTurn}
-use Rattle.booking_rows.proofs.Deciding.{can_turn}
+use Rattle.confirm_core.proofs.Deciding.{can_turn}
 use Rattle.refund_core.specs.Quotes.{phase_named}
 use Rattle.exchange_core.specs.Ready.{ReadyView, IsReadyFor}
 use Rattle.exchange_core.proofs.Ending.{is_successor}

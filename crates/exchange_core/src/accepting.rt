@@ -10,8 +10,9 @@ ghost use Rattle.exchange_core.specs.Ready.{IsReadyFor};
 ghost use Rattle.exchange_core.specs.Accepting.{AcceptsExchange, OnDone, OnLost, IsExchanged, exchange_end};
 
 use crate::readying::ExchangeReady;
-use booking_rows::{Aim, Sealed, Turned, finish_end, seal, turn};
+use booking_rows::{Aim, Sealed, Turned, seal, turn};
 use claim_rule::{Books, Desk, Hold};
+use confirm_core::finish_end;
 use history_model::phase::Phase;
 use rail_ids::RowNo;
 use refund_core::phase_named;

@@ -33,8 +33,8 @@ use Rattle.booking_rows.specs.Ends.{IsEndedAs}
 use Rattle.booking_rows.specs.SealedRows.{IsSealedSince}
 use Rattle.booking_rows.specs.Views.{saw_phase}
 use Rattle.booking_rows.proofs.ViewLemmas.{first_shown, first_word, first_shape, sealed_since}
-use Rattle.booking_rows.specs.RowEnds.{EndsBooking, ends_as}
-use Rattle.booking_rows.proofs.Finishing.{ends_length}
+use Rattle.confirm_core.specs.RowEnds.{EndsBooking, ends_as}
+use Rattle.confirm_core.proofs.Finishing.{ends_length}
 use Rattle.expiry_sweeper.specs.declared.rows.RowSwept.TheVariants as came
 use Rattle.expiry_sweeper.specs.OneRow.{RowSweep, SeenPrebooked, passed, given_away, waiting, expired, lost, IsThere, IsRowSweep, SweepsRow, saw_prebooked, row_sweep_steps}
 use Rattle.expiry_sweeper.specs.AllRows.{sweeps_steps}

@@ -4,8 +4,9 @@ ghost use Rattle.claim_rule.specs.Desks.{IsOf};
 ghost use Rattle.claim_rule.specs.Out.{EndsNone, KeepsHolds};
 ghost use Rattle.expiry_sweeper.specs.OneRow.{SweepsRow};
 
-use booking_rows::{Aim, end_row, look_phase, look_word};
+use booking_rows::Aim;
 use claim_rule::{Books, Desk};
+use confirm_core::{end_row, look_phase, look_word};
 use history_model::booking::{LIMIT_WORD, STANDING_WORD};
 use history_model::phase::{Phase, read_row_word};
 use rail_ids::RowNo;

@@ -18,7 +18,7 @@ use Rattle.history_model.specs.Lists.{change_first}
 use Rattle.history_model.proofs.Keeping.{turned-key, given_ending}
 use Rattle.claim_rule.specs.Endings.{item_looks}
 use Rattle.claim_rule.specs.EndSteps.{gives_from, closing, ending_steps}
-use Rattle.booking_rows.specs.RowEnds.{ends_as}
+use Rattle.confirm_core.specs.RowEnds.{ends_as}
 use Rattle.booking_service.specs.Deciding.{at_end}
 use Rattle.lone_desk.specs.Lone.{after_steps}
 use Rattle.lone_desk.proofs.OwnRow.{changed_behind}

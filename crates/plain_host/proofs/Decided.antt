@@ -17,8 +17,8 @@ use Rattle.rail_ids.specs.declared.RowNo.{RowNo}
 use Rattle.booking_rows.specs.Views.{RowSeen}
 use Rattle.booking_rows.specs.Aims.{end_of, turn_of, LosesTurn}
 use Rattle.booking_rows.specs.declared.turns.Aim.TheVariants as aim
-use Rattle.booking_rows.specs.Looks.{saw_owner, saw_terms, SawOwned, FindsOwned}
-use Rattle.booking_rows.specs.RowEnds.{ends_as}
+use Rattle.confirm_core.specs.Looks.{saw_owner, saw_terms, SawOwned, FindsOwned}
+use Rattle.confirm_core.specs.RowEnds.{ends_as}
 use Rattle.confirm_core.specs.declared.confirming.Confirmed.{Confirmed}
 use Rattle.confirm_core.specs.declared.confirming.Confirmed.TheVariants as came
 use Rattle.confirm_core.specs.Confirming.{Confirms, SawTerms}

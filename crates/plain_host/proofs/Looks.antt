@@ -19,7 +19,7 @@ use Rattle.claim_rule.specs.Out.{is_look, AllLooks}
 use Rattle.booking_rows.specs.Aims.{LosesTurn}
 use Rattle.booking_rows.specs.Views.{saw_phase, words_read, LooksNone}
 use Rattle.booking_rows.proofs.Looked.{row_looked}
-use Rattle.booking_rows.specs.Looks.{IsUnknown}
+use Rattle.confirm_core.specs.Looks.{IsUnknown}
 use Rattle.lone_desk.specs.Lone.{entries_of, after_steps}
 use Rattle.lone_desk.proofs.Looking.{legal_parts}
 

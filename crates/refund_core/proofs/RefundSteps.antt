@@ -18,9 +18,9 @@ use Rattle.booking_rows.specs.declared.turns.Aim.TheVariants as aim
 use Rattle.booking_rows.specs.Aims.{end_of}
 use Rattle.booking_rows.specs.Views.{RowSeen}
 use Rattle.booking_rows.specs.SealedRows.{IsSealedRow}
-use Rattle.booking_rows.specs.RowEnds.{EndsBooking}
-use Rattle.booking_rows.proofs.Deciding.{can_turn}
-use Rattle.booking_rows.proofs.Finishing.{ends_length}
+use Rattle.confirm_core.specs.RowEnds.{EndsBooking}
+use Rattle.confirm_core.proofs.Deciding.{can_turn}
+use Rattle.confirm_core.proofs.Finishing.{ends_length}
 use Rattle.rail_catalogue.specs.Contents.{CatalogueView}
 use Rattle.offer_codes.specs.declared.code.RefundCode.{RefundCode}
 use Rattle.refund_core.specs.declared.refunding.Refunded.TheVariants as refunded

@@ -11,10 +11,10 @@ use Rattle.claim_rule.specs.Calls.{AddsStepsBy}
 use Rattle.claim_rule.proofs.Shapes.{shape_then}
 use Rattle.booking_rows.specs.declared.turns.Aim.TheVariants as aim
 use Rattle.booking_rows.specs.Aims.{end_of}
-use Rattle.booking_rows.specs.Looks.{saw_owner, FindsOwned, SawOwned}
-use Rattle.booking_rows.specs.RowEnds.{EndsBooking, ends_as}
-use Rattle.booking_rows.proofs.Deciding.{unknown_most, wrong_most, loses_most}
-use Rattle.booking_rows.proofs.Finishing.{ends_length}
+use Rattle.confirm_core.specs.Looks.{saw_owner, FindsOwned, SawOwned}
+use Rattle.confirm_core.specs.RowEnds.{EndsBooking, ends_as}
+use Rattle.confirm_core.proofs.Deciding.{unknown_most, wrong_most, loses_most}
+use Rattle.confirm_core.proofs.Finishing.{ends_length}
 use Rattle.refund_core.specs.declared.releasing.Released.{Released}
 use Rattle.refund_core.specs.declared.releasing.Released.TheVariants as released
 use Rattle.refund_core.specs.Releasing.{Releases}

@@ -12,7 +12,7 @@ use Rattle.booking_rows.specs.Aims.{end_of, LosesTurn}
 use Rattle.booking_rows.specs.Ends.{IsEndedAs}
 use Rattle.booking_rows.specs.Views.{RowSeen}
 use Rattle.claim_rule.specs.Rule.{DeskView}
-use Rattle.booking_rows.specs.RowEnds.{ends_as}
+use Rattle.confirm_core.specs.RowEnds.{ends_as}
 use Rattle.rail_catalogue.specs.Contents.{CatalogueView}
 use Rattle.offer_codes.specs.declared.code.RefundCode.{RefundCode}
 use Rattle.refund_core.specs.declared.quoting.Quoted.{Quoted}

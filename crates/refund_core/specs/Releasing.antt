@@ -10,8 +10,8 @@ use Rattle.booking_rows.specs.Aims.{end_of}
 use Rattle.booking_rows.specs.Ends.{IsEndedAs}
 use Rattle.claim_rule.specs.Rule.{DeskView}
 use Rattle.rail_ids.specs.declared.RowNo.{RowNo}
-use Rattle.booking_rows.specs.Looks.{saw_owner, IsKept, FindsOwned, SawOwned, IsWrong, LosesRow}
-use Rattle.booking_rows.specs.RowEnds.{ends_as}
+use Rattle.confirm_core.specs.Looks.{saw_owner, IsKept, FindsOwned, SawOwned, IsWrong, LosesRow}
+use Rattle.confirm_core.specs.RowEnds.{ends_as}
 use Rattle.refund_core.specs.declared.releasing.Released.{Released}
 use Rattle.refund_core.specs.declared.releasing.Released.TheVariants as released
 

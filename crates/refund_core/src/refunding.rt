@@ -7,8 +7,9 @@ ghost use Rattle.claim_rule.specs.Out.{EndsNone, KeepsHolds};
 ghost use Rattle.refund_core.specs.Refunding.{AcceptsRefund, IfRefunded, IsRefunded};
 
 use crate::quotes::{find_booking, is_named, is_stale, phase_named, refund_at};
-use booking_rows::{Aim, end_row};
+use booking_rows::Aim;
 use claim_rule::{Books, Desk};
+use confirm_core::end_row;
 use history_model::phase::Phase;
 use offer_codes::RefundCode;
 use rail_catalogue::Catalogue;

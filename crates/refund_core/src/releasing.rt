@@ -6,8 +6,9 @@ ghost use Rattle.claim_rule.specs.Calls.{AddsStepsBy};
 ghost use Rattle.claim_rule.specs.Out.{EndsNone, KeepsHolds};
 ghost use Rattle.refund_core.specs.Releasing.{Releases, IfReleased, IsReleased};
 
-use booking_rows::{Aim, end_row, find_owned};
+use booking_rows::Aim;
 use claim_rule::{Books, Desk};
+use confirm_core::{end_row, find_owned};
 use history_model::phase::Phase;
 use rail_ids::{RetailerNo, RowNo};
 use rail_time::Moment;

@@ -25,8 +25,8 @@ use Rattle.claim_rule.proofs.Shapes.{adds_length}
 use Rattle.booking_rows.specs.Aims.{LosesTurn, end_of}
 use Rattle.booking_rows.specs.declared.turns.Aim.TheVariants as aim
 use Rattle.booking_rows.specs.Views.{AreRead, LooksNone, LooksRow, RowSeen, RowWords, end_words, saw_end, saw_row, saw_words, word_looks, words_read}
-use Rattle.booking_rows.specs.RowEnds.{ends_as}
-use Rattle.booking_rows.proofs.Finishing.{ends_length}
+use Rattle.confirm_core.specs.RowEnds.{ends_as}
+use Rattle.confirm_core.proofs.Finishing.{ends_length}
 use Rattle.expiry_sweeper.specs.AllRows.{sweeps_steps}
 use Rattle.confirm_core.proofs.ConfirmSteps.{confirms_length}
 use Rattle.confirm_core.proofs.FulfilSteps.{fulfils_length}

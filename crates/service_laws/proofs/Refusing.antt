@@ -15,7 +15,7 @@ use Rattle.claim_rule.specs.Desks.{AddsSteps, IsOf}
 use Rattle.booking_rows.specs.Aims.{LosesTurn}
 use Rattle.booking_rows.specs.Views.{saw_phase}
 use Rattle.booking_rows.proofs.ViewLemmas.{sealed_not_free}
-use Rattle.booking_rows.specs.Looks.{IsWrong, SawOwned}
+use Rattle.confirm_core.specs.Looks.{IsWrong, SawOwned}
 use Rattle.confirm_core.specs.Confirming.{SawInTime}
 use Rattle.confirm_core.specs.declared.confirming.Confirmed.TheVariants as confirmed
 use Rattle.confirm_core.specs.declared.fulfilling.Fulfilment.TheVariants as fulfilled

@@ -26,7 +26,7 @@ use Rattle.expiry_sweeper.specs.OneRow.{RowSweep, SeenPrebooked, IsRowSweep, pas
 use Rattle.booking_rows.specs.declared.turns.Aim.TheVariants as aim
 use Rattle.booking_rows.specs.Aims.{end_of}
 use Rattle.booking_rows.specs.Views.{saw_phase}
-use Rattle.booking_rows.specs.RowEnds.{ends_as}
+use Rattle.confirm_core.specs.RowEnds.{ends_as}
 use Rattle.service_laws.specs.Complete.{SweepsAreComplete}
 use Rattle.service_laws.proofs.Own.{first_of, rest_of, steps_all, steps_since}
 use Rattle.service_laws.proofs.Standing.{ShowsSeal, LeavesPhase, there, seal_shown, phase_left, phase_of, still_there, stands_so}

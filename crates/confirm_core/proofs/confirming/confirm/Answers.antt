@@ -2,7 +2,7 @@ use Rattle.std.proofs.Common.{◌≡◌, ℕ, ◌<◌, ◌≤◌, refl, subst, a
 use Rattle.history_model.specs.declared.phase.Phase.TheVariants.{Prebooked, Confirmed as IsConfirmed}
 use Rattle.history_model.specs.WholeEnds.{end_at}
 use Rattle.claim_rule.proofs.Out.{holds_then, endings_then}
-use Rattle.booking_rows.proofs.Deciding.{by_length, can_turn_by}
+use Rattle.confirm_core.proofs.Deciding.{by_length, can_turn_by}
 use Rattle.confirm_core.specs.Confirming.{Confirms}
 use Rattle.confirm_core.specs.declared.confirming.Confirmed.TheVariants as confirmed
 use Rattle.confirm_core.proofs.ConfirmSteps.{unknown, too_late, confirms, loses, given_away, wrong_at_look, confirms_length}

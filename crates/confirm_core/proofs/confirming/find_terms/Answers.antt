@@ -2,9 +2,9 @@ use Rattle.std.proofs.Common.{◌≡◌, ℕ, ◌<◌, ◌∙◌, true, rules, r
 use Rattle.history_model.specs.Phase.{is_sealed as sealed_phase}
 use Rattle.claim_rule.specs.Desks.{AddsSteps}
 use Rattle.booking_rows.proofs.ViewLemmas.{sealed_of}
-use Rattle.booking_rows.specs.Looks.{HasLimit, saw_terms}
-use Rattle.booking_rows.proofs.Deciding.{anothers, given_away, terms_seen, last_look}
-use Rattle.booking_rows.proofs.Seeing.{limit_kept, limit_is, no_years}
+use Rattle.confirm_core.specs.Looks.{HasLimit, saw_terms}
+use Rattle.confirm_core.proofs.Deciding.{anothers, given_away, terms_seen, last_look}
+use Rattle.confirm_core.proofs.Seeing.{limit_kept, limit_is, no_years}
 use Rattle.confirm_core.specs.Confirming.{SawTerms}
 use Rattle.confirm_core.proofs.Terms.{four_holds, four_endings}
 use Rattle.confirm_core.proofs.confirming.find_terms.Goals as goal

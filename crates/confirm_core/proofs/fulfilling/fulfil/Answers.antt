@@ -2,7 +2,7 @@ use Rattle.std.proofs.Common.{refl, arith, pos}
 use Rattle.history_model.specs.declared.phase.Phase.TheVariants.{Fulfilled, Confirmed as IsConfirmed}
 use Rattle.history_model.specs.WholeEnds.{end_at}
 use Rattle.claim_rule.proofs.Out.{holds_then, endings_then}
-use Rattle.booking_rows.proofs.Deciding.{by_length, can_turn}
+use Rattle.confirm_core.proofs.Deciding.{by_length, can_turn}
 use Rattle.confirm_core.specs.Fulfilling.{Fulfils}
 use Rattle.confirm_core.specs.declared.fulfilling.Fulfilment.TheVariants as fulfilled
 use Rattle.confirm_core.proofs.FulfilSteps.{unknown, wrong_at_look, fulfils, loses, given_away, fulfils_length}

@@ -13,7 +13,7 @@ use Rattle.claim_rule.specs.Calls.{AddsStepsBy}
 use Rattle.claim_rule.specs.Desks.{CanTurn}
 use Rattle.claim_rule.specs.Endings.{EndingView}
 use Rattle.offer_codes.specs.Exchanges.{exchange_view}
-use Rattle.booking_rows.proofs.Finishing.{few_items}
+use Rattle.confirm_core.proofs.Finishing.{few_items}
 use Rattle.exchange_core.specs.Ready.{ReadyView, IsReadyFor}
 use Rattle.exchange_core.specs.Accepting.{AcceptsExchange, IsExchanged, exchange_end, exchange_steps}
 use Rattle.exchange_core.specs.declared.accepting.Exchanged.TheVariants as exchanged

@@ -5,8 +5,8 @@ use Rattle.history_model.specs.declared.phase.EndKind.TheVariants.{Expire}
 use Rattle.history_model.specs.WholeEnds.{end_at}
 use Rattle.claim_rule.proofs.Out.{holds_then}
 use Rattle.booking_rows.proofs.ViewLemmas.{sealed_of}
-use Rattle.booking_rows.proofs.Deciding.{can_turn_by, last_look}
-use Rattle.booking_rows.proofs.Seeing.{limit_kept, read_holds, read_endings}
+use Rattle.confirm_core.proofs.Deciding.{can_turn_by, last_look}
+use Rattle.confirm_core.proofs.Seeing.{limit_kept, read_holds, read_endings}
 use Rattle.expiry_sweeper.specs.OneRow.{SeenPrebooked}
 use Rattle.expiry_sweeper.proofs.Sweeping.{other_phase, no_phase, first_look, passes, all_looks, three_holds, gives_away, waits, expires, loses}
 use Rattle.expiry_sweeper.proofs.rows.sweep_row.Goals as goal

@@ -5,7 +5,7 @@ use Rattle.booking_rows.specs.declared.turns.Aim.TheVariants as aim
 use Rattle.booking_rows.specs.Views.{RowSeen}
 use Rattle.claim_rule.specs.Calls.{AddsStepsBy}
 use Rattle.claim_rule.proofs.Out.{holds_then}
-use Rattle.booking_rows.specs.RowEnds.{EndsBooking}
+use Rattle.confirm_core.specs.RowEnds.{EndsBooking}
 use Rattle.refund_core.specs.Quotes.{phase_named}
 use Rattle.refund_core.proofs.RefundSteps.{may_refund, none_refunded, wrong_refund, refunds, gives_refund_away, loses_refund, ended_bound, lost_bound}
 use Rattle.refund_core.proofs.refunding.accept_refund.Goals as goal

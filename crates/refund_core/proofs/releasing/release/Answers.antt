@@ -6,8 +6,8 @@ use Rattle.history_model.specs.declared.phase.EndKind.TheVariants.{Release}
 use Rattle.booking_rows.specs.declared.turns.Aim.TheVariants as aim
 use Rattle.claim_rule.specs.Calls.{AddsStepsBy}
 use Rattle.claim_rule.proofs.Out.{holds_then}
-use Rattle.booking_rows.specs.RowEnds.{EndsBooking}
-use Rattle.booking_rows.proofs.Deciding.{by_length}
+use Rattle.confirm_core.specs.RowEnds.{EndsBooking}
+use Rattle.confirm_core.proofs.Deciding.{by_length}
 use Rattle.refund_core.specs.Releasing.{Releases}
 use Rattle.refund_core.specs.declared.releasing.Released.TheVariants as released
 use Rattle.refund_core.proofs.ReleaseSteps.{wrong_at_look, releases, gives_away, loses, releases_length}

@@ -2,8 +2,8 @@ use Rattle.std.proofs.Common.{[], ◌∷◌}
 use Rattle.history_model.specs.declared.entry.Step.TheVariants.{SawRow}
 use Rattle.claim_rule.proofs.Shapes.{step_shape}
 use Rattle.booking_rows.proofs.ViewLemmas.{since_on}
-use Rattle.booking_rows.proofs.Seeing.{word_seen, read_holds, read_endings}
-use Rattle.booking_rows.proofs.looks.look_word.Goals as goal
+use Rattle.confirm_core.proofs.Seeing.{word_seen, read_holds, read_endings}
+use Rattle.confirm_core.proofs.looks.look_word.Goals as goal
 
 pub returns : goal.returns
 returns c =

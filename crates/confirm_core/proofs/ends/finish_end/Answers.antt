@@ -1,6 +1,6 @@
 use Rattle.claim_rule.proofs.Out.{holds_then}
-use Rattle.booking_rows.proofs.Finishing.{gave_and_closed, ended_whole}
-use Rattle.booking_rows.proofs.ends.finish_end.Goals as goal
+use Rattle.confirm_core.proofs.Finishing.{gave_and_closed, ended_whole}
+use Rattle.confirm_core.proofs.ends.finish_end.Goals as goal
 
 pub returns-clause-entries : goal.returns-clause-entries
 returns-clause-entries c =

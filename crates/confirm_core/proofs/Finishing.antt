@@ -24,7 +24,7 @@ use Rattle.booking_rows.specs.declared.turns.Aim.{Aim}
 use Rattle.booking_rows.specs.declared.turns.Turned.TheVariants as turned
 use Rattle.booking_rows.specs.Aims.{aimed, end_of, turn_of, fresh_ending, Turns}
 use Rattle.booking_rows.specs.Ends.{IsEndedAs}
-use Rattle.booking_rows.specs.RowEnds.{ends_as}
+use Rattle.confirm_core.specs.RowEnds.{ends_as}
 
 -- all items are given back, and the end is closed
 pub gave_and_closed : (a b c : DeskView) (e now : EndingView) → e.given ≡ 0 → now ≡ record e { given = length e.items } → AddsSteps a b (gives_from e.row.row e.given (length e.items - e.given)) → AddsSteps b c (closing now.row.row now.kind now.end) → AddsSteps a c (ending_steps e.row.row e.kind e.end e.items)

@@ -10,7 +10,7 @@ ghost use Rattle.claim_rule.specs.Calls.{AddsStepsBy};
 ghost use Rattle.claim_rule.specs.Out.{KeepsHolds, KeepsEndings};
 ghost use Rattle.booking_rows.specs.Views.{saw_phase};
 ghost use Rattle.booking_rows.specs.SealedRows.{IsSealedRow, IsSealedSince, IsStillPresent};
-ghost use Rattle.booking_rows.specs.Looks.{SawPhase, HasWordAt, FindsOwned};
+ghost use Rattle.confirm_core.specs.Looks.{SawPhase, HasWordAt, FindsOwned};
 
 use claim_rule::{Books, Desk};
 use history_model::booking::{RETAILER_WORD, STANDING_WORD};

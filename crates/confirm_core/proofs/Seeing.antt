@@ -19,7 +19,7 @@ use Rattle.claim_rule.proofs.Shapes.{step_shape}
 use Rattle.claim_rule.proofs.Out.{looks_holds, looks_endings}
 use Rattle.booking_rows.specs.SealedRows.{IsSealedRow, IsStillPresent}
 use Rattle.booking_rows.proofs.ViewLemmas.{at_key, shows_word, stays_on, still_before}
-use Rattle.booking_rows.specs.Looks.{HasWordAt, HasLimit}
+use Rattle.confirm_core.specs.Looks.{HasWordAt, HasLimit}
 
 pub read_holds : (r w n : ℕ) (old new : DeskView) → Stepped (SawRow r w n) old new → KeepsHolds old new
 read_holds r w n old new did = looks_holds old new (SawRow r w n ∷ []) (step_shape (SawRow r w n) old new did) did.same.5 (refl, tt)

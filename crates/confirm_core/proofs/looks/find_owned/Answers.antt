@@ -4,9 +4,9 @@ use Rattle.history_model.specs.Phase.{is_sealed as sealed_phase}
 use Rattle.claim_rule.specs.Desks.{AddsSteps}
 use Rattle.claim_rule.proofs.Out.{holds_then, endings_then}
 use Rattle.booking_rows.proofs.ViewLemmas.{sealed_of, sealed_on}
-use Rattle.booking_rows.specs.Looks.{saw_owner}
-use Rattle.booking_rows.proofs.Deciding.{anothers, given_away, owner_seen, last_look}
-use Rattle.booking_rows.proofs.looks.find_owned.Goals as goal
+use Rattle.confirm_core.specs.Looks.{saw_owner}
+use Rattle.confirm_core.proofs.Deciding.{anothers, given_away, owner_seen, last_look}
+use Rattle.confirm_core.proofs.looks.find_owned.Goals as goal
 
 pub look_word-owner-requires-clause-sealed : goal.look_word-owner-requires-clause-sealed
 look_word-owner-requires-clause-sealed c =

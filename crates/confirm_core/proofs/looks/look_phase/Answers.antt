@@ -2,8 +2,8 @@ use Rattle.std.proofs.Common.{sym, refl}
 use Rattle.history_model.specs.declared.entry.Step.TheVariants.{SawRow}
 use Rattle.claim_rule.proofs.Shapes.{step_shape}
 use Rattle.booking_rows.proofs.ViewLemmas.{first_shape, sealed_since, shown_still}
-use Rattle.booking_rows.proofs.Seeing.{read_holds, read_endings}
-use Rattle.booking_rows.proofs.looks.look_phase.Goals as goal
+use Rattle.confirm_core.proofs.Seeing.{read_holds, read_endings}
+use Rattle.confirm_core.proofs.looks.look_phase.Goals as goal
 
 pub returns : goal.returns
 returns c =

@@ -17,7 +17,7 @@ use Rattle.claim_rule.specs.Calls.{Calls, AddsStepsBy}
 use Rattle.claim_rule.proofs.Shapes.{shape_then, shape_none, adds_length}
 use Rattle.booking_rows.specs.SealedRows.{IsSealedRow}
 use Rattle.booking_rows.specs.Views.{saw_phase}
-use Rattle.booking_rows.specs.Looks.{HasLimit, IsUnknown, IsWrong, LosesRow, SawPhase, saw_owner, saw_terms}
+use Rattle.confirm_core.specs.Looks.{HasLimit, IsUnknown, IsWrong, LosesRow, SawPhase, saw_owner, saw_terms}
 
 -- a turn that asks nothing of the limit
 pub can_turn : (lay : Layout) (desk : DeskView) (row : RowNo) (from to : Phase) (end : End) → desk.layout ≡ lay → row.row < lay.rows → is_turn from to ≡ true → end.moment ≤ 4102444799 → ((limit : ℕ) → TurnsWith (state_of lay desk.seen) desk.number limit to end) → IsSealedRow desk row → CanTurn lay desk.seen desk.number row from to end

@@ -1,8 +1,8 @@
 use Rattle.std.proofs.Common.{ap}
 use Rattle.claim_rule.specs.Endings.{EndingView}
 use Rattle.claim_rule.proofs.Out.{holds_then}
-use Rattle.booking_rows.proofs.Finishing.{few_items, ended, ended_so}
-use Rattle.booking_rows.proofs.ends.end_row.Goals as goal
+use Rattle.confirm_core.proofs.Finishing.{few_items, ended, ended_so}
+use Rattle.confirm_core.proofs.ends.end_row.Goals as goal
 
 pub unreachable-requires : goal.unreachable-requires
 unreachable-requires c = c.in-Won.ensures.leaves.0 c.requires.ends.0 c.requires.ends.1

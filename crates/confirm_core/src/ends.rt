@@ -9,9 +9,9 @@ ghost use Rattle.claim_rule.specs.EndSteps.{ending_steps};
 ghost use Rattle.claim_rule.specs.Out.{IsEnding, EndsNone, KeepsHolds};
 ghost use Rattle.booking_rows.specs.Aims.{aimed, end_of, HasGeneration, MayAim, OfEnding};
 ghost use Rattle.booking_rows.specs.Ends.{IsEndedAs};
-ghost use Rattle.booking_rows.specs.RowEnds.{EndsBooking};
+ghost use Rattle.confirm_core.specs.RowEnds.{EndsBooking};
 
-use crate::turns::{Aim, Turned, close_end, turn};
+use booking_rows::{Aim, Turned, close_end, turn};
 use claim_rule::{Books, Desk, Ending};
 use history_model::phase::Phase;
 use rail_ids::RowNo;
