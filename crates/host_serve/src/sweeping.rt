@@ -22,6 +22,21 @@ pub struct Sweeper<T, C> {
     pub ended: bool,
 }
 
+/// Sweeps, where a sweep has begun.
+fn sweep_begun<C: Clock>(clock: &C, books: &Books, desk: &mut Desk, now: Moment)
+    requires begun { C.inside clock.now }
+    requires own { IsOf books.now desk.old }
+    requires none { EndsNone desk.old }
+    ensures own { IsOf books.now desk.new }
+    ensures entries { (swept : Swept) × AddsStepsBy (Sweeps books.now.layout.rows now swept) desk.old desk.new }
+    ensures none { EndsNone desk.new }
+    ensures holds { KeepsHolds desk.old desk.new }
+    ensures tidy { IsTidy desk.old → IsTidy desk.new }
+{
+    let _ = clock;
+    let _swept = sweep(books, desk, now);
+}
+
 impl<T: Ticker, C: Clock> Sweeper<T, C> {
     /// Waits for the next tick, for which the ticker is asked once, and sweeps once where it ticks; else it ends.
     pub fn take_turn(&mut self, books: &Books, desk: &mut Desk) -> TurnEnd
@@ -42,7 +57,7 @@ impl<T: Ticker, C: Clock> Sweeper<T, C> {
         }
         let now = self.clock.now();
         self.clock.begin(Reach::Changes);
-        let _swept = sweep(books, desk, now);
+        sweep_begun(&self.clock, books, desk, now);
         let _cut = self.clock.end();
         self.ended = false;
         TurnEnd::Again

@@ -1,7 +1,7 @@
 //! The service as it answers the requests of one connection.
 use crate::answering::{answer_of, problem_answer};
 use crate::asking::{admit, asked, first_after, retailer_of};
-use crate::performing::say;
+use crate::performing::say_begun;
 use crate::reach::reach_of;
 use crate::refusal::refusal_of;
 use crate::resource::Resource;
@@ -63,7 +63,7 @@ impl<C: Clock> Responder for Service<'_, '_, '_, C> {
             moment: now,
         };
         self.clock.begin(reach_of(&command));
-        let said = say(&shop, self.desk, asker, &command);
+        let said = say_begun(&*self.clock, &shop, self.desk, asker, &command);
         answer_of(said, last, self.clock.end())
     }
 

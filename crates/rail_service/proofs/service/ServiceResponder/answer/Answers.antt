@@ -30,7 +30,7 @@ returns-clause-answers g c =
     (reading_of _ _ _ c.now-now.ensures.first c.now-now.ensures.rest) in
     let did = told_so cat c.in-Ok.asked.0.0 c.now-now.result c.args.last
     (ordered cat c.now-now.result c.in-Ok.asked.1) _ _ _ _
-    c.requires.ready.own.legal c.say-said.ensures.said c.answer_of.ensures.bytes in
+    c.requires.ready.own.legal c.say_begun-said.ensures.said c.answer_of.ensures.bytes in
     record {
       answer = answer_by cat (view_of told c.args.self.now) request _ _ c.now-now.result did.0
           c.requires.ready.own.legal reading
@@ -38,9 +38,9 @@ returns-clause-answers g c =
           (did.4 ∙ ap (λ (last : Bool). reply_bytes cat last did.0) c.requires.last)
           (c.first_after-self.ensures.value
           ∙ ap (λ (retailer : Option RetailerNo). first_after first retailer) c.retailer_of-retailer.ensures.value)
-          c.say-said.ensures.home.home.idle
-          (makes_empty c.args.self.now.books.now _ c.say-said.ensures.home.home.own c.say-said.ensures.home.home.idle.0);
-      tidy = c.say-said.ensures.home.tidy;
+          c.say_begun-said.ensures.home.home.idle
+          (makes_empty c.args.self.now.books.now _ c.say_begun-said.ensures.home.home.own c.say_begun-said.ensures.home.home.idle.0);
+      tidy = c.say_begun-said.ensures.home.tidy;
       cat = refl;
       books = refl;
       desk = refl;
