@@ -34,8 +34,8 @@ use Rattle.booking_rows.specs.declared.turns.Aim.TheVariants as aim
 use Rattle.booking_service.specs.Deciding.{at_end}
 use Rattle.service_laws.specs.Told.{HasCome, StandsFrom, ShownIsSo, ConfirmedIsSo, FulfilledIsSo, ReleasedIsSo}
 use Rattle.service_laws.proofs.Finding.{come_on, stands_on}
-use Rattle.service_laws.proofs.Own.{around, steps_all}
-use Rattle.service_laws.proofs.Standing.{ShowsSeal, seal_shown, stands_so}
+use Rattle.expiry_sweeper.proofs.Own.{around, steps_all}
+use Rattle.expiry_sweeper.proofs.Standing.{ShowsSeal, seal_shown, stands_so}
 use Rattle.service_laws.proofs.QuoteLemmas.{ShowsAll, shows_all, still_shown}
 
 -- the booking that looks saw, where they began
