@@ -10,8 +10,8 @@
 //! What a reply tells of a booking is so in what was seen by then. At any desk, each look of a later call that shows
 //! the booking shows it in that phase or in one that follows.
 //!
-//! Each order is carried out within a number of steps that the catalogue, the moment and the order give, whatever other
-//! desks do.
+//! Each command is carried out within a number of steps that the catalogue, the moment and its order give, whatever
+//! other desks do. rail_service says that of `perform`, and so it stands on this crate.
 //!
 //! The crate has definitions and laws alone: it does nothing when it runs.
 //!
