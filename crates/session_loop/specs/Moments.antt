@@ -28,7 +28,8 @@ PermitsAnswer {K} permits held told sink cut answer = (now : K) (part more : Lis
 -- these bytes are the answer to the request that they hold first, or to what stands in its place
 abbrev pub IsNextAnswer : {R : Type 0} → Answering R → Refusing R → ℕ → List ℕ → R → R → List ℕ → Type 0
 IsNextAnswer answers refuses number bytes before after answer =
-    ((request : RequestText) × (left : List ℕ) × IsRequest number bytes request left × answers before request answer after)
+    ((request : RequestText) × (left : List ℕ) × IsRequest number bytes request left
+    × answers before request answer after)
     ⊎ ((fault : WireFault) × IsFault fault bytes × refuses before fault answer × (after ≡ before))
 
 -- In one step: the bytes are all that is left of the answer to the next request, or to what stands in its place, and
@@ -46,10 +47,9 @@ pub record MayStep {R K : Type 0} (answers : Answering R) (refuses : Refusing R)
   pub awaited : awaits before cut after
   pub writes : WritesHeld held told sink cut part true now
 
--- At a moment of a session these bytes may be handed over. The requests that the bytes taken so far hold are answered,
--- and what was written so far are their answers, and then a part of the answer to one request more, or to what stands in
--- its place. These bytes are all that is left of that answer. Before its first byte the sink was told after which cut
--- it may leave.
+-- At a moment of a session these bytes may be handed over. What was written so far is the answers to the first requests
+-- of the bytes taken so far, and then a part of the answer to one request more, or to what stands in its place. These
+-- bytes are all that is left of that answer. Before its first byte the sink was told after which cut it may leave.
 pub record MayWrite {R K : Type 0} (answers : Answering R) (refuses : Refusing R) (awaits : Awaiting R)
     (held : K → ℕ → K → Type 0) (told : K → Option (List ℕ)) (before : R) (source : Option (List ℕ)) (sink now : K)
     (piece : List ℕ) : Type 0 where
