@@ -1,5 +1,6 @@
 // A line as a sink whose bytes leave only once they may.
 ghost use Rattle.std.specs.Prelude.{◌≡◌, ◌≤◌, ◌<◌, ◌++◌, ◌⊎◌, ℕ, max, true, false};
+ghost use Rattle.rail_io.specs.Told.{Pushes};
 
 use crate::line::Line;
 use crate::wire::Wire;
@@ -16,7 +17,7 @@ pub(crate) struct KeptLine<W: Wire + Drop, K: Keeper + Drop> {
     /// A cut that was found kept: 0 for none.
     kept: u64,
     faults: u64,
-    ghost shown: { 0 < kept → K.kept keeper kept },
+    ghost shown: { 0 < kept → ∥ K.kept keeper kept ∥₁ },
 }
 
 impl<W: Wire + Drop, K: Keeper + Drop> KeptLine<W, K> {

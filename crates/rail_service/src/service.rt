@@ -33,13 +33,15 @@ pub struct Service<'s, 'd, 'k, C> {
 
 impl<C: Clock> Responder for Service<'_, '_, '_, C> {
     ghost use Rattle.rail_service.specs.Readiness.{IsReady};
-    ghost use Rattle.rail_service.specs.Responding.{Responds, Declines};
+    ghost use Rattle.rail_service.specs.Responding.{Awaits, Responds, Declines};
 
     ghost ready = { λ s. IsReady s.cat.now s.books.now s.router.now s.desk.now };
 
     ghost answers = { λ before request text after. Responds C.told before request text after };
 
     ghost refuses = { λ service fault text. Declines service fault text };
+
+    ghost awaits = { λ before cut after. Awaits C.ends before cut after };
 
     // Inlined, since an answer is large to hand on.
     #[inline(always)]

@@ -1,4 +1,4 @@
-use Rattle.std.proofs.Common.{Bool, Option, Result, Ok, Err, refl, sym, ap, subst, ◌∙◌}
+use Rattle.std.proofs.Common.{Bool, Option, Result, Ok, Err, inl, refl, sym, ap, subst, ◌∙◌}
 use Rattle.rail_ids.specs.declared.RetailerNo.{RetailerNo}
 use Rattle.http_wire.specs.Pieces.{request_text}
 use Rattle.claim_rule.proofs.Shapes.{shape_none}
@@ -6,6 +6,7 @@ use Rattle.osdm_texts.specs.Answers.{problem}
 use Rattle.claim_rule.proofs.Out.{makes_empty}
 use Rattle.rail_service.specs.Bytes.{reply_bytes}
 use Rattle.rail_service.proofs.Telling.{of_problem}
+use Rattle.rail_service.proofs.Awaiting.{given_by}
 use Rattle.osdm_texts.specs.declared.problem.Problem.{Problem}
 use Rattle.rail_service.specs.Serving.{first_after, admitted, AsksAdmitted}
 use Rattle.rail_service.specs.Connections.{IsReading}
@@ -46,6 +47,14 @@ returns-clause-answers g c =
       desk = refl;
       clock = refl;
     }
+
+-- the clock gave the answer's cut
+pub returns-clause-awaits : goal.returns-clause-awaits
+returns-clause-awaits g c =
+    given_by g.C.Clock.ends _ _ _ _ _ c.answer_of.ensures.after c.end.ensures.ends
+
+pub returns-in-Err-clause-awaits : goal.returns-in-Err-clause-awaits
+returns-in-Err-clause-awaits g c = inl (c.problem_answer.ensures.after, refl)
 
 pub returns-in-Err-clause-answers : goal.returns-in-Err-clause-answers
 returns-in-Err-clause-answers g c =
