@@ -8,7 +8,7 @@ pub struct Gate {
     state: Mutex<State>,
     /// Whoever waits to enter.
     entering: Condvar,
-    /// The committer, which waits until something has changed, or until nobody is inside.
+    /// The committer, which waits until somebody waits for a cut, or until nobody is inside.
     committer: Condvar,
     /// Whoever waits until a cut is kept.
     waiting: Condvar,
@@ -50,8 +50,12 @@ impl Gate {
         self.state.lock(rt).tell()
     }
 
-    /// Waits until the cut of this number is kept. False, where it never will be: the journal is lost, or over.
+    /// Waits until the cut of this number is kept, which it wakes the committer for. False, where it never will be: the
+    /// journal is lost, or over.
     pub fn wait_kept<R: Wait>(&self, rt: &R, cut: u64) -> bool {
+        if self.state.lock(rt).want(cut) {
+            self.committer.notify_one();
+        }
         let state = self
             .waiting
             .wait_while(rt, self.state.lock(rt), |state| state.is_awaited(cut));
@@ -63,7 +67,7 @@ impl Gate {
         self.state.lock(rt).is_lost()
     }
 
-    /// Waits until something may have changed, closes the gate, and waits until nobody is inside. It says the number of
+    /// Waits until somebody waits for a cut, closes the gate, and waits until nobody is inside. It says the number of
     /// the cut that is now to be taken, and the gate stays closed until `taken`. None where there will be no more cuts:
     /// all servers have parted and nothing is left to be kept, or the journal is lost.
     pub fn next_cut<R: Wait>(&self, rt: &R) -> Option<u64> {

@@ -7,7 +7,8 @@
 //! shows all that its answer tells. The answer may go out once that cut is kept.
 //!
 //! One member, the committer, takes the cuts and has them kept: `next_cut`, `taken`, `keep`, or `lose` where the
-//! journal fails. It sleeps while nothing changes. Nobody has the lock while rows are looked at or a device works.
+//! journal fails. It sleeps while nobody waits for a cut, so that one cut serves all answers that one read gave. Nobody
+//! has the lock while rows are looked at or a device works.
 //!
 //! That nobody is inside while the rows are looked at is a fact of the value under the lock, which each call keeps, as
 //! it is that no cut is kept that wasn't taken. What a call did to that value, no clause of a `Gate` can say: that is

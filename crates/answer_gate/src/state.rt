@@ -2,7 +2,8 @@
 ghost use Rattle.std.specs.Prelude.{◌≡◌, ◌≢◌, ◌≤◌, ◌<◌, ◌+◌, ◌-◌, ◌^◌, ◌↔◌, ◌⊎◌, IfSome, IfNone, true, false};
 ghost use Rattle.answer_gate.specs.declared.state.Phase.TheVariants.{Open, Closing, Looking};
 ghost use Rattle.answer_gate.specs.declared.state.Course.TheVariants.{Going, Over, Lost};
-ghost use Rattle.answer_gate.specs.Standings.{entered, left, shown_by, closed, looked_at, opened, kept_by, over, lost};
+ghost use Rattle.answer_gate.specs.Standings.{fresh, entered, left, shown_by, wanted_by, closed, opened, kept_by, over};
+ghost use Rattle.answer_gate.specs.Standings.{lost, IsLastIn, IsAsleep, HasRoom, IsLeft, Wakes, Looked, NotLooked};
 
 /// Who may be inside a gate.
 #[derive(Clone, Copy, PartialEq, Eq)]
@@ -39,6 +40,8 @@ pub struct Standing {
     pub taken: u64,
     /// The last cut that is kept. All before it are.
     pub kept: u64,
+    /// The last cut that anyone has waited for.
+    pub wanted: u64,
     /// How many of the members that serve haven't parted.
     pub servers: u32,
 }
@@ -59,7 +62,7 @@ pub struct State {
 impl State {
     /// Open, with nobody inside and nothing changed.
     pub fn new() -> State
-        ensures { result.standing ≡ record { phase = Open; course = Going; inside = 0; changed = false; taken = 0; kept = 0; servers = 0 } }
+        ensures { result.standing ≡ fresh }
     {
         State {
             standing: Standing {
@@ -69,6 +72,7 @@ impl State {
                 changed: false,
                 taken: 0,
                 kept: 0,
+                wanted: 0,
                 servers: 0,
             },
         }
@@ -83,7 +87,7 @@ impl State {
 
     /// Whether one more may enter. The last test never fails on a machine of this world.
     pub fn is_open(&self) -> bool
-        ensures { (result ≡ true) ↔ ((self.now.standing.phase ≡ Open) × (self.now.standing.inside + 1 < 2 ^ 64)) }
+        ensures { (result ≡ true) ↔ HasRoom self.now.standing }
     {
         self.standing.phase == Phase::Open && self.standing.inside < u64::MAX
     }
@@ -97,12 +101,13 @@ impl State {
         self.standing.inside += 1;
     }
 
-    /// Whether the committer may be waiting for the next one to leave: nothing has changed yet, or no other is inside a
-    /// closed gate.
+    /// Whether the committer may be waiting for the next one to leave: no other is inside, and the gate is closed or
+    /// all servers have parted.
     pub fn holds_committer(&self) -> bool
-        ensures { (result ≡ true) ↔ ((self.now.standing.changed ≡ false) ⊎ ((self.now.standing.phase ≡ Closing) × (self.now.standing.inside ≤ 1))) }
+        ensures { (result ≡ true) ↔ IsLastIn self.now.standing }
     {
-        !self.standing.changed || self.standing.phase == Phase::Closing && self.standing.inside <= 1
+        let now = &self.standing;
+        now.inside <= 1 && (now.phase == Phase::Closing || now.servers == 0)
     }
 
     /// One leaves, and is told the cut of its answer: the next to be taken.
@@ -129,20 +134,33 @@ impl State {
         }
     }
 
-    /// Whether the committer has nothing to do yet: nothing has changed, and something still may.
-    pub fn is_quiet(&self) -> bool
-        ensures { (result ≡ true) ↔ ((self.now.standing.course ≡ Going) × (self.now.standing.changed ≡ false)
-            × ((0 < self.now.standing.inside) ⊎ (0 < self.now.standing.servers))) }
+    /// Somebody waits for the cut of this number, and is told whether the committer is to be woken for it: it is to be
+    /// taken yet, and nobody has waited for it before.
+    pub fn want(&mut self, cut: u64) -> bool
+        ensures standing { self.new.standing ≡ wanted_by cut self.old.standing }
+        ensures wakes { (result ≡ true) ↔ Wakes cut self.old.standing }
     {
-        let now = &self.standing;
-        now.course == Course::Going && !now.changed && (now.inside > 0 || now.servers > 0)
+        let is_next = self.standing.wanted < cut && self.standing.taken < cut;
+        self.standing.wanted = self.standing.wanted.max(cut);
+        is_next
     }
 
-    /// Whether something changed that no cut shows, and there will be a cut.
-    pub fn has_work(&self) -> bool
-        ensures { (result ≡ true) ↔ ((self.now.standing.course ≡ Going) × (self.now.standing.changed ≡ true)) }
+    /// Whether the committer has nothing to do yet: nobody waits for a cut that is to be taken, and somebody still may.
+    pub fn is_quiet(&self) -> bool
+        ensures { (result ≡ true) ↔ IsAsleep self.now.standing }
     {
-        self.standing.course == Course::Going && self.standing.changed
+        let now = &self.standing;
+        now.course == Course::Going
+            && now.wanted <= now.taken
+            && (now.inside > 0 || now.servers > 0)
+    }
+
+    /// Whether something changed that no cut shows, or somebody waits for the next cut, and there will be one.
+    pub fn has_work(&self) -> bool
+        ensures { (result ≡ true) ↔ IsLeft self.now.standing }
+    {
+        let now = &self.standing;
+        now.course == Course::Going && (now.changed || now.taken < now.wanted)
     }
 
     /// There will be no more cuts.
@@ -188,8 +206,8 @@ impl State {
     /// where the numbers are spent, with which the journal is lost.
     pub fn look(&mut self) -> Option<u64>
         requires empty { self.old.standing.phase ≡ Closing → self.old.standing.inside ≡ 0 }
-        ensures some { IfSome result (λ cut. (self.old.standing.phase ≡ Closing) × (cut ≡ self.new.standing.taken) × (self.new.standing ≡ looked_at self.old.standing)) }
-        ensures none { IfNone result ((self.old.standing.phase ≢ Closing × (self.new.standing ≡ self.old.standing)) ⊎ (self.new.standing ≡ lost self.old.standing)) }
+        ensures some { IfSome result (Looked self.old.standing self.new.standing) }
+        ensures none { IfNone result (NotLooked self.old.standing self.new.standing) }
     {
         if self.standing.phase != Phase::Closing {
             return None;

@@ -203,6 +203,16 @@ fn a_lost_journal(rt: HostRuntime) -> Result<(), Fail> {
     Ok(())
 }
 
+// Takes the next cut, if there is one, and says that it is kept.
+fn take_and_keep<R: Wait>(rt: &R, gate: &Gate) -> Option<u64> {
+    let cut = gate.next_cut(rt);
+    if let Some(number) = cut {
+        gate.taken(rt);
+        gate.keep(rt, number);
+    }
+    cut
+}
+
 // Changes something, parts, and has its answer kept.
 fn part_last<R: Wait>(rt: &R, trial: &Trial, rows: &Rows) {
     let cut = carry_out(rt, trial, rows, 1);
@@ -251,13 +261,18 @@ fn cuts_by_reach(rt: HostRuntime) -> Result<(), Fail> {
     let gate = Gate::new();
     let mut clock = GatedClock::new(standing_clock(&rt), Some(&gate), &rt);
     assert!(rt; told_of(&mut clock, Reach::Tells) == 0);
-    assert!(rt; told_of(&mut clock, Reach::Changes) == 1);
+    clock.begin(Reach::Changes);
+    assert!(rt; gate.tell(&rt) == 1);
+    assert!(rt; clock.end() == 1);
     assert!(rt; told_of(&mut clock, Reach::Apart) == 0);
     assert!(rt; told_of(&mut clock, Reach::Tells) == 1);
     assert!(rt; gate.next_cut(&rt) == Some(1));
     assert!(rt; told_of(&mut clock, Reach::Tells) == 1);
     gate.taken(&rt);
-    assert!(rt; told_of(&mut clock, Reach::Changes) == 2);
+    assert!(rt; told_of(&mut clock, Reach::Tells) == 1);
+    clock.begin(Reach::Changes);
+    assert!(rt; gate.tell(&rt) == 2);
+    assert!(rt; clock.end() == 2);
     assert!(rt; told_of(&mut clock, Reach::Tells) == 2);
     gate.keep(&rt, 1);
     assert!(rt; told_of(&mut clock, Reach::Tells) == 2);
@@ -280,6 +295,26 @@ fn told_beside_a_change(rt: HostRuntime) -> Result<(), Fail> {
     gate.enter(&rt);
     assert!(rt; gate.tell(&rt) == 1);
     assert!(rt; gate.leave(&rt) == 1);
+    Ok(())
+}
+
+/// The committer sleeps through changes until somebody waits for their cut, and is woken for it once. Once all servers
+/// have parted it takes what is left.
+#[test]
+fn woken_by_who_waits(rt: HostRuntime) -> Result<(), Fail> {
+    let gate = Gate::new();
+    gate.expect(&rt, 1);
+    for _command in 0..3 {
+        gate.enter(&rt);
+        assert!(rt; gate.leave(&rt) == 1);
+    }
+    let (cut, kept) = thread::join(&rt, || take_and_keep(&rt, &gate), || gate.wait_kept(&rt, 1));
+    assert!(rt; kept && cut == Some(1));
+    gate.enter(&rt);
+    gate.part(&rt);
+    assert!(rt; gate.leave(&rt) == 2);
+    assert!(rt; take_and_keep(&rt, &gate) == Some(2));
+    assert!(rt; take_and_keep(&rt, &gate).is_none());
     Ok(())
 }
 

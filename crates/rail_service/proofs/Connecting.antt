@@ -8,7 +8,9 @@ use Rattle.claim_rule.specs.Out.{IsTidy, IsIdle}
 use Rattle.http_wire.specs.declared.request.WireFault.{WireFault}
 use Rattle.http_wire.specs.Requests.{RequestText}
 use Rattle.session_loop.specs.declared.end.ConnEnd.{ConnEnd}
+use Rattle.session_loop.specs.declared.end.ConnEnd.TheVariants.{WriteFault}
 use Rattle.session_loop.specs.Session.{IsEnd}
+use Rattle.session_loop.specs.Moments.{Awaiting, MayWrite}
 use Rattle.session_loop.proofs.Keeping.{end_keeps}
 use Rattle.session_loop.proofs.Views.{end_seen}
 use Rattle.rail_catalogue.specs.Contents.{CatalogueView}
@@ -17,6 +19,7 @@ use Rattle.rail_service.specs.Bytes.{reply_bytes}
 use Rattle.rail_service.specs.declared.service.Service.{Service}
 use Rattle.rail_service.specs.Refusals.{problem_of_wire}
 use Rattle.rail_service.specs.Connections.{ServiceView, IsAnswer, answers_of, refusals_of, NeverDouble, IsServed}
+use Rattle.rail_service.specs.Moments.{MayReply}
 use Rattle.rail_service.specs.Responding.{view_of, Responds, Declines}
 use Rattle.rail_service.proofs.Owned.{Own, own_then, own_same}
 
@@ -77,6 +80,34 @@ module _ {C : Type 0} (told : C → Option (ℕ → ℕ)) (start after : Service
         no_double = never_double after.desk.now t.own.1.legal;
         idle = idle;
       }
+
+-- what may be handed over at a moment of a service's session is of a defined reply
+pub may_reply : {C K : Type 0} (clock_told : C → Option (ℕ → ℕ)) (awaits : Awaiting (Service C)) (held : K → ℕ → K → Type 0) (told : K → Option (List ℕ)) (start : Service C) (source : Option (List ℕ)) (sink now : K) (piece : List ℕ)
+    → IsLegal start.desk.now.layout start.desk.now.seen
+    → MayWrite (λ (before : Service C) request text (next : Service C). Responds clock_told before request text next) (λ (service : Service C) fault text. Declines service fault text) awaits held told start source sink now piece
+    → MayReply start.cat.now held told (view_of clock_told start) source sink now piece
+may_reply {C} {K} clock_told awaits held told start source sink now piece legal m =
+    let t = through clock_told start m.after m.taken m.left m.written WriteFault legal m.next in
+    record {
+      is = record {
+        taken = m.taken;
+        left = m.left;
+        reads = m.reads;
+        after = view_of clock_told m.after;
+        written = m.written;
+        sent = m.sent;
+        next = ended clock_told start m.after m.taken m.left m.written WriteFault m.next;
+        rest = m.rest;
+        cut = m.cut;
+        awaited = tt;
+        turn = m.turn;
+        before_it = m.before_it;
+        writes = m.writes;
+      };
+      steps = t.own.0;
+      shape = t.own.1;
+      no_double = never_double m.after.desk.now t.own.1.legal;
+    }
 
 -- what the service held at its end is left at the desk and the clock
 pub served_there : {C : Type 0} (told : C → Option (ℕ → ℕ)) (cat : CatalogueView) (before : ServiceView) (service : Service C) (desk : DeskView) (clock : C) (taken : List ℕ) (left : Option (List ℕ)) (written : List ℕ) (end : ConnEnd)

@@ -1,13 +1,13 @@
 use Rattle.std.proofs.Common.{◌≡◌, ℕ, List, ◌++◌, length}
 use Rattle.rail_io.specs.Told.{with_end}
-use Rattle.session_loop.proofs.writing.write_all.Given as goal
+use Rattle.session_loop.proofs.writing.hand_all.Given as goal
 
 abbrev pub invariant-loop-rest : goal.invariant-loop-rest
 invariant-loop-rest g l = record {
   written : List ℕ;
-  told : g.K.Sink.told l.sink ≡ with_end (g.K.Sink.told l.fn.sink) written;
+  told : g.K.Outlet.told l.sink ≡ with_end (g.K.Outlet.told l.fn.sink) written;
   is : l.fn.piece ≡ written ++ l.rest;
-  faults : g.K.Sink.faults l.sink ≡ g.K.Sink.faults l.fn.sink;
+  faults : g.K.Outlet.faults l.sink ≡ g.K.Outlet.faults l.fn.sink;
 }
 
 abbrev pub decreases-loop-rest : goal.decreases-loop-rest

@@ -4,7 +4,7 @@ use Rattle.session_loop.proofs.Serving.{front_none}
 use Rattle.rail_service.proofs.Connecting.{served_there, idle_there, tidy_there}
 use Rattle.plain_host.proofs.OwnWork.{alone_is_lone}
 use Rattle.rail_service.proofs.Alone.{plainly_there}
-use Rattle.rail_service.proofs.connection.serve_connection.Goals as goal
+use Rattle.rail_service.proofs.connection.serve_permitted.Goals as goal
 
 pub returns-in_default-clause-served : goal.returns-in_default-clause-served
 returns-in_default-clause-served g c = (
@@ -12,7 +12,7 @@ returns-in_default-clause-served g c = (
   [],
   None,
   front_none (g.S.Source.told c.args.source.now),
-  end_none (g.K.Sink.told c.args.sink.now),
+  end_none (g.K.Outlet.told c.args.sink.now),
   inl (refl, record { no_read = refl; no_write = refl; same = refl }),
 )
 
@@ -22,7 +22,7 @@ returns-in_default-start_router-clause-served g c = (
   [],
   None,
   front_none (g.S.Source.told c.args.source.now),
-  end_none (g.K.Sink.told c.args.sink.now),
+  end_none (g.K.Outlet.told c.args.sink.now),
   inl (refl, record { no_read = refl; no_write = refl; same = refl }),
 )
 
@@ -50,7 +50,7 @@ returns-in_default-clause-one_thread g c alone = (
   [],
   None,
   front_none (g.S.Source.told c.args.source.now),
-  end_none (g.K.Sink.told c.args.sink.now),
+  end_none (g.K.Outlet.told c.args.sink.now),
   inl (refl, refl, refl),
 )
 
@@ -60,7 +60,7 @@ returns-in_default-start_router-clause-one_thread g c alone = (
   [],
   None,
   front_none (g.S.Source.told c.args.source.now),
-  end_none (g.K.Sink.told c.args.sink.now),
+  end_none (g.K.Outlet.told c.args.sink.now),
   inl (refl, refl, refl),
 )
 
