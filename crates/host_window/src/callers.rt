@@ -23,8 +23,8 @@ pub trait Callers {
     fn next_caller(&mut self) -> Option<(Self::Input, Self::Output)>;
 }
 
-/// Answers the requests of one connection, each once and in order, by the pages. Where there is no memory to begin with,
-/// nothing is read or written.
+/// Answers the requests of one connection, each once and in order, by the pages. Where there is no memory to begin
+/// with, nothing is read or written.
 pub fn show_pages<S: Source, K: Sink>(
     source: &mut S,
     sink: &mut K,
