@@ -4,11 +4,11 @@
   tests/journal/kill.py PROGRAM [--rounds N] [--seed N] [--rows N] [--longest SECONDS]
 
 In each round (8) sixteen clients send every command, several ahead of their answers, until the host is killed at a random moment. Now and then a
-host is killed while it begins, which counts as no round. After each kill the file is folded here and by `recover`, which have to come to the same text, and held against all that was answered in
-all rounds: each booking is there as it was told, or has gone forward by a command without an answer or by its limit. Nothing was sold twice, no
-id was given twice, and what nobody was told comes of commands without an answer. The next host begins with the file, and its answers are the
-model's for the bookings of that text. Further rounds (at most 60) follow until bookings of each kind of end were met and an answer was compared.
-Ends with status 0 where all was so.
+host is killed while it begins, which counts as no round. After each kill the file is folded here and by `recover`, which have to come to the
+same text, and held against all that was answered in all rounds: each booking is there as it was told, or has gone forward by a command without
+an answer or by its limit. Nothing was sold twice, no id was given twice, and what nobody was told comes of commands without an answer. The next
+host begins with the file, and its answers are the model's for the bookings of that text. Further rounds (at most 60) follow until bookings of
+each kind of end were met and an answer was compared. Ends with status 0 where all was so.
 """
 import argparse
 import os

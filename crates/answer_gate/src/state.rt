@@ -5,7 +5,7 @@ ghost use Rattle.answer_gate.specs.declared.state.Course.TheVariants.{Going, Ove
 ghost use Rattle.answer_gate.specs.Standings.{fresh, entered, left, shown_by, wanted_by, closed, opened, kept_by, over};
 ghost use Rattle.answer_gate.specs.Standings.{lost, IsLastIn, IsAsleep, HasRoom, IsLeft, Wakes, Looked, NotLooked};
 
-/// Who may be inside a gate.
+/// What a gate does with those who come.
 #[derive(Clone, Copy, PartialEq, Eq)]
 pub enum Phase {
     /// Whoever comes is let in.
@@ -50,8 +50,8 @@ pub struct Standing {
 #[derive(Drop)]
 pub struct Inside;
 
-/// A closed gate with nobody inside, for the cut of this number. While it is had nothing changes: the rows may be
-/// looked at.
+/// A closed gate with nobody inside, for the cut of this number. Until it is handed back nothing changes: the rows may
+/// be looked at.
 pub struct Closed {
     number: u64,
 }

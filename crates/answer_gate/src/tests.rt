@@ -270,7 +270,7 @@ fn told_of<C: Clock>(clock: &mut C, reach: Reach) -> u64 {
     clock.end()
 }
 
-/// What a command is told by its reach, before a change, after it, while its cut is taken, and once that is kept.
+/// What a command learns by its reach, before a change, after it, while its cut is taken, and once that is kept.
 #[test]
 fn cuts_by_reach(rt: HostRuntime) -> Result<(), Fail> {
     let cuts = Cuts::<Written>::new();
