@@ -17,14 +17,20 @@
 
 mod clock;
 mod crossing;
+mod cuts;
 mod gate;
 mod keeper;
+mod receipt;
 mod state;
+mod tally;
 #[cfg(test)]
 mod tests;
 
 pub use clock::GatedClock;
 pub use crossing::crosses;
+pub use cuts::Cuts;
 pub use gate::Gate;
 pub use keeper::GateKeeper;
-pub use state::{Course, Phase, Standing, State};
+pub use receipt::Receipt;
+pub use state::{Closed, Course, Inside, Phase, Standing, State, Taken};
+pub use tally::Tally;

@@ -5,7 +5,7 @@ ghost use Rattle.answer_gate.specs.declared.state.Course.TheVariants.{Going, Ove
 ghost use Rattle.answer_gate.specs.Standings.{fresh, entered, left, shown_by, wanted_by, closed, opened, kept_by, over};
 ghost use Rattle.answer_gate.specs.Standings.{lost, IsLastIn, IsAsleep, HasRoom, IsLeft, Wakes, Looked, NotLooked};
 
-/// Who may be inside a gate.
+/// What a gate does with those who come.
 #[derive(Clone, Copy, PartialEq, Eq)]
 pub enum Phase {
     /// Whoever comes is let in.
@@ -44,6 +44,35 @@ pub struct Standing {
     pub wanted: u64,
     /// How many of the members that serve haven't parted.
     pub servers: u32,
+}
+
+/// One who is inside a gate. Whoever has one has entered and not left.
+#[derive(Drop)]
+pub struct Inside;
+
+/// A closed gate with nobody inside, for the cut of this number. Until it is handed back nothing changes: the rows may
+/// be looked at.
+pub struct Closed {
+    number: u64,
+}
+
+/// A cut that was taken and isn't kept yet. The gate is open again.
+pub struct Taken {
+    number: u64,
+}
+
+impl Taken {
+    /// The number of the cut.
+    pub fn number(&self) -> u64
+        ensures { result ≡ self.now.number }
+    {
+        self.number
+    }
+
+    /// It is kept, or never will be.
+    pub fn settle(self) {
+        let Taken { number: _ } = self;
+    }
 }
 
 /// The last number of a cut: each answer's is at most one more.
@@ -93,12 +122,13 @@ impl State {
     }
 
     /// One enters.
-    pub fn enter(&mut self)
+    pub fn enter(&mut self) -> Inside
         requires open { self.old.standing.phase ≡ Open }
         requires room { self.old.standing.inside + 1 < 2 ^ 64 }
         ensures { self.new.standing ≡ entered self.old.standing }
     {
         self.standing.inside += 1;
+        Inside
     }
 
     /// Whether the committer may be waiting for the next one to leave: no other is inside, and the gate is closed or
@@ -111,10 +141,11 @@ impl State {
     }
 
     /// One leaves, and is told the cut of its answer: the next to be taken.
-    pub fn leave(&mut self) -> u64
+    pub fn leave(&mut self, inside: Inside) -> u64
         ensures standing { self.new.standing ≡ left self.old.standing }
         ensures cut { result ≡ self.old.standing.taken + 1 }
     {
+        let Inside = inside;
         self.standing.inside = self.standing.inside.saturating_sub(1);
         self.standing.changed = true;
         self.standing.taken + 1
@@ -204,9 +235,9 @@ impl State {
 
     /// Takes a cut, whose number it says. Nobody is inside until the gate opens. None where the gate isn't closed; and
     /// where the numbers are spent, with which the journal is lost.
-    pub fn look(&mut self) -> Option<u64>
+    pub fn look(&mut self) -> Option<Closed>
         requires empty { self.old.standing.phase ≡ Closing → self.old.standing.inside ≡ 0 }
-        ensures some { IfSome result (Looked self.old.standing self.new.standing) }
+        ensures some { IfSome result (λ c. Looked self.old.standing self.new.standing c.number) }
         ensures none { IfNone result (NotLooked self.old.standing self.new.standing) }
     {
         if self.standing.phase != Phase::Closing {
@@ -219,14 +250,19 @@ impl State {
         self.standing.phase = Phase::Looking;
         self.standing.changed = false;
         self.standing.taken += 1;
-        Some(self.standing.taken)
+        Some(Closed {
+            number: self.standing.taken,
+        })
     }
 
-    /// Opens the gate.
-    pub fn open(&mut self)
-        ensures { self.new.standing ≡ opened self.old.standing }
+    /// Opens the gate: the rows were looked at.
+    pub fn open(&mut self, closed: Closed) -> Taken
+        ensures standing { self.new.standing ≡ opened self.old.standing }
+        ensures number { result.number ≡ closed.number }
     {
+        let Closed { number } = closed;
         self.standing.phase = Phase::Open;
+        Taken { number }
     }
 
     /// The cut of this number is kept, where it was taken.
@@ -236,20 +272,6 @@ impl State {
         if self.standing.kept < cut && cut <= self.standing.taken {
             self.standing.kept = cut;
         }
-    }
-
-    /// Whether the cut of this number isn't kept yet, and may be.
-    pub fn is_awaited(&self, cut: u64) -> bool
-        ensures { (result ≡ true) ↔ ((self.now.standing.course ≡ Going) × (self.now.standing.kept < cut)) }
-    {
-        self.standing.course == Course::Going && self.standing.kept < cut
-    }
-
-    /// Whether the cut of this number is kept.
-    pub fn has_kept(&self, cut: u64) -> bool
-        ensures { (result ≡ true) ↔ (cut ≤ self.now.standing.kept) }
-    {
-        cut <= self.standing.kept
     }
 
     /// Whether the journal is lost.

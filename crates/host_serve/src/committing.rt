@@ -1,13 +1,13 @@
 // The member that has bookings kept.
-ghost use Rattle.std.specs.Prelude.{◌≡◌, IfOk, true};
+ghost use Rattle.std.specs.Prelude.{IfOk, IfSome};
 ghost use Rattle.claim_rule.specs.Calls.{AddsStepsBy};
 ghost use Rattle.claim_rule.specs.Desks.{IsOf};
 ghost use Rattle.claim_rule.specs.Out.{AllLooks, IsTidy};
-ghost use Rattle.host_serve.specs.Logs.{KeepsCut, KeepsLines, WritesRows, log_end};
+ghost use Rattle.host_serve.specs.Logs.{KeepsCut, WritesRows, log_end};
 
-use crate::log::{Lines, Log};
+use crate::log::{Kept, Lines, Log};
 use crate::watching::Watcher;
-use answer_gate::Gate;
+use answer_gate::{Closed, Cuts, Taken};
 use claim_rule::{Books, Desk};
 use rail_io::{Bell, Journal};
 use row_cuts::{push_all_lines, push_marked_lines};
@@ -21,7 +21,7 @@ use worker_pool::TurnEnd;
 #[derive(Drop)]
 pub struct Committer<'g, R, J, B> {
     pub rt: &'g R,
-    pub gate: &'g Gate,
+    pub cuts: &'g Cuts<Kept>,
     pub alloc: Global,
     pub log: Log<J>,
     /// Is rung at the port once the journal is lost, since a member may wait there for a connection.
@@ -29,8 +29,14 @@ pub struct Committer<'g, R, J, B> {
     pub port: u16,
 }
 
-/// The lines of all rows, or of those that are marked, as looks show them.
-fn look(alloc: Global, books: &Books, desk: &mut Desk, is_whole: bool) -> Result<Lines, AllocError>
+/// The lines of all rows, or of those that are marked, as looks show them while the gate is closed.
+fn look(
+    _closed: &Closed,
+    alloc: Global,
+    books: &Books,
+    desk: &mut Desk,
+    is_whole: bool,
+) -> Result<Lines, AllocError>
     requires own { IsOf books.now desk.old }
     ensures own { IsOf books.now desk.new }
     ensures tidy { IsTidy desk.old → IsTidy desk.new }
@@ -47,53 +53,40 @@ fn look(alloc: Global, books: &Books, desk: &mut Desk, is_whole: bool) -> Result
     Ok(Lines { text, count })
 }
 
-impl<J: Journal> Log<J> {
-    /// Has a cut of these lines kept: as the one of a new journal, or as the one that follows. One without lines is
-    /// kept at once.
-    fn keep(&mut self, alloc: Global, lines: &Lines, is_whole: bool) -> bool
-        ensures head { self.new.head ≡ self.old.head }
-        ensures kept { result ≡ true → KeepsLines is_whole (J.told self.old.journal) (J.told self.new.journal)
-            self.old.head (log_end self.old) lines.now (log_end self.new) }
-    {
-        if is_whole {
-            return self.begin(alloc, lines);
-        }
-        lines.count == 0 || self.append(alloc, lines)
-    }
-}
-
 impl<R: Wait, J: Journal, B: Bell> Committer<'_, R, J, B> {
-    /// Looks at rows, opens the gate, and has their lines kept.
-    fn commit(&mut self, books: &Books, desk: &mut Desk) -> bool
+    /// Looks at rows, opens the gate, and has their lines kept: the cut that was taken, and a receipt where it is kept.
+    fn commit(&mut self, closed: Closed, books: &Books, desk: &mut Desk) -> (Taken, Option<Kept>)
         requires own { IsOf books.now desk.old }
         requires tidy { IsTidy desk.old }
         ensures own { IsOf books.now desk.new }
         ensures tidy { IsTidy desk.new }
         ensures looks { AddsStepsBy AllLooks desk.old desk.new }
-        ensures kept { result ≡ true → KeepsCut books.now.layout.rows (J.told self.old.log.journal)
+        ensures kept { IfSome result.1 (λ _. KeepsCut books.now.layout.rows (J.told self.old.log.journal)
             (J.told self.new.log.journal) self.old.log.head (log_end self.old.log) (log_end self.new.log)
-            desk.old desk.new }
+            desk.old desk.new) }
     {
         let is_whole = self.log.is_grown();
-        let lines = look(self.alloc, books, desk, is_whole);
-        self.gate.taken(self.rt);
-        match lines {
+        let lines = look(&closed, self.alloc, books, desk, is_whole);
+        let taken = self.cuts.taken(self.rt, closed);
+        let kept = match lines {
             Ok(lines) => self.log.keep(self.alloc, &lines, is_whole),
-            Err(_) => false,
-        }
+            Err(_) => None,
+        };
+        (taken, kept)
     }
 }
 
 impl<R: Wait, J: Journal, B: Bell> Watcher for Committer<'_, R, J, B> {
     fn watch(&mut self, books: &Books, desk: &mut Desk) -> TurnEnd {
-        let Some(cut) = self.gate.next_cut(self.rt) else {
+        let Some(closed) = self.cuts.next_cut(self.rt) else {
             return TurnEnd::End;
         };
-        if self.commit(books, desk) {
-            self.gate.keep(self.rt, cut);
+        let (taken, kept) = self.commit(closed, books, desk);
+        if let Some(kept) = kept {
+            self.cuts.keep(self.rt, taken, kept);
             return TurnEnd::Again;
         }
-        self.gate.lose(self.rt);
+        self.cuts.lose(self.rt, taken);
         self.bell.ring(self.port);
         TurnEnd::End
     }

@@ -156,7 +156,7 @@ where
         result.outcome }
 {
     let Keeping {
-        gate,
+        cuts,
         journal,
         bell,
     } = keeping;
@@ -166,7 +166,7 @@ where
     };
     let committer = Committer {
         rt,
-        gate,
+        cuts,
         alloc: common.alloc,
         log,
         bell,
@@ -175,14 +175,14 @@ where
     let Ok(watchers) = list_of(common.alloc, committer) else {
         return Run::without_wall(ServeOutcome::NoMemory.kept(false), devices.listener);
     };
-    gate.expect(rt, common.said.workers + 1);
+    cuts.gate().expect(rt, common.said.workers + 1);
     let Run {
         outcome,
         listener,
         wall,
     } = listen_and_serve(rt, common, opened, devices, watchers);
     Run {
-        outcome: outcome.kept(gate.is_lost(rt)),
+        outcome: outcome.kept(cuts.is_lost()),
         listener,
         wall,
     }
@@ -233,7 +233,7 @@ where
         alloc,
         cat: &cat,
         said: said.numbers,
-        gate: Some(keeping.gate),
+        gate: Some(keeping.cuts.gate()),
     };
     serve_left(rt, common, said.journal.unwrap_or(""), devices, keeping)
 }
