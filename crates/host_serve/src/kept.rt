@@ -43,6 +43,7 @@ use host_words::{CommandName, ServeWords, WordsFault, is_for, read_serve};
 use rail_catalogue::Catalogue;
 use rail_io::{Bell, Clock, Journal, Shelf, Sink, Ticker};
 use rail_service::Listener;
+use row_cuts::new_marks;
 use std::alloc::{AllocError, Global};
 use std::sync::Wait;
 use std::thread::Threads;
@@ -164,11 +165,15 @@ where
         Ok(opened) => opened,
         Err(fault) => return Run::without_wall(fault.outcome(), devices.listener),
     };
+    let Ok(marks) = new_marks(common.alloc, &opened.books) else {
+        return Run::without_wall(ServeOutcome::NoMemory.kept(false), devices.listener);
+    };
     let committer = Committer {
         rt,
         gate,
         alloc: common.alloc,
         log,
+        marks,
         bell,
         port: common.said.port,
     };
