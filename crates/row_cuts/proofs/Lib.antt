@@ -7,3 +7,4 @@ pub mod Quiet
 pub mod Kept
 pub mod Unchanged
 pub mod Marking
+pub mod Ends

@@ -49,16 +49,20 @@ pub record WritesLines (rows old new : List ℕ) (count : ℕ) (es : List Step) 
   pub text : new ≡ old ++ text_of (map kept_line (all_kept looks))
   pub counts : count ≡ length (all_kept looks)
 
--- how many numbers have the marks of these rows: one for each 64, and one more for the rest
-abbrev pub mark_blocks : ℕ → ℕ
-mark_blocks rows = rows / 64 + 1
+-- how many rows have their marks in one number
+abbrev pub block_rows : ℕ
+block_rows = 64
 
--- whether the row is marked in the marks of its 64 rows, the first of which has the lowest bit
+-- how many numbers have the marks of these rows: one for each block, and one more for the rest
+abbrev pub mark_blocks : ℕ → ℕ
+mark_blocks rows = rows / block_rows + 1
+
+-- whether the row is marked in the marks of its block, the first row of which has the lowest bit
 abbrev pub is_set : ℕ → ℕ → Bool
-is_set marks row = bit_at marks (row % 64) == 1
+is_set marks row = bit_at marks (row % block_rows) == 1
 
 abbrev pub is_marked : List ℕ → ℕ → Bool
-is_marked marks row = is_set (get_or marks (row / 64) 0) row
+is_marked marks row = is_set (get_or marks (row / block_rows) 0) row
 
 -- all rows that are marked, in rising number
 abbrev pub marked_rows : ℕ → List ℕ → List ℕ
