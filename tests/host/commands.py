@@ -312,6 +312,9 @@ def journals(runs: Runs):
             line = "serve k1.json --port 8080 --journal %s --from %s" % (there, export)
             runs.check(line, runs.run(line), (1, b"", "rail_host: journal exists\n"))
             runs.check(line + ": the file", runs.read(there), before)
+    os.symlink("gone.journal", os.path.join(runs.folder, "link.journal"))
+    runs.check("a link to no file", runs.run("serve k1.json --port 8080 --journal link.journal"), (3, b"", "rail_host: journal failed\n"))
+    runs.check("what is at the link", (runs.holds("link.journal"), runs.holds("gone.journal")), (True, False))
     runs.check("recover without a journal", runs.run("recover k1.json nothere.journal"), (1, b"", "rail_host: journal missing\n"))
 
 
