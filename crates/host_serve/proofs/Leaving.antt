@@ -212,13 +212,13 @@ none_told (Some all) room is = is
 pub left_in : (files : Files) (from told : Option (List ℕ)) (cat : CatalogueView) (text : _) (room : ℕ) (opened : Opened) (lines : Lines) → IfSome told (λ all. Opens all room (Text text))
     → NamesNone from → LeavesIn cat text.items opened lines → LeavesOpened (record { files = files; from = from; told = told }) cat opened lines
 left_in files from told cat text room opened lines is none leaves =
-    (leaves.2.0, inr (none, text.items, text_told told text room is, leaves.0, leaves.1, leaves.2.1), leaves.2.2)
+    (leaves.2, inr (none, text.items, text_told told text room is, leaves.0, leaves.1, leaves.3), leaves.4, leaves.5)
 
 -- and where there is none, what the export begins with
 pub left_from : (files : Files) (from told : Option (List ℕ)) (cat : CatalogueView) (room : ℕ) (opened : Opened) (lines : Lines) → IfSome told (λ all. Opens all room Missing)
     → (bookings : List KeptBooking) × BeginsWith files cat from bookings × IsOpened cat bookings opened.books opened.first × AreLinesFor bookings lines
     → LeavesOpened (record { files = files; from = from; told = told }) cat opened lines
-left_from files from told cat room opened lines is begins = (begins.0, inl (none_told told room is, begins.1), begins.2)
+left_from files from told cat room opened lines is begins = (begins.0, inl (none_told told room is, begins.1), begins.2, begins.3)
 
 -- the lines that were found in an export are those of its bookings
 pub lines_for : (cat : CatalogueView) (export : List ℕ) (bookings : List KeptBooking) (lines : Lines) → IsExportFor cat export bookings

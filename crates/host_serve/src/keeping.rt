@@ -240,9 +240,8 @@ fn lines_in(alloc: Global, export: &[u8]) -> Result<Lines, AllocError>
     ensures { IfOk result (λ lines. (places rows : ℕ) (said : List SaidBooking)
         → IsExportOf export.now places rows said → AreLinesOf said lines.text.items lines.count) }
 {
-    let (text, count) = export_rows(export);
-    Ok(Lines {
-        text: text.to_vec(alloc)?,
-        count,
-    })
+    let (lines, count) = export_rows(export);
+    let mut text = Vec::new(alloc);
+    text.extend_from_slice(lines)?;
+    Ok(Lines { text, count })
 }

@@ -8,4 +8,4 @@ returns-clause-opened c =
     opened_new c.args.cat.now c.in_ok-books.books c.in_ok-books.first is.own is.desk is.tidy is.fit is.layout
 
 pub returns-clause-lines : goal.returns-clause-lines
-returns-clause-lines c = ([], refl, c.new.ensures.items, refl)
+returns-clause-lines c = ([], refl, (c.new.ensures.items, refl))

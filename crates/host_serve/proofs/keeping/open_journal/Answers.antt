@@ -25,4 +25,4 @@ returns-clause-head g c =
     let opened = c.in_ok-opened.field-0.opened in
     let leaves = c.in_ok-opened.ensures.ok (g.J.Journal.told c.args.journal) c.open-was.ensures.opens in
     subst (λ (h : Head). IsHeadFor cat h) (sym (c.begin.ensures.head ∙ c.of-log.ensures.head))
-    (head_for cat leaves.0 opened.books opened.first _ leaves.2.0 c.places.ensures.count c.rows.ensures.count c.in_ok-print_of.ensures)
+    (head_for cat leaves.0 opened.books opened.first _ leaves.2 c.places.ensures.count c.rows.ensures.count c.in_ok-print_of.ensures)

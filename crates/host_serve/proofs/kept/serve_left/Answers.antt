@@ -9,11 +9,11 @@ use Rattle.host_serve.proofs.kept.serve_left.Goals as goal
 
 pub listen_and_serve-outcome-requires-clause-has : goal.listen_and_serve-outcome-requires-clause-has
 listen_and_serve-outcome-requires-clause-has g c κs within =
-    let ok = c.in-Ok.ensures.ok.1 in opened_has c.args.common.cat.now ok.0 c.in-Ok.opened.0.books c.in-Ok.opened.0.first ok.2.0
+    let ok = c.in-Ok.ensures.ok.1 in opened_has c.args.common.cat.now ok.0 c.in-Ok.opened.0.books c.in-Ok.opened.0.first ok.2
 
 pub listen_and_serve-outcome-requires-clause-first : goal.listen_and_serve-outcome-requires-clause-first
 listen_and_serve-outcome-requires-clause-first g c κs within =
-    let ok = c.in-Ok.ensures.ok.1 in opened_first c.args.common.cat.now ok.0 c.in-Ok.opened.0.books c.in-Ok.opened.0.first ok.2.0
+    let ok = c.in-Ok.ensures.ok.1 in opened_first c.args.common.cat.now ok.0 c.in-Ok.opened.0.books c.in-Ok.opened.0.first ok.2
 
 pub returns-clause-serves : goal.returns-clause-serves
 returns-clause-serves g c =
@@ -35,7 +35,7 @@ returns-clause-serves g c =
     let listens = subst (λ (k : ℕ). ListensTo cat plan c.args.common.said (record left { watchers = k }) run.result.outcome) c.in-Ok-list_of.ensures run.ensures.ends in
     let from : Sources = sources_of (g.F.Shelf.told c.args.shelf.now) (said_in c.args.said.now) (g.J.Journal.told c.args.keeping.journal) in
     subst (λ (o : KeptOutcome). ServesBooks cat c.args.common.said from left o) (sym c.kept-2.ensures)
-    (served_left cat c.args.common.said from left ok.0 plan ok.1 ok.2.0.layout c.is_lost.result run.result.outcome listens)
+    (served_left cat c.args.common.said from left ok.0 plan ok.1 ok.2.layout c.is_lost.result run.result.outcome listens)
 
 pub returns-clause-cause : goal.returns-clause-cause
 returns-clause-cause g c =
