@@ -15,6 +15,9 @@ import tempfile
 import time
 from datetime import datetime, timedelta
 
+sys.path.append(os.path.join(os.path.dirname(os.path.abspath(__file__)), ".."))
+from ports import free_port  # noqa: E402
+
 SECONDS = 60
 REFUSED = "rail_host: words refused\n"
 READ_FAULT = "rail_host: read fault\n"
@@ -339,11 +342,6 @@ def served_once(runs: Runs, words: str, notes=subprocess.PIPE) -> tuple:
         host.kill()
         host.communicate()
     return host.returncode, output, (said or b"").decode()
-
-
-def free_port() -> int:
-    with socket.create_server(("127.0.0.1", 0)) as free:
-        return free.getsockname()[1]
 
 
 def say_nothing(host, port: int):

@@ -21,9 +21,9 @@ const STANDARD_FILES: i32 = 3;
 #[derive(Drop)]
 struct Holding {
     path: PathBuf,
-    /// A file of its own beside the journal, which is locked, and is never renamed nor removed: so no two processes can
-    /// have locked different files of one name, as they could if the lock lay on the text, which others take the name
-    /// of.
+    /// A file of its own next to the journal, which is locked, and is never renamed nor removed. So no two processes
+    /// can have locked different files of one name, as they could if the lock lay on the text, whose name other texts
+    /// take.
     lock: File,
     /// The journal's text, where there is one.
     text: Option<File>,
@@ -118,7 +118,7 @@ fn sync_folder<F: Files<File = File>>(files: &F, path: &PathBuf) -> io::Result<(
     fs::open(files, folder)?.sync_all()
 }
 
-// A new text for the path, written beside it and kept there, which may be used by those who may use the old one.
+// A new text for the path, written next to it and kept there, which may be used by those who may use the old one.
 fn new_text<F: Files<File = File>>(
     files: &F,
     name: &PathBuf,

@@ -30,6 +30,11 @@ impl<W: Wire + Drop, K: Keeper + Drop> KeptLine<W, K> {
         }
     }
 
+    /// Whether the journal is lost: nothing more may be taken on.
+    pub(crate) fn is_lost(&self) -> bool {
+        self.keeper.is_lost()
+    }
+
     // Waits until bytes may go out: false, where they never may. Then they may not at a later call either.
     fn may_leave(&mut self) -> bool
         ensures line { self.new.line ≡ self.old.line }

@@ -1,14 +1,14 @@
 // The member that has bookings kept.
-ghost use Rattle.std.specs.Prelude.{◌≡◌, ℕ, List, IfOk, length, true};
+ghost use Rattle.std.specs.Prelude.{◌≡◌, ℕ, List, IfOk, IfSome, length};
 ghost use Rattle.claim_rule.specs.Calls.{AddsStepsBy};
 ghost use Rattle.claim_rule.specs.Desks.{IsOf};
 ghost use Rattle.claim_rule.specs.Out.{AllLooks, IsTidy};
 ghost use Rattle.row_cuts.specs.Lines.{mark_blocks};
-ghost use Rattle.host_serve.specs.Logs.{KeepsCut, KeepsLines, WritesRows, log_end};
+ghost use Rattle.host_serve.specs.Logs.{KeepsCut, WritesRows, log_end};
 
-use crate::log::{Lines, Log};
+use crate::log::{Kept, Lines, Log};
 use crate::watching::Watcher;
-use answer_gate::Gate;
+use answer_gate::{Closed, Cuts, Taken};
 use claim_rule::{Books, Desk};
 use rail_io::{Bell, Journal};
 use row_cuts::{push_all_lines, push_marked_lines, take_all_marks};
@@ -22,7 +22,7 @@ use worker_pool::TurnEnd;
 #[derive(Drop)]
 pub struct Committer<'g, R, J, B> {
     pub rt: &'g R,
-    pub gate: &'g Gate,
+    pub cuts: &'g Cuts<Kept>,
     pub alloc: Global,
     pub log: Log<J>,
     /// The marks that were taken for the last cut; kept from one to the next, so that a cut takes no memory for them.
@@ -32,8 +32,9 @@ pub struct Committer<'g, R, J, B> {
     pub port: u16,
 }
 
-/// The lines of all rows, or of those that are set in these marks, as looks show them.
+/// The lines of all rows, or of those that are set in these marks, as looks show them while the gate is closed.
 fn look(
+    _closed: &Closed,
     alloc: Global,
     books: &Books,
     desk: &mut Desk,
@@ -57,71 +58,65 @@ fn look(
     Ok(Lines { text, count })
 }
 
-impl<J: Journal> Log<J> {
-    /// Has a cut of these lines kept: as the one of a new journal, or as the one that follows. One without lines is
-    /// kept at once.
-    fn keep(&mut self, alloc: Global, lines: &Lines, is_whole: bool) -> bool
-        ensures head { self.new.head ≡ self.old.head }
-        ensures kept { result ≡ true → KeepsLines is_whole (J.told self.old.journal) (J.told self.new.journal)
-            self.old.head (log_end self.old) lines.now (log_end self.new) }
-    {
-        if is_whole {
-            return self.begin(alloc, lines);
-        }
-        lines.count == 0 || self.append(alloc, lines)
-    }
-}
-
 impl<R: Wait, J: Journal, B: Bell> Committer<'_, R, J, B> {
-    /// Looks at all rows, or at those that are set in the marks; opens the gate; and has their lines kept.
-    fn commit(&mut self, books: &Books, desk: &mut Desk) -> bool
+    /// Looks at all rows, or at those that are set in the marks; opens the gate; and has their lines kept: the cut that
+    /// was taken, and a receipt where it is kept.
+    fn commit(&mut self, closed: Closed, books: &Books, desk: &mut Desk) -> (Taken, Option<Kept>)
         requires own { IsOf books.now desk.old }
         requires tidy { IsTidy desk.old }
         requires marks { length self.old.marks.items ≡ mark_blocks books.now.layout.rows }
         ensures own { IsOf books.now desk.new }
         ensures tidy { IsTidy desk.new }
         ensures looks { AddsStepsBy AllLooks desk.old desk.new }
-        ensures kept { result ≡ true → KeepsCut books.now.layout.rows self.old.marks.items
+        ensures kept { IfSome result.1 (λ _. KeepsCut books.now.layout.rows self.old.marks.items
             (J.told self.old.log.journal) (J.told self.new.log.journal) self.old.log.head (log_end self.old.log)
-            (log_end self.new.log) desk.old desk.new }
+            (log_end self.new.log) desk.old desk.new) }
     {
         let is_whole = self.log.is_grown();
-        let lines = look(self.alloc, books, desk, is_whole, self.marks.as_slice());
-        self.gate.taken(self.rt);
-        match lines {
+        let marks = self.marks.as_slice();
+        let lines = look(&closed, self.alloc, books, desk, is_whole, marks);
+        let taken = self.cuts.taken(self.rt, closed);
+        let kept = match lines {
             Ok(lines) => self.log.keep(self.alloc, &lines, is_whole),
-            Err(_) => false,
-        }
+            Err(_) => None,
+        };
+        (taken, kept)
     }
 
-    /// Takes a cut of all rows that were marked since the cut before.
-    fn take_cut(&mut self, books: &Books, desk: &mut Desk) -> bool
+    /// Takes a cut of all rows that were marked since the cut before, and goes on so.
+    fn take_cut(
+        &mut self,
+        closed: Closed,
+        books: &Books,
+        desk: &mut Desk,
+    ) -> (Taken, Option<Kept>)
         requires own { IsOf books.now desk.old }
         requires tidy { IsTidy desk.old }
         ensures own { IsOf books.now desk.new }
         ensures tidy { IsTidy desk.new }
         ensures looks { AddsStepsBy AllLooks desk.old desk.new }
-        ensures kept { result ≡ true → (marks : List ℕ) × KeepsCut books.now.layout.rows marks
+        ensures kept { IfSome result.1 (λ _. (marks : List ℕ) × KeepsCut books.now.layout.rows marks
             (J.told self.old.log.journal) (J.told self.new.log.journal) self.old.log.head (log_end self.old.log)
-            (log_end self.new.log) desk.old desk.new }
+            (log_end self.new.log) desk.old desk.new) }
     {
         if take_all_marks(&mut self.marks, books).is_err() {
-            return false;
+            return (self.cuts.taken(self.rt, closed), None);
         }
-        self.commit(books, desk)
+        self.commit(closed, books, desk)
     }
 }
 
 impl<R: Wait, J: Journal, B: Bell> Watcher for Committer<'_, R, J, B> {
     fn watch(&mut self, books: &Books, desk: &mut Desk) -> TurnEnd {
-        let Some(cut) = self.gate.next_cut(self.rt) else {
+        let Some(closed) = self.cuts.next_cut(self.rt) else {
             return TurnEnd::End;
         };
-        if self.take_cut(books, desk) {
-            self.gate.keep(self.rt, cut);
+        let (taken, kept) = self.take_cut(closed, books, desk);
+        if let Some(kept) = kept {
+            self.cuts.keep(self.rt, taken, kept);
             return TurnEnd::Again;
         }
-        self.gate.lose(self.rt);
+        self.cuts.lose(self.rt, taken);
         self.bell.ring(self.port);
         TurnEnd::End
     }

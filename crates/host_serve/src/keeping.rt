@@ -15,8 +15,8 @@ ghost use Rattle.host_serve.specs.declared.log.Lines.{Lines};
 
 use crate::books::Opened;
 use crate::end::{KeptOutcome, ServeOutcome};
-use crate::log::{Head, Lines, Log};
-use answer_gate::Gate;
+use crate::log::{Head, Kept, Lines, Log};
+use answer_gate::Cuts;
 use host_catalogue::{JournalRefusal, LoadFault, fold_books, import_from, open_books};
 use host_words::ServeWords;
 use rail_catalogue::Catalogue;
@@ -27,11 +27,11 @@ use std::alloc::{AllocError, Global};
 /// The most bytes that a journal may have at a start.
 const ROOM: u32 = u32::MAX;
 
-/// What serving with a journal is given besides: the gate that commands go through, the journal, and a bell at the port
-/// that is served.
+/// What serving with a journal is given besides: the gate that commands go through with its cuts, the journal, and a
+/// bell at the port that is served.
 #[derive(Drop)]
 pub struct Keeping<'g, J, B> {
-    pub gate: &'g Gate,
+    pub cuts: &'g Cuts<Kept>,
     pub journal: J,
     pub bell: B,
 }

@@ -164,7 +164,7 @@ where
         (F.misses shelf.old) (F.misses shelf.new) }
 {
     let Keeping {
-        gate,
+        cuts,
         journal,
         bell,
     } = keeping;
@@ -177,7 +177,7 @@ where
     };
     let committer = Committer {
         rt,
-        gate,
+        cuts,
         alloc: common.alloc,
         log,
         marks,
@@ -187,14 +187,14 @@ where
     let Ok(watchers) = list_of(common.alloc, committer) else {
         return Run::without_wall(ServeOutcome::NoMemory.kept(false), devices.listener);
     };
-    gate.expect(rt, common.said.workers + 1);
+    cuts.gate().expect(rt, common.said.workers + 1);
     let Run {
         outcome,
         listener,
         wall,
     } = listen_and_serve(rt, common, opened, devices, watchers);
     Run {
-        outcome: outcome.kept(gate.is_lost(rt)),
+        outcome: outcome.kept(cuts.is_lost()),
         listener,
         wall,
     }
@@ -245,7 +245,7 @@ where
         alloc,
         cat: &cat,
         said: said.numbers,
-        gate: Some(keeping.gate),
+        gate: Some(keeping.cuts.gate()),
     };
     serve_left(rt, common, said, shelf, devices, keeping)
 }

@@ -14,7 +14,7 @@ mod host;
 mod program;
 mod serve;
 
-use answer_gate::{Gate, GateKeeper};
+use answer_gate::{Cuts, GateKeeper};
 use devices::{Devices, ForServe};
 use exit::run_host;
 use host_io::{FileJournal, SleepTicker, TcpBell, TcpPort};
@@ -50,7 +50,7 @@ fn given_words(rt: &(impl Env + AllocGlobal)) -> Result<Vec<String>, AllocError>
 fn main(rt: HostRuntime) -> ExitCode {
     let alloc = rt.alloc();
     let words = given_words(&rt);
-    let gate = Gate::new();
+    let cuts = Cuts::new();
     let mut devices = Devices {
         shelf: FileShelf::new(&rt),
         input: ReaderSource::new(rt.stdin()),
@@ -58,10 +58,10 @@ fn main(rt: HostRuntime) -> ExitCode {
         notes: WriterSink::new(rt.stderr()),
     };
     let given = ForServe {
-        listener: TcpPort::new(&rt, alloc, GateKeeper::new(&gate, &rt)),
+        listener: TcpPort::new(&rt, alloc, GateKeeper::new(&cuts, &rt)),
         ticker: SleepTicker::new(&rt),
         keeping: Keeping {
-            gate: &gate,
+            cuts: &cuts,
             journal: FileJournal::new(&rt, alloc),
             bell: TcpBell::new(&rt),
         },

@@ -4,19 +4,23 @@ use Rattle.history_model.specs.History.{IsLegal}
 use Rattle.history_model.proofs.Legal.{NoDouble-from_WellFormed, WellFormed-history}
 use Rattle.history_model.proofs.Seen.{legal-front}
 use Rattle.claim_rule.specs.Rule.{DeskView}
+use Rattle.claim_rule.specs.Desks.{AddsSteps}
 use Rattle.claim_rule.specs.Out.{IsTidy, IsIdle}
 use Rattle.http_wire.specs.declared.request.WireFault.{WireFault}
 use Rattle.http_wire.specs.Requests.{RequestText}
 use Rattle.session_loop.specs.declared.end.ConnEnd.{ConnEnd}
+use Rattle.session_loop.specs.declared.end.ConnEnd.TheVariants.{WriteFault}
 use Rattle.session_loop.specs.Session.{IsEnd}
+use Rattle.session_loop.specs.Moments.{Awaiting, MayWrite}
 use Rattle.session_loop.proofs.Keeping.{end_keeps}
-use Rattle.session_loop.proofs.Views.{end_seen}
+use Rattle.session_loop.proofs.Views.{end_seen, moment_seen}
 use Rattle.rail_catalogue.specs.Contents.{CatalogueView}
 use Rattle.osdm_texts.specs.Answers.{problem}
 use Rattle.rail_service.specs.Bytes.{reply_bytes}
 use Rattle.rail_service.specs.declared.service.Service.{Service}
 use Rattle.rail_service.specs.Refusals.{problem_of_wire}
 use Rattle.rail_service.specs.Connections.{ServiceView, IsAnswer, answers_of, refusals_of, NeverDouble, IsServed}
+use Rattle.rail_service.specs.Moments.{MayReply}
 use Rattle.rail_service.specs.Responding.{view_of, Responds, Declines}
 use Rattle.rail_service.proofs.Owned.{Own, own_then, own_same}
 
@@ -33,6 +37,15 @@ pub record Through {C : Type 0} (start now : Service C) : Type 0 where
   pub clock : now.clock.ghost_name ≡ start.clock.ghost_name
   pub tidy : IsTidy start.desk.now → IsTidy now.desk.now
   pub own : Own start.desk.now now.desk.now
+
+answered : {C : Type 0} (told : C → Option (ℕ → ℕ)) (start before : Service C) (request : RequestText) (text : List ℕ) (next : Service C) → before.cat.now ≡ start.cat.now → Responds told before request text next
+    → (next.cat.now ≡ start.cat.now) × IsAnswer start.cat.now (view_of told before) request text (view_of told next)
+answered {C} told start before request text next same is =
+    (is.cat ∙ same, subst (λ (cat : CatalogueView). IsAnswer cat (view_of told before) request text (view_of told next)) same is.answer)
+
+refused : {C : Type 0} (start now : Service C) (fault : WireFault) (text : List ℕ) → now.cat.now ≡ start.cat.now → Declines now fault text
+    → text ≡ reply_bytes start.cat.now true (problem (problem_of_wire fault))
+refused {C} start now fault text same is = subst (λ (cat : CatalogueView). text ≡ reply_bytes cat true (problem (problem_of_wire fault))) same is
 
 module _ {C : Type 0} (told : C → Option (ℕ → ℕ)) (start after : Service C) (taken : List ℕ) (left : Option (List ℕ)) (written : List ℕ) (end : ConnEnd) where
   -- the service's session ended so
@@ -55,16 +68,7 @@ module _ {C : Type 0} (told : C → Option (ℕ → ℕ)) (start after : Service
 
   ended : Ended → IsEnd (answers_of start.cat.now) (refusals_of start.cat.now) (view_of told start) (view_of told after) taken left written end
   ended is = end_seen (λ before request text next. Responds told before request text next) (λ service fault text. Declines service fault text) (answers_of start.cat.now) (refusals_of start.cat.now)
-      (view_of told) (λ (s : Service C). s.cat.now ≡ start.cat.now) answered refused start after taken left written end refl is
-    where
-      answered : (before : Service C) (request : RequestText) (text : List ℕ) (next : Service C) → before.cat.now ≡ start.cat.now → Responds told before request text next
-          → (next.cat.now ≡ start.cat.now) × IsAnswer start.cat.now (view_of told before) request text (view_of told next)
-      answered before request text next same is =
-          (is.cat ∙ same, subst (λ (cat : CatalogueView). IsAnswer cat (view_of told before) request text (view_of told next)) same is.answer)
-
-      refused : (now : Service C) (fault : WireFault) (text : List ℕ) → now.cat.now ≡ start.cat.now → Declines now fault text
-          → text ≡ reply_bytes start.cat.now true (problem (problem_of_wire fault))
-      refused now fault text same is = subst (λ (cat : CatalogueView). text ≡ reply_bytes cat true (problem (problem_of_wire fault))) same is
+      (view_of told) (λ (s : Service C). s.cat.now ≡ start.cat.now) (answered told start) (refused start) start after taken left written end refl is
 
   pub serves : IsLegal start.desk.now.layout start.desk.now.seen → IsIdle after.desk.now → Ended
       → IsServed start.cat.now (view_of told start) (view_of told after) taken left written end
@@ -77,6 +81,22 @@ module _ {C : Type 0} (told : C → Option (ℕ → ℕ)) (start after : Service
         no_double = never_double after.desk.now t.own.1.legal;
         idle = idle;
       }
+
+-- what may be handed over at a moment of a service's session is of a defined reply
+pub may_reply : {C K : Type 0} (clock_told : C → Option (ℕ → ℕ)) (awaits : Awaiting (Service C)) (held : K → ℕ → K → Type 0) (told : K → Option (List ℕ)) (start : Service C) (source : Option (List ℕ)) (sink now : K) (piece : List ℕ)
+    → IsLegal start.desk.now.layout start.desk.now.seen
+    → MayWrite (λ (before : Service C) request text (next : Service C). Responds clock_told before request text next) (λ (service : Service C) fault text. Declines service fault text) awaits held told start source sink now piece
+    → MayReply start.cat.now held told (view_of clock_told start) source sink now piece
+may_reply {C} {K} clock_told awaits held told start source sink now piece legal m =
+    let t = through clock_told start m.after m.taken m.left m.written WriteFault legal m.next in
+    let seen = moment_seen (λ before request text next. Responds clock_told before request text next) (λ service fault text. Declines service fault text) (answers_of start.cat.now) (refusals_of start.cat.now)
+    (view_of clock_told) (λ (s : Service C). s.cat.now ≡ start.cat.now) (answered clock_told start) (refused start) awaits held told start source sink now piece refl m in
+    record {
+      is = seen.0;
+      steps = t.own.0;
+      shape = subst (λ (v : ServiceView). AddsSteps start.desk.now v.desk t.own.0) (sym seen.1) t.own.1;
+      no_double = subst (λ (v : ServiceView). NeverDouble v.desk) (sym seen.1) (never_double m.after.desk.now t.own.1.legal);
+    }
 
 -- what the service held at its end is left at the desk and the clock
 pub served_there : {C : Type 0} (told : C → Option (ℕ → ℕ)) (cat : CatalogueView) (before : ServiceView) (service : Service C) (desk : DeskView) (clock : C) (taken : List ℕ) (left : Option (List ℕ)) (written : List ℕ) (end : ConnEnd)

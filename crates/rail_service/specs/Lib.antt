@@ -4,6 +4,7 @@ pub mod Routes
 pub mod Serving
 pub mod Refusals
 pub mod Connections
+pub mod Moments
 pub mod OneThread
 pub mod Readiness
 pub mod Responding

@@ -8,6 +8,7 @@ ghost use Rattle.claim_rule.specs.Desks.{IsOf};
 ghost use Rattle.claim_rule.specs.Out.{IsIdle, IsTidy};
 ghost use Rattle.lone_desk.specs.Lone.{IsAlone};
 ghost use Rattle.rail_service.specs.Connections.{IsServed, ServesWhole, connection_at};
+ghost use Rattle.rail_service.specs.Moments.{PermitsReplies, service_at};
 ghost use Rattle.rail_service.specs.OneThread.{ServesAlone};
 ghost use Rattle.rail_service.specs.Readiness.{IsReady};
 ghost use Rattle.rail_service.specs.Responding.{view_of};
@@ -19,11 +20,11 @@ use http_wire::Intake;
 use osdm_json::BodyRoom;
 use rail_catalogue::Catalogue;
 use rail_io::{Clock, Sink, Source};
-use session_loop::{ConnEnd, run_session};
+use session_loop::{ConnEnd, Outlet, run_permitted};
 use std::alloc::Global;
 
 /// Serves until an end. The intake is as its start gave it.
-fn serve<S: Source, K: Sink, C: Clock>(
+fn serve<S: Source, K: Outlet, C: Clock>(
     intake: &mut Intake,
     source: &mut S,
     sink: &mut K,
@@ -32,6 +33,8 @@ fn serve<S: Source, K: Sink, C: Clock>(
     requires fresh { intake.old.given ≡ 0 }
     requires empty { intake.old.unread ≡ [] }
     requires ready { IsReady service.old.cat.now service.old.books.now service.old.router.now service.old.desk.now }
+    requires permits { PermitsReplies K.permits service.old.cat.now K.held K.told (view_of C.told service.old)
+        (S.told source.old) sink.old }
     ensures own { IsOf service.old.books.now service.new.desk.now }
     ensures tidy { IsTidy service.old.desk.now → IsTidy service.new.desk.now }
     ensures served { (taken written : List ℕ)
@@ -46,7 +49,69 @@ fn serve<S: Source, K: Sink, C: Clock>(
     ensures same_desk { service.new.desk.ghost_name ≡ service.old.desk.ghost_name }
     ensures same_clock { service.new.clock.ghost_name ≡ service.old.clock.ghost_name }
 {
-    run_session(intake, source, sink, service)
+    run_permitted(intake, source, sink, service)
+}
+
+/// Serves one connection, as `serve_connection` does, into an outlet of which it is known that it permits the next
+/// bytes of the defined replies. Whatever the outlet permits, no other bytes are handed to it at any moment, and none
+/// earlier, whether or not the connection ever ends.
+pub fn serve_permitted<S: Source, K: Outlet, C: Clock>(
+    alloc: Global,
+    cat: &Catalogue,
+    books: &Books,
+    desk: &mut Desk,
+    source: &mut S,
+    sink: &mut K,
+    clock: &mut C,
+) -> ConnEnd
+    requires own { IsOf books.now desk.old }
+    requires legs { books.now.layout.legs ≡ legs_in cat.now }
+    requires rows { books.now.layout.rows ≡ cat.now.rows }
+    requires idle { IsIdle desk.old }
+    requires permits { PermitsReplies K.permits cat.now K.held K.told (service_at desk.old (C.told clock.old))
+        (S.told source.old) sink.old }
+    ensures own { IsOf books.now desk.new }
+    ensures idle { IsIdle desk.new }
+    ensures tidy { IsTidy desk.old → IsTidy desk.new }
+
+    // The bytes written are the defined replies to the requests of the bytes taken, whatever other desks do.
+    ensures served { ServesWhole cat.now
+        (connection_at desk.old (C.told clock.old) (S.told source.old) (K.told sink.old))
+        (connection_at desk.new (C.told clock.new) (S.told source.new) (K.told sink.new)) result }
+
+    // At a desk that is alone, whatever it has done, they are those of a host of one thread, which begins with the
+    // desk's bookings.
+    ensures one_thread { IsAlone desk.old → ServesAlone cat.now
+        (connection_at desk.old (C.told clock.old) (S.told source.old) (K.told sink.old))
+        (connection_at desk.new (C.told clock.new) (S.told source.new) (K.told sink.new)) result }
+
+    // A device's failure is the end where its count of faults rose in this call, and at every other end that count is
+    // as it was.
+    ensures read_cause { result ≡ ReadFault → Rose (S.faults source.old) (S.faults source.new) }
+    ensures write_cause { result ≡ WriteFault → Rose (K.faults sink.old) (K.faults sink.new) }
+    ensures read_steady { (result ≡ ReadFault → ⊥) → S.faults source.new ≡ S.faults source.old }
+    ensures write_steady { (result ≡ WriteFault → ⊥) → K.faults sink.new ≡ K.faults sink.old }
+{
+    // Tells contracts that each item of these books has a word.
+    let _ = books.places();
+    let Ok(mut intake) = Intake::start(alloc) else {
+        return ConnEnd::NoMemory;
+    };
+    let Ok(router) = start_router(alloc) else {
+        return ConnEnd::NoMemory;
+    };
+    let mut room = BodyRoom::new(alloc);
+    let mut service = Service {
+        alloc,
+        cat,
+        books,
+        router: &router,
+        desk,
+        clock,
+        room: &mut room,
+        first: None,
+    };
+    serve(&mut intake, source, sink, &mut service)
 }
 
 /// Serves one connection at a desk of the books: its requests are read from the source, each is answered at the clock's
@@ -93,24 +158,5 @@ pub fn serve_connection<S: Source, K: Sink, C: Clock>(
     ensures read_steady { (result ≡ ReadFault → ⊥) → S.faults source.new ≡ S.faults source.old }
     ensures write_steady { (result ≡ WriteFault → ⊥) → K.faults sink.new ≡ K.faults sink.old }
 {
-    // Tells contracts that each item of these books has a word.
-    let _ = books.places();
-    let Ok(mut intake) = Intake::start(alloc) else {
-        return ConnEnd::NoMemory;
-    };
-    let Ok(router) = start_router(alloc) else {
-        return ConnEnd::NoMemory;
-    };
-    let mut room = BodyRoom::new(alloc);
-    let mut service = Service {
-        alloc,
-        cat,
-        books,
-        router: &router,
-        desk,
-        clock,
-        room: &mut room,
-        first: None,
-    };
-    serve(&mut intake, source, sink, &mut service)
+    serve_permitted(alloc, cat, books, desk, source, sink, clock)
 }

@@ -2,12 +2,14 @@
 //!
 //! A listener always tells its port, its limit and how many streams it has handed out, and counts its failures: it
 //! answers `Failed` only where that count rose in the call. Each stream that it hands out stands in a `Waiting`, which
-//! can't be dropped, and `serve_waiting` alone spends it: no stream that was handed out is dropped unserved.
-//! `ListListener` stands in memory.
+//! can't be dropped. `serve_waiting` alone spends it, and `spend_permitted`, which it calls: no stream that was handed
+//! out is dropped unserved. `ListListener` stands in memory.
 //!
 //! `serve_connection` takes the memory of the wire and of the routes first, and later that of bodies and answers
 //! alone. It requires that the books have the catalogue's places and rows, and that nothing is out at the desk; it
-//! has no premise about other desks. `paths_name_resources` is the table of paths as a law.
+//! has no premise about other desks. `serve_permitted` and `spend_permitted` say the same of each moment: an outlet is
+//! handed nothing but the next bytes of the defined replies, whether or not the call returns. `paths_name_resources` is
+//! the table of paths as a law.
 //!
 //! The clock is told of each command before it is done, whether it may change bookings, and gives after it the number
 //! of the cut that the answer waits for. `unchanging_commands_look` says what a command does that isn't said to change
@@ -28,10 +30,10 @@ mod routing;
 mod service;
 mod waiting;
 
-pub use connection::serve_connection;
+pub use connection::{serve_connection, serve_permitted};
 pub use listener::{Accepted, Bound, Listener};
 pub use memory_listener::ListListener;
 pub use performing::perform;
 pub use reach::unchanging_commands_look;
 pub use resource::paths_name_resources;
-pub use waiting::{Finished, Waiting, serve_waiting};
+pub use waiting::{Finished, Waiting, serve_waiting, spend_permitted};

@@ -5,11 +5,14 @@ ghost use Rattle.rail_catalogue.specs.Contents.{legs_in};
 ghost use Rattle.claim_rule.specs.Desks.{IsOf};
 ghost use Rattle.claim_rule.specs.Out.{IsIdle, IsTidy, MakesEmpty};
 ghost use Rattle.shop.specs.Homes.{IsAtHome, StaysHome};
+ghost use Rattle.expiry_sweeper.specs.Complete.{LeavesNoneOverdue};
 ghost use Rattle.osdm_texts.specs.Answers.{Reply, told_of};
 ghost use Rattle.osdm_json.specs.Readable.{IsReadable};
 ghost use Rattle.service_rules.specs.Checks.{ordered};
 ghost use Rattle.service_rules.specs.Orders.{order_view, IsSoundOrder};
 ghost use Rattle.service_rules.specs.Answering.{Answers, BooksAllOrNone};
+ghost use Rattle.service_laws.specs.Bounded.{EndsWithin};
+ghost use Rattle.service_laws.specs.Commands.{IfSweeps};
 ghost use Rattle.rail_service.specs.Bytes.{reply_bytes};
 ghost use Rattle.rail_service.specs.Commands.{Says, GoesOn};
 ghost use Rattle.rail_service.specs.Sparing.{MakesFor};
@@ -37,8 +40,9 @@ use trade_service::{
 /// Does what a retailer's command asks at this moment, and answers it.
 ///
 /// The answer is the command's defined reply, by the desk's own entries in this very call, whatever other desks do
-/// meanwhile. The books have the catalogue's places and rows, and the command is one that was read. Inlined, since an
-/// answer is large to hand on.
+/// meanwhile. They are no more than the catalogue, the moment and the order give. A sweep leaves no booking prebooked
+/// that was late when it began. The books have the catalogue's places and rows, and the command is one that was read.
+/// Inlined, since an answer is large to hand on.
 #[inline(always)]
 pub fn perform(
     alloc: Global,
@@ -60,6 +64,9 @@ pub fn perform(
     ensures tidy { IsTidy desk.old → IsTidy desk.new }
     ensures no_item { MakesEmpty desk.new }
     ensures goes_on { GoesOn desk.old desk.new }
+    ensures bound { EndsWithin cat.now now (ordered cat.now now command.now) desk.old desk.new }
+    ensures complete { IfSweeps (ordered cat.now now command.now)
+        (LeavesNoneOverdue books.now now desk.old desk.new) }
     ensures answer { (reply : Reply) × Answers cat.now retailer.0 now command.now desk.old desk.new reply
         × BooksAllOrNone cat.now now command.now desk.old desk.new reply
         × MakesFor desk.old desk.new reply

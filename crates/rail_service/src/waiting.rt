@@ -7,17 +7,18 @@ ghost use Rattle.claim_rule.specs.Desks.{IsOf};
 ghost use Rattle.claim_rule.specs.Out.{IsIdle, IsTidy};
 ghost use Rattle.lone_desk.specs.Lone.{IsAlone};
 ghost use Rattle.rail_service.specs.Connections.{ServesWhole, connection_at};
+ghost use Rattle.rail_service.specs.Moments.{PermitsReplies, service_at};
 ghost use Rattle.rail_service.specs.OneThread.{ServesAlone};
 
-use crate::connection::serve_connection;
+use crate::connection::serve_permitted;
 use claim_rule::{Books, Desk};
 use rail_catalogue::Catalogue;
 use rail_io::{Clock, Sink, Source};
-use session_loop::ConnEnd;
+use session_loop::{ConnEnd, Outlet};
 use std::alloc::Global;
 
 /// A stream that a listener handed out and that isn't served yet. It can't be dropped: whoever has it has to spend it,
-/// which only `serve_waiting` does. Contracts see its source and its sink.
+/// which only `serve_waiting` does, by `spend_permitted`. Contracts see its source and its sink.
 pub struct Waiting<I, O> {
     input: I,
     output: O,
@@ -53,8 +54,53 @@ pub struct Finished<I, O> {
     pub output: O,
 }
 
+/// Serves a stream that was handed out, as `serve_waiting` does, into an outlet of which it is known that it permits
+/// the next bytes of the defined replies. Whatever the outlet permits, no other bytes are handed to it at any moment,
+/// and none earlier, whether or not the connection ever ends.
+pub fn spend_permitted<I: Source, O: Outlet, C: Clock>(
+    alloc: Global,
+    cat: &Catalogue,
+    books: &Books,
+    desk: &mut Desk,
+    waiting: Waiting<I, O>,
+    clock: &mut C,
+) -> Finished<I, O>
+    requires own { IsOf books.now desk.old }
+    requires legs { books.now.layout.legs ≡ legs_in cat.now }
+    requires rows { books.now.layout.rows ≡ cat.now.rows }
+    requires idle { IsIdle desk.old }
+    requires permits { PermitsReplies O.permits cat.now O.held O.told (service_at desk.old (C.told clock.old))
+        (I.told waiting.input) waiting.output }
+    ensures own { IsOf books.now desk.new }
+    ensures idle { IsIdle desk.new }
+    ensures tidy { IsTidy desk.old → IsTidy desk.new }
+
+    // The bytes written are the defined replies to the requests of the bytes taken, whatever other desks do.
+    ensures served { ServesWhole cat.now
+        (connection_at desk.old (C.told clock.old) (I.told waiting.input) (O.told waiting.output))
+        (connection_at desk.new (C.told clock.new) (I.told result.input) (O.told result.output)) result.end }
+
+    // At a desk that is alone, whatever it has done, they are those of a host of one thread, which begins with the
+    // desk's bookings.
+    ensures one_thread { IsAlone desk.old → ServesAlone cat.now
+        (connection_at desk.old (C.told clock.old) (I.told waiting.input) (O.told waiting.output))
+        (connection_at desk.new (C.told clock.new) (I.told result.input) (O.told result.output)) result.end }
+
+    // A device's failure is the end where its count of faults rose in this call, and at every other end that count is
+    // as it was.
+    ensures read_cause { result.end ≡ ReadFault → Rose (I.faults waiting.input) (I.faults result.input) }
+    ensures write_cause { result.end ≡ WriteFault → Rose (O.faults waiting.output) (O.faults result.output) }
+    ensures read_steady { (result.end ≡ ReadFault → ⊥) → I.faults result.input ≡ I.faults waiting.input }
+    ensures write_steady { (result.end ≡ WriteFault → ⊥) → O.faults result.output ≡ O.faults waiting.output }
+{
+    let (mut input, mut output) = waiting.into_streams();
+    let end = serve_permitted(alloc, cat, books, desk, &mut input, &mut output, clock);
+    Finished { end, input, output }
+}
+
 /// Serves the connection of a stream that was handed out, at a desk of the books, as `serve_connection` does over the
-/// stream's source and sink, and hands both back with the connection's end. This call alone spends a waiting stream.
+/// stream's source and sink, and hands both back with the connection's end. This call alone spends a waiting stream, by
+/// `spend_permitted`.
 pub fn serve_waiting<I: Source, O: Sink, C: Clock>(
     alloc: Global,
     cat: &Catalogue,
@@ -89,7 +135,5 @@ pub fn serve_waiting<I: Source, O: Sink, C: Clock>(
     ensures read_steady { (result.end ≡ ReadFault → ⊥) → I.faults result.input ≡ I.faults waiting.input }
     ensures write_steady { (result.end ≡ WriteFault → ⊥) → O.faults result.output ≡ O.faults waiting.output }
 {
-    let (mut input, mut output) = waiting.into_streams();
-    let end = serve_connection(alloc, cat, books, desk, &mut input, &mut output, clock);
-    Finished { end, input, output }
+    spend_permitted(alloc, cat, books, desk, waiting, clock)
 }

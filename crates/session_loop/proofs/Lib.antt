@@ -2,3 +2,4 @@ pub mod WriteLemmas
 pub mod Serving
 pub mod Views
 pub mod Keeping
+pub mod Handing

@@ -1,11 +1,12 @@
 -- A session as it is seen through a view of its responder.
-use Rattle.std.proofs.Common.{◌≡◌, ℕ, ◌+◌, List, [], ◌∷◌, length, Option, sym, ap, subst, inl, inr}
+use Rattle.std.proofs.Common.{◌≡◌, ℕ, ◌+◌, List, [], ◌∷◌, length, Option, refl, sym, ap, subst, inl, inr}
 use Rattle.std.specs.Prelude.{◌⊎◌}
 use Rattle.http_wire.specs.declared.request.WireFault.{WireFault}
 use Rattle.http_wire.specs.Requests.{RequestText, Rest, empty, unfinished, closed, refused, IsRequest, IsFault}
 use Rattle.session_loop.specs.declared.end.ConnEnd.{ConnEnd}
 use Rattle.session_loop.specs.declared.end.ConnEnd.TheVariants.{Done, Cut, Refused, ReadFault, WriteFault, NoMemory}
 use Rattle.session_loop.specs.Session.{Answering, Refusing, Chain, IsRefusal, IsAnswered, IsCutShort, IsEnd}
+use Rattle.session_loop.specs.Moments.{Awaiting, MayWrite}
 
 -- `Keeps` holds of the responder all along, and under it the view answers as other relations say.
 module _ {R Q : Type 0} (answers : Answering R) (refuses : Refusing R) (replies : Answering Q) (refusals : Refusing Q)
@@ -82,3 +83,41 @@ module _ {R Q : Type 0} (answers : Answering R) (refuses : Refusing R) (replies 
   end_seen before after taken told written ReadFault keeps (inr a) = inr (answered_seen before after taken unfinished written keeps a)
   end_seen before after taken told written WriteFault keeps a = cut_seen before after taken written keeps a
   end_seen before after taken told written NoMemory keeps none = none
+
+  -- What may be handed over at a moment of the responder's session may be at that moment of the view's.
+  pub moment_seen : {K : Type 0} (awaits : Awaiting R) (held : K → ℕ → K → Type 0) (told : K → Option (List ℕ)) (start : R) (source : Option (List ℕ)) (sink now : K) (piece : List ℕ) → Keeps start
+      → (m : MayWrite answers refuses awaits held told start source sink now piece)
+      → (v : MayWrite replies refusals (λ _ _ _. Unit {0}) held told (view start) source sink now piece) × (v.after ≡ view m.after)
+  moment_seen {K} awaits held told start source sink now piece keeps m =
+      let seen = chain_seen m.next.requests start m.next.mid m.next.replies keeps m.next.chain in (
+        record {
+          taken = m.taken;
+          left = m.left;
+          reads = m.reads;
+          after = view m.after;
+          written = m.written;
+          sent = m.sent;
+          next = record {
+            requests = m.next.requests;
+            tail = m.next.tail;
+            begins = m.next.begins;
+            open' = m.next.open';
+            replies = m.next.replies;
+            mid = view m.next.mid;
+            chain = seen.1;
+            answer = m.next.answer;
+            part = m.next.part;
+            more = m.next.more;
+            last = last_seen (length m.next.requests + 1) m.next.tail m.next.mid m.after m.next.answer seen.0 m.next.last;
+            cut = m.next.cut;
+            is = m.next.is;
+          };
+          rest = m.rest;
+          cut = m.cut;
+          awaited = tt;
+          turn = m.turn;
+          before_it = m.before_it;
+          writes = m.writes;
+        },
+        refl,
+      )

@@ -7,16 +7,22 @@
 //!
 //! An answer may have the number of a cut of the bookings. The sink is told of it before the first byte of that answer.
 //!
+//! The answers go into an `Outlet`, which says what may be handed to it next. `run_permitted` asks of it only that it
+//! permits the next bytes of the defined answers: so no other bytes are handed to it at any moment, also in a session
+//! that never ends. Every sink is an outlet that permits all.
+//!
 //! `proofs/Views`: a session seen through a view of its responder; `proofs/Keeping`: what every answer keeps, the
 //! session keeps.
 #![tactic(auto)]
 
 mod end;
+mod outlet;
 mod responder;
 mod session;
 mod writing;
 
 pub use end::ConnEnd;
+pub use outlet::Outlet;
 pub use responder::Responder;
-pub use session::run_session;
+pub use session::{run_permitted, run_session};
 pub use writing::write_all;

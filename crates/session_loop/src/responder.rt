@@ -18,16 +18,22 @@ pub trait Responder {
     /// The bytes that answer what stands in a request's place.
     ghost refuses: { Self → WireFault → List ℕ → Type 0 };
 
+    /// That an answer waits for the cut of a number: the responder before it, the number, and the responder after it.
+    /// Whoever knows nothing of a responder but this trait can show that only of a number that an answer has.
+    ghost awaits: { Self → ℕ → Self → Type 0 } = { λ _ _ _. Unit {0} };
+
     /// Answers the request that the intake gave last. `last` is the request's own mark.
     fn answer(&mut self, intake: &Intake, request: &Request, last: bool) -> Answer
         requires given { ArePiecesWithin (length intake.now.taken) request.now }
         requires last { last ≡ request.now.last }
         requires ready { ready self.old }
         ensures ready { ready self.new }
-        ensures answers { answers self.old (request_text intake.now.taken request.now) (answer_bytes result) self.new };
+        ensures answers { answers self.old (request_text intake.now.taken request.now) (answer_bytes result) self.new }
+        ensures awaits { awaits self.old result.after self.new };
 
     /// Answers what stands in a request's place, and stays as it was.
     fn refuse(&mut self, fault: WireFault) -> Answer
         ensures refuses { refuses self.old fault (answer_bytes result) }
+        ensures awaits { awaits self.old result.after self.new }
         ensures same { self.new ≡ self.old };
 }

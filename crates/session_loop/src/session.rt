@@ -1,12 +1,15 @@
 // One connection, request by request.
 ghost use Rattle.std.specs.Prelude.{◌≡◌, ◌≤◌, ◌<◌, ◌++◌, ◌+◌, ℕ, List, Some, [], IfNone, true, false};
+ghost use Rattle.http_wire.specs.declared.request.WireFault.{WireFault};
 ghost use Rattle.rail_io.specs.Faults.{Rose};
 ghost use Rattle.rail_io.specs.Told.{with_front, with_end};
 ghost use Rattle.session_loop.specs.declared.end.ConnEnd.TheVariants.{ReadFault, WriteFault};
+ghost use Rattle.session_loop.specs.Moments.{MayStep, MayWrite, PermitsAnswer};
 ghost use Rattle.session_loop.specs.Session.{IsStep, IsEnd};
 ghost use Rattle.session_loop.specs.Writes.{Writes};
 
 use crate::end::ConnEnd;
+use crate::outlet::Outlet;
 use crate::responder::Responder;
 use crate::writing::write_answer;
 use http_wire::{Intake, Next, WireFault};
@@ -16,7 +19,9 @@ use rail_io::{Sink, Source};
 /// room for an answer.
 #[cold]
 #[inline(never)]
-fn refuse<K: Sink, R: Responder>(sink: &mut K, responder: &mut R, fault: WireFault) -> bool
+fn refuse<K: Outlet, R: Responder>(sink: &mut K, responder: &mut R, fault: WireFault) -> bool
+    requires permits { (answer : List ℕ) (cut : ℕ) → R.refuses responder.old fault answer
+        → R.awaits responder.old cut responder.old → PermitsAnswer K.permits K.held K.told sink.old cut answer }
     ensures writes { (answer : List ℕ) × R.refuses responder.old fault answer
         × Writes (K.told sink.old) (K.told sink.new) answer result }
     ensures same { responder.new ≡ responder.old }
@@ -29,7 +34,7 @@ fn refuse<K: Sink, R: Responder>(sink: &mut K, responder: &mut R, fault: WireFau
 }
 
 /// Reads, answers and writes one request, or ends.
-fn step<S: Source, K: Sink, R: Responder>(
+fn step<S: Source, K: Outlet, R: Responder>(
     intake: &mut Intake,
     source: &mut S,
     sink: &mut K,
@@ -37,6 +42,10 @@ fn step<S: Source, K: Sink, R: Responder>(
 ) -> Option<ConnEnd>
     requires few { intake.old.given < 65536 }
     requires ready { R.ready responder.old }
+    requires permits { (now : K) (piece : List ℕ)
+        → MayStep R.answers R.refuses R.awaits K.held K.told (intake.old.given + 1) intake.old.unread responder.old
+        (S.told source.old) sink.old now piece
+        → K.permits now piece }
     ensures step { (pulled written : List ℕ)
         × (S.told source.old ≡ with_front pulled (S.told source.new))
         × (K.told sink.new ≡ with_end (K.told sink.old) written)
@@ -74,6 +83,41 @@ fn step<S: Source, K: Sink, R: Responder>(
     }
 }
 
+/// Reads, answers and writes in turn until an end, as `run_session` does, into an outlet of which it is known that it
+/// permits the next bytes of the defined answers. Whatever the outlet permits, no other bytes are handed to it at any
+/// moment, and none earlier, whether or not the session ever ends.
+pub fn run_permitted<S: Source, K: Outlet, R: Responder>(
+    intake: &mut Intake,
+    source: &mut S,
+    sink: &mut K,
+    responder: &mut R,
+) -> ConnEnd
+    requires fresh { intake.old.given ≡ 0 }
+    requires empty { intake.old.unread ≡ [] }
+    requires ready { R.ready responder.old }
+    requires permits { (now : K) (piece : List ℕ)
+        → MayWrite R.answers R.refuses R.awaits K.held K.told responder.old (S.told source.old) sink.old now piece
+        → K.permits now piece }
+    ensures answers { (taken written : List ℕ)
+        × (S.told source.old ≡ with_front taken (S.told source.new))
+        × (K.told sink.new ≡ with_end (K.told sink.old) written)
+        × IsEnd R.answers R.refuses responder.old responder.new taken (S.told source.new) written result }
+    ensures ready { R.ready responder.new }
+    ensures source_faults { S.faults source.old ≤ S.faults source.new }
+    ensures sink_faults { K.faults sink.old ≤ K.faults sink.new }
+    ensures read_cause { result ≡ ReadFault → Rose (S.faults source.old) (S.faults source.new) }
+    ensures write_cause { result ≡ WriteFault → Rose (K.faults sink.old) (K.faults sink.new) }
+    // A call that failed ends the session: at any other end the count is as it was.
+    ensures source_steady { (result ≡ ReadFault → ⊥) → S.faults source.new ≡ S.faults source.old }
+    ensures sink_steady { (result ≡ WriteFault → ⊥) → K.faults sink.new ≡ K.faults sink.old }
+{
+    'requests: loop {
+        if let Some(end) = step(intake, source, sink, responder) {
+            return end;
+        }
+    }
+}
+
 /// Reads, answers and writes in turn until an end. The intake is as its start gave it. Bytes after a
 /// last request are left unread in the source or unused.
 pub fn run_session<S: Source, K: Sink, R: Responder>(
@@ -98,9 +142,5 @@ pub fn run_session<S: Source, K: Sink, R: Responder>(
     ensures source_steady { (result ≡ ReadFault → ⊥) → S.faults source.new ≡ S.faults source.old }
     ensures sink_steady { (result ≡ WriteFault → ⊥) → K.faults sink.new ≡ K.faults sink.old }
 {
-    'requests: loop {
-        if let Some(end) = step(intake, source, sink, responder) {
-            return end;
-        }
-    }
+    run_permitted(intake, source, sink, responder)
 }

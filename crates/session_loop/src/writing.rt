@@ -2,8 +2,10 @@
 ghost use Rattle.std.specs.Prelude.{◌≡◌, ◌≤◌, ◌+◌, ◌++◌, ◌⊎◌, drop, length, true, false};
 ghost use Rattle.rail_io.specs.Faults.{Rose};
 ghost use Rattle.session_loop.specs.Answered.{answer_bytes};
+ghost use Rattle.session_loop.specs.Moments.{PermitsAnswer, PermitsPiece};
 ghost use Rattle.session_loop.specs.Writes.{Writes, WritesHeld};
 
+use crate::outlet::Outlet;
 use http_wire::{Answer, Body};
 use rail_io::{Pushed, PushedBoth, Sink};
 
@@ -14,9 +16,20 @@ pub fn write_all<K: Sink>(sink: &mut K, piece: &[u8]) -> bool
     ensures cause { result ≡ false → Rose (K.faults sink.old) (K.faults sink.new) }
     ensures steady { result ≡ true → K.faults sink.new ≡ K.faults sink.old }
 {
+    hand_all(sink, piece)
+}
+
+/// Writes all of the piece, of which the sink permits all that is left at each moment.
+fn hand_all<K: Outlet>(sink: &mut K, piece: &[u8]) -> bool
+    requires permits { PermitsPiece K.permits K.told sink.old piece.now }
+    ensures writes { Writes (K.told sink.old) (K.told sink.new) piece.now result }
+    ensures never_falls { K.faults sink.old ≤ K.faults sink.new }
+    ensures cause { result ≡ false → Rose (K.faults sink.old) (K.faults sink.new) }
+    ensures steady { result ≡ true → K.faults sink.new ≡ K.faults sink.old }
+{
     let mut rest = piece;
     while !rest.is_empty() {
-        match sink.write(rest) {
+        match sink.hand(rest) {
             Pushed::Took(count) => rest = &rest[count..],
             Pushed::Failed => return false,
         }
@@ -38,7 +51,8 @@ fn behind<'a>(first: &'a [u8], second: &'a [u8], count: usize) -> (&'a [u8], &'a
 
 /// Writes both pieces, one after the other, without joining them: together where the sink can.
 #[inline(never)]
-fn write_two<K: Sink>(sink: &mut K, first: &[u8], second: &[u8]) -> bool
+fn hand_two<K: Outlet>(sink: &mut K, first: &[u8], second: &[u8]) -> bool
+    requires permits { PermitsPiece K.permits K.told sink.old (first.now ++ second.now) }
     ensures writes { Writes (K.told sink.old) (K.told sink.new) (first.now ++ second.now) result }
     ensures never_falls { K.faults sink.old ≤ K.faults sink.new }
     ensures cause { result ≡ false → Rose (K.faults sink.old) (K.faults sink.new) }
@@ -47,19 +61,20 @@ fn write_two<K: Sink>(sink: &mut K, first: &[u8], second: &[u8]) -> bool
     let mut rest = first;
     let mut left = second;
     while !rest.is_empty() {
-        match sink.write_both(rest, left) {
+        match sink.hand_both(rest, left) {
             PushedBoth::Took(count) => (rest, left) = behind(rest, left, count),
             PushedBoth::Failed(_) => return false,
         }
     }
-    write_all(sink, left)
+    hand_all(sink, left)
 }
 
 /// Writes head and body one after the other, without joining them, and drops the answer. Before the first byte the sink
 /// is told after which cut they may leave, where the answer has one. It takes the answer apart, so that one that an
 /// inlined call made never stands in memory as a whole: it is large to clear and to copy.
 #[inline(always)]
-pub fn write_answer<K: Sink>(sink: &mut K, answer: Answer) -> bool
+pub fn write_answer<K: Outlet>(sink: &mut K, answer: Answer) -> bool
+    requires permits { PermitsAnswer K.permits K.held K.told sink.old answer.after (answer_bytes answer) }
     ensures writes { Writes (K.told sink.old) (K.told sink.new) (answer_bytes answer) result }
     ensures held { WritesHeld K.held K.told sink.old answer.after (answer_bytes answer) result sink.new }
     ensures never_falls { K.faults sink.old ≤ K.faults sink.new }
@@ -68,10 +83,10 @@ pub fn write_answer<K: Sink>(sink: &mut K, answer: Answer) -> bool
 {
     let Answer { head, body, after } = answer;
     if after != 0 {
-        sink.hold_until(after);
+        sink.hold_for(after);
     }
     match body {
-        Body::Small(text) => write_two(sink, head.as_slice(), text.as_slice()),
-        Body::Large(text) => write_two(sink, head.as_slice(), text.as_slice()),
+        Body::Small(text) => hand_two(sink, head.as_slice(), text.as_slice()),
+        Body::Large(text) => hand_two(sink, head.as_slice(), text.as_slice()),
     }
 }

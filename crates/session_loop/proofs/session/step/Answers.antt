@@ -62,3 +62,48 @@ returns-then-not-refuse-clause-step g c =
         ),
       ),
     )
+
+pub write_answer-requires : goal.write_answer-requires
+write_answer-requires g c =
+    let next = c.in-Request.ensures.next in
+    let request = request_text c.next_request.new.self.taken c.in-Request.request in
+    record {
+      permits = λ now part more held is. c.requires.permits now more (record {
+        pulled = next.0;
+        left = g.S.Source.told c.next_request.new.source;
+        reads = next.1;
+        after = c.answer-answer.new.self;
+        part = part;
+        next = inl (
+          request,
+          c.next_request.new.self.unread,
+          next.2.2,
+          subst (λ (a : List ℕ). g.R.Responder.answers c.args.responder.now request a c.answer-answer.new.self) is c.answer-answer.ensures.answers,
+        );
+        cut = c.answer-answer.result.after;
+        awaited = c.answer-answer.ensures.awaits;
+        writes = held;
+      });
+    }
+
+pub refuse-requires : goal.refuse-requires
+refuse-requires g c =
+    let next = c.in-Bad.ensures.next in
+    record {
+      permits = λ answer cut refuses awaits now part more held is. c.requires.permits now more (record {
+        pulled = next.0;
+        left = g.S.Source.told c.next_request.new.source;
+        reads = next.1;
+        after = c.args.responder.now;
+        part = part;
+        next = inr (
+          c.in-Bad.fault,
+          next.2.0,
+          subst (λ (a : List ℕ). g.R.Responder.refuses c.args.responder.now c.in-Bad.fault a) is refuses,
+          refl,
+        );
+        cut = cut;
+        awaited = awaits;
+        writes = held;
+      });
+    }
