@@ -84,12 +84,7 @@ impl<R: Wait, J: Journal, B: Bell> Committer<'_, R, J, B> {
     }
 
     /// Takes a cut of all rows that were marked since the cut before, and goes on so.
-    fn take_cut(
-        &mut self,
-        closed: Closed,
-        books: &Books,
-        desk: &mut Desk,
-    ) -> (Taken, Option<Kept>)
+    fn take_cut(&mut self, closed: Closed, books: &Books, desk: &mut Desk) -> (Taken, Option<Kept>)
         requires own { IsOf books.now desk.old }
         requires tidy { IsTidy desk.old }
         ensures own { IsOf books.now desk.new }

@@ -13,7 +13,7 @@ returns-clause-ok g c =
     let lines = c.in_ok-lines_in.field-0 in
     let books = c.in_ok-text.ensures.books in
     let found = subst (λ (t : List ℕ). (places rows : ℕ) (said : List SaidBooking) → IsExportOf t places rows said → AreLinesOf said lines.text.items lines.count)
-        c.as_slice.ensures.value c.in_ok-lines_in.ensures in (
+    c.as_slice.ensures.value c.in_ok-lines_in.ensures in (
       books.0,
       subst (λ o. BeginsWith told cat (export_name o) books.0) (sym c.in-Some.is) (text, c.in_ok-text.ensures.text, books.1),
       books.2,

@@ -13,7 +13,7 @@ returns-clause-ok c =
     let lines = c.in_ok-lines_in.field-0 in
     let books = c.in_ok-folded.ensures.books in
     let found = subst (λ (t : List ℕ). (places rows : ℕ) (said : List SaidBooking) → IsExportOf t places rows said → AreLinesOf said lines.text.items lines.count)
-        c.as_slice.ensures.value c.in_ok-lines_in.ensures in (
+    c.as_slice.ensures.value c.in_ok-lines_in.ensures in (
       ap export_name c.in_default.is,
       (fold_view c.in_ok-folded.folded, c.in_ok-folded.ensures.fold, books.0, books.1, books.2, lines_for cat export books.0 lines books.1 found),
     )
