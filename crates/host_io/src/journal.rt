@@ -43,8 +43,17 @@ pub struct FileJournal<F: Files<File = File> + Drop> {
 // journal takes the place of the old one and not that of the link.
 fn path_of<F: Files>(files: &F, alloc: Global, name: &str) -> io::Result<PathBuf> {
     match files.canonicalize(alloc, name) {
-        Err(error) if error.kind() == ErrorKind::NotFound => Ok(PathBuf::from_str(alloc, name)?),
+        Err(error) if error.kind() == ErrorKind::NotFound => new_path(files, alloc, name),
         found => found,
+    }
+}
+
+// The path of a journal that isn't there yet. A link to a file that isn't there is refused: the new text would take the
+// place of the link, and the lock would be that of the link.
+fn new_path<F: Files>(files: &F, alloc: Global, name: &str) -> io::Result<PathBuf> {
+    match files.symlink_metadata(name) {
+        Ok(_) => Err(io::Error::from(ErrorKind::InvalidInput)),
+        Err(_) => Ok(PathBuf::from_str(alloc, name)?),
     }
 }
 

@@ -1,3 +1,6 @@
+use Rattle.std.proofs.Common.{List, ℕ, subst}
+use Rattle.claim_rule.specs.Calls.{AddsStepsBy}
+use Rattle.host_serve.specs.Logs.{WritesRows}
 use Rattle.host_serve.proofs.committing.Committer.commit.Goals as goal
 
 pub returns-in-Ok-clause-tidy : goal.returns-in-Ok-clause-tidy
@@ -7,7 +10,8 @@ pub returns-in-Ok-clause-kept : goal.returns-in-Ok-clause-kept
 returns-in-Ok-clause-kept g c is = record {
   whole = c.is_grown-is_whole.result;
   lines = c.in-Ok.lines;
-  looks = c.in-Ok.ensures.lines;
+  looks = subst (λ (marks : List ℕ). AddsStepsBy (WritesRows c.is_grown-is_whole.result c.args.books.now.layout.rows marks c.in-Ok.lines) c.args.desk.now c.look-lines.new.desk)
+      c.as_slice.ensures.value c.in-Ok.ensures.lines;
   kept = c.keep.ensures.kept is;
 }
 
