@@ -178,6 +178,13 @@ def settled(port: int, connections: int) -> tuple:
         time.sleep(0.05)
 
 
+def wait_sweep(port: int) -> None:
+    end = time.monotonic() + SECONDS
+    while scraped(port)[1]["sumacgate_sweeps_total"] == 0:
+        expect(time.monotonic() < end, "no sweep is counted")
+        time.sleep(0.1)
+
+
 def table(numbers: dict, name: str) -> dict:
     return {key[1]: value for key, value in numbers.items() if key[0] == name and value}
 
@@ -192,9 +199,20 @@ def compare(numbers: dict, tally: Tally) -> None:
         expect(there == here, f"{name}: the host counted {there}, the clients {here}")
 
 
+def wait_well(port: int) -> None:
+    """Until the host takes connections: the window is there a moment before."""
+    end = time.monotonic() + SECONDS
+    while True:
+        status, _, body = get(port, "/healthz")
+        if status == 200:
+            return expect(body == b"ok\n", f"well: {body}")
+        expect((status, body) == (503, b"the host doesn't listen yet\n"), f"not well: {status} {body}")
+        expect(time.monotonic() < end, "the host doesn't begin")
+        time.sleep(0.05)
+
+
 def check_pages(port: int) -> None:
-    status, _, body = get(port, "/healthz")
-    expect((status, body) == (200, b"ok\n"), f"not well: {status} {body}")
+    wait_well(port)
     status, head, _ = get(port, "/metrics", "POST")
     expect(status == 405 and b"\r\nAllow: GET\r\n" in head, f"POST is {status}")
     expect(get(port, "/")[0] == 404, "there is a page /")
@@ -237,7 +255,7 @@ def try_host(program: str, port: int, clients: int, rounds: int, folder: str) ->
             time.sleep(0.5)
             status, _, body = get(window, "/healthz")
             expect((status, body) == (503, b"the last connection is taken\n"), f"draining: {status} {body}")
-            expect(scraped(window)[1]["sumacgate_sweeps_total"] > 0, "no sweep is counted")
+            wait_sweep(window)
             last.shutdown(socket.SHUT_WR)
         host.wait(SECONDS)
         expect((host.returncode, host.stderr.read()) == (0, b""), f"the host ended with {host.returncode}")
