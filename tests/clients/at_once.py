@@ -19,13 +19,10 @@ import threading
 import time
 
 ROOT = os.path.dirname(os.path.dirname(os.path.dirname(os.path.abspath(__file__))))
+sys.path.append(os.path.join(ROOT, "tests"))
+from ports import free_port  # noqa: E402
+
 BODY = b'{"class":"SECOND","from":"BASEL","run":0,"to":"BERN","wanted":[]}'
-
-
-def free_port():
-    with socket.socket() as probe:
-        probe.bind(("127.0.0.1", 0))
-        return probe.getsockname()[1]
 
 
 def connect(port, limit=20.0):

@@ -18,7 +18,8 @@ import tempfile
 import threading
 import time
 
-from at_once import ROOT, Reader, connect, free_port, request
+from at_once import ROOT, Reader, connect, request
+from ports import free_port
 
 CLIENTS, ROUNDS = 16, 12
 KEYS = [b"north", b"south"]

@@ -16,9 +16,10 @@ import tempfile
 import threading
 import time
 
-from at_once import ROOT, Reader, connect, free_port, request
+from at_once import ROOT, Reader, connect, request
+from ports import free_port
 
-CLIENTS, PLACES, ROUNDS, SECONDS = 12, 20, 400, 6
+CLIENTS, PLACES, ROUNDS, SECONDS, MOST_SECONDS = 12, 20, 400, 8, 120
 
 
 def wish(count):
@@ -27,11 +28,17 @@ def wish(count):
 
 
 class Ledger:
-    """What all clients together were answered."""
+    """What all clients together were answered, from now on."""
 
     def __init__(self):
-        self.lock, self.held, self.faults = threading.Lock(), {}, []
+        self.lock, self.held, self.faults, self.begin = threading.Lock(), {}, [], time.monotonic()
         self.beside = self.apart = self.refused = 0
+
+    def goes_on(self, turn):
+        """Until the rounds or the seconds are over, and on until both ways of sitting and a refusal were met, but not for ever."""
+        seconds = time.monotonic() - self.begin
+        enough = min(self.beside, self.apart, self.refused) > 0 and (turn >= ROUNDS or seconds > SECONDS)
+        return not self.faults and not enough and seconds < MOST_SECONDS
 
     def fault(self, what):
         with self.lock:
@@ -63,13 +70,13 @@ def ask(stream, reader, line, body=b"", last=False):
     return reader.answer()
 
 
-def seat_parties(port, ledger, number, end):
+def seat_parties(port, ledger, number):
     """One client: a party of three or of four each round, released before the next."""
     stream = connect(port)
     reader = Reader(stream)
-    for turn in range(ROUNDS):
-        if time.time() > end or ledger.faults:
-            break
+    turn = 0
+    while ledger.goes_on(turn):
+        turn += 1
         count = 3 + (number + turn) % 2
         status, booking = ask(stream, reader, b"POST /reservations", wish(count))
         if status == 201:
@@ -89,9 +96,9 @@ def seat_parties(port, ledger, number, end):
     stream.close()
 
 
-def client(port, ledger, number, end):
+def client(port, ledger, number):
     try:
-        seat_parties(port, ledger, number, end)
+        seat_parties(port, ledger, number)
     except Exception as error:  # told in the summary
         ledger.fault(repr(error))
 
@@ -118,12 +125,12 @@ def main():
         words = [program, "serve", "parties.json", "--port", str(port), "--workers", str(CLIENTS)]
         words += ["--connections", str(CLIENTS + 1), "--sweep", "1"]
         server = subprocess.Popen(words, cwd=folder)
-        ledger, end = Ledger(), time.time() + SECONDS + 2
-        threads = [threading.Thread(target=client, args=(port, ledger, number, end)) for number in range(CLIENTS)]
+        ledger = Ledger()
+        threads = [threading.Thread(target=client, args=(port, ledger, number)) for number in range(CLIENTS)]
         for thread in threads:
             thread.start()
         for thread in threads:
-            thread.join(60)
+            thread.join(2 * MOST_SECONDS)
         last_party(port, ledger)
         try:
             status = server.wait(60)

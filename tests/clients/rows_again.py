@@ -16,16 +16,25 @@ import tempfile
 import threading
 import time
 
-from at_once import BODY, ROOT, Reader, connect, free_port, request
+from at_once import BODY, ROOT, Reader, connect, request
+from ports import free_port
 
-CLIENTS, ROWS, ROUNDS, SECONDS = 16, 64, 400, 8
+CLIENTS, ROWS, ROUNDS, SECONDS, MOST_SECONDS = 16, 64, 400, 10, 120
+MISSED = {(409, "NoPlace"), (503, "Contended")}
 
 
 class Ledger:
-    """What all clients together were answered."""
+    """What all clients together were answered, from now on."""
 
     def __init__(self):
         self.lock, self.held, self.ids, self.faults = threading.Lock(), {}, set(), []
+        self.again, self.missed, self.begin = 0, 0, time.monotonic()
+
+    def goes_on(self, turn):
+        """Until the rounds or the seconds are over, and on until rows were used again, but not for ever."""
+        seconds = time.monotonic() - self.begin
+        enough = self.again > ROWS and (turn >= ROUNDS or seconds > SECONDS)
+        return not self.faults and not enough and seconds < MOST_SECONDS
 
     def sold(self, booking):
         place = (booking["reservations"][0]["coach"], booking["reservations"][0]["place"])
@@ -35,12 +44,17 @@ class Ledger:
             if place in self.held:
                 self.faults.append(f"{place} is held by {self.held[place]} and {booking['id']}")
             self.ids.add(booking["id"])
+            self.again += "-" in booking["id"]
             self.held[place] = booking["id"]
         return booking["id"], place
 
     def releases(self, place):
         with self.lock:
             del self.held[place]
+
+    def misses(self):
+        with self.lock:
+            self.missed += 1
 
     def is_fine(self, holds, what):
         if not holds:
@@ -53,19 +67,24 @@ def ask(stream, reader, line, body=b""):
     return reader.answer()
 
 
-def sell_and_release(port, ledger, end):
+def reserve(stream, reader, ledger):
+    """What was sold. A place that others take and give back meanwhile may be missed, so that there is none, and the client asks again."""
+    status, booking = ask(stream, reader, b"POST /reservations", BODY)
+    if status == 201:
+        return [ledger.sold(booking)]
+    ledger.is_fine((status, booking["code"]) in MISSED, f"a reservation was answered {status}: {booking}")
+    ledger.misses()
+    return []
+
+
+def sell_and_release(port, ledger):
     """One client: two bookings a round, both shown and released."""
     stream = connect(port)
     reader = Reader(stream)
-    for _ in range(ROUNDS):
-        if time.time() > end or ledger.faults:
-            break
-        kept = []
-        for _ in range(2):
-            status, booking = ask(stream, reader, b"POST /reservations", BODY)
-            ledger.is_fine(status == 201, f"a reservation was answered {status}: {booking}")
-            if status == 201:
-                kept.append(ledger.sold(booking))
+    turn = 0
+    while ledger.goes_on(turn):
+        turn += 1
+        kept = reserve(stream, reader, ledger) + reserve(stream, reader, ledger)
         for name, place in kept:
             path = b"/bookings/" + name.encode()
             status, booking = ask(stream, reader, b"GET " + path)
@@ -79,9 +98,9 @@ def sell_and_release(port, ledger, end):
     stream.close()
 
 
-def client(port, ledger, end):
+def client(port, ledger):
     try:
-        sell_and_release(port, ledger, end)
+        sell_and_release(port, ledger)
     except Exception as error:  # told in the summary
         ledger.is_fine(False, repr(error))
 
@@ -97,22 +116,24 @@ def main():
             json.dump(catalogue, file)
         words = [program, "serve", "rows.json", "--port", str(port), "--workers", str(CLIENTS), "--connections", str(CLIENTS), "--sweep", "1"]
         server = subprocess.Popen(words, cwd=folder)
-        ledger, end = Ledger(), time.time() + SECONDS + 2
-        threads = [threading.Thread(target=client, args=(port, ledger, end)) for _ in range(CLIENTS)]
+        ledger = Ledger()
+        threads = [threading.Thread(target=client, args=(port, ledger)) for _ in range(CLIENTS)]
         for thread in threads:
             thread.start()
         for thread in threads:
-            thread.join(60)
+            thread.join(2 * MOST_SECONDS)
         try:
             status = server.wait(60)
         except subprocess.TimeoutExpired:
             server.kill()
             status = -1
+    ledger.is_fine(ledger.again > ROWS, f"after {MOST_SECONDS} seconds only {ledger.again} rows were used again")
+    ledger.is_fine(20 * ledger.missed < len(ledger.ids), f"{ledger.missed} reservations were refused")
+    ledger.is_fine(status == 0, "the host didn't end well")
     for fault in ledger.faults[:10]:
         print(fault)
-    again = sum("-" in name for name in ledger.ids)
-    ledger.is_fine(again > ROWS and status == 0, "too few rows were used again, or the host didn't end well")
-    print(f"{len(ledger.ids)} bookings on {ROWS} rows, {again} of them on rows used before, {len(ledger.faults)} faults, status {status}")
+    print(f"{len(ledger.ids)} bookings on {ROWS} rows, {ledger.again} of them on rows used before, {ledger.missed} refused for others that came and "
+          f"went, {len(ledger.faults)} faults, status {status}")
     sys.exit(1 if ledger.faults else 0)
 
 

@@ -38,7 +38,7 @@ looks at row after row and counts. The host itself ends a prebooked booking at a
 
 AT THE END each row is as the export says.
 
-A history that isn't decided within the bounds below is a failure, as one without an order is.
+A history that isn't decided within the bounds below is refused too. `storms.py` plays another storm in its place, and bears few of them.
 """
 import itertools
 import json
@@ -57,6 +57,10 @@ NEVER = 1 << 80
 
 
 # The search
+
+
+class Undecided(Refused):
+    """Whether the history has an order wasn't found within the bounds."""
 
 
 class Search:
@@ -175,7 +179,7 @@ class Search:
                 return stack
             if self.states > MOST_STATES or time.process_time() > self.until:
                 last = self.calls[min(self.deepest, len(self.calls) - 1)]
-                raise Refused("not decided: %d states were tried, up to %s" % (self.states, last))
+                raise Undecided("not decided: %d states were tried, up to %s" % (self.states, last))
             self.chance = random.Random(most)
             most *= 2
 

@@ -61,6 +61,10 @@ def catalogue_of(two_runs: bool, rows: int, confirm_seconds: int) -> dict:
             "refundSteps": [{"before": 0, "fee": 2500}], "runs": runs}
 
 
+class ClockSet(Exception):
+    """The clock of the day was set while a storm lasted, so that the moments of its calls say nothing."""
+
+
 class Connection:
     """A connection to the host, and what has come of the answer to its request."""
 
@@ -323,6 +327,7 @@ class Storm:
         until = time.monotonic() + HOST_SECONDS
         while len(self.calls) < self.most and time.monotonic() < until:
             self.round()
+        until = time.monotonic() + HOST_SECONDS
         while any(connection.call for connection in self.clients) and time.monotonic() < until:
             self.read(1)
         if any(connection.call for connection in self.clients):
@@ -353,7 +358,7 @@ class Storm:
         if (host.returncode, output) != (0, b""):
             raise EOFError("the host ended with %s, %r, %r" % (host.returncode, output, notes))
         if abs(clock_ahead() - ahead) > 2_000_000:
-            raise EOFError("the clock was set while the storm lasted")
+            raise ClockSet()
         return {"catalogue": self.text, "calls": self.calls, "closed": self.closed, "export": notes.decode("ascii"), "half": self.half}
 
 

@@ -5,7 +5,8 @@
 
 Each storm is a host of its own, of whose clients some reset, and in every fourth bookings come to their limits (`storm.py`). What an order
 explains is said in `checker.py`. First the planted wrong answers of `planted.py` have to be refused. A history that has no order is kept
-in the folder, or else printed. The last line counts.
+in the folder, or else printed. Where the clock was set meanwhile, or the search comes to its bounds, another storm is played. More of them
+(at most 400) follow until each thing that 200 storms have was met. The last line counts.
 """
 import argparse
 import collections
@@ -17,9 +18,11 @@ import sys
 import checker
 import planted
 from calls import Refused
-from storm import Storm
+from storm import ClockSet, Storm
 
 AT_ONCE = 8  # storms that are played side by side; most of their time they wait
+MORE = 400
+DECIDED = 20  # of so many histories one may be too much for the search
 
 
 def play(seed: int, program: str) -> tuple:
@@ -28,12 +31,16 @@ def play(seed: int, program: str) -> tuple:
     try:
         storm = Storm(seed)
         record = storm.run(program)
+    except ClockSet:
+        return seed, None, None, collections.Counter()
     except (OSError, EOFError) as failure:
         return seed, None, "storm %d: %r" % (seed, failure), counts
     counts.update(calls=len(record["calls"]), half=record["half"], gone=sum(call["end"] is None for call in record["calls"]))
     counts.update(kind_of(call) for call in record["calls"])
     try:
         search, stack = checker.check(record)
+    except checker.Undecided:
+        return seed, record, None, collections.Counter(undecided=1)
     except Refused as refused:
         return seed, record, "storm %d: %s" % (seed, refused), counts
     counts.update("no place: " + checker.kind_needed(ways, call) for call, ways in checker.explained(search, stack))
@@ -66,6 +73,41 @@ NEEDED = ["POST reservations 201", "POST reservations NoPlace", "POST reservatio
           "POST sweeps 200", "half", "gone", "expired", "no place: sold"]
 
 
+class Storms:
+    """Storms one seed after another, and what they had."""
+
+    def __init__(self, given: argparse.Namespace):
+        self.given, self.total, self.wrong, self.next = given, collections.Counter(), 0, given.first
+
+    def missing(self) -> list:
+        return [name for name in NEEDED if not self.total[name]] if self.given.storms >= 200 else []
+
+    def wanted(self) -> int:
+        """How many storms are still to be played."""
+        left = self.given.first + self.given.storms + MORE - self.next
+        lack = max(self.given.storms - self.total["storms"], AT_ONCE if self.missing() else 0)
+        return 0 if self.wrong else min(lack, left)
+
+    def play(self):
+        with multiprocessing.Pool(AT_ONCE) as pool:
+            while count := self.wanted():
+                jobs = [(seed, os.path.abspath(self.given.program)) for seed in range(self.next, self.next + count)]
+                self.next += count
+                for seed, record, what, counts in pool.starmap(play, jobs, chunksize=1):
+                    self.total += counts
+                    if what:
+                        self.wrong += 1
+                        tell(record, what, self.given.keep, seed)
+
+    def faults(self):
+        if missing := self.missing():
+            yield "never met: " + ", ".join(missing)
+        if self.total["undecided"] * DECIDED > self.total["storms"]:
+            yield "%d histories were not decided" % self.total["undecided"]
+        if not self.wrong and self.total["storms"] < self.given.storms:
+            yield "only %d storms were decided" % self.total["storms"]
+
+
 def main() -> int:
     words = argparse.ArgumentParser(description=__doc__, formatter_class=argparse.RawDescriptionHelpFormatter)
     words.add_argument("program")
@@ -77,23 +119,17 @@ def main() -> int:
     refused = planted.refused()
     if refused is None:
         return 1
-    jobs = [(seed, os.path.abspath(given.program)) for seed in range(given.first, given.first + given.storms)]
-    total, wrong = collections.Counter(), 0
-    with multiprocessing.Pool(AT_ONCE) as pool:
-        for seed, record, what, counts in pool.starmap(play, jobs, chunksize=1):
-            total += counts
-            if what:
-                wrong += 1
-                tell(record, what, given.keep, seed)
+    storms = Storms(given)
+    storms.play()
+    total, faults = storms.total, list(storms.faults())
     for name in sorted(total) if given.counts else []:
         print("%7d %s" % (total[name], name))
-    missing = [name for name in NEEDED if not total[name]] if given.storms >= 200 else []
-    if missing:
-        print("never met: " + ", ".join(missing))
+    for fault in faults:
+        print(fault)
     holds = ", ".join("%d %s" % (total["no place: " + kind], kind) for kind in checker.KINDS)
-    print("%d storms, %d calls, %d without an order; what was in the way of refusals: %s; %d planted answers refused" %
-          (total["storms"], total["calls"], wrong, holds, refused))
-    return 1 if wrong or missing else 0
+    print("%d storms, %d calls, %d not decided, %d without an order; what was in the way of refusals: %s; %d planted answers refused" %
+          (total["storms"], total["calls"], total["undecided"], storms.wrong, holds, refused))
+    return 1 if storms.wrong or faults else 0
 
 
 if __name__ == "__main__":

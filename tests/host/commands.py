@@ -15,6 +15,9 @@ import tempfile
 import time
 from datetime import datetime, timedelta
 
+sys.path.append(os.path.join(os.path.dirname(os.path.abspath(__file__)), ".."))
+from ports import free_port  # noqa: E402
+
 SECONDS = 60
 REFUSED = "rail_host: words refused\n"
 READ_FAULT = "rail_host: read fault\n"
@@ -49,6 +52,7 @@ MISSING = [
     "serve nothere.json --port +7 --workers 016 --connections=4294967295 --sweep=86400",
     "serve --port 80 -- --sweep", "serve --export nothere.json --port 80", "serve nothere.json --from nothere.txt --port 80",
     "serve nothere.json --export --from= --port 80", "serve --port 80 --export -- nothere.json",
+    "serve nothere.json --port 80 --from nothere.txt --journal new.journal", "recover nothere.json new.journal", "recover --help -",
 ]
 
 # Words that name an export that isn't there, beside a catalogue that is.
@@ -56,6 +60,7 @@ WITHOUT_EXPORT = [
     "serve k1.json --port 80 --from nothere.txt", "serve --from=nothere.txt --export --port=80 k1.json", "serve k1.json --port 80 --from ''",
     "serve k1.json --port 80 --from -", "serve k1.json --port 80 --from=-x --export",
     "replay k1.json --from nothere.txt", "export --from=nothere.txt k1.json", "settle k1.json --help",
+    "serve k1.json --port 80 --journal=new.journal --from nothere.txt", "serve k1.json --port 80 --from '' --journal new.journal",
 ]
 
 WORDS_REFUSED = [
@@ -75,6 +80,8 @@ WORDS_REFUSED = [
     "serve k1.json --port 80 --sweep 0", "serve k1.json --port 80 --sweep 86401", "serve k1.json --port 80 --tick 1",
     "serve k1.json --port 80 --help", "serve --help", "serve -V", "serve k1.json --port 80 --from", "serve k1.json --port 80 --from --export",
     "serve k1.json --port 80 --from x --from x", "serve k1.json --port 80 --export --export", "serve k1.json --port 80 --export=",
+    "serve k1.json --port 80 --journal", "serve k1.json --port 80 --journal x --journal x", "serve k1.json --port 80 --from x --journal --export",
+    "recover", "recover k1.json", "recover k1.json x y", "replay k1.json --journal x", "export k1.json --journal x",
     "serve k1.json --port 80 --export=true", "serve k1.json --port 80 --export true", "serve k1.json --port 80 --exp", "serve --export --port 80",
     "drill", "drill --help", "drill --seed 7 --workers 4 --size 40", "drill --seed 7 --workers 4 --places 30",
     "drill --seed 7 --size 40 --places 30", "drill --workers 4 --size 40 --places 30",
@@ -186,6 +193,14 @@ class Runs:
         with open(os.path.join(self.folder, name), "wb") as file:
             file.write(content)
 
+    def holds(self, name: str) -> bool:
+        """Whether the folder has the name, of a file or of a link."""
+        return os.path.lexists(os.path.join(self.folder, name))
+
+    def read(self, name: str) -> bytes:
+        with open(os.path.join(self.folder, name), "rb") as file:
+            return file.read()
+
 
 def moment(seconds: int) -> str:
     return (datetime(1970, 1, 1) + timedelta(seconds=seconds)).strftime("%Y-%m-%dT%H:%M:%SZ")
@@ -282,6 +297,30 @@ def exports(runs: Runs):
         os.close(device)
 
 
+def journals(runs: Runs):
+    """Journals that begin with an export, and files that are there: beside these an export is refused, and they stay as they are."""
+    text = (FIRST_LINE + SOLD_LINE + "end 1\n").encode("ascii")
+    for name, content in [("x.txt", text), ("empty", b""), ("wrong.txt", text[:-1])]:
+        runs.write(name, content)
+    for note, wrong in [("export missing", "nothere.txt"), ("export fault 1", "wrong.txt")]:
+        line = "serve k1.json --port 8080 --journal sold.journal --from " + wrong
+        runs.check(line, runs.run(line), (1, b"", "rail_host: %s\n" % note))
+        runs.check(line + ": the file", runs.holds("sold.journal"), False)
+    for words, wanted in [("--from x.txt --journal sold.journal", ""), ("--journal sold.journal --export", text.decode())]:
+        runs.check("serve " + words, served_once(runs, words), (0, b"", wanted))
+        runs.check("recover after " + words, runs.run("recover k1.json sold.journal"), (0, text, ""))
+    for there in ("sold.journal", "x.txt", "empty"):
+        before = runs.read(there)
+        for export in ("x.txt", "nothere.txt"):
+            line = "serve k1.json --port 8080 --journal %s --from %s" % (there, export)
+            runs.check(line, runs.run(line), (1, b"", "rail_host: journal exists\n"))
+            runs.check(line + ": the file", runs.read(there), before)
+    os.symlink("gone.journal", os.path.join(runs.folder, "link.journal"))
+    runs.check("a link to no file", runs.run("serve k1.json --port 8080 --journal link.journal"), (3, b"", "rail_host: journal failed\n"))
+    runs.check("what is at the link", (runs.holds("link.journal"), runs.holds("gone.journal")), (True, False))
+    runs.check("recover without a journal", runs.run("recover k1.json nothere.journal"), (1, b"", "rail_host: journal missing\n"))
+
+
 def notes_that_fail():
     """A device that is full, and a pipe that nobody reads."""
     yield "a full device", os.open("/dev/full", os.O_WRONLY)
@@ -303,11 +342,6 @@ def served_once(runs: Runs, words: str, notes=subprocess.PIPE) -> tuple:
         host.kill()
         host.communicate()
     return host.returncode, output, (said or b"").decode()
-
-
-def free_port() -> int:
-    with socket.create_server(("127.0.0.1", 0)) as free:
-        return free.getsockname()[1]
 
 
 def say_nothing(host, port: int):
@@ -392,7 +426,7 @@ def memories(runs: Runs):
 def main() -> int:
     with tempfile.TemporaryDirectory() as folder:
         runs = Runs(sys.argv[1], folder)
-        for part in (catalogues, words, long_words, exports, drills, inputs, outputs, broken_input, listeners, memories):
+        for part in (catalogues, words, long_words, exports, journals, drills, inputs, outputs, broken_input, listeners, memories):
             part(runs)
     for difference in runs.differences:
         print(difference)

@@ -19,7 +19,8 @@ import tempfile
 import time
 from dataclasses import dataclass
 
-sys.path.insert(0, str(pathlib.Path(__file__).resolve().parents[1] / "model"))
+TESTS = pathlib.Path(__file__).resolve().parents[1]
+sys.path[:0] = [str(TESTS / "model"), str(TESTS)]
 import service  # noqa: E402
 import wire  # noqa: E402
 from bookings import Booking, Books, Ending, Item, Phase  # noqa: E402
@@ -28,6 +29,7 @@ from catalogue import (Catalogue, Fare, Place, RefundStep, Run, Span, Station, S
 from export import LETTERS, booking_line, write_export  # noqa: E402
 from moments import LAST_MOMENT, write_moment  # noqa: E402
 from offers import LAST_GENERATION, OfferCode, Row, Segment, write_offer  # noqa: E402
+from ports import free_port  # noqa: E402
 
 SECONDS = 300
 LARGEST_CATALOGUE, LARGEST_EXPORT, LARGEST_BODY = 33_554_432, 268_435_456, 262_144
@@ -513,11 +515,6 @@ def served_full(runs: Runs, sizes: Sizes):
     with open(runs.path("notes"), "rb") as file:
         same_bytes("the export of a host with %d rows" % sizes.served, file.read(), wanted.encode())
     return "a host that sold %d rows" % sizes.served
-
-
-def free_port() -> int:
-    with socket.create_server(("127.0.0.1", 0)) as free:
-        return free.getsockname()[1]
 
 
 def sell_all(plan: Plan, rows: int, port: int) -> list:

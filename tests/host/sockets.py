@@ -18,6 +18,9 @@ import tempfile
 import threading
 import time
 
+sys.path.append(os.path.join(os.path.dirname(os.path.abspath(__file__)), ".."))
+from ports import free_port  # noqa: E402
+
 EXAMPLE = os.path.join(os.path.dirname(__file__), "..", "..", "examples", "k1.json")
 ASKS = b"GET /bookings/B000000 HTTP/1.1\r\nRetailer-Key: north\r\n\r\n"
 HALF = b"GET /bookings/B000000 HTTP/1.1\r\nRetailer-"
@@ -48,9 +51,7 @@ class Host:
 
     def __init__(self, program: str, connections: int, workers: int, sweep: int = 1, handles: int = None,
                  catalogue: str = EXAMPLE, more: list = ()):
-        free = socket.create_server(("127.0.0.1", 0))
-        self.port = free.getsockname()[1]
-        free.close()
+        self.port = free_port()
         limit = (lambda: resource.setrlimit(resource.RLIMIT_NOFILE, (handles, handles))) if handles else None
         words = ["serve", catalogue, "--port", self.port, "--connections", connections, "--workers", workers, "--sweep", sweep,
                  *more]
@@ -106,7 +107,7 @@ def closes_between(client: socket.socket, least: float, most: float, what: str):
 
 
 def silent(host: Host):
-    closes_between(host.connect(), 3, 20, "a connection that sends nothing")
+    closes_between(host.connect(), 3, 28, "a connection that sends nothing")
 
 
 def idle(host: Host):
@@ -114,13 +115,13 @@ def idle(host: Host):
     for _ in range(3):
         client.sendall(ASKS)
         read_answer(client, UNKNOWN)
-    closes_between(client, 3, 20, "an idle connection")
+    closes_between(client, 3, 28, "an idle connection")
 
 
 def stalled(host: Host):
     client = host.connect()
     client.sendall(HALF)
-    closes_between(client, 24, 70, "a request that stalls")
+    closes_between(client, 24, 85, "a request that stalls")
 
 
 def slow(host: Host):
@@ -189,7 +190,7 @@ def dripped(program: str):
                 begin = time.monotonic()
             drip(client, asked, 0.25)
             took = time.monotonic() - begin
-            expect(58 <= took <= 75, "%s ended after %.1f seconds" % (what, took))
+            expect(58 <= took <= 85, "%s ended after %.1f seconds" % (what, took))
             client.close()
         except (Wrong, OSError) as failure:
             failures.append("%s: %r" % (what, failure))
@@ -396,7 +397,7 @@ def side_by_side(program: str):
                 client.sendall(ASKS)
                 read_answer(client, UNKNOWN)
                 client.close()
-                expect(time.monotonic() - begin < 15, "a connection waited for another worker's client")
+                expect(time.monotonic() - begin < 28, "a connection waited for another worker's client")
             for client in held:
                 client.sendall(REST)
                 read_answer(client, UNKNOWN)

@@ -1,17 +1,14 @@
 """Clients that sell over a host until it ends: every command, several sent ahead of their answers, and looks at each other's bookings."""
-import datetime
 import json
 import random
-import socket
 import threading
 from dataclasses import dataclass
 
 from ledger import Ledger, Told
-from world import KEYS, LETTERS, LIMIT_SECONDS, Reader, STATIONS, name_of, request
+from world import DAY, KEYS, LETTERS, Reader, STATIONS, connect, name_of, request
 
 MOST_AHEAD, MOST_LIVE = 8, 10
 REFUSALS = {409, 410, 503, 507}
-DAY = (datetime.date.today() + datetime.timedelta(days=2)).isoformat()
 
 
 @dataclass(frozen=True)
@@ -163,7 +160,7 @@ class Client:
         """Sells over one connection until the host is gone, or until it is told to stop."""
         self.pending = []
         try:
-            with socket.create_connection(("127.0.0.1", port), timeout=LIMIT_SECONDS) as stream:
+            with connect(port) as stream:
                 self.serve(stream, stop)
         except (OSError, EOFError):
             pass

@@ -27,6 +27,8 @@ from world import JOURNAL, Host
 CLIENTS, ROWS, CALLS, FULL = 8, 8_192, 50, 6
 LOST = (4, "rail_host: journal lost\n")
 FAILED = (3, "rail_host: journal failed\n")
+# The last call on the journal's file before a host serves.
+SERVES = "folder"
 SYSTEM_SECONDS = 60
 
 
@@ -37,27 +39,25 @@ class Failing(Story):
     def round(self, library: str, at: int, does: str, error: int):
         before = world.read(self.folder)
         host = Host(self.program, self.folder, env=disk.environment(library, self.folder, at, does, error))
-        pending = self.sell(host)
+        _, pending = self.sell(host)
+        ended, name = host.ended(SYSTEM_SECONDS), "%s at call %d" % (does, at)
         after = disk.read_log(self.folder, before)
-        name = "%s at call %d" % (does, at)
         if "fail" not in after.calls:
-            return self.ledger.fault("%s: no call failed, and the host ended with %s" % (name, host.ended()))
+            return self.ledger.fault("%s: no call failed, and the host ended with %s" % (name, ended))
+        self.hold_end(ended, [LOST if SERVES in after.calls else FAILED])
         if after.calls[-1] != "fail":
             self.ledger.fault("%s: more was done with the file after it: %s" % (name, after.calls[-3:]))
         self.find(after, pending)
 
-    def sell(self, host: Host) -> list:
-        """Until the host ends; the commands without an answer."""
-        pending, wanted = [], FAILED
-        if host.wait():
-            pending, wanted = self.pending(self.start_clients(host.port)), LOST
-            self.served += 1
-        else:
-            self.refused += 1
-        ended = host.ended(SYSTEM_SECONDS)
-        if ended != wanted:
+    def sell(self, host: Host) -> tuple:
+        """Until the host is gone: whether it was seen to listen, and the commands without an answer."""
+        return (True, self.pending(self.start_clients(host.port))) if host.wait() else (False, [])
+
+    def hold_end(self, ended: tuple, wanted: list):
+        if ended not in wanted:
             self.ledger.fault("a host whose disk failed ended with %s" % (ended,))
-        return pending
+        self.served += ended == LOST
+        self.refused += ended == FAILED
 
     def find(self, after: disk.Disk, pending: list):
         """A disk that failed has what was synced, and maybe more."""
@@ -76,7 +76,9 @@ class Failing(Story):
         """A host with room for this much more; then one with room again."""
         size = kilobytes * 1024 + len(world.read(self.folder))
         host = Host(self.program, self.folder, prepare=(lambda: limit_files(size)) if limit else None)
-        pending = self.sell(host)
+        listened, pending = self.sell(host)
+        # One that wasn't seen to listen may have begun and lost its journal between two looks.
+        self.hold_end(host.ended(SYSTEM_SECONDS), [LOST] if listened else [FAILED, LOST])
         if world.read(self.folder) is not None:
             self.judge(world.read(self.folder), pending)
         elif self.ledger.told:

@@ -3,11 +3,12 @@
 
   tests/journal/kill.py PROGRAM [--rounds N] [--seed N] [--rows N] [--longest SECONDS]
 
-In each round (8) sixteen clients send every command, several ahead of their answers, until the host is killed at a random moment, now and then
-while it begins. Then the file is folded here and by `recover`, which have to come to the same text, and held against all that was answered in
-all rounds: each booking is there as it was told, or has gone forward by a command without an answer or by its limit. Nothing was sold twice, no
-id was given twice, and what nobody was told comes of commands without an answer. The next host begins with the file, and its answers are the
-model's for the bookings of that text. Ends with status 0 where all was so.
+In each round (8) sixteen clients send every command, several ahead of their answers, until the host is killed at a random moment. Now and then a
+host is killed while it begins, which counts as no round. After each kill the file is folded here and by `recover`, which have to come to the
+same text, and held against all that was answered in all rounds: each booking is there as it was told, or has gone forward by a command without
+an answer or by its limit. Nothing was sold twice, no id was given twice, and what nobody was told comes of commands without an answer. The next
+host begins with the file, and its answers are the model's for the bookings of that text. Further rounds (at most 60) follow until bookings of
+each kind of end were met and an answer was compared. Ends with status 0 where all was so.
 """
 import argparse
 import os
@@ -19,27 +20,52 @@ import time
 import world
 from ledger import RANKS
 from story import Story, fields_of
-from world import Host, recover
+from world import KEYS, Host, recover
 
 CLIENTS = 16
 STARTS, RECOVERS = 0.15, 0.3
+WANTED, MORE = "CFrefx", 60
 
 
 class Kills(Story):
     """A story of hosts that are killed."""
-    starts, recovered = 0, 0
+    kills, starts, recovered = 0, 0, 0
 
-    def round(self, longest: float):
+    def play(self, rounds: int, longest: float):
+        """So many rounds, and more, each of the whole length, as long as something wasn't met."""
+        while not self.ledger.faults and (self.kills < rounds or self.missing()):
+            if self.kills == rounds + MORE:
+                return self.ledger.fault("after %d rounds there was still %s" % (self.kills, self.missing()))
+            self.round(longest * self.rng.random() if self.kills < rounds else longest)
+
+    def missing(self) -> str:
+        """What wasn't met so far, empty where all was."""
+        told = {told.letter for told in self.ledger.told.values()}
+        letters = [letter for letter in WANTED if letter not in told]
+        return "no booking that is one of %s" % letters if letters else "" if self.compared else "no answer to compare"
+
+    def round(self, seconds: float):
         if self.rng.random() < STARTS:
             return self.kill_a_start()
         host = self.begin()
         if host is None:
             return
         self.compare(host.port)
+        self.sweep(host.port)
         threads = self.start_clients(host.port)
-        self.sell(host, longest * self.rng.random())
+        self.sell(host, seconds)
         host.end(self.rng.choice([signal.SIGKILL] * 4 + [signal.SIGTERM]))
+        self.kills += 1
         self.judge(world.read(self.folder), self.pending(threads))
+
+    def sweep(self, port: int):
+        """Asks for a sweep, so that a booking of an earlier round whose limit has passed is met as expired."""
+        with world.connect(port) as stream:
+            stream.sendall(world.request(b"POST /sweeps", key=KEYS[0]))
+            status, body = world.Reader(stream).answer()
+        if status != 200:
+            return self.ledger.fault("a sweep was answered %d: %s" % (status, body))
+        self.ledger.expired += body["expired"]
 
     def kill_a_start(self):
         """What is killed while it begins leaves the file as it was, or as it was begun anew."""
@@ -74,14 +100,11 @@ class Kills(Story):
                 self.ledger.fault("%s, told as %s, isn't so far in what recover reads meanwhile: %s" % (name, told, lines.get(row)))
 
 
-def summary(story: Kills, rounds: int) -> str:
+def summary(story: Kills) -> str:
     ledger = story.ledger
-    letters = {told.letter for told in ledger.told.values()}
-    missing = [letter for letter in "CFrefx" if letter not in letters] if rounds >= 8 else []
-    if missing or not ledger.answers or (rounds >= 8 and not story.compared):
-        ledger.fault("too little was met: no booking is %s, or nothing was answered or compared" % missing)
     return ("%d kills, %d of them at a start, %d answers, %d bookings made, %d torn ends, %d recovered meanwhile, %d answers as the model's, %d faults"
-            % (rounds, story.starts, ledger.answers, len(ledger.made), story.torn, story.recovered, story.compared, len(ledger.faults)))
+            % (story.kills + story.starts, story.starts, ledger.answers, len(ledger.made), story.torn, story.recovered, story.compared,
+               len(ledger.faults)))
 
 
 def main() -> int:
@@ -94,14 +117,10 @@ def main() -> int:
     given = parser.parse_args()
     with tempfile.TemporaryDirectory() as folder:
         story = Kills(os.path.abspath(given.program), folder, given.rows, given.seed, CLIENTS)
-        rounds = 0
-        while rounds < given.rounds and not story.ledger.faults:
-            story.round(given.longest)
-            rounds += 1
-        said = summary(story, rounds)
+        story.play(given.rounds, given.longest)
         for fault in story.ledger.faults[:10]:
             print(fault)
-    print(said)
+    print(summary(story))
     return 1 if story.ledger.faults else 0
 
 

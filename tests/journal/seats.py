@@ -17,19 +17,12 @@ import world
 from expected import sold
 from world import JOURNAL, Host, catalogue, catalogue_bytes, recover
 
-from catalogue import TravelClass, read_catalogue  # noqa: E402  (of the model, whose path world adds)
+from catalogue import read_catalogue  # noqa: E402  (of the model, whose path world adds)
+from journals import print_of  # noqa: E402
 
 CUTS = 12
 OTHER, ROWS = "rail_host: journal fault 4\n", "rail_host: export fault 2\n"
 LOCKED = "rail_host: journal locked\n"
-
-
-def print_of(model) -> bytes:
-    """The sum of what places mean: each run's train and stations, each place's run, coach, number and class."""
-    lines = ["rail-print 1"] + ["run %d %s" % (run.train, " ".join(stop.station for stop in run.stops)) for run in model.runs]
-    lines += [" %d %d %d %s" % (place.run, place.coach, place.label, "F" if place.travel_class is TravelClass.FIRST else "S")
-              for place in model.places]
-    return text.digest("".join(line + "\n" for line in lines).encode("ascii"))
 
 
 def later_times(own: dict):

@@ -100,7 +100,10 @@ class Story:
         wanted = model.answer(wire.read_requests(data)[0][0], int(time.time()))
         self.compared += 1
         if came != wanted:
-            self.ledger.fault("the next host's answer differs\nhost  %r\nmodel %r" % (came[:3000], wanted[:3000]))
+            self.differ(came, wanted)
+
+    def differ(self, came: bytes, wanted: bytes):
+        self.ledger.fault("the next host's answer differs\nhost  %r\nmodel %r" % (came[:3000], wanted[:3000]))
 
     def begin(self):
         """A host that listens, or None where it didn't begin, which is a fault."""

@@ -5,29 +5,29 @@ import json
 import os
 import pathlib
 import signal
+import socket
 import subprocess
 import sys
 import time
 
 HERE = pathlib.Path(__file__).resolve().parent
-sys.path[:0] = [str(HERE.parent / "model"), str(HERE.parent / "clients")]
+sys.path[:0] = [str(HERE.parent / "model"), str(HERE.parent / "clients"), str(HERE.parent)]
 from at_once import Reader, request  # noqa: E402
-from live import connect, free_port  # noqa: E402
+from ports import free_port  # noqa: E402
 
 LETTERS = {"PREBOOKED": "P", "CONFIRMED": "C", "FULFILLED": "F", "RELEASED": "r", "EXPIRED": "e", "REFUNDED": "f", "EXCHANGED": "x"}
 KEYS = [b"north", b"south", b"west"]
 STATIONS = ["AARAU", "BASEL", "CHUR", "DAVOS"]
 JOURNAL = "sold.journal"
 LIMIT_SECONDS = 60
+DAY = (datetime.date.today() + datetime.timedelta(days=2)).isoformat()
 
 
 def catalogue(rows: int, runs: int = 6, places: int = 80, confirm_seconds: int = 900) -> dict:
     """Trains of the day after tomorrow, each over all stations with two coaches."""
-    day = (datetime.date.today() + datetime.timedelta(days=2)).isoformat()
-
     def run(number):
-        stops = [{"station": code, "arrive": "%sT%02d:%02d:00Z" % (day, 6 + number, 10 * stop),
-                  "depart": "%sT%02d:%02d:00Z" % (day, 6 + number, 10 * stop + 5)} for stop, code in enumerate(STATIONS)]
+        stops = [{"station": code, "arrive": "%sT%02d:%02d:00Z" % (DAY, 6 + number, 10 * stop),
+                  "depart": "%sT%02d:%02d:00Z" % (DAY, 6 + number, 10 * stop + 5)} for stop, code in enumerate(STATIONS)]
         coaches = [{"coach": coach, "class": kind, "places": [{"first": 1, "last": places}]} for coach, kind in ((1, "FIRST"), (2, "SECOND"))]
         return {"train": 100 + number, "stops": stops, "coaches": coaches,
                 "fares": {"first": {"base": 1000, "perLeg": 600}, "second": {"base": 500, "perLeg": 300}}}
@@ -124,6 +124,11 @@ class Host:
         return self.process.returncode, note.decode("latin-1")
 
 
+def connect(port: int) -> socket.socket:
+    """A connection to a host that listens."""
+    return socket.create_connection(("127.0.0.1", port), timeout=LIMIT_SECONDS)
+
+
 def recover(program: str, folder: str, name: str = JOURNAL) -> tuple:
     """Status, output and note of `recover`."""
     done = subprocess.run([program, "recover", "k.json", name], cwd=folder, stdin=subprocess.DEVNULL, capture_output=True, timeout=LIMIT_SECONDS)
@@ -148,5 +153,5 @@ def catalogue_bytes(own: dict) -> bytes:
     return json.dumps(own, separators=(",", ":")).encode("ascii")
 
 
-__all__ = ["HERE", "Host", "JOURNAL", "KEYS", "LETTERS", "LIMIT_SECONDS", "Lines", "Reader", "STATIONS", "catalogue", "catalogue_bytes", "connect",
-           "free_port", "name_of", "read", "recover", "request", "row_of", "seconds", "write"]
+__all__ = ["DAY", "HERE", "Host", "JOURNAL", "KEYS", "LETTERS", "LIMIT_SECONDS", "Lines", "Reader", "STATIONS", "catalogue", "catalogue_bytes",
+           "connect", "name_of", "read", "recover", "request", "row_of", "seconds", "write"]

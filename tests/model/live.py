@@ -11,6 +11,7 @@ import argparse
 import collections
 import copy
 import os
+import pathlib
 import random
 import socket
 import subprocess
@@ -19,13 +20,15 @@ import tempfile
 import time
 
 import random_requests
-import service
 import wire
 from bookings import Books
 from catalogue import Catalogue, read_catalogue
 from export import read_export, write_export
 from random_catalogues import catalogue_bytes, random_catalogue
 from random_requests import ACTIONS, Stream
+
+sys.path.append(str(pathlib.Path(__file__).resolve().parents[1]))
+from ports import free_port  # noqa: E402
 
 # No booking comes to its limit while a run lasts, so that the sweeps of the host change nothing.
 LEAST_CONFIRM_SECONDS = 900
@@ -154,18 +157,6 @@ def sell(rng: random.Random, catalogue: Catalogue, port: int, connections: int, 
         stream.connection.close(stream.closed)
         statuses += stream.statuses
     return statuses, stream
-
-
-def free_port() -> int:
-    """A port that is free, and below those that the system gives to connections: one that waits for the host could else meet itself."""
-    for port in random.sample(range(20_000, 32_000), 1_000):
-        with socket.socket() as probe:
-            try:
-                probe.bind(("127.0.0.1", port))
-                return port
-            except OSError:
-                continue
-    raise OSError("no port is free")
 
 
 def run_host(program: str, rng: random.Random, folder: str, catalogue: Catalogue, before: Stream) -> tuple:

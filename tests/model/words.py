@@ -9,6 +9,7 @@ import service
 import tiny
 from catalogue import LARGEST_CATALOGUE, Catalogue, CatalogueFault, read_catalogue
 from export import LARGEST_EXPORT, ExportFault, read_export, settlement, write_export
+from journals import LARGEST_JOURNAL, recovered, text
 from wire import FAULTS, Rest
 
 PLAIN_NUMBER = re.compile("0|[1-9][0-9]*")
@@ -48,6 +49,8 @@ def run(words: list, files: dict, data: bytes, failing: Device = None) -> Outcom
         return ended(b"", 2, "words refused")
     except (CatalogueFault, ExportFault, NotThere) as fault:
         return ended(b"", 1, fault.note())
+    except text.JournalFault as fault:
+        return ended(b"", 1, str(fault))
 
 
 def ended(output: bytes, status: int, note: str) -> Outcome:
@@ -63,6 +66,8 @@ def run_texts(words: list, files: dict, data: bytes, failing: Device) -> Outcome
         return run_export(words[1:], files, data, failing)
     if words[:1] == ["settle"]:
         return run_settle(words[1:], files, failing)
+    if words[:1] == ["recover"]:
+        return run_recover(words[1:], files, failing)
     if words[:1] == ["drill"]:
         return run_drill(words[1:])
     if words[:1] == ["serve"]:
@@ -113,6 +118,14 @@ def run_settle(words: list, files: dict, failing: Device) -> Outcome:
     return ended(b"", 4, "write fault") if failing is Device.SINK else ended(table, 0, "")
 
 
+def run_recover(words: list, files: dict, failing: Device) -> Outcome:
+    """Two words, read as they stand. The input is not read."""
+    if len(words) != 2:
+        raise WordsRefused()
+    output = fetch_journal(words[1], files, fetch_catalogue(words[0], files))
+    return ended(b"", 4, "write fault") if failing is Device.SINK else ended(output, 0, "")
+
+
 def run_drill(words: list) -> Outcome:
     _, options = read_simple_command(words, ["--seed", "--workers", "--size", "--places"], 0)
     seed = option_number(options, "--seed", 0, 65_535)
@@ -123,14 +136,19 @@ def run_drill(words: list) -> Outcome:
 
 
 def run_serve(words: list, files: dict) -> Outcome:
-    """Only what is answered before a listener is asked for: refused words, and a catalogue or an export that is refused."""
-    names, options = read_simple_command(words, ["--port", "--workers", "--connections", "--sweep", "--from"], 1, ["--export"])
+    """Only what is answered before a listener is asked for: refused words, and a catalogue, a journal or an export that is refused."""
+    known = ["--port", "--workers", "--connections", "--sweep", "--from", "--journal"]
+    names, options = read_simple_command(words, known, 1, ["--export"])
     option_number(options, "--port", 1, 65_535)
     option_number(options, "--workers", 1, 16, 4)
     option_number(options, "--connections", 1, 4_294_967_295, 4_294_967_295)
     option_number(options, "--sweep", 1, 86_400, 30)
     catalogue = fetch_catalogue(names[0], files)
-    if "--from" in options:
+    if options.get("--journal") in files:
+        if "--from" in options:
+            return ended(b"", 1, "journal exists")
+        fetch_journal(options["--journal"], files, catalogue)
+    elif "--from" in options:
         fetch_export(options["--from"], files, catalogue)
     raise NotImplementedError("a listener is no part of this model")
 
@@ -197,6 +215,10 @@ def fetch_catalogue(name: str, files: dict) -> Catalogue:
 
 def fetch_export(name: str, files: dict, catalogue: Catalogue) -> list:
     return read_export(catalogue, fetch(name, files, "export", LARGEST_EXPORT))
+
+
+def fetch_journal(name: str, files: dict, catalogue: Catalogue) -> bytes:
+    return recovered(catalogue, fetch(name, files, "journal", LARGEST_JOURNAL))
 
 
 def connection_ended(output: bytes, rest: Rest, failing: Device) -> Outcome:

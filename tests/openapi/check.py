@@ -27,6 +27,7 @@ from inputs import BROKEN, CASES
 
 TESTS = pathlib.Path(__file__).resolve().parent.parent
 sys.path.append(str(TESTS))
+from ports import free_port
 from stages import cases, files_of, input_of
 
 ROOT = TESTS.parent
@@ -365,8 +366,7 @@ def walk(document, port, day):
 def hold_serve(document, program):
     """Holds the answers of a short run of `serve` against the document."""
     day = (datetime.date.today() + datetime.timedelta(days=2)).isoformat()
-    with socket.create_server(("127.0.0.1", 0)) as free:
-        port = free.getsockname()[1]
+    port = free_port()
     with tempfile.TemporaryDirectory() as name:
         catalogue = pathlib.Path(name) / "k1.json"
         catalogue.write_text((ROOT / "examples" / "k1.json").read_text().replace("2026-06-01", day))

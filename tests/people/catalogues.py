@@ -21,6 +21,9 @@ import tempfile
 import jsonschema
 
 ROOT = pathlib.Path(__file__).resolve().parents[2]
+sys.path.append(str(ROOT / "tests"))
+from ports import free_port  # noqa: E402
+
 CHECKER = ROOT / "examples" / "check_catalogue.py"
 NOW = "2026-05-01T00:00:00Z"
 SEEDS = 600
@@ -179,8 +182,8 @@ def faults_of_notes(program, folder, text):
         done = run(sys.executable, CHECKER, file, "--explain", note, *words)
         return done.returncode, done.stdout
 
-    with socket.create_server(("127.0.0.1", 0)) as taken:
-        port = taken.getsockname()[1]
+    port = free_port()
+    with socket.create_server(("127.0.0.1", port)):
         host = run(program, "serve", path, "--port", port)
         if (host.returncode, host.stderr) != (3, "rail_host: read fault\n"):
             yield "serve at a taken port says %r" % host.stderr

@@ -12,7 +12,6 @@ import concurrent.futures
 import datetime
 import json
 import pathlib
-import socket
 import subprocess
 import sys
 import tempfile
@@ -20,6 +19,9 @@ import tempfile
 from bridge import FAULTS, Bridge
 
 ROOT = pathlib.Path(__file__).resolve().parents[2]
+sys.path.append(str(ROOT / "tests"))
+from ports import free_port  # noqa: E402
+
 START = "2026-06-01T06:00:00Z"
 # Of a life without faults: bookings, confirmations, collection, refund, exchange and release.
 CHANGES = (2, 3, 4, 6, 8, 9, 12, 15, 16)
@@ -255,9 +257,7 @@ def over_tls(program, catalogue, folder):
 
 
 def nothing_listens():
-    with socket.create_server(("127.0.0.1", 0)) as free:
-        port = free.getsockname()[1]
-    done = client(port)
+    done = client(free_port())
     if done.returncode != 1 or "client: given up after 6 tries: no connection" not in done.stderr:
         yield "status %d: %s" % (done.returncode, done.stderr.strip())
 

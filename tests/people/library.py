@@ -17,6 +17,9 @@ import sys
 import time
 
 ROOT = pathlib.Path(__file__).resolve().parents[2]
+sys.path.append(str(ROOT / "tests"))
+from ports import free_port  # noqa: E402
+
 KEY = {"Retailer-Key": "north"}
 LOOK = "/bookings/B000777"
 
@@ -127,15 +130,14 @@ def other_address(port):
 
 
 def ended(port, first, after):
-    """What comes, and after how many seconds the host ends a connection that sends this and no more."""
+    """What comes, and whether the host ends a connection that sends this and no more after so many seconds. They are counted from before the
+    host's, and on a busy machine more of them may pass."""
+    begin = time.monotonic()
     with socket.create_connection(("127.0.0.1", port), timeout=60) as stream:
         stream.sendall(first)
-        begin, said = time.monotonic(), b""
-        while piece := stream.recv(65536):
-            said += piece
-            begin = time.monotonic()
-        seconds = time.monotonic() - begin
-    return (said[9:12], after <= seconds <= after + 3 or round(seconds, 1)), (b"404" if b"\r\n\r\n" in first else b"", True)
+        said = b"".join(iter(lambda: stream.recv(65536), b""))
+    seconds = time.monotonic() - begin
+    return (said[9:12], after <= seconds <= after + 20 or round(seconds, 1)), (b"404" if b"\r\n\r\n" in first else b"", True)
 
 
 def idle(port):
@@ -157,7 +159,7 @@ def handshake(port):
             ssl.create_default_context().wrap_socket(stream, server_hostname="localhost")
         return "a handshake", "none"
     except OSError:
-        return ("none" if time.monotonic() - begin < 33 else "none, after %.0f seconds" % (time.monotonic() - begin)), "none"
+        return ("none" if time.monotonic() - begin < 50 else "none, after %.0f seconds" % (time.monotonic() - begin)), "none"
 
 
 QUICK = [chunked, little_too_long, much_too_long, head, expect, query, old_version, escapes, shared_pool, other_address]
@@ -183,8 +185,7 @@ def main():
     if sys.argv[1] == "--port":
         found = try_all(int(sys.argv[2]))
     else:
-        with socket.create_server(("127.0.0.1", 0)) as free:
-            port = free.getsockname()[1]
+        port = free_port()
         words = [sys.argv[1], "serve", str(ROOT / "examples" / "k1.json"), "--port", str(port), "--workers", "8"]
         host = subprocess.Popen(words, stdin=subprocess.DEVNULL)
         try:

@@ -17,7 +17,6 @@ import re
 import shlex
 import shutil
 import signal
-import socket
 import subprocess
 import sys
 import tempfile
@@ -25,6 +24,9 @@ import tempfile
 from bridge import Bridge
 
 ROOT = pathlib.Path(__file__).resolve().parents[2]
+sys.path.append(str(ROOT / "tests"))
+from ports import free_port  # noqa: E402
+
 BUILT = "crates/rail_host/out/rail_host"
 TODAY, TOMORROW = "2026-06-09", "2026-06-10"
 CLOCKS = ["00:30:00", "12:00:00", "23:30:00"]
@@ -108,11 +110,6 @@ def commands_of(page):
     return "\n".join(re.findall(r"^```sh\n(.*?)^```$", text, re.MULTILINE | re.DOTALL))
 
 
-def free_port():
-    with socket.create_server(("127.0.0.1", 0)) as free:
-        return free.getsockname()[1]
-
-
 def executable(path, text):
     path.write_text(text)
     path.chmod(0o755)
@@ -127,21 +124,22 @@ def with_trial(commands):
     return commands.replace(proved, trial)
 
 
+def with_ports(text, ports):
+    return re.sub("|".join(ports), lambda found: ports[found.group(0)], text)
+
+
 def run_page(page, program, folder, path=None, change=lambda commands: commands):
     """The output of the page's commands, and their status."""
     folder = pathlib.Path(folder)
     ports = {port: str(free_port()) for port in ["8080", "8081", "8443"]}
-    text = change(commands_of(page)).replace("/tmp/", str(folder) + "/").replace(BUILT, shlex.quote(str(program)))
+    text = with_ports(change(commands_of(page)), ports).replace("/tmp/", str(folder) + "/").replace(BUILT, shlex.quote(str(program)))
     # The examples with the same other ports, beside what else a page's commands look at.
     tree = folder / "tree"
     shutil.copytree(ROOT / "examples", tree / "examples")
     for name in ("bench", "crates", "tools"):
         (tree / name).symlink_to(ROOT / name)
     proxy = tree / "examples" / "nginx.conf"
-    settings = proxy.read_text()
-    for port, other in ports.items():
-        text, settings = text.replace(port, other), settings.replace(port, other)
-    proxy.write_text(settings)
+    proxy.write_text(with_ports(proxy.read_text(), ports))
     # The workers of an nginx that root has started are another user's, and have to reach the page.
     folder.chmod(0o755)
     env = dict(os.environ, PATH="%s:%s" % (path, os.environ["PATH"]) if path else os.environ["PATH"])

@@ -13,7 +13,6 @@ import json
 import pathlib
 import re
 import shutil
-import socket
 import ssl
 import subprocess
 import sys
@@ -21,15 +20,13 @@ import tempfile
 import time
 
 ROOT = pathlib.Path(__file__).resolve().parents[2]
-WORKERS = 4
+sys.path.append(str(ROOT / "tests"))
+from ports import free_port  # noqa: E402
+
+WORKERS, TRIES = 4, 3  # of which one has to be right: on a busy machine an answer may come late
 # A key, the pool that the log has to name, and the answer to a look at a booking that isn't there.
 KEYS = [("north", "retailer_1", 404), ("south", "retailer_2", 404), ("west", "retailer_3", 404), ("NORTH", "unkept", 401), ("north ", "retailer_1", 404), ("northern", "unkept", 401), ("", "unkept", 401)]
 LINE = re.compile(r'(\S+) 127\.0\.0\.1 "(GET|POST|HEAD) (\S+) HTTP/1\.1" (\d+) (\d+) pool=(\S+) request=[\d.]+ connect=([\d.]+|-) answer=([\d.]+|-)')
-
-
-def free_port():
-    with socket.create_server(("127.0.0.1", 0)) as free:
-        return free.getsockname()[1]
 
 
 def established(port):
@@ -105,6 +102,19 @@ class Proxy:
         self.host.wait()
 
 
+def beside_kept_ones(proxy):
+    """How many connections are kept open while idle, and the status and the seconds of an answer of the host itself: while they are kept a
+    worker is free, so that it answers at once."""
+    for key in ("north", "south", "west"):
+        proxy.ask(key)
+    kept, begin = established(proxy.host_port), time.monotonic()
+    connection = http.client.HTTPConnection("127.0.0.1", proxy.host_port, timeout=30)
+    connection.request("POST", "/sweeps", body=b"", headers={"Retailer-Key": "north"})
+    status = connection.getresponse().status
+    connection.close()
+    return kept, status, round(time.monotonic() - begin, 1)
+
+
 def faults_of(proxy):
     for key, _, wanted in KEYS:
         status, _ = proxy.ask(key)
@@ -115,21 +125,11 @@ def faults_of(proxy):
         statuses = {status for status, _ in crew.map(lambda turn: proxy.ask(["north", "south", "west"][turn % 3]), range(240))}
     if statuses != {404}:
         yield "240 requests of three keys are answered %s" % sorted(statuses)
-    for key in ("north", "south", "west"):
-        proxy.ask(key)
-    kept = established(proxy.host_port)
-    if not 0 < kept < WORKERS:
-        yield "%d connections are kept open while idle, with %d workers" % (kept, WORKERS)
-    # While they are kept a worker is free: the host itself answers at once.
-    begin = time.monotonic()
-    connection = http.client.HTTPConnection("127.0.0.1", proxy.host_port, timeout=30)
-    connection.request("POST", "/sweeps", body=b"", headers={"Retailer-Key": "north"})
-    status = connection.getresponse().status
-    connection.close()
-    if status != 200 or time.monotonic() - begin > 3:
-        yield "beside the kept connections the host answers %d after %.1f seconds" % (status, time.monotonic() - begin)
-    if not until(lambda: established(proxy.host_port) == 0, 15):
-        yield "%d connections are kept open after 15 idle seconds" % established(proxy.host_port)
+    tries = [beside_kept_ones(proxy) for _ in range(TRIES)]
+    if not any(0 < kept < WORKERS and status == 200 and seconds < 3 for kept, status, seconds in tries):
+        yield "connections kept open while idle, with %d workers, and how and when the host answers beside them: %s" % (WORKERS, tries)
+    if not until(lambda: established(proxy.host_port) == 0, 30):
+        yield "%d connections are kept open after 30 idle seconds" % established(proxy.host_port)
     status, page = proxy.ask("", path="/counter.html")
     if status != 200 or page != (ROOT / "examples" / "counter.html").read_bytes():
         yield "the page is answered %d" % status
@@ -155,15 +155,15 @@ def faults_of_closing(proxy):
     open_line, closed_line = "127.0.0.1:%d;" % proxy.host_port, "127.0.0.1:%d down;" % proxy.host_port
     proxy.ask("north")
     proxy.reload(lambda text: text.replace(open_line, closed_line))
-    if not until(lambda: proxy.ask("north")[0] == 502 and proxy.crew() == 1, 20):
+    if not until(lambda: proxy.ask("north")[0] == 502 and proxy.crew() == 1):
         yield "a closed proxy answers %d, with %d worker processes" % (proxy.ask("north")[0], proxy.crew())
     statuses = {proxy.ask(key)[0] for key, _, _ in KEYS for _ in range(5)}
     if statuses != {502}:
         yield "a closed proxy answers %s" % sorted(statuses)
-    if not until(lambda: established(proxy.host_port) == 0, 15):
+    if not until(lambda: established(proxy.host_port) == 0, 30):
         yield "a closed proxy keeps %d connections to the host" % established(proxy.host_port)
     proxy.reload(lambda text: text.replace(closed_line, open_line))
-    if not until(lambda: proxy.ask("north")[0] == 404, 20):
+    if not until(lambda: proxy.ask("north")[0] == 404):
         yield "a proxy that was opened again answers %d" % proxy.ask("north")[0]
 
 

@@ -13,7 +13,9 @@ import time
 sys.dont_write_bytecode = True
 ROOT = pathlib.Path(__file__).resolve().parents[2]
 TOOLS = ROOT / "tools"
-sys.path[:0] = [str(TOOLS), str(ROOT / "tests" / "model")]
+sys.path[:0] = [str(TOOLS), str(ROOT / "tests" / "model"), str(ROOT / "tests")]
+from ports import free_port  # noqa: E402
+
 LIMIT = 120
 
 
@@ -42,8 +44,7 @@ def host(program, *words, data=b""):
 
 def served(program, catalogue, export, data):
     """The answers of `serve --from` to one connection, and the export that it gives at its end."""
-    with socket.create_server(("127.0.0.1", 0)) as free:
-        port = free.getsockname()[1]
+    port = free_port()
     words = ["serve", catalogue, "--port", port, "--workers", 1, "--connections", 1, "--sweep", 1, "--from", export,
              "--export"]
     process = subprocess.Popen([str(program)] + [str(word) for word in words], stderr=subprocess.PIPE)

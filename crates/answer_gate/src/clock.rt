@@ -3,6 +3,7 @@ ghost use Rattle.std.specs.Prelude.{◌≡◌};
 ghost use Rattle.rail_io.specs.declared.clock.Reach.TheVariants.{Apart};
 
 use crate::gate::Gate;
+use crate::state::Inside;
 use rail_io::{Clock, Reach};
 use rail_time::Moment;
 use std::sync::Wait;
@@ -16,6 +17,8 @@ pub struct GatedClock<'g, R, C> {
     rt: &'g R,
     /// What the command that is under way has to do with bookings.
     reach: Reach,
+    /// Is had while one is under way that may change some.
+    inside: Option<Inside>,
 }
 
 impl<'g, R, C: Clock> GatedClock<'g, R, C> {
@@ -30,6 +33,7 @@ impl<'g, R, C: Clock> GatedClock<'g, R, C> {
             gate,
             rt,
             reach: Reach::Apart,
+            inside: None,
         }
     }
 
@@ -43,7 +47,16 @@ impl<'g, R, C: Clock> GatedClock<'g, R, C> {
 }
 
 impl<R: Wait, C: Clock> Clock for GatedClock<'_, R, C> {
+    ghost use Rattle.std.specs.Prelude.{◌<◌, IfSome, IsSome};
+    ghost use Rattle.rail_io.specs.declared.clock.Reach.TheVariants.{Changes};
+
     ghost told = { λ c. C.told c.clock };
+
+    // Where there is a gate, it was entered and not left.
+    ghost inside = { λ c. IfSome c.gate (λ _. IsSome c.inside) };
+
+    // Whoever leaves the gate waits for a cut.
+    ghost ends = { λ c cut _. IfSome c.gate (λ _. IsSome c.inside → 0 < cut) };
 
     fn now(&mut self) -> Moment {
         self.clock.now()
@@ -52,10 +65,12 @@ impl<R: Wait, C: Clock> Clock for GatedClock<'_, R, C> {
     fn begin(&mut self, reach: Reach)
         ensures same { C.told self.new.clock ≡ C.told self.old.clock }
         ensures reach { self.new.reach ≡ reach }
+        ensures gate { self.new.gate ≡ self.old.gate }
+        ensures inside { reach ≡ Changes → IfSome self.new.gate (λ _. IsSome self.new.inside) }
     {
         self.reach = reach;
         match self.gate {
-            Some(gate) if reach == Reach::Changes => gate.enter(self.rt),
+            Some(gate) if reach == Reach::Changes => self.inside = Some(gate.enter(self.rt)),
             Some(_) => {}
             None => self.clock.begin(reach),
         }
@@ -64,16 +79,21 @@ impl<R: Wait, C: Clock> Clock for GatedClock<'_, R, C> {
     fn end(&mut self) -> u64
         ensures same { C.told self.new.clock ≡ C.told self.old.clock }
         ensures idle { self.new.reach ≡ Apart }
+        ensures gate { self.new.gate ≡ self.old.gate }
+        ensures ends { IfSome self.old.gate (λ _. IsSome self.old.inside → 0 < result) }
     {
         let reach = self.reach;
         self.reach = Reach::Apart;
         let Some(gate) = self.gate else {
             return self.clock.end();
         };
-        match reach {
-            Reach::Apart => 0,
-            Reach::Tells => gate.tell(self.rt),
-            Reach::Changes => gate.leave(self.rt),
+        if let Some(inside) = self.inside.take() {
+            return gate.leave(self.rt, inside);
+        }
+        if reach == Reach::Tells {
+            gate.tell(self.rt)
+        } else {
+            0
         }
     }
 }

@@ -1,43 +1,44 @@
 // The gate.
-use crate::state::State;
+ghost use Rattle.std.specs.Prelude.{◌≡◌, ◌<◌};
+
+use crate::state::{Closed, Inside, State, Taken};
 use std::sync::{Condvar, Mutex, Wait};
 
-/// The gate that commands go through which change bookings, with the count of a journal's cuts.
+/// The gate that commands go through which change bookings.
 #[derive(Drop)]
 pub struct Gate {
     state: Mutex<State>,
     /// Whoever waits to enter.
     entering: Condvar,
-    /// The committer, which waits until something has changed, or until nobody is inside.
+    /// The committer, which waits until somebody waits for a cut, or until nobody is inside.
     committer: Condvar,
-    /// Whoever waits until a cut is kept.
-    waiting: Condvar,
 }
 
 impl Gate {
     /// An open gate, with nobody inside and no cut taken.
-    pub fn new() -> Gate {
+    pub(crate) fn new() -> Gate {
         Gate {
             state: Mutex::new(State::new()),
             entering: Condvar::new(),
             committer: Condvar::new(),
-            waiting: Condvar::new(),
         }
     }
 
     /// Enters. It waits while the gate is closed.
-    pub fn enter<R: Wait>(&self, rt: &R) {
+    pub fn enter<R: Wait>(&self, rt: &R) -> Inside {
         let mut state = self
             .entering
             .wait_while(rt, self.state.lock(rt), |state| !state.is_open());
-        state.enter();
+        state.enter()
     }
 
     /// Leaves, and is told the cut of its answer: the next to be taken. Something may have changed.
-    pub fn leave<R: Wait>(&self, rt: &R) -> u64 {
+    pub fn leave<R: Wait>(&self, rt: &R, inside: Inside) -> u64
+        ensures { 0 < result }
+    {
         let mut state = self.state.lock(rt);
         let wakes = state.holds_committer();
-        let cut = state.leave();
+        let cut = state.leave(inside);
         drop(state);
         if wakes {
             self.committer.notify_one();
@@ -50,60 +51,7 @@ impl Gate {
         self.state.lock(rt).tell()
     }
 
-    /// Waits until the cut of this number is kept. False, where it never will be: the journal is lost, or over.
-    pub fn wait_kept<R: Wait>(&self, rt: &R, cut: u64) -> bool {
-        let state = self
-            .waiting
-            .wait_while(rt, self.state.lock(rt), |state| state.is_awaited(cut));
-        state.has_kept(cut)
-    }
-
-    /// Whether the journal is lost.
-    pub fn is_lost<R: Wait>(&self, rt: &R) -> bool {
-        self.state.lock(rt).is_lost()
-    }
-
-    /// Waits until something may have changed, closes the gate, and waits until nobody is inside. It says the number of
-    /// the cut that is now to be taken, and the gate stays closed until `taken`. None where there will be no more cuts:
-    /// all servers have parted and nothing is left to be kept, or the journal is lost.
-    pub fn next_cut<R: Wait>(&self, rt: &R) -> Option<u64> {
-        let mut state = self
-            .committer
-            .wait_while(rt, self.state.lock(rt), |state| state.is_quiet());
-        if !state.has_work() {
-            state.finish();
-            drop(state);
-            self.waiting.notify_all();
-            return None;
-        }
-        state.close();
-        let mut state = self
-            .committer
-            .wait_while(rt, state, |state| state.is_closing());
-        state.look()
-    }
-
-    /// The rows were looked at: opens the gate.
-    pub fn taken<R: Wait>(&self, rt: &R) {
-        self.state.lock(rt).open();
-        self.entering.notify_all();
-    }
-
-    /// The cut of this number is kept, and all before it: wakes those that wait for it.
-    pub fn keep<R: Wait>(&self, rt: &R, cut: u64) {
-        self.state.lock(rt).keep(cut);
-        self.waiting.notify_all();
-    }
-
-    /// The journal is lost: opens the gate and wakes all. No further cut is ever kept.
-    pub fn lose<R: Wait>(&self, rt: &R) {
-        self.state.lock(rt).lose();
-        self.entering.notify_all();
-        self.committer.notify_one();
-        self.waiting.notify_all();
-    }
-
-    /// So many members will serve. It is called once, before they do and before the first `next_cut`.
+    /// So many members will serve. It is called once, before they do and before the first cut.
     pub fn expect<R: Wait>(&self, rt: &R, servers: u32) {
         self.state.lock(rt).expect(servers);
     }
@@ -117,5 +65,55 @@ impl Gate {
         if wakes {
             self.committer.notify_one();
         }
+    }
+
+    /// Somebody waits for the cut of this number: wakes the committer for it.
+    pub(crate) fn want<R: Wait>(&self, rt: &R, cut: u64) {
+        if self.state.lock(rt).want(cut) {
+            self.committer.notify_one();
+        }
+    }
+
+    /// Waits until somebody waits for a cut, closes the gate, and waits until nobody is inside. None where there will
+    /// be no more cuts.
+    pub(crate) fn close<R: Wait>(&self, rt: &R) -> Option<Closed> {
+        let mut state = self
+            .committer
+            .wait_while(rt, self.state.lock(rt), |state| state.is_quiet());
+        if !state.has_work() {
+            state.finish();
+            return None;
+        }
+        state.close();
+        let mut state = self
+            .committer
+            .wait_while(rt, state, |state| state.is_closing());
+        state.look()
+    }
+
+    /// Opens the gate.
+    pub(crate) fn open<R: Wait>(&self, rt: &R, closed: Closed) -> Taken
+        ensures { result.number ≡ closed.number }
+    {
+        let taken = self.state.lock(rt).open(closed);
+        self.entering.notify_all();
+        taken
+    }
+
+    /// The cut of this number is kept, and all before it.
+    pub(crate) fn keep<R: Wait>(&self, rt: &R, cut: u64) {
+        self.state.lock(rt).keep(cut);
+    }
+
+    /// The journal is lost: opens the gate.
+    pub(crate) fn lose<R: Wait>(&self, rt: &R) {
+        self.state.lock(rt).lose();
+        self.entering.notify_all();
+        self.committer.notify_one();
+    }
+
+    /// Whether the journal is lost.
+    pub(crate) fn is_lost<R: Wait>(&self, rt: &R) -> bool {
+        self.state.lock(rt).is_lost()
     }
 }

@@ -7,7 +7,8 @@
 //! shows all that its answer tells. The answer may go out once that cut is kept.
 //!
 //! One member, the committer, takes the cuts and has them kept: `next_cut`, `taken`, `keep`, or `lose` where the
-//! journal fails. It sleeps while nothing changes. Nobody has the lock while rows are looked at or a device works.
+//! journal fails. It sleeps while nobody waits for a cut, so that one cut serves all answers that one read gave. Nobody
+//! has the lock while rows are looked at or a device works.
 //!
 //! That nobody is inside while the rows are looked at is a fact of the value under the lock, which each call keeps, as
 //! it is that no cut is kept that wasn't taken. What a call did to that value, no clause of a `Gate` can say: that is
@@ -16,14 +17,20 @@
 
 mod clock;
 mod crossing;
+mod cuts;
 mod gate;
 mod keeper;
+mod receipt;
 mod state;
+mod tally;
 #[cfg(test)]
 mod tests;
 
 pub use clock::GatedClock;
 pub use crossing::crosses;
+pub use cuts::Cuts;
 pub use gate::Gate;
 pub use keeper::GateKeeper;
-pub use state::{Course, Phase, Standing, State};
+pub use receipt::Receipt;
+pub use state::{Closed, Course, Inside, Phase, Standing, State, Taken};
+pub use tally::Tally;

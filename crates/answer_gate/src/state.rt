@@ -2,9 +2,10 @@
 ghost use Rattle.std.specs.Prelude.{◌≡◌, ◌≢◌, ◌≤◌, ◌<◌, ◌+◌, ◌-◌, ◌^◌, ◌↔◌, ◌⊎◌, IfSome, IfNone, true, false};
 ghost use Rattle.answer_gate.specs.declared.state.Phase.TheVariants.{Open, Closing, Looking};
 ghost use Rattle.answer_gate.specs.declared.state.Course.TheVariants.{Going, Over, Lost};
-ghost use Rattle.answer_gate.specs.Standings.{entered, left, shown_by, closed, looked_at, opened, kept_by, over, lost};
+ghost use Rattle.answer_gate.specs.Standings.{fresh, entered, left, shown_by, wanted_by, closed, opened, kept_by, over};
+ghost use Rattle.answer_gate.specs.Standings.{lost, IsLastIn, IsAsleep, HasRoom, IsLeft, Wakes, Looked, NotLooked};
 
-/// Who may be inside a gate.
+/// What a gate does with those who come.
 #[derive(Clone, Copy, PartialEq, Eq)]
 pub enum Phase {
     /// Whoever comes is let in.
@@ -39,8 +40,39 @@ pub struct Standing {
     pub taken: u64,
     /// The last cut that is kept. All before it are.
     pub kept: u64,
+    /// The last cut that anyone has waited for.
+    pub wanted: u64,
     /// How many of the members that serve haven't parted.
     pub servers: u32,
+}
+
+/// One who is inside a gate. Whoever has one has entered and not left.
+#[derive(Drop)]
+pub struct Inside;
+
+/// A closed gate with nobody inside, for the cut of this number. Until it is handed back nothing changes: the rows may
+/// be looked at.
+pub struct Closed {
+    number: u64,
+}
+
+/// A cut that was taken and isn't kept yet. The gate is open again.
+pub struct Taken {
+    number: u64,
+}
+
+impl Taken {
+    /// The number of the cut.
+    pub fn number(&self) -> u64
+        ensures { result ≡ self.now.number }
+    {
+        self.number
+    }
+
+    /// It is kept, or never will be.
+    pub fn settle(self) {
+        let Taken { number: _ } = self;
+    }
 }
 
 /// The last number of a cut: each answer's is at most one more.
@@ -59,7 +91,7 @@ pub struct State {
 impl State {
     /// Open, with nobody inside and nothing changed.
     pub fn new() -> State
-        ensures { result.standing ≡ record { phase = Open; course = Going; inside = 0; changed = false; taken = 0; kept = 0; servers = 0 } }
+        ensures { result.standing ≡ fresh }
     {
         State {
             standing: Standing {
@@ -69,6 +101,7 @@ impl State {
                 changed: false,
                 taken: 0,
                 kept: 0,
+                wanted: 0,
                 servers: 0,
             },
         }
@@ -83,33 +116,36 @@ impl State {
 
     /// Whether one more may enter. The last test never fails on a machine of this world.
     pub fn is_open(&self) -> bool
-        ensures { (result ≡ true) ↔ ((self.now.standing.phase ≡ Open) × (self.now.standing.inside + 1 < 2 ^ 64)) }
+        ensures { (result ≡ true) ↔ HasRoom self.now.standing }
     {
         self.standing.phase == Phase::Open && self.standing.inside < u64::MAX
     }
 
     /// One enters.
-    pub fn enter(&mut self)
+    pub fn enter(&mut self) -> Inside
         requires open { self.old.standing.phase ≡ Open }
         requires room { self.old.standing.inside + 1 < 2 ^ 64 }
         ensures { self.new.standing ≡ entered self.old.standing }
     {
         self.standing.inside += 1;
+        Inside
     }
 
-    /// Whether the committer may be waiting for the next one to leave: nothing has changed yet, or no other is inside a
-    /// closed gate.
+    /// Whether the committer may be waiting for the next one to leave: no other is inside, and the gate is closed or
+    /// all servers have parted.
     pub fn holds_committer(&self) -> bool
-        ensures { (result ≡ true) ↔ ((self.now.standing.changed ≡ false) ⊎ ((self.now.standing.phase ≡ Closing) × (self.now.standing.inside ≤ 1))) }
+        ensures { (result ≡ true) ↔ IsLastIn self.now.standing }
     {
-        !self.standing.changed || self.standing.phase == Phase::Closing && self.standing.inside <= 1
+        let now = &self.standing;
+        now.inside <= 1 && (now.phase == Phase::Closing || now.servers == 0)
     }
 
     /// One leaves, and is told the cut of its answer: the next to be taken.
-    pub fn leave(&mut self) -> u64
+    pub fn leave(&mut self, inside: Inside) -> u64
         ensures standing { self.new.standing ≡ left self.old.standing }
         ensures cut { result ≡ self.old.standing.taken + 1 }
     {
+        let Inside = inside;
         self.standing.inside = self.standing.inside.saturating_sub(1);
         self.standing.changed = true;
         self.standing.taken + 1
@@ -129,20 +165,33 @@ impl State {
         }
     }
 
-    /// Whether the committer has nothing to do yet: nothing has changed, and something still may.
-    pub fn is_quiet(&self) -> bool
-        ensures { (result ≡ true) ↔ ((self.now.standing.course ≡ Going) × (self.now.standing.changed ≡ false)
-            × ((0 < self.now.standing.inside) ⊎ (0 < self.now.standing.servers))) }
+    /// Somebody waits for the cut of this number, and is told whether the committer is to be woken for it: it is to be
+    /// taken yet, and nobody has waited for it before.
+    pub fn want(&mut self, cut: u64) -> bool
+        ensures standing { self.new.standing ≡ wanted_by cut self.old.standing }
+        ensures wakes { (result ≡ true) ↔ Wakes cut self.old.standing }
     {
-        let now = &self.standing;
-        now.course == Course::Going && !now.changed && (now.inside > 0 || now.servers > 0)
+        let is_next = self.standing.wanted < cut && self.standing.taken < cut;
+        self.standing.wanted = self.standing.wanted.max(cut);
+        is_next
     }
 
-    /// Whether something changed that no cut shows, and there will be a cut.
-    pub fn has_work(&self) -> bool
-        ensures { (result ≡ true) ↔ ((self.now.standing.course ≡ Going) × (self.now.standing.changed ≡ true)) }
+    /// Whether the committer has nothing to do yet: nobody waits for a cut that is to be taken, and somebody still may.
+    pub fn is_quiet(&self) -> bool
+        ensures { (result ≡ true) ↔ IsAsleep self.now.standing }
     {
-        self.standing.course == Course::Going && self.standing.changed
+        let now = &self.standing;
+        now.course == Course::Going
+            && now.wanted <= now.taken
+            && (now.inside > 0 || now.servers > 0)
+    }
+
+    /// Whether something changed that no cut shows, or somebody waits for the next cut, and there will be one.
+    pub fn has_work(&self) -> bool
+        ensures { (result ≡ true) ↔ IsLeft self.now.standing }
+    {
+        let now = &self.standing;
+        now.course == Course::Going && (now.changed || now.taken < now.wanted)
     }
 
     /// There will be no more cuts.
@@ -186,10 +235,10 @@ impl State {
 
     /// Takes a cut, whose number it says. Nobody is inside until the gate opens. None where the gate isn't closed; and
     /// where the numbers are spent, with which the journal is lost.
-    pub fn look(&mut self) -> Option<u64>
+    pub fn look(&mut self) -> Option<Closed>
         requires empty { self.old.standing.phase ≡ Closing → self.old.standing.inside ≡ 0 }
-        ensures some { IfSome result (λ cut. (self.old.standing.phase ≡ Closing) × (cut ≡ self.new.standing.taken) × (self.new.standing ≡ looked_at self.old.standing)) }
-        ensures none { IfNone result ((self.old.standing.phase ≢ Closing × (self.new.standing ≡ self.old.standing)) ⊎ (self.new.standing ≡ lost self.old.standing)) }
+        ensures some { IfSome result (λ c. Looked self.old.standing self.new.standing c.number) }
+        ensures none { IfNone result (NotLooked self.old.standing self.new.standing) }
     {
         if self.standing.phase != Phase::Closing {
             return None;
@@ -201,14 +250,19 @@ impl State {
         self.standing.phase = Phase::Looking;
         self.standing.changed = false;
         self.standing.taken += 1;
-        Some(self.standing.taken)
+        Some(Closed {
+            number: self.standing.taken,
+        })
     }
 
-    /// Opens the gate.
-    pub fn open(&mut self)
-        ensures { self.new.standing ≡ opened self.old.standing }
+    /// Opens the gate: the rows were looked at.
+    pub fn open(&mut self, closed: Closed) -> Taken
+        ensures standing { self.new.standing ≡ opened self.old.standing }
+        ensures number { result.number ≡ closed.number }
     {
+        let Closed { number } = closed;
         self.standing.phase = Phase::Open;
+        Taken { number }
     }
 
     /// The cut of this number is kept, where it was taken.
@@ -218,20 +272,6 @@ impl State {
         if self.standing.kept < cut && cut <= self.standing.taken {
             self.standing.kept = cut;
         }
-    }
-
-    /// Whether the cut of this number isn't kept yet, and may be.
-    pub fn is_awaited(&self, cut: u64) -> bool
-        ensures { (result ≡ true) ↔ ((self.now.standing.course ≡ Going) × (self.now.standing.kept < cut)) }
-    {
-        self.standing.course == Course::Going && self.standing.kept < cut
-    }
-
-    /// Whether the cut of this number is kept.
-    pub fn has_kept(&self, cut: u64) -> bool
-        ensures { (result ≡ true) ↔ (cut ≤ self.now.standing.kept) }
-    {
-        cut <= self.standing.kept
     }
 
     /// Whether the journal is lost.

@@ -1,5 +1,5 @@
 // Threads at a gate.
-use crate::{Gate, GateKeeper, GatedClock};
+use crate::{Cuts, GateKeeper, GatedClock, Receipt, Taken};
 use rail_io::{Clock, Keeper, Reach, ScriptClock};
 use rail_time::Moment;
 use std::process::Abort;
@@ -11,6 +11,16 @@ use std::thread::Threads;
 
 // How many commands each server of a trial carries out.
 const COMMANDS: u64 = 2_000;
+
+// A receipt that shows nothing.
+#[derive(Drop)]
+struct Written;
+
+impl Receipt for Written {
+    ghost use Rattle.std.specs.Prelude.{ℕ};
+
+    ghost kept = { λ _. Unit {0} };
+}
 
 // What a server has made so far, and what the last cut that was written shows of it.
 #[derive(Drop)]
@@ -31,7 +41,7 @@ impl Rows {
 // Three servers and a committer.
 #[derive(Drop)]
 struct Trial {
-    gate: Gate,
+    cuts: Cuts<Written>,
     inside: AtomicU64,
     rows: [Rows; 3],
     wrong: AtomicBool,
@@ -40,7 +50,7 @@ struct Trial {
 impl Trial {
     fn new() -> Trial {
         Trial {
-            gate: Gate::new(),
+            cuts: Cuts::new(),
             inside: AtomicU64::new(0),
             rows: [Rows::new(), Rows::new(), Rows::new()],
             wrong: AtomicBool::new(false),
@@ -60,21 +70,21 @@ impl Trial {
 
 // A command: it makes the row of this number, and gives the cut of its answer.
 fn carry_out<R: Wait>(rt: &R, trial: &Trial, rows: &Rows, number: u64) -> u64 {
-    trial.gate.enter(rt);
+    let inside = trial.cuts.gate().enter(rt);
     trial.inside.fetch_add(1, Ordering::SeqCst);
     rows.made.store(number, Ordering::SeqCst);
     trial.inside.fetch_sub(1, Ordering::SeqCst);
-    trial.gate.leave(rt)
+    trial.cuts.gate().leave(rt, inside)
 }
 
 // Each answer's cut is kept, and shows what the command made.
 fn serve<R: Wait>(rt: &R, trial: &Trial, rows: &Rows) {
     for number in 1..=COMMANDS {
         let cut = carry_out(rt, trial, rows, number);
-        let kept = trial.gate.wait_kept(rt, cut);
+        let kept = trial.cuts.wait_kept(rt, cut);
         trial.expect(kept && rows.shown.load(Ordering::SeqCst) >= number);
     }
-    trial.gate.part(rt);
+    trial.cuts.gate().part(rt);
 }
 
 // Looks at the rows of all, with nobody inside.
@@ -104,27 +114,28 @@ fn write(trial: &Trial, seen: [u64; 3]) {
 fn commit<R: Wait>(rt: &R, trial: &Trial) -> u64 {
     let mut cuts = 0;
     for _ in rt.forever() {
-        let Some(cut) = trial.gate.next_cut(rt) else {
+        let Some(closed) = trial.cuts.next_cut(rt) else {
             break;
         };
+        let seen = look(trial);
+        let taken = trial.cuts.taken(rt, closed);
+        let cut = taken.number();
         trial.expect(cut > cuts && cut - cuts == 1);
         cuts = cut;
-        let seen = look(trial);
-        trial.gate.taken(rt);
         write(trial, seen);
-        trial.gate.keep(rt, cut);
+        trial.cuts.keep(rt, taken, Written);
     }
     cuts
 }
 
 // Runs the servers in threads of their own, and the committer in this one.
 fn run<R: Threads + Wait + Sync>(rt: &R, trial: &Trial) -> u64 {
-    trial.gate.expect(rt, 3);
+    trial.cuts.gate().expect(rt, 3);
     thread::scope(thread::scope_env(), rt, |scope| {
         for rows in &trial.rows {
             if scope.spawn(move || serve(rt, trial, rows)).is_err() {
                 trial.expect(false);
-                trial.gate.part(rt);
+                trial.cuts.gate().part(rt);
             }
         }
         commit(rt, trial)
@@ -142,20 +153,34 @@ fn cuts_of_three_servers(rt: HostRuntime) -> Result<(), Fail> {
     for rows in &trial.rows {
         assert!(rt; rows.shown.load(Ordering::SeqCst) == COMMANDS);
     }
-    assert!(rt; trial.gate.tell(&rt) == 0);
+    assert!(rt; trial.cuts.gate().tell(&rt) == 0);
     Ok(())
+}
+
+// Takes the next cut, if there is one.
+fn take<R: Wait>(rt: &R, cuts: &Cuts<Written>) -> Option<Taken> {
+    match cuts.next_cut(rt) {
+        Some(closed) => Some(cuts.taken(rt, closed)),
+        None => None,
+    }
+}
+
+// Takes the next cut, if there is one, and says that it is kept.
+fn take_and_keep<R: Wait>(rt: &R, cuts: &Cuts<Written>) -> Option<u64> {
+    let taken = take(rt, cuts)?;
+    let number = taken.number();
+    cuts.keep(rt, taken, Written);
+    Some(number)
 }
 
 // Takes one cut, which is written, and then loses the journal in the next.
 fn fail<R: Wait>(rt: &R, trial: &Trial) {
-    let first = trial.gate.next_cut(rt);
-    trial.gate.taken(rt);
-    trial.expect(first == Some(1));
-    trial.gate.keep(rt, 1);
-    trial.expect(trial.gate.next_cut(rt) == Some(2));
-    trial.gate.taken(rt);
-    trial.gate.lose(rt);
-    trial.expect(trial.gate.next_cut(rt).is_none());
+    trial.expect(take_and_keep(rt, &trial.cuts) == Some(1));
+    if let Some(taken) = take(rt, &trial.cuts) {
+        trial.expect(taken.number() == 2);
+        trial.cuts.lose(rt, taken);
+    }
+    trial.expect(take_and_keep(rt, &trial.cuts).is_none());
 }
 
 // Carries out commands until one isn't kept, and one more.
@@ -163,20 +188,20 @@ fn serve_until_lost<R: Wait>(rt: &R, trial: &Trial, rows: &Rows) {
     let mut number = 0;
     for _ in rt.forever() {
         let cut = carry_out(rt, trial, rows, number);
-        if !trial.gate.wait_kept(rt, cut) {
+        if !trial.cuts.wait_kept(rt, cut) {
             break;
         }
         number = cut;
     }
     trial.expect(number <= 1);
     let cut = carry_out(rt, trial, rows, 2);
-    trial.expect(!trial.gate.wait_kept(rt, cut));
-    trial.gate.part(rt);
+    trial.expect(!trial.cuts.wait_kept(rt, cut));
+    trial.cuts.gate().part(rt);
 }
 
 // Runs three servers until the journal is lost.
 fn run_until_lost<R: Threads + Wait + Sync>(rt: &R, trial: &Trial) {
-    trial.gate.expect(rt, 3);
+    trial.cuts.gate().expect(rt, 3);
     thread::scope(thread::scope_env(), rt, |scope| {
         for rows in &trial.rows {
             if scope
@@ -196,23 +221,23 @@ fn a_lost_journal(rt: HostRuntime) -> Result<(), Fail> {
     let trial = Trial::new();
     run_until_lost(&rt, &trial);
     assert!(rt; !trial.has_failed());
-    assert!(rt; trial.gate.is_lost(&rt));
-    assert!(rt; trial.gate.wait_kept(&rt, 1));
-    assert!(rt; !trial.gate.wait_kept(&rt, 2));
-    assert!(rt; trial.gate.next_cut(&rt).is_none());
+    assert!(rt; trial.cuts.is_lost());
+    assert!(rt; trial.cuts.wait_kept(&rt, 1));
+    assert!(rt; !trial.cuts.wait_kept(&rt, 2));
+    assert!(rt; take_and_keep(&rt, &trial.cuts).is_none());
     Ok(())
 }
 
 // Changes something, parts, and has its answer kept.
 fn part_last<R: Wait>(rt: &R, trial: &Trial, rows: &Rows) {
     let cut = carry_out(rt, trial, rows, 1);
-    trial.gate.part(rt);
-    trial.expect(trial.gate.wait_kept(rt, cut));
+    trial.cuts.gate().part(rt);
+    trial.expect(trial.cuts.wait_kept(rt, cut));
 }
 
 // Runs one server and the committer.
 fn run_one<R: Threads + Wait + Sync>(rt: &R, trial: &Trial) -> u64 {
-    trial.gate.expect(rt, 1);
+    trial.cuts.gate().expect(rt, 1);
     let [rows, ..] = &trial.rows;
     let (cuts, ()) = thread::join(rt, || commit(rt, trial), || part_last(rt, trial, rows));
     cuts
@@ -226,8 +251,8 @@ fn the_last_server_parts(rt: HostRuntime) -> Result<(), Fail> {
     assert!(rt; !trial.has_failed() && cuts == 1);
     let [rows, ..] = &trial.rows;
     let late = carry_out(&rt, &trial, rows, 2);
-    assert!(rt; late == 2 && !trial.gate.wait_kept(&rt, late));
-    assert!(rt; !trial.gate.is_lost(&rt));
+    assert!(rt; late == 2 && !trial.cuts.wait_kept(&rt, late));
+    assert!(rt; !trial.cuts.is_lost());
     Ok(())
 }
 
@@ -245,29 +270,34 @@ fn told_of<C: Clock>(clock: &mut C, reach: Reach) -> u64 {
     clock.end()
 }
 
-/// What a command is told by its reach, before a change, after it, while its cut is taken, and once that is kept.
+/// What a command learns by its reach, before a change, after it, while its cut is taken, and once that is kept.
 #[test]
 fn cuts_by_reach(rt: HostRuntime) -> Result<(), Fail> {
-    let gate = Gate::new();
-    let mut clock = GatedClock::new(standing_clock(&rt), Some(&gate), &rt);
+    let cuts = Cuts::<Written>::new();
+    let gate = cuts.gate();
+    let mut clock = GatedClock::new(standing_clock(&rt), Some(gate), &rt);
     assert!(rt; told_of(&mut clock, Reach::Tells) == 0);
-    assert!(rt; told_of(&mut clock, Reach::Changes) == 1);
+    clock.begin(Reach::Changes);
+    assert!(rt; gate.tell(&rt) == 1);
+    assert!(rt; clock.end() == 1);
     assert!(rt; told_of(&mut clock, Reach::Apart) == 0);
     assert!(rt; told_of(&mut clock, Reach::Tells) == 1);
-    assert!(rt; gate.next_cut(&rt) == Some(1));
+    let closed = cuts.next_cut(&rt).expect(&rt, "a cut");
     assert!(rt; told_of(&mut clock, Reach::Tells) == 1);
-    gate.taken(&rt);
-    assert!(rt; told_of(&mut clock, Reach::Changes) == 2);
+    let first = cuts.taken(&rt, closed);
+    assert!(rt; first.number() == 1);
+    assert!(rt; told_of(&mut clock, Reach::Tells) == 1);
+    clock.begin(Reach::Changes);
+    assert!(rt; gate.tell(&rt) == 2);
+    assert!(rt; clock.end() == 2);
     assert!(rt; told_of(&mut clock, Reach::Tells) == 2);
-    gate.keep(&rt, 1);
+    cuts.keep(&rt, first, Written);
     assert!(rt; told_of(&mut clock, Reach::Tells) == 2);
-    assert!(rt; gate.next_cut(&rt) == Some(2));
-    gate.taken(&rt);
-    gate.keep(&rt, 2);
+    assert!(rt; take_and_keep(&rt, &cuts) == Some(2));
     assert!(rt; told_of(&mut clock, Reach::Tells) == 0);
     assert!(rt; clock.end() == 0);
-    assert!(rt; gate.next_cut(&rt).is_none());
-    let keeper = GateKeeper::new(&gate, &rt);
+    assert!(rt; take_and_keep(&rt, &cuts).is_none());
+    let keeper = GateKeeper::new(&cuts, &rt);
     assert!(rt; keeper.wait_kept(2) && !keeper.wait_kept(3) && !keeper.is_lost());
     Ok(())
 }
@@ -275,11 +305,33 @@ fn cuts_by_reach(rt: HostRuntime) -> Result<(), Fail> {
 /// Someone who is inside may be changing what is told.
 #[test]
 fn told_beside_a_change(rt: HostRuntime) -> Result<(), Fail> {
-    let gate = Gate::new();
+    let cuts = Cuts::<Written>::new();
+    let gate = cuts.gate();
     gate.expect(&rt, 1);
-    gate.enter(&rt);
+    let inside = gate.enter(&rt);
     assert!(rt; gate.tell(&rt) == 1);
-    assert!(rt; gate.leave(&rt) == 1);
+    assert!(rt; gate.leave(&rt, inside) == 1);
+    Ok(())
+}
+
+/// The committer sleeps through changes until somebody waits for their cut, and is woken for it once. Once all servers
+/// have parted it takes what is left.
+#[test]
+fn woken_by_who_waits(rt: HostRuntime) -> Result<(), Fail> {
+    let cuts = Cuts::<Written>::new();
+    let gate = cuts.gate();
+    gate.expect(&rt, 1);
+    for _command in 0..3 {
+        let inside = gate.enter(&rt);
+        assert!(rt; gate.leave(&rt, inside) == 1);
+    }
+    let (cut, kept) = thread::join(&rt, || take_and_keep(&rt, &cuts), || cuts.wait_kept(&rt, 1));
+    assert!(rt; kept && cut == Some(1));
+    let inside = gate.enter(&rt);
+    gate.part(&rt);
+    assert!(rt; gate.leave(&rt, inside) == 2);
+    assert!(rt; take_and_keep(&rt, &cuts) == Some(2));
+    assert!(rt; take_and_keep(&rt, &cuts).is_none());
     Ok(())
 }
 

@@ -1,6 +1,7 @@
 //! Sweeping all rows for late bookings.
 ghost use Rattle.std.specs.Prelude.{◌≡◌, Ok};
 ghost use Rattle.rail_catalogue.specs.Contents.{CatalogueView};
+ghost use Rattle.expiry_sweeper.specs.Complete.{LeavesNoneOverdue};
 ghost use Rattle.osdm_texts.specs.Answers.{Reply as Replied, reply_told, told_of};
 ghost use Rattle.shop.specs.Homes.{IsAtHome, StaysHome};
 ghost use Rattle.booking_service.specs.Sweeping.{SweepsRows};
@@ -10,12 +11,14 @@ use expiry_sweeper::sweep;
 use osdm_texts::{Written, write_swept};
 use rail_time::Moment;
 
-/// Expires every booking whose limit of confirmation was before now, and answers how many. A booking whose row was
-/// given to another meanwhile is in no count. No memory is taken. The text is that of the reply by any catalogue: it
+/// Expires every booking whose limit of confirmation was before now, and answers how many. Each booking that was
+/// prebooked and late when the sweep began is in another phase when it has ended. A booking whose row was given to
+/// another meanwhile is in no count. No memory is taken. The text is that of the reply by any catalogue: it
 /// names no station and no amount.
 pub fn sweep_bookings(books: &Books, desk: &mut Desk, now: Moment) -> Written
     requires home { IsAtHome books.now desk.old }
     ensures home { StaysHome books.now desk.old desk.new }
+    ensures complete { LeavesNoneOverdue books.now now desk.old desk.new }
     ensures answer { (reply : Replied) × SweepsRows books.now.layout.rows now desk.old desk.new reply
         × ((cat : CatalogueView) → told_of (Ok result) ≡ reply_told cat reply) }
 {

@@ -5,6 +5,7 @@ ghost use Rattle.claim_rule.specs.Desks.{IsOf, AddsAtMost};
 ghost use Rattle.claim_rule.specs.Calls.{AddsStepsBy};
 ghost use Rattle.claim_rule.specs.Out.{EndsNone, KeepsHolds, IsTidy};
 ghost use Rattle.expiry_sweeper.specs.AllRows.{Sweeps, ExpiresCounted, counted as counted_of};
+ghost use Rattle.expiry_sweeper.specs.Complete.{LeavesNoneOverdue};
 
 use crate::rows::{RowSwept, sweep_row};
 use booking_rows::Swept;
@@ -12,13 +13,15 @@ use claim_rule::{Books, Desk};
 use rail_time::Moment;
 
 /// Looks at every row, in rising number, and expires those bookings seen prebooked with a limit before now. A row whose
-/// last look shows that it was given away meanwhile is in no count. The desk has no ending out. At most 105 entries are
-/// added for each row.
+/// last look shows that it was given away meanwhile is in no count. So each booking that was prebooked with a limit
+/// before now when the sweep began is in another phase when it has ended, whoever turned it. The desk has no ending
+/// out. At most 105 entries are added for each row.
 pub fn sweep(books: &Books, desk: &mut Desk, now: Moment) -> Swept
     requires own { IsOf books.now desk.old }
     requires none { EndsNone desk.old }
     ensures own { IsOf books.now desk.new }
     ensures entries { AddsStepsBy (Sweeps books.now.layout.rows now result) desk.old desk.new }
+    ensures complete { LeavesNoneOverdue books.now now desk.old desk.new }
     ensures expired { ExpiresCounted books.now.layout.rows now result desk.old desk.new }
     ensures none { EndsNone desk.new }
     ensures holds { KeepsHolds desk.old desk.new }

@@ -15,4 +15,4 @@ pub use file::{File, LoadFault};
 pub use journal::{JournalRefusal, RecoverFault, fold_books, recover_export};
 pub use load::load_catalogue;
 pub use note::{NotePlace, NoteText};
-pub use opening::{load_books, open_books};
+pub use opening::{import_from, load_books, open_books};

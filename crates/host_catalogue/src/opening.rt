@@ -1,12 +1,13 @@
 // The books of a catalogue.
-ghost use Rattle.std.specs.Prelude.{◌≡◌, List, [], IfErr, IfOk};
+ghost use Rattle.std.specs.Prelude.{◌≡◌, List, [], Some, IfErr, IfOk};
 ghost use Rattle.claim_rule.specs.Openings.{KeptBooking};
 ghost use Rattle.claim_rule.specs.Desks.{IsNew, IsOf};
 ghost use Rattle.claim_rule.specs.Out.{IsTidy};
 ghost use Rattle.booking_rows.specs.SealedRows.{FitWords};
 ghost use Rattle.cold_store.specs.Imports.{IsImportFault};
 ghost use Rattle.rail_catalogue.specs.Contents.{legs_in};
-ghost use Rattle.host_catalogue.specs.Files.{HasCause, OfCounts};
+ghost use Rattle.host_catalogue.specs.Files.{HasCause, IsTextOf, OfCounts};
+ghost use Rattle.host_catalogue.specs.declared.file.File.TheVariants.{Export};
 ghost use Rattle.host_catalogue.specs.Opening.{BeginsWith, Fails, HasBooks, IsNotImported, IsNotOpened, IsOpened};
 ghost use Rattle.host_catalogue.specs.Opening.{IsOpenedFrom, export_name, new_layout};
 
@@ -52,6 +53,26 @@ fn import(alloc: Global, catalogue: &Catalogue, text: &[u8]) -> Result<(Books, D
     Ok(import_text(alloc, catalogue, text)?)
 }
 
+/// The export with the name, of at most 268,435,456 bytes, the books of the catalogue that open with its bookings, and
+/// their first desk, which has seen nothing.
+pub fn import_from<F: Shelf>(
+    alloc: Global,
+    shelf: &mut F,
+    catalogue: &Catalogue,
+    name: &str,
+) -> Result<(Vec<u8>, Books, Desk), LoadFault>
+    ensures text { IfOk result (λ t. IsTextOf Export (F.told shelf.old) name.now t.0.items) }
+    ensures books { IfOk result (λ t. IsOpenedFrom catalogue.now t.0.items t.1 t.2) }
+    ensures err { IfErr result (IsNotOpened (F.told shelf.old) catalogue.now (Some name.now)) }
+    ensures same { F.told shelf.new ≡ F.told shelf.old }
+    ensures steady { IfOk result (λ _. F.faults shelf.new ≡ F.faults shelf.old) }
+    ensures cause { IfErr result (λ e. OfCounts F.faults F.misses shelf.old shelf.new (HasCause e)) }
+{
+    let text = fetch_text(alloc, shelf, File::Export, name)?;
+    let (books, desk) = import(alloc, catalogue, text.as_slice())?;
+    Ok((text, books, desk))
+}
+
 /// The books of the catalogue: new ones, or those that open with the bookings of the export with the name.
 fn open_from<F: Shelf>(
     alloc: Global,
@@ -70,8 +91,8 @@ fn open_from<F: Shelf>(
     let Some(name) = from else {
         return Ok(open_books(alloc, catalogue)?);
     };
-    let text = fetch_text(alloc, shelf, File::Export, name)?;
-    import(alloc, catalogue, text.as_slice())
+    let (_text, books, desk) = import_from(alloc, shelf, catalogue, name)?;
+    Ok((books, desk))
 }
 
 /// The catalogue of the file with the name, its books, and their first desk, which has seen nothing. The books open

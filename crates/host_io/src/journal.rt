@@ -21,9 +21,9 @@ const STANDARD_FILES: i32 = 3;
 #[derive(Drop)]
 struct Holding {
     path: PathBuf,
-    /// A file of its own beside the journal, which is locked, and is never renamed nor removed: so no two processes can
-    /// have locked different files of one name, as they could if the lock lay on the text, which others take the name
-    /// of.
+    /// A file of its own next to the journal, which is locked, and is never renamed nor removed. So no two processes
+    /// can have locked different files of one name, as they could if the lock lay on the text, whose name other texts
+    /// take.
     lock: File,
     /// The journal's text, where there is one.
     text: Option<File>,
@@ -43,8 +43,17 @@ pub struct FileJournal<F: Files<File = File> + Drop> {
 // journal takes the place of the old one and not that of the link.
 fn path_of<F: Files>(files: &F, alloc: Global, name: &str) -> io::Result<PathBuf> {
     match files.canonicalize(alloc, name) {
-        Err(error) if error.kind() == ErrorKind::NotFound => Ok(PathBuf::from_str(alloc, name)?),
+        Err(error) if error.kind() == ErrorKind::NotFound => new_path(files, alloc, name),
         found => found,
+    }
+}
+
+// The path of a journal that isn't there yet. A link to a file that isn't there is refused: the new text would take the
+// place of the link, and the lock would be that of the link.
+fn new_path<F: Files>(files: &F, alloc: Global, name: &str) -> io::Result<PathBuf> {
+    match files.symlink_metadata(name) {
+        Ok(_) => Err(io::Error::from(ErrorKind::InvalidInput)),
+        Err(_) => Ok(PathBuf::from_str(alloc, name)?),
     }
 }
 
@@ -109,7 +118,7 @@ fn sync_folder<F: Files<File = File>>(files: &F, path: &PathBuf) -> io::Result<(
     fs::open(files, folder)?.sync_all()
 }
 
-// A new text for the path, written beside it and kept there, which may be used by those who may use the old one.
+// A new text for the path, written next to it and kept there, which may be used by those who may use the old one.
 fn new_text<F: Files<File = File>>(
     files: &F,
     name: &PathBuf,

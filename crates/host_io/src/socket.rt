@@ -45,6 +45,8 @@ pub struct SocketReader<C: time::Clock + Drop, K: Keeper + Drop> {
 pub struct SocketSink<K: Keeper + Drop> {
     talk: Shared<K>,
     faults: u64,
+    /// Whether it couldn't be held: then nothing more is written.
+    failed: bool,
 }
 
 // What an allocation that was refused means.
@@ -71,6 +73,7 @@ pub(crate) fn halves_of<C: time::Clock + Drop, K: Keeper + Drop>(
     let sink = SocketSink {
         talk: second,
         faults: 0,
+        failed: false,
     };
     Ok((reader, sink))
 }
@@ -85,16 +88,19 @@ impl<C: time::Clock + Drop, K: Keeper + Drop> Read for SocketReader<C, K> {
 }
 
 impl<K: Keeper + Drop> Sink for SocketSink<K> {
-    ghost use Rattle.std.specs.Prelude.{None};
+    ghost use Rattle.std.specs.Prelude.{◌⊎◌, None, true};
 
     ghost told = { λ _. None };
 
     ghost faults = { λ s. s.faults };
 
+    // The connection holds the cut, or nothing more is written.
+    ghost held = { λ before _ after. (after ≡ before) ⊎ (after.failed ≡ true) };
+
     fn write(&mut self, piece: &[u8]) -> Pushed {
         let taken = match self.talk.try_lock() {
-            Some(mut talk) => talk.take(piece),
-            None => Pushed::Failed,
+            Some(mut talk) if !self.failed => talk.take(piece),
+            _ => Pushed::Failed,
         };
         if taken == Pushed::Failed {
             self.faults = self.faults.saturating_add(1);
@@ -104,8 +110,8 @@ impl<K: Keeper + Drop> Sink for SocketSink<K> {
 
     fn write_both(&mut self, first: &[u8], second: &[u8]) -> PushedBoth {
         let taken = match self.talk.try_lock() {
-            Some(mut talk) => talk.take_both(first, second),
-            None => PushedBoth::Failed(0),
+            Some(mut talk) if !self.failed => talk.take_both(first, second),
+            _ => PushedBoth::Failed(0),
         };
         if let PushedBoth::Failed(_) = taken {
             self.faults = self.faults.saturating_add(1);
@@ -114,8 +120,9 @@ impl<K: Keeper + Drop> Sink for SocketSink<K> {
     }
 
     fn hold_until(&mut self, cut: u64) {
-        if let Some(mut talk) = self.talk.try_lock() {
-            talk.hold_until(cut);
+        match self.talk.try_lock() {
+            Some(mut talk) => talk.hold_until(cut),
+            None => self.failed = true,
         }
     }
 }
@@ -125,7 +132,11 @@ impl<K: Keeper + Drop> Drop for SocketSink<K> {
         if let Some(mut talk) = self.talk.try_lock() {
             let _sent = talk.send_answers();
         }
-        let SocketSink { talk: _, faults: _ } = self;
+        let SocketSink {
+            talk: _,
+            faults: _,
+            failed: _,
+        } = self;
     }
 }
 

@@ -99,13 +99,17 @@ impl<W: Wire + Drop, K: Keeper + Drop> Talk<W, K> {
         taken
     }
 
-    // Sends what was answered, and sets the time limit of the next read, which fails where none is left.
+    // Sends what was answered, and sets the time limit of the next read, which fails where none is left, or where the
+    // journal is lost.
     fn prepare<C: time::Clock>(&mut self, clock: &C) -> io::Result<()>
         ensures same { answered_by W.outgoing self.new ≡ answered_by W.outgoing self.old }
         ensures all { IsOk result → self.new.outbox.held ≡ [] }
     {
         if self.send_answers()? {
             self.pace.rest();
+        }
+        if self.sink.is_lost() {
+            return Err(io::Error::from(ErrorKind::BrokenPipe));
         }
         if let Some(limit) = self.pace.next_limit(clock)? {
             self.sink.line.wire.set_read_limit(limit)?;

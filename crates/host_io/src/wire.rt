@@ -8,8 +8,8 @@ use std::io::{IoSlice, Read, Write};
 use std::net::{Shutdown, TcpStream};
 use std::time::Duration;
 
-/// A stream that was accepted, as the system's calls answer: so many bytes, which may be fewer than asked for, or an
-/// error. One that would have to wait either does, or fails at once with `WouldBlock`.
+/// A stream that was accepted, as the system's calls answer: a number of bytes, which may be fewer than asked for, or
+/// an error. One that would have to wait either does, or fails at once with `WouldBlock`.
 pub trait Wire {
     /// The bytes still to come, where the stream tells them.
     ghost incoming: { Self → Option (List ℕ) };

@@ -11,7 +11,7 @@ use Rattle.host_notes.specs.declared.ending.CommandEnd.{CommandEnd}
 use Rattle.host_notes.specs.declared.ending.CommandEnd.TheVariants.{Done, NotLoaded, WordsRefused, ReadFault}
 use Rattle.host_notes.specs.declared.ending.CommandEnd.TheVariants.{WriteFault, NoMemory, InputCut, InputRefused}
 use Rattle.host_notes.specs.declared.ending.CommandEnd.TheVariants.{JournalLocked, JournalRefused, JournalFailed}
-use Rattle.host_notes.specs.declared.ending.CommandEnd.TheVariants.{JournalLost}
+use Rattle.host_notes.specs.declared.ending.CommandEnd.TheVariants.{JournalExists, JournalLost}
 
 -- the status without books
 abbrev pub status_of_fault : LoadFault → ℕ
@@ -33,6 +33,7 @@ abbrev pub status_of : CommandEnd → ℕ
 status_of Done = 0
 status_of (NotLoaded fault) = status_of_fault fault
 status_of JournalLocked = 1
+status_of JournalExists = 1
 status_of (JournalRefused e) = status_of_refusal e
 status_of WordsRefused = 2
 status_of ReadFault = 3
@@ -47,6 +48,7 @@ abbrev pub note_of : CommandEnd → List ℕ
 note_of Done = []
 note_of (NotLoaded fault) = load_note fault
 note_of JournalLocked = codes "rail_host: journal locked\n"
+note_of JournalExists = codes "rail_host: journal exists\n"
 note_of (JournalRefused e) = refusal_note e
 note_of WordsRefused = codes "rail_host: words refused\n"
 note_of ReadFault = codes "rail_host: read fault\n"

@@ -19,6 +19,8 @@ pub enum CommandEnd {
     NotLoaded(LoadFault),
     /// 1: the journal is kept by another host.
     JournalLocked,
+    /// 1: the journal is there, and an export is named that the books are to begin with.
+    JournalExists,
     /// 1: the text of the journal is refused; 5 where there was no memory for it.
     JournalRefused(JournalRefusal),
     /// 2: the words are refused.
@@ -63,7 +65,7 @@ impl CommandEnd {
             CommandEnd::NotLoaded(LoadFault::Failed) => 3,
             CommandEnd::NotLoaded(LoadFault::NoMemory) => 5,
             CommandEnd::NotLoaded(_) => 1,
-            CommandEnd::JournalLocked => 1,
+            CommandEnd::JournalLocked | CommandEnd::JournalExists => 1,
             CommandEnd::JournalRefused(JournalRefusal::NoMemory) => 5,
             CommandEnd::JournalRefused(_) => 1,
             CommandEnd::WordsRefused => 2,
@@ -82,6 +84,7 @@ impl CommandEnd {
             CommandEnd::Done => NoteText::of(b""),
             CommandEnd::NotLoaded(fault) => fault.note(),
             CommandEnd::JournalLocked => NoteText::of(b"rail_host: journal locked\n"),
+            CommandEnd::JournalExists => NoteText::of(b"rail_host: journal exists\n"),
             CommandEnd::JournalRefused(refusal) => refusal.note(),
             CommandEnd::WordsRefused => NoteText::of(b"rail_host: words refused\n"),
             CommandEnd::ReadFault => NoteText::of(b"rail_host: read fault\n"),

@@ -164,6 +164,7 @@ pub stays_so : (wall : Option WallView) (n : Noting) (old : KeptOutcome) → ((o
     → WritesExport wall n end.AcceptFailed new → WritesKept true wall n old old
 stays_so wall n (kept.Plain o) not new wrote = absurd (not o refl)
 stays_so wall n kept.Locked not new wrote = (new, wrote, refl)
+stays_so wall n kept.Exists not new wrote = (new, wrote, refl)
 stays_so wall n kept.TooLarge not new wrote = (new, wrote, refl)
 stays_so wall n (kept.Refused refusal) not new wrote = (new, wrote, refl)
 stays_so wall n kept.Failed not new wrote = (new, wrote, refl)
@@ -224,6 +225,7 @@ wrote_two (Some w) n o new (inr (inr wrote)) e = cut_two o (sym (ap status_of_se
 refused_kept : (o : KeptOutcome) → status_of_kept o ≡ 2 → o ≡ kept.Plain end.Refused
 refused_kept (kept.Plain o) e = ap kept.Plain (refused_by o e)
 refused_kept kept.Locked e = absurd (omega (arith, e))
+refused_kept kept.Exists e = absurd (omega (arith, e))
 refused_kept kept.TooLarge e = absurd (omega (arith, e))
 refused_kept (kept.Refused (journal.NoJournal f)) e = absurd (omega (arith, e))
 refused_kept (kept.Refused journal.OtherCatalogue) e = absurd (omega (arith, e))
@@ -238,6 +240,7 @@ was_refused false wall n old new wrote e = refused_kept old (sym (ap status_of_k
 was_refused true wall n (kept.Plain o) new wrote e =
     ap kept.Plain (refused_by o (wrote_two wall n o wrote.0 wrote.1 (sym (ap status_of_kept wrote.2) ∙ e)))
 was_refused true wall n kept.Locked new wrote e = refused_kept kept.Locked (sym (ap status_of_kept wrote.2) ∙ e)
+was_refused true wall n kept.Exists new wrote e = refused_kept kept.Exists (sym (ap status_of_kept wrote.2) ∙ e)
 was_refused true wall n kept.TooLarge new wrote e = refused_kept kept.TooLarge (sym (ap status_of_kept wrote.2) ∙ e)
 was_refused true wall n (kept.Refused refusal) new wrote e = refused_kept (kept.Refused refusal) (sym (ap status_of_kept wrote.2) ∙ e)
 was_refused true wall n kept.Failed new wrote e = refused_kept kept.Failed (sym (ap status_of_kept wrote.2) ∙ e)

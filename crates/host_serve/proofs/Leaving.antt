@@ -1,5 +1,5 @@
 -- How serving with a journal ended.
-use Rattle.std.proofs.Common.{◌≡◌, ◌<◌, ℕ, Bool, true, false, List, [], Option, None, Some, Ok, inl, inr, length, refl, ap, sym, subst}
+use Rattle.std.proofs.Common.{◌≡◌, ◌∙◌, ◌<◌, ◌≤◌, arith, ℕ, Bool, true, false, List, [], Option, None, Some, Ok, inl, inr, length, refl, ap, sym, subst}
 use Rattle.std.specs.Prelude.{IfSome}
 use Rattle.claim_rule.specs.Openings.{KeptBooking, layout_with}
 use Rattle.claim_rule.specs.Rule.{BooksView, DeskView}
@@ -11,16 +11,23 @@ use Rattle.host_words.specs.Serve.{ServeView}
 use Rattle.host_words.specs.declared.serve.Serving.{Serving}
 use Rattle.rail_io.specs.Journals.{Opens}
 use Rattle.rail_io.specs.declared.journal.JournalOpened.TheVariants.{Missing, Text, TooLarge}
-use Rattle.host_catalogue.specs.Files.{Files, most_of}
-use Rattle.host_catalogue.specs.Journals.{IsNotFolded}
+use Rattle.host_catalogue.specs.Files.{Files, HasCause, most_of}
 use Rattle.host_catalogue.specs.declared.file.File.TheVariants.{Journal}
 use Rattle.host_serve.specs.declared.books.Opened.{Opened}
 use Rattle.host_catalogue.specs.Loading.{Loads}
-use Rattle.host_catalogue.specs.Opening.{IsOpened}
+use Rattle.cold_store.specs.Lines.{IsExportOf, SaidBooking}
+use Rattle.row_cuts.specs.Exports.{AreLinesOf}
+use Rattle.row_cuts.specs.Prints.{print_in}
+use Rattle.host_serve.specs.declared.log.Head.{Head}
+use Rattle.host_serve.specs.declared.log.Lines.{Lines}
+use Rattle.host_catalogue.specs.Opening.{BeginsWith, IsExportFor, IsNotOpened, IsOpened}
+use Rattle.host_catalogue.specs.declared.file.LoadFault.{LoadFault}
+use Rattle.host_catalogue.specs.declared.file.LoadFault.TheVariants as load
+use Rattle.rail_io.specs.Faults.{Rose}
 use Rattle.host_serve.specs.Crews.{IsFirst, OnlyMet}
 use Rattle.host_serve.specs.Turns.{HasCatalogue}
 use Rattle.host_serve.specs.Ends.{lost_or, outcome_of_fault}
-use Rattle.host_serve.specs.Kept.{HasKeptCause, IsNotLeft, IsUnheard, LeavesBookings, LeavesIn, LeavesOpened, ListensTo, ServesBooks, ServesKept, ServesLeft}
+use Rattle.host_serve.specs.Kept.{AreLinesFor, HasKeptCause, IsHeadFor, IsNotLeft, IsShutOut, IsUnheard, LeavesBookings, LeavesIn, LeavesOpened, ListensTo, NamesNone, ServesBooks, ServesKept, ServesLeft, Sources, sources_of}
 use Rattle.host_serve.specs.Serve.{IsServedWall, Left}
 use Rattle.host_serve.specs.declared.end.KeptOutcome.{KeptOutcome}
 use Rattle.host_serve.specs.declared.end.KeptOutcome.TheVariants as kept
@@ -30,25 +37,27 @@ use Rattle.host_serve.specs.declared.keeping.KeepFault.{KeepFault}
 use Rattle.host_serve.specs.declared.keeping.KeepFault.TheVariants as fault
 use Rattle.host_serve.proofs.Alone.{none_so, wall_of}
 
-module _ (cat : CatalogueView) (said : Serving) (told : Option (List ℕ)) (left : Left) where
+module _ (cat : CatalogueView) (said : Serving) (s : Sources) (left : Left) where
   -- no books were opened with what the journal leaves
-  pub not_left : (f : KeepFault) → IsNotLeft cat told f → IsUnheard left → left.after.handed ≡ 0
-      → ServesBooks cat said told left (outcome_of_fault f)
+  pub not_left : (f : KeepFault) → IsNotLeft cat s f → IsUnheard left → left.after.handed ≡ 0
+      → ServesBooks cat said s left (outcome_of_fault f)
   not_left fault.Locked is unheard fresh = unheard
+  not_left fault.Exists is unheard fresh = (is, unheard)
   not_left fault.TooLarge is unheard fresh = (is, unheard)
   not_left (fault.Refused refusal) is unheard fresh = (is, unheard)
+  not_left (fault.NotLoaded cause) is unheard fresh = (is, unheard)
   not_left fault.Failed is unheard fresh = unheard
   not_left fault.NoMemory is unheard fresh = (unheard.no_wall, fresh, unheard.steady)
 
   -- such books were listened for
-  pub served_left : (bookings : List KeptBooking) (plan : Layout) → LeavesBookings told cat bookings → plan ≡ layout_with (legs_in cat) cat.rows bookings
-      → (is_lost : Bool) (o : ServeOutcome) → ListensTo cat plan said left o → ServesBooks cat said told left (lost_or is_lost o)
+  pub served_left : (bookings : List KeptBooking) (plan : Layout) → LeavesBookings s cat bookings → plan ≡ layout_with (legs_in cat) cat.rows bookings
+      → (is_lost : Bool) (o : ServeOutcome) → ListensTo cat plan said left o → ServesBooks cat said s left (lost_or is_lost o)
   served_left bookings plan leaves is is_lost o listens = go is_lost o (subst (λ (l : Layout). ListensTo cat l said left o) is listens)
     where
-      of : (p : ServeOutcome) → ListensTo cat (layout_with (legs_in cat) cat.rows bookings) said left p → ServesLeft cat said told left p
+      of : (p : ServeOutcome) → ListensTo cat (layout_with (legs_in cat) cat.rows bookings) said left p → ServesLeft cat said s left p
       of p r = record { kept = bookings; leaves = leaves; listens = r }
 
-      go : (lost : Bool) (p : ServeOutcome) → ListensTo cat (layout_with (legs_in cat) cat.rows bookings) said left p → ServesBooks cat said told left (lost_or lost p)
+      go : (lost : Bool) (p : ServeOutcome) → ListensTo cat (layout_with (legs_in cat) cat.rows bookings) said left p → ServesBooks cat said s left (lost_or lost p)
       go true end.Served r = inl (of end.Served r)
       go true end.AcceptFailed r = inr (of end.AcceptFailed r)
       go true end.NotBound r = of end.NotBound r
@@ -66,49 +75,32 @@ module _ (cat : CatalogueView) (said : Serving) (told : Option (List ℕ)) (left
       go false end.NoText r = absurd r
       go false end.Unwritten r = absurd r
 
-  -- the words' catalogue was loaded, and its books were served so
-  pub kept_of : (files : Files) (view : ServeView) → said ≡ view.numbers → Loads files view.catalogue (Ok cat) → (o : KeptOutcome)
-      → ServesBooks cat said told left o → ServesKept files view told left o
-  kept_of files view same loads o serves = go o (subst (λ (n : Serving). ServesBooks cat n told left o) same serves)
-    where
-      go : (p : KeptOutcome) → ServesBooks cat view.numbers told left p → ServesKept files view told left p
-      go (kept.Plain end.Served) r = (cat, loads, r)
-      go (kept.Plain end.AcceptFailed) r = (cat, loads, r)
-      go (kept.Plain end.NotBound) r = (cat, loads, r)
-      go (kept.Plain end.NoMemory) r = (cat, loads, r)
-      go (kept.Plain end.Refused) r = (cat, loads, r)
-      go (kept.Plain end.NoText) r = (cat, loads, r)
-      go (kept.Plain end.Unwritten) r = (cat, loads, r)
-      go (kept.Plain (end.NotLoaded f)) r = absurd r.listens
-      go kept.Locked r = (cat, loads, r)
-      go kept.TooLarge r = (cat, loads, r)
-      go (kept.Refused refusal) r = (cat, loads, r)
-      go kept.Failed r = (cat, loads, r)
-      go kept.Lost r = (cat, loads, r)
-
   -- and the shelf's count of faults is as it was
-  pub kept_cause : (failed fails missed misses : ℕ) → fails ≡ failed → (o : KeptOutcome) → ServesBooks cat said told left o
-      → HasKeptCause o failed fails missed misses
-  kept_cause failed fails missed misses same (kept.Plain end.Served) r = same
-  kept_cause failed fails missed misses same (kept.Plain end.AcceptFailed) r = same
-  kept_cause failed fails missed misses same (kept.Plain end.NotBound) r = same
-  kept_cause failed fails missed misses same (kept.Plain end.NoMemory) r = same
-  kept_cause failed fails missed misses same (kept.Plain end.Refused) r = same
-  kept_cause failed fails missed misses same (kept.Plain end.NoText) r = same
-  kept_cause failed fails missed misses same (kept.Plain end.Unwritten) r = same
-  kept_cause failed fails missed misses same (kept.Plain (end.NotLoaded f)) r = absurd r.listens
-  kept_cause failed fails missed misses same kept.Locked r = same
-  kept_cause failed fails missed misses same kept.TooLarge r = same
-  kept_cause failed fails missed misses same (kept.Refused refusal) r = same
-  kept_cause failed fails missed misses same kept.Failed r = same
-  kept_cause failed fails missed misses same kept.Lost r = same
+  pub listened_kept : (failed fails missed misses : ℕ) (plan : Layout) → fails ≡ failed → (is_lost : Bool) (o : ServeOutcome) → ListensTo cat plan said left o
+      → HasKeptCause (lost_or is_lost o) failed fails missed misses
+  listened_kept failed fails missed misses plan same true end.Served r = same
+  listened_kept failed fails missed misses plan same true end.AcceptFailed r = same
+  listened_kept failed fails missed misses plan same true end.NotBound r = same
+  listened_kept failed fails missed misses plan same true end.NoMemory r = same
+  listened_kept failed fails missed misses plan same true end.Refused r = absurd r
+  listened_kept failed fails missed misses plan same true (end.NotLoaded f) r = absurd r
+  listened_kept failed fails missed misses plan same true end.NoText r = absurd r
+  listened_kept failed fails missed misses plan same true end.Unwritten r = absurd r
+  listened_kept failed fails missed misses plan same false end.Served r = same
+  listened_kept failed fails missed misses plan same false end.AcceptFailed r = same
+  listened_kept failed fails missed misses plan same false end.NotBound r = same
+  listened_kept failed fails missed misses plan same false end.NoMemory r = same
+  listened_kept failed fails missed misses plan same false end.Refused r = absurd r
+  listened_kept failed fails missed misses plan same false (end.NotLoaded f) r = absurd r
+  listened_kept failed fails missed misses plan same false end.NoText r = absurd r
+  listened_kept failed fails missed misses plan same false end.Unwritten r = absurd r
 
   -- the wall that is left is free for an export
-  wall_left : (P : WallView → Type 0) (o : ServeOutcome) → ServesLeft cat said told left o
+  wall_left : (P : WallView → Type 0) (o : ServeOutcome) → ServesLeft cat said s left o
       → ((plan : Layout) (w : WallView) → IsServedWall cat plan said left w → P w) → IfSome left.wall P
   wall_left P o r so = wall_of P cat (layout_with (legs_in cat) cat.rows r.kept) said left o r.listens (so (layout_with (legs_in cat) cat.rows r.kept))
 
-  pub wall_kept : (P : WallView → Type 0) (o : KeptOutcome) → ServesBooks cat said told left o
+  pub wall_kept : (P : WallView → Type 0) (o : KeptOutcome) → ServesBooks cat said s left o
       → ((plan : Layout) (w : WallView) → IsServedWall cat plan said left w → P w) → IfSome left.wall P
   wall_kept P (kept.Plain end.Served) r so = wall_left P end.Served r so
   wall_kept P (kept.Plain end.AcceptFailed) r so = wall_left P end.AcceptFailed r so
@@ -117,31 +109,81 @@ module _ (cat : CatalogueView) (said : Serving) (told : Option (List ℕ)) (left
   wall_kept P (kept.Plain end.Refused) r so = absurd r.listens
   wall_kept P (kept.Plain end.NoText) r so = absurd r.listens
   wall_kept P (kept.Plain end.Unwritten) r so = absurd r.listens
-  wall_kept P (kept.Plain (end.NotLoaded f)) r so = absurd r.listens
+  wall_kept P (kept.Plain (end.NotLoaded f)) r so = none_so P left.wall r.1.no_wall
   wall_kept P kept.Locked r so = none_so P left.wall r.no_wall
+  wall_kept P kept.Exists r so = none_so P left.wall r.1.no_wall
   wall_kept P kept.TooLarge r so = none_so P left.wall r.1.no_wall
   wall_kept P (kept.Refused refusal) r so = none_so P left.wall r.1.no_wall
   wall_kept P kept.Failed r so = none_so P left.wall r.no_wall
   wall_kept P kept.Lost (inl r) so = wall_left P end.Served r so
   wall_kept P kept.Lost (inr r) so = wall_left P end.AcceptFailed r so
 
+-- the words' catalogue was loaded, and its books were served so
+pub kept_of : (cat : CatalogueView) (told : Option (List ℕ)) (left : Left) (files : Files) (view : ServeView) → Loads files view.catalogue (Ok cat) → (o : KeptOutcome)
+    → ServesBooks cat view.numbers (sources_of files view told) left o → ServesKept files view told left o
+kept_of cat told left files view loads (kept.Plain end.Served) r = (cat, loads, r)
+kept_of cat told left files view loads (kept.Plain end.AcceptFailed) r = (cat, loads, r)
+kept_of cat told left files view loads (kept.Plain end.NotBound) r = (cat, loads, r)
+kept_of cat told left files view loads (kept.Plain end.NoMemory) r = (cat, loads, r)
+kept_of cat told left files view loads (kept.Plain end.Refused) r = (cat, loads, r)
+kept_of cat told left files view loads (kept.Plain end.NoText) r = (cat, loads, r)
+kept_of cat told left files view loads (kept.Plain end.Unwritten) r = (cat, loads, r)
+kept_of cat told left files view loads (kept.Plain (end.NotLoaded f)) r = (inr (cat, loads, r.0), r.1)
+kept_of cat told left files view loads kept.Locked r = (cat, loads, r)
+kept_of cat told left files view loads kept.Exists r = (cat, loads, r)
+kept_of cat told left files view loads kept.TooLarge r = (cat, loads, r)
+kept_of cat told left files view loads (kept.Refused refusal) r = (cat, loads, r)
+kept_of cat told left files view loads kept.Failed r = (cat, loads, r)
+kept_of cat told left files view loads kept.Lost r = (cat, loads, r)
+
+-- a shelf that gave the catalogue before didn't fail in that, and missed nothing that it forgot
+rose_on : (missed between misses : ℕ) → missed ≤ between → Rose between misses → Rose missed misses
+rose_on missed between misses low (inl rose) = inl (omega arith)
+rose_on missed between misses low (inr last) = inr last
+
+cause_on : (f : LoadFault) (failed now fails missed between misses : ℕ) → now ≡ failed → missed ≤ between → HasCause f now fails between misses → HasCause f failed fails missed misses
+cause_on (load.Missing file) failed now fails missed between misses same low is = (is.0 ∙ same, rose_on missed between misses low is.1)
+cause_on (load.TooLarge file) failed now fails missed between misses same low is = (is.0 ∙ same, rose_on missed between misses low is.1)
+cause_on (load.Refused fault) failed now fails missed between misses same low is = is ∙ same
+cause_on (load.RefusedExport fault) failed now fails missed between misses same low is = is ∙ same
+cause_on load.Failed failed now fails missed between misses same low is = subst (λ (n : ℕ). Rose n fails) same is
+cause_on load.NoMemory failed now fails missed between misses same low is = is ∙ same
+
+pub kept_cause : (o : KeptOutcome) (failed now fails missed between misses : ℕ) → now ≡ failed → missed ≤ between → HasKeptCause o now fails between misses
+    → HasKeptCause o failed fails missed misses
+kept_cause (kept.Plain end.Served) failed now fails missed between misses same low is = is ∙ same
+kept_cause (kept.Plain end.AcceptFailed) failed now fails missed between misses same low is = is ∙ same
+kept_cause (kept.Plain end.NotBound) failed now fails missed between misses same low is = is ∙ same
+kept_cause (kept.Plain end.NoMemory) failed now fails missed between misses same low is = is ∙ same
+kept_cause (kept.Plain end.Refused) failed now fails missed between misses same low is = is ∙ same
+kept_cause (kept.Plain end.NoText) failed now fails missed between misses same low is = is ∙ same
+kept_cause (kept.Plain end.Unwritten) failed now fails missed between misses same low is = is ∙ same
+kept_cause (kept.Plain (end.NotLoaded f)) failed now fails missed between misses same low is = cause_on f failed now fails missed between misses same low is
+kept_cause kept.Locked failed now fails missed between misses same low is = is ∙ same
+kept_cause kept.Exists failed now fails missed between misses same low is = is ∙ same
+kept_cause kept.TooLarge failed now fails missed between misses same low is = is ∙ same
+kept_cause (kept.Refused refusal) failed now fails missed between misses same low is = is ∙ same
+kept_cause kept.Failed failed now fails missed between misses same low is = is ∙ same
+kept_cause kept.Lost failed now fails missed between misses same low is = is ∙ same
+
 -- so of the words' run
 pub wall_said : (files : Files) (view : ServeView) (told : Option (List ℕ)) (left : Left) (P : WallView → Type 0) (o : KeptOutcome)
     → ServesKept files view told left o → ((cat : CatalogueView) (plan : Layout) (w : WallView) → IsServedWall cat plan view.numbers left w → P w)
     → IfSome left.wall P
-wall_said files view told left P (kept.Plain end.Served) r so = wall_kept r.0 view.numbers told left P (kept.Plain end.Served) r.2 (so r.0)
-wall_said files view told left P (kept.Plain end.AcceptFailed) r so = wall_kept r.0 view.numbers told left P (kept.Plain end.AcceptFailed) r.2 (so r.0)
-wall_said files view told left P (kept.Plain end.NotBound) r so = wall_kept r.0 view.numbers told left P (kept.Plain end.NotBound) r.2 (so r.0)
-wall_said files view told left P (kept.Plain end.NoMemory) r so = wall_kept r.0 view.numbers told left P (kept.Plain end.NoMemory) r.2 (so r.0)
-wall_said files view told left P (kept.Plain end.Refused) r so = wall_kept r.0 view.numbers told left P (kept.Plain end.Refused) r.2 (so r.0)
-wall_said files view told left P (kept.Plain end.NoText) r so = wall_kept r.0 view.numbers told left P (kept.Plain end.NoText) r.2 (so r.0)
-wall_said files view told left P (kept.Plain end.Unwritten) r so = wall_kept r.0 view.numbers told left P (kept.Plain end.Unwritten) r.2 (so r.0)
+wall_said files view told left P (kept.Plain end.Served) r so = wall_kept r.0 view.numbers (sources_of files view told) left P (kept.Plain end.Served) r.2 (so r.0)
+wall_said files view told left P (kept.Plain end.AcceptFailed) r so = wall_kept r.0 view.numbers (sources_of files view told) left P (kept.Plain end.AcceptFailed) r.2 (so r.0)
+wall_said files view told left P (kept.Plain end.NotBound) r so = wall_kept r.0 view.numbers (sources_of files view told) left P (kept.Plain end.NotBound) r.2 (so r.0)
+wall_said files view told left P (kept.Plain end.NoMemory) r so = wall_kept r.0 view.numbers (sources_of files view told) left P (kept.Plain end.NoMemory) r.2 (so r.0)
+wall_said files view told left P (kept.Plain end.Refused) r so = wall_kept r.0 view.numbers (sources_of files view told) left P (kept.Plain end.Refused) r.2 (so r.0)
+wall_said files view told left P (kept.Plain end.NoText) r so = wall_kept r.0 view.numbers (sources_of files view told) left P (kept.Plain end.NoText) r.2 (so r.0)
+wall_said files view told left P (kept.Plain end.Unwritten) r so = wall_kept r.0 view.numbers (sources_of files view told) left P (kept.Plain end.Unwritten) r.2 (so r.0)
 wall_said files view told left P (kept.Plain (end.NotLoaded f)) r so = none_so P left.wall r.1.no_wall
-wall_said files view told left P kept.Locked r so = wall_kept r.0 view.numbers told left P kept.Locked r.2 (so r.0)
-wall_said files view told left P kept.TooLarge r so = wall_kept r.0 view.numbers told left P kept.TooLarge r.2 (so r.0)
-wall_said files view told left P (kept.Refused refusal) r so = wall_kept r.0 view.numbers told left P (kept.Refused refusal) r.2 (so r.0)
-wall_said files view told left P kept.Failed r so = wall_kept r.0 view.numbers told left P kept.Failed r.2 (so r.0)
-wall_said files view told left P kept.Lost r so = wall_kept r.0 view.numbers told left P kept.Lost r.2 (so r.0)
+wall_said files view told left P kept.Locked r so = wall_kept r.0 view.numbers (sources_of files view told) left P kept.Locked r.2 (so r.0)
+wall_said files view told left P kept.Exists r so = wall_kept r.0 view.numbers (sources_of files view told) left P kept.Exists r.2 (so r.0)
+wall_said files view told left P kept.TooLarge r so = wall_kept r.0 view.numbers (sources_of files view told) left P kept.TooLarge r.2 (so r.0)
+wall_said files view told left P (kept.Refused refusal) r so = wall_kept r.0 view.numbers (sources_of files view told) left P (kept.Refused refusal) r.2 (so r.0)
+wall_said files view told left P kept.Failed r so = wall_kept r.0 view.numbers (sources_of files view told) left P kept.Failed r.2 (so r.0)
+wall_said files view told left P kept.Lost r so = wall_kept r.0 view.numbers (sources_of files view told) left P kept.Lost r.2 (so r.0)
 
 -- books that were opened have the catalogue's places and rows, and their first desk has done nothing
 pub opened_has : (cat : CatalogueView) (bookings : List KeptBooking) (books : BooksView) (desk : DeskView) → IsOpened cat bookings books desk → HasCatalogue books cat
@@ -167,27 +209,46 @@ none_told None room is = tt
 none_told (Some all) room is = is
 
 -- what a text leaves is what the journal leaves
-pub left_in : (told : Option (List ℕ)) (cat : CatalogueView) (text : _) (room : ℕ) (opened : Opened) → IfSome told (λ all. Opens all room (Text text))
-    → LeavesIn cat text.items opened → LeavesOpened told cat opened
-left_in told cat text room opened is leaves =
-    (leaves.2.0, inr (text.items, text_told told text room is, leaves.0, leaves.1, leaves.2.1), leaves.2.2)
+pub left_in : (files : Files) (from told : Option (List ℕ)) (cat : CatalogueView) (text : _) (room : ℕ) (opened : Opened) (lines : Lines) → IfSome told (λ all. Opens all room (Text text))
+    → NamesNone from → LeavesIn cat text.items opened lines → LeavesOpened (record { files = files; from = from; told = told }) cat opened lines
+left_in files from told cat text room opened lines is none leaves =
+    (leaves.2, inr (none, text.items, text_told told text room is, leaves.0, leaves.1, leaves.3), leaves.4, leaves.5)
 
-pub left_none : (told : Option (List ℕ)) (cat : CatalogueView) (room : ℕ) (opened : Opened) → IfSome told (λ all. Opens all room Missing)
-    → IsOpened cat [] opened.books opened.first → LeavesOpened told cat opened
-left_none told cat room opened is new = ([], inl (none_told told room is, refl), new)
+-- and where there is none, what the export begins with
+pub left_from : (files : Files) (from told : Option (List ℕ)) (cat : CatalogueView) (room : ℕ) (opened : Opened) (lines : Lines) → IfSome told (λ all. Opens all room Missing)
+    → (bookings : List KeptBooking) × BeginsWith files cat from bookings × IsOpened cat bookings opened.books opened.first × AreLinesFor bookings lines
+    → LeavesOpened (record { files = files; from = from; told = told }) cat opened lines
+left_from files from told cat room opened lines is begins = (begins.0, inl (none_told told room is, begins.1), begins.2, begins.3)
+
+-- the lines that were found in an export are those of its bookings
+pub lines_for : (cat : CatalogueView) (export : List ℕ) (bookings : List KeptBooking) (lines : Lines) → IsExportFor cat export bookings
+    → ((places rows : ℕ) (said : List SaidBooking) → IsExportOf export places rows said → AreLinesOf said lines.text.items lines.count) → AreLinesFor bookings lines
+lines_for cat export bookings lines is found = (is.0, is.2, found (length (legs_in cat)) cat.rows is.0 is.1.sized)
+
+-- the head that is written is this catalogue's
+pub head_for : (cat : CatalogueView) (bookings : List KeptBooking) (books : BooksView) (desk : DeskView) (head : Head) → IsOpened cat bookings books desk
+    → head.places ≡ length books.layout.legs → head.rows ≡ books.layout.rows → head.print.digits ≡ print_in cat → IsHeadFor cat head
+head_for cat bookings books desk head is places rows print =
+    let legs : head.places ≡ length (legs_in cat) = places ∙ ap (λ (l : Layout). length l.legs) is.layout in
+    let all : head.rows ≡ cat.rows = rows ∙ ap (λ (l : Layout). l.rows) is.layout in
+    λ j. record { places = legs j; rows = all j; print = print j }
 
 -- why a text leaves no books is why the journal leaves none
-pub not_left_in : (told : Option (List ℕ)) (cat : CatalogueView) (text : _) (room : ℕ) (f : KeepFault) → IfSome told (λ all. Opens all room (Text text))
-    → IsNotLeft cat (Some text.items) f → IsNotLeft cat told f
-not_left_in told cat text room fault.Locked is not = tt
-not_left_in told cat text room fault.Failed is not = tt
-not_left_in told cat text room fault.NoMemory is not = tt
-not_left_in None cat text room fault.TooLarge is not = tt
-not_left_in (Some all) cat text room fault.TooLarge is not = subst (λ (l : List ℕ). most_of Journal < length l) (sym is.0) not
-not_left_in told cat text room (fault.Refused refusal) is not =
-    (text.items, text_told told text room is, subst (λ (l : List ℕ). IsNotFolded cat l refusal) (sym not.1) not.2)
+pub not_left_in : (files : Files) (from told : Option (List ℕ)) (cat : CatalogueView) (text : _) (room : ℕ) (f : KeepFault) → IfSome told (λ all. Opens all room (Text text))
+    → IsShutOut cat from text.items f → IsNotLeft cat (record { files = files; from = from; told = told }) f
+not_left_in files from told cat text room fault.Locked is not = tt
+not_left_in files from told cat text room fault.Failed is not = tt
+not_left_in files from told cat text room fault.NoMemory is not = tt
+not_left_in files from told cat text room fault.Exists is not = not
+not_left_in files from told cat text room fault.TooLarge is not = absurd not
+not_left_in files from told cat text room (fault.NotLoaded cause) is not = absurd not
+not_left_in files from told cat text room (fault.Refused refusal) is not = (not.0, text.items, text_told told text room is, not.1)
 
-pub too_large : (told : Option (List ℕ)) (cat : CatalogueView) (room : ℕ) → room ≡ most_of Journal → IfSome told (λ all. Opens all room TooLarge)
-    → IsNotLeft cat told fault.TooLarge
-too_large None cat room same is = tt
-too_large (Some all) cat room same is = subst (λ (n : ℕ). n < length all) same is
+pub not_left_from : (files : Files) (from told : Option (List ℕ)) (cat : CatalogueView) (room : ℕ) (f : LoadFault) → IfSome told (λ all. Opens all room Missing)
+    → IsNotOpened files cat from f → IsNotLeft cat (record { files = files; from = from; told = told }) (fault.NotLoaded f)
+not_left_from files from told cat room f is not = (none_told told room is, not)
+
+pub too_large : (files : Files) (from told : Option (List ℕ)) (cat : CatalogueView) (room : ℕ) → room ≡ most_of Journal → IfSome told (λ all. Opens all room TooLarge)
+    → IsNotLeft cat (record { files = files; from = from; told = told }) fault.TooLarge
+too_large files from None cat room same is = tt
+too_large files from (Some all) cat room same is = subst (λ (n : ℕ). n < length all) same is

@@ -39,6 +39,7 @@ status_of_serve outcome = status_of (end_of_serve outcome)
 abbrev pub end_of_kept : KeptOutcome → CommandEnd
 end_of_kept (kept.Plain outcome) = end_of_serve outcome
 end_of_kept kept.Locked = ended.JournalLocked
+end_of_kept kept.Exists = ended.JournalExists
 end_of_kept kept.TooLarge = ended.NotLoaded (TooLarge Journal)
 end_of_kept (kept.Refused refusal) = ended.JournalRefused refusal
 end_of_kept kept.Failed = ended.JournalFailed
@@ -56,7 +57,9 @@ lost_or _ outcome = kept.Plain outcome
 -- how it ends where books of a journal weren't opened
 abbrev pub outcome_of_fault : KeepFault → KeptOutcome
 outcome_of_fault fault.Locked = kept.Locked
+outcome_of_fault fault.Exists = kept.Exists
 outcome_of_fault fault.TooLarge = kept.TooLarge
 outcome_of_fault (fault.Refused refusal) = kept.Refused refusal
+outcome_of_fault (fault.NotLoaded cause) = kept.Plain (end.NotLoaded cause)
 outcome_of_fault fault.Failed = kept.Failed
 outcome_of_fault fault.NoMemory = kept.Plain end.NoMemory

@@ -1,24 +1,31 @@
 -- What `serve` promises with a journal.
 use Rattle.std.specs.Prelude.{◌≡◌, ◌⊎◌, ◌<◌, ◌≤◌, ℕ, Bool, true, false, List, [], Option, Some, None, IfSome}
-use Rattle.std.specs.Prelude.{IsSomeAnd, Ok, Err, length}
+use Rattle.std.specs.Prelude.{IsSomeAnd, Ok, Err, length, map}
 use Rattle.claim_rule.specs.Openings.{KeptBooking, layout_with}
 use Rattle.claim_rule.specs.Walls.{WallView}
 use Rattle.history_model.specs.Booking.{Layout}
 use Rattle.rail_catalogue.specs.Contents.{CatalogueView, legs_in}
+use Rattle.cold_store.specs.Lines.{SaidBooking}
+use Rattle.cold_store.specs.Right.{kept_of}
 use Rattle.journal_text.specs.Folds.{FoldView}
+use Rattle.row_cuts.specs.Exports.{AreLinesOf}
+use Rattle.row_cuts.specs.Prints.{print_in}
 use Rattle.host_words.specs.Serve.{ServeView, serve_words}
 use Rattle.host_words.specs.declared.serve.Serving.{Serving}
 use Rattle.host_catalogue.specs.Files.{Files, most_of}
 use Rattle.host_catalogue.specs.Journals.{IsFoldFor, IsNotFolded}
 use Rattle.host_catalogue.specs.Loading.{Loads}
-use Rattle.host_catalogue.specs.Opening.{IsExportFor, IsOpened, IsOpenedFrom}
+use Rattle.host_catalogue.specs.Opening.{BeginsWith, IsExportFor, IsNotOpened, IsOpened}
 use Rattle.host_catalogue.specs.declared.file.File.TheVariants.{Journal}
 use Rattle.host_notes.specs.Ends.{note_of}
 use Rattle.host_notes.specs.Noted.{IsNoted}
 use Rattle.host_serve.specs.Ends.{end_of_kept, status_of_kept, status_of_serve}
 use Rattle.host_serve.specs.Serve.{HasFailed, HasShelfCause, IsForServe, IsServedWall, IsSpent, IsUnbound, Left, Runs}
 use Rattle.host_serve.specs.Telling.{IsSilent, IsTold, Noting, WritesExport}
+use Rattle.host_serve.specs.Logs.{head_of}
 use Rattle.host_serve.specs.declared.books.Opened.{Opened}
+use Rattle.host_serve.specs.declared.log.Head.{Head}
+use Rattle.host_serve.specs.declared.log.Lines.{Lines}
 use Rattle.host_serve.specs.declared.keeping.KeepFault.{KeepFault}
 use Rattle.host_serve.specs.declared.keeping.KeepFault.TheVariants as fault
 use Rattle.host_serve.specs.declared.end.KeptOutcome.{KeptOutcome}
@@ -44,30 +51,66 @@ IsNotSaid words = (said : ServeView) → IsSaid words said → ⊥
 abbrev pub IsNoKeptServe : List (List ℕ) → Type 0
 IsNoKeptServe words = (said : ServeView) (name : List ℕ) → IsKeptServe words said name → ⊥
 
--- the bookings that a journal leaves for books of the catalogue, where it told this: none where there is no journal, or
--- those of the export that it folds to
-abbrev pub LeavesBookings : Option (List ℕ) → CatalogueView → List KeptBooking → Type 0
-LeavesBookings told cat kept =
-    (IfSome told (λ text. text ≡ []) × (kept ≡ []))
-    ⊎ ((text : List ℕ) × IfSome told (λ all. all ≡ text) × (view : FoldView) × IsFoldFor cat text view
-    × IsExportFor cat view.export kept)
+-- what the books of `serve` may begin with: the shelf's files, the name of an export, where the words have one, and
+-- what the journal told
+pub record Sources : Type 0 where
+  pub files : Files
+  pub from : Option (List ℕ)
+  pub told : Option (List ℕ)
 
--- books and their first desk have opened with just these
-abbrev pub LeavesOpened : Option (List ℕ) → CatalogueView → Opened → Type 0
-LeavesOpened told cat opened =
-    (kept : List KeptBooking) × LeavesBookings told cat kept × IsOpened cat kept opened.books opened.first
+-- there is no journal, where that is told
+abbrev pub IsWithoutJournal : Sources → Type 0
+IsWithoutJournal s = IfSome s.told (λ text. text ≡ [])
+
+-- The bookings that books of the catalogue begin with. Where there is no journal they are those of the export, or none
+-- where none is named. Where there is one, no export is named, and they are those of the export that it folds to.
+abbrev pub LeavesBookings : Sources → CatalogueView → List KeptBooking → Type 0
+LeavesBookings s cat kept =
+    (IsWithoutJournal s × BeginsWith s.files cat s.from kept)
+    ⊎ ((s.from ≡ None) × (text : List ℕ) × IfSome s.told (λ all. all ≡ text) × (view : FoldView)
+    × IsFoldFor cat text view × IsExportFor cat view.export kept)
+
+-- just the lines of these bookings, as an export has them
+abbrev pub AreLinesFor : List KeptBooking → Lines → Type 0
+AreLinesFor kept lines =
+    (said : List SaidBooking) × (kept ≡ map kept_of said) × AreLinesOf said lines.text.items lines.count
+
+-- books and their first desk have opened with just these, and these are their lines
+abbrev pub LeavesOpened : Sources → CatalogueView → Opened → Lines → Type 0
+LeavesOpened s cat opened lines =
+    (kept : List KeptBooking) × LeavesBookings s cat kept × IsOpened cat kept opened.books opened.first
+    × AreLinesFor kept lines
 
 -- so of a text, which books and their first desk open with
-abbrev pub LeavesIn : CatalogueView → List ℕ → Opened → Type 0
-LeavesIn cat text opened =
-    (view : FoldView) × IsFoldFor cat text view × IsOpenedFrom cat view.export opened.books opened.first
+abbrev pub LeavesIn : CatalogueView → List ℕ → Opened → Lines → Type 0
+LeavesIn cat text opened lines =
+    (view : FoldView) × IsFoldFor cat text view × (kept : List KeptBooking) × IsExportFor cat view.export kept
+    × IsOpened cat kept opened.books opened.first × AreLinesFor kept lines
 
--- why no books were opened with what a journal leaves
-abbrev pub IsNotLeft : CatalogueView → Option (List ℕ) → KeepFault → Type 0
-IsNotLeft cat told fault.TooLarge = IfSome told (λ text. most_of Journal < length text)
-IsNotLeft cat told (fault.Refused refusal) =
-    (text : List ℕ) × IfSome told (λ all. all ≡ text) × IsNotFolded cat text refusal
-IsNotLeft cat told _ = Unit {0}
+-- the head of a journal of the catalogue: its print, and how many places and rows it has
+abbrev pub IsHeadFor : CatalogueView → Head → Type 0
+IsHeadFor cat head =
+    head_of head ≡ record { places = length (legs_in cat); rows = cat.rows; print = print_in cat }
+
+-- no export is named
+abbrev pub NamesNone : Option (List ℕ) → Type 0
+NamesNone from = from ≡ None
+
+-- why a journal's text gives no books, where this export is named
+abbrev pub IsShutOut : CatalogueView → Option (List ℕ) → List ℕ → KeepFault → Type 0
+IsShutOut cat from text fault.Exists = NamesNone from → ⊥
+IsShutOut cat from text (fault.Refused refusal) = NamesNone from × IsNotFolded cat text refusal
+IsShutOut cat from text fault.NoMemory = NamesNone from
+IsShutOut cat from text _ = ⊥
+
+-- why no books were opened
+abbrev pub IsNotLeft : CatalogueView → Sources → KeepFault → Type 0
+IsNotLeft cat s fault.TooLarge = IfSome s.told (λ text. most_of Journal < length text)
+IsNotLeft cat s fault.Exists = NamesNone s.from → ⊥
+IsNotLeft cat s (fault.Refused refusal) =
+    NamesNone s.from × (text : List ℕ) × IfSome s.told (λ all. all ≡ text) × IsNotFolded cat text refusal
+IsNotLeft cat s (fault.NotLoaded cause) = IsWithoutJournal s × IsNotOpened s.files cat s.from cause
+IsNotLeft cat s _ = Unit {0}
 
 -- books with this layout were listened for, and served and closed so
 abbrev pub ListensTo : CatalogueView → Layout → Serving → Left → ServeOutcome → Type 0
@@ -88,34 +131,43 @@ pub record IsUnheard (left : Left) : Type 0 where
   pub steady : left.faults_after ≡ left.faults_before
   pub no_wall : left.wall ≡ None
 
--- the catalogue's books with the bookings that the journal left were served so
-pub record ServesLeft (cat : CatalogueView) (said : Serving) (told : Option (List ℕ)) (left : Left)
-    (outcome : ServeOutcome) : Type 0 where
+-- the catalogue's books with these bookings were served so
+pub record ServesLeft (cat : CatalogueView) (said : Serving) (s : Sources) (left : Left) (outcome : ServeOutcome)
+    : Type 0 where
   pub kept : List KeptBooking
-  pub leaves : LeavesBookings told cat kept
+  pub leaves : LeavesBookings s cat kept
   pub listens : ListensTo cat (layout_with (legs_in cat) cat.rows kept) said left outcome
 
 -- Serving the catalogue's books with a journal ended so. A journal is lost only in serving, and then all connections
 -- have ended.
-abbrev pub ServesBooks : CatalogueView → Serving → Option (List ℕ) → Left → KeptOutcome → Type 0
-ServesBooks cat said told left (kept.Plain end.NoMemory) =
+abbrev pub ServesBooks : CatalogueView → Serving → Sources → Left → KeptOutcome → Type 0
+ServesBooks cat said s left (kept.Plain end.NoMemory) =
     (left.wall ≡ None) × (left.after.handed ≡ 0) × (left.faults_after ≡ left.faults_before)
-ServesBooks cat said told left (kept.Plain outcome) = ServesLeft cat said told left outcome
-ServesBooks cat said told left kept.Locked = IsUnheard left
-ServesBooks cat said told left kept.TooLarge =
-    IfSome told (λ text. most_of Journal < length text) × IsUnheard left
-ServesBooks cat said told left (kept.Refused refusal) =
-    ((text : List ℕ) × IfSome told (λ all. all ≡ text) × IsNotFolded cat text refusal) × IsUnheard left
-ServesBooks cat said told left kept.Failed = IsUnheard left
-ServesBooks cat said told left kept.Lost =
-    ServesLeft cat said told left end.Served ⊎ ServesLeft cat said told left end.AcceptFailed
+ServesBooks cat said s left (kept.Plain (end.NotLoaded cause)) =
+    IsNotLeft cat s (fault.NotLoaded cause) × IsUnheard left
+ServesBooks cat said s left (kept.Plain outcome) = ServesLeft cat said s left outcome
+ServesBooks cat said s left kept.Locked = IsUnheard left
+ServesBooks cat said s left kept.Exists = IsNotLeft cat s fault.Exists × IsUnheard left
+ServesBooks cat said s left kept.TooLarge = IsNotLeft cat s fault.TooLarge × IsUnheard left
+ServesBooks cat said s left (kept.Refused refusal) = IsNotLeft cat s (fault.Refused refusal) × IsUnheard left
+ServesBooks cat said s left kept.Failed = IsUnheard left
+ServesBooks cat said s left kept.Lost =
+    ServesLeft cat said s left end.Served ⊎ ServesLeft cat said s left end.AcceptFailed
+
+-- what the books of these words may begin with
+abbrev pub sources_of : Files → ServeView → Option (List ℕ) → Sources
+sources_of files said told = record { files = files; from = said.from; told = told }
 
 -- What the words ask for ended so, before its export: there is no catalogue, or its books were served so.
 abbrev pub ServesKept : Files → ServeView → Option (List ℕ) → Left → KeptOutcome → Type 0
-ServesKept files said told left (kept.Plain (end.NotLoaded fault)) =
-    Loads files said.catalogue (Err fault) × IsUnheard left
+ServesKept files said told left (kept.Plain (end.NotLoaded cause)) =
+    (Loads files said.catalogue (Err cause)
+    ⊎ ((cat : CatalogueView) × Loads files said.catalogue (Ok cat)
+    × IsNotLeft cat (sources_of files said told) (fault.NotLoaded cause)))
+    × IsUnheard left
 ServesKept files said told left outcome =
-    (cat : CatalogueView) × Loads files said.catalogue (Ok cat) × ServesBooks cat said.numbers told left outcome
+    (cat : CatalogueView) × Loads files said.catalogue (Ok cat)
+    × ServesBooks cat said.numbers (sources_of files said told) left outcome
 
 -- what was written of the export by the end, where it is asked for, and what that makes of the end
 abbrev pub WritesKept : Bool → Option WallView → Noting → KeptOutcome → KeptOutcome → Type 0

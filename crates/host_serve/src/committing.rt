@@ -1,16 +1,17 @@
 // The member that has bookings kept.
-ghost use Rattle.std.specs.Prelude.{◌≡◌, IfOk, true};
+ghost use Rattle.std.specs.Prelude.{◌≡◌, ℕ, List, IfOk, IfSome, length};
 ghost use Rattle.claim_rule.specs.Calls.{AddsStepsBy};
 ghost use Rattle.claim_rule.specs.Desks.{IsOf};
 ghost use Rattle.claim_rule.specs.Out.{AllLooks, IsTidy};
-ghost use Rattle.host_serve.specs.Logs.{KeepsCut, KeepsLines, WritesRows, log_end};
+ghost use Rattle.row_cuts.specs.Lines.{mark_blocks};
+ghost use Rattle.host_serve.specs.Logs.{KeepsCut, WritesRows, log_end};
 
-use crate::log::{Lines, Log};
+use crate::log::{Kept, Lines, Log};
 use crate::watching::Watcher;
-use answer_gate::Gate;
+use answer_gate::{Closed, Cuts, Taken};
 use claim_rule::{Books, Desk};
 use rail_io::{Bell, Journal};
-use row_cuts::{push_all_lines, push_marked_lines};
+use row_cuts::{push_all_lines, push_marked_lines, take_all_marks};
 use std::alloc::{AllocError, Global};
 use std::sync::Wait;
 use worker_pool::TurnEnd;
@@ -21,79 +22,96 @@ use worker_pool::TurnEnd;
 #[derive(Drop)]
 pub struct Committer<'g, R, J, B> {
     pub rt: &'g R,
-    pub gate: &'g Gate,
+    pub cuts: &'g Cuts<Kept>,
     pub alloc: Global,
     pub log: Log<J>,
+    /// The marks that were taken for the last cut; kept from one to the next, so that a cut takes no memory for them.
+    pub marks: Vec<u64>,
     /// Is rung at the port once the journal is lost, since a member may wait there for a connection.
     pub bell: B,
     pub port: u16,
 }
 
-/// The lines of all rows, or of those that are marked, as looks show them.
-fn look(alloc: Global, books: &Books, desk: &mut Desk, is_whole: bool) -> Result<Lines, AllocError>
+/// The lines of all rows, or of those that are set in these marks, as looks show them while the gate is closed.
+fn look(
+    _closed: &Closed,
+    alloc: Global,
+    books: &Books,
+    desk: &mut Desk,
+    is_whole: bool,
+    marks: &[u64],
+) -> Result<Lines, AllocError>
     requires own { IsOf books.now desk.old }
+    requires marks { length marks.now ≡ mark_blocks books.now.layout.rows }
     ensures own { IsOf books.now desk.new }
     ensures tidy { IsTidy desk.old → IsTidy desk.new }
     ensures looks { AddsStepsBy AllLooks desk.old desk.new }
-    ensures lines { IfOk result (λ lines. AddsStepsBy (WritesRows is_whole books.now.layout.rows lines)
+    ensures lines { IfOk result (λ lines. AddsStepsBy (WritesRows is_whole books.now.layout.rows marks.now lines)
         desk.old desk.new) }
 {
     let mut text = Vec::new(alloc);
     let count = if is_whole {
         push_all_lines(&mut text, books, desk)?
     } else {
-        push_marked_lines(&mut text, books, desk)?
+        push_marked_lines(&mut text, books, desk, marks)?
     };
     Ok(Lines { text, count })
 }
 
-impl<J: Journal> Log<J> {
-    /// Has a cut of these lines kept: as the one of a new journal, or as the one that follows. One without lines is
-    /// kept at once.
-    fn keep(&mut self, alloc: Global, lines: &Lines, is_whole: bool) -> bool
-        ensures head { self.new.head ≡ self.old.head }
-        ensures kept { result ≡ true → KeepsLines is_whole (J.told self.old.journal) (J.told self.new.journal)
-            self.old.head (log_end self.old) lines.now (log_end self.new) }
-    {
-        if is_whole {
-            return self.begin(alloc, lines);
-        }
-        lines.count == 0 || self.append(alloc, lines)
-    }
-}
-
 impl<R: Wait, J: Journal, B: Bell> Committer<'_, R, J, B> {
-    /// Looks at rows, opens the gate, and has their lines kept.
-    fn commit(&mut self, books: &Books, desk: &mut Desk) -> bool
+    /// Looks at all rows, or at those that are set in the marks; opens the gate; and has their lines kept: the cut that
+    /// was taken, and a receipt where it is kept.
+    fn commit(&mut self, closed: Closed, books: &Books, desk: &mut Desk) -> (Taken, Option<Kept>)
+        requires own { IsOf books.now desk.old }
+        requires tidy { IsTidy desk.old }
+        requires marks { length self.old.marks.items ≡ mark_blocks books.now.layout.rows }
+        ensures own { IsOf books.now desk.new }
+        ensures tidy { IsTidy desk.new }
+        ensures looks { AddsStepsBy AllLooks desk.old desk.new }
+        ensures kept { IfSome result.1 (λ _. KeepsCut books.now.layout.rows self.old.marks.items
+            (J.told self.old.log.journal) (J.told self.new.log.journal) self.old.log.head (log_end self.old.log)
+            (log_end self.new.log) desk.old desk.new) }
+    {
+        let is_whole = self.log.is_grown();
+        let marks = self.marks.as_slice();
+        let lines = look(&closed, self.alloc, books, desk, is_whole, marks);
+        let taken = self.cuts.taken(self.rt, closed);
+        let kept = match lines {
+            Ok(lines) => self.log.keep(self.alloc, &lines, is_whole),
+            Err(_) => None,
+        };
+        (taken, kept)
+    }
+
+    /// Takes a cut of all rows that were marked since the cut before, and goes on so.
+    fn take_cut(&mut self, closed: Closed, books: &Books, desk: &mut Desk) -> (Taken, Option<Kept>)
         requires own { IsOf books.now desk.old }
         requires tidy { IsTidy desk.old }
         ensures own { IsOf books.now desk.new }
         ensures tidy { IsTidy desk.new }
         ensures looks { AddsStepsBy AllLooks desk.old desk.new }
-        ensures kept { result ≡ true → KeepsCut books.now.layout.rows (J.told self.old.log.journal)
-            (J.told self.new.log.journal) self.old.log.head (log_end self.old.log) (log_end self.new.log)
-            desk.old desk.new }
+        ensures kept { IfSome result.1 (λ _. (marks : List ℕ) × KeepsCut books.now.layout.rows marks
+            (J.told self.old.log.journal) (J.told self.new.log.journal) self.old.log.head (log_end self.old.log)
+            (log_end self.new.log) desk.old desk.new) }
     {
-        let is_whole = self.log.is_grown();
-        let lines = look(self.alloc, books, desk, is_whole);
-        self.gate.taken(self.rt);
-        match lines {
-            Ok(lines) => self.log.keep(self.alloc, &lines, is_whole),
-            Err(_) => false,
+        if take_all_marks(&mut self.marks, books).is_err() {
+            return (self.cuts.taken(self.rt, closed), None);
         }
+        self.commit(closed, books, desk)
     }
 }
 
 impl<R: Wait, J: Journal, B: Bell> Watcher for Committer<'_, R, J, B> {
     fn watch(&mut self, books: &Books, desk: &mut Desk) -> TurnEnd {
-        let Some(cut) = self.gate.next_cut(self.rt) else {
+        let Some(closed) = self.cuts.next_cut(self.rt) else {
             return TurnEnd::End;
         };
-        if self.commit(books, desk) {
-            self.gate.keep(self.rt, cut);
+        let (taken, kept) = self.take_cut(closed, books, desk);
+        if let Some(kept) = kept {
+            self.cuts.keep(self.rt, taken, kept);
             return TurnEnd::Again;
         }
-        self.gate.lose(self.rt);
+        self.cuts.lose(self.rt, taken);
         self.bell.ring(self.port);
         TurnEnd::End
     }

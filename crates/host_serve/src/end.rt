@@ -83,6 +83,8 @@ pub enum KeptOutcome {
     Plain(ServeOutcome),
     /// Another host has the journal.
     Locked,
+    /// The journal is there, and an export is named that the books are to begin with.
+    Exists,
     /// The journal has more bytes than it may have.
     TooLarge,
     /// The journal's text gives no books.
@@ -125,6 +127,7 @@ pub fn kept_end(outcome: KeptOutcome) -> CommandEnd
     match outcome {
         KeptOutcome::Plain(outcome) => command_end(outcome),
         KeptOutcome::Locked => CommandEnd::JournalLocked,
+        KeptOutcome::Exists => CommandEnd::JournalExists,
         KeptOutcome::TooLarge => CommandEnd::NotLoaded(LoadFault::TooLarge(File::Journal)),
         KeptOutcome::Refused(refusal) => CommandEnd::JournalRefused(refusal),
         KeptOutcome::Failed => CommandEnd::JournalFailed,

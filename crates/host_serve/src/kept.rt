@@ -18,7 +18,7 @@ ghost use Rattle.host_serve.specs.Crews.{IsFirst};
 ghost use Rattle.host_serve.specs.Ends.{end_of_kept, end_of_serve, status_of_kept, status_of_serve};
 ghost use Rattle.host_serve.specs.Kept.{EndsAlone, EndsKept, HasKeptCause, IsNotSaid, IsSaid, Scene, ServesBooks};
 ghost use Rattle.host_serve.specs.Kept.{ServesKept};
-ghost use Rattle.host_serve.specs.Kept.{WritesKept};
+ghost use Rattle.host_serve.specs.Kept.{WritesKept, sources_of};
 ghost use Rattle.host_serve.specs.Serve.{Ends, HasShelfCause, IsNoServe, left_by};
 ghost use Rattle.host_serve.specs.Telling.{IsBefore};
 ghost use Rattle.host_serve.specs.Turns.{Asks, HasCatalogue};
@@ -43,6 +43,7 @@ use host_words::{CommandName, ServeWords, WordsFault, is_for, read_serve};
 use rail_catalogue::Catalogue;
 use rail_io::{Bell, Clock, Journal, Shelf, Sink, Ticker};
 use rail_service::Listener;
+use row_cuts::new_marks;
 use std::alloc::{AllocError, Global};
 use std::sync::Wait;
 use std::thread::Threads;
@@ -126,10 +127,12 @@ fn list_of<W: Drop>(alloc: Global, item: W) -> Result<Vec<W>, AllocError>
     Ok(list)
 }
 
-/// Serves the catalogue's books with the bookings that a journal leaves, and has them kept there.
+/// Serves the catalogue's books with the bookings that the journal of the words leaves, or that their export begins
+/// with, and has them kept there.
 fn serve_left<
     'g,
     R: Threads + Wait + Sync,
+    F: Shelf,
     L: Listener + Drop + Send,
     T: Ticker + Drop + Send,
     C: Clock + Drop + Send,
@@ -138,7 +141,8 @@ fn serve_left<
 >(
     rt: &'g R,
     common: Common<'_>,
-    name: &str,
+    said: &ServeWords<'_>,
+    shelf: &mut F,
     devices: Devices<L, T, C>,
     keeping: Keeping<'g, J, B>,
 ) -> Run<KeptOutcome, L>
@@ -149,40 +153,48 @@ where
     requires fresh { (L.told devices.listener).handed ≡ 0 }
     requires ranges { IsInRange common.said }
     ensures never_falls { L.faults devices.listener ≤ L.faults result.listener }
-    ensures serves { ServesBooks common.entry.cat.now common.entry.said (J.told keeping.entry.journal)
+    ensures serves { ServesBooks common.entry.cat.now common.entry.said
+        (sources_of (F.told shelf.old) (said_in said.now) (J.told keeping.entry.journal))
         (record
         (left_by L.told L.faults L.becomes L.hands (map C.told devices.clocks.items) (Asks T.ticked devices.ticker)
         devices.listener result.listener result.wall) { watchers = 1 })
         result.outcome }
+    ensures same { F.told shelf.new ≡ F.told shelf.old }
+    ensures cause { HasKeptCause result.outcome (F.faults shelf.old) (F.faults shelf.new)
+        (F.misses shelf.old) (F.misses shelf.new) }
 {
     let Keeping {
-        gate,
+        cuts,
         journal,
         bell,
     } = keeping;
-    let (opened, log) = match open_journal(common.alloc, common.cat, journal, name) {
+    let (opened, log) = match open_journal(common.alloc, shelf, common.cat, said, journal) {
         Ok(opened) => opened,
         Err(fault) => return Run::without_wall(fault.outcome(), devices.listener),
     };
+    let Ok(marks) = new_marks(common.alloc, &opened.books) else {
+        return Run::without_wall(ServeOutcome::NoMemory.kept(false), devices.listener);
+    };
     let committer = Committer {
         rt,
-        gate,
+        cuts,
         alloc: common.alloc,
         log,
+        marks,
         bell,
         port: common.said.port,
     };
     let Ok(watchers) = list_of(common.alloc, committer) else {
         return Run::without_wall(ServeOutcome::NoMemory.kept(false), devices.listener);
     };
-    gate.expect(rt, common.said.workers + 1);
+    cuts.gate().expect(rt, common.said.workers + 1);
     let Run {
         outcome,
         listener,
         wall,
     } = listen_and_serve(rt, common, opened, devices, watchers);
     Run {
-        outcome: outcome.kept(gate.is_lost(rt)),
+        outcome: outcome.kept(cuts.is_lost()),
         listener,
         wall,
     }
@@ -233,9 +245,9 @@ where
         alloc,
         cat: &cat,
         said: said.numbers,
-        gate: Some(keeping.gate),
+        gate: Some(keeping.cuts.gate()),
     };
-    serve_left(rt, common, said.journal.unwrap_or(""), devices, keeping)
+    serve_left(rt, common, said, shelf, devices, keeping)
 }
 
 /// What the words of `serve` say.
@@ -409,17 +421,18 @@ fn end_unread<E: Sink, L>(outcome: ServeOutcome, listener: L, notes: &mut E) -> 
 }
 
 /// Serves a catalogue to connections as `run_serve` does, with a journal where the words name one by `--journal`. Then
-/// the books begin with the bookings that the journal leaves, and one further member has all changes kept there. No
-/// answer that tells of a booking leaves before its cut is kept.
+/// the books begin with the bookings that the journal leaves, and one further member has all changes kept there. Where
+/// there is no such journal they begin with those of the export that `--from` names, or with none. No answer that tells
+/// of a booking leaves before its cut is kept.
 ///
 /// | status | where |
 /// |---|---|
-/// | 1 | another host has the journal; it is larger than 4,294,967,295 bytes; or its text is refused |
+/// | 1 | another host has the journal; it is there, and `--from` is given; it is too large; or its text is refused |
 /// | 3 | the journal couldn't be read, or not be written anew, and nothing was served |
 /// | 4 | the journal failed while its bookings were served, and all connections have ended |
 ///
-/// All else is as without a journal. In the wall's history the further member's desk, which is the last, only looks.
-/// Words that name a journal are refused where none is given.
+/// It is too large from 4,294,967,296 bytes on. All else is as without a journal. In the wall's history the further
+/// member's desk, which is the last, only looks. Words that name a journal are refused where none is given.
 pub fn serve_kept<
     'g,
     R: Threads + Wait + Sync,

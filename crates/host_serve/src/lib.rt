@@ -43,6 +43,7 @@ pub use devices::{CLOCKS, Devices};
 pub use end::{KeptOutcome, ServeEnd, ServeOutcome};
 pub use keeping::Keeping;
 pub use kept::serve_kept;
+pub use log::Kept;
 pub use mark::{Mark, Over};
 pub use member::{Common, Post};
 pub use run::run_serve;

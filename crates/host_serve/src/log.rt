@@ -1,8 +1,9 @@
 // A journal that grows by cuts.
-ghost use Rattle.std.specs.Prelude.{◌≡◌, ◌++◌, ◌<◌, ◌^◌, ◌+◌, IfOk, OnOk, IsSomeAnd, true};
+ghost use Rattle.std.specs.Prelude.{◌≡◌, ◌++◌, ◌<◌, ◌^◌, ◌+◌, IfOk, IfSome, OnOk, IsSomeAnd, true};
 ghost use Rattle.journal_text.specs.Texts.{cut_text, own_sum};
-ghost use Rattle.host_serve.specs.Logs.{BeginsAnew, GrowsBy, cut_with, first_cut, log_end, whole_text};
+ghost use Rattle.host_serve.specs.Logs.{BeginsAnew, GrowsBy, KeepsLines, cut_with, first_cut, log_end, whole_text};
 
+use answer_gate::Receipt;
 use journal_text::{Sum, push_cut, push_head};
 use rail_io::Journal;
 use std::alloc::{AllocError, Global};
@@ -44,6 +45,19 @@ pub struct Log<J> {
     least: usize,
 }
 
+/// A receipt for a cut that the journal keeps. Only a log makes one.
+#[derive(Drop)]
+pub struct Kept {
+    /// How many bytes the journal had then.
+    _size: usize,
+}
+
+impl Receipt for Kept {
+    ghost use Rattle.std.specs.Prelude.{ℕ};
+
+    ghost kept = { λ _. Unit {0} };
+}
+
 /// A text, and its sum or that of its last cut.
 #[derive(Drop)]
 struct Summed {
@@ -74,6 +88,31 @@ impl<J: Journal> Log<J> {
         self.size >= LONG && self.size / 8 >= self.least
             || self.size >= HALF && self.size / 2 >= self.least
             || self.size >= MOST && more >= LONG
+    }
+
+    /// Has a cut of these lines kept: as the one of a new journal, or as the one that follows. One without lines is
+    /// kept at once.
+    pub fn keep(&mut self, alloc: Global, lines: &Lines, is_whole: bool) -> Option<Kept>
+        ensures head { self.new.head ≡ self.old.head }
+        ensures kept { IfSome result (λ _. KeepsLines is_whole (J.told self.old.journal) (J.told self.new.journal)
+            self.old.head (log_end self.old) lines.now (log_end self.new)) }
+    {
+        if !self.has_kept(alloc, lines, is_whole) {
+            return None;
+        }
+        Some(Kept { _size: self.size })
+    }
+
+    // The same, and whether it is kept now.
+    fn has_kept(&mut self, alloc: Global, lines: &Lines, is_whole: bool) -> bool
+        ensures head { self.new.head ≡ self.old.head }
+        ensures kept { result ≡ true → KeepsLines is_whole (J.told self.old.journal) (J.told self.new.journal)
+            self.old.head (log_end self.old) lines.now (log_end self.new) }
+    {
+        if is_whole {
+            return self.begin(alloc, lines);
+        }
+        lines.count == 0 || self.append(alloc, lines)
     }
 
     /// Puts a journal in the place of all that is kept, whose one cut has these lines, and answers whether it is kept

@@ -1,10 +1,10 @@
 -- The values of the words of `serve`, from the rows that `clap` gives.
-use Rattle.std.proofs.Common.{◌≡◌, ◌∙◌, ℕ, Bool, true, false, List, Option, Some, None, refl, ap, codes}
+use Rattle.std.proofs.Common.{◌≡◌, ◌∙◌, ℕ, Bool, List, Option, Some, None, refl, ap, codes}
 use Rattle.std.specs.Prelude.{option_and_then}
 use Rattle.clap.specs.Words.{Row, Text, first_of}
 use Rattle.host_words.specs.declared.serve.Serving.{Serving}
 use Rattle.host_words.specs.Options.{is_set, number_of, matched}
-use Rattle.host_words.specs.Serve.{are_both, numbers_of, serve_app, serve_of, serve_words}
+use Rattle.host_words.specs.Serve.{numbers_of, serve_app, serve_of, serve_words}
 
 module _ (rows : List Row) where
   pub no_port : number_of 1 65535 (codes "port") rows ≡ None → numbers_of rows ≡ None
@@ -36,12 +36,8 @@ module _ (words : List Text) (rows : List Row) (rows_are : matched serve_app wor
   pub no_numbers : (name : Text) → first_of (codes "catalogue") rows ≡ Some name → numbers_of rows ≡ None → serve_words words ≡ None
   no_numbers name named none = ap (option_and_then serve_of) rows_are ∙ rw (named, none) refl
 
-  pub both_named : (name : Text) (numbers : Serving) (from journal : Option Text) → first_of (codes "catalogue") rows ≡ Some name → numbers_of rows ≡ Some numbers
-      → first_of (codes "from") rows ≡ from → first_of (codes "journal") rows ≡ journal → are_both from journal ≡ true → serve_words words ≡ None
-  both_named name numbers from journal named are other kept both = ap (option_and_then serve_of) rows_are ∙ rw (named, are, other, kept, both) refl
-
   pub all_said : (name : Text) (numbers : Serving) (from journal : Option Text) (export : Bool) → first_of (codes "catalogue") rows ≡ Some name
-      → numbers_of rows ≡ Some numbers → first_of (codes "from") rows ≡ from → first_of (codes "journal") rows ≡ journal → are_both from journal ≡ false
+      → numbers_of rows ≡ Some numbers → first_of (codes "from") rows ≡ from → first_of (codes "journal") rows ≡ journal
       → is_set (first_of (codes "export") rows) ≡ export
       → serve_words words ≡ Some (record { catalogue = name; from = from; journal = journal; numbers = numbers; export = export })
-  all_said name numbers from journal export named are other kept both flag = ap (option_and_then serve_of) rows_are ∙ rw (named, are, other, kept, flag, both) refl
+  all_said name numbers from journal export named are other kept flag = ap (option_and_then serve_of) rows_are ∙ rw (named, are, other, kept, flag) refl

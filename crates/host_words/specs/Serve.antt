@@ -1,16 +1,16 @@
 -- The words of `serve`.
-use Rattle.std.specs.Prelude.{◌≤◌, Bool, true, false, List, Option, Some, None, codes, option_and_then, option_map}
-use Rattle.std.specs.Prelude.{if◌then◌else◌}
+use Rattle.std.specs.Prelude.{◌≤◌, Bool, List, Option, codes, option_and_then, option_map}
 use Rattle.clap.specs.Words.{App, Row, Text, new_app, new_rule, with_rule, first_of}
 use Rattle.host_words.specs.declared.serve.Serving.{Serving}
 use Rattle.host_words.specs.Limits.{most_connections, most_port, most_seconds, most_workers}
 use Rattle.host_words.specs.Options.{flag_rule, is_set, option_rule, numbered, required, with_default}
 use Rattle.host_words.specs.Options.{matched, number_of}
 
--- `serve CATALOGUE --port N --workers N --connections N --sweep N --from EXPORT --journal JOURNAL --export`
+-- `serve CATALOGUE --port N --workers N --connections N --sweep N --from EXPORT --journal JOURNAL --export --window N`
 abbrev pub serve_app : App
 serve_app =
-    with_rule (with_rule (with_rule (with_rule (with_rule (with_rule (with_rule (with_rule (new_app (codes "serve"))
+    with_rule (with_rule (with_rule (with_rule (with_rule (with_rule (with_rule (with_rule (with_rule
+    (new_app (codes "serve"))
     (required (new_rule (codes "catalogue"))))
     (required (numbered 1 most_port (option_rule (codes "port")))))
     (with_default (codes "4") (numbered 1 most_workers (option_rule (codes "workers")))))
@@ -18,7 +18,8 @@ serve_app =
     (with_default (codes "30") (numbered 1 most_seconds (option_rule (codes "sweep")))))
     (option_rule (codes "from")))
     (option_rule (codes "journal")))
-    (flag_rule (codes "export"))
+    (flag_rule (codes "export")))
+    (numbered 1 most_port (option_rule (codes "window")))
 
 -- what the words say
 pub record ServeView : Type 0 where
@@ -49,31 +50,19 @@ numbers_of rows =
     (number_of 1 most_workers (codes "workers") rows))
     (number_of 1 most_port (codes "port") rows)
 
--- both an export and a journal are named
-abbrev pub are_both : Option Text → Option Text → Bool
-are_both (Some from) (Some journal) = true
-are_both (Some from) None = false
-are_both None journal = false
-
-abbrev pub serve_with : Text → Serving → Option Text → Option Text → Bool → Option ServeView
-serve_with catalogue numbers from journal export =
-    if are_both from journal then None else Some (record {
-      catalogue = catalogue;
-      from = from;
-      journal = journal;
-      numbers = numbers;
-      export = export;
-    })
-
 abbrev pub serve_of : List Row → Option ServeView
 serve_of rows =
     option_and_then (λ catalogue.
-    option_and_then (λ numbers. serve_with catalogue numbers (first_of (codes "from") rows)
-    (first_of (codes "journal") rows) (is_set (first_of (codes "export") rows)))
+    option_map (λ numbers. record {
+      catalogue = catalogue;
+      from = first_of (codes "from") rows;
+      journal = first_of (codes "journal") rows;
+      numbers = numbers;
+      export = is_set (first_of (codes "export") rows);
+    })
     (numbers_of rows))
     (first_of (codes "catalogue") rows)
 
--- what the words say, and nothing where they are refused: by `clap`, by a number out of its range, or since they name
--- both an export and a journal
+-- what the words say, and nothing where they are refused: by `clap`, or by a number out of its range
 abbrev pub serve_words : List Text → Option ServeView
 serve_words words = option_and_then serve_of (matched serve_app words)

@@ -1,10 +1,10 @@
 // The words of `serve`.
-ghost use Rattle.std.specs.Prelude.{◌≡◌, ◌≤◌, Some, None, IfOk, IfErr, IfSome, codes, false, option_map};
+ghost use Rattle.std.specs.Prelude.{◌≡◌, ◌≤◌, Some, None, IfOk, IfErr, IfSome, codes, false};
 ghost use Rattle.clap.specs.Words.{app_of, found_of, first_of, new_rule, rows_of, rule_of};
 ghost use Rattle.host_words.specs.Options.{flag_rule, is_set, numbered, option_rule, required, with_default};
 ghost use Rattle.host_words.specs.Options.{words_texts};
 ghost use Rattle.host_words.specs.Said.{said_in};
-ghost use Rattle.host_words.specs.Serve.{IsInRange, are_both, serve_app, serve_words, numbers_of};
+ghost use Rattle.host_words.specs.Serve.{IsInRange, serve_app, serve_words, numbers_of};
 
 use crate::fault::WordsFault;
 use crate::options::{from_option, matches_of, number_of};
@@ -31,7 +31,7 @@ pub struct ServeWords<'a> {
     pub catalogue: &'a str,
     /// The name of the export that the books open with. None: they open with no booking, or with those of the journal.
     pub from: Option<&'a str>,
-    /// The name of the journal that is kept. None: none is. Where there is one, no export is named.
+    /// The name of the journal that is kept. None: none is.
     pub journal: Option<&'a str>,
     pub numbers: Serving,
     /// Whether the export of the books is written at the end.
@@ -102,7 +102,17 @@ fn export_option<'a>(alloc: Global) -> Arg<'a>
         .action(ArgAction::SetTrue)
 }
 
-fn serve_command<'a>(alloc: Global) -> Result<Command<'a>, AllocError>
+fn window_option<'a>(alloc: Global) -> Arg<'a>
+    ensures rule { rule_of result ≡ numbered 1 65535 (option_rule (codes "window")) }
+    ensures local { result.global ≡ false }
+{
+    Arg::new(alloc, "window")
+        .long("window")
+        .value_parser(clap::value_parser!(u32).range(1..=65_535))
+}
+
+/// What `clap` takes as the words of `serve`.
+pub(crate) fn serve_command<'a>(alloc: Global) -> Result<Command<'a>, AllocError>
     ensures { IfOk result (λ command. app_of command ≡ serve_app) }
 {
     Command::new(alloc, "serve")
@@ -113,7 +123,8 @@ fn serve_command<'a>(alloc: Global) -> Result<Command<'a>, AllocError>
         .arg(sweep_option(alloc))?
         .arg(from_option(alloc))?
         .arg(journal_option(alloc))?
-        .arg(export_option(alloc))
+        .arg(export_option(alloc))?
+        .arg(window_option(alloc))
 }
 
 fn numbers_in(matches: &ArgMatches<'_>) -> Option<Serving>
@@ -142,17 +153,6 @@ fn is_exporting(matches: &ArgMatches<'_>) -> bool
     }
 }
 
-// Whether both an export and a journal are named.
-fn names_both(from: Option<&str>, journal: Option<&str>) -> bool
-    ensures { result
-        ≡ are_both (option_map (λ name. name.now) from.entry) (option_map (λ name. name.now) journal.entry) }
-{
-    match from {
-        Some(_) => journal.is_some(),
-        None => false,
-    }
-}
-
 /// What the words say, of which the first is `serve` itself.
 pub fn read_serve<'a>(alloc: Global, words: &'a [String]) -> Result<ServeWords<'a>, WordsFault>
     ensures ok { IfOk result (λ said. serve_words (words_texts words.now) ≡ Some (said_in said)) }
@@ -166,15 +166,10 @@ pub fn read_serve<'a>(alloc: Global, words: &'a [String]) -> Result<ServeWords<'
     let Some(numbers) = numbers_in(&matches) else {
         return Err(WordsFault::Refused);
     };
-    let from = matches.get_str("from");
-    let journal = matches.get_str("journal");
-    if names_both(from, journal) {
-        return Err(WordsFault::Refused);
-    }
     Ok(ServeWords {
         catalogue,
-        from,
-        journal,
+        from: matches.get_str("from"),
+        journal: matches.get_str("journal"),
         numbers,
         export: is_exporting(&matches),
     })

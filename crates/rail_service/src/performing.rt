@@ -1,15 +1,20 @@
 //! What a retailer's command does, and is answered.
 ghost use Rattle.std.specs.Prelude.{◌≡◌, Ok};
 ghost use Rattle.session_loop.specs.Answered.{answer_bytes};
+ghost use Rattle.rail_io.specs.declared.clock.Reach.TheVariants.{Changes};
+ghost use Rattle.rail_service.specs.Reaching.{reach_of as reach_in};
 ghost use Rattle.rail_catalogue.specs.Contents.{legs_in};
 ghost use Rattle.claim_rule.specs.Desks.{IsOf};
 ghost use Rattle.claim_rule.specs.Out.{IsIdle, IsTidy, MakesEmpty};
 ghost use Rattle.shop.specs.Homes.{IsAtHome, StaysHome};
+ghost use Rattle.expiry_sweeper.specs.Complete.{LeavesNoneOverdue};
 ghost use Rattle.osdm_texts.specs.Answers.{Reply, told_of};
 ghost use Rattle.osdm_json.specs.Readable.{IsReadable};
 ghost use Rattle.service_rules.specs.Checks.{ordered};
 ghost use Rattle.service_rules.specs.Orders.{order_view, IsSoundOrder};
 ghost use Rattle.service_rules.specs.Answering.{Answers, BooksAllOrNone};
+ghost use Rattle.service_laws.specs.Bounded.{EndsWithin};
+ghost use Rattle.service_laws.specs.Commands.{IfSweeps};
 ghost use Rattle.rail_service.specs.Bytes.{reply_bytes};
 ghost use Rattle.rail_service.specs.Commands.{Says, GoesOn};
 ghost use Rattle.rail_service.specs.Sparing.{MakesFor};
@@ -24,6 +29,7 @@ use osdm_json::{Command, Problem};
 use osdm_texts::Written;
 use rail_catalogue::Catalogue;
 use rail_ids::RetailerNo;
+use rail_io::Clock;
 use rail_time::Moment;
 use reservation_service::{book_offer, reserve_places};
 use search_service::{list_places, search_offers};
@@ -37,8 +43,9 @@ use trade_service::{
 /// Does what a retailer's command asks at this moment, and answers it.
 ///
 /// The answer is the command's defined reply, by the desk's own entries in this very call, whatever other desks do
-/// meanwhile. The books have the catalogue's places and rows, and the command is one that was read. Inlined, since an
-/// answer is large to hand on.
+/// meanwhile. They are no more than the catalogue, the moment and the order give. A sweep leaves no booking prebooked
+/// that was late when it began. The books have the catalogue's places and rows, and the command is one that was read.
+/// Inlined, since an answer is large to hand on.
 #[inline(always)]
 pub fn perform(
     alloc: Global,
@@ -60,6 +67,9 @@ pub fn perform(
     ensures tidy { IsTidy desk.old → IsTidy desk.new }
     ensures no_item { MakesEmpty desk.new }
     ensures goes_on { GoesOn desk.old desk.new }
+    ensures bound { EndsWithin cat.now now (ordered cat.now now command.now) desk.old desk.new }
+    ensures complete { IfSweeps (ordered cat.now now command.now)
+        (LeavesNoneOverdue books.now now desk.old desk.new) }
     ensures answer { (reply : Reply) × Answers cat.now retailer.0 now command.now desk.old desk.new reply
         × BooksAllOrNone cat.now now command.now desk.old desk.new reply
         × MakesFor desk.old desk.new reply
@@ -72,6 +82,26 @@ pub fn perform(
     };
     let said = say(&shop, desk, asker, command);
     answer_of(said, last, 0)
+}
+
+/// What the services answer to a command that has begun.
+#[inline(always)]
+pub(crate) fn say_begun<C: Clock>(
+    clock: &C,
+    shop: &Shop<'_>,
+    desk: &mut Desk,
+    asker: Asker,
+    command: &Command,
+) -> Result<Written, Problem>
+    requires begun { reach_in command.now ≡ Changes → C.inside clock.now }
+    requires home { IsAtHome shop.now.books.now desk.old }
+    requires command { IsReadable shop.now.cat.now command.now }
+    ensures home { StaysHome shop.now.books.now desk.old desk.new }
+    ensures said { Says shop.now.cat.now asker.retailer.0 asker.moment
+        (ordered shop.now.cat.now asker.moment command.now) desk.old desk.new (told_of result) }
+{
+    let _ = clock;
+    say(shop, desk, asker, command)
 }
 
 /// What the services answer to a command.

@@ -6,3 +6,5 @@ pub mod ReadBack
 pub mod Quiet
 pub mod Kept
 pub mod Unchanged
+pub mod Marking
+pub mod Ends

@@ -22,7 +22,7 @@ use Rattle.claim_rule.proofs.Shapes.{shape_none, shape_then}
 use Rattle.cold_store.specs.Lines.{text_of}
 use Rattle.booking_rows.proofs.Looked.{row_looked}
 use Rattle.booking_rows.proofs.ViewLemmas.{looks_append}
-use Rattle.row_cuts.specs.Lines.{AreRowsBetween, WritesLines, WritesSome, all_kept, kept_line, line_count, line_text}
+use Rattle.row_cuts.specs.Lines.{WritesLines, all_kept, kept_line, line_count, line_text}
 use Rattle.row_cuts.specs.Looks.{GoesOn, IsRowLook, LooksAt, RowLook, generation_looked, kept_looked, look_steps, looks_steps, phase_looked}
 
 -- all of it are looks
@@ -38,9 +38,6 @@ all_look (l ∷ looks) all =
 
 pub looks_of : (rows old new : List ℕ) (count : ℕ) (a b : DeskView) → AddsStepsBy (WritesLines rows old new count) a b → AddsStepsBy AllLooks a b
 looks_of rows old new count a b (es, w, did) = (es, subst AllLooks (sym w.steps) (all_look w.looks w.each), did)
-
-pub looks_some : (from to : ℕ) (old new : List ℕ) (count : ℕ) (a b : DeskView) → AddsStepsBy (WritesSome from to old new count) a b → AddsStepsBy AllLooks a b
-looks_some from to old new count a b (es, (rows, between, w), did) = looks_of rows old new count a b (es, w, did)
 
 pub looks_at : (row : ℕ) (kept : Option KeptBooking) (a b : DeskView) → AddsStepsBy (LooksAt row kept) a b → AddsStepsBy AllLooks a b
 looks_at row kept a b (es, (l, is, at, k, steps), did) = (es, subst AllLooks (sym steps) (refl, row_look l (is_sealed (phase_looked l)) is), did)
@@ -145,65 +142,12 @@ lines_few rows old new count a b (es, w, did) =
     let long : length w.looks ≡ length rows = sym (length-map w.looks (λ (l : RowLook). l.row)) ∙ ap (λ (x : List ℕ). length x) w.are in
     let counts = w.counts in omega arith
 
--- rows in a range
-
-between_lower : (a b to : ℕ) (rows : List ℕ) → a ≤ b → AreRowsBetween b to rows → AreRowsBetween a to rows
-between_lower a b to [] less is = tt
-between_lower a b to (row ∷ rows) less is = (let from = is.0 in omega arith, is.1, is.2)
-
-between_higher : (from a b : ℕ) (rows : List ℕ) → a ≤ b → AreRowsBetween from a rows → AreRowsBetween from b rows
-between_higher from a b [] less is = tt
-between_higher from a b (row ∷ rows) less is = (is.0, (let below = is.1 in omega arith), between_higher (row + 1) a b rows less is.2)
-
-between_then : (from a to : ℕ) (xs ys : List ℕ) → from ≤ a → a ≤ to → AreRowsBetween from a xs → AreRowsBetween a to ys → AreRowsBetween from to (xs ++ ys)
-between_then from a to [] ys low high is more = between_lower from a to ys low more
-between_then from a to (x ∷ xs) ys low high is more =
-    let below = is.1 in (is.0, omega arith, between_then (x + 1) a to xs ys (omega arith) high is.2 more)
-
-few_between : (from to : ℕ) (rows : List ℕ) → from ≤ to → AreRowsBetween from to rows → from + length rows ≤ to
-few_between from to [] less is = omega arith
-few_between from to (row ∷ rows) less is =
-    let a = is.0 in let b = is.1 in let more = few_between (row + 1) to rows (omega arith) is.2 in omega arith
-
-pub some_then : (from at to : ℕ) (old now new : List ℕ) (n m : ℕ) (a b c : DeskView) → from ≤ at → at ≤ to → AddsStepsBy (WritesSome from at old now n) a b → AddsStepsBy (WritesSome at to now new m) b c
-    → AddsStepsBy (WritesSome from to old new (n + m)) a c
-some_then from at to old now new n m a b c low high (es, (xs, p, w), did) (fs, (ys, q, v), went) =
-    let both = lines_then xs ys old now new n m a b c (es, w, did) (fs, v, went) in
-    (both.0, (xs ++ ys, between_then from at to xs ys low high p q, both.1), both.2)
-
-pub some_none : (from to : ℕ) (text : List ℕ) (a : DeskView) → IsLegal a.layout a.seen → AddsStepsBy (WritesSome from to text text 0) a a
-some_none from to text a legal = let none = lines_none text a legal in (none.0, ([], tt, none.1), none.2)
-
-pub some_one : (row to : ℕ) (old new : List ℕ) (count : ℕ) (a b : DeskView) → row < to → AddsStepsBy (WritesLines (row ∷ []) old new count) a b → AddsStepsBy (WritesSome row to old new count) a b
-some_one row to old new count a b below (es, w, did) = (es, (row ∷ [], (omega arith, below, tt), w), did)
-
-pub some_few : (from to : ℕ) (old new : List ℕ) (count : ℕ) (a b : DeskView) → from ≤ to → AddsStepsBy (WritesSome from to old new count) a b → from + count ≤ to
-some_few from to old new count a b less (es, (rows, between, w), did) =
-    let few = lines_few rows old new count a b (es, w, did) in
-    let long = few_between from to rows less between in omega arith
-
--- one block more
-pub blocks_then : (block rows start : ℕ) (old now new : List ℕ) (n m : ℕ) (a b c : DeskView) → start ≡ 64 * block → start ≤ rows → AddsStepsBy (WritesSome 0 (min (64 * block) rows) old now n) a b → AddsStepsBy (WritesSome start (min (start + 64) rows) now new m) b c
-    → AddsStepsBy (WritesSome 0 (min (64 * (block + 1)) rows) old new (n + m)) a c
-blocks_then block rows start old now new n m a b c is low so more =
-    let at : min (64 * block) rows ≡ start = omega arith in
-    let to : min (start + 64) rows ≡ min (64 * (block + 1)) rows = omega arith in
-    some_then 0 start (min (64 * (block + 1)) rows) old now new n m a b c (omega arith) (omega arith)
-    (subst (λ (x : ℕ). AddsStepsBy (WritesSome 0 x old now n) a b) at so)
-    (subst (λ (x : ℕ). AddsStepsBy (WritesSome start x now new m) b c) to more)
-
 pub few_sum : (n m row end : ℕ) → n ≤ row → m ≤ 1 → row < end → end ≤ 262144 → n + m < 2 ^ 64
 few_sum n m row end a b c d = omega arith
 
-pub few_sum_block : (start n m row end rows : ℕ) → start + n ≤ row → row + m ≤ row + 1 → row < end → end ≡ min (start + 64) rows → rows ≤ 262144 → n + m < 2 ^ 64
-few_sum_block start n m row end rows a b c d e = omega arith
-
-pub few_blocks : (block n m rows start : ℕ) → start ≡ 64 * block → start ≤ rows → 0 + n ≤ min (64 * block) rows → start + m ≤ min (start + 64) rows → rows ≤ 262144 → n + m < 2 ^ 64
-few_blocks block n m rows start a b c d e = omega arith
-
 -- all rows
 
-itself : (xs : List ℕ) → map (λ n. n) xs ≡ xs
+pub itself : (xs : List ℕ) → map (λ n. n) xs ≡ xs
 itself [] = refl
 itself (x ∷ xs) = ap (λ (ys : List ℕ). x ∷ ys) (itself xs)
 

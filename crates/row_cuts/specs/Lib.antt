@@ -4,3 +4,4 @@ pub mod Prints
 pub mod Cuts
 pub mod Quiet
 pub mod Kept
+pub mod Exports

@@ -1,6 +1,7 @@
 -- What is written of rows.
-use Rattle.std.specs.Prelude.{◌≡◌, ℕ, ◌+◌, ◌<◌, ◌≤◌, ◌==◌, if◌then◌else◌, List, [], ◌∷◌, ◌++◌, Option, Some, None, filter_map, length, map, option_to_list}
-use Rattle.std.specs.List.{AllByRecursion}
+use Rattle.std.specs.Prelude.{◌≡◌, ℕ, ◌+◌, ◌/◌, ◌%◌, ◌==◌, Bool, if◌then◌else◌, List, [], ◌∷◌, ◌++◌, Option, Some, None, filter, filter_map, get_or, length, map, option_to_list}
+use Rattle.std.specs.List.{AllByRecursion, range_with_len}
+use Rattle.std.specs.Int.{bit_at}
 use Rattle.history_model.specs.declared.entry.Step.{Step}
 use Rattle.claim_rule.specs.Openings.{KeptBooking, stub}
 use Rattle.cold_store.specs.Lines.{booking_line, said_of, text_of}
@@ -48,12 +49,21 @@ pub record WritesLines (rows old new : List ℕ) (count : ℕ) (es : List Step) 
   pub text : new ≡ old ++ text_of (map kept_line (all_kept looks))
   pub counts : count ≡ length (all_kept looks)
 
--- rows in rising number, from one on and below another
-abbrev pub AreRowsBetween : ℕ → ℕ → List ℕ → Type 0
-AreRowsBetween from to [] = Unit {0}
-AreRowsBetween from to (row ∷ more) = (from ≤ row) × (row < to) × AreRowsBetween (row + 1) to more
+-- how many rows have their marks in one number
+abbrev pub block_rows : ℕ
+block_rows = 64
 
--- the lines of some rows between these
-abbrev pub WritesSome : ℕ → ℕ → List ℕ → List ℕ → ℕ → List Step → Type 0
-WritesSome from to old new count es =
-    (rows : List ℕ) × AreRowsBetween from to rows × WritesLines rows old new count es
+-- how many numbers have the marks of these rows: one for each block, and one more for the rest
+abbrev pub mark_blocks : ℕ → ℕ
+mark_blocks rows = rows / block_rows + 1
+
+-- whether the row is marked in the marks of its block, the first row of which has the lowest bit
+abbrev pub is_set : ℕ → ℕ → Bool
+is_set marks row = bit_at marks (row % block_rows) == 1
+
+abbrev pub is_marked : List ℕ → ℕ → Bool
+is_marked marks row = is_set (get_or marks (row / block_rows) 0) row
+
+-- all rows that are marked, in rising number
+abbrev pub marked_rows : ℕ → List ℕ → List ℕ
+marked_rows rows marks = filter (is_marked marks) (range_with_len 0 rows)

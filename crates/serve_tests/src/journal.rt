@@ -2,7 +2,7 @@
 ghost use Rattle.std.specs.Prelude.{◌≡◌};
 
 use crate::connections::{clocks_of, has_two_bookings, shelf_of, two_streams, words_of};
-use answer_gate::Gate;
+use answer_gate::Cuts;
 use claim_rule::Wall;
 use host_serve::{Devices, Keeping, ServeEnd, serve_kept};
 use journal_text::fold;
@@ -82,7 +82,7 @@ fn serve_two<R: Threads + Wait + Sync>(
     journal: &Mutex<MemoryJournal>,
     notes: &mut VecSink,
 ) -> Result<(u8, Option<Wall>), AllocError> {
-    let gate = Gate::new();
+    let cuts = Cuts::new();
     let words = words_of(alloc, KEPT)?;
     let mut shelf = shelf_of(alloc)?;
     let devices = Devices {
@@ -91,7 +91,7 @@ fn serve_two<R: Threads + Wait + Sync>(
         clocks: clocks_of(alloc, 0)?,
     };
     let keeping = Keeping {
-        gate: &gate,
+        cuts: &cuts,
         journal: Shared {
             rt,
             journal,

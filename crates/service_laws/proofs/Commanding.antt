@@ -34,13 +34,13 @@ use Rattle.trade_service.specs.Refunds.{IsQuoteReply, refund_reply}
 use Rattle.service_laws.specs.Begun.{BeginsAfter}
 use Rattle.service_laws.specs.Honoured.{HonoursRefund, HonoursExchange}
 use Rattle.service_laws.specs.Commands.{SweepCommandsAreComplete, RefundCommandsAreHonoured, ExchangeCommandsAreHonoured, RepliesHonour, TriesExchange}
-use Rattle.service_laws.proofs.Own.{begin_one}
-use Rattle.service_laws.proofs.SweepLemmas.{sweeps_complete}
+use Rattle.service_laws.proofs.Calls.{begin_one}
+use Rattle.expiry_sweeper.proofs.Completing.{leaves_none}
 use Rattle.service_laws.proofs.Honouring.{in_time, refunds_honoured, exchanges_honoured}
 
 pub sweep_commands_complete : SweepCommandsAreComplete
-sweep_commands_complete cat books old new begun row retailer now reply of rows (swept, swept_by, is) begins over =
-    sweeps_complete books old new begun row now swept of (subst (λ (n : ℕ). AddsStepsBy (Sweeps n now swept) old new) rows swept_by) begins over
+sweep_commands_complete cat books old new retailer now reply of rows (swept, swept_by, is) =
+    leaves_none books old new now swept of (subst (λ (n : ℕ). AddsStepsBy (Sweeps n now swept) old new) rows swept_by)
 
 -- the second part of a call begins after all that the whole does
 begins_later : (earlier old mid new : DeskView) (first second : List Step) → AddsSteps old mid first → AddsSteps mid new second → BeginsAfter earlier old new → BeginsAfter earlier mid new

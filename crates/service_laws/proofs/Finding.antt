@@ -30,10 +30,11 @@ use Rattle.claim_rule.proofs.Moves.{is_sound}
 use Rattle.booking_rows.specs.Views.{RowSeen, LooksNone, saw_phase, saw_words, words_read}
 use Rattle.booking_rows.proofs.ViewLemmas.{sealed_not_free}
 use Rattle.refund_core.specs.Quotes.{SeesNone, SeesOwn}
-use Rattle.service_laws.specs.Begun.{BeginsAfter, BeginsAt}
+use Rattle.expiry_sweeper.specs.Complete.{BeginsAt}
+use Rattle.service_laws.specs.Begun.{BeginsAfter}
 use Rattle.service_laws.specs.Told.{HasCome, StandsFrom, IsOver, ShowsFurther, FindsFurther, BookingsAreFound, BookingsAreShown}
-use Rattle.service_laws.proofs.Own.{first_of, rest_of, no_steps, steps_all, steps_since}
-use Rattle.service_laws.proofs.Standing.{ShowsSeal, there, stands, seal_shown, phase_of, stands_so}
+use Rattle.expiry_sweeper.proofs.Own.{first_of, rest_of, no_steps, steps_all, steps_since}
+use Rattle.expiry_sweeper.proofs.Standing.{ShowsSeal, there, stands, seal_shown, phase_of, stands_so}
 use Rattle.service_laws.proofs.QuoteLemmas.{shows_all}
 use Rattle.service_laws.proofs.Honouring.{begun_at, both, looked_some}
 

@@ -33,10 +33,11 @@ use Rattle.exchange_core.specs.Ready.{ReadyView}
 use Rattle.exchange_core.specs.Exchanges.{Readies, difference_at}
 use Rattle.exchange_core.specs.declared.readying.Readied.{Readied}
 use Rattle.exchange_core.specs.declared.readying.Readied.TheVariants as readied
-use Rattle.service_laws.specs.Begun.{BeginsAfter, BeginsAt, HasLeft}
+use Rattle.expiry_sweeper.specs.Complete.{BeginsAt, HasLeft}
+use Rattle.service_laws.specs.Begun.{BeginsAfter}
 use Rattle.service_laws.specs.Honoured.{IsInTime, HonoursRefund, HonoursExchange, RefundQuotesAreHonoured, ExchangeQuotesAreHonoured}
-use Rattle.service_laws.proofs.Own.{first_of, rest_of, no_steps}
-use Rattle.service_laws.proofs.Standing.{ShowsSeal, LeavesPhase}
+use Rattle.expiry_sweeper.proofs.Own.{first_of, rest_of, no_steps}
+use Rattle.expiry_sweeper.proofs.Standing.{ShowsSeal, LeavesPhase}
 use Rattle.service_laws.proofs.QuoteLemmas.{Unmoved, has_left, sees_same, shows_all}
 
 pub in_time : (made now : ℕ) → IsInTime made now → is_stale made now ≡ false

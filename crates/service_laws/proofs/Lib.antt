@@ -1,6 +1,4 @@
-pub mod Standing
-pub mod Own
-pub mod SweepLemmas
+pub mod Calls
 pub mod QuoteLemmas
 pub mod Honouring
 pub mod Commanding

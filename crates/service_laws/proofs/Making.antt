@@ -52,8 +52,8 @@ use Rattle.refund_core.specs.Quotes.{phase_named}
 use Rattle.trade_service.specs.Exchanges.{ready_of}
 use Rattle.service_laws.specs.Told.{HasCome, StandsFrom, CreatedIsSo, ExchangedIsSo}
 use Rattle.service_laws.proofs.Finding.{come_on}
-use Rattle.service_laws.proofs.Own.{around}
-use Rattle.service_laws.proofs.Standing.{stands_so}
+use Rattle.expiry_sweeper.proofs.Own.{around}
+use Rattle.expiry_sweeper.proofs.Standing.{stands_so}
 
 -- the row's present booking is in the making of the desk, and has this retailer
 pub record Made (s : State) (d row retailer : ℕ) : Type 0 where

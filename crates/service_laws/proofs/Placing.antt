@@ -46,7 +46,7 @@ use Rattle.service_rules.specs.Ordered as order
 use Rattle.booking_service.specs.Deciding.{ConfirmsFound, FulfilsFound, ReleasesFound, shows}
 use Rattle.trade_service.specs.Refunds.{RefundsFound}
 use Rattle.service_laws.proofs.Bounding.{at_most, confirms_few, exchange_quotes_few, fulfils_few, lists_few, most_then, no_more, on_booking, pieces_looked, readies_few, refund_quotes_few, refunds_few, releases_few, searches_few, shows_few, sweep_few}
-use Rattle.service_laws.proofs.Own.{around}
+use Rattle.expiry_sweeper.proofs.Own.{around}
 
 -- adding places
 

@@ -27,9 +27,9 @@ use Rattle.claim_rule.proofs.Shapes.{shape_rest}
 use Rattle.booking_rows.specs.Views.{RowSeen, HasWord, saw_end, saw_phase, saw_row, saw_words}
 use Rattle.booking_rows.proofs.ViewLemmas.{sealed_not_free}
 use Rattle.refund_core.specs.Quotes.{SeesOwn}
-use Rattle.service_laws.specs.Begun.{BeginsAt, HasLeft}
-use Rattle.service_laws.proofs.Own.{first_of, rest_of, steps_all, steps_since, around}
-use Rattle.service_laws.proofs.Standing.{ShowsSeal, LeavesPhase, there, seal_shown, phase_left, phase_of, still_there, stands_so}
+use Rattle.expiry_sweeper.specs.Complete.{BeginsAt, HasLeft}
+use Rattle.expiry_sweeper.proofs.Own.{first_of, rest_of, steps_all, steps_since, around}
+use Rattle.expiry_sweeper.proofs.Standing.{ShowsSeal, LeavesPhase, there, seal_shown, phase_left, phase_of, still_there, stands_so}
 
 -- The quote's first look found the booking. From it on, with the other looks of the quote, the history goes on to
 -- where the later call begins

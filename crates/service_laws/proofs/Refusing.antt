@@ -34,7 +34,7 @@ use Rattle.service_rules.specs.Ordered as order
 use Rattle.service_laws.specs.Begun.{BeginsAfter}
 use Rattle.service_laws.specs.Told.{FindsFurther, RefusalsShowFurther, StandsFrom}
 use Rattle.service_laws.proofs.Finding.{bookings_found, shows_it}
-use Rattle.service_laws.proofs.Own.{first_of}
+use Rattle.expiry_sweeper.proofs.Own.{first_of}
 
 -- the first look, and a lost turn
 

@@ -7,7 +7,7 @@ use Rattle.history_model.specs.declared.entry.Step.{Step}
 use Rattle.history_model.specs.declared.entry.Step.TheVariants.{SawRow}
 use Rattle.history_model.specs.declared.phase.Phase.{Phase}
 use Rattle.history_model.specs.declared.phase.Phase.TheVariants.{Confirmed, Fulfilled, Ended}
-use Rattle.history_model.specs.declared.phase.EndKind.TheVariants.{Release}
+use Rattle.history_model.specs.declared.phase.EndKind.TheVariants.{Refund, Release}
 use Rattle.history_model.specs.Phase.{is_sealed}
 use Rattle.history_model.specs.Booking.{Booking, booking_at, present}
 use Rattle.history_model.specs.Allowed.{AllGiven}
@@ -28,14 +28,15 @@ use Rattle.refund_core.specs.Quotes.{SeesOwn}
 use Rattle.confirm_core.specs.declared.confirming.Confirmed.TheVariants as confirmed
 use Rattle.confirm_core.specs.declared.fulfilling.Fulfilment.TheVariants as fulfilled
 use Rattle.refund_core.specs.declared.releasing.Released.TheVariants as released
+use Rattle.refund_core.specs.declared.refunding.Refunded.TheVariants as refunded
 use Rattle.osdm_texts.specs.Answers.{booking}
 use Rattle.booking_rows.specs.Aims.{end_of}
 use Rattle.booking_rows.specs.declared.turns.Aim.TheVariants as aim
 use Rattle.booking_service.specs.Deciding.{at_end}
-use Rattle.service_laws.specs.Told.{HasCome, StandsFrom, ShownIsSo, ConfirmedIsSo, FulfilledIsSo, ReleasedIsSo}
+use Rattle.service_laws.specs.Told.{HasCome, StandsFrom, ShownIsSo, ConfirmedIsSo, FulfilledIsSo, ReleasedIsSo, RefundedIsSo}
 use Rattle.service_laws.proofs.Finding.{come_on, stands_on}
-use Rattle.service_laws.proofs.Own.{around, steps_all}
-use Rattle.service_laws.proofs.Standing.{ShowsSeal, seal_shown, stands_so}
+use Rattle.expiry_sweeper.proofs.Own.{around, steps_all}
+use Rattle.expiry_sweeper.proofs.Standing.{ShowsSeal, seal_shown, stands_so}
 use Rattle.service_laws.proofs.QuoteLemmas.{ShowsAll, shows_all, still_shown}
 
 -- the booking that looks saw, where they began
@@ -153,3 +154,18 @@ released_so cat retailer now row v old new (inr (u, mid, (es, (in_row, sees), di
     done row retailer u v (Ended Release) es fs old mid new did sees more (stands_so s s row f.0 (λ b. b.phase ≡ Ended Release) refl f.1 f.2.0) (told_phase row v (at_end Release (end_of (aim.Release now)) u) is)
 released_so cat retailer now row v old new (inr (u, mid, found, inl (released.Unknown, did, is))) over = absurd cc
 released_so cat retailer now row v old new (inr (u, mid, found, inl (released.WrongState seen, did, is))) over = absurd cc
+
+pub refunded_so : RefundedIsSo
+refunded_so cat retailer now code row v old new (inl (none, is)) over = absurd cc
+refunded_so cat retailer now code row v old new (inr (u, mid, found, inr (same, is))) over = absurd cc
+refunded_so cat retailer now code row v old new (inr (u, mid, (es, (in_row, sees), did), inl (refunded.Done amount, (fs, so, more), is))) over =
+    let s = state_seen new in
+    let end = end_of (aim.Refund now code.amount) in
+    let one : row ≡ code.row = cc in
+    let told : booking code.row v ≡ booking code.row (at_end Refund end u) = ap (λ (r : RowNo). booking r v) (sym one) ∙ is in
+    let f = found (booking_at s code.row.row code.row.generation) (λ b. (b.phase ≡ Ended Refund) × (b.end ≡ end) × AllGiven b) over in
+    subst (StandsFrom v.phase retailer new) (sym one) (done code.row retailer u v (Ended Refund) es fs old mid new did sees more (stands_so s s code.row f.0 (λ b. b.phase ≡ Ended Refund) refl f.1 f.2.0) (told_phase code.row v (at_end Refund end u) told))
+refunded_so cat retailer now code row v old new (inr (u, mid, found, inl (refunded.Unknown, did, is))) over = absurd cc
+refunded_so cat retailer now code row v old new (inr (u, mid, found, inl (refunded.WrongState shown, did, is))) over = absurd cc
+refunded_so cat retailer now code row v old new (inr (u, mid, found, inl (refunded.QuoteStale made at, did, is))) over = absurd cc
+refunded_so cat retailer now code row v old new (inr (u, mid, found, inl (refunded.QuoteWrong, did, is))) over = absurd cc

@@ -1,20 +1,12 @@
--- Where a call of a desk begins.
-use Rattle.std.specs.Prelude.{◌≡◌, ◌≢◌, ◌⊎◌, List}
+-- Which call of a desk begins after which.
+use Rattle.std.specs.Prelude.{◌≡◌, ◌⊎◌, List}
 use mathlib.Core.List.{IsPrefix}
-use Rattle.rail_ids.specs.declared.RowNo.{RowNo}
 use Rattle.history_model.specs.declared.entry.Entry.{Entry}
 use Rattle.history_model.specs.declared.entry.Step.{Step}
-use Rattle.history_model.specs.declared.phase.Phase.{Phase}
-use Rattle.history_model.specs.Booking.{State}
 use Rattle.history_model.specs.History.{own}
-use Rattle.claim_rule.specs.Rule.{DeskView, HasAll, OnBooking}
+use Rattle.claim_rule.specs.Rule.{DeskView, HasAll}
 use Rattle.claim_rule.specs.Desks.{AddsSteps}
-
--- the history before the call's first entry: all that the desk had seen, and maybe entries of others since then
-pub record BeginsAt (old new : DeskView) (begun : List Entry) : Type 0 where
-  pub had : IsPrefix old.seen begun
-  pub goes_on : IsPrefix begun new.seen
-  pub none_yet : own begun old.number ≡ own old.seen old.number
+use Rattle.expiry_sweeper.specs.Complete.{BeginsAt}
 
 -- a call may be said to begin where its desk had seen no more
 abbrev pub CallsBeginAtSeen : Type 0
@@ -39,7 +31,3 @@ abbrev pub LearnedCallsAreLater : Type 0
 LearnedCallsAreLater =
     (told old new : DeskView) (steps : List Step) → AddsSteps old new steps → IsPrefix told.seen old.seen
     → BeginsAfter told old new
-
--- the booking stands in the state, in another phase than this
-abbrev pub HasLeft : Phase → State → RowNo → Type 0
-HasLeft phase s row = OnBooking s row (λ b. b.phase ≢ phase)

@@ -1,5 +1,5 @@
 -- How many steps a command has at most, whatever other desks do meanwhile.
-use Rattle.std.specs.Prelude.{◌≡◌, ℕ, ◌+◌, ◌*◌, Bool, true, false, List, [], ◌∷◌, length}
+use Rattle.std.specs.Prelude.{◌≡◌, ℕ, ◌+◌, ◌*◌, Bool, true, false, List, [], ◌∷◌, length, Result, Ok, Err}
 use Rattle.history_model.specs.Booking.{most_items}
 use Rattle.claim_rule.specs.Rule.{BooksView, DeskView}
 use Rattle.claim_rule.specs.Desks.{AddsAtMost, IsOf}
@@ -15,6 +15,7 @@ use Rattle.trip_builder.specs.Trips.{trips_of}
 use Rattle.offer_engine.specs.Offers.{raised, wanted_places}
 use Rattle.offer_engine.specs.declared.wish.OfferWish.{OfferWish}
 use Rattle.osdm_texts.specs.Answers.{Reply}
+use Rattle.osdm_texts.specs.declared.problem.Problem.{Problem}
 use Rattle.search_service.specs.Searching.{numbers_on}
 use Rattle.service_rules.specs.Ordered as order
 use Rattle.service_rules.specs.Performing.{Performs}
@@ -82,6 +83,11 @@ most_steps cat now (order.accept_exchange code) =
     looks_most + (booked_most cat (exchange_view code).offer false + (ends_most + 1))
 most_steps cat now (order.places segment) = 2 * length (numbers_on cat segment.run.0)
 most_steps cat now order.sweep = sweep_most * cat.rows
+
+-- so a command ends within the steps of what it orders; one that is refused by its codes and ids makes none
+abbrev pub EndsWithin : CatalogueView → ℕ → Result order.Ordered Problem → DeskView → DeskView → Type 0
+EndsWithin cat now (Ok o) old new = AddsAtMost (most_steps cat now o) old new
+EndsWithin cat now (Err p) old new = AddsAtMost 0 old new
 
 -- whatever other desks do, the desk that performs an order adds no more entries than that
 abbrev pub CommandsAreBounded : Type 0

@@ -1,11 +1,8 @@
 -- The same of commands, as they are answered.
-use Rattle.std.specs.Prelude.{◌≡◌, ◌⊎◌, ℕ, List}
+use Rattle.std.specs.Prelude.{◌≡◌, ◌⊎◌, ℕ, Result, Ok}
 use Rattle.rail_ids.specs.declared.RowNo.{RowNo}
-use Rattle.history_model.specs.declared.entry.Entry.{Entry}
 use Rattle.history_model.specs.declared.phase.Phase.{Phase}
-use Rattle.history_model.specs.declared.phase.Phase.TheVariants.{Prebooked}
 use Rattle.history_model.specs.declared.phase.EndKind.TheVariants as kind
-use Rattle.history_model.specs.History.{state_of}
 use Rattle.claim_rule.specs.Rule.{BooksView, DeskView, state_seen}
 use Rattle.claim_rule.specs.Desks.{IsOf}
 use Rattle.booking_rows.specs.Views.{RowSeen}
@@ -20,22 +17,27 @@ use Rattle.refund_core.specs.Quotes.{phase_named}
 use Rattle.exchange_core.specs.Exchanges.{Readies}
 use Rattle.exchange_core.specs.declared.readying.Readied.TheVariants as readied
 use Rattle.osdm_texts.specs.Answers.{Reply, booking, refund_offer, exchange_offer, problem}
+use Rattle.osdm_texts.specs.declared.problem.Problem.{Problem}
 use Rattle.osdm_texts.specs.declared.problem.Problem.TheVariants.{UnknownBooking, WrongState, NoMemory}
 use Rattle.booking_service.specs.Deciding.{Replying, at_end}
 use Rattle.claim_rule.specs.Calls.{AddsStepsBy}
 use Rattle.trade_service.specs.Exchanges.{CarriesOut, ready_of}
 use Rattle.service_rules.specs.Ordered as order
 use Rattle.service_rules.specs.Performing.{Performs}
-use Rattle.service_laws.specs.Begun.{BeginsAt, BeginsAfter, HasLeft}
-use Rattle.service_laws.specs.Complete.{IsOverdue}
+use Rattle.expiry_sweeper.specs.Complete.{HasLeft, LeavesNoneOverdue}
+use Rattle.service_laws.specs.Begun.{BeginsAfter}
 use Rattle.service_laws.specs.Honoured.{IsInTime}
+
+-- what holds where a command orders a sweep
+abbrev pub IfSweeps : Result order.Ordered Problem → Type 0 → Type 0
+IfSweeps (Ok order.sweep) P = P
+IfSweeps _ P = Unit {0}
 
 abbrev pub SweepCommandsAreComplete : Type 0
 SweepCommandsAreComplete =
-    (cat : CatalogueView) (books : BooksView) (old new : DeskView) (begun : List Entry) (row : RowNo)
-    (retailer now : ℕ) (reply : Reply)
+    (cat : CatalogueView) (books : BooksView) (old new : DeskView) (retailer now : ℕ) (reply : Reply)
     → IsOf books old → cat.rows ≡ books.layout.rows → Performs cat retailer now order.sweep old new reply
-    → BeginsAt old new begun → IsOverdue (state_of books.layout begun) row now → HasLeft Prebooked (state_seen new) row
+    → LeavesNoneOverdue books now old new
 
 -- the booking at its end, with the amount of the code; or that there is no memory; or that the booking is unknown or in
 -- another phase, where it has left the phase that the code names

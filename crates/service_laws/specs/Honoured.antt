@@ -17,7 +17,8 @@ use Rattle.exchange_core.specs.Exchanges.{QuotesExchange, Readies}
 use Rattle.exchange_core.specs.declared.quoting.QuotedExchange.TheVariants as quoted_exchange
 use Rattle.exchange_core.specs.declared.readying.Readied.{Readied}
 use Rattle.exchange_core.specs.declared.readying.Readied.TheVariants as readied
-use Rattle.service_laws.specs.Begun.{BeginsAfter, HasLeft}
+use Rattle.expiry_sweeper.specs.Complete.{HasLeft}
+use Rattle.service_laws.specs.Begun.{BeginsAfter}
 
 -- at most 900 seconds after it was made
 abbrev pub IsInTime : ℕ → ℕ → Type 0

@@ -13,6 +13,7 @@ use Rattle.claim_rule.specs.Rule.{BooksView, DeskView, OnBooking, state_seen}
 use Rattle.claim_rule.specs.Desks.{AddsSteps, IsOf}
 use Rattle.claim_rule.specs.Turns.{IsPresentIn}
 use Rattle.booking_rows.specs.Views.{RowSeen}
+use Rattle.refund_core.specs.Refunding.{IsRefunded}
 use Rattle.refund_core.specs.Releasing.{IsReleased}
 use Rattle.rail_catalogue.specs.Contents.{CatalogueView}
 use Rattle.osdm_texts.specs.Answers.{Reply, booking, created, exchanged, problem}
@@ -113,6 +114,13 @@ ReleasedIsSo =
     (cat : CatalogueView) (retailer now : ℕ) (row : RowNo) (v : RowSeen) (old new : DeskView)
     → Performs cat retailer now (order.release row) old new (booking row v) → IsReleased new row now
     → StandsFrom v.phase retailer new row
+
+-- a refund tells of the booking that its quote names
+abbrev pub RefundedIsSo : Type 0
+RefundedIsSo =
+    (cat : CatalogueView) (retailer now : ℕ) (code : RefundCode) (row : RowNo) (v : RowSeen) (old new : DeskView)
+    → Performs cat retailer now (order.accept_refund code) old new (booking row v)
+    → IsRefunded new code.row now code.amount → StandsFrom v.phase retailer new row
 
 -- a booking that was made, with what the contract says of its seal
 abbrev pub CreatedIsSo : Type 0

@@ -7,7 +7,7 @@ ghost use Rattle.service_laws.specs.Commands.{RefundCommandsAreHonoured, Exchang
 ghost use Rattle.service_laws.specs.Complete.{SweepsAreComplete};
 ghost use Rattle.service_laws.specs.Honoured.{RefundQuotesAreHonoured, ExchangeQuotesAreHonoured};
 ghost use Rattle.service_laws.specs.Told.{BookingsAreFound, BookingsAreShown, RefusalsShowFurther};
-ghost use Rattle.service_laws.specs.Told.{ShownIsSo, ConfirmedIsSo, FulfilledIsSo, ReleasedIsSo};
+ghost use Rattle.service_laws.specs.Told.{ShownIsSo, ConfirmedIsSo, FulfilledIsSo, ReleasedIsSo, RefundedIsSo};
 ghost use Rattle.service_laws.specs.Told.{CreatedIsSo, ExchangedIsSo};
 
 /// A call may be said to begin at any point from what its desk had seen to the first entry that it adds. Each desk has
@@ -55,13 +55,14 @@ pub fn told_bookings_are_found()
 {}
 
 /// What a retailer is told of its booking is so in what was seen by then: it stands as this retailer's, in the phase
-/// told or in one that follows it. Of a command that made, confirmed, collected or released it, that rests also on what
-/// the command's own contract says of the booking afterwards.
+/// told or in one that follows it. Of a command that made, confirmed, collected, released or refunded it, that rests
+/// also on what the command's own contract says of the booking afterwards.
 pub fn told_bookings_stand()
     ensures shown { ShownIsSo }
     ensures confirmed { ConfirmedIsSo }
     ensures fulfilled { FulfilledIsSo }
     ensures released { ReleasedIsSo }
+    ensures refunded { RefundedIsSo }
     ensures created { CreatedIsSo }
     ensures exchanged { ExchangedIsSo }
 {}

@@ -1,5 +1,5 @@
 -- The replies to commands on refunds.
-use Rattle.std.proofs.Common.{◌≡◌, ◌∙◌, inl, inr, ℕ, Option, Some, None, Result, Ok, Err, IfOk, IfErr, refl, ap}
+use Rattle.std.proofs.Common.{◌≡◌, ◌∙◌, inl, inr, ℕ, Option, Some, None, Result, Ok, Err, IfOk, IfErr, refl, ap, subst}
 use Rattle.rail_ids.specs.declared.RowNo.{RowNo}
 use Rattle.claim_rule.specs.Rule.{DeskView}
 use Rattle.claim_rule.specs.Calls.{AddsStepsBy}
@@ -10,7 +10,7 @@ use Rattle.offer_codes.specs.declared.code.RefundCode.{RefundCode}
 use Rattle.refund_core.specs.declared.quoting.Quoted.TheVariants as quoted
 use Rattle.refund_core.specs.declared.refunding.Refunded.{Refunded}
 use Rattle.refund_core.specs.declared.refunding.Refunded.TheVariants as refunded
-use Rattle.refund_core.specs.Refunding.{QuotesRefund, AcceptsRefund}
+use Rattle.refund_core.specs.Refunding.{QuotesRefund, AcceptsRefund, IfRefunded, IsRefunded}
 use Rattle.osdm_texts.specs.declared.problem.Problem.{Problem}
 use Rattle.osdm_texts.specs.declared.problem.Problem.TheVariants.{UnknownBooking, WrongState, NoMemory}
 use Rattle.osdm_texts.specs.Answers.{refund_offer, problem, Told, refused as refused_told, reply_told, told_of, Tells}
@@ -54,3 +54,12 @@ refused cat code now v a p is = of_problem cat p ∙ ap (λ (o : Option Problem)
 pub not_refused : (cat : CatalogueView) (code : RefundCode) (now : ℕ) (v : RowSeen) (a : Refunded) (said : Told) → None ≡ refusal_of a
     → said ≡ reply_told cat (refund_reply code now v (refunded.Done 0)) → said ≡ reply_told cat (refund_reply code now v a)
 not_refused cat code now v a said is told_so = told_so ∙ ap (λ (o : Option Problem). reply_told cat (unless o (refund_reply code now v (refunded.Done 0)))) is
+
+-- so the booking has ended, with the amount of the code
+pub is_refunded : (cat : CatalogueView) (rows retailer : ℕ) (code : RefundCode) (now : ℕ) (a : Refunded) (old new : DeskView) → None ≡ refusal_of a
+    → AddsStepsBy (AcceptsRefund cat rows retailer code now a) old new → IfRefunded a (IsRefunded new code.row now) → IsRefunded new code.row now code.amount
+is_refunded cat rows retailer code now (refunded.Done amount) old new is (es, did, added) ended = subst (IsRefunded new code.row now) did.0 ended
+is_refunded cat rows retailer code now refunded.Unknown old new is did ended = absurd cc
+is_refunded cat rows retailer code now (refunded.WrongState shown) old new is did ended = absurd cc
+is_refunded cat rows retailer code now (refunded.QuoteStale made at) old new is did ended = absurd cc
+is_refunded cat rows retailer code now refunded.QuoteWrong old new is did ended = absurd cc

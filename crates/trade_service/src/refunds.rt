@@ -5,6 +5,7 @@ ghost use Rattle.history_model.specs.Booking.{greatest_amount};
 ghost use Rattle.booking_rows.specs.declared.turns.Aim.TheVariants as aim;
 ghost use Rattle.booking_rows.specs.Aims.{end_of};
 ghost use Rattle.offer_codes.specs.Refunds.{is_refund};
+ghost use Rattle.refund_core.specs.Refunding.{IsRefunded};
 ghost use Rattle.osdm_texts.specs.declared.problem.Problem.TheVariants.{NoMemory};
 ghost use Rattle.osdm_texts.specs.Answers.{refund_offer, told_of, Tells};
 ghost use Rattle.shop.specs.Homes.{IsAtHome, StaysHome};
@@ -103,6 +104,7 @@ pub fn accept_refund_booking(
 ) -> Result<Written, Problem>
     requires home { IsAtHome shop.now.books.now desk.old }
     requires range { is_refund code.now ≡ true }
+    ensures refunded { IfOk result (λ _. IsRefunded desk.new code.now.row asker.moment code.now.amount) }
     ensures home { StaysHome shop.now.books.now desk.old desk.new }
     ensures answer { Answered shop.now.cat.now (OnBooking shop.now.books.now.layout.rows code.now.row asker.retailer.0
         (RefundsFound shop.now.cat.now shop.now.books.now.layout.rows asker.retailer.0 code.now asker.moment))

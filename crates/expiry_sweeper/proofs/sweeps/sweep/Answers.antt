@@ -1,6 +1,7 @@
 use Rattle.std.proofs.Common.{◌≡◌, ℕ, ◌+◌, ◌<◌, ◌≤◌, sym, subst, arith}
 use Rattle.claim_rule.proofs.Out.{holds_same, holds_then}
 use Rattle.expiry_sweeper.proofs.Counting.{SweptTo, swept_none, swept_more, small_counts, swept_all, swept_expired, swept_bound, swept_tidy}
+use Rattle.expiry_sweeper.proofs.Completing.{leaves_none}
 use Rattle.expiry_sweeper.proofs.sweeps.sweep.Goals as goal
 
 pub loop-row-init : goal.loop-row-init
@@ -40,6 +41,12 @@ returns-clause-entries c =
     let l = c.loop-row in
     let whole = at_end l.row c.rows-row-end.result c.args.books.now.layout.rows l.auto.row-end c.loop-row-test.false c.rows-row-end.ensures.count in
     swept_all c.args.desk.now l.desk c.args.now l.row c.args.books.now.layout.rows l.swept whole l.invariant.swept
+
+pub returns-clause-complete : goal.returns-clause-complete
+returns-clause-complete c =
+    let l = c.loop-row in
+    let whole = at_end l.row c.rows-row-end.result c.args.books.now.layout.rows l.auto.row-end c.loop-row-test.false c.rows-row-end.ensures.count in
+    leaves_none c.args.books.now c.args.desk.now l.desk c.args.now l.swept c.requires.own (swept_all c.args.desk.now l.desk c.args.now l.row c.args.books.now.layout.rows l.swept whole l.invariant.swept)
 
 pub returns-clause-expired : goal.returns-clause-expired
 returns-clause-expired c =

@@ -1,18 +1,19 @@
 use Rattle.std.proofs.Common.{ℕ, map, sym, subst}
-use Rattle.host_serve.specs.Kept.{ListensTo, ServesBooks}
+use Rattle.host_words.specs.Said.{said_in}
+use Rattle.host_serve.specs.Kept.{HasKeptCause, ListensTo, ServesBooks, Sources, sources_of}
 use Rattle.host_serve.specs.Serve.{Left}
 use Rattle.host_serve.specs.Turns.{Asks, HandedBy}
 use Rattle.host_serve.specs.declared.end.KeptOutcome.{KeptOutcome}
-use Rattle.host_serve.proofs.Leaving.{opened_first, opened_has, served_left}
+use Rattle.host_serve.proofs.Leaving.{listened_kept, opened_first, opened_has, served_left}
 use Rattle.host_serve.proofs.kept.serve_left.Goals as goal
 
 pub listen_and_serve-outcome-requires-clause-has : goal.listen_and_serve-outcome-requires-clause-has
 listen_and_serve-outcome-requires-clause-has g c κs within =
-    let ok = c.in-Ok.ensures.ok in opened_has c.args.common.cat.now ok.0 c.in-Ok.opened.0.books c.in-Ok.opened.0.first ok.2
+    let ok = c.in-Ok.ensures.ok.1 in opened_has c.args.common.cat.now ok.0 c.in-Ok.opened.0.books c.in-Ok.opened.0.first ok.2
 
 pub listen_and_serve-outcome-requires-clause-first : goal.listen_and_serve-outcome-requires-clause-first
 listen_and_serve-outcome-requires-clause-first g c κs within =
-    let ok = c.in-Ok.ensures.ok in opened_first c.args.common.cat.now ok.0 c.in-Ok.opened.0.books c.in-Ok.opened.0.first ok.2
+    let ok = c.in-Ok.ensures.ok.1 in opened_first c.args.common.cat.now ok.0 c.in-Ok.opened.0.books c.in-Ok.opened.0.first ok.2
 
 pub returns-clause-serves : goal.returns-clause-serves
 returns-clause-serves g c =
@@ -28,9 +29,31 @@ returns-clause-serves g c =
       watchers = 1;
       wall = run.result.wall;
     } in
-    let ok = c.in-Ok.ensures.ok in
+    let ok = c.in-Ok.ensures.ok.1 in
     let cat = c.args.common.cat.now in
     let plan = c.in-Ok.opened.0.books.layout in
     let listens = subst (λ (k : ℕ). ListensTo cat plan c.args.common.said (record left { watchers = k }) run.result.outcome) c.in-Ok-list_of.ensures run.ensures.ends in
-    subst (λ (o : KeptOutcome). ServesBooks cat c.args.common.said (g.J.Journal.told c.args.keeping.journal) left o) (sym c.kept-2.ensures)
-    (served_left cat c.args.common.said (g.J.Journal.told c.args.keeping.journal) left ok.0 plan ok.1 ok.2.layout c.is_lost.result run.result.outcome listens)
+    let from : Sources = sources_of (g.F.Shelf.told c.args.shelf.now) (said_in c.args.said.now) (g.J.Journal.told c.args.keeping.journal) in
+    subst (λ (o : KeptOutcome). ServesBooks cat c.args.common.said from left o) (sym c.kept-2.ensures)
+    (served_left cat c.args.common.said from left ok.0 plan ok.1 ok.2.layout c.is_lost.result run.result.outcome listens)
+
+pub returns-clause-cause : goal.returns-clause-cause
+returns-clause-cause g c =
+    let run = c.listen_and_serve-outcome in
+    let left : Left = record {
+      faults_before = g.L.Listener.faults c.args.devices.listener;
+      before = g.L.Listener.told c.args.devices.listener;
+      clocks = map g.C.Clock.told c.args.devices.clocks.items;
+      asks = Asks g.T.Ticker.ticked c.args.devices.ticker;
+      hands = HandedBy g.L.Listener.becomes g.L.Listener.hands c.args.devices.listener;
+      faults_after = g.L.Listener.faults run.result.listener;
+      after = g.L.Listener.told run.result.listener;
+      watchers = 1;
+      wall = run.result.wall;
+    } in
+    let cat = c.args.common.cat.now in
+    let plan = c.in-Ok.opened.0.books.layout in
+    let listens = subst (λ (k : ℕ). ListensTo cat plan c.args.common.said (record left { watchers = k }) run.result.outcome) c.in-Ok-list_of.ensures run.ensures.ends in
+    let from : Sources = sources_of (g.F.Shelf.told c.args.shelf.now) (said_in c.args.said.now) (g.J.Journal.told c.args.keeping.journal) in
+    subst (λ (o : KeptOutcome). HasKeptCause o _ _ _ _) (sym c.kept-2.ensures)
+    (listened_kept cat c.args.common.said from left _ _ _ _ plan c.in-Ok.ensures.steady c.is_lost.result run.result.outcome listens)

@@ -4,7 +4,7 @@ use Rattle.clap.specs.Words.{found_of, rows_of}
 use Rattle.host_words.specs.Options.{words_texts}
 use Rattle.host_words.specs.Serve.{serve_app}
 use Rattle.host_words.proofs.Rows.{text_given, rows_given}
-use Rattle.host_words.proofs.ServeRows.{no_catalogue, no_numbers, not_matched, both_named, all_said}
+use Rattle.host_words.proofs.ServeRows.{no_catalogue, no_numbers, not_matched, all_said}
 use Rattle.host_words.proofs.serve.read_serve.Goals as goal
 
 -- what follows from what is so of an error is so of it
@@ -18,19 +18,6 @@ returns-in_err-matches-clause-refused c =
     err_is c.from_residual-in_err-matches.result
     (λ e same refused. not_matched words (rows_given _ serve_app words None c.in_ok-serve_command.ensures (c.in_err-matches.ensures.refused (sym same ∙ refused))))
     c.from_residual-in_err-matches.ensures.1
-
-pub returns-then-names_both-clause-refused : goal.returns-then-names_both-clause-refused
-returns-then-names_both-clause-refused c _ =
-    let found = found_of c.in_ok-matches.matches in
-    let words = words_texts c.args.words.now in
-    let are = rows_given _ serve_app words (Some (rows_of found)) c.in_ok-serve_command.ensures c.in_ok-matches.ensures.ok in
-    both_named words (rows_of found) are c.in-Some.catalogue.now c.in-Some-numbers_in.numbers (option_map (λ s. s.now) c.get_str-from.result)
-    (option_map (λ s. s.now) c.get_str-journal.result)
-    (text_given found (codes "catalogue") (Some c.in-Some.catalogue.now) (ap (option_map (λ s. s.now)) (sym c.in-Some.is) ∙ c.get_str.ensures))
-    (sym c.numbers_in.ensures.numbers ∙ c.in-Some-numbers_in.is)
-    (text_given found (codes "from") (option_map (λ s. s.now) c.get_str-from.result) c.get_str-from.ensures)
-    (text_given found (codes "journal") (option_map (λ s. s.now) c.get_str-journal.result) c.get_str-journal.ensures)
-    (sym c.if-names_both.ensures)
 
 pub returns-in_default-clause-refused : goal.returns-in_default-clause-refused
 returns-in_default-clause-refused c _ =
@@ -54,11 +41,10 @@ returns-clause-ok c =
     let found = found_of c.in_ok-matches.matches in
     let words = words_texts c.args.words.now in
     let are = rows_given _ serve_app words (Some (rows_of found)) c.in_ok-serve_command.ensures c.in_ok-matches.ensures.ok in
-    all_said words (rows_of found) are c.in-Some.catalogue.now c.in-Some-numbers_in.numbers (option_map (λ s. s.now) c.get_str-from.result)
-    (option_map (λ s. s.now) c.get_str-journal.result) c.is_exporting.result
+    all_said words (rows_of found) are c.in-Some.catalogue.now c.in-Some-numbers_in.numbers (option_map (λ s. s.now) c.get_str-2.result)
+    (option_map (λ s. s.now) c.get_str-3.result) c.is_exporting.result
     (text_given found (codes "catalogue") (Some c.in-Some.catalogue.now) (ap (option_map (λ s. s.now)) (sym c.in-Some.is) ∙ c.get_str.ensures))
     (sym c.numbers_in.ensures.numbers ∙ c.in-Some-numbers_in.is)
-    (text_given found (codes "from") (option_map (λ s. s.now) c.get_str-from.result) c.get_str-from.ensures)
-    (text_given found (codes "journal") (option_map (λ s. s.now) c.get_str-journal.result) c.get_str-journal.ensures)
-    (sym c.if-names_both.ensures)
+    (text_given found (codes "from") (option_map (λ s. s.now) c.get_str-2.result) c.get_str-2.ensures)
+    (text_given found (codes "journal") (option_map (λ s. s.now) c.get_str-3.result) c.get_str-3.ensures)
     (sym c.is_exporting.ensures)

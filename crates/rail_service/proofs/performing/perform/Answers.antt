@@ -1,6 +1,7 @@
+use Rattle.std.proofs.Common.{sym}
 use Rattle.claim_rule.proofs.Out.{makes_empty}
 use Rattle.service_rules.specs.Checks.{ordered}
-use Rattle.rail_service.proofs.Performed.{told_so, went_on}
+use Rattle.rail_service.proofs.Performed.{told_so, went_on, bounded_so, complete_so}
 use Rattle.rail_service.proofs.performing.perform.Goals as goal
 
 pub returns-clause-idle : goal.returns-clause-idle
@@ -17,6 +18,16 @@ pub returns-clause-goes_on : goal.returns-clause-goes_on
 returns-clause-goes_on c =
     went_on c.args.cat.now c.args.retailer.0 c.args.now (ordered c.args.cat.now c.args.now c.args.command.now) _ _ _
     c.requires.own.legal c.say-said.ensures.said
+
+pub returns-clause-bound : goal.returns-clause-bound
+returns-clause-bound c =
+    bounded_so c.args.cat.now c.args.books.now c.args.retailer.0 c.args.now (ordered c.args.cat.now c.args.now c.args.command.now)
+    _ _ _ c.requires.own (sym c.requires.rows) c.say-said.ensures.said
+
+pub returns-clause-complete : goal.returns-clause-complete
+returns-clause-complete c =
+    complete_so c.args.cat.now c.args.books.now c.args.retailer.0 c.args.now (ordered c.args.cat.now c.args.now c.args.command.now)
+    _ _ _ c.requires.own (sym c.requires.rows) c.say-said.ensures.said
 
 pub returns-clause-answer : goal.returns-clause-answer
 returns-clause-answer c =

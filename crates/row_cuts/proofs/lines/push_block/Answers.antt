@@ -1,11 +1,13 @@
-use Rattle.std.proofs.Common.{◌≡◌, ◌+◌, ◌≤◌, ◌<◌, ◌^◌, arith, min}
+use Rattle.std.proofs.Common.{◌≡◌, ℕ, ◌+◌, ◌%◌, ◌≤◌, ◌<◌, ◌^◌, ◌==◌, ap, arith, min}
 use Rattle.claim_rule.proofs.Out.{endings_same, endings_then, holds_same, holds_then}
-use Rattle.row_cuts.proofs.Writing.{few_sum_block, looks_some, looks_then, some_few, some_none, some_then}
+use Rattle.std.proofs.lemmas.Nat.Bits.{shr_and_one}
+use Rattle.row_cuts.proofs.Writing.{looks_of, looks_then}
+use Rattle.row_cuts.proofs.Marking.{few_one, few_set, few_sum_block, none_yet, set_then, unmarked}
 use Rattle.row_cuts.proofs.lines.push_block.Goals as goal
 
 pub returns-then-marks-eq0-clause-lines : goal.returns-then-marks-eq0-clause-lines
 returns-then-marks-eq0-clause-lines c =
-    some_none c.args.start (min (c.args.start + 64) c.args.books.now.layout.rows) c.args.text.now.items c.args.desk.now c.requires.own.legal
+    unmarked c.args.marks c.args.start (min (c.args.start + 64) c.args.books.now.layout.rows) c.args.text.now.items c.args.desk.now c.if-marks-eq0.true c.requires.own.legal
 
 pub loop-row-init : goal.loop-row-init
 loop-row-init c = record {
@@ -13,13 +15,13 @@ loop-row-init c = record {
   holds = holds_same c.args.desk.now;
   endings = endings_same c.args.desk.now;
   low = omega arith;
-  lines = some_none c.args.start c.args.start c.args.text.now.items c.args.desk.now c.requires.own.legal;
+  lines = none_yet c.args.marks c.args.start c.args.text.now.items c.args.desk.now c.requires.own.legal;
 }
 
 pub returns-in_err-count-clause-looks : goal.returns-in_err-count-clause-looks
 returns-in_err-count-clause-looks c =
     let l = c.loop-row in
-    looks_then c.args.desk.now l.desk c.push_if_marked.new.desk (looks_some _ _ _ _ _ c.args.desk.now l.desk l.invariant.lines) c.push_if_marked.ensures.looks
+    looks_then c.args.desk.now l.desk c.push_if_marked.new.desk (looks_of _ _ _ _ c.args.desk.now l.desk l.invariant.lines) c.push_if_marked.ensures.looks
 
 pub returns-in_err-count-clause-holds : goal.returns-in_err-count-clause-holds
 returns-in_err-count-clause-holds c = holds_then c.args.desk.now c.loop-row.desk c.push_if_marked.new.desk c.loop-row.invariant.holds c.push_if_marked.ensures.holds
@@ -30,8 +32,8 @@ returns-in_err-count-clause-endings c = endings_then c.args.desk.now c.loop-row.
 pub overflow_add-count : goal.overflow_add-count
 overflow_add-count c =
     let l = c.loop-row in
-    let before = some_few c.args.start l.row _ _ l.count c.args.desk.now l.desk l.invariant.low l.invariant.lines in
-    let one = some_few l.row (l.row + 1) _ _ c.in_ok-count.field-0 l.desk c.push_if_marked.new.desk (omega arith) c.in_ok-count.ensures.lines in
+    let before = few_set c.args.marks c.args.start l.row _ _ l.count c.args.desk.now l.desk l.invariant.low l.invariant.lines in
+    let one = few_one _ l.row _ _ c.in_ok-count.field-0 l.desk c.push_if_marked.new.desk c.in_ok-count.ensures.lines in
     let most = c.rows.ensures.most in
     let below = c.loop-row-test.true in
     let end = c.end_of_block-row-end.ensures in
@@ -46,9 +48,9 @@ loop-row-preserved c =
       holds = holds_then c.args.desk.now l.desk c.push_if_marked.new.desk l.invariant.holds c.push_if_marked.ensures.holds;
       endings = endings_then c.args.desk.now l.desk c.push_if_marked.new.desk l.invariant.endings c.push_if_marked.ensures.endings;
       low = (let low = l.invariant.low in omega arith);
-      lines = some_then c.args.start l.row (l.row + 1) c.args.text.now.items l.text.items c.push_if_marked.new.text.items l.count c.in_ok-count.field-0 c.args.desk.now l.desk c.push_if_marked.new.desk
-          l.invariant.low (omega arith) l.invariant.lines c.in_ok-count.ensures.lines;
+      lines = set_then c.args.marks c.args.start l.row _ c.args.text.now.items l.text.items c.push_if_marked.new.text.items l.count c.in_ok-count.field-0 c.args.desk.now l.desk c.push_if_marked.new.desk
+          l.invariant.low (ap (λ (n : ℕ). n == 1) (shr_and_one c.args.marks (l.row % 64))) l.invariant.lines c.in_ok-count.ensures.lines;
     }
 
 pub returns-clause-looks : goal.returns-clause-looks
-returns-clause-looks c = looks_some _ _ _ _ _ c.args.desk.now c.loop-row.desk c.loop-row.invariant.lines
+returns-clause-looks c = looks_of _ _ _ _ c.args.desk.now c.loop-row.desk c.loop-row.invariant.lines

@@ -1,4 +1,4 @@
-use Rattle.service_laws.proofs.Own.{calls_ordered, learned_later}
+use Rattle.service_laws.proofs.Calls.{calls_ordered, learned_later}
 use Rattle.service_laws.proofs.laws.calls_in_order.Goals as goal
 
 pub returns-clause-in_order : goal.returns-clause-in_order

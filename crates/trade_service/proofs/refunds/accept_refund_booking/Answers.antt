@@ -7,7 +7,7 @@ use Rattle.booking_service.proofs.Calm.{found_home}
 use Rattle.booking_service.proofs.Replying.{unknown, no_memory}
 use Rattle.trade_service.proofs.Ids.{refunded_ids}
 use Rattle.trade_service.proofs.Calm.{accepted_home}
-use Rattle.trade_service.proofs.Replying.{decided, refused, not_refused}
+use Rattle.trade_service.proofs.Replying.{decided, refused, not_refused, is_refunded}
 use Rattle.trade_service.proofs.refunds.accept_refund_booking.Goals as goal
 
 pub returns-in_default-clause-home : goal.returns-in_default-clause-home
@@ -37,6 +37,10 @@ returns-in-None-clause-answer c =
     decided c.args.shop.now.cat.now c.args.shop.now.books.now.layout.rows c.args.asker.retailer.0 c.args.code.now c.args.asker.moment c.in-Some.view c.accept_refund-accepted.result c.args.desk.now c.find_booking.new.desk c.accept_refund-accepted.new.desk _ c.in-Some.ensures.entries c.accept_refund-accepted.ensures.entries
     (not_refused c.args.shop.now.cat.now c.args.code.now c.args.asker.moment c.in-Some.view c.accept_refund-accepted.result _ c.in-None.ensures.problem
     (c.in-Some-booking_answer.ensures.told ∙ ap (λ (v : RowSeen). reply_told c.args.shop.now.cat.now (booking c.args.code.now.row v)) c.refunded-ended.ensures.view))
+
+pub returns-in-None-clause-refunded : goal.returns-in-None-clause-refunded
+returns-in-None-clause-refunded c =
+    is_refunded c.args.shop.now.cat.now c.args.shop.now.books.now.layout.rows c.args.asker.retailer.0 c.args.code.now c.args.asker.moment c.accept_refund-accepted.result c.find_booking.new.desk c.accept_refund-accepted.new.desk c.in-None.ensures.problem c.accept_refund-accepted.ensures.entries c.accept_refund-accepted.ensures.refunded
 
 pub returns-in-Some-refusal-clause-home : goal.returns-in-Some-refusal-clause-home
 returns-in-Some-refusal-clause-home c =

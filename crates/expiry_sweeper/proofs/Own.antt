@@ -1,16 +1,15 @@
 -- A desk's own entries of a part of a history.
-use Rattle.std.proofs.Common.{◌≡◌, ℕ, eqb, Bool, cond, true, false, List, [], ◌∷◌, ◌++◌, map, refl, sym, ap, ◌∙◌, subst, ⊎_elim, ◌⊎◌, inl, inr, append-nil}
+use Rattle.std.proofs.Common.{◌≡◌, ℕ, eqb, Bool, cond, true, false, List, [], ◌∷◌, ◌++◌, map, refl, sym, ap, ◌∙◌, subst, ⊎_elim, append-nil}
 use Rattle.std.specs.List.{AllByRecursion}
 use Rattle.std.proofs.lemmas.Bool.{cases_Bool}
-use mathlib.Core.List.{IsPrefix, append_cancel_left}
+use mathlib.Core.List.{append_cancel_left}
 use Rattle.history_model.specs.declared.entry.Entry.{Entry}
 use Rattle.history_model.specs.declared.entry.Step.{Step}
 use Rattle.history_model.specs.History.{entry, own}
 use Rattle.history_model.proofs.ListLemmas.{All-under_map}
-use Rattle.history_model.proofs.Seen.{own-append, own_between}
+use Rattle.history_model.proofs.Seen.{own-append}
 use Rattle.claim_rule.specs.Rule.{DeskView}
 use Rattle.claim_rule.specs.Desks.{AddsSteps}
-use Rattle.service_laws.specs.Begun.{CallsInOrder, LearnedCallsAreLater}
 
 -- the first of a list for which all holds, and the others
 pub first_of : {X : Type 0} (P : X → Type 0) (x : X) (xs : List X) → AllByRecursion P (x ∷ xs) → P x
@@ -92,27 +91,3 @@ around d (e ∷ es) (z ∷ zs) x ys is = ⊎_elim
     let a = around d es (z ∷ zs) x ys (sym (own_other d e es t) ∙ is) in
     more d e es (z ∷ zs) (z ∷ zs) x ys a (own_other d e a.before t ∙ a.first))
     (cases_Bool (eqb e.desk d))
-
--- calls in order
-
-pub begin_one : (xs ys s t : List Entry) → xs ++ s ≡ ys ++ t → IsPrefix xs ys ⊎ IsPrefix ys xs
-begin_one [] ys s t e = inl (ys, refl)
-begin_one (x ∷ xs) [] s t e = inr (x ∷ xs, refl)
-begin_one (x ∷ xs) (y ∷ ys) s t e =
-    let here : x ≡ y = cc in
-    let rest : xs ++ s ≡ ys ++ t = cc in
-    ⊎_elim
-    (λ (p : IsPrefix xs ys). inl (p.0, λ i. here i ∷ p.1 i))
-    (λ (p : IsPrefix ys xs). inr (p.0, λ i. sym here i ∷ p.1 i))
-    (begin_one xs ys s t rest)
-
-pub calls_ordered : CallsInOrder
-calls_ordered asked old new steps between later did saw had all on seen =
-    let d = old.number in
-    ⊎_elim
-    (λ (p : IsPrefix between new.seen). inr (between, record { had = had; goes_on = p; none_yet = sym all }, saw))
-    (λ (p : IsPrefix new.seen between). inl (own_between d old.seen new.seen between did.front p all ∙ sym all))
-    (begin_one between new.seen on.0 seen.0 (on.1 ∙ sym seen.1))
-
-pub learned_later : LearnedCallsAreLater
-learned_later told old new steps did front = inr (old.seen, record { had = ([], append-nil old.seen); goes_on = did.front; none_yet = refl }, front)

@@ -18,18 +18,21 @@ use Rattle.history_model.proofs.Ranges.{ranges_all}
 use Rattle.history_model.proofs.Seen.{legal-front, legal-rest, state_of-append}
 use Rattle.history_model.specs.WholeEnds.{end_turn}
 use Rattle.rail_ids.specs.declared.RowNo.{RowNo}
-use Rattle.claim_rule.specs.Rule.{state_seen}
+use Rattle.claim_rule.specs.Rule.{BooksView, DeskView, state_seen}
+use Rattle.claim_rule.specs.Desks.{IsOf}
+use Rattle.claim_rule.specs.Calls.{AddsStepsBy}
 use Rattle.claim_rule.specs.Endings.{items_read}
 use Rattle.claim_rule.specs.EndSteps.{ending_steps}
-use Rattle.expiry_sweeper.specs.AllRows.{sweeps_steps}
+use Rattle.expiry_sweeper.specs.AllRows.{Sweeps, sweeps_steps}
 use Rattle.expiry_sweeper.specs.OneRow.{RowSweep, SeenPrebooked, IsRowSweep, passed, given_away, waiting, expired, lost, row_sweep_steps, saw_prebooked}
+use Rattle.booking_rows.specs.declared.swept.Swept.{Swept}
 use Rattle.booking_rows.specs.declared.turns.Aim.TheVariants as aim
 use Rattle.booking_rows.specs.Aims.{end_of}
 use Rattle.booking_rows.specs.Views.{saw_phase}
 use Rattle.confirm_core.specs.RowEnds.{ends_as}
-use Rattle.service_laws.specs.Complete.{SweepsAreComplete}
-use Rattle.service_laws.proofs.Own.{first_of, rest_of, steps_all, steps_since}
-use Rattle.service_laws.proofs.Standing.{ShowsSeal, LeavesPhase, there, seal_shown, phase_left, phase_of, still_there, stands_so}
+use Rattle.expiry_sweeper.specs.Complete.{LeavesNoneOverdue}
+use Rattle.expiry_sweeper.proofs.Own.{first_of, rest_of, steps_all, steps_since}
+use Rattle.expiry_sweeper.proofs.Standing.{ShowsSeal, LeavesPhase, there, seal_shown, phase_left, phase_of, still_there, stands_so}
 
 -- the sweep of the row of this number
 sweep_at : (P : Step → Type 0) (now k i : ℕ) (sweeps : List RowSweep) → i < length sweeps → AllByRecursion P (sweeps_steps now k sweeps) → AllByRecursion (IsRowSweep now) sweeps → (s : RowSweep) × IsRowSweep now s × AllByRecursion P (row_sweep_steps now (k + i) s)
@@ -90,8 +93,8 @@ both_all : (row generation : ℕ) (b : Booking) (es : List Entry) → AllByRecur
 both_all row generation b [] p q = tt
 both_all row generation b (e ∷ es) p q = ((p.0, q.0), both_all row generation b es p.1 q.1)
 
-pub sweeps_complete : SweepsAreComplete
-sweeps_complete books old new begun row now answer of (steps, sweep, did) begins over =
+pub leaves_none : (books : BooksView) (old new : DeskView) (now : ℕ) (answer : Swept) → IsOf books old → AddsStepsBy (Sweeps books.layout.rows now answer) old new → LeavesNoneOverdue books now old new
+leaves_none books old new now answer of (steps, sweep, did) begun row begins over =
     let g = books.layout in
     let s : State = state_of g begun in
     let rest = begins.goes_on.0 in

@@ -1,0 +1,101 @@
+// The cuts that are taken at a gate.
+ghost use Rattle.std.specs.Prelude.{◌≡◌, true};
+ghost use Rattle.answer_gate.specs.Receipts.{MayLeave};
+
+use crate::gate::Gate;
+use crate::receipt::Receipt;
+use crate::state::{Closed, Taken};
+use crate::tally::Tally;
+use std::marker::Brand;
+use std::sync::atomic::{AtomicBool, Ordering};
+use std::sync::{Condvar, Mutex, Wait};
+
+/// A gate, and the cuts that are taken at it: who has them kept, and who waits for that.
+#[derive(Drop)]
+pub struct Cuts<K: Receipt + Drop = Brand> {
+    gate: Gate,
+    tally: Mutex<Tally<K>>,
+    /// Whoever waits until a cut is kept.
+    waiting: Condvar,
+    /// Whether the journal is lost.
+    lost: AtomicBool,
+}
+
+impl<K: Receipt + Drop> Cuts<K> {
+    /// An open gate, with nobody inside and no cut taken.
+    pub fn new() -> Cuts<K> {
+        Cuts {
+            gate: Gate::new(),
+            tally: Mutex::new(Tally::new()),
+            waiting: Condvar::new(),
+            lost: AtomicBool::new(false),
+        }
+    }
+
+    /// The gate.
+    pub fn gate(&self) -> &Gate {
+        &self.gate
+    }
+
+    /// Waits until somebody waits for a cut, closes the gate, and waits until nobody is inside. The gate stays closed
+    /// until `taken`. None where there will be no more cuts: all servers have parted and nothing is left to be kept, or
+    /// the journal is lost.
+    pub fn next_cut<R: Wait>(&self, rt: &R) -> Option<Closed> {
+        let closed = self.gate.close(rt);
+        if closed.is_none() {
+            self.lost.store(self.gate.is_lost(rt), Ordering::SeqCst);
+            self.end(rt);
+        }
+        closed
+    }
+
+    /// The rows were looked at: opens the gate.
+    pub fn taken<R: Wait>(&self, rt: &R, closed: Closed) -> Taken
+        ensures { result.number ≡ closed.number }
+    {
+        self.gate.open(rt, closed)
+    }
+
+    /// The cut is kept, for which this is the receipt, and all before it: wakes those that wait for it.
+    pub fn keep<R: Wait>(&self, rt: &R, taken: Taken, receipt: K)
+        requires { K.kept taken.number }
+    {
+        let _receipt = receipt;
+        let number = taken.number();
+        taken.settle();
+        self.tally.lock(rt).keep(number);
+        self.gate.keep(rt, number);
+        self.waiting.notify_all();
+    }
+
+    /// The journal is lost, and the cut with it: wakes all. No further cut is ever kept.
+    pub fn lose<R: Wait>(&self, rt: &R, taken: Taken) {
+        taken.settle();
+        self.lost.store(true, Ordering::SeqCst);
+        self.gate.lose(rt);
+        self.end(rt);
+    }
+
+    // No more cuts will be kept: wakes those that wait for one.
+    fn end<R: Wait>(&self, rt: &R) {
+        self.tally.lock(rt).end();
+        self.waiting.notify_all();
+    }
+
+    /// Waits until the cut of this number is kept, for which it wakes the committer. Where it is, that is shown of it
+    /// or of a later one. False, where it never will be: the journal is lost, or over.
+    pub fn wait_kept<R: Wait>(&self, rt: &R, cut: u64) -> bool
+        ensures { result ≡ true → MayLeave K.kept cut }
+    {
+        self.gate.want(rt, cut);
+        let tally = self
+            .waiting
+            .wait_while(rt, self.tally.lock(rt), |tally| tally.is_awaited(cut));
+        tally.has_kept(cut)
+    }
+
+    /// Whether the journal is lost. It takes no lock.
+    pub fn is_lost(&self) -> bool {
+        self.lost.load(Ordering::SeqCst)
+    }
+}

@@ -1,0 +1,15 @@
+// What it means that cuts are kept.
+ghost use Rattle.std.specs.Prelude.{ℕ};
+
+use std::marker::Brand;
+
+/// A receipt for a kept cut. Whoever has a cut kept hands one in, and shows what it means; whoever finds a cut kept has
+/// that shown.
+pub trait Receipt {
+    /// What it means that the cut of this number is kept.
+    ghost kept: { ℕ → Type 0 };
+}
+
+impl Receipt for Brand {
+    ghost kept = { λ _. Unit {0} };
+}

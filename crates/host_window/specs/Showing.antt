@@ -1,0 +1,32 @@
+-- What a connection of the window has written.
+use Rattle.std.specs.Prelude.{◌≡◌, ℕ, List, Option}
+use Rattle.http_wire.specs.declared.request.WireFault.{WireFault}
+use Rattle.http_wire.specs.Requests.{RequestText}
+use Rattle.rail_io.specs.Told.{with_end, with_front}
+use Rattle.session_loop.specs.Session.{IsEnd}
+use Rattle.session_loop.specs.declared.end.ConnEnd.{ConnEnd}
+use Rattle.session_loop.specs.declared.end.ConnEnd.TheVariants.{NoMemory}
+use Rattle.host_window.specs.Pages.{Answers, Declines}
+use Rattle.host_window.specs.declared.pages.Pages.{Pages}
+
+-- The pages answer a request so, and stay as they are.
+abbrev pub Responds : Pages → RequestText → List ℕ → Pages → Type 0
+Responds before request text after = (after ≡ before) × Answers request text
+
+abbrev pub Refuses : Pages → WireFault → List ℕ → Type 0
+Refuses pages fault text = Declines fault text
+
+-- what a source and a sink told, before and after
+pub record Talk : Type 0 where
+  pub came : Option (List ℕ)
+  pub left : Option (List ℕ)
+  pub before : Option (List ℕ)
+  pub after : Option (List ℕ)
+
+-- Of the bytes taken, each request is answered once, in order, by its page, and last what stands in a request's place.
+-- Or there was no memory, and nothing was taken and written.
+abbrev pub IsShown : Pages → Pages → Talk → ConnEnd → Type 0
+IsShown old new t NoMemory = (t.left ≡ t.came) × (t.after ≡ t.before)
+IsShown old new t end =
+    (taken : List ℕ) × (written : List ℕ) × (t.came ≡ with_front taken t.left) × (t.after ≡ with_end t.before written)
+    × IsEnd Responds Refuses old new taken t.left written end

@@ -1,0 +1,9 @@
+// The counters are shared among threads.
+use crate::counters::Counters;
+
+fn may_be_shared<T: Sync>() {}
+
+/// They may be.
+pub fn crosses() {
+    may_be_shared::<Counters>();
+}

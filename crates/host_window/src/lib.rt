@@ -1,0 +1,25 @@
+//! The operator's window.
+#![tactic(auto)]
+
+mod callers;
+mod counters;
+mod crossing;
+mod heads;
+mod journal;
+mod labels;
+mod pages;
+mod reply;
+mod sink;
+mod source;
+mod tallies;
+mod ticker;
+mod words;
+
+pub use callers::{Callers, show_all, show_pages};
+pub use counters::{Counters, Health, StreamCounts};
+pub use crossing::crosses;
+pub use journal::CountingJournal;
+pub use pages::Pages;
+pub use sink::CountingSink;
+pub use source::CountingSource;
+pub use ticker::CountingTicker;
