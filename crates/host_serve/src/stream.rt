@@ -17,7 +17,7 @@ use session_loop::Outlet;
 
 /// Serves a stream that was handed out to its connection's end, and hands it back as it is then: what is served is that
 /// stream, from the bytes that its source told to those that its outlet took. Whatever the outlet permits, at no moment
-/// is it handed other bytes than the next of the defined replies, by this desk's own entries.
+/// is it handed other bytes than the next of the defined replies.
 pub fn serve_stream<I: Source, O: Outlet, C: Clock>(
     common: Common<'_>,
     books: &Books,
