@@ -3,11 +3,12 @@
 
   tests/journal/faults.py PROGRAM [--calls N] [--only N] [--full N] [--seed N]
 
-At each of the first calls (50) on the journal's file, a write or a sync fails with EIO, and once more with ENOSPC after half of a write. Then the
-disk is full N times (6): a small tmpfs where this process may mount one, else a limit on the size of files. Eight clients sell until the host
-ends. It has to end with status 4 and its note where it served, and with 3 and its note where it didn't begin, which leaves the file whole. After
-the call that failed no other one is made. What was synced by then, and what was written, each have to leave all that was answered; one of
-them, drawn by lot, is what the next host begins with. Needs gcc and the C library of the host to be linked dynamically.
+At each of the first calls (50) on the journal's file, a write or a sync fails with EIO, and once more with ENOSPC after half of a write. Then
+the disk is full N times (6): a small tmpfs where this process may mount one, else a limit on the size of files. Eight clients sell until the
+host ends, and one only searches, without a pause, and never leaves. It has to end with status 4 and its note where it served, and with 3 and its
+note where it didn't begin, which leaves the file whole. After the call that failed no other one is made. What was synced by then, and what was
+written, each have to leave all that was answered; one of them, drawn by lot, is what the next host begins with. Needs gcc and the C library of
+the host to be linked dynamically.
 """
 import argparse
 import errno
@@ -21,7 +22,8 @@ import tempfile
 
 import disk
 import world
-from story import Story
+from clients import Client
+from story import RUNS, Story
 from world import JOURNAL, Host
 
 CLIENTS, ROWS, CALLS, FULL = 8, 8_192, 50, 6
@@ -32,9 +34,20 @@ SERVES = "folder"
 SYSTEM_SECONDS = 60
 
 
+class Searcher(Client):
+    """Only searches, whatever becomes of the others."""
+
+    def next(self) -> tuple:
+        return self.search() if self.rng.random() < 0.5 else self.look()
+
+
 class Failing(Story):
     """A story of disks that fail."""
     served = refused = 0
+
+    def __init__(self, program: str, folder: str, rows: int, seed: int):
+        super().__init__(program, folder, rows, seed, CLIENTS)
+        self.clients.append(Searcher(CLIENTS, self.ledger, seed, RUNS))
 
     def round(self, library: str, at: int, does: str, error: int):
         before = world.read(self.folder)
@@ -111,7 +124,7 @@ class Tmpfs:
 def fail_calls(program: str, seed: int, calls: list) -> Story:
     with tempfile.TemporaryDirectory() as folder, tempfile.TemporaryDirectory() as other:
         library = disk.built(other)
-        story = Failing(os.path.abspath(program), folder, ROWS, seed, CLIENTS)
+        story = Failing(os.path.abspath(program), folder, ROWS, seed)
         for at in calls:
             for does, error in (("error", errno.EIO), ("short", errno.ENOSPC)):
                 if not story.ledger.faults:
@@ -125,7 +138,7 @@ def fill_disks(program: str, seed: int, times: int) -> tuple:
         tmpfs = Tmpfs(folder)
         mounted = tmpfs.mount(4_096)
         try:
-            story = Failing(os.path.abspath(program), folder, 2_048, seed, CLIENTS)
+            story = Failing(os.path.abspath(program), folder, 2_048, seed)
             first = story.begin()
             if first:
                 first.end()

@@ -4,7 +4,7 @@
   tests/journal/memory.py PROGRAM [--rounds N] [--seed N]
 
 In each round (60) one allocation of a host fails, or that one and all later ones: the allocations of its start by turns, and those of its
-commands, answers and cuts by lot. Four clients sell meanwhile; an answer 500 says that nothing was done. The host goes on until it is killed a
+commands, answers and cuts by lot. Two clients sell meanwhile; an answer 500 says that nothing was done. The host goes on until it is killed a
 moment after that, or ends: with status 5 or 3 and its note where it didn't begin, and with 4 and its note where it had no memory for a cut.
 Further rounds (at most 200) follow until each of these was met, and an answer 500. Each file is judged as by kill.py. Last, `recover` reads the
 file with each of its allocations refused, and writes the export or ends with status 5. Needs cc and the C library of the host to be linked
@@ -23,12 +23,12 @@ from clients import Client
 from story import RUNS, Story
 from world import HERE, JOURNAL, Host
 
-CLIENTS, ROWS, ROUNDS = 4, 2_048, 60
+CLIENTS, ROWS, ROUNDS = 2, 2_048, 60
 REFUSER = HERE.parent / "host" / "refuse.c"
 NO_MEMORY = (5, "rail_host: no memory\n")
 ENDS = {False: [NO_MEMORY, (3, "rail_host: journal failed\n")], True: [(4, "rail_host: journal lost\n")]}
-REACH, MORE = 500, 200  # the allocations after a start that may be refused, and further rounds
-MOST_SECONDS, MOMENT = 20, 0.3
+REACH, MORE = 700, 200  # the allocations after a start that may be refused (a connection takes 125), and further rounds
+MOST_SECONDS, END_SECONDS, MOMENT = 20, 3, 0.3
 
 
 class Poor(Client):
@@ -92,8 +92,10 @@ class Scarce(Story):
         listened, pending = host.wait(), []
         if listened:
             threads = self.start_clients(host.port)
-            self.wait_until(host, at)
+            self.wait_for(lambda: self.allocations() >= at or host.has_ended(), MOST_SECONDS)
             time.sleep(self.rng.random() * MOMENT)
+            # Where no client is served any more the host may be about to end, after its sweeper's next tick.
+            self.wait_for(lambda: any(thread.is_alive() for thread in threads) or host.has_ended(), END_SECONDS)
         if not listened or host.has_ended():
             self.hold_end(host.ended(), listened, at)
         else:
@@ -106,10 +108,10 @@ class Scarce(Story):
         elif self.ledger.told:
             self.ledger.fault("the file is gone")
 
-    def wait_until(self, host: Host, at: int):
-        """Until the allocation was refused, or the host is gone, or its clients come to nothing."""
-        end = time.monotonic() + MOST_SECONDS
-        while self.allocations() < at and not host.has_ended() and time.monotonic() < end:
+    def wait_for(self, what, seconds: float):
+        """Until it is so, but no longer than this."""
+        end = time.monotonic() + seconds
+        while not what() and time.monotonic() < end:
             time.sleep(0.005)
 
     def hold_end(self, ended: tuple, listened: bool, at: int):
@@ -120,17 +122,18 @@ class Scarce(Story):
 
     def recover(self) -> int:
         """`recover` of the last file with each of its allocations refused: how many there were."""
-        words = [self.program, "recover", "k.json", JOURNAL]
-        whole = world.recover(self.program, self.folder)
-        at, count = 0, 1
-        while at < count:
-            at += 1
-            done = subprocess.run(words, cwd=self.folder, stdin=subprocess.DEVNULL, capture_output=True, env=self.environment(at, False))
-            count = max(count, self.allocations())
-            came = done.returncode, done.stdout, done.stderr.decode("latin-1")
+        whole = self.recovered(0)
+        count = self.allocations()
+        for at in range(1, count + 1):
+            came = self.recovered(at)
             if came not in (whole, (NO_MEMORY[0], b"", NO_MEMORY[1])):
                 self.ledger.fault("recover, with allocation %d refused: %d, %s" % (at, came[0], came[2]))
         return count
+
+    def recovered(self, at: int) -> tuple:
+        words = [self.program, "recover", "k.json", JOURNAL]
+        done = subprocess.run(words, cwd=self.folder, stdin=subprocess.DEVNULL, capture_output=True, env=self.environment(at, False))
+        return done.returncode, done.stdout, done.stderr.decode("latin-1")
 
 
 def main() -> int:

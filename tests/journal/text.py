@@ -8,7 +8,7 @@ import hashlib
 import re
 from dataclasses import dataclass
 
-LARGEST = 268_435_456
+LARGEST = 4_294_967_295
 MOST_ROWS = 262_144
 GREATEST_NUMBER = 18_446_744_073_709_551_615
 NUMBER = rb"(0|[1-9][0-9]{0,19})"

@@ -21,22 +21,26 @@ ROOT = pathlib.Path(__file__).resolve().parents[2]
 PACKAGES = "systemd,systemd-sysv,dbus,curl,iproute2,procps,python3"
 PATH = "PATH=/usr/local/sbin:/usr/local/bin:/usr/sbin:/usr/bin:/sbin:/bin"
 AGAIN = "cp /tmp/country.json /etc/sumacgate/catalogue.json; chmod 600 /etc/sumacgate/catalogue.json"
-WAIT = "for try in $(seq 60); do systemctl is-active -q sumacgate && break; sleep 1; done"
+# `becomes STATE` waits until the unit is so, and says how it is.
+BECOMES = "becomes() { for try in $(seq 300); do state=$(systemctl is-active sumacgate); [ $state = $1 ] && break; sleep 0.2; done; echo $state; }\n"
+HOLD = "import os, socket, time; s = socket.create_server((\"127.0.0.1\", 8080)); [time.sleep(0.1) for _ in iter(lambda: os.path.exists(\"/tmp/free\"), True)]"
+TOLD = "for try in $(seq 60); do journalctl -u sumacgate -o cat --no-pager | grep -q '%s' && echo told && break; sleep 1; done"
 # After the page's own commands: what is done, what the last lines of the output have to be.
 SOLD = "/etc/sumacgate/sold.json"
 STEPS = [
     ("the file stays root's", "stat -c '%a %U' /etc/sumacgate/catalogue.json", "600 root"),
     ("the host has no rights", "grep -E '^(CapEff|NoNewPrivs|Seccomp):' /proc/$(systemctl show -P MainPID sumacgate)/status | tr -s '\\t\\n' ' '", "CapEff: 0000000000000000 NoNewPrivs: 1 Seccomp: 2 "),
-    ("a kill", "systemctl kill -s KILL sumacgate; sleep 3; " + WAIT + "; systemctl is-active sumacgate; systemctl show -P NRestarts sumacgate", "active\n1"),
-    ("the same seats", "cd /work; install -D -m 755 -t /usr/local/lib/sumacgate tools/same-seats tools/rail_texts.py; cp /etc/sumacgate/catalogue.json " + SOLD + "; systemctl restart sumacgate; " + WAIT + "; systemctl is-active sumacgate; journalctl -u sumacgate -o cat --no-pager | grep -q 'are the same seats' && echo told", "active\ntold"),
-    ("other seats", "sed '2s/\"coach\":2/\"coach\":7/' " + SOLD + " > /etc/sumacgate/catalogue.json; systemctl restart sumacgate; sleep 3; systemctl is-active sumacgate; ss -ltn | grep -c ':8080 '; journalctl -u sumacgate -o cat --no-pager | grep -q 'the seats are not the same: 48 lines' && echo told", "activating\n0\ntold"),
-    ("put right", "cp " + SOLD + " /etc/sumacgate/catalogue.json; sleep 3; " + WAIT + "; systemctl is-active sumacgate; rm " + SOLD, "active"),
-    ("a refused catalogue", "echo '{' > /etc/sumacgate/catalogue.json; systemctl restart sumacgate; sleep 4; systemctl is-active sumacgate; journalctl -u sumacgate -o cat --no-pager | grep -q 'catalogue fault 1' && echo told", "failed\ntold"),
+    ("a kill", "systemctl kill -s KILL sumacgate; until [ $(systemctl show -P NRestarts sumacgate) = 1 ]; do sleep 1; done; becomes active; systemctl show -P NRestarts sumacgate", "active\n1"),
+    ("the same seats", "cd /work; install -D -m 755 -t /usr/local/lib/sumacgate tools/same-seats tools/rail_texts.py; cp /etc/sumacgate/catalogue.json " + SOLD + "; systemctl restart sumacgate; becomes active; " + TOLD % "are the same seats", "active\ntold"),
+    ("other seats", "sed '2s/\"coach\":2/\"coach\":7/' " + SOLD + " > /etc/sumacgate/catalogue.json; systemctl restart sumacgate; " + TOLD % "the seats are not the same: 48 lines" + "; becomes activating; ss -ltn | grep -c ':8080 '", "told\nactivating\n0"),
+    ("put right", "cp " + SOLD + " /etc/sumacgate/catalogue.json; becomes active; rm " + SOLD, "active"),
+    ("a refused catalogue", "echo '{' > /etc/sumacgate/catalogue.json; systemctl restart sumacgate; becomes failed; " + TOLD % "catalogue fault 1", "failed\ntold"),
     (
         "a taken port",
-        AGAIN + "; systemctl reset-failed sumacgate; (python3 -c 'import socket, time; s = socket.create_server((\"127.0.0.1\", 8080)); time.sleep(25)' &); sleep 1; systemctl start sumacgate; sleep 15; "
-        "systemctl is-active sumacgate; sleep 12; " + WAIT + "; sleep 3; systemctl is-active sumacgate; journalctl -u sumacgate -o cat --no-pager | grep -q 'read fault' && echo tried",
-        "activating\nactive\ntried",
+        AGAIN + "; systemctl reset-failed sumacgate; rm -f /tmp/free; (python3 -c '" + HOLD + "' &); until ss -ltn | grep -q ':8080 '; do sleep 0.2; done; "
+        "systemctl start sumacgate; " + TOLD % "read fault" + "; becomes activating; touch /tmp/free; "
+        "until ss -ltnp | grep ':8080 ' | grep -q rail_host; do sleep 0.2; done; becomes active",
+        "told\nactivating\nactive",
     ),
 ]
 
@@ -116,7 +120,7 @@ def main():
                 wrong += 1
                 print("booted: status %d, and no %r in the page's output: %s" % (status, wanted, faults))
         for what, script, wanted in STEPS:
-            _, said, faults = system.run(script)
+            _, said, faults = system.run(BECOMES + script)
             if not said.rstrip("\n").endswith(wanted):
                 wrong += 1
                 print("booted: %s: %r, %s" % (what, said, faults))

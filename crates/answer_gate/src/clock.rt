@@ -47,10 +47,16 @@ impl<'g, R, C: Clock> GatedClock<'g, R, C> {
 }
 
 impl<R: Wait, C: Clock> Clock for GatedClock<'_, R, C> {
-    ghost use Rattle.std.specs.Prelude.{◌≢◌, ◌<◌, IfSome, IsSome};
+    ghost use Rattle.std.specs.Prelude.{◌<◌, IfSome, IsSome};
     ghost use Rattle.rail_io.specs.declared.clock.Reach.TheVariants.{Changes};
 
     ghost told = { λ c. C.told c.clock };
+
+    // Where there is a gate, it was entered and not left.
+    ghost inside = { λ c. IfSome c.gate (λ _. IsSome c.inside) };
+
+    // Whoever leaves the gate waits for a cut.
+    ghost ends = { λ c cut _. IfSome c.gate (λ _. IsSome c.inside → 0 < cut) };
 
     fn now(&mut self) -> Moment {
         self.clock.now()
@@ -60,7 +66,7 @@ impl<R: Wait, C: Clock> Clock for GatedClock<'_, R, C> {
         ensures same { C.told self.new.clock ≡ C.told self.old.clock }
         ensures reach { self.new.reach ≡ reach }
         ensures gate { self.new.gate ≡ self.old.gate }
-        ensures inside { IfSome self.old.gate (λ _. reach ≡ Changes → IsSome self.new.inside) }
+        ensures inside { reach ≡ Changes → IfSome self.new.gate (λ _. IsSome self.new.inside) }
     {
         self.reach = reach;
         match self.gate {
@@ -74,7 +80,7 @@ impl<R: Wait, C: Clock> Clock for GatedClock<'_, R, C> {
         ensures same { C.told self.new.clock ≡ C.told self.old.clock }
         ensures idle { self.new.reach ≡ Apart }
         ensures gate { self.new.gate ≡ self.old.gate }
-        ensures cut { IfSome self.old.gate (λ _. IsSome self.old.inside → 0 < result) }
+        ensures ends { IfSome self.old.gate (λ _. IsSome self.old.inside → 0 < result) }
     {
         let reach = self.reach;
         self.reach = Reach::Apart;

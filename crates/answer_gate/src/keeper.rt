@@ -36,12 +36,11 @@ impl<R, K: Receipt + Drop> Clone for GateKeeper<'_, R, K> {
 }
 
 impl<R: Wait, K: Receipt + Drop> Keeper for GateKeeper<'_, R, K> {
-    ghost use Rattle.std.specs.Prelude.{true};
     ghost use Rattle.answer_gate.specs.Receipts.{MayLeave};
 
-    fn wait_kept(&self, cut: u64) -> bool
-        ensures { result ≡ true → MayLeave K.kept cut }
-    {
+    ghost kept = { λ _ cut. MayLeave K.kept cut };
+
+    fn wait_kept(&self, cut: u64) -> bool {
         self.cuts.wait_kept(self.rt, cut)
     }
 

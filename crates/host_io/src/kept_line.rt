@@ -1,5 +1,6 @@
 // A line as a sink whose bytes leave only once they may.
-ghost use Rattle.std.specs.Prelude.{◌≡◌, ◌≤◌, ◌⊎◌, ℕ, max, true, false};
+ghost use Rattle.std.specs.Prelude.{◌≡◌, ◌≤◌, ◌<◌, ◌++◌, ◌⊎◌, ℕ, max, true, false};
+ghost use Rattle.rail_io.specs.Told.{Pushes};
 
 use crate::line::Line;
 use crate::wire::Wire;
@@ -13,7 +14,10 @@ pub(crate) struct KeptLine<W: Wire + Drop, K: Keeper + Drop> {
     keeper: K,
     /// The cut that has to be kept before anything more goes out: 0 for none.
     cut: u64,
+    /// A cut that was found kept: 0 for none.
+    kept: u64,
     faults: u64,
+    ghost shown: { 0 < kept → ∥ K.kept keeper kept ∥₁ },
 }
 
 impl<W: Wire + Drop, K: Keeper + Drop> KeptLine<W, K> {
@@ -26,6 +30,7 @@ impl<W: Wire + Drop, K: Keeper + Drop> KeptLine<W, K> {
             line,
             keeper,
             cut: 0,
+            kept: 0,
             faults: 0,
         }
     }
@@ -39,14 +44,36 @@ impl<W: Wire + Drop, K: Keeper + Drop> KeptLine<W, K> {
     fn may_leave(&mut self) -> bool
         ensures line { self.new.line ≡ self.old.line }
         ensures faults { self.new.faults ≡ self.old.faults }
-        ensures free { result ≡ true → self.new.cut ≡ 0 }
-        ensures held { result ≡ false → self.new.cut ≡ self.old.cut }
+        ensures free { result ≡ true → self.new.cut ≤ self.new.kept }
+        ensures held { self.new.cut ≡ self.old.cut }
     {
-        if self.cut == 0 || self.keeper.wait_kept(self.cut) {
-            self.cut = 0;
+        if self.cut <= self.kept {
+            return true;
+        }
+        if self.keeper.wait_kept(self.cut) {
+            self.kept = self.cut;
             return true;
         }
         false
+    }
+
+    // Lets a piece go out, whose cut is kept.
+    fn let_out(&mut self, piece: &[u8]) -> Pushed
+        requires kept { self.old.cut ≤ self.old.kept }
+        ensures pushes { Pushes (W.outgoing self.old.line.wire) (W.outgoing self.new.line.wire) piece.now result }
+        ensures faults { self.new.faults ≡ self.old.faults }
+    {
+        pushed_of(self.line.send(piece))
+    }
+
+    // Likewise both pieces.
+    fn let_both_out(&mut self, first: &[u8], second: &[u8]) -> Pushed
+        requires kept { self.old.cut ≤ self.old.kept }
+        ensures pushes { Pushes (W.outgoing self.old.line.wire) (W.outgoing self.new.line.wire)
+            (first.now ++ second.now) result }
+        ensures faults { self.new.faults ≡ self.old.faults }
+    {
+        pushed_of(self.line.send_both(first, second))
     }
 }
 
@@ -57,7 +84,7 @@ impl<W: Wire + Drop, K: Keeper + Drop> Sink for KeptLine<W, K> {
 
     fn write(&mut self, piece: &[u8]) -> Pushed {
         let pushed = if self.may_leave() {
-            pushed_of(self.line.send(piece))
+            self.let_out(piece)
         } else {
             Pushed::Failed
         };
@@ -69,7 +96,7 @@ impl<W: Wire + Drop, K: Keeper + Drop> Sink for KeptLine<W, K> {
 
     fn write_both(&mut self, first: &[u8], second: &[u8]) -> PushedBoth {
         let pushed = if self.may_leave() {
-            pushed_of(self.line.send_both(first, second))
+            self.let_both_out(first, second)
         } else {
             Pushed::Failed
         };

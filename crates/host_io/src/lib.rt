@@ -8,6 +8,7 @@
 
 mod address;
 mod bell;
+mod callers;
 mod journal;
 mod keeper;
 mod kept_line;

@@ -5,6 +5,7 @@ ghost use Rattle.host_io.specs.Tcp.{after_refusal as after_of, tcp_view, tcp_fau
 
 use crate::address::local_address;
 use crate::socket::{SocketReader, SocketSink, halves_of};
+use host_window::{Counters, CountingSink, CountingSource, Health, StreamCounts};
 use rail_io::{Keeper, ReaderSource};
 use rail_service::{Accepted, Bound, Listener, Waiting};
 use std::alloc::Global;
@@ -43,14 +44,18 @@ pub fn after_refusal(code: u32) -> AfterRefusal
 /// more than 30.
 ///
 /// No answer leaves before the cut is kept that it is held for, and where the journal is lost, an accept fails.
+///
+/// What it hands out is counted, where there are counters.
 #[derive(Drop)]
 pub struct TcpPort<
+    'c,
     N: Net<Listener = TcpListener, Stream = TcpStream> + time::Clock + Copy + Drop,
     K: Keeper + Copy + Drop,
 > {
     net: N,
     alloc: Global,
     keeper: K,
+    counters: Option<&'c Counters>,
     listener: Option<TcpListener>,
     port: u16,
     limit: u32,
@@ -81,11 +86,12 @@ fn code_of(error: io::Error) -> u32 {
 }
 
 impl<
+    'c,
     N: Net<Listener = TcpListener, Stream = TcpStream> + time::Clock + Copy + Drop,
     K: Keeper + Copy + Drop,
-> TcpPort<N, K> {
+> TcpPort<'c, N, K> {
     /// A listener at port 0 with limit 0 that has handed out nothing and hasn't failed.
-    pub fn new(net: N, alloc: Global, keeper: K) -> Self
+    pub fn new(net: N, alloc: Global, keeper: K, counters: Option<&'c Counters>) -> Self
         ensures view { tcp_view result ≡ record { port = 0; limit = 0; handed = 0 } }
         ensures faults { tcp_faults result ≡ 0 }
     {
@@ -93,6 +99,7 @@ impl<
             net,
             alloc,
             keeper,
+            counters,
             listener: None,
             port: 0,
             limit: 0,
@@ -110,9 +117,24 @@ impl<
         self.faults = self.faults.saturating_add(1);
     }
 
-    // The next connection, for which it may wait, also until handles and memory are there again. None where the
-    // listener is gone or the journal is lost: it is asked before each wait and after it, since a bell may end one.
-    fn next_stream(&self) -> Option<(SocketReader<N, K>, SocketSink<K>)> {
+    // How it does from now on.
+    fn note(&self, health: Health) {
+        if let Some(counters) = self.counters {
+            counters.note_door(health);
+        }
+    }
+
+    // What is counted of the next connection, and of others.
+    fn take_counts(&self) -> Option<&'c StreamCounts> {
+        match self.counters {
+            Some(counters) => counters.take_connection(),
+            None => None,
+        }
+    }
+
+    /// The next connection, for which it may wait, also until handles and memory are there again. None where the
+    /// listener is gone or its keeper has lost: that is asked before each wait and after it, since a bell may end one.
+    pub fn next_stream(&self) -> Option<(SocketReader<N, K>, SocketSink<K>)> {
         let listener = self.listener.as_ref()?;
         for _ in 0..u64::MAX {
             if self.keeper.is_lost() {
@@ -135,12 +157,13 @@ impl<
 }
 
 impl<
+    'c,
     N: Net<Listener = TcpListener, Stream = TcpStream> + time::Clock + Copy + Drop,
     K: Keeper + Copy + Drop,
-> Listener for TcpPort<N, K> {
-    type Input = ReaderSource<SocketReader<N, K>>;
+> Listener for TcpPort<'c, N, K> {
+    type Input = CountingSource<'c, ReaderSource<SocketReader<N, K>>>;
 
-    type Output = SocketSink<K>;
+    type Output = CountingSink<'c, SocketSink<K>>;
 
     ghost told = { tcp_view };
 
@@ -157,6 +180,7 @@ impl<
             Ok(listener) => {
                 self.listener = Some(listener);
                 self.port = address.port();
+                self.note(Health::Well);
                 Bound::Ready
             }
             Err(_) => {
@@ -166,16 +190,22 @@ impl<
         }
     }
 
-    fn accept(&mut self) -> Accepted<ReaderSource<SocketReader<N, K>>, SocketSink<K>> {
+    fn accept(&mut self) -> Accepted<Self::Input, Self::Output> {
         if self.handed >= self.limit {
+            self.note(Health::Draining);
             return Accepted::Closed;
         }
         match self.next_stream() {
             Some((input, output)) => {
                 self.handed += 1;
-                Accepted::Stream(Waiting::of(ReaderSource::new(input), output))
+                let counts = self.take_counts();
+                Accepted::Stream(Waiting::of(
+                    CountingSource::of(ReaderSource::new(input), counts),
+                    CountingSink::of(output, counts),
+                ))
             }
             None => {
+                self.note(Health::Deaf);
                 self.fail();
                 Accepted::Failed
             }

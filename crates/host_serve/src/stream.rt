@@ -5,17 +5,20 @@ ghost use Rattle.session_loop.specs.declared.end.ConnEnd.TheVariants.{ReadFault,
 ghost use Rattle.claim_rule.specs.Desks.{IsOf};
 ghost use Rattle.claim_rule.specs.Out.{IsTidy};
 ghost use Rattle.rail_service.specs.Connections.{ServesWhole, connection_at};
+ghost use Rattle.rail_service.specs.Moments.{PermitsReplies, service_at};
 ghost use Rattle.worker_pool.specs.Turns.{KeepsDesk};
 ghost use Rattle.host_serve.specs.Turns.{HasCatalogue};
 
 use crate::member::Common;
 use claim_rule::{Books, Desk};
-use rail_io::{Clock, Sink, Source};
-use rail_service::{Finished, Waiting, serve_waiting};
+use rail_io::{Clock, Source};
+use rail_service::{Finished, Waiting, spend_permitted};
+use session_loop::Outlet;
 
 /// Serves a stream that was handed out to its connection's end, and hands it back as it is then: what is served is that
-/// stream, from the bytes that its source told to those that its sink took.
-pub fn serve_stream<I: Source, O: Sink, C: Clock>(
+/// stream, from the bytes that its source told to those that its outlet took. Whatever the outlet permits, at no moment
+/// is it handed other bytes than the next of the defined replies.
+pub fn serve_stream<I: Source, O: Outlet, C: Clock>(
     common: Common<'_>,
     books: &Books,
     desk: &mut Desk,
@@ -25,12 +28,14 @@ pub fn serve_stream<I: Source, O: Sink, C: Clock>(
     requires has { HasCatalogue books.now common.cat.now }
     requires own { IsOf books.now desk.old }
     requires tidy { IsTidy desk.old }
+    requires permits { PermitsReplies O.permits common.cat.now O.held O.told (service_at desk.old (C.told clock.old))
+        (I.told waiting.input) waiting.output }
     ensures own { IsOf books.now desk.new }
     ensures tidy { IsTidy desk.new }
     ensures keeps { KeepsDesk desk.old desk.new }
 
     // The bytes written are the defined replies to the requests of the bytes taken, whatever other desks do, and the
-    // sink has got no others.
+    // outlet has got no others.
     ensures served { ServesWhole common.entry.cat.now
         (connection_at desk.old (C.told clock.old) (I.told waiting.input) (O.told waiting.output))
         (connection_at desk.new (C.told clock.new) (I.told result.input) (O.told result.output)) result.end }
@@ -42,5 +47,5 @@ pub fn serve_stream<I: Source, O: Sink, C: Clock>(
     ensures read_steady { (result.end ≡ ReadFault → ⊥) → I.faults result.input ≡ I.faults waiting.input }
     ensures write_steady { (result.end ≡ WriteFault → ⊥) → O.faults result.output ≡ O.faults waiting.output }
 {
-    serve_waiting(common.alloc, common.cat, books, desk, waiting, clock)
+    spend_permitted(common.alloc, common.cat, books, desk, waiting, clock)
 }

@@ -1,14 +1,18 @@
 // Where serving members take their streams.
 ghost use Rattle.std.specs.Prelude.{◌≡◌, ◌+◌, ℕ, IfSome, IfNone, IsSomeAnd};
 ghost use Rattle.rail_service.specs.Listeners.{HandingBy, IsGiven};
+ghost use Rattle.rail_service.specs.Connections.{ServiceView};
+ghost use Rattle.rail_service.specs.Moments.{PermitsReplies};
+ghost use Rattle.rail_catalogue.specs.Contents.{CatalogueView};
 ghost use Rattle.host_serve.specs.Turns.{LettingGo};
 
 use crate::letting::drop_stream;
 use crate::mark::{Mark, Over};
 use crate::shared_listener::{Named, SharedListener};
 use answer_gate::Gate;
-use rail_io::{Sink, Source};
+use rail_io::Source;
 use rail_service::{Finished, Listener, Waiting};
+use session_loop::Outlet;
 use std::sync::ledger::Share;
 use std::sync::{Mutex, OnceLock, OnceToken, Wait};
 
@@ -19,7 +23,7 @@ pub trait Streams {
     type Input: Source + Drop;
 
     /// What goes into it.
-    type Output: Sink + Drop;
+    type Output: Outlet + Drop;
 
     /// How many it has handed out.
     ghost handed: { Self → ℕ };
@@ -37,11 +41,15 @@ pub trait Streams {
     /// That all may see that there will be no more streams.
     ghost tells: { Self → Type 0 };
 
-    /// The next stream, for which it may wait, or none, where there will be no more, and all may see it.
+    /// The next stream, for which it may wait, or none, where there will be no more, and all may see it. At each moment
+    /// the stream's outlet permits the next bytes of the defined replies, whatever the catalogue and the desk.
     fn next_stream(&mut self) -> Option<Waiting<Self::Input, Self::Output>>
         ensures some { IfSome result (λ _. handed self.new ≡ handed self.old + 1) }
         ensures hands { IfSome result (λ w.
             hands self.old (Self.Input.told w.input) (Self.Output.told w.output) self.new) }
+        ensures permits { IfSome result (λ w. (cat : CatalogueView) (service : ServiceView)
+            → PermitsReplies Self.Output.permits cat Self.Output.held Self.Output.told service
+            (Self.Input.told w.input) w.output) }
         ensures none { IfNone result (handed self.new ≡ handed self.old) }
         ensures tells { IfNone result (tells self.new) };
 

@@ -1,14 +1,18 @@
 // The member that sweeps.
 ghost use Rattle.std.specs.Prelude.{◌≡◌, ◌↔◌, true, not};
 ghost use Rattle.claim_rule.specs.Desks.{IsOf};
-ghost use Rattle.claim_rule.specs.Out.{IsTidy};
+ghost use Rattle.claim_rule.specs.Calls.{AddsStepsBy};
+ghost use Rattle.claim_rule.specs.Out.{EndsNone, IsTidy, KeepsHolds};
+ghost use Rattle.expiry_sweeper.specs.AllRows.{Sweeps};
 ghost use Rattle.worker_pool.specs.Turns.{KeepsDesk};
 ghost use Rattle.worker_pool.specs.declared.worker.TurnEnd.TheVariants.{End};
 ghost use Rattle.host_serve.specs.Turns.{SweepsTurn};
 
+use booking_rows::Swept;
 use claim_rule::{Books, Desk};
 use expiry_sweeper::sweep;
 use rail_io::{Clock, Reach, Ticker};
+use rail_time::Moment;
 use worker_pool::TurnEnd;
 
 /// Sweeps all rows at each tick, at its clock's moment, until the ticker ends.
@@ -20,6 +24,21 @@ pub struct Sweeper<T, C> {
     pub clock: C,
     /// Whether the ticker has ended.
     pub ended: bool,
+}
+
+/// Sweeps once, where a command that may change bookings has begun at the clock.
+fn sweep_begun<C: Clock>(clock: &C, books: &Books, desk: &mut Desk, now: Moment) -> Swept
+    requires begun { C.inside clock.now }
+    requires own { IsOf books.now desk.old }
+    requires none { EndsNone desk.old }
+    ensures own { IsOf books.now desk.new }
+    ensures entries { AddsStepsBy (Sweeps books.now.layout.rows now result) desk.old desk.new }
+    ensures none { EndsNone desk.new }
+    ensures holds { KeepsHolds desk.old desk.new }
+    ensures tidy { IsTidy desk.old → IsTidy desk.new }
+{
+    let _ = clock;
+    sweep(books, desk, now)
 }
 
 impl<T: Ticker, C: Clock> Sweeper<T, C> {
@@ -42,7 +61,7 @@ impl<T: Ticker, C: Clock> Sweeper<T, C> {
         }
         let now = self.clock.now();
         self.clock.begin(Reach::Changes);
-        let _swept = sweep(books, desk, now);
+        let _swept = sweep_begun(&self.clock, books, desk, now);
         let _cut = self.clock.end();
         self.ended = false;
         TurnEnd::Again

@@ -146,7 +146,7 @@ fn sum_of(sets: &[StreamCounts], pick: Picks, number: usize) -> u64 {
 }
 
 impl Counters {
-    /// Nothing counted yet, of a host with this number of workers.
+    /// Nothing counted yet, of a host with that many workers.
     pub fn new(alloc: Global, workers: u32) -> Result<Counters, AllocError> {
         let mut sets = Vec::new(alloc);
         for _set in 0..SETS {
@@ -189,7 +189,7 @@ impl Counters {
         self.kept.add(bytes as u64);
     }
 
-    /// The journal was written anew, with this number of bytes.
+    /// The journal was written anew, with that many bytes.
     pub(crate) fn note_rewrite(&self, bytes: usize) {
         self.rewrites.add(1);
         self.kept.add(bytes as u64);

@@ -11,11 +11,13 @@ fn digit_of(byte: u8) -> Option<u16>
     }
 }
 
-/// The status of an answer whose first bytes are these, where they are the front of an answer's head.
+/// The status of an answer whose first bytes are these, where they are the front of an answer's head: no later part of a
+/// head has a blank and three digits at these places after an `H`.
 pub(crate) fn status_of(first: &[u8]) -> Option<u16> {
-    let rest = first.strip_prefix(b"HTTP/1.1 ")?;
-    match rest {
-        [a, b, c, ..] => Some(digit_of(*a)? * 100 + digit_of(*b)? * 10 + digit_of(*c)?),
+    match first {
+        [b'H', _, _, _, _, _, _, _, b' ', a, b, c, ..] => {
+            Some(digit_of(*a)? * 100 + digit_of(*b)? * 10 + digit_of(*c)?)
+        }
         _ => None,
     }
 }

@@ -103,19 +103,29 @@ pub(crate) fn number_of_status(status: u16) -> usize
     }
 }
 
-// Whether a problem's text says the code of this label.
-fn says(body: &[u8], label: &[u8]) -> bool {
-    let Some(code) = label.strip_prefix(b"{code=") else {
+// The code of a problem's text.
+fn code_in(body: &[u8]) -> Option<&[u8]> {
+    let rest = body.strip_prefix(b"{\"code\":\"")?;
+    let end = rest.iter().position(|byte| *byte == b'"')?;
+    rest.get(..end)
+}
+
+// Whether this is the label of a code. Most differ in length already, so that this is looked at first.
+fn is_label_of(label: &[u8], code: &[u8]) -> bool {
+    if label.len() != code.len() + b"{code=\"\"}".len() {
         return false;
-    };
-    match (body.strip_prefix(b"{\"code\":"), code.strip_suffix(b"}")) {
-        (Some(rest), Some(code)) => rest.starts_with(code),
-        _ => false,
+    }
+    match label.get(b"{code=\"".len()..) {
+        Some(rest) => rest.starts_with(code),
+        None => false,
     }
 }
 
 /// The number of the label of a problem's code: that of all others, where the text says none of the codes.
 pub(crate) fn number_of_code(body: &[u8]) -> usize {
-    let found = CODES.iter().position(|label| says(body, label));
+    let Some(code) = code_in(body) else {
+        return CODES.len() - 1;
+    };
+    let found = CODES.iter().position(|label| is_label_of(label, code));
     found.unwrap_or(CODES.len() - 1)
 }

@@ -10,7 +10,7 @@ use rail_io::{Pulled, Source};
 pub struct CountingSource<'c, S: Source + Drop> {
     source: S,
     counts: Option<&'c StreamCounts>,
-    /// What has ended the connection, as far as reads show.
+    /// What ended the connection, as far as reads show.
     cause: Cause,
 }
 

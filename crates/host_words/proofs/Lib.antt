@@ -4,3 +4,4 @@ pub mod Ranges
 pub mod ServeRows
 pub mod Drilling
 pub mod Three
+pub mod WindowRows

@@ -6,5 +6,6 @@ pub mod Said
 pub mod Serve
 pub mod Drill
 pub mod Tiny
+pub mod Window
 pub mod Settle
 pub mod Recover

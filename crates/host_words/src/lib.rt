@@ -2,7 +2,8 @@
 //!
 //! `tiny LEGS PLACES`, `settle CATALOGUE EXPORT` and `recover CATALOGUE JOURNAL` are read by hand. `replay CATALOGUE
 //! --start MOMENT --tick N --from EXPORT`, `export` with the same words, `drill --seed N --workers N --size N --places
-//! N` and `serve CATALOGUE --port N --workers N --connections N --sweep N --from EXPORT --journal JOURNAL --export` are
+//! N` and `serve CATALOGUE --port N --workers N --connections N --sweep N --from EXPORT --journal JOURNAL --export
+//! --window N` are
 //! each read as a simple command by `clap`. Their contract is `clap`'s stated reading: the values are exactly those
 //! that it gives. The words are refused exactly where it refuses them for another cause than memory, where a number is
 //! out of its range, where the text of a moment is none, or where both an export and a journal are named. A wish for
@@ -20,6 +21,7 @@ mod replay;
 mod serve;
 mod settle;
 mod tiny;
+mod window;
 
 pub use command::{CommandName, command_of, is_for};
 pub use drill::{DrillWords, read_drill};
@@ -29,3 +31,4 @@ pub use replay::{ReplayWords, read_export, read_replay};
 pub use serve::{ServeWords, Serving, read_serve};
 pub use settle::{SettleWords, read_settle};
 pub use tiny::{TinyWords, read_tiny};
+pub use window::{WindowWords, read_window};

@@ -102,7 +102,17 @@ fn export_option<'a>(alloc: Global) -> Arg<'a>
         .action(ArgAction::SetTrue)
 }
 
-fn serve_command<'a>(alloc: Global) -> Result<Command<'a>, AllocError>
+fn window_option<'a>(alloc: Global) -> Arg<'a>
+    ensures rule { rule_of result ≡ numbered 1 65535 (option_rule (codes "window")) }
+    ensures local { result.global ≡ false }
+{
+    Arg::new(alloc, "window")
+        .long("window")
+        .value_parser(clap::value_parser!(u32).range(1..=65_535))
+}
+
+/// What `clap` takes as the words of `serve`.
+pub(crate) fn serve_command<'a>(alloc: Global) -> Result<Command<'a>, AllocError>
     ensures { IfOk result (λ command. app_of command ≡ serve_app) }
 {
     Command::new(alloc, "serve")
@@ -113,7 +123,8 @@ fn serve_command<'a>(alloc: Global) -> Result<Command<'a>, AllocError>
         .arg(sweep_option(alloc))?
         .arg(from_option(alloc))?
         .arg(journal_option(alloc))?
-        .arg(export_option(alloc))
+        .arg(export_option(alloc))?
+        .arg(window_option(alloc))
 }
 
 fn numbers_in(matches: &ArgMatches<'_>) -> Option<Serving>

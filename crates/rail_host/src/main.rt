@@ -13,18 +13,22 @@ mod exit;
 mod host;
 mod program;
 mod serve;
+mod window;
 
 use answer_gate::{Cuts, GateKeeper};
 use devices::{Devices, ForServe};
 use exit::run_host;
 use host_io::{FileJournal, SleepTicker, TcpBell, TcpPort};
+use host_notes::{CommandEnd, end_command};
 use host_serve::Keeping;
-use rail_io::{FileShelf, ReaderSource, WriterSink};
+use host_window::{CountingJournal, CountingTicker, show_all};
+use rail_io::{Bell, FileShelf, ReaderSource, WriterSink};
 use std::alloc::{AllocError, Global};
-use std::env;
 use std::io::ErrorKind;
 use std::process::ExitCode;
 use std::rt::Env;
+use std::{env, thread};
+use window::{Window, asked_window, counters_of, window_port};
 
 /// The words after the first, which is the program's name. None of them is left out.
 fn words_after_name(alloc: Global, mut given: env::Args) -> Result<Vec<String>, AllocError>
@@ -47,24 +51,62 @@ fn given_words(rt: &(impl Env + AllocGlobal)) -> Result<Vec<String>, AllocError>
     }
 }
 
+/// The window that the words ask for, where there are words.
+fn window_of(
+    alloc: Global,
+    words: &Result<Vec<String>, AllocError>,
+) -> Result<Option<Window>, AllocError> {
+    match words {
+        Ok(words) => asked_window(alloc, words),
+        Err(_) => Ok(None),
+    }
+}
+
 fn main(rt: HostRuntime) -> ExitCode {
     let alloc = rt.alloc();
     let words = given_words(&rt);
-    let cuts = Cuts::new();
-    let mut devices = Devices {
-        shelf: FileShelf::new(&rt),
-        input: ReaderSource::new(rt.stdin()),
-        output: WriterSink::new(rt.stdout()),
-        notes: WriterSink::new(rt.stderr()),
+    let mut notes = WriterSink::new(rt.stderr());
+    let Ok(window) = window_of(alloc, &words) else {
+        return ExitCode::from(end_command(&mut notes, &CommandEnd::NoMemory));
     };
-    let given = ForServe {
-        listener: TcpPort::new(&rt, alloc, GateKeeper::new(&cuts, &rt)),
-        ticker: SleepTicker::new(&rt),
-        keeping: Keeping {
-            cuts: &cuts,
-            journal: FileJournal::new(&rt, alloc),
-            bell: TcpBell::new(&rt),
-        },
-    };
-    run_host(&rt, alloc, words, &mut devices, given)
+    thread::scope(thread::scope_env(), &rt, |scope| {
+        if let Some(window) = &window {
+            let Some(mut port) = window_port(&rt, alloc, window) else {
+                return ExitCode::from(end_command(&mut notes, &CommandEnd::ReadFault));
+            };
+            let shown = scope.spawn(move || show_all(alloc, &mut port, &window.counters));
+            if shown.is_err() {
+                return ExitCode::from(end_command(&mut notes, &CommandEnd::NoMemory));
+            }
+        }
+        let counters = counters_of(&window);
+        let cuts = Cuts::new();
+        let mut devices = Devices {
+            shelf: FileShelf::new(&rt),
+            input: ReaderSource::new(rt.stdin()),
+            output: WriterSink::new(rt.stdout()),
+            notes,
+        };
+        let given = ForServe {
+            listener: TcpPort::new(&rt, alloc, GateKeeper::new(&cuts, &rt), counters),
+            ticker: CountingTicker {
+                ticker: SleepTicker::new(&rt),
+                counters,
+            },
+            keeping: Keeping {
+                cuts: &cuts,
+                journal: CountingJournal {
+                    journal: FileJournal::new(&rt, alloc),
+                    counters,
+                },
+                bell: TcpBell::new(&rt),
+            },
+        };
+        let exit = run_host(&rt, alloc, words, &mut devices, given);
+        if let Some(window) = &window {
+            window.counters.end();
+            TcpBell::new(&rt).ring(window.port);
+        }
+        exit
+    })
 }

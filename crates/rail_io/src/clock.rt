@@ -1,5 +1,6 @@
 // Where moments come from, and what a clock is told of commands.
 ghost use Rattle.std.specs.Prelude.{◌≡◌, ℕ, Option, IfSome};
+ghost use Rattle.rail_io.specs.declared.clock.Reach.TheVariants.{Changes};
 ghost use Rattle.rail_io.specs.Clocks.{MovesUp};
 
 use rail_time::Moment;
@@ -20,25 +21,26 @@ pub trait Clock {
     /// The readings to come, by their numbers from 0, where the clock tells them.
     ghost told: { Self → Option (ℕ → ℕ) };
 
+    /// That bookings may be changed now: a command that may do so has begun, and has no answer yet.
+    ghost inside: { Self → Type 0 } = { λ _. Unit {0} };
+
+    /// That a call of `end` gave this cut: the clock before it, the cut, and the clock after it. Whoever knows nothing
+    /// of the clock but this trait can show that only by such a call.
+    ghost ends: { Self → ℕ → Self → Type 0 } = { λ _ _ _. Unit {0} };
+
     /// The first of the readings to come. Each later one moves up by one.
     fn now(&mut self) -> Moment
         ensures first { IfSome (told self.old) (λ readings. result ≡ readings 0) }
         ensures rest { MovesUp (told self.old) (told self.new) };
 
     /// A command of this reach begins. It may wait.
-    #[inline(always)]
     fn begin(&mut self, reach: Reach)
         ensures same { told self.new ≡ told self.old }
-    {
-        let _ = reach;
-    }
+        ensures inside { reach ≡ Changes → inside self.new };
 
     /// The command that began last has its answer. The answer may leave once the cut of this number is kept; at once,
     /// where it is 0.
-    #[inline(always)]
     fn end(&mut self) -> u64
         ensures same { told self.new ≡ told self.old }
-    {
-        0
-    }
+        ensures ends { ends self.old result self.new };
 }

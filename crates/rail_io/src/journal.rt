@@ -36,6 +36,13 @@ pub trait Journal {
     /// fail.
     ghost faults: { Self → ℕ };
 
+    /// That a call put this text in the place of all that was kept: the journal before it, the text, and the journal
+    /// after it. Whoever knows nothing of the journal but this trait can show that only by such a call.
+    ghost puts: { Self → List ℕ → Self → Type 0 } = { λ _ _ _. Unit {0} };
+
+    /// That a call appended these bytes, and all are kept: likewise.
+    ghost adds: { Self → List ℕ → Self → Type 0 } = { λ _ _ _. Unit {0} };
+
     /// Opens the journal of this name for this process alone, and reads it whole, at most `room` bytes. Nothing in it
     /// changes.
     fn open(&mut self, alloc: Global, name: &str, room: u32) -> JournalOpened
@@ -49,6 +56,7 @@ pub trait Journal {
     /// the other is there, and whole.
     fn replace(&mut self, text: &[u8]) -> bool
         ensures replaces { Replaces (told self.old) (told self.new) text.now result }
+        ensures puts { result ≡ true → puts self.old text.now self.new }
         ensures spent { 0 < faults self.old → (result ≡ false) × (told self.new ≡ told self.old) }
         ensures never_falls { faults self.old ≤ faults self.new }
         ensures cause { result ≡ false → Rose (faults self.old) (faults self.new) }
@@ -57,6 +65,7 @@ pub trait Journal {
     /// Appends these bytes, and answers whether all are kept now. Where it fails, the first of them may be.
     fn append(&mut self, piece: &[u8]) -> bool
         ensures appends { Appends (told self.old) (told self.new) piece.now result }
+        ensures adds { result ≡ true → adds self.old piece.now self.new }
         ensures spent { 0 < faults self.old → (result ≡ false) × (told self.new ≡ told self.old) }
         ensures never_falls { faults self.old ≤ faults self.new }
         ensures cause { result ≡ false → Rose (faults self.old) (faults self.new) }

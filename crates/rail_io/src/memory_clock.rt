@@ -1,7 +1,7 @@
 // Clocks whose readings are known.
 ghost use Rattle.std.specs.Prelude.{◌≡◌, ◌≤◌, length};
 
-use crate::Clock;
+use crate::{Clock, Reach};
 use rail_time::Moment;
 use std::marker::Model;
 
@@ -26,6 +26,16 @@ impl Clock for ScriptClock {
         let _in_years = reading.seconds();
         self.next = reading.later(self.tick);
         reading
+    }
+
+    #[inline(always)]
+    fn begin(&mut self, reach: Reach) {
+        let _ = reach;
+    }
+
+    #[inline(always)]
+    fn end(&mut self) -> u64 {
+        0
     }
 }
 
@@ -68,5 +78,15 @@ impl Clock for ListClock {
             self.at += 1;
         }
         reading
+    }
+
+    #[inline(always)]
+    fn begin(&mut self, reach: Reach) {
+        let _ = reach;
+    }
+
+    #[inline(always)]
+    fn end(&mut self) -> u64 {
+        0
     }
 }

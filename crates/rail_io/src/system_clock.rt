@@ -1,7 +1,7 @@
 // The clock of the system. It tells no reading.
 ghost use Rattle.std.specs.Prelude.{None};
 
-use crate::Clock;
+use crate::{Clock, Reach};
 use rail_time::Moment;
 use std::time;
 
@@ -46,6 +46,16 @@ impl<C: time::Clock + Drop> Clock for SystemClock<C> {
             Err(_) => self.faults = self.faults.saturating_add(1),
         }
         self.last
+    }
+
+    #[inline(always)]
+    fn begin(&mut self, reach: Reach) {
+        let _ = reach;
+    }
+
+    #[inline(always)]
+    fn end(&mut self) -> u64 {
+        0
     }
 }
 

@@ -12,3 +12,4 @@ pub mod Walking
 pub mod Pathways
 pub mod Handing
 pub mod Performed
+pub mod Awaiting

@@ -12,9 +12,9 @@ abbrev pub service_at : DeskView → Option (ℕ → ℕ) → ServiceView
 service_at desk clock = record { desk = desk; first = None; clock = clock }
 
 -- At a moment of a connection these bytes may be handed over. They are all that is left of the defined reply to the
--- next request of the bytes taken so far, or to what stands in its place, after the replies to those before it. Each
--- reply is by the desk's own entries, in one legal history that begins with what the desk had seen, and in which no two
--- live bookings ever share a place on a leg.
+-- next request of a beginning of the bytes that were to come, or to what stands in its place, after the replies to
+-- those before it. The replies are by entries that the desk may have, in some legal history that begins with what it
+-- had seen, and in which no two live bookings ever share a place on a leg.
 pub record MayReply {K : Type 0} (cat : CatalogueView) (held : K → ℕ → K → Type 0) (told : K → Option (List ℕ))
     (before : ServiceView) (source : Option (List ℕ)) (sink now : K) (piece : List ℕ) : Type 0 where
   pub is : MayWrite (answers_of cat) (refusals_of cat) (λ _ _ _. Unit {0}) held told before source sink now piece

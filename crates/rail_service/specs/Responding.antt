@@ -1,5 +1,5 @@
 -- How the service responds.
-use Rattle.std.specs.Prelude.{◌≡◌, ℕ, true, List, Option}
+use Rattle.std.specs.Prelude.{◌≡◌, ◌⊎◌, ℕ, true, List, Option}
 use Rattle.http_wire.specs.declared.request.WireFault.{WireFault}
 use Rattle.http_wire.specs.Requests.{RequestText}
 use Rattle.claim_rule.specs.Out.{IsTidy}
@@ -22,6 +22,11 @@ pub record Responds {C : Type 0} (told : C → Option (ℕ → ℕ)) (before : S
   pub books : after.books.now ≡ before.books.now
   pub desk : after.desk.ghost_name ≡ before.desk.ghost_name
   pub clock : after.clock.ghost_name ≡ before.clock.ghost_name
+
+-- An answer waits for the cut that the clock gave at the command's end; for none, where the desk has done nothing.
+abbrev pub Awaits : {C : Type 0} → (C → ℕ → C → Type 0) → Service C → ℕ → Service C → Type 0
+Awaits {C} ends before cut after =
+    ((cut ≡ 0) × (after.desk.now ≡ before.desk.now)) ⊎ ((mid : C) × ends mid cut after.clock.now)
 
 abbrev pub Declines : {C : Type 0} → Service C → WireFault → List ℕ → Type 0
 Declines service fault text = text ≡ reply_bytes service.cat.now true (problem (problem_of_wire fault))

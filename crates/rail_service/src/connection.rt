@@ -53,8 +53,8 @@ fn serve<S: Source, K: Outlet, C: Clock>(
 }
 
 /// Serves one connection, as `serve_connection` does, into an outlet of which it is known that it permits the next
-/// bytes of the defined replies. Whatever the outlet permits, no other bytes are handed to it at any moment, and none
-/// earlier, whether or not the connection ever ends.
+/// bytes of the defined replies. Whatever the outlet permits, no other bytes are handed to it at any moment, whether or
+/// not the connection ever ends.
 pub fn serve_permitted<S: Source, K: Outlet, C: Clock>(
     alloc: Global,
     cat: &Catalogue,

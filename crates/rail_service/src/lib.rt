@@ -2,8 +2,8 @@
 //!
 //! A listener always tells its port, its limit and how many streams it has handed out, and counts its failures: it
 //! answers `Failed` only where that count rose in the call. Each stream that it hands out stands in a `Waiting`, which
-//! can't be dropped. `serve_waiting` alone spends it, and `spend_permitted`, which it calls: no stream that was handed
-//! out is dropped unserved. `ListListener` stands in memory.
+//! can't be dropped. Only `serve_waiting` and `spend_permitted`, which it calls, can spend it; without memory they do
+//! nothing with it. `ListListener` stands in memory.
 //!
 //! `serve_connection` takes the memory of the wire and of the routes first, and later that of bodies and answers
 //! alone. It requires that the books have the catalogue's places and rows, and that nothing is out at the desk; it

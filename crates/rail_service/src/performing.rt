@@ -1,6 +1,8 @@
 //! What a retailer's command does, and is answered.
 ghost use Rattle.std.specs.Prelude.{◌≡◌, Ok};
 ghost use Rattle.session_loop.specs.Answered.{answer_bytes};
+ghost use Rattle.rail_io.specs.declared.clock.Reach.TheVariants.{Changes};
+ghost use Rattle.rail_service.specs.Reaching.{reach_of as reach_in};
 ghost use Rattle.rail_catalogue.specs.Contents.{legs_in};
 ghost use Rattle.claim_rule.specs.Desks.{IsOf};
 ghost use Rattle.claim_rule.specs.Out.{IsIdle, IsTidy, MakesEmpty};
@@ -27,6 +29,7 @@ use osdm_json::{Command, Problem};
 use osdm_texts::Written;
 use rail_catalogue::Catalogue;
 use rail_ids::RetailerNo;
+use rail_io::Clock;
 use rail_time::Moment;
 use reservation_service::{book_offer, reserve_places};
 use search_service::{list_places, search_offers};
@@ -79,6 +82,26 @@ pub fn perform(
     };
     let said = say(&shop, desk, asker, command);
     answer_of(said, last, 0)
+}
+
+/// What the services answer to a command that has begun.
+#[inline(always)]
+pub(crate) fn say_begun<C: Clock>(
+    clock: &C,
+    shop: &Shop<'_>,
+    desk: &mut Desk,
+    asker: Asker,
+    command: &Command,
+) -> Result<Written, Problem>
+    requires begun { reach_in command.now ≡ Changes → C.inside clock.now }
+    requires home { IsAtHome shop.now.books.now desk.old }
+    requires command { IsReadable shop.now.cat.now command.now }
+    ensures home { StaysHome shop.now.books.now desk.old desk.new }
+    ensures said { Says shop.now.cat.now asker.retailer.0 asker.moment
+        (ordered shop.now.cat.now asker.moment command.now) desk.old desk.new (told_of result) }
+{
+    let _ = clock;
+    say(shop, desk, asker, command)
 }
 
 /// What the services answer to a command.

@@ -25,6 +25,7 @@ fn problem_of_wire(fault: WireFault) -> Problem
 /// The answer to what stands in a request's place. It is the last of its connection, and takes no memory.
 pub fn refusal_of(fault: WireFault) -> Answer
     ensures bytes { (cat : CatalogueView) → answer_bytes result ≡ reply_bytes cat true (problem (problem_of fault)) }
+    ensures at_once { result.after ≡ 0 }
 {
     problem_answer(&problem_of_wire(fault), true, 0)
 }

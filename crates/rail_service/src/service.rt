@@ -1,7 +1,7 @@
 //! The service as it answers the requests of one connection.
 use crate::answering::{answer_of, problem_answer};
 use crate::asking::{admit, asked, first_after, retailer_of};
-use crate::performing::say;
+use crate::performing::say_begun;
 use crate::reach::reach_of;
 use crate::refusal::refusal_of;
 use crate::resource::Resource;
@@ -33,13 +33,15 @@ pub struct Service<'s, 'd, 'k, C> {
 
 impl<C: Clock> Responder for Service<'_, '_, '_, C> {
     ghost use Rattle.rail_service.specs.Readiness.{IsReady};
-    ghost use Rattle.rail_service.specs.Responding.{Responds, Declines};
+    ghost use Rattle.rail_service.specs.Responding.{Awaits, Responds, Declines};
 
     ghost ready = { λ s. IsReady s.cat.now s.books.now s.router.now s.desk.now };
 
     ghost answers = { λ before request text after. Responds C.told before request text after };
 
     ghost refuses = { λ service fault text. Declines service fault text };
+
+    ghost awaits = { λ before cut after. Awaits C.ends before cut after };
 
     // Inlined, since an answer is large to hand on.
     #[inline(always)]
@@ -63,7 +65,7 @@ impl<C: Clock> Responder for Service<'_, '_, '_, C> {
             moment: now,
         };
         self.clock.begin(reach_of(&command));
-        let said = say(&shop, self.desk, asker, &command);
+        let said = say_begun(&*self.clock, &shop, self.desk, asker, &command);
         answer_of(said, last, self.clock.end())
     }
 

@@ -18,7 +18,8 @@ use session_loop::{ConnEnd, Outlet};
 use std::alloc::Global;
 
 /// A stream that a listener handed out and that isn't served yet. It can't be dropped: whoever has it has to spend it,
-/// which only `serve_waiting` does, by `spend_permitted`. Contracts see its source and its sink.
+/// which only `serve_waiting` and `spend_permitted` can; without memory they do nothing with it. Contracts see its
+/// source and its sink.
 pub struct Waiting<I, O> {
     input: I,
     output: O,
@@ -56,7 +57,7 @@ pub struct Finished<I, O> {
 
 /// Serves a stream that was handed out, as `serve_waiting` does, into an outlet of which it is known that it permits
 /// the next bytes of the defined replies. Whatever the outlet permits, no other bytes are handed to it at any moment,
-/// and none earlier, whether or not the connection ever ends.
+/// whether or not the connection ever ends.
 pub fn spend_permitted<I: Source, O: Outlet, C: Clock>(
     alloc: Global,
     cat: &Catalogue,
@@ -99,8 +100,7 @@ pub fn spend_permitted<I: Source, O: Outlet, C: Clock>(
 }
 
 /// Serves the connection of a stream that was handed out, at a desk of the books, as `serve_connection` does over the
-/// stream's source and sink, and hands both back with the connection's end. This call alone spends a waiting stream, by
-/// `spend_permitted`.
+/// stream's source and sink, and hands both back with the connection's end.
 pub fn serve_waiting<I: Source, O: Sink, C: Clock>(
     alloc: Global,
     cat: &Catalogue,

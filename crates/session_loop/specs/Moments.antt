@@ -48,8 +48,9 @@ pub record MayStep {R K : Type 0} (answers : Answering R) (refuses : Refusing R)
   pub writes : WritesHeld held told sink cut part true now
 
 -- At a moment of a session these bytes may be handed over. What was written so far is the answers to the first requests
--- of the bytes taken so far, and then a part of the answer to one request more, or to what stands in its place. These
--- bytes are all that is left of that answer. Before its first byte the sink was told after which cut it may leave.
+-- of a beginning of the bytes that were to come, and then a part of the answer to one request more, or to what stands
+-- in its place. These bytes are all that is left of that answer. Before its first byte a sink that told as much was
+-- told after which cut it may leave.
 pub record MayWrite {R K : Type 0} (answers : Answering R) (refuses : Refusing R) (awaits : Awaiting R)
     (held : K → ℕ → K → Type 0) (told : K → Option (List ℕ)) (before : R) (source : Option (List ℕ)) (sink now : K)
     (piece : List ℕ) : Type 0 where

@@ -5,11 +5,12 @@
 //! fault where one stands after them. Each end has its cause in the bytes, or in a count of faults that rose. It takes
 //! no memory.
 //!
-//! An answer may have the number of a cut of the bookings. The sink is told of it before the first byte of that answer.
-//!
 //! The answers go into an `Outlet`, which says what may be handed to it next. `run_permitted` asks of it only that it
-//! permits the next bytes of the defined answers: so no other bytes are handed to it at any moment, also in a session
+//! permits the next bytes of the defined answers. So no other bytes are handed to it at any moment, also in a session
 //! that never ends. Every sink is an outlet that permits all.
+//!
+//! An answer may have the number of a cut of the bookings. `run_permitted` tells the outlet of it before the first byte
+//! of that answer.
 //!
 //! `proofs/Views`: a session seen through a view of its responder; `proofs/Keeping`: what every answer keeps, the
 //! session keeps.

@@ -3,7 +3,7 @@
 //! `metrics_page` writes what is counted of a host for Prometheus, in its text format of version 0.0.4. Its contract
 //! says every byte: `specs/Texts` has the form of a family of numbers, and `specs/Metrics` the families.
 //!
-//! It is a crate of its own since it takes nothing but numbers, and is proved on its own.
+//! It is a crate of its own since it takes nothing but numbers, and is proved apart from all else.
 #![tactic(auto)]
 
 mod counts;

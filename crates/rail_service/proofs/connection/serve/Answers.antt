@@ -41,5 +41,5 @@ returns-clause-same_clock g c =
 
 pub run_permitted-requires-clause-permits : goal.run_permitted-requires-clause-permits
 run_permitted-requires-clause-permits g c = λ now piece may. c.requires.permits now piece
-    (may_reply g.C.Clock.told (λ _ _ _. Unit {0}) g.K.Outlet.held g.K.Outlet.told c.args.service.now (g.S.Source.told c.args.source.now) c.args.sink.now now piece
+    (may_reply g.C.Clock.told _ g.K.Outlet.held g.K.Outlet.told c.args.service.now (g.S.Source.told c.args.source.now) c.args.sink.now now piece
     c.requires.ready.own.legal may)

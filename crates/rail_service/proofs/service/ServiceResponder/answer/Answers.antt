@@ -1,4 +1,4 @@
-use Rattle.std.proofs.Common.{Bool, Option, Result, Ok, Err, refl, sym, ap, subst, ◌∙◌}
+use Rattle.std.proofs.Common.{Bool, Option, Result, Ok, Err, inl, refl, sym, ap, subst, ◌∙◌}
 use Rattle.rail_ids.specs.declared.RetailerNo.{RetailerNo}
 use Rattle.http_wire.specs.Pieces.{request_text}
 use Rattle.claim_rule.proofs.Shapes.{shape_none}
@@ -6,6 +6,7 @@ use Rattle.osdm_texts.specs.Answers.{problem}
 use Rattle.claim_rule.proofs.Out.{makes_empty}
 use Rattle.rail_service.specs.Bytes.{reply_bytes}
 use Rattle.rail_service.proofs.Telling.{of_problem}
+use Rattle.rail_service.proofs.Awaiting.{given_by}
 use Rattle.osdm_texts.specs.declared.problem.Problem.{Problem}
 use Rattle.rail_service.specs.Serving.{first_after, admitted, AsksAdmitted}
 use Rattle.rail_service.specs.Connections.{IsReading}
@@ -30,7 +31,7 @@ returns-clause-answers g c =
     (reading_of _ _ _ c.now-now.ensures.first c.now-now.ensures.rest) in
     let did = told_so cat c.in-Ok.asked.0.0 c.now-now.result c.args.last
     (ordered cat c.now-now.result c.in-Ok.asked.1) _ _ _ _
-    c.requires.ready.own.legal c.say-said.ensures.said c.answer_of.ensures.bytes in
+    c.requires.ready.own.legal c.say_begun-said.ensures.said c.answer_of.ensures.bytes in
     record {
       answer = answer_by cat (view_of told c.args.self.now) request _ _ c.now-now.result did.0
           c.requires.ready.own.legal reading
@@ -38,14 +39,22 @@ returns-clause-answers g c =
           (did.4 ∙ ap (λ (last : Bool). reply_bytes cat last did.0) c.requires.last)
           (c.first_after-self.ensures.value
           ∙ ap (λ (retailer : Option RetailerNo). first_after first retailer) c.retailer_of-retailer.ensures.value)
-          c.say-said.ensures.home.home.idle
-          (makes_empty c.args.self.now.books.now _ c.say-said.ensures.home.home.own c.say-said.ensures.home.home.idle.0);
-      tidy = c.say-said.ensures.home.tidy;
+          c.say_begun-said.ensures.home.home.idle
+          (makes_empty c.args.self.now.books.now _ c.say_begun-said.ensures.home.home.own c.say_begun-said.ensures.home.home.idle.0);
+      tidy = c.say_begun-said.ensures.home.tidy;
       cat = refl;
       books = refl;
       desk = refl;
       clock = refl;
     }
+
+-- the clock gave the answer's cut
+pub returns-clause-awaits : goal.returns-clause-awaits
+returns-clause-awaits g c =
+    given_by g.C.Clock.ends _ _ _ _ _ c.answer_of.ensures.after c.end.ensures.ends
+
+pub returns-in-Err-clause-awaits : goal.returns-in-Err-clause-awaits
+returns-in-Err-clause-awaits g c = inl (c.problem_answer.ensures.after, refl)
 
 pub returns-in-Err-clause-answers : goal.returns-in-Err-clause-answers
 returns-in-Err-clause-answers g c =
