@@ -117,9 +117,15 @@ impl<
         self.faults = self.faults.saturating_add(1);
     }
 
-    // How it does from now on.
+    // How it does from now on, unless the journal is lost. That may be so though no write of it failed: where there was
+    // no memory for a cut.
     fn note(&self, health: Health) {
-        if let Some(counters) = self.counters {
+        let Some(counters) = self.counters else {
+            return;
+        };
+        if self.keeper.is_lost() {
+            counters.note_door(Health::Lost);
+        } else {
             counters.note_door(health);
         }
     }

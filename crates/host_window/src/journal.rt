@@ -15,6 +15,10 @@ impl<J: Journal> Journal for CountingJournal<'_, J> {
 
     ghost faults = { λ j. J.faults j.journal };
 
+    ghost puts = { λ before text after. J.puts before.journal text after.journal };
+
+    ghost adds = { λ before piece after. J.adds before.journal piece after.journal };
+
     fn open(&mut self, alloc: Global, name: &str, room: u32) -> JournalOpened {
         self.journal.open(alloc, name, room)
     }
