@@ -18,7 +18,7 @@ from clients import Client
 from story import Story
 
 CLIENTS, ROWS = 16, 256
-NEAR, ROUND_SECONDS = 15_500_000, 120
+NEAR, ROUND_SECONDS = 15_500_000, 400
 SHARED = "/dev/shm"
 
 
