@@ -88,10 +88,10 @@ impl<R: Wait, C: Clock> Clock for GatedClock<'_, R, C> {
             return self.clock.end();
         };
         if let Some(inside) = self.inside.take() {
-            return gate.leave(self.rt, inside);
+            return gate.leave(self.rt, inside).number();
         }
         if reach == Reach::Tells {
-            gate.tell(self.rt)
+            gate.tell(self.rt).number()
         } else {
             0
         }

@@ -58,7 +58,8 @@ impl<K: Receipt + Drop> Cuts<K> {
 
     /// The cut is kept, for which this is the receipt, and all before it: wakes those that wait for it.
     pub fn keep<R: Wait>(&self, rt: &R, taken: Taken, receipt: K)
-        requires { K.kept taken.number }
+        requires kept { K.kept taken.number }
+        requires of { K.of receipt ≡ taken.number }
     {
         let _receipt = receipt;
         let number = taken.number();

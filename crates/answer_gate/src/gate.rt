@@ -1,7 +1,7 @@
 // The gate.
 ghost use Rattle.std.specs.Prelude.{◌≡◌, ◌<◌};
 
-use crate::state::{Closed, Inside, State, Taken};
+use crate::state::{Closed, Cut, Inside, State, Taken};
 use std::sync::{Condvar, Mutex, Wait};
 
 /// The gate that commands go through which change bookings.
@@ -33,8 +33,8 @@ impl Gate {
     }
 
     /// Leaves, and is told the cut of its answer: the next to be taken. Something may have changed.
-    pub fn leave<R: Wait>(&self, rt: &R, inside: Inside) -> u64
-        ensures { 0 < result }
+    pub fn leave<R: Wait>(&self, rt: &R, inside: Inside) -> Cut
+        ensures { 0 < result.number }
     {
         let mut state = self.state.lock(rt);
         let wakes = state.holds_committer();
@@ -47,7 +47,7 @@ impl Gate {
     }
 
     /// The cut of an answer that only tells of bookings: 0, where all that it can have seen is kept.
-    pub fn tell<R: Wait>(&self, rt: &R) -> u64 {
+    pub fn tell<R: Wait>(&self, rt: &R) -> Cut {
         self.state.lock(rt).tell()
     }
 

@@ -32,5 +32,4 @@ pub use cuts::Cuts;
 pub use gate::Gate;
 pub use keeper::GateKeeper;
 pub use receipt::Receipt;
-pub use state::{Closed, Course, Inside, Phase, Standing, State, Taken};
-pub use tally::Tally;
+pub use state::{Closed, Cut, Inside, Taken};

@@ -8,8 +8,13 @@ use std::marker::Brand;
 pub trait Receipt {
     /// What it means that the cut of this number is kept.
     ghost kept: { ℕ → Type 0 };
+
+    /// The number of the cut that a receipt is for.
+    ghost of: { Self → ℕ };
 }
 
 impl Receipt for Brand {
     ghost kept = { λ _. Unit {0} };
+
+    ghost of = { λ _. 0 };
 }

@@ -19,7 +19,7 @@ pub enum Phase {
 /// Whether there will be more cuts.
 #[derive(Clone, Copy, PartialEq, Eq)]
 pub enum Course {
-    /// One more, once something has changed.
+    /// One more, once somebody waits for it.
     Going,
     /// None: all servers have parted, and nothing is left to be kept.
     Over,
@@ -46,14 +46,40 @@ pub struct Standing {
     pub servers: u32,
 }
 
-/// One who is inside a gate. Whoever has one has entered and not left.
+/// One who is inside. Whoever has one that a gate gave has entered it and not left.
 #[derive(Drop)]
-pub struct Inside;
+pub struct Inside {
+    _entered: (),
+}
 
-/// A closed gate with nobody inside, for the cut of this number. Until it is handed back nothing changes: the rows may
-/// be looked at.
+/// A closed gate with nobody inside, for the cut of this number. Until one is handed back that a gate gave, nobody
+/// enters that gate: the rows may be looked at.
 pub struct Closed {
     number: u64,
+}
+
+impl Closed {
+    /// The number of the cut.
+    pub fn number(&self) -> u64
+        ensures { result ≡ self.now.number }
+    {
+        self.number
+    }
+}
+
+/// The cut that an answer waits for, by its number; 0 for none. Only a gate gives one.
+#[derive(Drop)]
+pub struct Cut {
+    number: u64,
+}
+
+impl Cut {
+    /// The number of the cut.
+    pub fn number(&self) -> u64
+        ensures { result ≡ self.now.number }
+    {
+        self.number
+    }
 }
 
 /// A cut that was taken and isn't kept yet. The gate is open again.
@@ -70,7 +96,7 @@ impl Taken {
     }
 
     /// It is kept, or never will be.
-    pub fn settle(self) {
+    pub(crate) fn settle(self) {
         let Taken { number: _ } = self;
     }
 }
@@ -107,13 +133,6 @@ impl State {
         }
     }
 
-    /// How the gate stands.
-    pub fn standing(&self) -> Standing
-        ensures { result ≡ self.now.standing }
-    {
-        self.standing
-    }
-
     /// Whether one more may enter. The last test never fails on a machine of this world.
     pub fn is_open(&self) -> bool
         ensures { (result ≡ true) ↔ HasRoom self.now.standing }
@@ -128,7 +147,7 @@ impl State {
         ensures { self.new.standing ≡ entered self.old.standing }
     {
         self.standing.inside += 1;
-        Inside
+        Inside { _entered: () }
     }
 
     /// Whether the committer may be waiting for the next one to leave: no other is inside, and the gate is closed or
@@ -141,18 +160,29 @@ impl State {
     }
 
     /// One leaves, and is told the cut of its answer: the next to be taken.
-    pub fn leave(&mut self, inside: Inside) -> u64
+    pub fn leave(&mut self, inside: Inside) -> Cut
         ensures standing { self.new.standing ≡ left self.old.standing }
-        ensures cut { result ≡ self.old.standing.taken + 1 }
+        ensures cut { result.number ≡ self.old.standing.taken + 1 }
     {
-        let Inside = inside;
+        let Inside { _entered: () } = inside;
         self.standing.inside = self.standing.inside.saturating_sub(1);
         self.standing.changed = true;
-        self.standing.taken + 1
+        Cut {
+            number: self.standing.taken + 1,
+        }
     }
 
     /// The cut of an answer that only tells.
-    pub fn tell(&self) -> u64
+    pub fn tell(&self) -> Cut
+        ensures { result.number ≡ shown_by self.now.standing }
+    {
+        Cut {
+            number: self.last_shown(),
+        }
+    }
+
+    // Its number.
+    fn last_shown(&self) -> u64
         ensures { result ≡ shown_by self.now.standing }
     {
         let now = &self.standing;

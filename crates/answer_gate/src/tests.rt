@@ -14,12 +14,16 @@ const COMMANDS: u64 = 2_000;
 
 // A receipt that shows nothing.
 #[derive(Drop)]
-struct Written;
+struct Written {
+    number: u64,
+}
 
 impl Receipt for Written {
     ghost use Rattle.std.specs.Prelude.{ℕ};
 
     ghost kept = { λ _. Unit {0} };
+
+    ghost of = { λ w. w.number };
 }
 
 // What a server has made so far, and what the last cut that was written shows of it.
@@ -74,7 +78,7 @@ fn carry_out<R: Wait>(rt: &R, trial: &Trial, rows: &Rows, number: u64) -> u64 {
     trial.inside.fetch_add(1, Ordering::SeqCst);
     rows.made.store(number, Ordering::SeqCst);
     trial.inside.fetch_sub(1, Ordering::SeqCst);
-    trial.cuts.gate().leave(rt, inside)
+    trial.cuts.gate().leave(rt, inside).number()
 }
 
 // Each answer's cut is kept, and shows what the command made.
@@ -123,7 +127,7 @@ fn commit<R: Wait>(rt: &R, trial: &Trial) -> u64 {
         trial.expect(cut > cuts && cut - cuts == 1);
         cuts = cut;
         write(trial, seen);
-        trial.cuts.keep(rt, taken, Written);
+        trial.cuts.keep(rt, taken, Written { number: cut });
     }
     cuts
 }
@@ -153,7 +157,7 @@ fn cuts_of_three_servers(rt: HostRuntime) -> Result<(), Fail> {
     for rows in &trial.rows {
         assert!(rt; rows.shown.load(Ordering::SeqCst) == COMMANDS);
     }
-    assert!(rt; trial.cuts.gate().tell(&rt) == 0);
+    assert!(rt; trial.cuts.gate().tell(&rt).number() == 0);
     Ok(())
 }
 
@@ -169,7 +173,7 @@ fn take<R: Wait>(rt: &R, cuts: &Cuts<Written>) -> Option<Taken> {
 fn take_and_keep<R: Wait>(rt: &R, cuts: &Cuts<Written>) -> Option<u64> {
     let taken = take(rt, cuts)?;
     let number = taken.number();
-    cuts.keep(rt, taken, Written);
+    cuts.keep(rt, taken, Written { number });
     Some(number)
 }
 
@@ -278,20 +282,21 @@ fn cuts_by_reach(rt: HostRuntime) -> Result<(), Fail> {
     let mut clock = GatedClock::new(standing_clock(&rt), Some(gate), &rt);
     assert!(rt; told_of(&mut clock, Reach::Tells) == 0);
     clock.begin(Reach::Changes);
-    assert!(rt; gate.tell(&rt) == 1);
+    assert!(rt; gate.tell(&rt).number() == 1);
     assert!(rt; clock.end() == 1);
     assert!(rt; told_of(&mut clock, Reach::Apart) == 0);
     assert!(rt; told_of(&mut clock, Reach::Tells) == 1);
     let closed = cuts.next_cut(&rt).expect(&rt, "a cut");
     assert!(rt; told_of(&mut clock, Reach::Tells) == 1);
     let first = cuts.taken(&rt, closed);
-    assert!(rt; first.number() == 1);
+    let number = first.number();
+    assert!(rt; number == 1);
     assert!(rt; told_of(&mut clock, Reach::Tells) == 1);
     clock.begin(Reach::Changes);
-    assert!(rt; gate.tell(&rt) == 2);
+    assert!(rt; gate.tell(&rt).number() == 2);
     assert!(rt; clock.end() == 2);
     assert!(rt; told_of(&mut clock, Reach::Tells) == 2);
-    cuts.keep(&rt, first, Written);
+    cuts.keep(&rt, first, Written { number });
     assert!(rt; told_of(&mut clock, Reach::Tells) == 2);
     assert!(rt; take_and_keep(&rt, &cuts) == Some(2));
     assert!(rt; told_of(&mut clock, Reach::Tells) == 0);
@@ -309,8 +314,8 @@ fn told_beside_a_change(rt: HostRuntime) -> Result<(), Fail> {
     let gate = cuts.gate();
     gate.expect(&rt, 1);
     let inside = gate.enter(&rt);
-    assert!(rt; gate.tell(&rt) == 1);
-    assert!(rt; gate.leave(&rt, inside) == 1);
+    assert!(rt; gate.tell(&rt).number() == 1);
+    assert!(rt; gate.leave(&rt, inside).number() == 1);
     Ok(())
 }
 
@@ -323,13 +328,13 @@ fn woken_by_who_waits(rt: HostRuntime) -> Result<(), Fail> {
     gate.expect(&rt, 1);
     for _command in 0..3 {
         let inside = gate.enter(&rt);
-        assert!(rt; gate.leave(&rt, inside) == 1);
+        assert!(rt; gate.leave(&rt, inside).number() == 1);
     }
     let (cut, kept) = thread::join(&rt, || take_and_keep(&rt, &cuts), || cuts.wait_kept(&rt, 1));
     assert!(rt; kept && cut == Some(1));
     let inside = gate.enter(&rt);
     gate.part(&rt);
-    assert!(rt; gate.leave(&rt, inside) == 2);
+    assert!(rt; gate.leave(&rt, inside).number() == 2);
     assert!(rt; take_and_keep(&rt, &cuts) == Some(2));
     assert!(rt; take_and_keep(&rt, &cuts).is_none());
     Ok(())

@@ -58,6 +58,14 @@ KeepsLines true before after head old lines new = BeginsAnew before after head l
 KeepsLines false before after head old lines new =
     ((lines.count ≡ 0) × (after ≡ before) × (new ≡ old)) ⊎ GrowsBy before after old lines new true
 
+-- A call of the journal put these lines there: as the one cut of a new journal, or as the cut that follows, where there
+-- are any.
+abbrev pub PutsLines : {J : Type 0} → (J → List ℕ → J → Type 0) → (J → List ℕ → J → Type 0) → Bool → J → J → Head → LogEnd
+    → Lines → Type 0
+PutsLines puts adds true before after head old lines = puts before (whole_text head lines) after
+PutsLines puts adds false before after head old lines =
+    (lines.count ≡ 0) ⊎ adds before (cut_text (cut_with (old.number + 1) old.sum lines)) after
+
 -- A cut was kept: its lines are what the desk's looks showed of all rows, or of just those that are set in these marks;
 -- and the journal keeps them.
 pub record KeepsCut (rows : ℕ) (marks : List ℕ) (before after : Option (List ℕ)) (head : Head) (old new : LogEnd)

@@ -1,24 +1,25 @@
 // The member that has bookings kept.
-ghost use Rattle.std.specs.Prelude.{◌≡◌, ℕ, List, IfOk, IfSome, length};
+ghost use Rattle.std.specs.Prelude.{◌≡◌, ℕ, List, IfSome, length};
 ghost use Rattle.claim_rule.specs.Calls.{AddsStepsBy};
 ghost use Rattle.claim_rule.specs.Desks.{IsOf};
 ghost use Rattle.claim_rule.specs.Out.{AllLooks, IsTidy};
 ghost use Rattle.row_cuts.specs.Lines.{mark_blocks};
-ghost use Rattle.host_serve.specs.Logs.{KeepsCut, WritesRows, log_end};
+ghost use Rattle.host_serve.specs.Logs.{KeepsCut, log_end};
 
-use crate::log::{Kept, Lines, Log};
+use crate::log::{Kept, Log};
+use crate::looked::look;
 use crate::watching::Watcher;
 use answer_gate::{Closed, Cuts, Taken};
 use claim_rule::{Books, Desk};
 use rail_io::{Bell, Journal};
-use row_cuts::{push_all_lines, push_marked_lines, take_all_marks};
-use std::alloc::{AllocError, Global};
+use row_cuts::take_all_marks;
+use std::alloc::Global;
 use std::sync::Wait;
 use worker_pool::TurnEnd;
 
-/// Takes cuts. It waits until bookings may have changed and no command is under way, looks at the rows that changed,
-/// lets commands go on, and has the journal keep the lines of those rows. Whoever waits for the cut hears that it is
-/// kept.
+/// Takes cuts. It waits until somebody waits for a cut and no command that may change bookings is under way, looks at
+/// the rows that are marked, lets commands go on, and has the journal keep the lines of those rows. Whoever waits for
+/// the cut hears that it is kept.
 #[derive(Drop)]
 pub struct Committer<'g, R, J, B> {
     pub rt: &'g R,
@@ -30,32 +31,6 @@ pub struct Committer<'g, R, J, B> {
     /// Is rung at the port once the journal is lost, since a member may wait there for a connection.
     pub bell: B,
     pub port: u16,
-}
-
-/// The lines of all rows, or of those that are set in these marks, as looks show them while the gate is closed.
-fn look(
-    _closed: &Closed,
-    alloc: Global,
-    books: &Books,
-    desk: &mut Desk,
-    is_whole: bool,
-    marks: &[u64],
-) -> Result<Lines, AllocError>
-    requires own { IsOf books.now desk.old }
-    requires marks { length marks.now ≡ mark_blocks books.now.layout.rows }
-    ensures own { IsOf books.now desk.new }
-    ensures tidy { IsTidy desk.old → IsTidy desk.new }
-    ensures looks { AddsStepsBy AllLooks desk.old desk.new }
-    ensures lines { IfOk result (λ lines. AddsStepsBy (WritesRows is_whole books.now.layout.rows marks.now lines)
-        desk.old desk.new) }
-{
-    let mut text = Vec::new(alloc);
-    let count = if is_whole {
-        push_all_lines(&mut text, books, desk)?
-    } else {
-        push_marked_lines(&mut text, books, desk, marks)?
-    };
-    Ok(Lines { text, count })
 }
 
 impl<R: Wait, J: Journal, B: Bell> Committer<'_, R, J, B> {
@@ -71,13 +46,14 @@ impl<R: Wait, J: Journal, B: Bell> Committer<'_, R, J, B> {
         ensures kept { IfSome result.1 (λ _. KeepsCut books.now.layout.rows self.old.marks.items
             (J.told self.old.log.journal) (J.told self.new.log.journal) self.old.log.head (log_end self.old.log)
             (log_end self.new.log) desk.old desk.new) }
+        ensures of { IfSome result.1 (λ kept. kept.number ≡ result.0.number) }
     {
         let is_whole = self.log.is_grown();
         let marks = self.marks.as_slice();
-        let lines = look(&closed, self.alloc, books, desk, is_whole, marks);
+        let looked = look(&closed, self.alloc, books, desk, is_whole, marks);
         let taken = self.cuts.taken(self.rt, closed);
-        let kept = match lines {
-            Ok(lines) => self.log.keep(self.alloc, &lines, is_whole),
+        let kept = match looked {
+            Ok(looked) => self.log.keep(self.alloc, &taken, looked, is_whole),
             Err(_) => None,
         };
         (taken, kept)
@@ -93,6 +69,7 @@ impl<R: Wait, J: Journal, B: Bell> Committer<'_, R, J, B> {
         ensures kept { IfSome result.1 (λ _. (marks : List ℕ) × KeepsCut books.now.layout.rows marks
             (J.told self.old.log.journal) (J.told self.new.log.journal) self.old.log.head (log_end self.old.log)
             (log_end self.new.log) desk.old desk.new) }
+        ensures of { IfSome result.1 (λ kept. kept.number ≡ result.0.number) }
     {
         if take_all_marks(&mut self.marks, books).is_err() {
             return (self.cuts.taken(self.rt, closed), None);

@@ -27,6 +27,7 @@ mod kept;
 mod letting;
 mod listening;
 mod log;
+mod looked;
 mod mark;
 mod meeting;
 mod member;

@@ -1,9 +1,11 @@
 // A journal that grows by cuts.
 ghost use Rattle.std.specs.Prelude.{◌≡◌, ◌++◌, ◌<◌, ◌^◌, ◌+◌, IfOk, IfSome, OnOk, IsSomeAnd, true};
 ghost use Rattle.journal_text.specs.Texts.{cut_text, own_sum};
-ghost use Rattle.host_serve.specs.Logs.{BeginsAnew, GrowsBy, KeepsLines, cut_with, first_cut, log_end, whole_text};
+ghost use Rattle.host_serve.specs.Logs.{BeginsAnew, GrowsBy, KeepsLines, PutsLines, cut_with, first_cut, log_end};
+ghost use Rattle.host_serve.specs.Logs.{whole_text};
 
-use answer_gate::Receipt;
+use crate::looked::Looked;
+use answer_gate::{Receipt, Taken};
 use journal_text::{Sum, push_cut, push_head};
 use rail_io::Journal;
 use std::alloc::{AllocError, Global};
@@ -48,14 +50,16 @@ pub struct Log<J> {
 /// A receipt for a cut that the journal keeps. Only a log makes one.
 #[derive(Drop)]
 pub struct Kept {
-    /// How many bytes the journal had then.
-    _size: usize,
+    /// The number of the cut.
+    number: u64,
 }
 
 impl Receipt for Kept {
     ghost use Rattle.std.specs.Prelude.{ℕ};
 
     ghost kept = { λ _. Unit {0} };
+
+    ghost of = { λ k. k.number };
 }
 
 /// A text, and its sum or that of its last cut.
@@ -91,16 +95,29 @@ impl<J: Journal> Log<J> {
     }
 
     /// Has a cut of these lines kept: as the one of a new journal, or as the one that follows. One without lines is
-    /// kept at once.
-    pub fn keep(&mut self, alloc: Global, lines: &Lines, is_whole: bool) -> Option<Kept>
+    /// kept at once. The receipt is of the cut that was taken.
+    pub fn keep(
+        &mut self,
+        alloc: Global,
+        taken: &Taken,
+        looked: Looked,
+        is_whole: bool,
+    ) -> Option<Kept>
+        requires cut { looked.cut ≡ taken.now.number }
         ensures head { self.new.head ≡ self.old.head }
         ensures kept { IfSome result (λ _. KeepsLines is_whole (J.told self.old.journal) (J.told self.new.journal)
-            self.old.head (log_end self.old) lines.now (log_end self.new)) }
+            self.old.head (log_end self.old) looked.lines (log_end self.new)) }
+        ensures puts { IfSome result (λ _. PutsLines J.puts J.adds is_whole self.old.journal self.new.journal
+            self.old.head (log_end self.old) looked.lines) }
+        ensures of { IfSome result (λ kept. kept.number ≡ taken.now.number) }
     {
-        if !self.has_kept(alloc, lines, is_whole) {
+        let lines = looked.into_lines();
+        if !self.has_kept(alloc, &lines, is_whole) {
             return None;
         }
-        Some(Kept { _size: self.size })
+        Some(Kept {
+            number: taken.number(),
+        })
     }
 
     // The same, and whether it is kept now.
@@ -108,6 +125,8 @@ impl<J: Journal> Log<J> {
         ensures head { self.new.head ≡ self.old.head }
         ensures kept { result ≡ true → KeepsLines is_whole (J.told self.old.journal) (J.told self.new.journal)
             self.old.head (log_end self.old) lines.now (log_end self.new) }
+        ensures puts { result ≡ true → PutsLines J.puts J.adds is_whole self.old.journal self.new.journal
+            self.old.head (log_end self.old) lines.now }
     {
         if is_whole {
             return self.begin(alloc, lines);
@@ -121,6 +140,7 @@ impl<J: Journal> Log<J> {
         ensures head { self.new.head ≡ self.old.head }
         ensures begins { BeginsAnew (J.told self.old.journal) (J.told self.new.journal) self.old.head lines.now
             (log_end self.new) result }
+        ensures puts { result ≡ true → J.puts self.old.journal (whole_text self.old.head lines.now) self.new.journal }
     {
         let Ok(Summed { text, sum }) = whole_journal(alloc, &self.head, lines) else {
             return false;
@@ -138,6 +158,8 @@ impl<J: Journal> Log<J> {
         ensures grows { GrowsBy (J.told self.old.journal) (J.told self.new.journal)
             (log_end self.old) lines.now
             (log_end self.new) result }
+        ensures adds { result ≡ true → J.adds self.old.journal
+            (cut_text (cut_with ((log_end self.old).number + 1) (log_end self.old).sum lines.now)) self.new.journal }
     {
         let Some(number) = self.number.checked_add(1) else {
             return false;

@@ -1,8 +1,8 @@
 use Rattle.std.proofs.Common.{sym, subst}
 use Rattle.claim_rule.specs.Out.{IsTidy}
 use Rattle.claim_rule.specs.Rule.{DeskView}
-use Rattle.host_serve.proofs.committing.look.Goals as goal
-use Rattle.host_serve.proofs.committing.look.Goals.{then-is_whole+in_ok-count, else-is_whole+in_ok-count-2}
+use Rattle.host_serve.proofs.looked.look.Goals as goal
+use Rattle.host_serve.proofs.looked.look.Goals.{then-is_whole+in_ok-count, else-is_whole+in_ok-count-2}
 
 pub returns-clause-tidy : goal.returns-clause-tidy
 returns-clause-tidy c =
