@@ -8,6 +8,8 @@
 //!   more than what tells (a clause says so of the bytes held, none of how they come). A table is a text, since a table
 //!   of values is proved value by value, and a text isn't.
 //! - `sessions`: that a sink is given head and body by one call.
+//! - `strict`: a session into an outlet that permits just the next of the defined answers, which is proved. The test
+//!   shows that it gets them all.
 #![tactic(auto)]
 
 #[cfg(test)]
@@ -16,3 +18,5 @@ mod outside;
 mod requests;
 #[cfg(test)]
 mod sessions;
+#[cfg(test)]
+mod strict;
