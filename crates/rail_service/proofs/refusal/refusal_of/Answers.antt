@@ -10,4 +10,5 @@ returns c = record {
   bytes = λ cat.
       c.problem_answer.ensures.bytes
       ∙ (of_problem cat true c.problem_of_wire.result ∙ ap (λ (p : Problem). reply_bytes cat true (problem p)) c.problem_of_wire.ensures);
+  at_once = c.problem_answer.ensures.after;
 }
