@@ -55,5 +55,9 @@ returns-clause-cause g c =
     let plan = c.in-Ok.opened.0.books.layout in
     let listens = subst (λ (k : ℕ). ListensTo cat plan c.args.common.said (record left { watchers = k }) run.result.outcome) c.in-Ok-list_of.ensures run.ensures.ends in
     let from : Sources = sources_of (g.F.Shelf.told c.args.shelf.now) (said_in c.args.said.now) (g.J.Journal.told c.args.keeping.journal) in
-    subst (λ (o : KeptOutcome). HasKeptCause o _ _ _ _) (sym c.kept-2.ensures)
-    (listened_kept cat c.args.common.said from left _ _ _ _ plan c.in-Ok.ensures.steady c.is_lost.result run.result.outcome listens)
+    let failed = g.F.Shelf.faults c.args.shelf.now in
+    let fails = g.F.Shelf.faults c.open_journal.new.shelf in
+    let missed = g.F.Shelf.misses c.args.shelf.now in
+    let misses = g.F.Shelf.misses c.open_journal.new.shelf in
+    subst (λ (o : KeptOutcome). HasKeptCause o failed fails missed misses) (sym c.kept-2.ensures)
+    (listened_kept cat c.args.common.said from left failed fails missed misses plan c.in-Ok.ensures.steady c.is_lost.result run.result.outcome listens)
