@@ -11,8 +11,7 @@ fn digit_of(byte: u8) -> Option<u16>
     }
 }
 
-/// The status of an answer whose first bytes are these, where they are the front of an answer's head: no later part of a
-/// head has a blank and three digits at these places after an `H`.
+/// The status of an answer with this head.
 pub(crate) fn status_of(first: &[u8]) -> Option<u16> {
     match first {
         [b'H', _, _, _, _, _, _, _, b' ', a, b, c, ..] => {

@@ -13,6 +13,7 @@ mod sink;
 mod source;
 mod tallies;
 mod ticker;
+mod turn;
 mod words;
 
 pub use callers::{Callers, show_all, show_pages};
@@ -23,3 +24,4 @@ pub use pages::Pages;
 pub use sink::CountingSink;
 pub use source::CountingSource;
 pub use ticker::CountingTicker;
+pub use turn::answers_are_counted_once;

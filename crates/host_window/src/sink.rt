@@ -1,8 +1,10 @@
 //! A sink whose answers are counted.
-ghost use Rattle.std.specs.Prelude.{◌≡◌};
+ghost use Rattle.std.specs.Prelude.{◌≡◌, ◌++◌, Bool, length};
+ghost use Rattle.host_window.specs.Counting.{Turns};
 
 use crate::counters::StreamCounts;
 use crate::heads::status_of;
+use crate::turn::Turn;
 use rail_io::{Pushed, PushedBoth, Sink};
 
 /// Writes as its sink does, and counts answers and bytes, where there are counts.
@@ -10,42 +12,37 @@ use rail_io::{Pushed, PushedBoth, Sink};
 pub struct CountingSink<'c, K> {
     sink: K,
     counts: Option<&'c StreamCounts>,
+    /// Says which writes begin an answer.
+    turn: Turn,
 }
 
 impl<'c, K: Sink> CountingSink<'c, K> {
-    /// Before this sink.
+    /// Before this sink, to which no answer is being written.
     pub fn of(sink: K, counts: Option<&'c StreamCounts>) -> CountingSink<'c, K>
-        ensures { result.sink ≡ sink }
+        ensures sink { result.sink ≡ sink }
+        ensures turn { result.turn.left ≡ 0 }
     {
-        CountingSink { sink, counts }
-    }
-}
-
-impl StreamCounts {
-    // Counts what a write of a piece came to.
-    fn note_pushed(&self, pushed: Pushed) {
-        match pushed {
-            Pushed::Took(count) => self.note_sent(count),
-            Pushed::Failed => self.note_unwritten(),
+        CountingSink {
+            sink,
+            counts,
+            turn: Turn::new(),
         }
     }
 
-    // Counts what a write of two pieces came to. An answer is counted with its first byte: a head is always the first
-    // of two pieces, and no later part of one begins as it does.
-    fn note_both(&self, first: &[u8], second: &[u8], pushed: PushedBoth) {
-        let count = match pushed {
-            PushedBoth::Took(count) => count,
-            PushedBoth::Failed(count) => {
-                self.note_unwritten();
-                count
+    // Counts what a write of two pieces came to, of which so many bytes were taken: these bytes, and the answer where
+    // they are its first. Of these the first piece is the head.
+    #[inline(always)]
+    fn note(&mut self, counts: &StreamCounts, first: &[u8], second: &[u8], taken: usize)
+        ensures same { self.new.sink ≡ self.old.sink }
+        ensures counts { self.new.counts ≡ self.old.counts }
+        ensures turn { (begun : Bool) × Turns self.old.turn.left (length (first.now ++ second.now)) taken begun
+            self.new.turn.left }
+    {
+        counts.note_sent(taken);
+        if self.turn.begins(first.len() + second.len(), taken) {
+            if let Some(status) = status_of(first) {
+                counts.note_answer(status, second);
             }
-        };
-        if count == 0 {
-            return;
-        }
-        self.note_sent(count);
-        if let Some(status) = status_of(first) {
-            self.note_answer(status, second);
         }
     }
 }
@@ -61,7 +58,10 @@ impl<K: Sink> Sink for CountingSink<'_, K> {
     fn write(&mut self, piece: &[u8]) -> Pushed {
         let pushed = self.sink.write(piece);
         if let Some(counts) = self.counts {
-            counts.note_pushed(pushed);
+            match pushed {
+                Pushed::Took(taken) => self.note(counts, piece, b"", taken),
+                Pushed::Failed => counts.note_unwritten(),
+            }
         }
         pushed
     }
@@ -70,7 +70,13 @@ impl<K: Sink> Sink for CountingSink<'_, K> {
     fn write_both(&mut self, first: &[u8], second: &[u8]) -> PushedBoth {
         let pushed = self.sink.write_both(first, second);
         if let Some(counts) = self.counts {
-            counts.note_both(first, second, pushed);
+            match pushed {
+                PushedBoth::Took(taken) => self.note(counts, first, second, taken),
+                PushedBoth::Failed(taken) => {
+                    counts.note_unwritten();
+                    self.note(counts, first, second, taken);
+                }
+            }
         }
         pushed
     }
