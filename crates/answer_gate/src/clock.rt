@@ -4,7 +4,7 @@ ghost use Rattle.rail_io.specs.declared.clock.Reach.TheVariants.{Apart};
 
 use crate::gate::Gate;
 use crate::state::Inside;
-use rail_io::{Clock, Reach};
+use rail_io::{Clock, Reach, RouteName};
 use rail_time::Moment;
 use std::sync::Wait;
 
@@ -52,8 +52,9 @@ impl<R: Wait, C: Clock> Clock for GatedClock<'_, R, C> {
 
     ghost told = { λ c. C.told c.clock };
 
-    // Where there is a gate, it was entered and not left.
-    ghost inside = { λ c. IfSome c.gate (λ _. IsSome c.inside) };
+    // The command that began is the one under way. Where there is a gate, it was entered and not left by one that may
+    // change bookings.
+    ghost begun = { λ c reach. (c.reach ≡ reach) × (reach ≡ Changes → IfSome c.gate (λ _. IsSome c.inside)) };
 
     // Whoever leaves the gate waits for a cut.
     ghost ends = { λ c cut _. IfSome c.gate (λ _. IsSome c.inside → 0 < cut) };
@@ -62,17 +63,22 @@ impl<R: Wait, C: Clock> Clock for GatedClock<'_, R, C> {
         self.clock.now()
     }
 
+    #[inline(always)]
+    fn arrive(&mut self, route: RouteName) {
+        self.clock.arrive(route);
+    }
+
     fn begin(&mut self, reach: Reach)
         ensures same { C.told self.new.clock ≡ C.told self.old.clock }
-        ensures reach { self.new.reach ≡ reach }
         ensures gate { self.new.gate ≡ self.old.gate }
-        ensures inside { reach ≡ Changes → IfSome self.new.gate (λ _. IsSome self.new.inside) }
+        ensures begun { (self.new.reach ≡ reach)
+            × (reach ≡ Changes → IfSome self.new.gate (λ _. IsSome self.new.inside)) }
     {
+        self.clock.begin(reach);
         self.reach = reach;
         match self.gate {
             Some(gate) if reach == Reach::Changes => self.inside = Some(gate.enter(self.rt)),
-            Some(_) => {}
-            None => self.clock.begin(reach),
+            _ => {}
         }
     }
 
@@ -84,8 +90,9 @@ impl<R: Wait, C: Clock> Clock for GatedClock<'_, R, C> {
     {
         let reach = self.reach;
         self.reach = Reach::Apart;
+        let cut = self.clock.end();
         let Some(gate) = self.gate else {
-            return self.clock.end();
+            return cut;
         };
         if let Some(inside) = self.inside.take() {
             return gate.leave(self.rt, inside).number();

@@ -1,5 +1,6 @@
 // The member that sweeps.
 ghost use Rattle.std.specs.Prelude.{◌≡◌, ◌↔◌, true, not};
+ghost use Rattle.rail_io.specs.declared.clock.Reach.TheVariants.{Changes};
 ghost use Rattle.claim_rule.specs.Desks.{IsOf};
 ghost use Rattle.claim_rule.specs.Calls.{AddsStepsBy};
 ghost use Rattle.claim_rule.specs.Out.{EndsNone, IsTidy, KeepsHolds};
@@ -28,7 +29,7 @@ pub struct Sweeper<T, C> {
 
 /// Sweeps once, where a command that may change bookings has begun at the clock.
 fn sweep_begun<C: Clock>(clock: &C, books: &Books, desk: &mut Desk, now: Moment) -> Swept
-    requires begun { C.inside clock.now }
+    requires begun { C.begun clock.now Changes }
     requires own { IsOf books.now desk.old }
     requires none { EndsNone desk.old }
     ensures own { IsOf books.now desk.new }

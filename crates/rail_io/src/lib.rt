@@ -38,7 +38,7 @@ mod ticker;
 
 pub use answers::pushed_of;
 pub use bell::{Bell, NoBell};
-pub use clock::{Clock, Reach};
+pub use clock::{Clock, Reach, RouteName};
 pub use file_shelf::FileShelf;
 pub use journal::{Journal, JournalOpened};
 pub use keeper::Keeper;

@@ -1,7 +1,46 @@
--- Which cut an answer waits for.
-use Rattle.std.proofs.Common.{◌≡◌, ◌⊎◌, ℕ, inr, subst, sym}
+-- What a request asks for, and which cut its answer waits for.
+use Rattle.std.proofs.Common.{◌≡◌, ℕ, Result, Ok, Err, ap, subst, sym, ◌∙◌}
+use Rattle.history_model.specs.History.{IsLegal}
+use Rattle.claim_rule.specs.Rule.{DeskView}
+use Rattle.claim_rule.specs.Calls.{AddsStepsBy}
+use Rattle.claim_rule.specs.Out.{AllLooks}
+use Rattle.rail_io.specs.declared.clock.Reach.{Reach}
+use Rattle.rail_io.specs.declared.clock.Reach.TheVariants.{Changes}
+use Rattle.http_wire.specs.Requests.{RequestText}
+use Rattle.rail_catalogue.specs.Contents.{CatalogueView}
+use Rattle.rail_ids.specs.declared.RetailerNo.{RetailerNo}
+use Rattle.osdm_texts.specs.declared.problem.Problem.{Problem}
+use Rattle.osdm_texts.specs.Answers.{Told}
+use Rattle.osdm_json.specs.declared.route.Route.{Route}
+use Rattle.osdm_json.specs.declared.command.Command.{Command}
+use Rattle.service_rules.specs.Checks.{ordered}
+use Rattle.rail_service.specs.Commands.{Says}
+use Rattle.rail_service.specs.Reaching.{reach_of}
+use Rattle.rail_service.specs.Responding.{IsGivenCut}
+use Rattle.rail_service.specs.Serving.{HasFound, AsksOn, AsksAdmitted}
+use Rattle.rail_service.proofs.Looking.{looks_alone}
+
+-- asked at the request's own route
+pub asked_on : (cat : CatalogueView) (request : RequestText) (found : Result Route Problem) (admitted : Result RetailerNo Problem) (asked : Result (RetailerNo × Command) Problem)
+    → HasFound request found → AsksOn cat request found admitted asked → AsksAdmitted cat request admitted asked
+asked_on cat request found (Ok retailer) asked has is = (found, has, is)
+asked_on cat request found (Err p) asked has is = is
+
+-- a command that isn't said to change bookings looks alone, by what was said of it
+pub said_looks : (cat : CatalogueView) (retailer now : ℕ) (command : Command) (reach : Reach) (old new : DeskView) (said : Told)
+    → IsLegal old.layout old.seen → reach ≡ reach_of command → Says cat retailer now (ordered cat now command) old new said
+    → (reach ≡ Changes → ⊥) → AddsStepsBy AllLooks old new
+said_looks cat retailer now command reach old new said legal is (reply, did, all, so) other =
+    looks_alone command (λ e. other (is ∙ e)) cat retailer now old new reply legal did
 
 -- one that a clock gave
-pub given_by : {C : Type 0} (ends : C → ℕ → C → Type 0) (none : Type 0) (mid after : C) (cut given : ℕ) → cut ≡ given
-    → ends mid given after → none ⊎ ((clock : C) × ends clock cut after)
-given_by ends none mid after cut given same is = inr (mid, subst (λ (n : ℕ). ends mid n after) (sym same) is)
+pub given_by : {C : Type 0} (begun : C → Reach → Type 0) (ends : C → ℕ → C → Type 0) (old new : DeskView) (clock after : C) (reach : Reach) (cut given : ℕ)
+    → cut ≡ given → begun clock reach → ((reach ≡ Changes → ⊥) → AddsStepsBy AllLooks old new) → ends clock given after
+    → IsGivenCut begun ends old new cut after
+given_by begun ends old new clock after reach cut given same began looks is = record {
+  clock = clock;
+  reach = reach;
+  began = began;
+  looks = looks;
+  given = subst (λ (n : ℕ). ends clock n after) (sym same) is;
+}

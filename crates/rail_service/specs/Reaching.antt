@@ -7,10 +7,30 @@ use Rattle.claim_rule.specs.Calls.{AddsStepsBy}
 use Rattle.claim_rule.specs.Out.{AllLooks}
 use Rattle.rail_io.specs.declared.clock.Reach.{Reach}
 use Rattle.rail_io.specs.declared.clock.Reach.TheVariants.{Apart, Tells, Changes}
+use Rattle.rail_io.specs.declared.clock.RouteName.{RouteName}
+use Rattle.rail_io.specs.declared.clock.RouteName.TheVariants as name
+use Rattle.osdm_json.specs.declared.route.Route.{Route}
+use Rattle.osdm_json.specs.declared.route.Route.TheVariants as route
 use Rattle.osdm_json.specs.declared.command.Command.{Command}
 use Rattle.osdm_json.specs.declared.command.Command.TheVariants as command
 use Rattle.osdm_texts.specs.Answers.{Reply}
 use Rattle.service_rules.specs.Answering.{Answers}
+
+-- a route by its name alone
+abbrev pub name_of : Route → RouteName
+name_of route.Offers = name.Offers
+name_of route.Book = name.Book
+name_of route.Reserve = name.Reserve
+name_of (route.Show id) = name.Show
+name_of (route.Release id) = name.Release
+name_of (route.Confirm id) = name.Confirm
+name_of (route.Fulfil id) = name.Fulfil
+name_of (route.QuoteRefund id) = name.QuoteRefund
+name_of (route.AcceptRefund id offer) = name.AcceptRefund
+name_of route.QuoteExchange = name.QuoteExchange
+name_of (route.AcceptExchange id) = name.AcceptExchange
+name_of (route.Places run from to) = name.Places
+name_of route.Sweep = name.Sweep
 
 -- how far a command reaches
 abbrev pub reach_of : Command → Reach

@@ -2,7 +2,11 @@
 use Rattle.std.specs.Prelude.{◌≡◌, ◌⊎◌, ℕ, true, List, Option}
 use Rattle.http_wire.specs.declared.request.WireFault.{WireFault}
 use Rattle.http_wire.specs.Requests.{RequestText}
-use Rattle.claim_rule.specs.Out.{IsTidy}
+use Rattle.claim_rule.specs.Rule.{DeskView}
+use Rattle.claim_rule.specs.Calls.{AddsStepsBy}
+use Rattle.claim_rule.specs.Out.{AllLooks, IsTidy}
+use Rattle.rail_io.specs.declared.clock.Reach.{Reach}
+use Rattle.rail_io.specs.declared.clock.Reach.TheVariants.{Changes}
 use Rattle.osdm_texts.specs.Answers.{problem}
 use Rattle.rail_service.specs.Bytes.{reply_bytes}
 use Rattle.rail_service.specs.declared.service.Service.{Service}
@@ -23,10 +27,21 @@ pub record Responds {C : Type 0} (told : C → Option (ℕ → ℕ)) (before : S
   pub desk : after.desk.ghost_name ≡ before.desk.ghost_name
   pub clock : after.clock.ghost_name ≡ before.clock.ghost_name
 
+-- A clock gave this cut at the end of a command that had begun there, by which the desk came from the one to the other.
+-- One that wasn't said to change bookings has made looks alone.
+pub record IsGivenCut {C : Type 0} (begun : C → Reach → Type 0) (ends : C → ℕ → C → Type 0) (old new : DeskView)
+    (cut : ℕ) (after : C) : Type 0 where
+  pub clock : C
+  pub reach : Reach
+  pub began : begun clock reach
+  pub looks : (reach ≡ Changes → ⊥) → AddsStepsBy AllLooks old new
+  pub given : ends clock cut after
+
 -- An answer waits for the cut that the clock gave at the command's end; for none, where the desk has done nothing.
-abbrev pub Awaits : {C : Type 0} → (C → ℕ → C → Type 0) → Service C → ℕ → Service C → Type 0
-Awaits {C} ends before cut after =
-    ((cut ≡ 0) × (after.desk.now ≡ before.desk.now)) ⊎ ((mid : C) × ends mid cut after.clock.now)
+abbrev pub Awaits : {C : Type 0} → (C → Reach → Type 0) → (C → ℕ → C → Type 0) → Service C → ℕ → Service C → Type 0
+Awaits begun ends before cut after =
+    ((cut ≡ 0) × (after.desk.now ≡ before.desk.now))
+    ⊎ IsGivenCut begun ends before.desk.now after.desk.now cut after.clock.now
 
 abbrev pub Declines : {C : Type 0} → Service C → WireFault → List ℕ → Type 0
 Declines service fault text = text ≡ reply_bytes service.cat.now true (problem (problem_of_wire fault))

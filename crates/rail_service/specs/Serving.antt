@@ -58,6 +58,16 @@ AsksAdmitted cat request (Ok retailer) asked =
     (found : Result Route Problem) × FindsRoute request.method request.path found
     × AsksAt cat retailer request.body found asked
 
+-- this is the request's route, or why it has none
+abbrev pub HasFound : RequestText → Result Route Problem → Type 0
+HasFound request found = FindsRoute request.method request.path found
+
+-- the same, where this is the request's route, or why it has none
+abbrev pub AsksOn : CatalogueView → RequestText → Result Route Problem → Result RetailerNo Problem
+    → Result (RetailerNo × Command) Problem → Type 0
+AsksOn cat request found (Err p) asked = asked ≡ Err p
+AsksOn cat request found (Ok retailer) asked = AsksAt cat retailer request.body found asked
+
 -- What a request asks for, on a connection with this first retailer so far: a retailer's command, or why it asks for
 -- none, by its key, by its route and last by its body.
 abbrev pub AsksFor : CatalogueView → Option RetailerNo → RequestText → Result (RetailerNo × Command) Problem → Type 0

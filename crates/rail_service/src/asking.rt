@@ -3,8 +3,8 @@ ghost use Rattle.std.specs.Prelude.{◌≡◌, IfOk, Ok, Err, option_map, IfSome
 ghost use Rattle.http_wire.specs.Pieces.{request_text, ArePiecesWithin};
 ghost use Rattle.osdm_json.specs.Readable.{IsReadable};
 ghost use Rattle.rail_service.specs.Paths.{all_rows};
-ghost use Rattle.rail_service.specs.Routes.{FindsRoute};
-ghost use Rattle.rail_service.specs.Serving.{retailer_of as retailer_in, first_after as first_then, admitted as admitted_of, ReadsAs, AsksAdmitted};
+ghost use Rattle.rail_service.specs.Serving.{retailer_of as retailer_in, first_after as first_then};
+ghost use Rattle.rail_service.specs.Serving.{admitted as admitted_of, ReadsAs, HasFound, AsksOn};
 
 use crate::resource::Resource;
 use crate::routing::find_route;
@@ -60,27 +60,42 @@ fn read(
     }
 }
 
-/// What a request asks for, where its retailer may ask: a retailer's command, or why it asks for none. No memory is
-/// taken before a body is read.
-pub fn asked(
-    room: &mut BodyRoom,
-    cat: &Catalogue,
+/// The route of a request, or why it has none. No memory is taken.
+pub fn route_of<'i>(
     router: &Router<Resource>,
-    admitted: Result<RetailerNo, Problem>,
-    intake: &Intake,
+    intake: &'i Intake,
     request: &Request,
-) -> Result<(RetailerNo, Command), Problem>
+) -> Result<Route<'i>, Problem>
     requires rows { router.now ≡ all_rows }
     requires given { ArePiecesWithin (length intake.now.taken) request.now }
-    ensures asks { AsksAdmitted cat.now (request_text intake.now.taken request.now) admitted result }
-    ensures readable { IfOk result (λ a. IsReadable cat.now a.1) }
+    ensures found { HasFound (request_text intake.now.taken request.now) result }
 {
-    let retailer = admitted?;
-    let route = find_route(
+    find_route(
         router,
         intake.part(request.method),
         intake.part(request.path),
-    )?;
+    )
+}
+
+/// What a request asks for that has this route, where its retailer may ask: a retailer's command, or why it asks for
+/// none. No memory is taken before a body is read.
+pub fn asked(
+    room: &mut BodyRoom,
+    cat: &Catalogue,
+    admitted: Result<RetailerNo, Problem>,
+    found: &Result<Route<'_>, Problem>,
+    intake: &Intake,
+    request: &Request,
+) -> Result<(RetailerNo, Command), Problem>
+    requires given { ArePiecesWithin (length intake.now.taken) request.now }
+    ensures asks { AsksOn cat.now (request_text intake.now.taken request.now) found.now admitted result }
+    ensures readable { IfOk result (λ a. IsReadable cat.now a.1) }
+{
+    let retailer = admitted?;
+    let route = match found {
+        Ok(route) => *route,
+        Err(problem) => return Err(*problem),
+    };
     match read(room, cat, route, intake.part(request.body)) {
         Ok(command) => Ok((retailer, command)),
         Err(problem) => Err(problem),

@@ -1,7 +1,6 @@
 //! What a retailer's command does, and is answered.
 ghost use Rattle.std.specs.Prelude.{◌≡◌, Ok};
 ghost use Rattle.session_loop.specs.Answered.{answer_bytes};
-ghost use Rattle.rail_io.specs.declared.clock.Reach.TheVariants.{Changes};
 ghost use Rattle.rail_service.specs.Reaching.{reach_of as reach_in};
 ghost use Rattle.rail_catalogue.specs.Contents.{legs_in};
 ghost use Rattle.claim_rule.specs.Desks.{IsOf};
@@ -93,7 +92,7 @@ pub(crate) fn say_begun<C: Clock>(
     asker: Asker,
     command: &Command,
 ) -> Result<Written, Problem>
-    requires begun { reach_in command.now ≡ Changes → C.inside clock.now }
+    requires begun { C.begun clock.now (reach_in command.now) }
     requires home { IsAtHome shop.now.books.now desk.old }
     requires command { IsReadable shop.now.cat.now command.now }
     ensures home { StaysHome shop.now.books.now desk.old desk.new }
@@ -105,7 +104,7 @@ pub(crate) fn say_begun<C: Clock>(
 }
 
 /// What the services answer to a command.
-pub(crate) fn say(
+fn say(
     shop: &Shop<'_>,
     desk: &mut Desk,
     asker: Asker,

@@ -1,11 +1,43 @@
-//! What a command has to do with bookings.
+//! What a clock is told of requests and of commands.
 ghost use Rattle.std.specs.Prelude.{◌≡◌};
 ghost use Rattle.rail_io.specs.declared.clock.Reach.TheVariants.{Changes};
 ghost use Rattle.osdm_json.specs.declared.command.Command.{Command};
-ghost use Rattle.rail_service.specs.Reaching.{reach_of as reach_in, LooksAlone};
+ghost use Rattle.rail_service.specs.Reaching.{name_of as name_in, reach_of as reach_in, LooksAlone};
 
-use osdm_json::Command;
-use rail_io::Reach;
+use osdm_json::{Command, Problem, Route};
+use rail_io::{Clock, Reach, RouteName};
+
+/// The route by its name alone.
+#[inline(always)]
+fn name_of(route: Route<'_>) -> RouteName
+    ensures name { result ≡ name_in route.entry }
+{
+    match route {
+        Route::Offers => RouteName::Offers,
+        Route::Book => RouteName::Book,
+        Route::Reserve => RouteName::Reserve,
+        Route::Show { .. } => RouteName::Show,
+        Route::Release { .. } => RouteName::Release,
+        Route::Confirm { .. } => RouteName::Confirm,
+        Route::Fulfil { .. } => RouteName::Fulfil,
+        Route::QuoteRefund { .. } => RouteName::QuoteRefund,
+        Route::AcceptRefund { .. } => RouteName::AcceptRefund,
+        Route::QuoteExchange => RouteName::QuoteExchange,
+        Route::AcceptExchange { .. } => RouteName::AcceptExchange,
+        Route::Places { .. } => RouteName::Places,
+        Route::Sweep => RouteName::Sweep,
+    }
+}
+
+/// Tells the clock of a request that has a route.
+#[inline(always)]
+pub(crate) fn hear<C: Clock>(clock: &mut C, found: &Result<Route<'_>, Problem>)
+    ensures same { C.told clock.new ≡ C.told clock.old }
+{
+    if let Ok(route) = found {
+        clock.arrive(name_of(*route));
+    }
+}
 
 /// How far the command reaches.
 pub(crate) fn reach_of(command: &Command) -> Reach

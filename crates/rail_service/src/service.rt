@@ -1,8 +1,8 @@
 //! The service as it answers the requests of one connection.
 use crate::answering::{answer_of, problem_answer};
-use crate::asking::{admit, asked, first_after, retailer_of};
+use crate::asking::{admit, asked, first_after, retailer_of, route_of};
 use crate::performing::say_begun;
-use crate::reach::reach_of;
+use crate::reach::{hear, reach_of};
 use crate::refusal::refusal_of;
 use crate::resource::Resource;
 use claim_rule::{Books, Desk};
@@ -41,7 +41,7 @@ impl<C: Clock> Responder for Service<'_, '_, '_, C> {
 
     ghost refuses = { λ service fault text. Declines service fault text };
 
-    ghost awaits = { λ before cut after. Awaits C.ends before cut after };
+    ghost awaits = { λ before cut after. Awaits C.begun C.ends before cut after };
 
     // Inlined, since an answer is large to hand on.
     #[inline(always)]
@@ -49,7 +49,9 @@ impl<C: Clock> Responder for Service<'_, '_, '_, C> {
         let now = self.clock.now();
         let retailer = retailer_of(self.cat, intake, request);
         let admitted = admit(self.first, retailer);
-        let asking = asked(self.room, self.cat, self.router, admitted, intake, request);
+        let found = route_of(self.router, intake, request);
+        hear(self.clock, &found);
+        let asking = asked(self.room, self.cat, admitted, &found, intake, request);
         self.first = first_after(self.first, retailer);
         let (retailer, command) = match asking {
             Ok(asked) => asked,

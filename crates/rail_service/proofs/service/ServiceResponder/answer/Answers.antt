@@ -1,4 +1,4 @@
-use Rattle.std.proofs.Common.{Bool, Option, Result, Ok, Err, inl, refl, sym, ap, subst, ◌∙◌}
+use Rattle.std.proofs.Common.{Bool, Option, Result, Ok, Err, inl, inr, refl, sym, ap, subst, ◌∙◌}
 use Rattle.rail_ids.specs.declared.RetailerNo.{RetailerNo}
 use Rattle.http_wire.specs.Pieces.{request_text}
 use Rattle.claim_rule.proofs.Shapes.{shape_none}
@@ -6,7 +6,7 @@ use Rattle.osdm_texts.specs.Answers.{problem}
 use Rattle.claim_rule.proofs.Out.{makes_empty}
 use Rattle.rail_service.specs.Bytes.{reply_bytes}
 use Rattle.rail_service.proofs.Telling.{of_problem}
-use Rattle.rail_service.proofs.Awaiting.{given_by}
+use Rattle.rail_service.proofs.Awaiting.{asked_on, given_by, said_looks}
 use Rattle.osdm_texts.specs.declared.problem.Problem.{Problem}
 use Rattle.rail_service.specs.Serving.{first_after, admitted, AsksAdmitted}
 use Rattle.rail_service.specs.Connections.{IsReading}
@@ -24,10 +24,10 @@ returns-clause-answers g c =
     let may = c.admit-admitted.ensures.value
     ∙ ap (λ (retailer : Option RetailerNo). admitted first retailer) c.retailer_of-retailer.ensures.value in
     let asks = subst (λ (a : Result RetailerNo Problem). AsksAdmitted cat request a (Ok (c.in-Ok.asked.0, c.in-Ok.asked.1)))
-    may c.in-Ok.ensures.asks in
+    may (asked_on cat request _ _ (Ok (c.in-Ok.asked.0, c.in-Ok.asked.1)) c.route_of-found.ensures.found c.in-Ok.ensures.asks) in
     let told = g.C.Clock.told in
     let reading = subst (IsReading (told c.args.self.now.clock.now) c.now-now.result)
-    (sym (c.end.ensures.same ∙ c.begin.ensures.same))
+    (sym (c.end.ensures.same ∙ (c.begin.ensures.same ∙ c.hear.ensures.same)))
     (reading_of _ _ _ c.now-now.ensures.first c.now-now.ensures.rest) in
     let did = told_so cat c.in-Ok.asked.0.0 c.now-now.result c.args.last
     (ordered cat c.now-now.result c.in-Ok.asked.1) _ _ _ _
@@ -51,7 +51,10 @@ returns-clause-answers g c =
 -- the clock gave the answer's cut
 pub returns-clause-awaits : goal.returns-clause-awaits
 returns-clause-awaits g c =
-    given_by g.C.Clock.ends _ _ _ _ _ c.answer_of.ensures.after c.end.ensures.ends
+    inr (given_by g.C.Clock.begun g.C.Clock.ends _ _ _ _ _ _ _ c.answer_of.ensures.after c.begin.ensures.begun
+    (said_looks c.args.self.now.cat.now c.in-Ok.asked.0.0 c.now-now.result c.in-Ok.asked.1 _ _ _ _
+    c.requires.ready.own.legal c.reach_of.ensures.reach c.say_begun-said.ensures.said)
+    c.end.ensures.ends)
 
 pub returns-in-Err-clause-awaits : goal.returns-in-Err-clause-awaits
 returns-in-Err-clause-awaits g c = inl (c.problem_answer.ensures.after, refl)
@@ -63,10 +66,14 @@ returns-in-Err-clause-answers g c =
     let first = c.args.self.now.first in
     let request = request_text c.args.intake.now.taken c.args.request.now in
     let may = c.admit-admitted.ensures.value ∙ ap (λ (retailer : Option RetailerNo). admitted first retailer) c.retailer_of-retailer.ensures.value in
-    let asks = subst (λ (a : Result RetailerNo Problem). AsksAdmitted cat request a (Err c.in-Err.problem)) may c.in-Err.ensures.asks in
+    let asks = subst (λ (a : Result RetailerNo Problem). AsksAdmitted cat request a (Err c.in-Err.problem)) may
+    (asked_on cat request _ _ (Err c.in-Err.problem) c.route_of-found.ensures.found c.in-Err.ensures.asks) in
+    let told = g.C.Clock.told in
+    let reading = subst (IsReading (told c.args.self.now.clock.now) c.now-now.result) (sym c.hear.ensures.same)
+    (reading_of _ _ _ c.now-now.ensures.first c.now-now.ensures.rest) in
     record {
       answer = answer_by cat (view_of g.C.Clock.told c.args.self.now) (request_text c.args.intake.now.taken c.args.request.now) _ _ c.now-now.result reply
-          c.requires.ready.own.legal (reading_of _ _ _ c.now-now.ensures.first c.now-now.ensures.rest)
+          c.requires.ready.own.legal reading
           (Err c.in-Err.problem, asks, (shape_none c.args.self.now.desk.now c.requires.ready.own.legal, refl))
           (c.problem_answer.ensures.bytes ∙ (of_problem cat c.args.last c.in-Err.problem ∙ ap (λ (last : Bool). reply_bytes cat last reply) c.requires.last))
           (c.first_after-self.ensures.value ∙ ap (λ (retailer : Option RetailerNo). first_after c.args.self.now.first retailer) c.retailer_of-retailer.ensures.value)
