@@ -26,7 +26,7 @@ KEPT = [
     ("only one crate touches words", r"\batomic_table\b", {"claim_rule"}),
     ("the system is touched at the edge alone", r"\bstd::(fs|net|env|process|io|time)\b", {"rail_io", "host_io", "rail_host"}),
     ("no call waits, but where its type says Wait", r"\bWait\b", {"worker_pool", "answer_gate", "host_serve", "rail_host"}),
-    ("threads start in two crates", r"\bstd::thread;", {"worker_pool", "host_drill"}),
+    ("threads start in three crates", r"\bthread::(scope|join|for_each_mut|spawn)\b", {"worker_pool", "host_drill", "rail_host"}),
     ("no check of the compiler is passed by", r"\bunsafe\b", {"osdm_texts"}),
 ]
 # And the names that a group of crates must not have at all.
