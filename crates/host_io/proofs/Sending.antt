@@ -9,6 +9,14 @@ pub end_more : (told : Option (List ℕ)) (a b : List ℕ) → with_end (with_en
 end_more None a b = refl
 end_more (Some t) a b = ap (λ (l : List ℕ). Some l) (append_assoc t a b)
 
+pub end_none : (told : Option (List ℕ)) → with_end told [] ≡ told
+end_none None = refl
+end_none (Some t) = ap (λ (l : List ℕ). Some l) (append-nil t)
+
+-- where nothing is held any more, all that was held went out
+pub all_out : (told later : Option (List ℕ)) (held rest : List ℕ) → with_end later rest ≡ with_end told held → rest ≡ [] → later ≡ with_end told held
+all_out told later held rest same none = sym (end_none later) ∙ ap (λ (l : List ℕ). with_end later l) (sym none) ∙ same
+
 -- the first bytes of what was held went out, and what is held then
 pub send_more : (told later : Option (List ℕ)) (items : List ℕ) (sent n : ℕ) → later ≡ with_end told (take n (drop sent items))
     → with_end later (drop (sent + n) items) ≡ with_end told (drop sent items)

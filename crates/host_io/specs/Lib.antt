@@ -3,3 +3,4 @@ pub mod Outbox
 pub mod Opened
 pub mod Wires
 pub mod Talks
+pub mod Paces

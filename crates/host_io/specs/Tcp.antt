@@ -1,10 +1,8 @@
 -- What a port of this machine keeps, and what its calls make of the system's answers.
 use Rattle.std.specs.Prelude.{◌≡◌, ◌≤◌, ◌+◌, ◌-◌, ◌*◌, ℕ, Bool, true, false, ◌==◌, nat_le, ◌||◌, if◌then◌else◌, List, [], ◌∷◌, Option, None, Some, min}
-use Rattle.std.specs.Net.Addr.{ipv4_octets}
-use Rattle.std.specs.Net.Socket.{socket_ip, socket_port}
+use Rattle.std.specs.Net.Addr.{ipv4_octets, IsV4And, IsV6And, IsUnspecifiedV4, IsUnspecifiedV6, IsLoopbackV6}
 use Rattle.std.specs.declared.net.ip_addr.IpAddr.{IpAddr}
 use Rattle.std.specs.declared.net.ip_addr.IpAddr.TheVariants.{V4, V6}
-use Rattle.std.specs.declared.net.socket_addr.SocketAddr.{SocketAddr}
 use Rattle.host_io.specs.declared.tcp_port.TcpPort.{TcpPort}
 use Rattle.host_io.specs.declared.tcp_port.AfterRefusal.{AfterRefusal}
 use Rattle.host_io.specs.declared.tcp_port.AfterRefusal.TheVariants.{Fail, Again, Pause}
@@ -52,11 +50,12 @@ is_passing code = code == 4 || code == 71 || code == 103
 abbrev pub after_refusal : ℕ → AfterRefusal
 after_refusal code = if is_gone code then Fail else if is_passing code then Again else Pause
 
--- an address of version 4 with these bytes
-abbrev pub IsVersion4 : List ℕ → IpAddr → Type 0
-IsVersion4 bytes (V4 address) = ipv4_octets address ≡ bytes
-IsVersion4 bytes (V6 _) = ⊥
+-- 127.0.0.1
+abbrev pub IsLocal : IpAddr → Type 0
+IsLocal address = IsV4And address (λ a. ipv4_octets a ≡ 0x7f ∷ 0 ∷ 0 ∷ 1 ∷ [])
 
--- the port at 127.0.0.1
-abbrev pub IsLocal : SocketAddr → ℕ → Type 0
-IsLocal address port = IsVersion4 (0x7f ∷ 0 ∷ 0 ∷ 1 ∷ []) (socket_ip address) × (socket_port address ≡ port)
+-- the same address, or, where the first stands for all of this machine, its own of that version
+abbrev pub IsReachedAt : IpAddr → IpAddr → Type 0
+IsReachedAt (V4 a) reached = (IsUnspecifiedV4 a → IsLocal reached) × ((IsUnspecifiedV4 a → ⊥) → reached ≡ V4 a)
+IsReachedAt (V6 a) reached = (IsUnspecifiedV6 a → IsV6And reached IsLoopbackV6)
+    × ((IsUnspecifiedV6 a → ⊥) → reached ≡ V6 a)

@@ -1,28 +1,47 @@
 // A bell at the door of a port.
-use crate::address::local_address;
+ghost use Rattle.host_io.specs.Tcp.{IsLocal, IsReachedAt};
+
+use crate::address::{local_address, reached_at};
 use rail_io::Bell;
-use std::net::{Net, TcpStream};
+use std::net::{IpAddr, Net, SocketAddr, TcpStream};
 use std::time::Duration;
 
 /// How long it may take to ring. Where the port has no room for one connection more, nobody has to be woken.
 const RING_SECONDS: u64 = 1;
 
-/// Wakes whoever waits at a port of 127.0.0.1, by a connection that it lets go at once.
+/// Wakes whoever waits at a port of an address, by a connection that it lets go at once.
 #[derive(Drop)]
 pub struct TcpBell<N: Net + Drop> {
     net: N,
+    /// The address at which those who wait are reached.
+    address: IpAddr,
 }
 
 impl<N: Net + Drop> TcpBell<N> {
-    /// A bell on this net.
-    pub fn new(net: N) -> Self {
-        TcpBell { net }
+    /// A bell for those who listen at 127.0.0.1.
+    pub fn new(net: N) -> Self
+        ensures address { IsLocal result.address }
+    {
+        TcpBell {
+            net,
+            address: local_address(),
+        }
+    }
+
+    /// A bell for those who listen at the address.
+    pub fn at(self, address: IpAddr) -> Self
+        ensures address { IsReachedAt address result.address }
+    {
+        TcpBell {
+            net: self.net,
+            address: reached_at(address),
+        }
     }
 }
 
 impl<N: Net + Drop> Bell for TcpBell<N> {
     fn ring(&mut self, port: u16) {
-        let seconds = Duration::from_secs(RING_SECONDS);
-        let _rung = TcpStream::connect_timeout(&self.net, &local_address(port), seconds);
+        let door = SocketAddr::new(self.address, port);
+        let _rung = TcpStream::connect_timeout(&self.net, &door, Duration::from_secs(RING_SECONDS));
     }
 }

@@ -1,6 +1,7 @@
 // How long a connection waits for a request.
-ghost use Rattle.std.specs.Prelude.{◌≡◌, true};
+ghost use Rattle.std.specs.Prelude.{◌≡◌, None, Ok, IfOk, OnErr, true};
 ghost use Rattle.host_io.specs.Tcp.{seconds_of, limit_of};
+ghost use Rattle.host_io.specs.Paces.{first_pace, noted, IsLimited, IsAllowed};
 
 use std::io::ErrorKind;
 use std::time::Instant;
@@ -46,25 +47,27 @@ pub(crate) struct Pace {
     /// The milliseconds that a read may wait now.
     limit: u64,
     /// Whether the other side may still send.
-    open: bool,
+    sends: bool,
 }
 
 impl Pace {
     /// A connection of which nothing has come, and whose reads wait for 5 seconds.
-    pub(crate) fn new() -> Pace {
+    pub(crate) fn new() -> Pace
+        ensures { result ≡ first_pace }
+    {
         Pace {
             idle: true,
             begun: None,
             limit: 1_000 * IDLE_SECONDS,
-            open: true,
+            sends: true,
         }
     }
 
     /// Whether the other side may still send.
     pub(crate) fn is_open(&self) -> bool
-        ensures { result ≡ self.now.open }
+        ensures { result ≡ self.now.sends }
     {
-        self.open
+        self.sends
     }
 
     /// The last request is answered.
@@ -75,7 +78,10 @@ impl Pace {
     }
 
     // The milliseconds since the request began that the next read is for: 0 where nothing of it has come.
-    fn spent<C: time::Clock>(&mut self, clock: &C) -> io::Result<u64> {
+    fn spent<C: time::Clock>(&mut self, clock: &C) -> io::Result<u64>
+        ensures same { self.new ≡ record self.old { begun = self.new.begun } }
+        ensures idle { self.old.idle ≡ true → (self.new.begun ≡ None) × (result ≡ Ok 0) }
+    {
         if self.idle {
             self.begun = None;
             return Ok(0);
@@ -88,10 +94,12 @@ impl Pace {
         Ok(u64::try_from(spent).unwrap_or(u64::MAX))
     }
 
-    /// How many milliseconds the next read may wait, where that has changed since the last one. An error where no time
-    /// is left.
-    pub(crate) fn next_limit<C: time::Clock>(&mut self, clock: &C) -> io::Result<Option<u64>> {
-        let Some(limit) = read_limit(self.idle, self.spent(clock)?) else {
+    // How many milliseconds the next read may wait whose request has taken these, where that has changed.
+    fn allow(&mut self, spent: u64) -> io::Result<Option<u64>>
+        ensures limit { IfOk result (IsLimited self.old self.new spent) }
+        ensures none_left { OnErr result (limit_of self.old.idle spent ≡ None) }
+    {
+        let Some(limit) = read_limit(self.idle, spent) else {
             return Err(io::Error::from(ErrorKind::TimedOut));
         };
         if limit == self.limit {
@@ -101,13 +109,24 @@ impl Pace {
         Ok(Some(limit))
     }
 
+    /// How many milliseconds the next read may wait, where that has changed since the last one. An error where no time
+    /// is left.
+    pub(crate) fn next_limit<C: time::Clock>(&mut self, clock: &C) -> io::Result<Option<u64>>
+        ensures limit { IfOk result (IsAllowed self.old self.new) }
+    {
+        let spent = self.spent(clock)?;
+        self.allow(spent)
+    }
+
     /// What a read came to. One that a signal interrupted says nothing.
-    pub(crate) fn note(&mut self, answer: &io::Result<usize>) {
+    pub(crate) fn note(&mut self, answer: &io::Result<usize>)
+        ensures { self.new ≡ noted self.old answer.now }
+    {
         match answer {
-            Ok(0) => self.open = false,
+            Ok(0) => self.sends = false,
             Ok(_) => self.idle = false,
             Err(error) if error.kind() == ErrorKind::Interrupted => {}
-            Err(_) => self.open = false,
+            Err(_) => self.sends = false,
         }
     }
 }

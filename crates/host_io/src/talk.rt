@@ -1,7 +1,8 @@
 // A connection, whose answers are held back until the next read.
-ghost use Rattle.std.specs.Prelude.{◌≡◌, ◌≤◌, ◌<◌, ◌++◌, [], IsOk, IfOk, length, max};
+ghost use Rattle.std.specs.Prelude.{◌≡◌, ◌≤◌, ◌<◌, ◌++◌, ◌⊎◌, [], IsOk, IfOk, length, max, true};
 ghost use Rattle.rail_io.specs.Told.{Pushes, PushesBoth};
 ghost use Rattle.host_io.specs.Talks.{answered_by};
+ghost use Rattle.host_io.specs.Paces.{first_pace};
 
 use crate::kept_line::KeptLine;
 use crate::line::Line;
@@ -38,7 +39,11 @@ pub(crate) struct Talk<W: Wire + Drop, K: Keeper + Drop> {
 
 impl<W: Wire + Drop, K: Keeper + Drop> Talk<W, K> {
     /// A connection of which nothing has come and to which nothing went out.
-    pub(crate) fn new(sink: KeptLine<W, K>, outbox: Outbox) -> Talk<W, K> {
+    pub(crate) fn new(sink: KeptLine<W, K>, outbox: Outbox) -> Talk<W, K>
+        ensures sink { result.sink ≡ sink }
+        ensures outbox { result.outbox ≡ outbox }
+        ensures pace { result.pace ≡ first_pace }
+    {
         Talk {
             sink,
             outbox,
@@ -60,6 +65,7 @@ impl<W: Wire + Drop, K: Keeper + Drop> Talk<W, K> {
     pub(crate) fn send_answers(&mut self) -> io::Result<bool>
         ensures same { answered_by W.outgoing self.new ≡ answered_by W.outgoing self.old }
         ensures all { IsOk result → self.new.outbox.held ≡ [] }
+        ensures ended { (self.new.failed ≡ true) ⊎ (self.new.outbox.held ≡ []) }
     {
         if self.failed || !self.outbox.send(&mut self.sink) {
             self.failed = true;
@@ -99,15 +105,22 @@ impl<W: Wire + Drop, K: Keeper + Drop> Talk<W, K> {
         taken
     }
 
-    // Sends what was answered, and sets the time limit of the next read, which fails where none is left, or where the
-    // journal is lost.
-    fn prepare<C: time::Clock>(&mut self, clock: &C) -> io::Result<()>
+    // Sends what was answered. Where anything was, the next request hasn't begun.
+    fn send_all(&mut self) -> io::Result<()>
         ensures same { answered_by W.outgoing self.new ≡ answered_by W.outgoing self.old }
         ensures all { IsOk result → self.new.outbox.held ≡ [] }
     {
         if self.send_answers()? {
             self.pace.rest();
         }
+        Ok(())
+    }
+
+    // Sets the time limit of the next read, which fails where none is left, or where the journal is lost.
+    fn limit_read<C: time::Clock>(&mut self, clock: &C) -> io::Result<()>
+        ensures same { answered_by W.outgoing self.new ≡ answered_by W.outgoing self.old }
+        ensures held { self.new.outbox.held ≡ self.old.outbox.held }
+    {
         if self.sink.is_lost() {
             return Err(io::Error::from(ErrorKind::BrokenPipe));
         }
@@ -117,10 +130,20 @@ impl<W: Wire + Drop, K: Keeper + Drop> Talk<W, K> {
         Ok(())
     }
 
+    // What comes before a read.
+    fn prepare<C: time::Clock>(&mut self, clock: &C) -> io::Result<()>
+        ensures same { answered_by W.outgoing self.new ≡ answered_by W.outgoing self.old }
+        ensures all { IsOk result → self.new.outbox.held ≡ [] }
+    {
+        self.send_all()?;
+        self.limit_read(clock)
+    }
+
     /// Reads some of what has come, or waits for it, once all that was answered is sent.
     pub(crate) fn read<C: time::Clock>(&mut self, clock: &C, room: &mut [u8]) -> io::Result<usize>
         ensures same { answered_by W.outgoing self.new ≡ answered_by W.outgoing self.old }
         ensures all { IsOk result → self.new.outbox.held ≡ [] }
+        ensures sent { IsOk result → W.outgoing self.new.sink.line.wire ≡ answered_by W.outgoing self.old }
         ensures bound { IfOk result (λ count. count ≤ length room.new) }
     {
         let answer = match self.prepare(clock) {
@@ -135,6 +158,8 @@ impl<W: Wire + Drop, K: Keeper + Drop> Talk<W, K> {
     /// connection, so that it gets to read the last answer.
     pub(crate) fn end<C: time::Clock>(&mut self, clock: &C)
         ensures same { answered_by W.outgoing self.new ≡ answered_by W.outgoing self.old }
+        ensures sent { (self.new.failed ≡ true)
+            ⊎ (W.outgoing self.new.sink.line.wire ≡ answered_by W.outgoing self.old) }
     {
         let _sent = self.send_answers();
         if self.pace.is_open() {

@@ -1,7 +1,7 @@
 // A port of this machine as a listener. Its streams tell no content.
 ghost use Rattle.std.specs.Prelude.{◌≡◌, ◌≤◌};
 ghost use Rattle.rail_io.specs.Faults.{Rose};
-ghost use Rattle.host_io.specs.Tcp.{after_refusal as after_of, tcp_view, tcp_faults, IsLaterOf, HandsUntold};
+ghost use Rattle.host_io.specs.Tcp.{after_refusal as after_of, tcp_view, tcp_faults, IsLaterOf, HandsUntold, IsLocal};
 
 use crate::address::local_address;
 use crate::socket::{SocketReader, SocketSink, halves_of};
@@ -9,7 +9,7 @@ use host_window::{Counters, CountingSink, CountingSource, Health, StreamCounts};
 use rail_io::{Keeper, ReaderSource};
 use rail_service::{Accepted, Bound, Listener, Waiting};
 use std::alloc::Global;
-use std::net::{Net, TcpListener, TcpStream};
+use std::net::{IpAddr, Net, SocketAddr, TcpListener, TcpStream};
 use std::time::Duration;
 use std::{io, thread, time};
 
@@ -39,9 +39,9 @@ pub fn after_refusal(code: u32) -> AfterRefusal
     }
 }
 
-/// Listens on 127.0.0.1. Its streams send without delay. A read fails that waits for more than 5 seconds between two
-/// requests, or for more than 30 inside one, or until 60 have gone by since its first byte, and a write that waits for
-/// more than 30.
+/// Listens at 127.0.0.1, or at another address that it is given. Its streams send without delay. A read fails that
+/// waits for more than 5 seconds between two requests, or for more than 30 inside one, or until 60 have gone by since
+/// its first byte, and a write that waits for more than 30.
 ///
 /// No answer leaves before the cut is kept that it is held for, and where the journal is lost, an accept fails.
 ///
@@ -56,6 +56,7 @@ pub struct TcpPort<
     alloc: Global,
     keeper: K,
     counters: Option<&'c Counters>,
+    address: IpAddr,
     listener: Option<TcpListener>,
     port: u16,
     limit: u32,
@@ -90,22 +91,31 @@ impl<
     N: Net<Listener = TcpListener, Stream = TcpStream> + time::Clock + Copy + Drop,
     K: Keeper + Copy + Drop,
 > TcpPort<'c, N, K> {
-    /// A listener at port 0 with limit 0 that has handed out nothing and hasn't failed.
+    /// A listener at port 0 of 127.0.0.1 with limit 0 that has handed out nothing and hasn't failed.
     pub fn new(net: N, alloc: Global, keeper: K, counters: Option<&'c Counters>) -> Self
         ensures view { tcp_view result ≡ record { port = 0; limit = 0; handed = 0 } }
         ensures faults { tcp_faults result ≡ 0 }
+        ensures address { IsLocal result.address }
     {
         TcpPort {
             net,
             alloc,
             keeper,
             counters,
+            address: local_address(),
             listener: None,
             port: 0,
             limit: 0,
             handed: 0,
             faults: 0,
         }
+    }
+
+    /// The same listener, which listens at the address where it is bound from now on.
+    pub fn at(self, address: IpAddr) -> Self
+        ensures same { result ≡ record self.entry { address = address } }
+    {
+        TcpPort { address, ..self }
     }
 
     // A call that fails changes the count alone.
@@ -180,12 +190,12 @@ impl<
     ghost hands = { HandsUntold };
 
     fn bind(&mut self, port: u16) -> Bound {
-        // What contracts see of the port is that of the very address which the system is asked for.
-        let address = local_address(port);
-        match TcpListener::bind(&self.net, address) {
+        // What contracts see of the port is that of the very door which the system is asked for.
+        let door = SocketAddr::new(self.address, port);
+        match TcpListener::bind(&self.net, door) {
             Ok(listener) => {
                 self.listener = Some(listener);
-                self.port = address.port();
+                self.port = door.port();
                 self.note(Health::Well);
                 Bound::Ready
             }

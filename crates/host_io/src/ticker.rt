@@ -1,30 +1,45 @@
 // Ticks by the clock of the system.
 ghost use Rattle.std.specs.Prelude.{◌≡◌};
 
-use rail_io::Ticker;
+use crate::keeper::NoKeeper;
+use rail_io::{Keeper, Ticker};
 use std::time::Duration;
 use std::{thread, time};
 
-/// Ticks for ever, after having slept for the seconds.
+/// Ticks after having slept for the seconds, for ever, or until its keeper has lost: then it ends within a second.
 #[derive(Drop)]
-pub struct SleepTicker<C: time::Clock + Drop> {
+pub struct SleepTicker<C: time::Clock + Drop, K: Keeper + Drop> {
     clock: C,
+    keeper: K,
 }
 
-impl<C: time::Clock + Drop> SleepTicker<C> {
-    /// A ticker that sleeps by this clock.
+impl<C: time::Clock + Drop> SleepTicker<C, NoKeeper> {
+    /// A ticker that sleeps by this clock, and ticks for ever.
     pub fn new(clock: C) -> Self {
-        SleepTicker { clock }
+        SleepTicker {
+            clock,
+            keeper: NoKeeper,
+        }
     }
 }
 
-impl<C: time::Clock + Drop> Ticker for SleepTicker<C> {
-    ghost use Rattle.std.specs.Prelude.{true};
+impl<C: time::Clock + Drop, K: Keeper + Drop> SleepTicker<C, K> {
+    /// A ticker that sleeps by this clock, and ends once the keeper has lost.
+    pub fn until_lost(clock: C, keeper: K) -> Self {
+        SleepTicker { clock, keeper }
+    }
+}
 
-    ghost ticked = { λ t _ answer u. (answer ≡ true) × (u ≡ t) };
+impl<C: time::Clock + Drop, K: Keeper + Drop> Ticker for SleepTicker<C, K> {
+    ghost ticked = { λ t _ _ u. u ≡ t };
 
     fn next_tick(&mut self, seconds: u32) -> bool {
-        thread::sleep(&self.clock, Duration::from_secs(u64::from(seconds)));
-        true
+        for _second in 0..seconds {
+            if self.keeper.is_lost() {
+                return false;
+            }
+            thread::sleep(&self.clock, Duration::from_secs(1));
+        }
+        !self.keeper.is_lost()
     }
 }

@@ -1,0 +1,247 @@
+// The files of the system as those of a journal. They tell no content.
+ghost use Rattle.std.specs.Prelude.{◌≡◌, ◌+◌, IfOk, IfSome, take};
+ghost use Rattle.host_io.specs.Opened.{present_by};
+ghost use Rattle.std.specs.Path.{HasNoSlash, path_add_extension, path_buf_bytes};
+
+use crate::journal_files::JournalFiles;
+use std::alloc::Global;
+use std::fs::{File, Files, OpenOptions, TryLockError};
+use std::io::{ErrorKind, Read, Write};
+use std::os::fd::AsRawFd;
+use std::path::PathBuf;
+use std::{fs, io};
+
+/// The numbers of standard input, output and error: no file of a journal may have one, also where the process was
+/// started without them, since notes would be written into it.
+const STANDARD_FILES: i32 = 3;
+
+/// A journal that this process has for itself alone.
+#[derive(Drop)]
+struct Holding {
+    path: PathBuf,
+    /// A file of its own next to the journal, which is locked, and is never renamed nor removed. So no two processes
+    /// can have locked different files of one name, as they could if the lock lay on the text, whose name other texts
+    /// take.
+    lock: File,
+    /// The journal's text, where there is one.
+    text: Option<File>,
+    /// The new text, by its name and as a file, where one is written that hasn't taken the place of the old one.
+    fresh: Option<(PathBuf, File)>,
+}
+
+/// The files of one journal in the system's. Beside its text stands a file for its lock, with `.lock` after the
+/// journal's name, and a new text is written under that name with `.new`.
+#[derive(Drop)]
+pub struct SystemFiles<F: Files<File = File> + Drop> {
+    files: F,
+    alloc: Global,
+    holding: Option<Holding>,
+}
+
+// The path that a name leads to. Where the name is a link, the path is that of its file, so that a new text of the
+// journal takes the place of the old one and not that of the link.
+fn path_of<F: Files>(files: &F, alloc: Global, name: &str) -> io::Result<PathBuf> {
+    match files.canonicalize(alloc, name) {
+        Err(error) if error.kind() == ErrorKind::NotFound => new_path(files, alloc, name),
+        found => found,
+    }
+}
+
+// The path of a journal that isn't there yet. A link to a file that isn't there is refused: the new text would take the
+// place of the link, and the lock would be that of the link.
+fn new_path<F: Files>(files: &F, alloc: Global, name: &str) -> io::Result<PathBuf> {
+    match files.symlink_metadata(name) {
+        Ok(_) => Err(io::Error::from(ErrorKind::InvalidInput)),
+        Err(_) => Ok(PathBuf::from_str(alloc, name)?),
+    }
+}
+
+// The path with this ending after a dot.
+fn beside(alloc: Global, path: &str, ending: &str) -> io::Result<PathBuf>
+    requires { HasNoSlash ending.now }
+    ensures { IfOk result (λ other. path_buf_bytes other ≡ path_add_extension path.now ending.now) }
+{
+    let mut other = PathBuf::from_str(alloc, path)?;
+    if other.add_extension(ending)? {
+        Ok(other)
+    } else {
+        Err(io::Error::from(ErrorKind::InvalidInput))
+    }
+}
+
+// The file that is locked while the journal of this path is held, and whether it is locked now.
+fn lock_of<F: Files<File = File>>(
+    files: &F,
+    alloc: Global,
+    path: &str,
+) -> io::Result<(File, bool)> {
+    let name = beside(alloc, path, "lock")?;
+    let lock = OpenOptions::new()
+        .write(true)
+        .create(true)
+        .open(files, &name)?;
+    if lock.as_raw_fd() < STANDARD_FILES {
+        return Err(io::Error::from(ErrorKind::Unsupported));
+    }
+    match lock.try_lock() {
+        Ok(()) => Ok((lock, true)),
+        Err(TryLockError::WouldBlock) => Ok((lock, false)),
+        Err(TryLockError::Error(error)) => Err(error),
+    }
+}
+
+// A file that may be missing: None where it is.
+fn unless_missing(answer: io::Result<File>) -> io::Result<Option<File>>
+    ensures { result ≡ present_by answer }
+{
+    match answer {
+        Ok(file) => Ok(Some(file)),
+        Err(error) if error.kind() == ErrorKind::NotFound => Ok(None),
+        Err(error) => Err(error),
+    }
+}
+
+// All that the reader gives, or its first bytes, one more than there is room for.
+fn read_text<R: Read + Drop>(text: R, alloc: Global, room: u32) -> io::Result<Vec<u8>>
+    ensures { IfSome (R.remaining text) (λ bytes. IfOk result (λ read. read.items ≡ take (room + 1) bytes)) }
+{
+    let mut content = Vec::new(alloc);
+    text.take(u64::from(room) + 1).read_to_end(&mut content)?;
+    Ok(content)
+}
+
+// Keeps the names of the folder that the path lies in.
+fn sync_folder<F: Files<File = File>>(files: &F, path: &PathBuf) -> io::Result<()> {
+    let folder = match path.parent() {
+        Some(folder) if !folder.as_str().is_empty() => folder.as_str(),
+        _ => ".",
+    };
+    fs::open(files, folder)?.sync_all()
+}
+
+// A new text for the path, written next to it and kept there, which may be used by those who may use the old one.
+fn new_text<F: Files<File = File>>(
+    files: &F,
+    name: &PathBuf,
+    old: Option<&File>,
+    bytes: &[u8],
+) -> io::Result<File> {
+    let mut text = OpenOptions::new()
+        .append(true)
+        .create(true)
+        .open(files, name)?;
+    text.set_len(0)?;
+    if let Some(old) = old {
+        text.set_permissions(old.metadata()?.permissions())?;
+    }
+    text.write_all(bytes)?;
+    text.sync_all()?;
+    Ok(text)
+}
+
+// What a call comes to where no journal is held.
+fn not_held() -> io::Error {
+    io::Error::from(ErrorKind::NotConnected)
+}
+
+// The journal of this name, taken for this process alone. None where another one has it.
+fn held<F: Files<File = File>>(
+    files: &F,
+    alloc: Global,
+    name: &str,
+) -> io::Result<Option<Holding>> {
+    let path = path_of(files, alloc, name)?;
+    let (lock, locked) = lock_of(files, alloc, path.as_str())?;
+    if !locked {
+        return Ok(None);
+    }
+    let text = OpenOptions::new()
+        .read(true)
+        .append(true)
+        .open(files, &path);
+    let text = unless_missing(text)?;
+    Ok(Some(Holding {
+        path,
+        lock,
+        text,
+        fresh: None,
+    }))
+}
+
+impl<F: Files<File = File> + Drop> SystemFiles<F> {
+    /// The files of no journal yet.
+    pub fn new(files: F, alloc: Global) -> Self {
+        SystemFiles {
+            files,
+            alloc,
+            holding: None,
+        }
+    }
+}
+
+impl<F: Files<File = File> + Drop> JournalFiles for SystemFiles<F> {
+    ghost use Rattle.std.specs.Prelude.{None};
+
+    ghost kept = { λ _. None };
+
+    ghost fresh = { λ _. None };
+
+    fn hold(&mut self, name: &str) -> io::Result<bool> {
+        self.holding = None;
+        self.holding = held(&self.files, self.alloc, name)?;
+        Ok(self.holding.is_some())
+    }
+
+    fn let_go(&mut self) {
+        self.holding = None;
+    }
+
+    fn read(&mut self, alloc: Global, room: u32) -> io::Result<Option<Vec<u8>>> {
+        let Some(
+            Holding {
+                text: Some(text),
+                ..
+            },
+        ) = &self.holding
+        else {
+            return Ok(None);
+        };
+        Ok(Some(read_text(text, alloc, room)?))
+    }
+
+    fn write_new(&mut self, bytes: &[u8]) -> io::Result<()> {
+        let Some(holding) = &mut self.holding else {
+            return Err(not_held());
+        };
+        let name = beside(self.alloc, holding.path.as_str(), "new")?;
+        let text = new_text(&self.files, &name, holding.text.as_ref(), bytes)?;
+        holding.fresh = Some((name, text));
+        Ok(())
+    }
+
+    fn put_new(&mut self) -> io::Result<()> {
+        let Some(holding) = &mut self.holding else {
+            return Err(not_held());
+        };
+        let Some((name, text)) = holding.fresh.take() else {
+            return Err(not_held());
+        };
+        fs::rename(&self.files, &name, &holding.path)?;
+        holding.text = Some(text);
+        sync_folder(&self.files, &holding.path)
+    }
+
+    fn append(&mut self, piece: &[u8]) -> io::Result<()> {
+        let Some(
+            Holding {
+                text: Some(text),
+                ..
+            },
+        ) = &mut self.holding
+        else {
+            return Err(not_held());
+        };
+        text.write_all(piece)?;
+        text.sync_data()
+    }
+}
