@@ -1,5 +1,6 @@
 -- All that the window shows of a host.
 use Rattle.std.specs.Prelude.{ℕ, List, ◌++◌, codes}
+use Rattle.window_texts.specs.Routes.{routes_text}
 use Rattle.window_texts.specs.Texts.{HeadView, one_text, table_text}
 use Rattle.window_texts.specs.declared.family.Kind.{Kind}
 use Rattle.window_texts.specs.declared.family.Kind.TheVariants.{Counter, Gauge}
@@ -77,4 +78,4 @@ keeping_text c =
 
 -- the whole text
 unfoldable pub metrics_text : Counts → List ℕ
-metrics_text c = ((health_text c ++ streams_text c) ++ answers_text c) ++ keeping_text c
+metrics_text c = (((health_text c ++ streams_text c) ++ answers_text c) ++ routes_text c) ++ keeping_text c

@@ -4,6 +4,7 @@ ghost use Rattle.window_texts.specs.Metrics.{answers_text, health_text, keeping_
 
 use crate::counts::Counts;
 use crate::family::{Head, Kind, push_one, push_table};
+use crate::routes::push_routes;
 use std::alloc::{AllocError, Global};
 
 // What it shows of whether it takes connections, and of its workers.
@@ -174,6 +175,7 @@ pub fn metrics_page(alloc: Global, counts: &Counts) -> Result<Vec<u8>, AllocErro
     push_health(&mut text, counts)?;
     push_streams(&mut text, counts)?;
     push_answers(&mut text, counts)?;
+    push_routes(&mut text, counts)?;
     push_keeping(&mut text, counts)?;
     Ok(text)
 }
