@@ -203,7 +203,7 @@ def compare(numbers: dict, tally: Tally) -> None:
         there = table(numbers, f"sumacgate_{name}_total")
         expect(there == dict(here), f"{name}: the host counted {there}, the clients {dict(here)}")
     for name, here in (("connections_total", tally.connections), ("received_bytes_total", tally.sent), ("sent_bytes_total", tally.received),
-                       ("workers_busy", 0), ("workers", 4), ("healthy", 1), ("write_failures_total", 0), ("journal_lost", 0)):
+                       ("workers_busy", 0), ("workers", 4), ("healthy", 1), ("write_failures_total", 0), ("journal_write_start_seconds", 0), ("journal_lost", 0)):
         there = numbers["sumacgate_" + name]
         expect(there == here, f"{name}: the host counted {there}, the clients {here}")
 

@@ -49,6 +49,8 @@ pub struct Counters {
     workers: u32,
     /// How the listener does: the number of a `Health`.
     door: AtomicU64,
+    /// When the write of the journal began that is under way, in seconds since 1970; 0 where none is.
+    writing: AtomicU64,
     /// 1 once the journal is lost.
     lost: AtomicU64,
     /// 1 once the host is over.
@@ -178,6 +180,7 @@ impl Counters {
             rewrites: Tally::new(),
             workers,
             door: AtomicU64::new(0),
+            writing: AtomicU64::new(0),
             lost: AtomicU64::new(0),
             over: AtomicU64::new(0),
         })
@@ -203,6 +206,11 @@ impl Counters {
     /// A sweep was due.
     pub(crate) fn note_sweep(&self) {
         self.sweeps.add(1);
+    }
+
+    /// A write of the journal begins in this second since 1970, or, at 0, none is under way any more.
+    pub(crate) fn note_writing(&self, since: u64) {
+        self.writing.store(since, Ordering::SeqCst);
     }
 
     /// So many bytes were added to the journal, and are kept.
@@ -268,6 +276,7 @@ impl Counters {
             cuts: self.cuts.read(),
             kept: self.kept.read(),
             rewrites: self.rewrites.read(),
+            writing: self.writing.load(Ordering::SeqCst),
             lost: u64::from(health == Health::Lost),
         })
     }

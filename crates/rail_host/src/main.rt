@@ -90,6 +90,7 @@ fn main(rt: HostRuntime) -> ExitCode {
                 journal: CountingJournal {
                     journal: FileJournal::new(&rt, alloc),
                     counters,
+                    time: &rt,
                 },
                 bell: TcpBell::new(&rt).at(address),
             },

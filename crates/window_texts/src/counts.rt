@@ -39,6 +39,8 @@ pub struct Counts {
     pub kept: u64,
     /// Times that the whole journal was written anew.
     pub rewrites: u64,
+    /// When the write of the journal began that is under way, in seconds since 1970; 0 where none is.
+    pub writing: u64,
     /// 1 where the journal is lost, and 0 where it isn't, or where there is none.
     pub lost: u64,
 }

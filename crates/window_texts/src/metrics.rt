@@ -158,6 +158,15 @@ fn push_keeping(text: &mut Vec<u8>, counts: &Counts) -> Result<(), AllocError>
     push_one(
         text,
         Head {
+            name: b"sumacgate_journal_write_start_seconds",
+            help: b"When the write of the journal began that is under way, in seconds since 1970, or 0.",
+            kind: Kind::Gauge,
+        },
+        counts.writing,
+    )?;
+    push_one(
+        text,
+        Head {
             name: b"sumacgate_journal_lost",
             help: b"Whether the journal is lost: 1 or 0.",
             kind: Kind::Gauge,
