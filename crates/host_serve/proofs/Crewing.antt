@@ -1,5 +1,6 @@
 -- Crews that gain and lose a member.
 use Rattle.std.proofs.Common.{◌≡◌, ◌∙◌, ◌<◌, ◌≤◌, ◌+◌, ◌-◌, ℕ, zero, suc, List, [], ◌∷◌, ◌++◌, None, length, map, take, drop, slice_index_or, refl, sym, ap, subst, inl, inr, arith, append-nil, append_assoc}
+use Rattle.std.specs.Prelude.{IfSome}
 use Rattle.std.proofs.Math.Logic.{⊎_elim}
 use Rattle.std.proofs.lemmas.Bool.{cases_lt}
 use Rattle.std.proofs.lemmas.List.{drop_all, get_or_append_left, length-append, length-map, map-append, take_all}
@@ -17,9 +18,9 @@ use Rattle.claim_rule.proofs.Shapes.{step_shape}
 use Rattle.claim_rule.proofs.Views.{each_in}
 use Rattle.worker_pool.specs.Turns.{KeepsDesk, EachMember}
 use Rattle.worker_pool.specs.declared.member.Member.{Member}
-use Rattle.host_serve.specs.Crews.{OnlyMet, IsFirst, IsDesk, IsMember, IsCrew, AreReady, Filling, HasGiven, HasMetAll, Held, IsReady, of_member, sum_below}
+use Rattle.host_serve.specs.Crews.{OnlyMet, IsFirst, IsDesk, IsMember, IsCrew, AreGated, AreReady, Filling, HasGiven, HasMetAll, Held, IsReady, of_member, sum_below}
 use Rattle.host_serve.specs.declared.member.Post.{Post}
-use Rattle.host_serve.specs.Turns.{Readings, clock_for}
+use Rattle.host_serve.specs.Turns.{Readings, clock_for, clock_of}
 
 -- what begins a beginning begins the whole
 pub begins : (a b c : List Entry) → IsPrefix a b → IsPrefix b c → IsPrefix a c
@@ -134,6 +135,14 @@ pub ready_more : {S T C W : Type 0} (handed : S → ℕ) (told : C → Readings)
 ready_more {S} {T} {C} {W} handed told with_these all crew m items are is =
     subst (λ (l : List (Member (Post S T C W))). AreReady l handed told with_these) (sym items)
     (joined_each (λ i n. IsReady n handed told with_these i) crew m are is)
+
+-- one more whose clock, if it has one, goes through the gate
+pub gated_more : {S T C W G : Type 0} (crew all : List (Member (Post S T C W))) (m : Member (Post S T C W)) → all ≡ crew ++ m ∷ []
+    → (gate_of : C → G) (gate : G) → AreGated crew gate_of gate → IfSome (clock_of m.worker) (λ (c : C). gate_of c ≡ gate)
+    → AreGated all gate_of gate
+gated_more {S} {T} {C} {W} crew all m items gate_of gate are is =
+    subst (λ (l : List (Member (Post S T C W))). AreGated l gate_of gate) (sym items)
+    (joined_each (λ i n. IfSome (clock_of n.worker) (λ (c : C). gate_of c ≡ gate)) crew m are is)
 
 -- a sum with one number more
 sum_step : (f : ℕ → ℕ) (n : ℕ) → sum_below f (n + 1) ≡ sum_below f n + f n

@@ -1,5 +1,5 @@
 -- Crews and the first desk.
-use Rattle.std.specs.Prelude.{◌≡◌, ◌<◌, ◌≤◌, ◌+◌, ℕ, zero, suc, List, [], length, slice_index_or}
+use Rattle.std.specs.Prelude.{◌≡◌, ◌<◌, ◌≤◌, ◌+◌, ℕ, zero, suc, List, [], IfSome, length, slice_index_or}
 use mathlib.Core.List.{IsPrefix}
 use Rattle.std.specs.List.{AllByRecursion}
 use Rattle.history_model.specs.History.{own}
@@ -12,7 +12,7 @@ use Rattle.worker_pool.specs.Turns.{Doing, KeepsDesk, RunsToEnd, EachMember}
 use Rattle.worker_pool.specs.declared.member.Member.{Member}
 use Rattle.rail_catalogue.specs.Contents.{CatalogueView}
 use Rattle.host_words.specs.declared.serve.Serving.{Serving}
-use Rattle.host_serve.specs.Turns.{HasClock, IsPosted, Readings, handed_of}
+use Rattle.host_serve.specs.Turns.{HasClock, IsPosted, Readings, clock_of, handed_of}
 use Rattle.host_serve.specs.declared.member.Post.{Post}
 
 -- in the history the first desk has nothing but meetings
@@ -67,6 +67,12 @@ abbrev pub AreReady : {S T C W : Type 0} → List (Member (Post S T C W)) → (S
 AreReady {S} {T} {C} {W} crew handed told with_these =
     (i : ℕ) (none : Member (Post S T C W)) → i < length crew
     → IsReady (slice_index_or crew i none) handed told with_these i
+
+-- whatever clock a member has goes through this gate
+abbrev pub AreGated : {S T C W G : Type 0} → List (Member (Post S T C W)) → (C → G) → G → Type 0
+AreGated {S} {T} {C} {W} crew gate_of gate =
+    (i : ℕ) (none : Member (Post S T C W)) → i < length crew
+    → IfSome (clock_of (slice_index_or crew i none).worker) (λ (c : C). gate_of c ≡ gate)
 
 -- the sum over all below a number
 abbrev pub sum_below : (ℕ → ℕ) → ℕ → ℕ

@@ -1,5 +1,5 @@
 -- What `serve` promises.
-use Rattle.std.specs.Prelude.{◌≡◌, ◌<◌, ◌≤◌, ◌+◌, ℕ, true, false, List, [], Option, Some, None, IsSomeAnd}
+use Rattle.std.specs.Prelude.{◌≡◌, ◌<◌, ◌≤◌, ◌+◌, ℕ, true, false, List, [], Option, Some, None, IsSomeAnd, map}
 use Rattle.rail_io.specs.Faults.{Rose}
 use Rattle.std.specs.List.{AllByRecursion}
 use mathlib.Core.List.{IsPrefix}
@@ -22,7 +22,9 @@ use Rattle.host_catalogue.specs.Opening.{Fails, HasBooks, IsRefusedFile, LacksBo
 use Rattle.host_words.specs.Commands.{IsFor}
 use Rattle.host_words.specs.declared.command.CommandName.TheVariants as command
 use Rattle.host_serve.specs.Crews.{OnlyMet, sum_below}
-use Rattle.host_serve.specs.Turns.{Readings, Stand, OneTurn, Chain, Connection, HandedBy, Sweep, clock_for}
+use Rattle.host_serve.specs.Turns.{Asks, Readings, Stand, OneTurn, Chain, Connection, HandedBy, Sweep, TickingBy}
+use Rattle.host_serve.specs.Turns.{clock_for}
+use Rattle.host_serve.specs.declared.devices.Devices.{Devices}
 use Rattle.host_serve.specs.declared.end.BooksOutcome.{BooksOutcome}
 use Rattle.host_serve.specs.declared.end.BooksOutcome.TheVariants as books
 use Rattle.host_serve.specs.declared.end.ServeOutcome.{ServeOutcome}
@@ -96,6 +98,23 @@ left_by told faults becomes hands clocks asks first last wall = record {
   watchers = 0;
   wall = wall;
 }
+
+-- what a listener tells: how it stands, how often it has failed, what it may become, and what it hands out
+pub record Hearing (L : Type 0) : Type 1 where
+  pub told : L → ListenerView
+  pub faults : L → ℕ
+  pub becomes : L → L → Type 0
+  pub hands : HandingBy L
+
+abbrev pub heard : {L : Type 0} → (L → ListenerView) → (L → ℕ) → (L → L → Type 0) → HandingBy L → Hearing L
+heard told faults becomes hands = record { told = told; faults = faults; becomes = becomes; hands = hands }
+
+-- so of devices that were handed in, and of the listener and the wall that were handed back
+abbrev pub left_of : {L T C : Type 0} → Hearing L → (C → Readings) → TickingBy T → Devices L T C → L
+    → Option WallView → Left
+left_of hear told ticked devices last wall =
+    left_by hear.told hear.faults hear.becomes hear.hands (map told devices.clocks.items) (Asks ticked devices.ticker)
+    devices.listener last wall
 
 -- In the history the desks 1 to the number of workers served connections, all together as many as the listener has
 -- handed out, and the desk after them swept, each by its own of the clocks. It made as many sweeps as the ticker

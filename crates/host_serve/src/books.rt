@@ -1,5 +1,5 @@
 // The books of a catalogue, served by the members.
-ghost use Rattle.std.specs.Prelude.{◌≡◌, ◌≢◌, ◌≤◌, ◌<◌, ◌+◌, ◌^◌, ℕ, All, true, false, length, map};
+ghost use Rattle.std.specs.Prelude.{◌≡◌, ◌≢◌, ◌≤◌, ◌<◌, ◌+◌, ◌^◌, ℕ, All, true, false, length};
 ghost use Rattle.rail_io.specs.Faults.{Rose};
 ghost use Rattle.rail_service.specs.Listeners.{GivesOnly, IsGiven};
 ghost use Rattle.leg_masks.specs.Interval.{most_places};
@@ -13,8 +13,8 @@ ghost use Rattle.worker_pool.specs.Turns.{KeepsDesk};
 ghost use Rattle.host_serve.specs.declared.shared_listener.ListenerEnd.TheVariants as end;
 ghost use Rattle.host_serve.specs.Crews.{IsCrew, IsFirst, HasRun};
 ghost use Rattle.host_serve.specs.Over.{EndsOver};
-ghost use Rattle.host_serve.specs.Serve.{BooksEnd, left_by};
-ghost use Rattle.host_serve.specs.Turns.{HasCatalogue, Asks, Chain, Connection};
+ghost use Rattle.host_serve.specs.Serve.{BooksEnd, heard, left_of};
+ghost use Rattle.host_serve.specs.Turns.{HasCatalogue, Chain, Connection};
 
 use crate::crew::{Crewed, Means, crew_of};
 use crate::devices::Devices;
@@ -191,8 +191,7 @@ where
     ensures never_falls { L.faults devices.listener ≤ L.faults result.listener }
     ensures ends { BooksEnd common.entry.cat.now opened.books.layout common.entry.said
         (record
-        (left_by L.told L.faults L.becomes L.hands (map C.told devices.clocks.items) (Asks T.ticked devices.ticker)
-        devices.listener result.listener result.wall) { hands = IsGiven N.gives; watchers = length watchers.items })
+        (left_of (heard L.told L.faults L.becomes L.hands) C.told T.ticked devices result.listener result.wall) { hands = IsGiven N.gives; watchers = length watchers.items })
         result.outcome }
 {
     let mut opened = opened;

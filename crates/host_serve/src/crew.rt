@@ -2,7 +2,7 @@
 ghost use Rattle.std.specs.Prelude.{◌≡◌, ◌<◌, ◌≤◌, ◌+◌, [], length, map, vec_capacity};
 ghost use Rattle.claim_rule.specs.Desks.{IsOf};
 ghost use Rattle.claim_rule.specs.Out.{IsTidy};
-ghost use Rattle.host_serve.specs.Crews.{AreReady, Filling, IsCrew, IsFirst};
+ghost use Rattle.host_serve.specs.Crews.{AreGated, AreReady, Filling, IsCrew, IsFirst};
 ghost use Rattle.host_serve.specs.Turns.{FitsBooks, HasCatalogue, gated};
 
 use crate::books::Opened;
@@ -41,7 +41,8 @@ pub struct Crewed<'s, R, L: Listener + Drop, N: Named, T, C, W> {
 }
 
 /// As many serving members as the words say, and after them a sweeping one, each at a desk that was parted from the
-/// first and with a clock of its own: the last one is the first member's. Each serving member has a part of the share.
+/// first and with a clock of its own, which goes through the gate: the last one is the first member's. Each serving
+/// member has a part of the share.
 /// The watchers come last, each at such a desk. There is room for all, so that this can't fail once there is a listener
 /// to share.
 pub fn crew_of<
@@ -77,6 +78,7 @@ pub fn crew_of<
           ticker = means.ticker;
           clocks = map C.told means.clocks.items;
         }) }
+    ensures gated { AreGated result.crew.items (λ clock. clock.gate) common.entry.gate }
     ensures parts { result.rest.parts ≡ 0 }
     ensures nothing { result.rest.amount ≡ 0 }
     ensures count { length result.crew.items ≡ common.entry.said.workers + 1 + length means.watchers.items }
@@ -144,6 +146,8 @@ fn with_watchers<
     ensures ready { (with_these : Filling T) → with_these.said.workers < length crew.entry.items
         → AreReady crew.entry.items (λ s. s.share.amount) (gated C.told) with_these
         → AreReady result.items (λ s. s.share.amount) (gated C.told) with_these }
+    ensures gated { (gate : _) → AreGated crew.entry.items (λ clock. clock.gate) gate
+        → AreGated result.items (λ clock. clock.gate) gate }
     ensures count { length result.items ≡ length crew.entry.items + length watchers.items }
 {
     while let Some(watcher) = watchers.pop() {

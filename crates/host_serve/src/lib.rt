@@ -21,6 +21,7 @@ mod devices;
 mod draining;
 mod end;
 mod export;
+mod given;
 mod giving;
 mod keeping;
 mod kept;

@@ -1,12 +1,12 @@
 // Opened books, served at a port.
-ghost use Rattle.std.specs.Prelude.{◌≡◌, ◌≤◌, length, map};
+ghost use Rattle.std.specs.Prelude.{◌≡◌, ◌≤◌, length};
 ghost use Rattle.cold_store.specs.Tidy.{AreSucceeded};
 ghost use Rattle.host_words.specs.Limits.{clock_count};
 ghost use Rattle.host_words.specs.Serve.{IsInRange};
 ghost use Rattle.host_serve.specs.Crews.{IsFirst};
 ghost use Rattle.host_serve.specs.Kept.{ListensTo};
-ghost use Rattle.host_serve.specs.Serve.{left_by};
-ghost use Rattle.host_serve.specs.Turns.{Asks, HasCatalogue};
+ghost use Rattle.host_serve.specs.Serve.{heard, left_of};
+ghost use Rattle.host_serve.specs.Turns.{HasCatalogue};
 
 use crate::books::{Opened, Run, run_books};
 use crate::devices::Devices;
@@ -47,8 +47,7 @@ where
     ensures never_falls { L.faults devices.listener ≤ L.faults result.listener }
     ensures ends { ListensTo common.entry.cat.now opened.books.layout common.entry.said
         (record
-        (left_by L.told L.faults L.becomes L.hands (map C.told devices.clocks.items) (Asks T.ticked devices.ticker)
-        devices.listener result.listener result.wall) { watchers = length watchers.items })
+        (left_of (heard L.told L.faults L.becomes L.hands) C.told T.ticked devices result.listener result.wall) { watchers = length watchers.items })
         result.outcome }
 {
     let Devices {

@@ -1,10 +1,10 @@
 use Rattle.std.proofs.Common.{◌≡◌, ◌∙◌, ◌+◌, ◌++◌, ◌∷◌, [], ℕ, length, map, refl, sym, subst, ap, arith, rules, append-nil}
 use mathlib.Core.List.{IsPrefix}
 use Rattle.std.proofs.lemmas.List.{length-append}
-use Rattle.host_serve.specs.Crews.{AreReady, IsCrew, IsFirst}
+use Rattle.host_serve.specs.Crews.{AreGated, AreReady, IsCrew, IsFirst}
 use Rattle.claim_rule.specs.Rule.{BooksView}
 use Rattle.host_serve.specs.Turns.{FitsBooks, HasCatalogue, gated}
-use Rattle.host_serve.proofs.Crewing.{joined, parted_first, parted_desk, parted_empty, popped_clock, ready_more, shorter}
+use Rattle.host_serve.proofs.Crewing.{gated_more, joined, parted_first, parted_desk, parted_empty, popped_clock, ready_more, shorter}
 use Rattle.host_serve.proofs.crew.crew_of.Goals as goal
 
 pub loop-number-init : goal.loop-number-init
@@ -19,6 +19,7 @@ loop-number-init g c =
       crew = subst (λ l. IsCrew FitsBooks books l) (sym nobody) (λ i none lt. absurd (omega (arith, lt)));
       ready = subst (λ l. AreReady l (λ s. s.share.amount) (gated told) (record { cat = c.args.common.cat.now; said = c.args.common.said; ticker = c.args.means.ticker; clocks = map told clocks })) (sym nobody)
           (λ i none lt. absurd (omega (arith, lt)));
+      gated = subst (λ l. AreGated l (λ k. k.gate) c.args.common.gate) (sym nobody) (λ i none lt. absurd (omega (arith, lt)));
       parts = omega (arith, c.requires.parts);
       nothing = c.requires.nothing;
       count = ap length nobody;
@@ -58,6 +59,7 @@ loop-number-preserved g c =
         unserved = c.split_off.ensures.amount;
         none = parted_empty n c.part.new.desk c.part.result (part.parted ∙ ap (λ (k : ℕ). k + 1) inv.first.parted) part.new.0 part.new.1;
       });
+      gated = gated_more crew _ _ items (λ k. k.gate) c.args.common.gate inv.gated c.new.ensures.gate;
       count = omega (arith, many, inv.count);
       clocks = omega (arith, inv.clocks, popped, c.loop-number-test.true);
       front = shorter clocks c.pop.new.self.items c.unwrap.result front;
@@ -110,3 +112,8 @@ returns-clause-ready g c =
       unserved = refl;
       none = parted_empty (length crew) c.part-2.new.desk c.part-2.result (part.parted ∙ ap (λ (k : ℕ). k + 1) inv.first.parted) part.new.0 part.new.1;
     }))
+
+pub returns-clause-gated : goal.returns-clause-gated
+returns-clause-gated g c =
+    c.with_watchers.ensures.gated _
+    (gated_more c.loop-number.crew.items _ _ c.push_reserved-2.ensures.items (λ k. k.gate) c.args.common.gate c.loop-number.invariant.gated c.new-2.ensures.gate)

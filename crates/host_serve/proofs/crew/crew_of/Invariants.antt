@@ -1,6 +1,6 @@
 use Rattle.std.proofs.Common.{◌≡◌, ◌≤◌, ◌+◌, length, map, vec_len, vec_capacity}
 use mathlib.Core.List.{IsPrefix}
-use Rattle.host_serve.specs.Crews.{AreReady, IsCrew, IsFirst}
+use Rattle.host_serve.specs.Crews.{AreGated, AreReady, IsCrew, IsFirst}
 use Rattle.host_serve.specs.Turns.{FitsBooks, gated}
 use Rattle.host_serve.proofs.crew.crew_of.Given as goal
 
@@ -10,6 +10,7 @@ invariant-loop-number g l = record {
   first : IsFirst l.opened.books (length l.crew.items) l.opened.first;
   crew : IsCrew FitsBooks l.opened.books l.crew.items;
   ready : AreReady l.crew.items (λ s. s.share.amount) (gated g.C.Clock.told) (record { cat = l.common.cat.now; said = l.common.said; ticker = l.ticker; clocks = map g.C.Clock.told l.fn.means.clocks.items });
+  gated : AreGated l.crew.items (λ k. k.gate) l.common.gate;
   parts : l.share.parts + l._number ≡ l.common.said.workers;
   nothing : l.share.amount ≡ 0;
   count : length l.crew.items ≡ l._number;

@@ -2,7 +2,7 @@ use Rattle.std.proofs.Common.{◌≡◌, ◌∙◌, ◌+◌, ◌++◌, ◌∷◌
 use Rattle.std.proofs.lemmas.List.{length-append}
 use Rattle.host_serve.specs.Crews.{IsCrew, IsFirst}
 use Rattle.host_serve.specs.Turns.{FitsBooks, gated}
-use Rattle.host_serve.proofs.Crewing.{joined, parted_first, parted_desk, parted_empty, ready_more}
+use Rattle.host_serve.proofs.Crewing.{gated_more, joined, parted_first, parted_desk, parted_empty, ready_more}
 use Rattle.host_serve.proofs.crew.with_watchers.Goals as goal
 
 pub loop-watcher-preserved : goal.loop-watcher-preserved
@@ -31,6 +31,7 @@ loop-watcher-preserved g c =
         unserved = search;
         none = parted_empty n c.part.new.desk c.part.result (part.parted ∙ ap (λ (k : ℕ). k + 1) inv.first.parted) part.new.0 part.new.1;
       });
+      gated = λ gate are. gated_more crew _ _ items (λ k. k.gate) gate (inv.gated gate are) tt;
       grown = omega (arith, many, inv.grown);
       count = omega (arith, many, popped, inv.count);
       room = omega (arith, many, popped, inv.room, c.push_reserved.ensures.capacity);

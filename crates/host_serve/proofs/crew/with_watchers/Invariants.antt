@@ -1,5 +1,5 @@
 use Rattle.std.proofs.Common.{◌≡◌, ◌≤◌, ◌<◌, ◌+◌, length, vec_capacity}
-use Rattle.host_serve.specs.Crews.{AreReady, Filling, IsCrew, IsFirst}
+use Rattle.host_serve.specs.Crews.{AreGated, AreReady, Filling, IsCrew, IsFirst}
 use Rattle.host_serve.specs.Turns.{FitsBooks, gated}
 use Rattle.host_serve.proofs.crew.with_watchers.Given as goal
 
@@ -10,6 +10,7 @@ invariant-loop-watcher g l = record {
   ready : (with_these : Filling g.row.T.Denot) → with_these.said.workers < length l.fn.crew.items
       → AreReady l.fn.crew.items (λ s. s.share.amount) (gated g.C.Clock.told) with_these
       → AreReady l.crew.items (λ s. s.share.amount) (gated g.C.Clock.told) with_these;
+  gated : (gate : _) → AreGated l.fn.crew.items (λ k. k.gate) gate → AreGated l.crew.items (λ k. k.gate) gate;
   grown : length l.fn.crew.items ≤ length l.crew.items;
   count : length l.crew.items + length l.watchers.items ≡ length l.fn.crew.items + length l.fn.watchers.items;
   room : length l.crew.items + length l.watchers.items ≤ vec_capacity l.crew;

@@ -1,11 +1,10 @@
-use Rattle.std.proofs.Common.{◌≡◌, ◌∙◌, ℕ, List, Option, None, Some, map, ap, refl, subst, sym, arith}
+use Rattle.std.proofs.Common.{◌≡◌, ◌∙◌, ℕ, List, Option, None, Some, ap, refl, subst, sym, arith}
 use Rattle.std.specs.Prelude.{MatchOption}
 use Rattle.host_words.specs.Options.{words_texts}
 use Rattle.host_words.specs.Said.{said_in}
 use Rattle.host_serve.specs.Kept.{EndsAlone, EndsKept, IsNotSaid, Scene, WritesKept}
-use Rattle.host_serve.specs.Serve.{IsNoServe, Left}
+use Rattle.host_serve.specs.Serve.{IsNoServe, Left, heard, left_of}
 use Rattle.host_serve.specs.Telling.{Noting}
-use Rattle.host_serve.specs.Turns.{Asks, HandedBy}
 use Rattle.host_serve.specs.declared.end.KeptOutcome.{KeptOutcome}
 use Rattle.host_serve.specs.declared.end.ServeOutcome.TheVariants.{NoMemory, Refused}
 use Rattle.host_serve.proofs.Alone.{chosen, ended_alone, match_so, match_to, maybe, never_kept, never_refused, refused_said, unnamed, unread, unserved, was_refused}
@@ -18,18 +17,9 @@ a_name (Some name) not = (name, refl)
 
 pub returns-clause-ended : goal.returns-clause-ended
 returns-clause-ended g c =
-    let run = c.serve_said-outcome in
-    let left : Left = record {
-      faults_before = g.L.Listener.faults c.args.devices.listener;
-      before = g.L.Listener.told c.args.devices.listener;
-      clocks = map g.C.Clock.told c.args.devices.clocks.items;
-      asks = Asks g.T.Ticker.ticked c.args.devices.ticker;
-      hands = HandedBy g.L.Listener.becomes g.L.Listener.hands c.args.devices.listener;
-      faults_after = g.L.Listener.faults c.serve_said-outcome.result.listener;
-      after = g.L.Listener.told c.serve_said-outcome.result.listener;
-      watchers = 0;
-      wall = c.serve_said-outcome.result.wall;
-    } in
+    let run = c.serve-outcome in
+    let hear = heard g.L.Listener.told g.L.Listener.faults g.L.Listener.becomes g.L.Listener.hands in
+    let left : Left = left_of hear g.C.Clock.told g.T.Ticker.ticked c.args.devices c.serve-outcome.result.listener c.serve-outcome.result.wall in
     let said = said_in c.in-Ok.said in
     let is = c.in-Ok.ensures.ok in
     let did = c.end_run-status.ensures in
@@ -78,18 +68,9 @@ returns-clause-ended g c =
 
 pub returns-clause-words : goal.returns-clause-words
 returns-clause-words g c two =
-    let run = c.serve_said-outcome in
-    let left : Left = record {
-      faults_before = g.L.Listener.faults c.args.devices.listener;
-      before = g.L.Listener.told c.args.devices.listener;
-      clocks = map g.C.Clock.told c.args.devices.clocks.items;
-      asks = Asks g.T.Ticker.ticked c.args.devices.ticker;
-      hands = HandedBy g.L.Listener.becomes g.L.Listener.hands c.args.devices.listener;
-      faults_after = g.L.Listener.faults c.serve_said-outcome.result.listener;
-      after = g.L.Listener.told c.serve_said-outcome.result.listener;
-      watchers = 0;
-      wall = c.serve_said-outcome.result.wall;
-    } in
+    let run = c.serve-outcome in
+    let hear = heard g.L.Listener.told g.L.Listener.faults g.L.Listener.becomes g.L.Listener.hands in
+    let left : Left = left_of hear g.C.Clock.told g.T.Ticker.ticked c.args.devices c.serve-outcome.result.listener c.serve-outcome.result.wall in
     let said = said_in c.in-Ok.said in
     let is = c.in-Ok.ensures.ok in
     let did = c.end_run-status.ensures in
@@ -103,18 +84,9 @@ returns-clause-words g c two =
 
 pub returns-clause-refused_wall : goal.returns-clause-refused_wall
 returns-clause-refused_wall g c two =
-    let run = c.serve_said-outcome in
-    let left : Left = record {
-      faults_before = g.L.Listener.faults c.args.devices.listener;
-      before = g.L.Listener.told c.args.devices.listener;
-      clocks = map g.C.Clock.told c.args.devices.clocks.items;
-      asks = Asks g.T.Ticker.ticked c.args.devices.ticker;
-      hands = HandedBy g.L.Listener.becomes g.L.Listener.hands c.args.devices.listener;
-      faults_after = g.L.Listener.faults c.serve_said-outcome.result.listener;
-      after = g.L.Listener.told c.serve_said-outcome.result.listener;
-      watchers = 0;
-      wall = c.serve_said-outcome.result.wall;
-    } in
+    let run = c.serve-outcome in
+    let hear = heard g.L.Listener.told g.L.Listener.faults g.L.Listener.becomes g.L.Listener.hands in
+    let left : Left = left_of hear g.C.Clock.told g.T.Ticker.ticked c.args.devices c.serve-outcome.result.listener c.serve-outcome.result.wall in
     let said = said_in c.in-Ok.said in
     let is = c.in-Ok.ensures.ok in
     let did = c.end_run-status.ensures in
@@ -127,18 +99,9 @@ returns-clause-refused_wall g c two =
 
 pub returns-clause-nothing_fetched : goal.returns-clause-nothing_fetched
 returns-clause-nothing_fetched g c two =
-    let run = c.serve_said-outcome in
-    let left : Left = record {
-      faults_before = g.L.Listener.faults c.args.devices.listener;
-      before = g.L.Listener.told c.args.devices.listener;
-      clocks = map g.C.Clock.told c.args.devices.clocks.items;
-      asks = Asks g.T.Ticker.ticked c.args.devices.ticker;
-      hands = HandedBy g.L.Listener.becomes g.L.Listener.hands c.args.devices.listener;
-      faults_after = g.L.Listener.faults c.serve_said-outcome.result.listener;
-      after = g.L.Listener.told c.serve_said-outcome.result.listener;
-      watchers = 0;
-      wall = c.serve_said-outcome.result.wall;
-    } in
+    let run = c.serve-outcome in
+    let hear = heard g.L.Listener.told g.L.Listener.faults g.L.Listener.becomes g.L.Listener.hands in
+    let left : Left = left_of hear g.C.Clock.told g.T.Ticker.ticked c.args.devices c.serve-outcome.result.listener c.serve-outcome.result.wall in
     let said = said_in c.in-Ok.said in
     let is = c.in-Ok.ensures.ok in
     let did = c.end_run-status.ensures in
@@ -151,18 +114,9 @@ returns-clause-nothing_fetched g c two =
 
 pub returns-clause-nothing_heard : goal.returns-clause-nothing_heard
 returns-clause-nothing_heard g c two =
-    let run = c.serve_said-outcome in
-    let left : Left = record {
-      faults_before = g.L.Listener.faults c.args.devices.listener;
-      before = g.L.Listener.told c.args.devices.listener;
-      clocks = map g.C.Clock.told c.args.devices.clocks.items;
-      asks = Asks g.T.Ticker.ticked c.args.devices.ticker;
-      hands = HandedBy g.L.Listener.becomes g.L.Listener.hands c.args.devices.listener;
-      faults_after = g.L.Listener.faults c.serve_said-outcome.result.listener;
-      after = g.L.Listener.told c.serve_said-outcome.result.listener;
-      watchers = 0;
-      wall = c.serve_said-outcome.result.wall;
-    } in
+    let run = c.serve-outcome in
+    let hear = heard g.L.Listener.told g.L.Listener.faults g.L.Listener.becomes g.L.Listener.hands in
+    let left : Left = left_of hear g.C.Clock.told g.T.Ticker.ticked c.args.devices c.serve-outcome.result.listener c.serve-outcome.result.wall in
     let said = said_in c.in-Ok.said in
     let is = c.in-Ok.ensures.ok in
     let did = c.end_run-status.ensures in
@@ -175,17 +129,8 @@ returns-clause-nothing_heard g c two =
 
 pub returns-in-Err-NoMemory-clause-ended : goal.returns-in-Err-NoMemory-clause-ended
 returns-in-Err-NoMemory-clause-ended g c =
-    let left : Left = record {
-      faults_before = g.L.Listener.faults c.args.devices.listener;
-      before = g.L.Listener.told c.args.devices.listener;
-      clocks = map g.C.Clock.told c.args.devices.clocks.items;
-      asks = Asks g.T.Ticker.ticked c.args.devices.ticker;
-      hands = HandedBy g.L.Listener.becomes g.L.Listener.hands c.args.devices.listener;
-      faults_after = g.L.Listener.faults c.end_unread.result.listener;
-      after = g.L.Listener.told c.end_unread.result.listener;
-      watchers = 0;
-      wall = c.end_unread.result.wall;
-    } in
+    let hear = heard g.L.Listener.told g.L.Listener.faults g.L.Listener.becomes g.L.Listener.hands in
+    let left : Left = left_of hear g.C.Clock.told g.T.Ticker.ticked c.args.devices c.end_unread.result.listener c.end_unread.result.wall in
     let notes : Noting = record {
       before = g.E.Sink.told c.args.notes.now;
       failed = g.E.Sink.faults c.args.notes.now;
@@ -213,17 +158,8 @@ returns-in-Err-NoMemory-clause-words g c two = (let is = c.end_unread.ensures.st
 
 pub returns-in-Err-Refused-clause-ended : goal.returns-in-Err-Refused-clause-ended
 returns-in-Err-Refused-clause-ended g c =
-    let left : Left = record {
-      faults_before = g.L.Listener.faults c.args.devices.listener;
-      before = g.L.Listener.told c.args.devices.listener;
-      clocks = map g.C.Clock.told c.args.devices.clocks.items;
-      asks = Asks g.T.Ticker.ticked c.args.devices.ticker;
-      hands = HandedBy g.L.Listener.becomes g.L.Listener.hands c.args.devices.listener;
-      faults_after = g.L.Listener.faults c.end_unread-in-Err-Refused.result.listener;
-      after = g.L.Listener.told c.end_unread-in-Err-Refused.result.listener;
-      watchers = 0;
-      wall = c.end_unread-in-Err-Refused.result.wall;
-    } in
+    let hear = heard g.L.Listener.told g.L.Listener.faults g.L.Listener.becomes g.L.Listener.hands in
+    let left : Left = left_of hear g.C.Clock.told g.T.Ticker.ticked c.args.devices c.end_unread-in-Err-Refused.result.listener c.end_unread-in-Err-Refused.result.wall in
     let notes : Noting = record {
       before = g.E.Sink.told c.args.notes.now;
       failed = g.E.Sink.faults c.args.notes.now;

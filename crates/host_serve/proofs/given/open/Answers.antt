@@ -3,7 +3,7 @@ use Rattle.std.proofs.lemmas.Result.{IfOk-weaker}
 use Rattle.history_model.specs.Booking.{Layout}
 use Rattle.history_model.specs.declared.entry.Entry.{Entry}
 use Rattle.host_serve.specs.Crews.{OnlyMet}
-use Rattle.host_serve.proofs.kept.open.Goals as goal
+use Rattle.host_serve.proofs.given.open.Goals as goal
 
 pub returns-clause-books : goal.returns-clause-books
 returns-clause-books g c = IfOk-weaker c.load_books.result _ _ (λ t x. (x.0, x.1, x.2.layout)) c.load_books.ensures.ok
