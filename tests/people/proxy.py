@@ -1,6 +1,6 @@
 #!/usr/bin/env python3
 """Runs examples/nginx.conf before a host, with other ports: pools by key, what is kept open while idle, the log,
-the page, and a proxy that is closed while the host is started again.
+the page, the host's health, and a proxy that is closed while the host is started again.
 
   tests/people/proxy.py PROGRAM
 
@@ -49,8 +49,9 @@ def listens(port):
 
 class Proxy:
     def __init__(self, program, folder, workers=WORKERS):
-        self.folder, self.port, self.host_port = folder, free_port(), free_port()
+        self.folder, self.port, self.host_port, self.window_port = folder, free_port(), free_port(), free_port()
         text = (ROOT / "examples" / "nginx.conf").read_text().replace("8443", str(self.port)).replace("127.0.0.1:8080", "127.0.0.1:%d" % self.host_port)
+        text = text.replace("127.0.0.1:8081", "127.0.0.1:%d" % self.window_port)
         (folder / "nginx.conf").write_text(text)
         # The workers of an nginx that root has started are another user's, and have to reach the page.
         folder.chmod(0o755)
@@ -63,7 +64,8 @@ class Proxy:
         trains = json.loads(catalogue.read_bytes())
         del trains["retailers"]
         (folder / "for_retailers.json").write_text(json.dumps(trains))
-        self.host = subprocess.Popen([str(program), "serve", str(catalogue), "--port", str(self.host_port), "--workers", str(workers)], stdin=subprocess.DEVNULL)
+        words = ["serve", str(catalogue), "--port", str(self.host_port), "--workers", str(workers), "--window", str(self.window_port)]
+        self.host = subprocess.Popen([str(program), *words], stdin=subprocess.DEVNULL)
         try:
             assert until(lambda: listens(self.host_port)), "the host doesn't listen"
             self.nginx("-t")
@@ -136,6 +138,10 @@ def faults_of(proxy):
     status, trains = proxy.ask("", path="/for_retailers.json")
     if status != 200 or len(json.loads(trains)["runs"]) != 288 or b"north" in trains:
         yield "the trains are answered %d" % status
+    if proxy.ask("", path="/healthz") != (200, b"ok\n"):
+        yield "the health is answered %s %s" % proxy.ask("", path="/healthz")
+    if proxy.ask("north", path="/metrics")[0] != 404:
+        yield "the counts are handed on"
     if proxy.ask("north", "HEAD")[0] != 405:
         yield "HEAD is not refused"
     lines = (proxy.folder / "access.log").read_text().splitlines()
@@ -181,7 +187,7 @@ def main():
             proxy.close()
     for fault in found:
         print("proxy: " + fault)
-    print("proxy: %d keys, 240 requests at once, idle connections, the log, the page, the trains, and closed for a restart: %d wrong" % (len(KEYS), len(found)))
+    print("proxy: %d keys, 240 requests at once, idle connections, the log, the page, the trains, the health, and closed for a restart: %d wrong" % (len(KEYS), len(found)))
     return 1 if found else 0
 
 

@@ -20,7 +20,8 @@ import time
 
 EXAMPLE = os.path.join(os.path.dirname(__file__), "..", "..", "examples", "k1.json")
 SECONDS = 60
-SAMPLE = re.compile(r'^(\w+)(?:\{(\w+)="([^"]*)"\})? (\d+)$')
+SAMPLE = re.compile(r'^(\w+)(?:\{((?:\w+="[^"]*",?)+)\})? (\d+)(e-9)?$')
+LABEL = re.compile(r'\w+="([^"]*)"')
 PROBLEM = re.compile(rb'^\{"code":"(\w+)"')
 
 
@@ -80,15 +81,19 @@ def request(method: str, path: str, fields: dict = None, key: str = "north", las
 
 
 WISH = {"class": "SECOND", "from": "BERN", "run": 1, "to": "THUN", "wanted": []}
+
+# Requests, each with its route, where it has one, and whether it is carried out: it isn't, where its key or its body is refused.
+Asked = collections.namedtuple("Asked", "text route done")
 LOAD = [
-    request("POST", "/reservations", WISH),
-    request("GET", "/nowhere"),
-    request("PUT", "/offers"),
-    request("POST", "/offers", {"adults": 0}),
-    request("GET", "/bookings/none"),
-    request("POST", "/reservations", WISH, key="nobody"),
-    request("GET", "/runs/1/places/BERN/THUN"),
+    Asked(request("POST", "/reservations", WISH), "reserve", True),
+    Asked(request("GET", "/nowhere"), None, False),
+    Asked(request("PUT", "/offers"), None, False),
+    Asked(request("POST", "/offers", {"adults": 0}), "offers", False),
+    Asked(request("GET", "/bookings/none"), "show", True),
+    Asked(request("POST", "/reservations", WISH, key="nobody"), "reserve", False),
+    Asked(request("GET", "/runs/1/places/BERN/THUN"), "places", True),
 ]
+LAST = Asked(request("GET", "/bookings/none", last=True), "show", True)
 
 
 class Tally:
@@ -97,16 +102,20 @@ class Tally:
     def __init__(self):
         self.lock = threading.Lock()
         self.statuses, self.codes, self.ends = collections.Counter(), collections.Counter(), collections.Counter()
+        self.routes, self.done = collections.Counter(), collections.Counter()
         self.sent = self.received = self.connections = 0
 
-    def add(self, status: int, head: bytes, body: bytes, asked: bytes) -> None:
+    def add(self, status: int, head: bytes, body: bytes, asked: Asked) -> None:
         code = PROBLEM.match(body)
         with self.lock:
             self.statuses[str(status)] += 1
-            self.sent += len(asked)
+            self.sent += len(asked.text)
             self.received += len(head) + len(body)
             if status >= 400:
                 self.codes[code.group(1).decode()] += 1
+            if asked.route:
+                self.routes[asked.route] += 1
+                self.done[asked.route] += asked.done
 
     def end(self, cause: str) -> None:
         with self.lock:
@@ -116,16 +125,15 @@ class Tally:
 
 def talk(port: int, number: int, rounds: int, tally: Tally) -> None:
     """One connection: requests one by one and several at once, and an end by the client or by the host."""
-    last = request("GET", "/bookings/none", last=True)
     with connect(port) as link, link.makefile("rb") as stream:
         for turn in range(rounds):
             ahead = LOAD if turn % 2 else [LOAD[(number + turn) % len(LOAD)]]
-            link.sendall(b"".join(ahead))
+            link.sendall(b"".join(asked.text for asked in ahead))
             for asked in ahead:
                 tally.add(*answer_from(stream), asked)
         if number % 2:
-            link.sendall(last)
-            tally.add(*answer_from(stream), last)
+            link.sendall(LAST.text)
+            tally.add(*answer_from(stream), LAST)
             expect(stream.read() == b"", "bytes after the last answer")
         else:
             link.shutdown(socket.SHUT_WR)
@@ -163,7 +171,8 @@ def scraped(port: int) -> tuple:
         if not line.startswith("#"):
             found = SAMPLE.match(line)
             expect(found, f"no sample: {line}")
-            numbers[found.group(1) if found.group(3) is None else (found.group(1), found.group(3))] = int(found.group(4))
+            key = found.group(1) if found.group(2) is None else (found.group(1), *LABEL.findall(found.group(2)))
+            numbers[key] = int(found.group(3)) * (1e-9 if found.group(4) else 1)
     return text, numbers
 
 
@@ -190,13 +199,23 @@ def table(numbers: dict, name: str) -> dict:
 
 
 def compare(numbers: dict, tally: Tally) -> None:
-    for name, here in (("answers", tally.statuses), ("problems", tally.codes), ("connections_ended", tally.ends)):
+    for name, here in (("answers", tally.statuses), ("problems", tally.codes), ("connections_ended", tally.ends), ("requests", tally.routes)):
         there = table(numbers, f"sumacgate_{name}_total")
         expect(there == dict(here), f"{name}: the host counted {there}, the clients {dict(here)}")
     for name, here in (("connections_total", tally.connections), ("received_bytes_total", tally.sent), ("sent_bytes_total", tally.received),
-                       ("workers_busy", 0), ("workers", 4), ("healthy", 1), ("write_failures_total", 0), ("journal_lost", 0)):
+                       ("workers_busy", 0), ("workers", 4), ("healthy", 1), ("write_failures_total", 0), ("journal_write_start_seconds", 0), ("journal_lost", 0)):
         there = numbers["sumacgate_" + name]
         expect(there == here, f"{name}: the host counted {there}, the clients {here}")
+
+
+def compare_times(numbers: dict, tally: Tally, seconds: float) -> None:
+    """Each route's times: as many as were carried out, in buckets that only grow, and together no longer than the load took its workers."""
+    for route in {key[1] for key in numbers if key[0] == "sumacgate_answer_seconds_count"}:
+        count, spent = (numbers["sumacgate_answer_seconds_" + name, route] for name in ("count", "sum"))
+        within = [value for key, value in numbers.items() if key[:2] == ("sumacgate_answer_seconds_bucket", route)]
+        expect(count == tally.done[route], f"{route}: the host carried out {count}, the clients were told of {tally.done[route]}")
+        expect(within == sorted(within) and len(within) == 15 and within[-1] == count, f"{route}: buckets {within}")
+        expect((spent > 0) == (count > 0) and spent < 4 * seconds, f"{route}: {count} requests took {spent} s")
 
 
 def wait_well(port: int) -> None:
@@ -245,9 +264,11 @@ def try_host(program: str, port: int, clients: int, rounds: int, folder: str) ->
     host = subprocess.Popen([program, *words], stderr=subprocess.PIPE)
     try:
         check_pages(window)
+        begun = time.monotonic()
         tally = run_load(port, clients, rounds)
         text, numbers = settled(window, clients)
         compare(numbers, tally)
+        compare_times(numbers, tally, time.monotonic() - begun)
         said = check_text(text)
         check_slow(port, window)
         expect(numbers["sumacgate_journal_cuts_total"] > 0, "no cut of the journal is counted")

@@ -1,5 +1,6 @@
 //! What is counted of a host while it runs.
 use crate::labels::{CAUSES, CODES, Cause, STATUSES, number_of_code, number_of_status};
+use crate::routes::{RouteCounts, buckets_of, requests_of, times_of};
 use crate::tallies::{Tallies, Tally};
 use std::alloc::{AllocError, Global};
 use std::sync::atomic::{AtomicU64, Ordering};
@@ -39,6 +40,7 @@ pub enum Health {
 #[derive(Drop)]
 pub struct Counters {
     sets: Vec<StreamCounts>,
+    clocks: Vec<RouteCounts>,
     taken: Tally,
     sweeps: Tally,
     cuts: Tally,
@@ -47,6 +49,8 @@ pub struct Counters {
     workers: u32,
     /// How the listener does: the number of a `Health`.
     door: AtomicU64,
+    /// When the write of the journal began that is under way, in seconds since 1970; 0 where none is.
+    writing: AtomicU64,
     /// 1 once the journal is lost.
     lost: AtomicU64,
     /// 1 once the host is over.
@@ -82,14 +86,14 @@ impl StreamCounts {
 
     /// The connection was ended so.
     pub(crate) fn note_end(&self, cause: Cause) {
-        self.ended.add(cause.number());
+        self.ended.add(cause.number(), 1);
     }
 
     /// An answer of this status has begun to be written, with this body.
     pub(crate) fn note_answer(&self, status: u16, body: &[u8]) {
-        self.answers.add(number_of_status(status));
+        self.answers.add(number_of_status(status), 1);
         if status >= 400 {
-            self.problems.add(number_of_code(body));
+            self.problems.add(number_of_code(body), 1);
         }
     }
 }
@@ -145,15 +149,30 @@ fn sum_of(sets: &[StreamCounts], pick: Picks, number: usize) -> u64 {
     sum
 }
 
+// A set of counts for each connection that there may be at once.
+fn stream_sets(alloc: Global) -> Result<Vec<StreamCounts>, AllocError> {
+    let mut sets = Vec::new(alloc);
+    for _set in 0..SETS {
+        sets.push(StreamCounts::new(alloc)?)?;
+    }
+    Ok(sets)
+}
+
+// And one for each clock.
+fn clock_sets(alloc: Global) -> Result<Vec<RouteCounts>, AllocError> {
+    let mut sets = Vec::new(alloc);
+    for _set in 0..SETS {
+        sets.push(RouteCounts::new(alloc)?)?;
+    }
+    Ok(sets)
+}
+
 impl Counters {
     /// Nothing counted yet, of a host with that many workers.
     pub fn new(alloc: Global, workers: u32) -> Result<Counters, AllocError> {
-        let mut sets = Vec::new(alloc);
-        for _set in 0..SETS {
-            sets.push(StreamCounts::new(alloc)?)?;
-        }
         Ok(Counters {
-            sets,
+            sets: stream_sets(alloc)?,
+            clocks: clock_sets(alloc)?,
             taken: Tally::new(),
             sweeps: Tally::new(),
             cuts: Tally::new(),
@@ -161,6 +180,7 @@ impl Counters {
             rewrites: Tally::new(),
             workers,
             door: AtomicU64::new(0),
+            writing: AtomicU64::new(0),
             lost: AtomicU64::new(0),
             over: AtomicU64::new(0),
         })
@@ -173,6 +193,11 @@ impl Counters {
         self.sets.get(number)
     }
 
+    /// What is counted of the requests that the clock of this number hears of, and maybe others.
+    pub fn route_counts(&self, number: usize) -> Option<&RouteCounts> {
+        self.clocks.get(number % SETS)
+    }
+
     /// The listener does so now.
     pub fn note_door(&self, health: Health) {
         self.door.store(health.number(), Ordering::SeqCst);
@@ -181,6 +206,11 @@ impl Counters {
     /// A sweep was due.
     pub(crate) fn note_sweep(&self) {
         self.sweeps.add(1);
+    }
+
+    /// A write of the journal begins in this second since 1970, or, at 0, none is under way any more.
+    pub(crate) fn note_writing(&self, since: u64) {
+        self.writing.store(since, Ordering::SeqCst);
     }
 
     /// So many bytes were added to the journal, and are kept.
@@ -227,6 +257,7 @@ impl Counters {
         let health = self.health();
         let ended = table_of(alloc, &self.sets, &CAUSES, Picks::Ended)?;
         let taken = self.taken.read();
+        let buckets = buckets_of(alloc, &self.clocks)?;
         Ok(Counts {
             healthy: u64::from(health == Health::Well),
             workers: u64::from(self.workers),
@@ -238,10 +269,14 @@ impl Counters {
             sent: self.sum(Picks::Sent),
             answers: table_of(alloc, &self.sets, &STATUSES, Picks::Answers)?,
             problems: table_of(alloc, &self.sets, &CODES, Picks::Problems)?,
+            requests: requests_of(alloc, &self.clocks)?,
+            times: times_of(alloc, &self.clocks, &buckets)?,
+            buckets,
             sweeps: self.sweeps.read(),
             cuts: self.cuts.read(),
             kept: self.kept.read(),
             rewrites: self.rewrites.read(),
+            writing: self.writing.load(Ordering::SeqCst),
             lost: u64::from(health == Health::Lost),
         })
     }

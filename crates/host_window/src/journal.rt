@@ -1,16 +1,44 @@
 //! A journal whose cuts are counted.
+
 use crate::counters::Counters;
 use rail_io::{Journal, JournalOpened};
 use std::alloc::Global;
+use std::time;
 
-/// Keeps as its journal does, and counts what is kept, where there are counts.
+/// Keeps as its journal does. Where there are counts, it counts what is kept, and says when a write has begun.
 #[derive(Drop)]
-pub struct CountingJournal<'c, J> {
+pub struct CountingJournal<'c, J, N> {
     pub journal: J,
     pub counters: Option<&'c Counters>,
+    pub time: N,
 }
 
-impl<J: Journal> Journal for CountingJournal<'_, J> {
+impl<J, N: time::Clock> CountingJournal<'_, J, N> {
+    // A write begins.
+    fn note_begin(&self) {
+        let Some(counters) = self.counters else {
+            return;
+        };
+        if let Ok(since) = self.time.since_1970() {
+            counters.note_writing(since.as_secs());
+        }
+    }
+
+    // It has ended, and that many bytes are kept, of the whole journal or of a piece; or the journal is lost.
+    fn note_end(&self, kept: bool, whole: bool, bytes: usize) {
+        let Some(counters) = self.counters else {
+            return;
+        };
+        counters.note_writing(0);
+        match (kept, whole) {
+            (false, _) => counters.note_lost(),
+            (true, true) => counters.note_rewrite(bytes),
+            (true, false) => counters.note_cut(bytes),
+        }
+    }
+}
+
+impl<J: Journal, N: time::Clock> Journal for CountingJournal<'_, J, N> {
     ghost told = { λ j. J.told j.journal };
 
     ghost faults = { λ j. J.faults j.journal };
@@ -24,26 +52,16 @@ impl<J: Journal> Journal for CountingJournal<'_, J> {
     }
 
     fn replace(&mut self, text: &[u8]) -> bool {
+        self.note_begin();
         let kept = self.journal.replace(text);
-        if let Some(counters) = self.counters {
-            if kept {
-                counters.note_rewrite(text.len());
-            } else {
-                counters.note_lost();
-            }
-        }
+        self.note_end(kept, true, text.len());
         kept
     }
 
     fn append(&mut self, piece: &[u8]) -> bool {
+        self.note_begin();
         let kept = self.journal.append(piece);
-        if let Some(counters) = self.counters {
-            if kept {
-                counters.note_cut(piece.len());
-            } else {
-                counters.note_lost();
-            }
-        }
+        self.note_end(kept, false, piece.len());
         kept
     }
 }

@@ -40,8 +40,19 @@ pub(crate) const STATUSES: [&[u8]; 16] = [
     b"{status=\"other\"}",
 ];
 
-/// The labels of codes of problems, and last that of all others, of which there are none.
+/// The labels of codes of problems, and last that of all others, of which there are none. They are looked through in this
+/// order, so those come first that a right request may meet.
 pub(crate) const CODES: [&[u8]; 24] = [
+    b"{code=\"NoPlace\"}",
+    b"{code=\"RowsFull\"}",
+    b"{code=\"TooLate\"}",
+    b"{code=\"UnknownBooking\"}",
+    b"{code=\"UnknownOffer\"}",
+    b"{code=\"OfferTooOld\"}",
+    b"{code=\"QuoteWrong\"}",
+    b"{code=\"WrongState\"}",
+    b"{code=\"Contended\"}",
+    b"{code=\"NoMemory\"}",
     b"{code=\"BadHead\"}",
     b"{code=\"HeadTooLarge\"}",
     b"{code=\"BodyTooLarge\"}",
@@ -55,16 +66,6 @@ pub(crate) const CODES: [&[u8]; 24] = [
     b"{code=\"NotJson\"}",
     b"{code=\"BadField\"}",
     b"{code=\"UnknownStation\"}",
-    b"{code=\"UnknownOffer\"}",
-    b"{code=\"OfferTooOld\"}",
-    b"{code=\"UnknownBooking\"}",
-    b"{code=\"QuoteWrong\"}",
-    b"{code=\"WrongState\"}",
-    b"{code=\"TooLate\"}",
-    b"{code=\"RowsFull\"}",
-    b"{code=\"NoPlace\"}",
-    b"{code=\"Contended\"}",
-    b"{code=\"NoMemory\"}",
     b"{code=\"other\"}",
 ];
 

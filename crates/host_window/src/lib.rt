@@ -2,6 +2,7 @@
 #![tactic(auto)]
 
 mod callers;
+mod clock;
 mod counters;
 mod crossing;
 mod heads;
@@ -9,6 +10,7 @@ mod journal;
 mod labels;
 mod pages;
 mod reply;
+mod routes;
 mod sink;
 mod source;
 mod tallies;
@@ -17,10 +19,12 @@ mod turn;
 mod words;
 
 pub use callers::{Callers, show_all, show_pages};
+pub use clock::CountingClock;
 pub use counters::{Counters, Health, StreamCounts};
 pub use crossing::crosses;
 pub use journal::CountingJournal;
 pub use pages::Pages;
+pub use routes::RouteCounts;
 pub use sink::CountingSink;
 pub use source::CountingSource;
 pub use ticker::CountingTicker;

@@ -29,8 +29,8 @@ impl<'c, K: Sink> CountingSink<'c, K> {
         }
     }
 
-    // Counts what a write of two pieces came to, of which so many bytes were taken: these bytes, and the answer where
-    // they are its first. Of these the first piece is the head.
+    // Counts what a write of two pieces came to, of which that many bytes were taken: these bytes, and the answer where
+    // they are its first. The first piece is the head then.
     #[inline(always)]
     fn note(&mut self, counts: &StreamCounts, first: &[u8], second: &[u8], taken: usize)
         ensures same { self.new.sink ≡ self.old.sink }

@@ -44,10 +44,10 @@ impl Tallies {
         Ok(Tallies { counts })
     }
 
-    /// One more with the label of this number, where there is one.
-    pub(crate) fn add(&self, label: usize) {
+    /// So many more with the label of this number, where there is one.
+    pub(crate) fn add(&self, label: usize, more: u64) {
         if let Some(count) = self.counts.get(label) {
-            count.add(1);
+            count.add(more);
         }
     }
 

@@ -16,7 +16,7 @@ impl Turn {
         Turn { left: 0 }
     }
 
-    /// Of a write of that many bytes, which were all that was left of an answer or all of a new one, so many were taken:
+    /// Some bytes were taken of a write of that many, which were all that was left of an answer or all of a new one:
     /// whether they are the first of a new one.
     #[inline(always)]
     pub(crate) fn begins(&mut self, size: usize, taken: usize) -> bool

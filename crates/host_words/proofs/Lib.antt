@@ -5,3 +5,4 @@ pub mod ServeRows
 pub mod Drilling
 pub mod Three
 pub mod WindowRows
+pub mod AddressRows

@@ -6,10 +6,11 @@ use Rattle.host_words.specs.Limits.{most_connections, most_port, most_seconds, m
 use Rattle.host_words.specs.Options.{flag_rule, is_set, option_rule, numbered, required, with_default}
 use Rattle.host_words.specs.Options.{matched, number_of}
 
--- `serve CATALOGUE --port N --workers N --connections N --sweep N --from EXPORT --journal JOURNAL --export --window N`
+-- `serve CATALOGUE --port N --workers N --connections N --sweep N --from EXPORT --journal JOURNAL --export --window N
+-- --address A`
 abbrev pub serve_app : App
 serve_app =
-    with_rule (with_rule (with_rule (with_rule (with_rule (with_rule (with_rule (with_rule (with_rule
+    with_rule (with_rule (with_rule (with_rule (with_rule (with_rule (with_rule (with_rule (with_rule (with_rule
     (new_app (codes "serve"))
     (required (new_rule (codes "catalogue"))))
     (required (numbered 1 most_port (option_rule (codes "port")))))
@@ -19,7 +20,8 @@ serve_app =
     (option_rule (codes "from")))
     (option_rule (codes "journal")))
     (flag_rule (codes "export")))
-    (numbered 1 most_port (option_rule (codes "window")))
+    (numbered 1 most_port (option_rule (codes "window"))))
+    (option_rule (codes "address"))
 
 -- what the words say
 pub record ServeView : Type 0 where

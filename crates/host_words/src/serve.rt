@@ -111,6 +111,13 @@ fn window_option<'a>(alloc: Global) -> Arg<'a>
         .value_parser(clap::value_parser!(u32).range(1..=65_535))
 }
 
+fn address_option<'a>(alloc: Global) -> Arg<'a>
+    ensures rule { rule_of result ≡ option_rule (codes "address") }
+    ensures local { result.global ≡ false }
+{
+    Arg::new(alloc, "address").long("address")
+}
+
 /// What `clap` takes as the words of `serve`.
 pub(crate) fn serve_command<'a>(alloc: Global) -> Result<Command<'a>, AllocError>
     ensures { IfOk result (λ command. app_of command ≡ serve_app) }
@@ -124,7 +131,8 @@ pub(crate) fn serve_command<'a>(alloc: Global) -> Result<Command<'a>, AllocError
         .arg(from_option(alloc))?
         .arg(journal_option(alloc))?
         .arg(export_option(alloc))?
-        .arg(window_option(alloc))
+        .arg(window_option(alloc))?
+        .arg(address_option(alloc))
 }
 
 fn numbers_in(matches: &ArgMatches<'_>) -> Option<Serving>

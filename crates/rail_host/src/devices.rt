@@ -1,5 +1,6 @@
 // What commands touch.
 use host_serve::Keeping;
+use host_window::Counters;
 
 /// The devices of a command.
 #[derive(Drop)]
@@ -23,4 +24,6 @@ pub struct ForServe<'g, L, T, J, B> {
     pub ticker: T,
     /// What keeps the bookings, where the words name a journal.
     pub keeping: Keeping<'g, J, B>,
+    /// What counts its requests, where there is a window.
+    pub counters: Option<&'g Counters>,
 }

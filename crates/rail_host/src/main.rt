@@ -8,6 +8,7 @@
 ghost use Rattle.std.specs.Prelude.{◌≡◌, IfOk, drop};
 ghost use Rattle.std.specs.Vec.Iter.{into_iter_items};
 
+mod asked;
 mod devices;
 mod exit;
 mod host;
@@ -16,6 +17,7 @@ mod serve;
 mod window;
 
 use answer_gate::{Cuts, GateKeeper};
+use asked::{Asked, asked_of};
 use devices::{Devices, ForServe};
 use exit::run_host;
 use host_io::{FileJournal, SleepTicker, TcpBell, TcpPort};
@@ -28,7 +30,7 @@ use std::io::ErrorKind;
 use std::process::ExitCode;
 use std::rt::Env;
 use std::{env, thread};
-use window::{Window, asked_window, counters_of, window_port};
+use window::{counters_of, window_port};
 
 /// The words after the first, which is the program's name. None of them is left out.
 fn words_after_name(alloc: Global, mut given: env::Args) -> Result<Vec<String>, AllocError>
@@ -51,23 +53,13 @@ fn given_words(rt: &(impl Env + AllocGlobal)) -> Result<Vec<String>, AllocError>
     }
 }
 
-/// The window that the words ask for, where there are words.
-fn window_of(
-    alloc: Global,
-    words: &Result<Vec<String>, AllocError>,
-) -> Result<Option<Window>, AllocError> {
-    match words {
-        Ok(words) => asked_window(alloc, words),
-        Err(_) => Ok(None),
-    }
-}
-
 fn main(rt: HostRuntime) -> ExitCode {
     let alloc = rt.alloc();
     let words = given_words(&rt);
     let mut notes = WriterSink::new(rt.stderr());
-    let Ok(window) = window_of(alloc, &words) else {
-        return ExitCode::from(end_command(&mut notes, &CommandEnd::NoMemory));
+    let Asked { address, window } = match asked_of(alloc, &words) {
+        Ok(asked) => asked,
+        Err(end) => return ExitCode::from(end_command(&mut notes, &end)),
     };
     thread::scope(thread::scope_env(), &rt, |scope| {
         if let Some(window) = &window {
@@ -88,9 +80,9 @@ fn main(rt: HostRuntime) -> ExitCode {
             notes,
         };
         let given = ForServe {
-            listener: TcpPort::new(&rt, alloc, GateKeeper::new(&cuts, &rt), counters),
+            listener: TcpPort::new(&rt, alloc, GateKeeper::new(&cuts, &rt), counters).at(address),
             ticker: CountingTicker {
-                ticker: SleepTicker::new(&rt),
+                ticker: SleepTicker::until_lost(&rt, GateKeeper::new(&cuts, &rt)),
                 counters,
             },
             keeping: Keeping {
@@ -98,9 +90,11 @@ fn main(rt: HostRuntime) -> ExitCode {
                 journal: CountingJournal {
                     journal: FileJournal::new(&rt, alloc),
                     counters,
+                    time: &rt,
                 },
-                bell: TcpBell::new(&rt),
+                bell: TcpBell::new(&rt).at(address),
             },
+            counters,
         };
         let exit = run_host(&rt, alloc, words, &mut devices, given);
         if let Some(window) = &window {

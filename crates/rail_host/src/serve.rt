@@ -10,6 +10,7 @@ ghost use Rattle.rail_host.specs.Commands.{EndsServing};
 use crate::devices::{Devices, ForServe};
 use host_notes::{CommandEnd, end_command};
 use host_serve::{CLOCKS, Devices as ServeDevices, ServeEnd, serve_kept};
+use host_window::{Counters, CountingClock};
 use rail_io::{Bell, Journal, Shelf, Sink, Source, SystemClock, Ticker};
 use rail_service::Listener;
 use std::alloc::{AllocError, Global};
@@ -17,16 +18,24 @@ use std::sync::Wait;
 use std::thread::Threads;
 use std::time;
 
-/// Clocks that read this one, as many as serving takes.
-fn system_clocks<C: time::Clock + Copy + Drop>(
+/// The clock by which a member serves: the system's, whose commands are counted.
+type ServeClock<'c, C> = CountingClock<'c, SystemClock<C>, C>;
+
+/// Clocks that read this one, as many as serving takes. Their commands are counted, where there are counters.
+fn system_clocks<'c, C: time::Clock + Copy + Drop>(
     clock: C,
     alloc: Global,
-) -> Result<Vec<SystemClock<C>>, AllocError>
+    counters: Option<&'c Counters>,
+) -> Result<Vec<ServeClock<'c, C>>, AllocError>
     ensures { IfOk result (λ clocks. length clocks.items ≡ clock_count) }
 {
     let mut clocks = Vec::new(alloc);
-    for _number in 0..CLOCKS {
-        clocks.push(SystemClock::new(clock))?;
+    for number in 0..CLOCKS {
+        let counts = match counters {
+            Some(counters) => counters.route_counts(usize::from(number)),
+            None => None,
+        };
+        clocks.push(CountingClock::of(SystemClock::new(clock), counts, clock))?;
     }
     Ok(clocks)
 }
@@ -81,7 +90,7 @@ where
     ensures refused { result.status ≡ 2 → IsNotSaid (words_texts words.now) }
     ensures nothing_heard { result.status ≡ 2 → result.listener ≡ given.entry.listener }
 {
-    let Ok(clocks) = system_clocks(rt, alloc) else {
+    let Ok(clocks) = system_clocks(rt, alloc, given.counters) else {
         return ServeEnd {
             status: end_command(&mut devices.notes, &CommandEnd::NoMemory),
             listener: given.listener,

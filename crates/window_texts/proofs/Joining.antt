@@ -23,3 +23,11 @@ pub of_same_ok : {U : Type 0} (r : Result U AllocError) (new old : List ℕ) (h 
     → some ≡ same → OnOk r (new ≡ old ++ table_text h some) → OnOk r (new ≡ old ++ table_text h same)
 of_same_ok (Ok u) new old h some same is e = of_same new old h some same is e
 of_same_ok (Err u) new old h some same is e = e
+
+-- a text of the same two lists
+pub of_both_ok : {U S T : Type 0} (r : Result U AllocError) (f : List S → List T → List ℕ) (new old : List ℕ)
+    (some same : List S) (more likewise : List T) → some ≡ same → more ≡ likewise → OnOk r (new ≡ old ++ f some more)
+    → OnOk r (new ≡ old ++ f same likewise)
+of_both_ok {U} {S} {T} (Ok u) f new old some same more likewise is are e =
+    e ∙ (ap (λ (xs : List S). old ++ f xs more) is ∙ ap (λ (ys : List T). old ++ f same ys) are)
+of_both_ok (Err u) f new old some same more likewise is are e = e

@@ -1,5 +1,6 @@
 -- All that the window shows of a host.
 use Rattle.std.specs.Prelude.{ℕ, List, ◌++◌, codes}
+use Rattle.window_texts.specs.Routes.{routes_text}
 use Rattle.window_texts.specs.Texts.{HeadView, one_text, table_text}
 use Rattle.window_texts.specs.declared.family.Kind.{Kind}
 use Rattle.window_texts.specs.declared.family.Kind.TheVariants.{Counter, Gauge}
@@ -50,6 +51,9 @@ kept_head = head (codes "sumacgate_journal_bytes_total") (codes "Bytes of the jo
 abbrev pub rewrites_head : HeadView
 rewrites_head = head (codes "sumacgate_journal_rewrites_total") (codes "Times that the whole journal was written anew.") Counter
 
+abbrev pub writing_head : HeadView
+writing_head = head (codes "sumacgate_journal_write_start_seconds") (codes "When the write of the journal began that is under way, in seconds since 1970, or 0.") Gauge
+
 abbrev pub lost_head : HeadView
 lost_head = head (codes "sumacgate_journal_lost") (codes "Whether the journal is lost: 1 or 0.") Gauge
 
@@ -71,10 +75,11 @@ answers_text c = table_text answers_head c.answers.items ++ table_text problems_
 -- of its sweeps and its journal
 abbrev pub keeping_text : Counts → List ℕ
 keeping_text c =
-    (((one_text sweeps_head c.sweeps ++ one_text cuts_head c.cuts) ++ one_text kept_head c.kept)
+    ((((one_text sweeps_head c.sweeps ++ one_text cuts_head c.cuts) ++ one_text kept_head c.kept)
     ++ one_text rewrites_head c.rewrites)
+    ++ one_text writing_head c.writing)
     ++ one_text lost_head c.lost
 
 -- the whole text
 unfoldable pub metrics_text : Counts → List ℕ
-metrics_text c = ((health_text c ++ streams_text c) ++ answers_text c) ++ keeping_text c
+metrics_text c = (((health_text c ++ streams_text c) ++ answers_text c) ++ routes_text c) ++ keeping_text c

@@ -2,7 +2,7 @@
 use Rattle.std.specs.Prelude.{ℕ, List, [], ◌++◌, codes, decimal, flat_map}
 use Rattle.window_texts.specs.declared.family.Head.{Head}
 use Rattle.window_texts.specs.declared.family.Kind.{Kind}
-use Rattle.window_texts.specs.declared.family.Kind.TheVariants.{Counter, Gauge}
+use Rattle.window_texts.specs.declared.family.Kind.TheVariants.{Counter, Gauge, Histogram}
 use Rattle.window_texts.specs.declared.family.Sample.{Sample}
 
 -- what a family is, as its texts
@@ -17,6 +17,7 @@ said_head h = record { name = h.name.now; help = h.help.now; kind = h.kind }
 abbrev pub kind_text : Kind → List ℕ
 kind_text Counter = codes "counter"
 kind_text Gauge = codes "gauge"
+kind_text Histogram = codes "histogram"
 
 -- a line with a number
 abbrev pub number_text : List ℕ → List ℕ → ℕ → List ℕ

@@ -1,5 +1,6 @@
 // What is counted of a host.
 use crate::family::Sample;
+use crate::routes::{Bucket, RouteTime};
 
 /// What a host has done until now, and what it does now.
 #[derive(Drop)]
@@ -24,6 +25,12 @@ pub struct Counts {
     pub answers: Vec<Sample>,
     /// Problems by code.
     pub problems: Vec<Sample>,
+    /// Requests by route.
+    pub requests: Vec<Sample>,
+    /// For each route and bound how many requests were carried out within it.
+    pub buckets: Vec<Bucket>,
+    /// For each route how long its requests took.
+    pub times: Vec<RouteTime>,
     /// Sweeps that were due.
     pub sweeps: u64,
     /// Pieces of the journal that are kept.
@@ -32,6 +39,8 @@ pub struct Counts {
     pub kept: u64,
     /// Times that the whole journal was written anew.
     pub rewrites: u64,
+    /// When the write of the journal began that is under way, in seconds since 1970; 0 where none is.
+    pub writing: u64,
     /// 1 where the journal is lost, and 0 where it isn't, or where there is none.
     pub lost: u64,
 }

@@ -10,6 +10,8 @@ use std::alloc::AllocError;
 pub enum Kind {
     Counter,
     Gauge,
+    /// A number of measured values within each of some bounds, with their sum.
+    Histogram,
 }
 
 /// A number with its labels: an empty text, or all labels in one pair of braces.
@@ -36,6 +38,7 @@ impl Kind {
         match self {
             Kind::Counter => b"counter",
             Kind::Gauge => b"gauge",
+            Kind::Histogram => b"histogram",
         }
     }
 }
@@ -72,8 +75,8 @@ fn push_line(text: &mut Vec<u8>, front: &[u8], name: &[u8], more: &[u8]) -> Resu
     text.extend_from_slice(b"\n")
 }
 
-// The two lines before the numbers of a family.
-fn push_head(text: &mut Vec<u8>, head: Head) -> Result<(), AllocError>
+/// Adds the two lines before the numbers of a family.
+pub(crate) fn push_head(text: &mut Vec<u8>, head: Head) -> Result<(), AllocError>
     ensures { OnOk result (text.new.items ≡ text.old.items ++ head_text (said_head head)) }
 {
     push_line(text, b"# HELP ", head.name, head.help)?;

@@ -4,6 +4,7 @@ ghost use Rattle.window_texts.specs.Metrics.{answers_text, health_text, keeping_
 
 use crate::counts::Counts;
 use crate::family::{Head, Kind, push_one, push_table};
+use crate::routes::push_routes;
 use std::alloc::{AllocError, Global};
 
 // What it shows of whether it takes connections, and of its workers.
@@ -157,6 +158,15 @@ fn push_keeping(text: &mut Vec<u8>, counts: &Counts) -> Result<(), AllocError>
     push_one(
         text,
         Head {
+            name: b"sumacgate_journal_write_start_seconds",
+            help: b"When the write of the journal began that is under way, in seconds since 1970, or 0.",
+            kind: Kind::Gauge,
+        },
+        counts.writing,
+    )?;
+    push_one(
+        text,
+        Head {
             name: b"sumacgate_journal_lost",
             help: b"Whether the journal is lost: 1 or 0.",
             kind: Kind::Gauge,
@@ -174,6 +184,7 @@ pub fn metrics_page(alloc: Global, counts: &Counts) -> Result<Vec<u8>, AllocErro
     push_health(&mut text, counts)?;
     push_streams(&mut text, counts)?;
     push_answers(&mut text, counts)?;
+    push_routes(&mut text, counts)?;
     push_keeping(&mut text, counts)?;
     Ok(text)
 }

@@ -1,0 +1,225 @@
+//! What is counted of requests by their route.
+ghost use Rattle.std.specs.Prelude.{◌<◌};
+
+use crate::tallies::Tallies;
+use rail_io::RouteName;
+use std::alloc::{AllocError, Global};
+use window_texts::{Bucket, RouteTime, Sample};
+
+/// The names of routes, in their order.
+const ROUTES: [&[u8]; 13] = [
+    b"offers",
+    b"book",
+    b"reserve",
+    b"show",
+    b"release",
+    b"confirm",
+    b"fulfil",
+    b"quote_refund",
+    b"accept_refund",
+    b"quote_exchange",
+    b"accept_exchange",
+    b"places",
+    b"sweep",
+];
+
+/// The labels of routes.
+const LABELS: [&[u8]; 13] = [
+    b"{route=\"offers\"}",
+    b"{route=\"book\"}",
+    b"{route=\"reserve\"}",
+    b"{route=\"show\"}",
+    b"{route=\"release\"}",
+    b"{route=\"confirm\"}",
+    b"{route=\"fulfil\"}",
+    b"{route=\"quote_refund\"}",
+    b"{route=\"accept_refund\"}",
+    b"{route=\"quote_exchange\"}",
+    b"{route=\"accept_exchange\"}",
+    b"{route=\"places\"}",
+    b"{route=\"sweep\"}",
+];
+
+/// The bounds of times in seconds, as texts.
+const BOUNDS: [&[u8]; 15] = [
+    b"0.00005", b"0.0001", b"0.0002", b"0.0005", b"0.001", b"0.002", b"0.005", b"0.01", b"0.02",
+    b"0.05", b"0.1", b"0.2", b"0.5", b"1", b"+Inf",
+];
+
+/// The same in nanoseconds, but for the last.
+const LIMITS: [u64; 14] = [
+    50_000,
+    100_000,
+    200_000,
+    500_000,
+    1_000_000,
+    2_000_000,
+    5_000_000,
+    10_000_000,
+    20_000_000,
+    50_000_000,
+    100_000_000,
+    200_000_000,
+    500_000_000,
+    1_000_000_000,
+];
+
+// The number of a route's name.
+fn number_of(route: RouteName) -> usize
+    ensures { result < 13 }
+{
+    match route {
+        RouteName::Offers => 0,
+        RouteName::Book => 1,
+        RouteName::Reserve => 2,
+        RouteName::Show => 3,
+        RouteName::Release => 4,
+        RouteName::Confirm => 5,
+        RouteName::Fulfil => 6,
+        RouteName::QuoteRefund => 7,
+        RouteName::AcceptRefund => 8,
+        RouteName::QuoteExchange => 9,
+        RouteName::AcceptExchange => 10,
+        RouteName::Places => 11,
+        RouteName::Sweep => 12,
+    }
+}
+
+// The number of the least bound that the time doesn't exceed.
+fn bucket_of(nanoseconds: u64) -> usize
+    ensures { result < 15 }
+{
+    match LIMITS.iter().position(|limit| nanoseconds <= *limit) {
+        Some(number) if number < LIMITS.len() => number,
+        _ => LIMITS.len(),
+    }
+}
+
+/// What is counted of the requests that a clock hears of.
+#[derive(Drop)]
+pub struct RouteCounts {
+    arrived: Tallies,
+    spent: Tallies,
+    /// For each route the times within each bound and not within the one before.
+    within: Tallies,
+}
+
+impl RouteCounts {
+    /// Nothing counted yet.
+    pub(crate) fn new(alloc: Global) -> Result<RouteCounts, AllocError> {
+        Ok(RouteCounts {
+            arrived: Tallies::new(alloc, ROUTES.len())?,
+            spent: Tallies::new(alloc, ROUTES.len())?,
+            within: Tallies::new(alloc, ROUTES.len() * BOUNDS.len())?,
+        })
+    }
+
+    /// A request came.
+    pub(crate) fn note_arrival(&self, route: RouteName) {
+        self.arrived.add(number_of(route), 1);
+    }
+
+    /// A request was carried out in this time.
+    pub(crate) fn note_done(&self, route: RouteName, nanoseconds: u64) {
+        let number = number_of(route);
+        self.spent.add(number, nanoseconds);
+        self.within
+            .add(number * BOUNDS.len() + bucket_of(nanoseconds), 1);
+    }
+
+    // The count that is meant, by its number.
+    fn read(&self, pick: Picks, number: usize) -> u64 {
+        match pick {
+            Picks::Arrived => self.arrived.read(number),
+            Picks::Spent => self.spent.read(number),
+            Picks::Within => self.within.read(number),
+        }
+    }
+}
+
+// Which counts are meant.
+#[derive(Clone, Copy)]
+enum Picks {
+    Arrived,
+    Spent,
+    Within,
+}
+
+// The sum of a count over all clocks.
+fn sum_of(sets: &[RouteCounts], pick: Picks, number: usize) -> u64 {
+    let mut sum: u64 = 0;
+    for set in sets {
+        sum = sum.wrapping_add(set.read(pick, number));
+    }
+    sum
+}
+
+// Adds the buckets of a route, each with all times within its bound.
+fn push_buckets(
+    sets: &[RouteCounts],
+    number: usize,
+    route: &'static [u8],
+    buckets: &mut Vec<Bucket>,
+) -> Result<(), AllocError>
+    requires { number < 13 }
+{
+    let mut done: u64 = 0;
+    for place in 0..BOUNDS.len() {
+        let more = sum_of(sets, Picks::Within, number * BOUNDS.len() + place);
+        done = done.wrapping_add(more);
+        buckets.push(Bucket {
+            route,
+            bound: BOUNDS[place],
+            done,
+        })?;
+    }
+    Ok(())
+}
+
+/// The buckets of all routes.
+pub(crate) fn buckets_of(alloc: Global, sets: &[RouteCounts]) -> Result<Vec<Bucket>, AllocError> {
+    let mut buckets = Vec::new(alloc);
+    for number in 0..ROUTES.len() {
+        push_buckets(sets, number, ROUTES[number], &mut buckets)?;
+    }
+    Ok(buckets)
+}
+
+// How many requests of a route were carried out: those of its last bucket.
+fn done_of(buckets: &[Bucket], number: usize) -> u64
+    requires { number < 13 }
+{
+    match buckets.get(number * BOUNDS.len() + LIMITS.len()) {
+        Some(bucket) => bucket.done,
+        None => 0,
+    }
+}
+
+/// The requests of all routes.
+pub(crate) fn requests_of(alloc: Global, sets: &[RouteCounts]) -> Result<Vec<Sample>, AllocError> {
+    let mut samples = Vec::new(alloc);
+    for number in 0..LABELS.len() {
+        samples.push(Sample {
+            labels: LABELS[number],
+            value: sum_of(sets, Picks::Arrived, number),
+        })?;
+    }
+    Ok(samples)
+}
+
+/// The times of all routes, of which these are the buckets.
+pub(crate) fn times_of(
+    alloc: Global,
+    sets: &[RouteCounts],
+    buckets: &[Bucket],
+) -> Result<Vec<RouteTime>, AllocError> {
+    let mut times = Vec::new(alloc);
+    for number in 0..ROUTES.len() {
+        times.push(RouteTime {
+            route: ROUTES[number],
+            done: done_of(buckets, number),
+            nanoseconds: sum_of(sets, Picks::Spent, number),
+        })?;
+    }
+    Ok(times)
+}
