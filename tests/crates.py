@@ -24,10 +24,15 @@ SERVICES = {"shop", "service_rules", "booking_service", "reservation_service", "
 # What an invariant is about: its words, a pattern of names in the code, and the crates that alone may have them (the tests aside).
 KEPT = [
     ("only one crate touches words", r"\batomic_table\b", {"claim_rule"}),
-    ("the system is touched at the edge alone", r"\bstd::(fs|net|env|process|io|time)\b", {"rail_io", "host_io", "rail_host"}),
+    ("the system is touched at the edge alone", r"\bstd::(fs|net(?!::IpAddr)|env|process|io|time)\b", {"rail_io", "host_io", "host_window", "rail_host"}),
     ("no call waits, but where its type says Wait", r"\bWait\b", {"worker_pool", "answer_gate", "host_serve", "rail_host"}),
     ("threads start in three crates", r"\bthread::(scope|join|for_each_mut|spawn)\b", {"worker_pool", "host_drill", "rail_host"}),
     ("no check of the compiler is passed by", r"\bunsafe\b", {"osdm_texts"}),
+    (
+        "the search of trips is cited by nobody",
+        r"\btrip_builder\.specs\.(declared\.(best|boards?|bounds|ends|found|hints|ranks|reached|rests|rides|shortest)|Best|Boards|Bounds|Ends|Keeping|Reached|Search|Shortest)\b",
+        {"trip_builder"},
+    ),
 ]
 # And the names that a group of crates must not have at all.
 SHUNNED = [("services name no HTTP and no device", r"\b(http_wire|session_loop|rail_io|httparse|matchit)\b", SERVICES)]

@@ -124,7 +124,7 @@ fn compare_one(
     Ok(found.len())
 }
 
-// So many ways are tried that the search looks forward and is over, or bounds itself from the destination back.
+// So many ways are tried that the search bounds itself from the destination back.
 #[test]
 fn trips_where_most_ways_lead_nowhere(rt: HostRuntime) -> Result<(), Fail> {
     let alloc = rt.alloc();

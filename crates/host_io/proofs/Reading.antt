@@ -1,13 +1,12 @@
 -- What the opening of a journal answers, by what a read of its files gave.
-use Rattle.std.proofs.Common.{◌≡◌, ◌≤◌, ◌+◌, ◌<◌, ℕ, Bool, true, false, List, Option, Some, None, Result, Ok, Err, Vec, IfOk, IfSome, refl, sym, ap, ◌∙◌, subst, ⊎_elim, arith, min, leb, leb-true, length, length-take, take, take_all, if◌then◌else◌}
-use Rattle.std.proofs.lemmas.Bool.{cases_Bool, leb-false}
+use Rattle.std.proofs.Common.{◌≡◌, ◌≤◌, ◌+◌, ◌<◌, ℕ, Bool, true, false, List, Option, Some, None, Result, Ok, Err, Vec, IfOk, IfSome, refl, sym, ap, ◌∙◌, subst, arith, min, leb, leb-true, length, length-take, take, take_all, if◌then◌else◌}
+use Rattle.std.proofs.lemmas.Bool.{leb-false}
 use Rattle.std.specs.IoError.{error_kind}
 use Rattle.std.specs.declared.alloc.Global.{Global}
 use Rattle.std.specs.declared.io.Error.{Error}
 use Rattle.std.specs.declared.io.ErrorKind.{ErrorKind}
 use Rattle.std.specs.declared.io.ErrorKind.TheVariants.{OutOfMemory}
 use Rattle.rail_io.specs.Journals.{Opens}
-use Rattle.rail_io.specs.declared.journal.JournalOpened.{JournalOpened}
 use Rattle.rail_io.specs.declared.journal.JournalOpened.TheVariants as opened
 use Rattle.host_io.specs.Opened.{opened_by, refused_by, ReadsText}
 

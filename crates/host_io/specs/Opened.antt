@@ -3,6 +3,8 @@ use Rattle.std.specs.Prelude.{Bool, true, false, ◌≡◌, ◌+◌, ℕ, List, 
 use Rattle.std.specs.IoError.{error_kind}
 use Rattle.std.specs.declared.alloc.Global.{Global}
 use Rattle.std.specs.declared.fs.File.{File}
+use Rattle.std.specs.declared.fs.TryLockError.{TryLockError}
+use Rattle.std.specs.declared.fs.TryLockError.TheVariants.{WouldBlock, Error as Broken}
 use Rattle.std.specs.declared.io.Error.{Error}
 use Rattle.std.specs.declared.io.ErrorKind.{ErrorKind}
 use Rattle.std.specs.declared.io.ErrorKind.TheVariants.{NotFound, OutOfMemory}
@@ -37,3 +39,9 @@ is_missing _ = false
 abbrev pub present_by : Result File Error → Result (Option File) Error
 present_by (Ok file) = Ok (Some file)
 present_by (Err e) = if is_missing (error_kind e) then Ok None else Err e
+
+-- a file that was to be locked, which another process may have locked
+abbrev pub locked_by : Result (Unit {0}) TryLockError → Result Bool Error
+locked_by (Ok done) = Ok true
+locked_by (Err WouldBlock) = Ok false
+locked_by (Err (Broken e)) = Err e

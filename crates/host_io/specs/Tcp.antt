@@ -1,5 +1,5 @@
 -- What a port of this machine keeps, and what its calls make of the system's answers.
-use Rattle.std.specs.Prelude.{◌≡◌, ◌≤◌, ◌+◌, ◌-◌, ◌*◌, ℕ, Bool, true, false, ◌==◌, nat_le, ◌||◌, if◌then◌else◌, List, [], ◌∷◌, Option, None, Some, min}
+use Rattle.std.specs.Prelude.{◌≡◌, ◌≤◌, ◌+◌, ◌-◌, ◌*◌, ℕ, Bool, true, false, ◌==◌, nat_le, ◌||◌, ℤ, pos, negsuc, if◌then◌else◌, List, [], ◌∷◌, Option, None, Some, min}
 use Rattle.std.specs.Net.Addr.{ipv4_octets, IsV4And, IsV6And, IsUnspecifiedV4, IsUnspecifiedV6, IsLoopbackV6}
 use Rattle.std.specs.declared.net.ip_addr.IpAddr.{IpAddr}
 use Rattle.std.specs.declared.net.ip_addr.IpAddr.TheVariants.{V4, V6}
@@ -38,6 +38,12 @@ most_spent = 1000 * request_seconds
 -- the milliseconds that a read may wait whose request has taken these; none where it has taken all that it may
 abbrev pub limit_of : Bool → ℕ → Option ℕ
 limit_of idle spent = if nat_le most_spent spent then None else Some (min (1000 * seconds_of idle) (most_spent - spent))
+
+-- the number of the system's error, or 0 for one of our own
+abbrev pub code_by : Option ℤ → ℕ
+code_by None = 0
+code_by (Some (pos code)) = code
+code_by (Some (negsuc below)) = 0
 
 -- the errors of Linux that say that a listener is gone: EBADF, EINVAL, ENOTSOCK and EOPNOTSUPP
 abbrev pub is_gone : ℕ → Bool

@@ -49,11 +49,6 @@ pub struct SocketSink<K: Keeper + Drop> {
     failed: bool,
 }
 
-// What an allocation that was refused means.
-fn no_memory() -> io::Error {
-    io::Error::from(ErrorKind::OutOfMemory)
-}
-
 /// Both halves of a stream, made ready.
 pub(crate) fn halves_of<C: time::Clock + Drop, K: Keeper + Drop>(
     clock: C,
@@ -67,7 +62,7 @@ pub(crate) fn halves_of<C: time::Clock + Drop, K: Keeper + Drop>(
     let talk = Talk::new(KeptLine::of(line, keeper), outbox);
     let talk = Arc::new(alloc, Mutex::new(talk))?;
     let Ok(second) = Arc::try_clone(&talk) else {
-        return Err(no_memory());
+        return Err(io::Error::from(ErrorKind::OutOfMemory));
     };
     let reader = SocketReader { clock, talk };
     let sink = SocketSink {

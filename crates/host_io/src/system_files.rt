@@ -1,6 +1,6 @@
 // The files of the system as those of a journal. They tell no content.
 ghost use Rattle.std.specs.Prelude.{◌≡◌, ◌+◌, IfOk, IfSome, take};
-ghost use Rattle.host_io.specs.Opened.{present_by};
+ghost use Rattle.host_io.specs.Opened.{locked_by, present_by};
 ghost use Rattle.std.specs.Path.{HasNoSlash, path_add_extension, path_buf_bytes};
 
 use crate::journal_files::JournalFiles;
@@ -15,18 +15,15 @@ use std::{fs, io};
 /// started without them, since notes would be written into it.
 const STANDARD_FILES: i32 = 3;
 
-/// A journal that this process has for itself alone.
+/// That this process has a journal for itself alone.
 #[derive(Drop)]
-struct Holding {
+struct Held {
+    /// The path of the journal's text.
     path: PathBuf,
     /// A file of its own next to the journal, which is locked, and is never renamed nor removed. So no two processes
     /// can have locked different files of one name, as they could if the lock lay on the text, whose name other texts
     /// take.
     lock: File,
-    /// The journal's text, where there is one.
-    text: Option<File>,
-    /// The new text, by its name and as a file, where one is written that hasn't taken the place of the old one.
-    fresh: Option<(PathBuf, File)>,
 }
 
 /// The files of one journal in the system's. Beside its text stands a file for its lock, with `.lock` after the
@@ -35,7 +32,11 @@ struct Holding {
 pub struct SystemFiles<F: Files<File = File> + Drop> {
     files: F,
     alloc: Global,
-    holding: Option<Holding>,
+    held: Option<Held>,
+    /// The journal's text, where one is held that is there.
+    text: Option<File>,
+    /// The new text, by its name and as a file, where one is written that hasn't taken the place of the old one.
+    fresh: Option<(PathBuf, File)>,
 }
 
 // The path that a name leads to. Where the name is a link, the path is that of its file, so that a new text of the
@@ -83,9 +84,17 @@ fn lock_of<F: Files<File = File>>(
     if lock.as_raw_fd() < STANDARD_FILES {
         return Err(io::Error::from(ErrorKind::Unsupported));
     }
-    match lock.try_lock() {
-        Ok(()) => Ok((lock, true)),
-        Err(TryLockError::WouldBlock) => Ok((lock, false)),
+    let locked = is_locked(lock.try_lock())?;
+    Ok((lock, locked))
+}
+
+// Whether a file is locked that was to be: another process may have locked it.
+fn is_locked(answer: Result<(), TryLockError>) -> io::Result<bool>
+    ensures { result ≡ locked_by answer }
+{
+    match answer {
+        Ok(()) => Ok(true),
+        Err(TryLockError::WouldBlock) => Ok(false),
         Err(TryLockError::Error(error)) => Err(error),
     }
 }
@@ -144,37 +153,15 @@ fn not_held() -> io::Error {
     io::Error::from(ErrorKind::NotConnected)
 }
 
-// The journal of this name, taken for this process alone. None where another one has it.
-fn held<F: Files<File = File>>(
-    files: &F,
-    alloc: Global,
-    name: &str,
-) -> io::Result<Option<Holding>> {
-    let path = path_of(files, alloc, name)?;
-    let (lock, locked) = lock_of(files, alloc, path.as_str())?;
-    if !locked {
-        return Ok(None);
-    }
-    let text = OpenOptions::new()
-        .read(true)
-        .append(true)
-        .open(files, &path);
-    let text = unless_missing(text)?;
-    Ok(Some(Holding {
-        path,
-        lock,
-        text,
-        fresh: None,
-    }))
-}
-
 impl<F: Files<File = File> + Drop> SystemFiles<F> {
     /// The files of no journal yet.
     pub fn new(files: F, alloc: Global) -> Self {
         SystemFiles {
             files,
             alloc,
-            holding: None,
+            held: None,
+            text: None,
+            fresh: None,
         }
     }
 }
@@ -187,58 +174,54 @@ impl<F: Files<File = File> + Drop> JournalFiles for SystemFiles<F> {
     ghost fresh = { λ _. None };
 
     fn hold(&mut self, name: &str) -> io::Result<bool> {
-        self.holding = None;
-        self.holding = held(&self.files, self.alloc, name)?;
-        Ok(self.holding.is_some())
+        self.let_go();
+        let path = path_of(&self.files, self.alloc, name)?;
+        let (lock, locked) = lock_of(&self.files, self.alloc, path.as_str())?;
+        if locked {
+            let text = OpenOptions::new()
+                .read(true)
+                .append(true)
+                .open(&self.files, &path);
+            self.text = unless_missing(text)?;
+            self.held = Some(Held { path, lock });
+        }
+        Ok(locked)
     }
 
     fn let_go(&mut self) {
-        self.holding = None;
+        self.held = None;
+        self.text = None;
+        self.fresh = None;
     }
 
     fn read(&mut self, alloc: Global, room: u32) -> io::Result<Option<Vec<u8>>> {
-        let Some(
-            Holding {
-                text: Some(text),
-                ..
-            },
-        ) = &self.holding
-        else {
-            return Ok(None);
-        };
-        Ok(Some(read_text(text, alloc, room)?))
+        match &self.text {
+            Some(text) => Ok(Some(read_text(text, alloc, room)?)),
+            None => Ok(None),
+        }
     }
 
     fn write_new(&mut self, bytes: &[u8]) -> io::Result<()> {
-        let Some(holding) = &mut self.holding else {
+        let Some(held) = &self.held else {
             return Err(not_held());
         };
-        let name = beside(self.alloc, holding.path.as_str(), "new")?;
-        let text = new_text(&self.files, &name, holding.text.as_ref(), bytes)?;
-        holding.fresh = Some((name, text));
+        let name = beside(self.alloc, held.path.as_str(), "new")?;
+        let text = new_text(&self.files, &name, self.text.as_ref(), bytes)?;
+        self.fresh = Some((name, text));
         Ok(())
     }
 
     fn put_new(&mut self) -> io::Result<()> {
-        let Some(holding) = &mut self.holding else {
+        let (Some(held), Some((name, text))) = (&self.held, self.fresh.take()) else {
             return Err(not_held());
         };
-        let Some((name, text)) = holding.fresh.take() else {
-            return Err(not_held());
-        };
-        fs::rename(&self.files, &name, &holding.path)?;
-        holding.text = Some(text);
-        sync_folder(&self.files, &holding.path)
+        fs::rename(&self.files, &name, &held.path)?;
+        self.text = Some(text);
+        sync_folder(&self.files, &held.path)
     }
 
     fn append(&mut self, piece: &[u8]) -> io::Result<()> {
-        let Some(
-            Holding {
-                text: Some(text),
-                ..
-            },
-        ) = &mut self.holding
-        else {
+        let Some(text) = &mut self.text else {
             return Err(not_held());
         };
         text.write_all(piece)?;

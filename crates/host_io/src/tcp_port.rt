@@ -1,7 +1,9 @@
 // A port of this machine as a listener. Its streams tell no content.
 ghost use Rattle.std.specs.Prelude.{◌≡◌, ◌≤◌};
 ghost use Rattle.rail_io.specs.Faults.{Rose};
-ghost use Rattle.host_io.specs.Tcp.{after_refusal as after_of, tcp_view, tcp_faults, IsLaterOf, HandsUntold, IsLocal};
+ghost use Rattle.std.specs.IoError.{raw_os_error};
+ghost use Rattle.host_io.specs.Tcp.{after_refusal as after_of, tcp_view, tcp_faults, code_by, IsLaterOf};
+ghost use Rattle.host_io.specs.Tcp.{HandsUntold, IsLocal};
 
 use crate::address::local_address;
 use crate::socket::{SocketReader, SocketSink, halves_of};
@@ -79,7 +81,9 @@ fn accept_one<C: time::Clock + Drop, K: Keeper + Drop>(
 }
 
 // The number of the system's error, or 0 for one of our own.
-fn code_of(error: io::Error) -> u32 {
+fn code_of(error: io::Error) -> u32
+    ensures { result ≡ code_by (raw_os_error error) }
+{
     match error.raw_os_error() {
         Some(code) => u32::try_from(code).unwrap_or(0),
         None => 0,

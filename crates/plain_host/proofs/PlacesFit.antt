@@ -13,9 +13,8 @@ use Rattle.train_runs.specs.declared.run.Stop.{Stop}
 use Rattle.train_runs.specs.Runs.{RunsView}
 use Rattle.train_runs.specs.Stops.{RunView, legs_of}
 use Rattle.trip_builder.specs.declared.trip.TripWish.{TripWish}
-use Rattle.trip_builder.specs.Best.{IsKnown}
 use Rattle.trip_builder.specs.Order.{sorted_in}
-use Rattle.trip_builder.specs.Segments.{all_segments, stops_of}
+use Rattle.trip_builder.specs.Segments.{IsKnown, all_segments, stops_of}
 use Rattle.trip_builder.specs.Trips.{all_lists, is_trip, most_trips, trips_of}
 use Rattle.trip_builder.proofs.AllLists.{have_lists}
 use Rattle.trip_builder.proofs.FirstSixteen.{all_among, all_put}

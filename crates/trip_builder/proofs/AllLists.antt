@@ -8,9 +8,9 @@ use Rattle.offer_codes.specs.declared.code.Segment.{Segment}
 use Rattle.train_runs.specs.declared.run.Stop.{Stop}
 use Rattle.train_runs.specs.Stops.{RunView}
 use Rattle.train_runs.specs.Runs.{RunsView}
-use Rattle.trip_builder.specs.Segments.{segment, segments_to, segments_from, segments_of, all_segments, stops_of, no_segment}
+use Rattle.trip_builder.specs.Segments.{IsKnown, segment, segments_to, segments_from, segments_of, all_segments, stops_of, no_segment}
 use Rattle.trip_builder.specs.Trips.{longer, all_lists}
-use Rattle.trip_builder.specs.Best.{IsAmong, AreApart, IsKnown}
+use Rattle.trip_builder.specs.Best.{IsAmong, AreApart}
 use Rattle.trip_builder.proofs.Members.{among_append, append_among, among_pieces, pieces_among, apart_append, apart_pieces}
 use Rattle.trip_builder.proofs.StrictOrder.{three_ways}
 

@@ -1,5 +1,5 @@
--- Where one may be after so many trains: a wish whose destination isn't reached with three has no trip.
-use Rattle.std.proofs.Common.{◌≡◌, ◌∙◌, ℕ, ◌+◌, ◌-◌, ◌<◌, ◌≤◌, ◌⊎◌, inl, inr, List, [], ◌∷◌, ◌++◌, length, length-append, append_assoc, Bool, refl, sym, ap, subst, arith, get_or, eqb-true, not}
+-- Where one may be after so many trains of a trip.
+use Rattle.std.proofs.Common.{◌≡◌, ◌∙◌, ℕ, ◌+◌, ◌-◌, ◌<◌, ◌≤◌, ◌⊎◌, inl, inr, List, [], ◌∷◌, ◌++◌, length, length-append, append_assoc, Bool, refl, sym, ap, subst, arith, get_or, not}
 use Rattle.std.specs.Prelude.{Option}
 use Rattle.std.proofs.lemmas.Bool.{cases_lt}
 use Rattle.std.specs.Option.{option_map_or}
@@ -12,8 +12,8 @@ use Rattle.trip_builder.specs.declared.trip.TripWish.{TripWish}
 use Rattle.trip_builder.specs.declared.reached.Times.{Times}
 use Rattle.trip_builder.specs.Segments.{stops_of, first_stop, last_stop}
 use Rattle.trip_builder.specs.Trips.{longest_wait, leaves, uses_run}
-use Rattle.trip_builder.specs.Best.{IsTrip, HasNoTrip}
-use Rattle.trip_builder.specs.Bounds.{LeadsTo, RanksView, IsMarkedRun}
+use Rattle.trip_builder.specs.Best.{IsTrip}
+use Rattle.trip_builder.specs.Bounds.{RanksView, IsMarkedRun}
 use Rattle.trip_builder.specs.Reached.{Hold, HoldTrain, HoldWait, AreStretched, IsRidden, AreReached, StayMarked}
 use Rattle.trip_builder.proofs.Ways.{trip_goes_on, both_true}
 use Rattle.trip_builder.proofs.Bounding.{trip_leads, left_within, goes_on_there}
@@ -46,41 +46,12 @@ held times station from to stop holds here low high none inside =
     let last = its.1 in
     subst (λ n. ((get_or times n none).from ≤ stop.depart) × (stop.depart ≤ (get_or times n none).to)) (sym here) (omega (arith, first, low), omega (arith, last, high))
 
--- nothing that goes on by these times comes to the destination with so many trains
-abbrev pub NoneFrom : RunsView → TripWish → ℕ → List Times → Type 0
-NoneFrom r w trains times = (s : Segment) (rest : List Segment) → length rest < trains → LeadsTo r w s rest → ¬ HoldTrain times (first_stop r s)
-
--- one train before
-pub none_before : (r : RunsView) (w : TripWish) (trains : ℕ) (before after : List Times) → ((run : ℕ) → IsRidden r before after run) → ((from to : ℕ) → Hold after w.destination.0 from to → to < from)
-    → NoneFrom r w trains after → NoneFrom r w (trains + 1) before
-none_before r w trains before after ridden apart none s [] few leads holds =
-    let known = leads.known.0 in
-    let off = last_stop r s in
-    let there : off.station.0 ≡ w.destination.0 = eqb-true off.station.0 w.destination.0 leads.goes in
-    let waits : HoldWait after off = ridden s.run.0 s.span.from s.span.to known.rises known.ends holds in
-    let zero = apart off.arrive (off.arrive + longest_wait) (subst (λ n. Hold after n off.arrive (off.arrive + longest_wait)) there waits) in
-    absurd (omega (arith, zero))
-none_before r w trains before after ridden apart none s (t ∷ rest) few leads holds =
-    let known = leads.known.0 in
-    let off = last_stop r s in
-    let waits : HoldWait after off = ridden s.run.0 s.span.from s.span.to known.rises known.ends holds in
-    let on = goes_on_there r w off s t rest refl leads in
-    let low = on.1.1.0 in
-    none t rest (omega (arith, few)) on.0 (held after off.station.0 off.arrive (off.arrive + longest_wait) (first_stop r t) waits on.1.0 (omega (arith, low)) on.1.1.1)
-
 -- the first train of a trip
 first_held : (r : RunsView) (w : TripWish) (times : List Times) → Hold times w.origin.0 w.earliest w.latest → (s : Segment) (rest : List Segment) → IsTrip r w (s ∷ rest) → HoldTrain times (first_stop r s)
 first_held r w times start s rest trip =
     let next = both_true (leaves w.origin w.earliest w.latest (first_stop r s)) (not (uses_run [] s)) (trip_goes_on r w [] s rest trip).next in
     let its = left_within w.origin w.earliest w.latest (first_stop r s) next.0 in
     held times w.origin.0 w.earliest w.latest (first_stop r s) start its.0 its.1.0 its.1.1
-
-pub no_trip : (r : RunsView) (w : TripWish) (times : List Times) → Hold times w.origin.0 w.earliest w.latest → NoneFrom r w 3 times → HasNoTrip r w
-no_trip r w times start none = record { none = not_one }
-  where
-    not_one : (t : List Segment) → ¬ IsTrip r w t
-    not_one [] trip = absurd (let some = trip.some in omega (arith, some))
-    not_one (s ∷ rest) trip = let few = trip.few in none s rest (omega (arith, few)) (trip_leads r w [] s rest trip) (first_held r w times start s rest trip)
 
 -- ---- the trains of trips
 

@@ -1,6 +1,5 @@
 -- The departures after a way, and the stops that their trains come to.
-use Rattle.std.proofs.Common.{◌≡◌, ◌∙◌, ℕ, ◌<◌, ◌≤◌, ◌==◌, ◌&&◌, true, false, not, List, length, refl, sym, ap, subst, arith, nat_le, get_or, eqb-true, true≢false}
-use Rattle.std.proofs.lemmas.Bool.Decides.{nat_tests}
+use Rattle.std.proofs.Common.{◌≡◌, ◌∙◌, ℕ, ◌<◌, true, false, not, List, length, refl, sym, ap, subst, arith, get_or, true≢false}
 use Rattle.std.proofs.lemmas.List.Elements.{at_read}
 use Rattle.rail_ids.specs.declared.StationNo.{StationNo}
 use Rattle.offer_codes.specs.declared.code.Segment.{Segment}
@@ -14,9 +13,6 @@ use Rattle.trip_builder.specs.Trips.{leaves, uses_run}
 use Rattle.trip_builder.specs.Search.{leaves_after, has_run, AreLeaving, Leaves, MayTake, AreDecided, AreDecidedWith}
 use Rattle.trip_builder.proofs.StrictOrder.{one_segment}
 use Rattle.trip_builder.proofs.Ways.{trip_goes_on, both_true}
-use Rattle.trip_builder.specs.Bounds.{NarrowsLeaving}
-use Rattle.trip_builder.proofs.Leaving.{is_station, leaves_there}
-use Rattle.trip_builder.proofs.Bounding.{trip_leads}
 
 pub used_up : (r : RunsView) (w : TripWish) (best : List (List Segment)) (way : List Segment) (more : ℕ) (s : Segment) → has_run way s.run.0 ≡ true → AreDecidedWith r w best way more s
 used_up r w best way more s used rest e trip =
@@ -27,35 +23,26 @@ used_up r w best way more s used rest e trip =
 abbrev ride_of : List Departure → ℕ → Departure → ℕ → Segment
 ride_of ds k none to = segment (get_or ds k none).run.0 (get_or ds k none).stop to
 
--- what leaves within a part of the window may be taken
-pub part_taken : (r : RunsView) (w : TripWish) (way : List Segment) (station part : StationNo) (from to first last : ℕ) (d : Departure) → Leaves r part first last d → part ≡ station → from ≤ first → last ≤ to
+-- what leaves within the window may be taken
+pub taken_there : (r : RunsView) (w : TripWish) (way : List Segment) (station : StationNo) (from to : ℕ) (d : Departure) → Leaves r station from to d
     → ((stop : Stop) → leaves station from to stop ≡ leaves_after r w way stop) → has_run way d.run.0 ≡ false → MayTake r w way d
-part_taken r w way station part from to first last d is here starts ends window fresh =
-    let stop = stop_at (stops_of r d.run.0) d.stop in
-    let parts = both_true (stop.station.0 == part.0) (nat_le first stop.depart && nat_le stop.depart last) is.window in
-    let times = both_true (nat_le first stop.depart) (nat_le stop.depart last) parts.1 in
-    let low : first ≤ stop.depart = let t = times.0 in grind (arith, nat_tests) in
-    let high : stop.depart ≤ last = let t = times.1 in grind (arith, nat_tests) in
-    let there = is_station stop.station part (eqb-true stop.station.0 part.0 parts.0) in
-    record {
-      further = is.further;
-      leaves = sym (window stop) ∙ leaves_there station from to stop (there ∙ here) (omega (arith, low, starts)) (omega (arith, high, ends));
-      fresh = fresh;
-    }
+taken_there r w way station from to d is window fresh = record {
+  further = is.further;
+  leaves = sym (window (stop_at (stops_of r d.run.0) d.stop)) ∙ is.window;
+  fresh = fresh;
+}
 
--- each segment that goes on from the way is a ride from one of the departures of the part in which all leave that lead
--- to the destination
-pub all_covered : (r : RunsView) (w : TripWish) (best : List (List Segment)) (way : List Segment) (more : ℕ) (station part : StationNo) (from to first last : ℕ) (ds : List Departure) (none : Departure)
-    → AreLeaving r part first last ds → part ≡ station → NarrowsLeaving r w more station from to first last → ((stop : Stop) → leaves station from to stop ≡ leaves_after r w way stop)
+-- each segment that goes on from the way is a ride from one of the departures of the window
+pub all_covered : (r : RunsView) (w : TripWish) (best : List (List Segment)) (way : List Segment) (more : ℕ) (station : StationNo) (from to : ℕ) (ds : List Departure) (none : Departure)
+    → AreLeaving r station from to ds → ((stop : Stop) → leaves station from to stop ≡ leaves_after r w way stop)
     → ((k : ℕ) → k < length ds → (to : ℕ) → AreDecidedWith r w best way more (ride_of ds k none to)) → AreDecided r w best way more
-all_covered r w best way more station part from to first last ds none leaving here narrows window each s rest e trip =
+all_covered r w best way more station from to ds none leaving window each s rest e trip =
     let next = trip_goes_on r w way s rest trip in
     let known = next.known in
     let up = known.rises in
     let end = known.ends in
     let parts = both_true (leaves_after r w way (first_stop r s)) (not (uses_run way s)) next.next in
-    let within = narrows s rest e (trip_leads r w way s rest trip) (window (first_stop r s) ∙ parts.0) in
-    let listed = leaving.every s.run.0 s.span.from (omega (arith, up, end)) (subst (λ (x : StationNo). leaves x first last (first_stop r s) ≡ true) (sym here) within) in
+    let listed = leaving.every s.run.0 s.span.from (omega (arith, up, end)) (window (first_stop r s) ∙ parts.0) in
     let is : ride_of ds listed.place none s.span.to ≡ s = one_segment (ride_of ds listed.place none s.span.to) s (listed.run_is none, (listed.stop_is none, refl)) in
     subst (λ (x : Segment). AreDecidedWith r w best way more x) is (each listed.place listed.within s.span.to) rest e trip
 

@@ -17,11 +17,10 @@ use Rattle.trip_builder.specs.Segments.{segment, stops_of, first_stop, last_stop
 use Rattle.trip_builder.specs.Order.{last_arrival}
 use Rattle.trip_builder.specs.Trips.{change_at, longest_wait, leaves, connects, uses_run, follows, is_chain, arrives, sets_out}
 use Rattle.trip_builder.specs.Best.{IsTrip, IsDecided}
-use Rattle.trip_builder.specs.Search.{has_run, leaves_after, IsWindowOf, AreAllLeaving, DepartFromKnown, AllArriveBefore, AreDecided, AreDecidedFrom}
+use Rattle.trip_builder.specs.Search.{has_run, leaves_after, IsWindowOf, AreAllLeaving, AllArriveBefore, AreDecided, AreDecidedFrom}
 use Rattle.trip_builder.specs.Boards.{ArePosted}
-use Rattle.trip_builder.specs.Bounds.{never, no_rank, unknown, goes_to, LeadsTo, end_of, arrival_of, IsBound, RanksView, rank_of, IsPlaced, AreRanks, Precede, BoundsFresh, IsPosted, BoundsWindow, NarrowsWindow, IsBoardOf, AreBoards, LeavesLate, AreFirsts, ReachView, IsReach, BoundsView, AreBounds, BoundsRide, BoundsLeaving, NarrowsLeaving, FirstsOfStop, PrecedeFrom, PrecedeAfter}
+use Rattle.trip_builder.specs.Bounds.{never, no_rank, unknown, goes_to, LeadsTo, end_of, arrival_of, IsBound, RanksView, rank_of, IsPlaced, AreRanks, Precede, BoundsFresh, IsPosted, BoundsWindow, IsBoardOf, AreBoards, LeavesLate, AreFirsts, ReachView, IsReach, BoundsView, AreBounds, BoundsRide, BoundsLeaving, FirstsOfStop, PrecedeFrom}
 use Rattle.trip_builder.proofs.Ways.{both_true, last_is, known_after, next_goes_on, trip_goes_on}
-use Rattle.trip_builder.proofs.Leaving.{is_station, leaves_there}
 use Rattle.trip_builder.proofs.Deciding.{behind_decided}
 
 -- what leads to the destination does so from its next segment
@@ -91,22 +90,6 @@ pub leaving_fresh : (r : RunsView) (w : TripWish) (v : RanksView) (changes : ℕ
     → BoundsFresh r w v two way bound → BoundsLeaving r w changes way station from to bound
 leaving_fresh r w v changes way station from to bound two firsts fresh s rest count leads says apart = fresh s rest leads (firsts s rest count leads says) apart
 
-pub narrowing_found : (r : RunsView) (w : TripWish) (v : RanksView) (changes : ℕ) (reach : ReachView) (station : StationNo) (from to first last : ℕ) → IsReach r w v changes reach
-    → ((none : List Useful) → station.0 < length reach.boards → NarrowsWindow (get_or reach.boards station.0 none) from to first last)
-    → (length reach.boards ≤ station.0 → (first ≡ from) × (last ≡ to)) → no_rank ≤ v.late → NarrowsLeaving r w changes station from to first last
-narrowing_found r w v changes reach station from to first last are known other none s rest count leads says = by_place (cases_lt station.0 (length reach.boards))
-  where
-    by_place : (station.0 < length reach.boards) ⊎ (length reach.boards ≤ station.0) → leaves station first last (first_stop r s) ≡ true
-    by_place (inl inside) =
-        let start = first_stop r s in
-        let its = left_within station from to start says in
-        let few = (leading_placed r w v are.ranks s rest leads).few in
-        let part = (known no_board inside).each start.depart (rank_of v s rest) (are.boards station.0 no_board inside s rest count leads its.0 (omega (arith, few, none))) its.1.0 its.1.1 in
-        leaves_there station first last start (is_station start.station station its.0) part.0 part.1
-    by_place (inr past) =
-        let same = other past in
-        subst (λ n. leaves station n last (first_stop r s) ≡ true) (sym same.0) (subst (λ n. leaves station from n (first_stop r s) ≡ true) (sym same.1) says)
-
 -- ---- what goes on from a stop
 
 -- what goes on from a stop leaves it after the change
@@ -153,26 +136,6 @@ window_found r w v changes reach off from to old here two are late known other l
         (known no_board inside (first_stop r t).depart rank (are.boards off.station.0 no_board inside t rest (omega (arith, count)) its.0 its.1.0 less) (omega (arith, low, depart.0)) (omega (arith, high, depart.1)))
     by_rank (inl less) (inr past) = right rank (subst (λ (x : FirstTwo). Precede x rank) (sym (other past)) (unknown_precede r w v are.ranks s (t ∷ rest) leads))
     by_rank (inr past) place = left rank (late rank past (leading_placed r w v are.ranks s (t ∷ rest) leads).few)
-
--- where the two precede all that leaves any station from a moment on
-pub after_found : (r : RunsView) (w : TripWish) (v : RanksView) (changes : ℕ) (reach : ReachView) (stations seconds : ℕ) (two : FirstTwo) → IsReach r w v changes reach → DepartFromKnown r → stations ≡ length r.stations
-    → ((rank : ℕ) → v.late ≤ rank → rank < no_rank → Precede two rank) → PrecedeAfter reach.boards stations seconds two
-    → (s : Segment) (rest : List Segment) → length rest ≡ changes + 1 → LeadsTo r w s rest → seconds ≤ (last_stop r s).arrive → Precede two (rank_of v s rest)
-after_found r w v changes reach stations seconds two are known all late precede s [] count leads low = absurd (omega (arith, count))
-after_found r w v changes reach stations seconds two are known all late precede s (t ∷ rest) count leads low = by_rank (cases_lt rank v.late)
-  where
-    rank : ℕ
-    rank = rank_of v t rest
-
-    by_rank : (rank < v.late) ⊎ (v.late ≤ rank) → Precede two rank
-    by_rank (inl less) =
-        let its = goes_on_there r w (last_stop r s) s t rest refl leads in
-        let depart = its.1.1.0 in
-        let n = (first_stop r t).station.0 in
-        let small = known t its.0.known.0 in
-        let there = precede n (omega (arith, small, all)) in
-        there.1 (first_stop r t).depart rank no_board (are.boards n no_board there.0 t rest (omega (arith, count)) its.0 refl less) (omega (arith, low, depart))
-    by_rank (inr past) = late rank past (leading_placed r w v are.ranks s (t ∷ rest) leads).few
 
 -- ---- one more
 

@@ -12,12 +12,12 @@ use Rattle.train_runs.specs.Stops.{RunView, IsRun, stop_at, no_stop, stands_at, 
 use Rattle.train_runs.specs.Runs.{RunsView}
 use Rattle.trip_builder.specs.declared.trip.TripWish.{TripWish}
 use Rattle.trip_builder.specs.declared.ends.Call.{Call}
-use Rattle.trip_builder.specs.Segments.{segment, stops_of, last_stop}
+use Rattle.trip_builder.specs.Segments.{IsKnown, segment, stops_of, last_stop}
 use Rattle.trip_builder.specs.Order.{last_arrival}
 use Rattle.trip_builder.specs.Trips.{arrives, sets_out}
-use Rattle.trip_builder.specs.Best.{IsKnown, IsTrip, IsDecided}
+use Rattle.trip_builder.specs.Best.{IsTrip, IsDecided}
 use Rattle.trip_builder.specs.Search.{AllArriveBefore, AreDecidedWith, AreDecidedFrom}
-use Rattle.trip_builder.specs.Ends.{IsThere, IsCall}
+use Rattle.trip_builder.specs.Ends.{IsCall}
 use Rattle.trip_builder.proofs.StrictOrder.{three_ways}
 use Rattle.trip_builder.proofs.Rising.{none_least}
 use Rattle.trip_builder.proofs.Ways.{both_true, last_is, known_after}

@@ -1,14 +1,13 @@
 -- The boards of all stations in one list: each stays what it is while others are put behind it.
 use Rattle.std.proofs.Common.{◌≡◌, ◌∙◌, ℕ, suc, ◌+◌, ◌-◌, ◌<◌, ◌≤◌, ◌⊎◌, inl, inr, List, [], ◌∷◌, ◌++◌, length, length-append, length-drop, map, take, drop, refl, sym, ap, subst, arith, get_or, slice_range}
 use Rattle.std.proofs.lemmas.Bool.{cases_lt}
-use Rattle.std.proofs.lemmas.List.{get_or_default, get_or_append_left, get_or-append-add, get_or_push, get_or-map, length-map, map_push, length_push, drop-append-le, take-append-le, drop_at, take_all}
+use Rattle.std.proofs.lemmas.List.{get_or_append_left, get_or-append-add, get_or_push, get_or-map, map_push, length_push, drop-append-le, take-append-le, drop_at, take_all}
 use Rattle.trip_builder.specs.declared.board.Useful.{Useful}
 use Rattle.trip_builder.specs.declared.boards.Head.{Head}
 use Rattle.trip_builder.specs.declared.ranks.FirstTwo.{FirstTwo}
-use Rattle.trip_builder.specs.declared.rests.Parts.{Parts}
-use Rattle.trip_builder.specs.Bounds.{unknown, Precede, Rises, IsPosted, HasBest}
-use Rattle.trip_builder.specs.Boards.{part_at, Keeps, IsTold, AreTold, IsHeadTold, AreAllTold, AreHints, rest_in, no_head, board_of, board_at, boards_at, IsHead, AreHeads, IsHeadOf}
-use Rattle.trip_builder.proofs.Resting.{nothing, part_up, told_kept}
+use Rattle.trip_builder.specs.Bounds.{unknown, Precede, Rises, IsPosted}
+use Rattle.trip_builder.specs.Boards.{part_at, AreHints, rest_in, no_head, board_of, board_at, boards_at, IsHead, AreHeads, IsHeadOf}
+use Rattle.trip_builder.proofs.Resting.{nothing, part_up}
 
 -- ---- a part of a longer list
 
@@ -32,7 +31,6 @@ head_kept useful more rests h is =
       ends = let size = length-append useful more in let h = is.ends in omega (arith, size, h);
       rises = subst Rises (sym same) is.rises;
       hinted = subst (λ (b : List Useful). AreHints b h.parts h.last (length rests - h.hints) (rest_in rests h)) (sym same) is.hinted;
-      best_is = subst (λ (b : List Useful). HasBest b h.best) (sym same) is.best_is;
     }
 
 rests_kept : (useful : List Useful) (rests others : List FirstTwo) (h : Head) → IsHead useful rests h → IsHead useful (rests ++ others) h
@@ -41,18 +39,17 @@ rests_kept useful rests others h is = record {
   ends = is.ends;
   rises = is.rises;
   hinted = record {
-    spanned = is.hinted.spanned;
+    stops = is.hinted.stops;
     few = λ j none inside. (let size = length-append rests others in let low = is.hinted.few j none inside in omega (arith, size, low));
     rests = λ j n rank none inside low has. (let few = is.hinted.few j none inside in
         subst (λ (x : FirstTwo). Precede x rank) (sym (get_or_append_left rests others unknown (h.hints + n) (omega (arith, few, low)))) (is.hinted.rests j n rank none inside low has));
   };
-  best_is = is.best_is;
 }
 
 -- that of a board which is put behind the others, with its hints
-pub head_new : (useful board : List Useful) (rests own : List FirstTwo) (h : Head) → h.begin ≡ length useful → h.end ≡ length (useful ++ board) → h.hints ≡ length rests → h.best ≡ get_or own 0 unknown
+pub head_new : (useful board : List Useful) (rests own : List FirstTwo) (h : Head) → h.begin ≡ length useful → h.end ≡ length (useful ++ board) → h.hints ≡ length rests
     → Rises board → AreHints board h.parts h.last (length own) (λ n. get_or own n unknown) → IsHead (useful ++ board) (rests ++ own) h
-head_new useful board rests own h begin end hints best rises hinted =
+head_new useful board rests own h begin end hints rises hinted =
     let same : board_of (useful ++ board) h ≡ board = part_new useful board h.begin h.end begin end in
     let size = length-append useful board in
     let long = length-append rests own in
@@ -62,13 +59,11 @@ head_new useful board rests own h begin end hints best rises hinted =
       rises = subst Rises (sym same) rises;
       hinted = subst (λ (b : List Useful). AreHints b h.parts h.last (length (rests ++ own) - h.hints) (rest_in (rests ++ own) h)) (sym same)
           (record {
-            spanned = hinted.spanned;
+            stops = hinted.stops;
             few = λ j none inside. (let low = hinted.few j none inside in omega (arith, low, long, hints));
             rests = λ j n rank none inside low has.
                 subst (λ (x : FirstTwo). Precede x rank) (sym (ap (λ m. get_or (rests ++ own) (m + n) unknown) hints ∙ get_or-append-add rests own n unknown)) (hinted.rests j n rank none inside low has);
           });
-      best_is = subst (λ (b : List Useful). HasBest b h.best) (sym same)
-          (λ k rank none inside has. subst (λ (x : FirstTwo). Precede x rank) (sym best) (hinted.rests k 0 rank none inside (omega arith) has));
     }
 
 -- ---- all heads
@@ -158,15 +153,11 @@ board_there heads seen useful numbers read now station h none view as_numbers as
 
 -- ---- what leaves a board from a moment on
 
-pub best_found : (useful : List Useful) (rests : List FirstTwo) (h : Head) (two : FirstTwo) → IsHead useful rests h → ((rank : ℕ) → Precede h.best rank → Precede two rank)
-    → (depart rank : ℕ) → IsPosted (board_of useful h) depart rank → Precede two rank
-best_found useful rests h two is all depart rank posted = all rank (is.best_is posted.place rank nothing posted.within (posted.earlier posted.place nothing (omega arith) refl))
-
 pub past_found : (useful : List Useful) (rests : List FirstTwo) (h : Head) (from : ℕ) (two : FirstTwo) → IsHead useful rests h → h.last < from
     → (depart rank : ℕ) → IsPosted (board_of useful h) depart rank → from ≤ depart → Precede two rank
 past_found useful rests h from two is past depart rank posted low =
     let at = posted.moment nothing in
-    let stops = is.hinted.spanned.stops posted.place nothing posted.within in
+    let stops = is.hinted.stops posted.place nothing posted.within in
     absurd (omega (arith, at, stops, past, low))
 
 pub rest_found : (useful : List Useful) (rests : List FirstTwo) (h : Head) (from : ℕ) (two rest : FirstTwo) → IsHead useful rests h → rest ≡ rest_in rests h (part_at h.parts from)
@@ -175,40 +166,3 @@ rest_found useful rests h from two rest is value all depart rank posted low =
     let at = posted.moment nothing in
     let up = part_up h.parts from (get_or (board_of useful h) posted.place nothing).moment (omega (arith, at, low)) in
     all rank (subst (λ (x : FirstTwo). Precede x rank) (sym value) (is.hinted.rests posted.place (part_at h.parts from) rank nothing posted.within up (posted.earlier posted.place nothing (omega arith) refl)))
-
--- ---- all boards together
-
--- what is told by a head is told of its board
-pub head_told : (useful : List Useful) (rests : List FirstTwo) (h : Head) (parts : Parts) (afters : List FirstTwo) → IsHead useful rests h → IsHeadTold rests h parts afters → AreTold (board_of useful h) parts afters
-head_told useful rests h parts afters is told j rank none inside has =
-    let moment = (get_or (board_of useful h) j none).moment in
-    told moment rank (is.hinted.spanned.stops j none inside) (is.hinted.rests j (part_at h.parts moment) rank none inside (omega arith) has)
-
--- one head more, as it is read
-pub heads_told : (heads seen : List Head) (useful : List Useful) (rests own : List FirstTwo) (numbers : List ℕ) (parts : Parts) (old new : List FirstTwo) (index : ℕ) (zero : Head) → AreHeads heads useful rests numbers
-    → seen ≡ heads → own ≡ rests → index < length seen → length new ≡ length old → Keeps old new → IsHeadTold own (get_or seen index zero) parts new
-    → ((k : ℕ) → k < index → AreTold (board_of useful (get_or heads k no_head)) parts old) → (k : ℕ) → k < index + 1 → AreTold (board_of useful (get_or heads k no_head)) parts new
-heads_told heads seen useful rests own numbers parts old new index zero are as_heads as_rests inside size keeps told before k high = by_place (cases_lt k index)
-  where
-    fits : index < length heads
-    fits = let count = ap (λ (l : List Head). length l) as_heads in omega (arith, inside, count)
-
-    by_place : (k < index) ⊎ (index ≤ k) → AreTold (board_of useful (get_or heads k no_head)) parts new
-    by_place (inl less) = λ j rank none within has.
-        told_kept old new (part_at parts (get_or (board_of useful (get_or heads k no_head)) j none).moment) rank size keeps (before k less j rank none within has)
-    by_place (inr past) =
-        let here : index ≡ k = omega (arith, high, past) in
-        let same : get_or seen index zero ≡ get_or heads index no_head = ap (λ (l : List Head). get_or l index zero) as_heads ∙ get_or_default heads index zero no_head fits in
-        let its = subst (λ (x : Head). IsHeadTold rests x parts new) same (subst (λ (l : List FirstTwo). IsHeadTold l (get_or seen index zero) parts new) as_rests told) in
-        subst (λ m. AreTold (board_of useful (get_or heads m no_head)) parts new) here (head_told useful rests (get_or heads index no_head) parts new (are.each index fits) its)
-
--- by each head, what leaves any station
-pub all_told : (heads : List Head) (useful : List Useful) (rests : List FirstTwo) (numbers : List ℕ) (now : List (List Useful)) (parts : Parts) (afters : List FirstTwo) → AreHeads heads useful rests numbers
-    → boards_at heads useful numbers ≡ now → ((k : ℕ) → k < length heads → AreTold (board_of useful (get_or heads k no_head)) parts afters) → AreAllTold now parts afters
-all_told heads useful rests numbers now parts afters are view told n depart rank none inside posted =
-    let count : length now ≡ length numbers = ap (λ (l : List (List Useful)). length l) (sym view) ∙ length-map numbers (board_at heads useful) in
-    let fits : n < length numbers = omega (arith, inside, count) in
-    let number = get_or numbers n 0 in
-    let same : get_or now n none ≡ board_at heads useful number = ap (λ (l : List (List Useful)). get_or l n none) (sym view) ∙ get_or-map (board_at heads useful) numbers n 0 none fits in
-    let its = subst (λ (b : List Useful). IsPosted b depart rank) same posted in
-    subst (λ m. IsTold afters (part_at parts m) rank) (its.moment nothing) (told number (are.numbered n fits) its.place rank nothing its.within (its.earlier its.place nothing (omega arith) refl))

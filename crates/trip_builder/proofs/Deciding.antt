@@ -1,20 +1,20 @@
 -- How trips are decided: tried and put into their place, or behind sixteen that arrive earlier.
-use Rattle.std.proofs.Common.{◌≡◌, ◌∙◌, ℕ, zero, suc, ◌+◌, ◌<◌, ◌≤◌, ◌==◌, ◌⊎◌, inl, inr, ⊎_elim, Bool, true, false, ◌&&◌, List, [], ◌∷◌, ◌++◌, length, append_assoc, refl, sym, ap, subst, arith, nat_lt, get_or, take, eqb-true, true≢false, if◌then◌else◌}
+use Rattle.std.proofs.Common.{◌≡◌, ◌∙◌, ℕ, zero, suc, ◌+◌, ◌<◌, ◌≤◌, ◌==◌, ◌⊎◌, inl, inr, ⊎_elim, Bool, true, false, ◌&&◌, List, [], ◌∷◌, ◌++◌, length, append_assoc, refl, sym, ap, subst, arith, nat_lt, get_or, take, true≢false, if◌then◌else◌}
 use Rattle.std.specs.List.{filter, AllByRecursion}
 use Rattle.std.proofs.lemmas.Bool.Decides.{nat_tests}
 use Rattle.offer_codes.specs.declared.code.Segment.{Segment}
 use Rattle.train_runs.specs.Runs.{RunsView}
 use Rattle.trip_builder.specs.declared.trip.TripWish.{TripWish}
-use Rattle.trip_builder.specs.Segments.{all_segments, last_stop}
+use Rattle.trip_builder.specs.Segments.{IsKnown, all_segments}
 use Rattle.trip_builder.specs.Order.{last_arrival, stands_before, sorted_in}
 use Rattle.trip_builder.specs.Trips.{arrives, is_trip, sets_out, all_lists, most_trips, trips_of}
-use Rattle.trip_builder.specs.Best.{IsKnown, IsAmong, AllStandBefore, AreInOrder, IsDecided, IsTrip, AreBest}
-use Rattle.trip_builder.specs.Search.{IsWay, keep, AllArriveBy, AllArriveBefore, Grows, AreDecided, AreDecidedWith}
+use Rattle.trip_builder.specs.Best.{IsAmong, AllStandBefore, AreInOrder, IsDecided, IsTrip, AreBest}
+use Rattle.trip_builder.specs.Search.{IsWay, keep, AllArriveBy, Grows, AreDecided, AreDecidedWith}
 use Rattle.trip_builder.proofs.StrictOrder.{three_ways, trips_strict}
 use Rattle.trip_builder.proofs.FirstSixteen.{first_sixteen, among-all, all_put, all_map, all_among, put_in_order, has_put}
 use Rattle.trip_builder.proofs.Members.{among_at, among_filter, filter_among, apart_filter}
 use Rattle.trip_builder.proofs.AllLists.{apart_lists, lists_have, have_lists}
-use Rattle.trip_builder.proofs.Ways.{trip_goes_on, both_true, last_is}
+use Rattle.trip_builder.proofs.Ways.{trip_goes_on}
 
 -- ---- arrivals
 

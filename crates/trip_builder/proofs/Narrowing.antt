@@ -23,8 +23,6 @@ ranks_so r w v late are = record { placed = λ run stop inside there. placed_so 
 rides_so : (r : RunsView) (w : TripWish) (v : RanksView) (late changes : ℕ) (rides : Rides) → late ≤ v.late → AreRides r w v changes rides → AreRides r w (with_late v late) changes rides
 rides_so r w v late changes rides low are = record {
   firsts = are.firsts;
-  count = are.count;
-  done = λ run is s rest is_run count leads less. are.done run is s rest is_run count leads (omega (arith, less, low));
   whole = λ is run s rest is_run count leads less. are.whole is run s rest is_run count leads (omega (arith, less, low));
 }
 

@@ -7,7 +7,7 @@ use Rattle.std.proofs.lemmas.List.{get_or_default, get_or_append_left, get_or-se
 use Rattle.std.proofs.Math.Seq.{get_or-append_seam}
 use Rattle.trip_builder.specs.declared.board.Useful.{Useful}
 use Rattle.trip_builder.specs.declared.ranks.FirstTwo.{FirstTwo}
-use Rattle.trip_builder.specs.Bounds.{unknown, Precede, IsNoted, IsPosted, Rises, Follows, BoundsWindow, NarrowsWindow}
+use Rattle.trip_builder.specs.Bounds.{unknown, Precede, IsNoted, IsPosted, Rises, Follows, BoundsWindow}
 
 at_end : (board : List Useful) (e : Useful) (k : ℕ) (none : Useful) → k ≡ length board → get_or (board ++ e ∷ []) k none ≡ e
 at_end board e k none is = ap (λ n. get_or (board ++ e ∷ []) n none) is ∙ get_or-append_seam board e [] none
@@ -235,14 +235,6 @@ pub none_found : (board : List Useful) (from to first count : ℕ) (bound : Firs
 none_found board from to first count bound earlier later none depart arrival posted low high =
     let place = place_between board from to first count depart arrival earlier later posted low high in
     absurd (omega (arith, place.0, place.1, none))
-
-pub none_narrowed : (board : List Useful) (from to first count : ℕ) → AllWithin (λ (u : Useful). u.moment < from) board 0 first
-    → AllWithin (λ (u : Useful). to + 1 ≤ u.moment) board count (length board) → count ≤ first → NarrowsWindow board from to from 0
-none_narrowed board from to first count earlier later none = record {
-  starts = omega arith;
-  ends = omega arith;
-  each = λ depart arrival posted low high. (let place = place_between board from to first count depart arrival earlier later posted low high in absurd (omega (arith, place.0, place.1, none)));
-}
 
 -- where the first and the last within the window are of one block
 pub one_block : (board : List Useful) (from to first count : ℕ) (a z : Useful) (two : FirstTwo) → Rises board → count ≤ length board → AllWithin (λ (u : Useful). u.moment < from) board 0 first

@@ -1,33 +1,27 @@
 -- The bounds of rides: what is noted of them, which stations are marked, and what is gathered for a station's board.
-use Rattle.std.proofs.Common.{◌≡◌, ◌∙◌, ℕ, ◌+◌, ◌-◌, ◌*◌, ◌<◌, ◌≤◌, ◌⊎◌, inl, inr, Bool, true, false, true≢false, List, [], ◌∷◌, ◌++◌, length, Option, refl, sym, ap, subst, arith, get_or, set, min, nat_lt, if◌then◌else◌}
+use Rattle.std.proofs.Common.{◌≡◌, ◌∙◌, ℕ, ◌+◌, ◌-◌, ◌*◌, ◌<◌, ◌≤◌, ◌⊎◌, inl, inr, Bool, true, false, true≢false, List, [], ◌∷◌, length, Option, refl, sym, ap, subst, arith, get_or, set, min, nat_lt, if◌then◌else◌}
 use Rattle.std.specs.Option.{option_map_or}
 use Rattle.std.proofs.lemmas.Bool.{cases_lt}
 use Rattle.std.proofs.lemmas.Bool.Decides.{nat_tests}
-use Rattle.std.proofs.lemmas.List.{get_or_default, get_or_append_left, get_or-set_same, get_or-set_other}
+use Rattle.std.proofs.lemmas.List.{get_or-set_same, get_or-set_other}
 use Rattle.std.proofs.lemmas.Nat.{same_from_place}
 use Rattle.std.proofs.lemmas.Option.{slice_get_past}
-use Rattle.std.proofs.Math.Seq.{get_or-append_seam}
 use Rattle.offer_codes.specs.declared.code.Segment.{Segment}
 use Rattle.train_runs.specs.declared.run.Stop.{Stop}
-use Rattle.train_runs.specs.declared.departure.Departure.{Departure}
 use Rattle.train_runs.specs.Stops.{RunView, stop_at}
 use Rattle.train_runs.specs.Runs.{RunsView}
 use Rattle.trip_builder.specs.declared.trip.TripWish.{TripWish}
 use Rattle.trip_builder.specs.declared.ranks.FirstTwo.{FirstTwo}
 use Rattle.trip_builder.specs.declared.rides.Rides.{Rides}
-use Rattle.trip_builder.specs.Segments.{stops_of, first_stop, last_stop}
-use Rattle.trip_builder.specs.Search.{Rise, DepartFromKnown}
-use Rattle.trip_builder.specs.Bounds.{unknown, no_rank, LeadsTo, rank_of, RanksView, AreRanks, Precede, FirstsOfRide, FirstsOfStop, IsMarkedRun, LeavesLate, AreRides, AreUnknown, ReachView, IsReach, PrecedeAfter}
-use Rattle.trip_builder.proofs.Bounding.{unknown_precede, after_found}
-use Rattle.trip_builder.proofs.Riding.{arrives_on}
+use Rattle.trip_builder.specs.Segments.{stops_of, first_stop}
+use Rattle.trip_builder.specs.Bounds.{unknown, LeadsTo, rank_of, RanksView, AreRanks, Precede, FirstsOfRide, FirstsOfStop, IsMarkedRun, AreMarked, KeepMarks, AreRides, AreUnknown}
+use Rattle.trip_builder.proofs.Bounding.{unknown_precede}
 
 -- ---- what is noted of the rides
 
-pub unknown_rides : (r : RunsView) (w : TripWish) (v : RanksView) (changes : ℕ) (rides : Rides) → AreRanks r w v → AreUnknown (length r.runs) rides → AreRides r w v changes rides
+pub unknown_rides : (r : RunsView) (w : TripWish) (v : RanksView) (changes : ℕ) (rides : Rides) → AreRanks r w v → AreUnknown rides → AreRides r w v changes rides
 unknown_rides r w v changes rides ranks none = record {
   firsts = λ run stop s rest is_run is_stop count leads. subst (λ (x : FirstTwo). Precede x (rank_of v s rest)) (sym (none.firsts run stop)) (unknown_precede r w v ranks s rest leads);
-  count = none.count;
-  done = λ run is. absurd (true≢false (sym is ∙ none.done run));
   whole = λ is. absurd (true≢false (sym is ∙ none.all));
 }
 
@@ -76,9 +70,21 @@ firsts_put r w v changes width firsts run stop place two at small inside are own
 
 -- ---- marks
 
--- marks that were made stay
-abbrev pub StayMarked : List Bool → List Bool → Type 0
-StayMarked old new = (n : ℕ) → get_or old n true ≡ true → get_or new n true ≡ true
+pub still_so : (r : RunsView) (w : TripWish) (v : RanksView) (changes run : ℕ) (old new : List Bool) → KeepMarks old new → IsMarkedRun r w v changes run old → IsMarkedRun r w v changes run new
+still_so r w v changes run old new keep was s rest is count leads less = keep (first_stop r s).station.0 (was s rest is count leads less)
+
+-- a run that isn't known has no stop
+pub past_marked : (r : RunsView) (w : TripWish) (v : RanksView) (changes count : ℕ) (marks : List Bool) → count ≡ length r.runs → ((run : ℕ) → run < count → IsMarkedRun r w v changes run marks)
+    → AreMarked r w v changes marks
+past_marked r w v changes count marks is each run = by_place (cases_lt run count)
+  where
+    by_place : (run < count) ⊎ (count ≤ run) → IsMarkedRun r w v changes run marks
+    by_place (inl less) = each run less
+    by_place (inr past) = λ s rest is_run many leads low. absurd (
+        let none : length (stops_of r run) ≡ 0 = ap (λ (o : Option RunView). length (option_map_or (λ (it : RunView). it.stops) o [])) (slice_get_past r.runs run (omega (arith, is, past))) in
+        let ends : s.span.to < length (stops_of r run) = subst (λ n. s.span.to < length (stops_of r n)) is_run leads.known.0.ends in
+        omega (arith, none, ends)
+        )
 
 -- ---- a run, from its last stop on
 
@@ -109,7 +115,7 @@ MarkedFrom r w v changes run stops marks back = (s : Segment) (rest : List Segme
     → get_or marks (first_stop r s).station.0 true ≡ true
 
 pub marked_more : (r : RunsView) (w : TripWish) (v : RanksView) (changes run stops : ℕ) (old new : List Bool) (two : FirstTwo) (back stop late : ℕ) (off : Stop) → back < stops → stop ≡ stops - 1 - back
-    → stop_at (stops_of r run) stop ≡ off → late ≡ v.late → FirstsOfRide r w v changes run stop two → StayMarked old new → (two.first < late → get_or new off.station.0 true ≡ true)
+    → stop_at (stops_of r run) stop ≡ off → late ≡ v.late → FirstsOfRide r w v changes run stop two → KeepMarks old new → (two.first < late → get_or new off.station.0 true ≡ true)
     → MarkedFrom r w v changes run stops old back → MarkedFrom r w v changes run stops new (back + 1)
 marked_more r w v changes run stops old new two back stop late off fits at there last own stay mark further s rest is_run low count leads less = by_place (cases_lt stop s.span.from)
   where
@@ -144,41 +150,6 @@ pub below_all : (r : RunsView) (w : TripWish) (v : RanksView) (changes run from 
 below_all r w v changes run from below two all before s rest is_run is_stop count leads =
     let ends : s.span.to < length (stops_of r run) = subst (λ n. s.span.to < length (stops_of r n)) is_run leads.known.0.ends in
     before s rest is_run is_stop (omega (arith, ends, all)) count leads
-
--- where nothing that leaves any station after the train came to a stop is before the two
-pub ride_ended : (r : RunsView) (w : TripWish) (v : RanksView) (changes : ℕ) (reach : ReachView) (run from stop seconds stations : ℕ) (two : FirstTwo) (off : Stop) → IsReach r w v changes reach → Rise r → DepartFromKnown r
-    → stations ≡ length r.stations → ((rank : ℕ) → v.late ≤ rank → rank < no_rank → Precede two rank) → PrecedeAfter reach.boards stations seconds two → stop_at (stops_of r run) stop ≡ off → seconds ≡ off.arrive
-    → FirstsBelow r w v (changes + 1) run from stop two → FirstsOfRide r w v (changes + 1) run from two
-ride_ended r w v changes reach run from stop seconds stations two off are rise known all late precede there at before s rest is_run is_stop count leads = by_place (cases_lt s.span.to stop)
-  where
-    by_place : (s.span.to < stop) ⊎ (stop ≤ s.span.to) → Precede two (rank_of v s rest)
-    by_place (inl less) = before s rest is_run is_stop less count leads
-    by_place (inr past) =
-        let ends : s.span.to < length (stops_of r run) = subst (λ n. s.span.to < length (stops_of r n)) is_run leads.known.0.ends in
-        let up = arrives_on r run stop s.span.to rise past ends in
-        let here : (stop_at (stops_of r run) stop).arrive ≡ off.arrive = ap (λ (x : Stop). x.arrive) there in
-        let last : (last_stop r s).arrive ≡ (stop_at (stops_of r run) s.span.to).arrive = ap (λ n. (stop_at (stops_of r n) s.span.to).arrive) is_run in
-        after_found r w v changes reach stations seconds two are known all late precede s rest count leads (omega (arith, up, here, at, last))
-
--- ---- what is gathered of a station's departures
-
-pub firsts_pushed : (r : RunsView) (w : TripWish) (v : RanksView) (changes : ℕ) (ds : List Departure) (n : ℕ) (twos new : List FirstTwo) (d : Departure) (two : FirstTwo) → new ≡ twos ++ two ∷ [] → length twos ≡ n → n < length ds
-    → d ≡ get_or ds n d → FirstsOfRide r w v changes d.run.0 d.stop two
-    → ((k : ℕ) (e : Departure) (x : FirstTwo) → k < n → FirstsOfRide r w v changes (get_or ds k e).run.0 (get_or ds k e).stop (get_or twos k x))
-    → (k : ℕ) (e : Departure) (x : FirstTwo) → k < n + 1 → FirstsOfRide r w v changes (get_or ds k e).run.0 (get_or ds k e).stop (get_or new k x)
-firsts_pushed r w v changes ds n twos new d two is size fits at own before k e x high =
-    subst (λ (l : List FirstTwo). FirstsOfRide r w v changes (get_or ds k e).run.0 (get_or ds k e).stop (get_or l k x)) (sym is) (by_place (cases_lt k n))
-  where
-    by_place : (k < n) ⊎ (n ≤ k) → FirstsOfRide r w v changes (get_or ds k e).run.0 (get_or ds k e).stop (get_or (twos ++ two ∷ []) k x)
-    by_place (inl less) =
-        subst (λ (y : FirstTwo). FirstsOfRide r w v changes (get_or ds k e).run.0 (get_or ds k e).stop y) (sym (get_or_append_left twos (two ∷ []) x k (omega (arith, less, size)))) (before k e x less)
-    by_place (inr past) =
-        let here : k ≡ length twos = omega (arith, high, past, size) in
-        let at_n : k ≡ n = omega (arith, high, past) in
-        let last : get_or (twos ++ two ∷ []) k x ≡ two = ap (λ m. get_or (twos ++ two ∷ []) m x) here ∙ get_or-append_seam twos two [] x in
-        let same : get_or ds k e ≡ d = ap (λ m. get_or ds m e) at_n ∙ (get_or_default ds n e d fits ∙ sym at) in
-        subst (λ (y : FirstTwo). FirstsOfRide r w v changes (get_or ds k e).run.0 (get_or ds k e).stop y) (sym last)
-        (subst (λ (y : Departure). FirstsOfRide r w v changes y.run.0 y.stop two) (sym same) own)
 
 -- ---- a run without a change
 

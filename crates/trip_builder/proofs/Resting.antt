@@ -1,14 +1,14 @@
 -- Parts of the time: what is told in one of them, and what each knows of the later ones.
-use Rattle.std.proofs.Common.{◌≡◌, ◌∙◌, ℕ, ◌+◌, ◌-◌, ◌*◌, ◌/◌, ◌%◌, ◌^◌, ◌<◌, ◌≤◌, ◌⊎◌, inl, inr, min, List, length, refl, sym, ap, subst, arith, get_or, set, length-set}
+use Rattle.std.proofs.Common.{◌≡◌, ◌∙◌, ℕ, ◌+◌, ◌-◌, ◌/◌, ◌%◌, ◌^◌, ◌<◌, ◌≤◌, ◌⊎◌, inl, inr, min, List, length, refl, sym, ap, subst, arith, get_or, set, length-set}
 use Rattle.std.proofs.Math.Nat.{div-mul-le_self}
 use Rattle.std.proofs.lemmas.Bool.{cases_lt, cases_eq}
 use Rattle.std.proofs.lemmas.List.{get_or_default, get_or-set_same, get_or-set_other}
-use Rattle.std.proofs.lemmas.Nat.{le-div, pow_pos, div-add-mod', mod_below, mul-le}
+use Rattle.std.proofs.lemmas.Nat.{le-div, pow_pos}
 use Rattle.trip_builder.specs.declared.board.Useful.{Useful}
 use Rattle.trip_builder.specs.declared.ranks.FirstTwo.{FirstTwo}
 use Rattle.trip_builder.specs.declared.rests.Parts.{Parts}
 use Rattle.trip_builder.specs.Bounds.{unknown, Precede, Rises}
-use Rattle.trip_builder.specs.Boards.{part_at, Keeps, KeepsBy, IsTold, AreSettled, AreTold, AreRestsIn, AreHints}
+use Rattle.trip_builder.specs.Boards.{part_at, KeepsBy, IsTold, AreSettled, AreTold, AreRestsIn, AreHints}
 
 -- what is read where a board has no place
 abbrev pub nothing : Useful
@@ -21,45 +21,7 @@ quotient_up x y k some up = let low = div-mul-le_self x k in le-div (x / k) y k 
 pub part_up : (parts : Parts) (a b : ℕ) → a ≤ b → part_at parts a ≤ part_at parts b
 part_up parts a b up = quotient_up (a - parts.start) (b - parts.start) (2 ^ (parts.shift % 64)) (pow_pos (parts.shift % 64)) (omega (arith, up))
 
-quotient_end : (x k part : ℕ) → 0 < k → x / k ≤ part → x < (part + 1) * k
-quotient_end x k part some up =
-    let whole = div-add-mod' x k in
-    let rest = mod_below x k some in
-    let low = mul-le (x / k) k part k up (omega arith) in
-    omega (arith, whole, rest, low)
-
--- the moments of a part come before its end
-pub part_ends : (parts : Parts) (seconds part : ℕ) → part_at parts seconds ≤ part → seconds ≤ parts.start + (part + 1) * 2 ^ (parts.shift % 64)
-part_ends parts seconds part up =
-    let end = quotient_end (seconds - parts.start) (2 ^ (parts.shift % 64)) part (pow_pos (parts.shift % 64)) up in
-    omega (arith, end)
-
--- so they do where the sums and products stop at the largest number
-pub end_reached : (most start part k a s past sum end last seconds : ℕ) → 0 < k → a ≡ min (part + 1) most → s ≡ k → past ≡ min (a * s) most → sum ≡ min (start + past) most → end ≡ min sum last → last ≤ most → seconds ≤ last
-    → seconds ≤ start + (part + 1) * k → seconds ≤ end
-end_reached most start part k a s past sum end last seconds some a_is s_is past_is sum_is end_is fits low high = by_place (cases_lt most (part + 1))
-  where
-    by_place : (most < part + 1) ⊎ (part + 1 ≤ most) → seconds ≤ end
-    by_place (inl over) =
-        let full : a ≡ most = omega (arith, a_is, over) in
-        let product : a * s ≡ most * k = ap (λ x. x * s) full ∙ ap (λ x. most * x) s_is in
-        let large = mul-le most 1 most k (omega arith) some in
-        omega (arith, product, large, past_is, sum_is, end_is, fits, low)
-    by_place (inr within) =
-        let exact : a ≡ part + 1 = omega (arith, a_is, within) in
-        let product : a * s ≡ (part + 1) * k = ap (λ x. x * s) exact ∙ ap (λ x. (part + 1) * x) s_is in
-        omega (arith, product, past_is, sum_is, end_is, fits, low, high)
-
 -- ---- what is told
-
-pub kept_set : (rests : List FirstTwo) (place : ℕ) (new : FirstTwo) → place < length rests → ((rank : ℕ) → Precede (get_or rests place unknown) rank → Precede new rank) → Keeps rests (set rests place new)
-kept_set rests place new within keeps n rank has = by_place (cases_eq n place)
-  where
-    by_place : (n ≡ place) ⊎ (n ≡ place → ⊥) → Precede (get_or (set rests place new) n unknown) rank
-    by_place (inl here) =
-        subst (λ m. Precede (get_or (set rests place new) m unknown) rank) (sym here)
-        (subst (λ (x : FirstTwo). Precede x rank) (sym (get_or-set_same rests place new unknown within)) (keeps rank (subst (λ m. Precede (get_or rests m unknown) rank) here has)))
-    by_place (inr apart) = subst (λ (x : FirstTwo). Precede x rank) (sym (get_or-set_other rests place n new unknown apart)) has
 
 pub told_set : (rests : List FirstTwo) (place part : ℕ) (new : FirstTwo) (rank : ℕ) → place < length rests → place ≡ min part (length rests - 1) → Precede new rank → IsTold (set rests place new) part rank
 told_set rests place part new rank within is has n low inside =
@@ -69,16 +31,6 @@ told_set rests place part new rank within is has n low inside =
       from = omega (arith, is, low, inside, size);
       within = omega (arith, within, size);
       precedes = subst (λ (x : FirstTwo). Precede x rank) (sym (get_or-set_same rests place new unknown within)) has;
-    }
-
-pub told_kept : (old new : List FirstTwo) (part rank : ℕ) → length new ≡ length old → Keeps old new → IsTold old part rank → IsTold new part rank
-told_kept old new part rank size keeps told n low inside =
-    let it = told n low (omega (arith, inside, size)) in
-    record {
-      place = it.place;
-      from = it.from;
-      within = let h = it.within in omega (arith, h, size);
-      precedes = keeps it.place rank it.precedes;
     }
 
 -- what the two precede that are put in a part's place stays
@@ -99,9 +51,6 @@ told_kept_by two old new part rank size keeps both told n low inside =
       within = let h = it.within in omega (arith, h, size);
       precedes = keeps it.place rank both it.precedes;
     }
-
-pub told_sooner : (rests : List FirstTwo) (part later rank : ℕ) → part ≤ later → IsTold rests later rank → IsTold rests part rank
-told_sooner rests part later rank up told n low inside = told n (omega (arith, low, up)) inside
 
 -- ---- what is told of a board, from its last departure back
 
@@ -191,22 +140,15 @@ pub rests_made : (board : List Useful) (parts : Parts) (told rests : List FirstT
 rests_made board parts told rests size are settled j n rank none inside low few has =
     settled_told told rests (part_at parts (get_or board j none).moment) n rank settled (are j rank none inside has) low (omega (arith, few, size))
 
-pub hints_made : (board : List Useful) (parts : Parts) (last : ℕ) (rests : List FirstTwo) → 0 < length board → Rises board → parts.start ≡ (get_or board 0 nothing).moment
-    → last ≡ (get_or board (length board - 1) nothing).moment → part_at parts last < length rests → AreRestsIn board parts rests → AreHints board parts last (length rests) (λ n. get_or rests n unknown)
-hints_made board parts last rests some rises start end count are = record {
-  spanned = record { starts = starts; stops = stops };
+pub hints_made : (board : List Useful) (parts : Parts) (last : ℕ) (rests : List FirstTwo) → 0 < length board → Rises board → last ≡ (get_or board (length board - 1) nothing).moment → part_at parts last < length rests → AreRestsIn board parts rests → AreHints board parts last (length rests) (λ n. get_or rests n unknown)
+hints_made board parts last rests some rises end count are = record {
+  stops = stops;
   few = few;
   rests = λ j n rank none inside low has. are j n rank none inside low (below n (part_at parts (get_or board j none).moment) low (few j none inside)) has;
 }
   where
     below : (a b : ℕ) → a ≤ b → b < length rests → a < length rests
     below a b low high = omega (arith, low, high)
-
-    starts : (j : ℕ) (none : Useful) → j < length board → parts.start ≤ (get_or board j none).moment
-    starts j none inside =
-        let up = (rises 0 j none (omega arith) inside).0 in
-        let same = ap (λ (u : Useful). u.moment) (get_or_default board 0 nothing none some) in
-        omega (arith, up, same, start)
 
     stops : (j : ℕ) (none : Useful) → j < length board → (get_or board j none).moment ≤ last
     stops j none inside =

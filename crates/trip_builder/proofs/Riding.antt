@@ -12,10 +12,10 @@ use Rattle.train_runs.specs.declared.departure.Departure.{Departure}
 use Rattle.train_runs.specs.Stops.{RunView, stop_at}
 use Rattle.train_runs.specs.Runs.{RunsView}
 use Rattle.trip_builder.specs.declared.trip.TripWish.{TripWish}
-use Rattle.trip_builder.specs.Segments.{segment, stops_of, first_stop, last_stop}
+use Rattle.trip_builder.specs.Segments.{IsKnown, segment, stops_of, first_stop, last_stop}
 use Rattle.trip_builder.specs.Order.{last_arrival}
 use Rattle.trip_builder.specs.Trips.{connects, change_at, longest_wait}
-use Rattle.trip_builder.specs.Best.{IsKnown, IsDecided}
+use Rattle.trip_builder.specs.Best.{IsDecided}
 use Rattle.trip_builder.specs.Search.{Rise, AreLeaving, AreAllLeaving, AllArriveBefore, AreDecidedWith, AreDecidedFrom}
 use Rattle.trip_builder.specs.Ends.{IsThere}
 use Rattle.trip_builder.specs.Bounds.{goes_to, arrival_of}

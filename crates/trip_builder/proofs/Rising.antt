@@ -5,10 +5,10 @@ use Rattle.std.specs.Option.{option_map_or}
 use Rattle.std.proofs.lemmas.Bool.Decides.{nat_tests}
 use Rattle.std.proofs.lemmas.Option.{slice_get_within, get_or_from_slice_get}
 use Rattle.train_runs.specs.declared.run.Stop.{Stop}
-use Rattle.train_runs.specs.Stops.{RunView, IsRun, no_stop, stop_at, is_unrisen, least_from, first_unrisen}
+use Rattle.train_runs.specs.Stops.{RunView, IsRun, stop_at, is_unrisen, least_from, first_unrisen}
 use Rattle.train_runs.specs.Runs.{RunsView}
 use Rattle.trip_builder.specs.Segments.{first_stop, last_stop, stops_of}
-use Rattle.trip_builder.specs.Search.{Rise, DepartFromKnown}
+use Rattle.trip_builder.specs.Search.{Rise}
 
 pub none_least : (p : ℕ → Bool) (j n k : ℕ) → least_from p j n ≡ None → j ≤ k → k < j + n → p k ≡ false
 none_least p j zero k e lo hi = absurd (omega arith)
@@ -84,17 +84,3 @@ all_rise r each s known = by_run (slice_get r.runs s.run.0) refl
         let low : s.span.from < length it.stops = let less = known.rises in omega (arith, less, high) in
         subst (λ (xs : List Stop). ((stop_at xs s.span.from).arrive ≤ (stop_at xs s.span.from).depart) × ((stop_at xs s.span.from).depart < (stop_at xs s.span.to).arrive)) (sym stops)
         (stays it.stops s.span.from sound.risen low, subst (λ k. (stop_at it.stops s.span.from).depart < (stop_at it.stops k).arrive) to up)
-
-pub all_known : (r : RunsView) → All (IsRun (length r.stations)) r.runs → DepartFromKnown r
-all_known r each s known = by_run (slice_get r.runs s.run.0) refl
-  where
-    by_run : (o : Option RunView) → slice_get r.runs s.run.0 ≡ o → (first_stop r s).station.0 < length r.stations
-    by_run None e = absurd (let none : length (stops_of r s.run.0) ≡ 0 = ap (λ (o : Option RunView). length (option_map_or (λ (it : RunView). it.stops) o [])) e in omega (arith, none, known.ends))
-    by_run (Some it) e =
-        let stops : stops_of r s.run.0 ≡ it.stops = ap (λ (o : Option RunView). option_map_or (λ (x : RunView). x.stops) o []) e in
-        let within = slice_get_within r.runs s.run.0 it e in
-        let is : slice_index_or r.runs s.run.0 it ≡ it = get_or_from_slice_get r.runs s.run.0 it it e in
-        let sound : IsRun (length r.stations) it = subst (IsRun (length r.stations)) is (each s.run.0 it within) in
-        let high : s.span.to < length it.stops = subst (λ (xs : List Stop). s.span.to < length xs) stops known.ends in
-        let low : s.span.from < length it.stops = let less = known.rises in omega (arith, less, high) in
-        subst (λ (xs : List Stop). (stop_at xs s.span.from).station.0 < length r.stations) (sym stops) (sound.known s.span.from no_stop low)

@@ -7,13 +7,12 @@ use Rattle.std.proofs.lemmas.Bool.Decides.{nat_tests}
 use Rattle.offer_codes.specs.declared.code.Segment.{Segment}
 use Rattle.train_runs.specs.Runs.{RunsView}
 use Rattle.train_runs.specs.declared.departure.Departure.{Departure}
-use Rattle.rail_ids.specs.declared.StationNo.{StationNo}
 use Rattle.trip_builder.specs.declared.trip.TripWish.{TripWish}
-use Rattle.trip_builder.specs.Segments.{segment, stops_of, first_stop, last_stop, last_of, no_segment}
+use Rattle.trip_builder.specs.Segments.{IsKnown, segment, stops_of, first_stop, last_stop, last_of, no_segment}
 use Rattle.trip_builder.specs.Order.{last_arrival}
-use Rattle.trip_builder.specs.Trips.{leaves, are_connected, begins, connects, uses_run, follows, is_chain, arrives, sets_out, is_trip, change_at, longest_wait}
-use Rattle.trip_builder.specs.Best.{IsKnown, IsTrip}
-use Rattle.trip_builder.specs.Search.{is_way, IsWay, IsWindowOf, goes_on, has_run, MayTake, Rise}
+use Rattle.trip_builder.specs.Trips.{leaves, begins, connects, uses_run, follows, is_chain, arrives, sets_out, is_trip, change_at, longest_wait}
+use Rattle.trip_builder.specs.Best.{IsTrip}
+use Rattle.trip_builder.specs.Search.{is_way, IsWay, goes_on, has_run, MayTake, Rise}
 
 pub both_true : (a b : Bool) → (a && b) ≡ true → (a ≡ true) × (b ≡ true)
 both_true true b e = (refl, e)

@@ -1,10 +1,10 @@
 -- The best trips: the first sixteen, whatever order they are found in.
-use Rattle.std.specs.Prelude.{◌≡◌, ◌<◌, ◌≤◌, ◌⊎◌, true, List, [], ◌∷◌, length}
+use Rattle.std.specs.Prelude.{◌≡◌, ◌≤◌, ◌⊎◌, true, List, [], ◌∷◌, length}
 use Rattle.std.specs.List.{AllByRecursion}
 use Rattle.offer_codes.specs.declared.code.Segment.{Segment}
 use Rattle.train_runs.specs.Runs.{RunsView}
 use Rattle.trip_builder.specs.declared.trip.TripWish.{TripWish}
-use Rattle.trip_builder.specs.Segments.{stops_of}
+use Rattle.trip_builder.specs.Segments.{IsKnown}
 use Rattle.trip_builder.specs.Order.{stands_before}
 use Rattle.trip_builder.specs.Trips.{is_trip, most_trips}
 
@@ -26,11 +26,6 @@ abbrev pub AreInOrder : RunsView → List (List Segment) → Type 0
 AreInOrder r [] = Unit {0}
 AreInOrder r (t ∷ ts) = AllByRecursion (λ u. stands_before r t u ≡ true) ts × AreInOrder r ts
 
--- a stop of a run, and a later one of it
-pub record IsKnown (r : RunsView) (s : Segment) : Type 0 where
-  pub rises : s.span.from < s.span.to
-  pub ends : s.span.to < length (stops_of r s.run.0)
-
 -- the trip is among the best, or they are sixteen and each of them stands before it
 abbrev pub IsDecided : RunsView → List (List Segment) → List Segment → Type 0
 IsDecided r best t = IsAmong best t ⊎ ((length best ≡ most_trips) × AllStandBefore r best t)
@@ -41,10 +36,6 @@ pub record IsTrip (r : RunsView) (w : TripWish) (t : List Segment) : Type 0 wher
   pub few : length t ≤ 3
   pub known : AllByRecursion (IsKnown r) t
   pub trip : is_trip r w t ≡ true
-
--- the wish has no trip at all
-pub record HasNoTrip (r : RunsView) (w : TripWish) : Type 0 where
-  pub none : (t : List Segment) → ¬ IsTrip r w t
 
 -- up to sixteen trips of the wish, in order
 pub record AreBest (r : RunsView) (w : TripWish) (best : List (List Segment)) : Type 0 where

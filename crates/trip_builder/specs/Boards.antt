@@ -1,13 +1,12 @@
--- The boards of all stations in one list, and what leaves any station from a moment on.
+-- The boards of all stations in one list.
 use Rattle.std.specs.Prelude.{◌≡◌, ◌<◌, ◌≤◌, ◌+◌, ◌-◌, ◌/◌, ◌%◌, ◌^◌, ◌++◌, ℕ, length, List, [], ◌∷◌, map, slice_index_or, slice_range}
 use Rattle.train_runs.specs.declared.departure.Departure.{Departure}
 use Rattle.trip_builder.specs.declared.board.Useful.{Useful}
 use Rattle.trip_builder.specs.declared.boards.Head.{Head}
 use Rattle.trip_builder.specs.declared.hints.Hints.{Hints}
-use Rattle.trip_builder.specs.declared.afters.Afters.{Afters}
 use Rattle.trip_builder.specs.declared.ranks.FirstTwo.{FirstTwo}
 use Rattle.trip_builder.specs.declared.rests.Parts.{Parts}
-use Rattle.trip_builder.specs.Bounds.{Precede, Rises, IsNoted, IsPosted, HasBest, unknown}
+use Rattle.trip_builder.specs.Bounds.{Precede, Rises, IsNoted, IsPosted, unknown}
 
 -- ---- what is put on a board
 
@@ -44,11 +43,7 @@ pub record HasAdded (old : List (List Useful)) (ds : List Departure) (twos : Lis
 abbrev pub part_at : Parts → ℕ → ℕ
 part_at parts seconds = (seconds - parts.start) / 2 ^ (parts.shift % 64)
 
--- all that the old ones precede
-abbrev pub Keeps : List FirstTwo → List FirstTwo → Type 0
-Keeps old new = (n rank : ℕ) → Precede (slice_index_or old n unknown) rank → Precede (slice_index_or new n unknown) rank
-
--- likewise, where these two precede it as well
+-- all that the old ones precede, where these two precede it as well
 abbrev pub KeepsBy : FirstTwo → List FirstTwo → List FirstTwo → Type 0
 KeepsBy two old new =
     (n rank : ℕ) → Precede two rank → Precede (slice_index_or old n unknown) rank
@@ -92,14 +87,9 @@ AreRests board parts rest =
     (j n rank : ℕ) (none : Useful) → j < length board → n ≤ part_at parts (slice_index_or board j none).moment
     → Precede (slice_index_or board j none).onward rank → Precede (rest n) rank
 
--- the board's departures leave from the start of the first part to the last moment
-pub record AreSpanned (board : List Useful) (parts : Parts) (last : ℕ) : Type 0 where
-  pub starts : (j : ℕ) (none : Useful) → j < length board → parts.start ≤ (slice_index_or board j none).moment
-  pub stops : (j : ℕ) (none : Useful) → j < length board → (slice_index_or board j none).moment ≤ last
-
--- likewise in that many parts, with the two of each
+-- the board's departures leave by the last moment, in that many parts, with the two of each
 pub record AreHints (board : List Useful) (parts : Parts) (last count : ℕ) (rest : ℕ → FirstTwo) : Type 0 where
-  pub spanned : AreSpanned board parts last
+  pub stops : (j : ℕ) (none : Useful) → j < length board → (slice_index_or board j none).moment ≤ last
   pub few : (j : ℕ) (none : Useful) → j < length board → part_at parts (slice_index_or board j none).moment < count
   pub rests : AreRests board parts rest
 
@@ -121,7 +111,6 @@ no_head =
       hints = 0;
       parts = record { start = 0; shift = 0 };
       last = 0;
-      best = record { first = 65_535; second = 65_535 };
     }
 
 abbrev pub board_of : List Useful → Head → List Useful
@@ -140,7 +129,6 @@ pub record IsHead (useful : List Useful) (rests : List FirstTwo) (h : Head) : Ty
   pub ends : h.end ≤ length useful
   pub rises : Rises (board_of useful h)
   pub hinted : AreHints (board_of useful h) h.parts h.last (length rests - h.hints) (rest_in rests h)
-  pub best_is : HasBest (board_of useful h) h.best
 
 -- the first head is that of no board
 pub record AreHeads (heads : List Head) (useful : List Useful) (rests : List FirstTwo) (numbers : List ℕ) : Type 0 where
@@ -154,33 +142,3 @@ pub record IsHeadOf (numbers : List ℕ) (heads : List Head) (station : ℕ) (h 
   pub known : station < length numbers
   pub within : slice_index_or numbers station 0 < length heads
   pub is : h ≡ slice_index_or heads (slice_index_or numbers station 0) no_head
-
--- ---- all boards together
-
--- what the two of the board's part precede is told for each second of that part
-abbrev pub IsPartTold : List FirstTwo → Head → Parts → ℕ → List FirstTwo → Type 0
-IsPartTold all h parts part rests =
-    (seconds rank : ℕ) → seconds ≤ h.last → part_at h.parts seconds ≡ part → Precede (rest_in all h part) rank
-    → IsTold rests (part_at parts seconds) rank
-
--- likewise for each second up to the board's last departure
-abbrev pub IsHeadTold : List FirstTwo → Head → Parts → List FirstTwo → Type 0
-IsHeadTold all h parts rests =
-    (seconds rank : ℕ) → seconds ≤ h.last → Precede (rest_in all h (part_at h.parts seconds)) rank
-    → IsTold rests (part_at parts seconds) rank
-
--- what leaves any station is told in its part
-abbrev pub AreAllTold : List (List Useful) → Parts → List FirstTwo → Type 0
-AreAllTold boards parts rests =
-    (n depart rank : ℕ) (none : List Useful) → n < length boards → IsPosted (slice_index_or boards n none) depart rank
-    → IsTold rests (part_at parts depart) rank
-
--- the two of each part precede what leaves any station in it or later
-abbrev pub AreAftersIn : List (List Useful) → Parts → List FirstTwo → Type 0
-AreAftersIn boards parts rests =
-    (n depart rank m : ℕ) (none : List Useful) → n < length boards → IsPosted (slice_index_or boards n none) depart rank
-    → m ≤ part_at parts depart → m < length rests
-    → Precede (slice_index_or rests m unknown) rank
-
-abbrev pub AreAfters : List (List Useful) → Afters → Type 0
-AreAfters boards afters = AreAftersIn boards afters.parts afters.rests.items

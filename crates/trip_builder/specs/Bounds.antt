@@ -13,9 +13,9 @@ use Rattle.trip_builder.specs.declared.ranks.Arrival.{Arrival}
 use Rattle.trip_builder.specs.declared.rides.Rides.{Rides}
 use Rattle.train_runs.specs.declared.departure.Departure.{Departure}
 use Rattle.train_runs.specs.declared.run.Stop.{Stop}
-use Rattle.trip_builder.specs.Segments.{stops_of, first_stop, last_stop}
+use Rattle.trip_builder.specs.Segments.{IsKnown, stops_of, first_stop, last_stop}
 use Rattle.trip_builder.specs.Trips.{connects, leaves}
-use Rattle.trip_builder.specs.Best.{IsKnown, IsTrip}
+use Rattle.trip_builder.specs.Best.{IsTrip}
 use Rattle.trip_builder.specs.Search.{has_run}
 use Rattle.trip_builder.specs.Ends.{IsThere}
 
@@ -162,19 +162,6 @@ abbrev pub BoundsWindow : List Useful → ℕ → ℕ → FirstTwo → Type 0
 BoundsWindow board from to two =
     (depart rank : ℕ) → IsPosted board depart rank → from ≤ depart → depart ≤ to → Precede two rank
 
--- it leaves from the first moment to the last, which is a part of the window
-pub record NarrowsWindow (board : List Useful) (from to first last : ℕ) : Type 0 where
-  pub starts : from ≤ first
-  pub ends : last ≤ to
-  pub each : (depart rank : ℕ) → IsPosted board depart rank → from ≤ depart → depart ≤ to → (first ≤ depart)
-      × (depart ≤ last)
-
--- the two precede what each departure of the board leads to
-abbrev pub HasBest : List Useful → FirstTwo → Type 0
-HasBest board two =
-    (k rank : ℕ) (none : Useful) → k < length board → Precede (slice_index_or board k none).onward rank
-    → Precede two rank
-
 -- ---- the board of a station, by what leads to the destination
 
 -- what leaves the station and goes on with that many changes is posted, unless it comes too late
@@ -226,18 +213,21 @@ IsMarkedRun r w v changes run marks =
     → rank_of v s rest < v.late
     → slice_index_or marks (first_stop r s).station.0 true ≡ true
 
+-- likewise of each run
+abbrev pub AreMarked : RunsView → TripWish → RanksView → ℕ → List Bool → Type 0
+AreMarked r w v changes marks = (run : ℕ) → IsMarkedRun r w v changes run marks
+
+-- marks that were made stay
+abbrev pub KeepMarks : List Bool → List Bool → Type 0
+KeepMarks old new = (n : ℕ) → slice_index_or old n true ≡ true → slice_index_or new n true ≡ true
+
 pub record AreRides (r : RunsView) (w : TripWish) (v : RanksView) (changes : ℕ) (rides : Rides) : Type 0 where
   pub firsts : (run stop : ℕ) → FirstsOfRide r w v changes run stop (firsts_in rides run stop)
-  pub count : length rides.done.items ≡ length r.runs
-  pub done : (run : ℕ) → slice_index_or rides.done.items run false ≡ true
-      → IsMarkedRun r w v changes run rides.marks.items
-  pub whole : rides.all ≡ true → (run : ℕ) → IsMarkedRun r w v changes run rides.marks.items
+  pub whole : rides.all ≡ true → AreMarked r w v changes rides.marks.items
 
--- rides of that many runs of which nothing is known
-pub record AreUnknown (runs : ℕ) (rides : Rides) : Type 0 where
+-- rides of which nothing is known
+pub record AreUnknown (rides : Rides) : Type 0 where
   pub firsts : (run stop : ℕ) → firsts_in rides run stop ≡ unknown
-  pub count : length rides.done.items ≡ runs
-  pub done : (run : ℕ) → slice_index_or rides.done.items run false ≡ false
   pub all : rides.all ≡ false
 
 -- ---- the bounds of all
@@ -282,10 +272,6 @@ PrecedeFrom boards station from two = (station < length boards)
     × ((depart rank : ℕ) (none : List Useful) → IsPosted (slice_index_or boards station none) depart rank
     → from ≤ depart → Precede two rank)
 
--- likewise that many stations
-abbrev pub PrecedeAfter : List (List Useful) → ℕ → ℕ → FirstTwo → Type 0
-PrecedeAfter boards stations from two = (n : ℕ) → n < stations → PrecedeFrom boards n from two
-
 -- what takes the run at the stop after the way, and goes on with so many changes and a last run that the way doesn't
 -- have, arrives no earlier
 abbrev pub BoundsRide : RunsView → TripWish → ℕ → List Segment → ℕ → ℕ → ℕ → Type 0
@@ -300,12 +286,6 @@ BoundsLeaving r w changes way station from to bound =
     (s : Segment) (rest : List Segment) → length rest ≡ changes → LeadsTo r w s rest
     → leaves station from to (first_stop r s) ≡ true → has_run way (end_of s rest).run.0 ≡ false
     → IsBound bound (arrival_of r s rest)
-
--- it leaves from the first moment to the last
-abbrev pub NarrowsLeaving : RunsView → TripWish → ℕ → StationNo → ℕ → ℕ → ℕ → ℕ → Type 0
-NarrowsLeaving r w changes station from to first last =
-    (s : Segment) (rest : List Segment) → length rest ≡ changes → LeadsTo r w s rest
-    → leaves station from to (first_stop r s) ≡ true → leaves station first last (first_stop r s) ≡ true
 
 -- the two precede what gets off a train at this stop, and goes on with that many changes to the destination
 abbrev pub FirstsOfStop : RunsView → TripWish → RanksView → ℕ → Stop → FirstTwo → Type 0

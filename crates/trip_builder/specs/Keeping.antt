@@ -7,7 +7,7 @@ use Rattle.trip_builder.specs.declared.best.Best.{Best}
 use Rattle.trip_builder.specs.declared.found.Found.{Found}
 use Rattle.trip_builder.specs.Order.{last_arrival, first_departure, exceeds}
 use Rattle.trip_builder.specs.Trips.{most_trips}
-use Rattle.trip_builder.specs.Best.{AreBest, HasNoTrip}
+use Rattle.trip_builder.specs.Best.{AreBest}
 use Rattle.trip_builder.specs.Search.{AllArriveBefore}
 use Rattle.trip_builder.specs.Bounds.{never, AreBounds}
 use Rattle.trip_builder.specs.Ends.{AreEnds}
@@ -30,7 +30,6 @@ pub record IsSearch (r : RunsView) (w : TripWish) (found : Found) : Type 0 where
   pub ends : AreEnds r w found.ends
   pub bounds : AreBounds r w found.bounds
   pub shortest : AreShortest r w found.shortest
-  pub over : found.over ≡ true → HasNoTrip r w
 
 -- ---- what can't come among the best
 

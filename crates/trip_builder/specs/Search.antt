@@ -8,10 +8,10 @@ use Rattle.train_runs.specs.declared.departure.Departure.{Departure}
 use Rattle.train_runs.specs.Stops.{stop_at}
 use Rattle.train_runs.specs.Runs.{RunsView}
 use Rattle.trip_builder.specs.declared.trip.TripWish.{TripWish}
-use Rattle.trip_builder.specs.Segments.{stops_of, first_stop, last_stop, last_of, segment}
+use Rattle.trip_builder.specs.Segments.{IsKnown, stops_of, first_stop, last_stop, last_of, segment}
 use Rattle.trip_builder.specs.Order.{sorted_in, last_arrival}
 use Rattle.trip_builder.specs.Trips.{leaves, change_at, uses_run, sets_out, arrives, most_trips, longest_wait}
-use Rattle.trip_builder.specs.Best.{IsKnown, IsTrip, IsDecided, AreBest}
+use Rattle.trip_builder.specs.Best.{IsTrip, IsDecided, AreBest}
 
 -- a beginning of a trip, or nothing yet
 abbrev pub is_way : RunsView → TripWish → List Segment → Bool
@@ -91,10 +91,6 @@ abbrev pub Rise : RunsView → Type 0
 Rise r =
     (s : Segment) → IsKnown r s → ((first_stop r s).arrive ≤ (first_stop r s).depart)
     × ((first_stop r s).depart < (last_stop r s).arrive)
-
--- each segment departs from a known station
-abbrev pub DepartFromKnown : RunsView → Type 0
-DepartFromKnown r = (s : Segment) → IsKnown r s → (first_stop r s).station.0 < length r.stations
 
 -- the best sixteen with one more
 abbrev pub keep : RunsView → TripWish → List (List Segment) → List Segment → List (List Segment)

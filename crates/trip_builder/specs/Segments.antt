@@ -1,5 +1,5 @@
 -- The segments of all runs.
-use Rattle.std.specs.Prelude.{ℕ, suc, zero, ◌+◌, ◌-◌, List, [], ◌∷◌, ◌++◌, length, slice_get, slice_index_or}
+use Rattle.std.specs.Prelude.{ℕ, suc, zero, ◌+◌, ◌-◌, ◌<◌, List, [], ◌∷◌, ◌++◌, length, slice_get, slice_index_or}
 use Rattle.std.specs.Option.{option_map_or}
 use Rattle.offer_codes.specs.declared.code.Segment.{Segment}
 use Rattle.train_runs.specs.declared.run.Stop.{Stop}
@@ -15,6 +15,11 @@ first_stop r s = stop_at (stops_of r s.run.0) s.span.from
 
 abbrev pub last_stop : RunsView → Segment → Stop
 last_stop r s = stop_at (stops_of r s.run.0) s.span.to
+
+-- a stop of a run, and a later one of it
+pub record IsKnown (r : RunsView) (s : Segment) : Type 0 where
+  pub rises : s.span.from < s.span.to
+  pub ends : s.span.to < length (stops_of r s.run.0)
 
 abbrev pub segment : ℕ → ℕ → ℕ → Segment
 segment run from to = record { run = record { 0 = run }; span = record { from = from; to = to } }

@@ -1,6 +1,6 @@
 ghost use Rattle.std.specs.Prelude.{◌≡◌, ◌≤◌, ◌<◌, ◌+◌, true, length, OnOk, IfSome};
 ghost use Rattle.std.specs.List.{AllByRecursion};
-ghost use Rattle.trip_builder.specs.Best.{IsKnown};
+ghost use Rattle.trip_builder.specs.Segments.{IsKnown};
 ghost use Rattle.trip_builder.specs.Search.{IsWay, Grows};
 ghost use Rattle.trip_builder.specs.Keeping.{IsSearch};
 ghost use Rattle.trip_builder.specs.Bounds.{never};
@@ -201,8 +201,7 @@ fn reach(
     if bound > found.ceiling || is_hopeless(runs, found, bound, way, trains) {
         return Ok(());
     }
-    let part = found.bounds.narrowed_early(trains - 1, &window);
-    change(runs, wish, way, trains, leaving(runs, part), found)?;
+    change(runs, wish, way, trains, leaving(runs, window), found)?;
     Ok(())
 }
 

@@ -44,11 +44,6 @@ impl Best {
         self.trips
     }
 
-    /// Whether there is no trip yet.
-    pub(crate) fn are_none(&self) -> bool {
-        self.trips.is_empty()
-    }
-
     /// By which allocator the trips are kept.
     pub(crate) fn allocator(&self) -> Global {
         *self.trips.allocator()

@@ -19,13 +19,6 @@ pub(crate) struct Useful {
     pub so_far: FirstTwo,
 }
 
-/// From when to when something leaves, both included.
-#[derive(Clone, Copy)]
-pub(crate) struct Part {
-    pub from: u64,
-    pub to: u64,
-}
-
 /// The departures of a station that lead to the destination, the earlier ones first, cut into blocks of time.
 ///
 /// A window as long as a block lies in two neighbouring ones at most: so the end of the one and the beginning of the
@@ -187,22 +180,6 @@ pub(crate) fn moment_at(useful: &[Useful], place: usize) -> u64
     ensures small { result < 2 ^ 32 }
 {
     u64::from(useful[place].moment)
-}
-
-/// Whether that many of the departures leave before these seconds.
-pub(crate) fn are_before(useful: &[Useful], count: usize, seconds: u64) -> bool
-    requires rises { Rises useful.now }
-    ensures within { result ≡ true → count ≤ length useful.now }
-    ensures earlier { result ≡ true → AllWithin (λ u. u.moment < seconds) useful.now 0 count }
-    ensures later { result ≡ true → AllWithin (λ u. seconds ≤ u.moment) useful.now count (length useful.now) }
-{
-    if count > useful.len() {
-        return false;
-    }
-    if count > 0 && moment_at(useful, count - 1) >= seconds {
-        return false;
-    }
-    count == useful.len() || seconds <= moment_at(useful, count)
 }
 
 /// How many of the departures leave before these seconds.

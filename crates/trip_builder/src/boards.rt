@@ -2,13 +2,13 @@ ghost use Rattle.std.specs.Prelude.{◌≡◌, ◌<◌, ◌≤◌, ◌+◌, ◌+
 ghost use Rattle.std.specs.List.{AllWithin};
 ghost use Rattle.std.specs.Option.{IfSome};
 ghost use Rattle.trip_builder.specs.declared.board.Useful.{Useful};
-ghost use Rattle.trip_builder.specs.Bounds.{Precede, Rises, IsPosted, BoundsWindow, NarrowsWindow, unknown};
-ghost use Rattle.trip_builder.specs.Boards.{InOrder, HasAdded, Keeps, AreSpanned, AreHintsOf, IsHeadOf, IsPartTold, IsHeadTold, AreAllTold, rest_in};
+ghost use Rattle.trip_builder.specs.Bounds.{Precede, Rises, IsPosted, BoundsWindow, unknown};
+ghost use Rattle.trip_builder.specs.Boards.{InOrder, HasAdded, AreHintsOf, IsHeadOf, rest_in};
 
-use crate::board::{Board, Part, Useful, are_before, count_before, moment_at};
+use crate::board::{Board, Useful, count_before};
 use crate::hints::Hints;
-use crate::ranks::{FirstTwo, NONE, UNKNOWN, join, later, precede_all};
-use crate::rests::{Parts, tell};
+use crate::ranks::{FirstTwo, NONE, UNKNOWN, join, precede_all};
+use crate::rests::Parts;
 use rail_ids::StationNo;
 use std::alloc::{AllocError, Global};
 use std::marker::Model;
@@ -22,7 +22,6 @@ pub(crate) struct Head {
     hints: usize,
     parts: Parts,
     last: u64,
-    best: FirstTwo,
 }
 
 /// Of a station from which nothing leads to the destination.
@@ -32,7 +31,6 @@ const NO_HEAD: Head = Head {
     hints: 0,
     parts: Parts { start: 0, shift: 0 },
     last: 0,
-    best: NONE,
 };
 
 /// For each station the departures that lead to the destination. They stand in one list, one board after the other.
@@ -41,7 +39,6 @@ pub(crate) struct Boards {
     numbers: Vec<usize>,
     heads: Vec<Head>,
     useful: Vec<Useful>,
-    places: Vec<u16>,
     rests: Vec<FirstTwo>,
 }
 
@@ -127,15 +124,12 @@ impl Boards {
         numbers.reserve(stations)?;
         let mut useful = Vec::new(alloc);
         useful.reserve(room)?;
-        let mut places = Vec::new(alloc);
-        places.reserve(room)?;
         let mut rests = Vec::new(alloc);
         rests.reserve(room)?;
         Ok(Boards {
             numbers,
             heads,
             useful,
-            places,
             rests,
         })
     }
@@ -156,7 +150,6 @@ impl Boards {
     {
         let begin = self.useful.len();
         self.useful.extend_from_slice(useful)?;
-        self.places.extend_from_slice(hints.places.as_slice())?;
         let before = self.rests.len();
         self.rests.extend_from_slice(hints.rests.as_slice())?;
         let number = self.heads.len();
@@ -166,34 +159,9 @@ impl Boards {
             hints: before,
             parts: hints.parts,
             last: hints.last,
-            best: first_of(hints.rests.as_slice()),
         })?;
         self.numbers.push(number)?;
         Ok(())
-    }
-
-    /// How many stations there are.
-    pub(crate) fn count(&self) -> usize
-        ensures { result ≡ length self.now }
-    {
-        self.numbers.len()
-    }
-
-    /// From when to when the station's departures leave of those from the one second to the other, both included.
-    pub(crate) fn narrowed(&self, station: StationNo, from: u64, to: u64) -> Part
-        requires end { to < 2 ^ 63 }
-        ensures from { from ≤ result.from }
-        ensures to { result.to ≤ to }
-        ensures each { (none : List Useful) → station.0 < length self.now
-            → NarrowsWindow (slice_index_or self.now station.0 none) from to result.from result.to }
-        ensures behind { length self.now ≤ station.0 → (result.from ≡ from) × (result.to ≡ to) }
-    {
-        let Some(head) = head_of(self.numbers.as_slice(), self.heads.as_slice(), station) else {
-            return Part { from, to };
-        };
-        let all = self.useful.as_slice();
-        let useful = &all[head.begin..head.end];
-        narrow(useful, head, self.places.as_slice(), from, to)
     }
 
     /// The first two by what leaves the station from the one second to the other, both included, where the window is as
@@ -209,7 +177,7 @@ impl Boards {
         };
         let all = self.useful.as_slice();
         let useful = &all[head.begin..head.end];
-        firsts_within(useful, head, self.places.as_slice(), from, to)
+        firsts_within(useful, from, to)
     }
 
     /// Whether these two precede all that leaves the station from this second on.
@@ -224,22 +192,10 @@ impl Boards {
         if from > head.last {
             return true;
         }
-        if precede_all(two, head.best) {
-            return true;
-        }
         precede_all(
             two,
             rest_at(head, self.rests.as_slice(), head.parts.at(from)),
         )
-    }
-
-    /// Notes what leaves any station in these parts of the time.
-    pub(crate) fn tell_all(&self, parts: Parts, rests: &mut [FirstTwo])
-        ensures { AreAllTold self.now parts rests.new }
-    {
-        for head in self.heads.as_slice() {
-            tell_board(head, self.rests.as_slice(), parts, rests);
-        }
     }
 }
 
@@ -253,16 +209,6 @@ fn head_of<'a>(numbers: &[usize], heads: &'a [Head], station: StationNo) -> Opti
     }
 }
 
-// The two of the first part.
-fn first_of(rests: &[FirstTwo]) -> FirstTwo
-    ensures { result ≡ slice_index_or rests.now 0 unknown }
-{
-    match rests.get(0) {
-        Some(two) => *two,
-        None => UNKNOWN,
-    }
-}
-
 // The two of this part of the board.
 fn rest_at(head: &Head, all: &[FirstTwo], part: usize) -> FirstTwo
     ensures { result ≡ rest_in all.now head.now part }
@@ -273,125 +219,25 @@ fn rest_at(head: &Head, all: &[FirstTwo], part: usize) -> FirstTwo
     }
 }
 
-// Notes what leaves by the board in these parts of the time.
-fn tell_board(head: &Head, all: &[FirstTwo], parts: Parts, rests: &mut [FirstTwo])
-    ensures kept { Keeps rests.old rests.new }
-    ensures told { IsHeadTold all.now head.now parts rests.new }
-{
-    let last = head.parts.at(head.last);
-    for part in 0..last {
-        tell_part(head, all, parts, part, rests);
-    }
-    tell_part(head, all, parts, last, rests);
-}
-
-// Likewise in this part of the board: where it ends, since that is all that the part tells of its departures.
-fn tell_part(head: &Head, all: &[FirstTwo], parts: Parts, part: usize, rests: &mut [FirstTwo])
-    ensures kept { Keeps rests.old rests.new }
-    ensures told { IsPartTold all.now head.now parts part rests.new }
-{
-    let end = head.parts.end_of(part, head.last);
-    tell(rests, parts.at(end), rest_at(head, all, part));
-}
-
-// From when to when the board's departures leave of those from the one second to the other, both included.
-fn narrow(useful: &[Useful], head: &Head, places: &[u16], from: u64, to: u64) -> Part
-    requires rises { Rises useful.now }
-    requires spanned { AreSpanned useful.now head.now.parts head.now.last }
-    requires end { to < 2 ^ 63 }
-    ensures { NarrowsWindow useful.now from to result.from result.to }
-{
-    let first = count_of(useful, head, places, from);
-    let past = count_of(useful, head, places, to + 1);
-    if past <= first {
-        return Part { from, to: 0 };
-    }
-    let earliest = useful[first];
-    let latest = useful[past - 1];
-    Part {
-        from: u64::from(earliest.moment),
-        to: u64::from(latest.moment),
-    }
-}
-
 // The first two by what leaves from the one second to the other, both included, where the window is as long as a block;
 // else two that precede them.
-fn firsts_within(useful: &[Useful], head: &Head, places: &[u16], from: u64, to: u64) -> FirstTwo
+fn firsts_within(useful: &[Useful], from: u64, to: u64) -> FirstTwo
     requires rises { Rises useful.now }
-    requires spanned { AreSpanned useful.now head.now.parts head.now.last }
     requires end { to < 2 ^ 63 }
     ensures { BoundsWindow useful.now from to result }
 {
-    let first = count_of(useful, head, places, from);
-    let count = count_from(useful, head, places, first, to + 1);
+    let first = count_before(useful, from);
+    let count = count_before(useful, to + 1);
     if count <= first {
         return NONE;
     }
     let earliest = useful[first];
     let latest = useful[count - 1];
     if earliest.block == latest.block {
-        return later(earliest.onward, latest.so_far);
+        return earliest.onward;
     }
     if earliest.block.saturating_add(1) == latest.block {
         return join(earliest.onward, latest.so_far);
     }
     UNKNOWN
-}
-
-// How many of the departures leave before these seconds, where it may be as many as these.
-fn count_from(useful: &[Useful], head: &Head, places: &[u16], count: usize, seconds: u64) -> usize
-    requires rises { Rises useful.now }
-    requires spanned { AreSpanned useful.now head.now.parts head.now.last }
-    ensures within { result ≤ length useful.now }
-    ensures earlier { AllWithin (λ u. u.moment < seconds) useful.now 0 result }
-    ensures later { AllWithin (λ u. seconds ≤ u.moment) useful.now result (length useful.now) }
-{
-    if are_before(useful, count, seconds) {
-        return count;
-    }
-    count_of(useful, head, places, seconds)
-}
-
-// The same, by the board's hints.
-fn count_of(useful: &[Useful], head: &Head, places: &[u16], seconds: u64) -> usize
-    requires rises { Rises useful.now }
-    requires spanned { AreSpanned useful.now head.now.parts head.now.last }
-    ensures within { result ≤ length useful.now }
-    ensures earlier { AllWithin (λ u. u.moment < seconds) useful.now 0 result }
-    ensures later { AllWithin (λ u. seconds ≤ u.moment) useful.now result (length useful.now) }
-{
-    if seconds <= head.parts.start {
-        return 0;
-    }
-    if seconds > head.last {
-        return useful.len();
-    }
-    let count = follow(useful, hint_of(head, places, seconds), seconds);
-    if are_before(useful, count, seconds) {
-        return count;
-    }
-    count_before(useful, seconds)
-}
-
-// Where to look for these seconds.
-fn hint_of(head: &Head, places: &[u16], seconds: u64) -> u16 {
-    match places.get(head.hints.saturating_add(head.parts.at(seconds))) {
-        Some(place) => *place,
-        None => u16::MAX,
-    }
-}
-
-// How many places a hint is followed by at most.
-const MOST_STEPS: usize = 8;
-
-// The first departure from the hint on that leaves no earlier, where it isn't far.
-fn follow(useful: &[Useful], hint: u16, seconds: u64) -> usize {
-    let begin = usize::from(hint);
-    let end = useful.len().min(begin + MOST_STEPS);
-    for place in begin..end {
-        if moment_at(useful, place) >= seconds {
-            return place;
-        }
-    }
-    end
 }

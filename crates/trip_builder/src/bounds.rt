@@ -1,17 +1,14 @@
 ghost use Rattle.std.specs.Prelude.{◌≡◌, ◌<◌, ◌≤◌, ◌+◌, ◌^◌, ℕ, true, [], length, IfOk, OnOk};
 ghost use Rattle.train_runs.specs.Runs.{RunsView};
 ghost use Rattle.trip_builder.specs.declared.trip.TripWish.{TripWish};
-ghost use Rattle.trip_builder.specs.Search.{Rise, DepartFromKnown};
 ghost use Rattle.trip_builder.specs.Ends.{AreEnds};
-ghost use Rattle.trip_builder.specs.Bounds.{RanksView, ReachView, Precede, AreRanks, AreRides, AreFirsts, AreBoards, IsReach, AreBounds, AreNarrowed, StayRides, StayLastRides, BoundsRide, BoundsLeaving, NarrowsLeaving, FirstsOfRide, FirstsOfStop, PrecedeFrom, PrecedeAfter, no_rank};
+ghost use Rattle.trip_builder.specs.Bounds.{RanksView, ReachView, Precede, AreRanks, AreRides, AreFirsts, AreBoards, IsReach, AreBounds, AreNarrowed, StayRides, StayLastRides, AreMarked, IsMarkedRun, KeepMarks, BoundsRide, BoundsLeaving, FirstsOfRide, FirstsOfStop, no_rank};
 
-use crate::afters::Afters;
-use crate::board::Part;
 use crate::boards::{Boards, Draft};
 use crate::departures::{Window, all_leaving, leaving, stop_of, stops_of, window_at, window_of};
 use crate::ends::Ends;
 use crate::probe::probed_rank;
-use crate::ranks::{FirstTwo, NO_RANK, Ranks, join};
+use crate::ranks::{FirstTwo, Ranks, join};
 use crate::reached::Near;
 use crate::rides::Rides;
 use crate::trip::TripWish;
@@ -27,40 +24,20 @@ const BOUNDED_CHANGES: usize = 3;
 /// The seconds of a change's window, both ends included, where a change takes no time.
 const LONGEST_WINDOW: u32 = 14_401;
 
-/// The bounds with one number of changes: of each ride, of what leaves each station, and of what leaves any of them
-/// from a moment on. Without a change rides are known by the ranks.
+/// The bounds with one number of changes: of each ride, and of what leaves each station. Without a change rides are known
+/// by the ranks.
 #[derive(Drop)]
 struct Reach {
     rides: Rides,
     boards: Boards,
-    afters: Afters,
 }
 
 impl Model for Reach {
     ghost use Rattle.trip_builder.specs.Bounds.{ReachView};
-    ghost use Rattle.trip_builder.specs.Boards.{AreAfters};
 
     ghost Value = { ReachView };
 
     ghost view = { λ r. record { rides = r.rides; boards = r.boards } };
-
-    ghost invariant = { λ r. AreAfters r.boards r.afters };
-}
-
-impl Reach {
-    // Whether these two precede all that leaves the station from these seconds on.
-    fn precede_at(&self, station: StationNo, seconds: u64, two: FirstTwo) -> bool
-        ensures { result ≡ true → PrecedeFrom self.now.boards station.0 seconds two }
-    {
-        (station.0 as usize) < self.boards.count() && self.afters.precede(seconds, two)
-    }
-
-    // Whether these two precede all that leaves any of that many stations from these seconds on.
-    fn precede_after(&self, stations: u32, seconds: u64, two: FirstTwo) -> bool
-        ensures { result ≡ true → PrecedeAfter self.now.boards stations seconds two }
-    {
-        stations as usize <= self.boards.count() && self.afters.precede(seconds, two)
-    }
 }
 
 /// When what goes on from a departure arrives at the destination at the earliest: without a change, with one, with two.
@@ -187,43 +164,6 @@ impl Bounds {
         let two = join(early, self.ranks.late_ones());
         self.ranks.arrival(two, way)
     }
-
-    /// The part of the window in which what leads to the destination with that many changes leaves.
-    pub(crate) fn narrowed(&self, changes: usize, window: &Window) -> Window
-        requires end { window.now.to < 2 ^ 63 }
-        ensures station { result.station ≡ window.now.station }
-        ensures from { window.now.from ≤ result.from }
-        ensures to { result.to ≤ window.now.to }
-        ensures leading { (r : RunsView) (w : TripWish) → AreBounds r w self.now
-            → NarrowsLeaving r w changes window.now.station window.now.from window.now.to result.from result.to }
-    {
-        if self.ranks.late() < NO_RANK {
-            return *window;
-        }
-        self.narrowed_early(changes, window)
-    }
-
-    /// The same, where nothing comes too late: what does may leave outside of this part.
-    pub(crate) fn narrowed_early(&self, changes: usize, window: &Window) -> Window
-        requires end { window.now.to < 2 ^ 63 }
-        ensures station { result.station ≡ window.now.station }
-        ensures from { window.now.from ≤ result.from }
-        ensures to { result.to ≤ window.now.to }
-        ensures leading { no_rank ≤ self.now.ranks.late → (r : RunsView) (w : TripWish) → AreBounds r w self.now
-            → NarrowsLeaving r w changes window.now.station window.now.from window.now.to result.from result.to }
-    {
-        let Some(reach) = self.levels.get(changes) else {
-            return *window;
-        };
-        let part = reach
-            .boards
-            .narrowed(window.station, window.from, window.to);
-        Window {
-            station: window.station,
-            from: part.from,
-            to: part.to,
-        }
-    }
 }
 
 // The first two of the departure with that many changes.
@@ -249,13 +189,7 @@ fn reach_of(
         → AreRides runs.now w ranks.now changes rides → IsReach runs.now w ranks.now changes reach) }
 {
     let boards = boards_of(alloc, runs, ranks, &rides, changes)?;
-    let times = times_of(runs);
-    let afters = Afters::of(alloc, &boards, times.from, times.to)?;
-    Ok(Reach {
-        rides,
-        boards,
-        afters,
-    })
+    Ok(Reach { rides, boards })
 }
 
 // The departures of each station that lead to the destination in time: no boards where no further change is bounded by
@@ -308,41 +242,8 @@ fn gather(
         → AreFirsts r w ranks.now changes departures.now (length departures.now) twos.new.items) }
 {
     twos.clear();
-    if changes == 0 {
-        return gather_last(ranks, departures, twos);
-    }
-    gather_rides(rides, departures, twos)
-}
-
-// Those without a change.
-fn gather_last(
-    ranks: &Ranks,
-    departures: &[Departure],
-    twos: &mut Vec<FirstTwo>,
-) -> Result<(), AllocError>
-    requires none { twos.old.items ≡ [] }
-    ensures { OnOk result ((r : RunsView) (w : TripWish) → AreRanks r w ranks.now
-        → AreFirsts r w ranks.now 0 departures.now (length departures.now) twos.new.items) }
-{
     for departure in departures {
-        twos.push(ranks.ride(departure.run, departure.stop))?;
-    }
-    Ok(())
-}
-
-// Those of the rides.
-fn gather_rides(
-    rides: &Rides,
-    departures: &[Departure],
-    twos: &mut Vec<FirstTwo>,
-) -> Result<(), AllocError>
-    requires none { twos.old.items ≡ [] }
-    ensures { OnOk result ((r : RunsView) (w : TripWish) (v : RanksView) (changes : ℕ)
-        → AreRides r w v changes rides.now
-        → AreFirsts r w v changes departures.now (length departures.now) twos.new.items) }
-{
-    for departure in departures {
-        twos.push(rides.at(departure.run, departure.stop))?;
+        twos.push(firsts_of(ranks, rides, changes, departure))?;
     }
     Ok(())
 }
@@ -355,22 +256,6 @@ fn departures_of(runs: &Runs) -> usize {
         count = count.saturating_add(stops.saturating_sub(1));
     }
     count
-}
-
-// When the first run begins and the last one ends.
-fn times_of(runs: &Runs) -> Part {
-    let mut times = Part {
-        from: u64::MAX,
-        to: 0,
-    };
-    for run in 0..runs.count() {
-        let stops = stops_of(runs, RunNo(run));
-        if !stops.is_empty() {
-            times.from = times.from.min(stops[0].depart.seconds());
-            times.to = times.to.max(stops[stops.len() - 1].arrive.seconds());
-        }
-    }
-    times
 }
 
 // Those of all rides with one change more: with the most changes, of what leaves the origin.
@@ -409,7 +294,9 @@ fn last_rides(alloc: Global, runs: &Runs, ranks: &Ranks) -> Result<Rides, AllocE
 
 // Marks the stations from which a run goes straight to the destination in time.
 fn mark_each(runs: &Runs, ranks: &Ranks, rides: &mut Rides)
-    ensures { StayLastRides runs.now ranks.now rides.old rides.new }
+    ensures rides { StayLastRides runs.now ranks.now rides.old rides.new }
+    ensures marked { (w : TripWish) → AreRanks runs.now w ranks.now
+        → AreMarked runs.now w ranks.now 0 rides.new.marks.items }
 {
     for run in 0..runs.count() {
         mark_run(runs, ranks, RunNo(run), rides);
@@ -418,14 +305,16 @@ fn mark_each(runs: &Runs, ranks: &Ranks, rides: &mut Rides)
 
 // Those of one run.
 fn mark_run(runs: &Runs, ranks: &Ranks, run: RunNo, rides: &mut Rides)
-    ensures { StayLastRides runs.now ranks.now rides.old rides.new }
+    ensures rides { StayLastRides runs.now ranks.now rides.old rides.new }
+    ensures kept { KeepMarks rides.old.marks.items rides.new.marks.items }
+    ensures marked { (w : TripWish) → AreRanks runs.now w ranks.now
+        → IsMarkedRun runs.now w ranks.now 0 run.0 rides.new.marks.items }
 {
     let stops = stops_of(runs, run);
     let count = usize::from(ranks.stop_of(run)).min(stops.len());
     for stop in 0..count {
         rides.mark(stops[stop].station);
     }
-    rides.end_run(run);
 }
 
 // Those of all runs.
@@ -439,8 +328,7 @@ fn all_rides(alloc: Global, runs: &Runs, ranks: &Ranks, reach: &Reach) -> Result
         most_stops_of(runs),
         runs.station_count() as usize,
     )?;
-    let firsts = first_departures(alloc, runs)?;
-    bound_each(runs, ranks, reach, firsts.as_slice(), &mut rides);
+    bound_each(runs, ranks, reach, &mut rides);
     rides.end();
     Ok(rides)
 }
@@ -453,31 +341,12 @@ fn first_rides(
     reach: &Reach,
     departures: &[Departure],
 ) -> Result<Rides, AllocError>
-    requires rise { Rise runs.now }
-    requires known { DepartFromKnown runs.now }
     ensures { IfOk result (λ rides. (w : TripWish) (changes : ℕ) → IsReach runs.now w ranks.now changes reach.now
         → AreRides runs.now w ranks.now (changes + 1) rides) }
 {
     let mut rides = Rides::unknown(alloc, runs, past_stops_of(departures), 0)?;
     board_each(runs, ranks, reach, departures, &mut rides);
     Ok(rides)
-}
-
-// Where each run begins, the earlier ones first: so runs that follow one another ask a board for places that stand
-// together. Whoever takes them needs none of this.
-fn first_departures(alloc: Global, runs: &Runs) -> Result<Vec<Departure>, AllocError> {
-    let mut firsts = Vec::new(alloc);
-    for run in 0..runs.count() {
-        firsts.push(Departure {
-            moment: stop_of(runs, RunNo(run), 0).depart,
-            run: RunNo(run),
-            stop: 0,
-        })?;
-    }
-    firsts
-        .as_mut_slice()
-        .sort_unstable_by_key(|it| it.moment.seconds());
-    Ok(firsts)
 }
 
 // How many stops a run has at most.
@@ -498,25 +367,24 @@ fn past_stops_of(departures: &[Departure]) -> u8 {
     past
 }
 
-// Bounds the rides of these runs.
-fn bound_each(
-    runs: &Runs,
-    ranks: &Ranks,
-    reach: &Reach,
-    departures: &[Departure],
-    rides: &mut Rides,
-)
-    ensures { StayRides runs.now ranks.now reach.now rides.old rides.new }
+// Bounds the rides of all runs.
+fn bound_each(runs: &Runs, ranks: &Ranks, reach: &Reach, rides: &mut Rides)
+    ensures rides { StayRides runs.now ranks.now reach.now rides.old rides.new }
+    ensures marked { (w : TripWish) (changes : ℕ) → IsReach runs.now w ranks.now changes reach.now
+        → AreMarked runs.now w ranks.now (changes + 1) rides.new.marks.items }
 {
-    for departure in departures {
-        bound_run(runs, ranks, reach, departure.run, rides);
+    for run in 0..runs.count() {
+        bound_run(runs, ranks, reach, RunNo(run), rides);
     }
 }
 
 // For each stop of the run, the first two by what gets off further on. A run's stops stand together, and a station's
 // board is read for few numbers only.
 fn bound_run(runs: &Runs, ranks: &Ranks, reach: &Reach, run: RunNo, rides: &mut Rides)
-    ensures { StayRides runs.now ranks.now reach.now rides.old rides.new }
+    ensures rides { StayRides runs.now ranks.now reach.now rides.old rides.new }
+    ensures kept { KeepMarks rides.old.marks.items rides.new.marks.items }
+    ensures marked { (w : TripWish) (changes : ℕ) → IsReach runs.now w ranks.now changes reach.now
+        → IsMarkedRun runs.now w ranks.now (changes + 1) run.0 rides.new.marks.items }
 {
     let stops = stops_of(runs, run);
     let count = stops.len();
@@ -528,7 +396,6 @@ fn bound_run(runs: &Runs, ranks: &Ranks, reach: &Reach, run: RunNo, rides: &mut 
         rides.note(run, stop as u8, off.station, firsts, late);
         firsts = firsts_with(runs, reach, off, firsts);
     }
-    rides.end_run(run);
 }
 
 // Bounds the rides of these departures alone.
@@ -539,8 +406,6 @@ fn board_each(
     departures: &[Departure],
     rides: &mut Rides,
 )
-    requires rise { Rise runs.now }
-    requires known { DepartFromKnown runs.now }
     ensures { StayRides runs.now ranks.now reach.now rides.old rides.new }
 {
     for departure in departures {
@@ -549,44 +414,23 @@ fn board_each(
     }
 }
 
-// The first two by what gets off further on, from the next stop on until nothing leaves any more that comes before
-// them.
+// The first two by what gets off further on.
 fn firsts_after(runs: &Runs, ranks: &Ranks, reach: &Reach, departure: &Departure) -> FirstTwo
-    requires rise { Rise runs.now }
-    requires known { DepartFromKnown runs.now }
     ensures { (w : TripWish) (changes : ℕ) → IsReach runs.now w ranks.now changes reach.now
         → FirstsOfRide runs.now w ranks.now (changes + 1) departure.now.run.0 departure.now.stop result }
 {
     let stops = stops_of(runs, departure.run);
-    let stations = runs.station_count();
     let mut firsts = ranks.late_ones();
     for stop in usize::from(departure.stop) + 1..stops.len() {
         let off = &stops[stop];
-        if reach.precede_after(stations, off.arrive.seconds(), firsts) {
-            return firsts;
-        }
-        firsts = firsts_by_board(runs, reach, off, firsts);
+        firsts = firsts_with(runs, reach, off, firsts);
     }
     firsts
 }
 
-// These two, and the first two of what gets off at the stop, with one change more. Where nothing that leaves any
-// station from then on comes before them, no board is asked.
+// These two, and the first two of what gets off at the stop, with one change more. A train that has the first ones
+// already, as it soon has where few come to the destination, asks for no window.
 fn firsts_with(runs: &Runs, reach: &Reach, off: &Stop, firsts: FirstTwo) -> FirstTwo
-    ensures further { (rank : ℕ) → Precede firsts rank → Precede result rank }
-    ensures own { (w : TripWish) (v : RanksView) (changes : ℕ) → IsReach runs.now w v changes reach.now
-        → ((rank : ℕ) → v.late ≤ rank → rank < no_rank → Precede firsts rank)
-        → FirstsOfStop runs.now w v (changes + 1) off.now result }
-{
-    if reach.precede_at(off.station, off.arrive.seconds(), firsts) {
-        return firsts;
-    }
-    firsts_by_board(runs, reach, off, firsts)
-}
-
-// Likewise by the board of the station. A train that has the first ones already, as it soon has where few come to the
-// destination, asks for no window.
-fn firsts_by_board(runs: &Runs, reach: &Reach, off: &Stop, firsts: FirstTwo) -> FirstTwo
     ensures further { (rank : ℕ) → Precede firsts rank → Precede result rank }
     ensures own { (w : TripWish) (v : RanksView) (changes : ℕ) → IsReach runs.now w v changes reach.now
         → ((rank : ℕ) → v.late ≤ rank → rank < no_rank → Precede firsts rank)

@@ -2,7 +2,7 @@ ghost use Rattle.std.specs.Prelude.{◌≡◌, ◌<◌, ◌≤◌, ◌+◌, ◌^
 ghost use Rattle.train_runs.specs.Stops.{most_stops, stop_at, no_stop as nowhere};
 ghost use Rattle.trip_builder.specs.Segments.{stops_of as stops_of_run, first_stop, last_stop, last_of, first_of};
 ghost use Rattle.trip_builder.specs.Trips.{leaves, change_at, longest_wait};
-ghost use Rattle.trip_builder.specs.Search.{AreLeaving, AreAllLeaving, Rise, DepartFromKnown, IsWindowOf, first_after, last_after};
+ghost use Rattle.trip_builder.specs.Search.{AreLeaving, AreAllLeaving, Rise, IsWindowOf, first_after, last_after};
 
 use crate::trip::TripWish;
 use offer_codes::Segment;
@@ -71,7 +71,6 @@ pub(crate) fn leaving(runs: &Runs, window: Window) -> &[Departure]
     requires end { window.to < 2 ^ 63 }
     ensures leaving { AreLeaving runs.now window.station window.from window.to result.now }
     ensures rise { Rise runs.now }
-    ensures known { DepartFromKnown runs.now }
 {
     leaving_from::<Brand>(runs, window, Blank::new(1))
 }
@@ -92,7 +91,6 @@ fn leaving_from<L: Ledger>(runs: &Runs, window: Window, blank: Blank) -> &[Depar
     requires end { window.to < 2 ^ 63 }
     ensures leaving { AreLeaving runs.now window.station window.from window.to result.now }
     ensures rise { Rise runs.now }
-    ensures known { DepartFromKnown runs.now }
 {
     let mut steps = Steps::<L>::start(blank);
     runs.departures_within(window.station, window.from, window.to, &mut steps)

@@ -23,15 +23,14 @@ use std::alloc::AllocError;
 use train_runs::{Departure, Runs};
 
 /// What a search has so far. It has the best trips, where runs come to the destination, how short a ride there is at
-/// least, and the bounds from the destination back once they are made. It also has whether it is known that there is no
-/// trip, how many tries come before both, and by when what is looked at ahead arrives.
+/// least, and the bounds from the destination back once they are made. It also has how many tries come before them, and
+/// by when what is looked at ahead arrives.
 #[derive(Drop)]
 pub(crate) struct Found {
     pub best: Best,
     pub ends: Ends,
     pub shortest: Shortest,
     pub bounds: Bounds,
-    pub over: bool,
     pub left: u32,
     pub ceiling: u64,
 }

@@ -8,14 +8,11 @@ use crate::ranks::{FirstTwo, NONE, join};
 use crate::rests::{Parts, put, settle};
 use std::alloc::{AllocError, Global};
 
-/// For each part of a board's time where to look for its moments, and the first two by what leaves in it or later.
-///
-/// Where to look may be wrong: who takes it looks whether it is right.
+/// For each part of a board's time the first two by what leaves in it or later.
 #[derive(Drop)]
 pub(crate) struct Hints {
     pub parts: Parts,
     pub last: u64,
-    pub places: Vec<u16>,
     pub rests: Vec<FirstTwo>,
 }
 
@@ -25,7 +22,6 @@ impl Hints {
         Hints {
             parts: Parts { start: 0, shift: 0 },
             last: 0,
-            places: Vec::new(alloc),
             rests: Vec::new(alloc),
         }
     }
@@ -41,32 +37,23 @@ impl Hints {
         let count = parts.at(last).saturating_add(1);
         self.parts = parts;
         self.last = last;
-        self.places.clear();
-        self.places.resize(count, u16::MAX)?;
         self.rests.clear();
         self.rests.resize(count, NONE)?;
-        make(
-            useful,
-            parts,
-            self.places.as_mut_slice(),
-            self.rests.as_mut_slice(),
-        );
+        make(useful, parts, self.rests.as_mut_slice());
         Ok(())
     }
 }
 
 // The hints of the board in these parts.
-fn make(useful: &[Useful], parts: Parts, places: &mut [u16], rests: &mut [FirstTwo])
+fn make(useful: &[Useful], parts: Parts, rests: &mut [FirstTwo])
     ensures { AreRestsIn useful.now parts rests.new }
 {
-    note_all(useful, parts, places, rests);
+    note_all(useful, parts, rests);
     settle(rests);
-    fill(places);
 }
 
-// Notes for each departure's part what it and all later ones lead to, and the first departure of each part that has
-// one.
-fn note_all(useful: &[Useful], parts: Parts, places: &mut [u16], rests: &mut [FirstTwo])
+// Notes for each departure's part what it and all later ones lead to.
+fn note_all(useful: &[Useful], parts: Parts, rests: &mut [FirstTwo])
     ensures { AreTold useful.now parts rests.new }
 {
     let count = useful.len();
@@ -77,19 +64,5 @@ fn note_all(useful: &[Useful], parts: Parts, places: &mut [u16], rests: &mut [Fi
         let part = parts.at(u64::from(it.moment));
         rest = join(rest, it.onward);
         put(rests, part, rest);
-        if part < places.len() {
-            places[part] = (place % 65_536) as u16;
-        }
-    }
-}
-
-// Those of the parts that have none.
-fn fill(places: &mut [u16]) {
-    let mut next = u16::MAX;
-    let count = places.len();
-    for back in 0..count {
-        let part = count - 1 - back;
-        next = next.min(places[part]);
-        places[part] = next;
     }
 }

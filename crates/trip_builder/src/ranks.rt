@@ -57,17 +57,6 @@ pub(crate) fn join(a: FirstTwo, b: FirstTwo) -> FirstTwo
     }
 }
 
-/// The later of two that both precede the same.
-pub(crate) fn later(a: FirstTwo, b: FirstTwo) -> FirstTwo
-    ensures { (rank : ℕ) → Precede a rank → Precede b rank → Precede result rank }
-{
-    if a.first < b.first || (a.first == b.first && a.second < b.second) {
-        b
-    } else {
-        a
-    }
-}
-
 /// Whether all that the others precede these two precede as well.
 pub(crate) fn precede_all(two: FirstTwo, others: FirstTwo) -> bool
     ensures { result ≡ true → (rank : ℕ) → Precede others rank → Precede two rank }

@@ -1,11 +1,9 @@
 ghost use Rattle.std.specs.Prelude.{◌≡◌, ◌<◌, ◌≤◌, ◌+◌, ◌-◌, ℕ, true, false, length, IfOk};
 ghost use Rattle.train_runs.specs.Runs.{RunsView};
 ghost use Rattle.trip_builder.specs.declared.trip.TripWish.{TripWish};
-ghost use Rattle.trip_builder.specs.Best.{HasNoTrip};
 ghost use Rattle.trip_builder.specs.Reached.{Hold, HoldTrain, HoldWait, AreStretched, IsRidden, AreReached, IsNear};
 
 use crate::departures::{LONGEST_WAIT, stops_of};
-use crate::search::MOST_SEGMENTS;
 use crate::trip::TripWish;
 use rail_ids::{RunNo, StationNo};
 use std::alloc::{AllocError, Global};
@@ -39,20 +37,6 @@ impl Model for Reached {
     ghost Value = { List Times };
 
     ghost view = { λ r. r.times.items };
-}
-
-/// Whether the wish may have a trip: it has none where its trains don't come to the destination.
-pub(crate) fn may_arrive(alloc: Global, runs: &Runs, wish: &TripWish) -> Result<bool, AllocError>
-    ensures { IfOk result (λ b. b ≡ false → HasNoTrip runs.now wish.now) }
-{
-    let mut reached = Reached::at_origin(alloc, runs, wish)?;
-    for _train in 0..MOST_SEGMENTS {
-        reached = reached.further(alloc, runs, wish)?;
-        if reached.has(wish.destination) {
-            return Ok(true);
-        }
-    }
-    Ok(false)
 }
 
 impl Reached {

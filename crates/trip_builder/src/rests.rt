@@ -1,6 +1,6 @@
 ghost use Rattle.std.specs.Prelude.{◌≡◌, ◌<◌, ◌≤◌, ◌+◌, ◌-◌, ◌/◌, ◌%◌, ◌^◌, ℕ, length, slice_index_or};
 ghost use Rattle.trip_builder.specs.Bounds.{Precede};
-ghost use Rattle.trip_builder.specs.Boards.{part_at, Keeps, KeepsBy, IsTold, AreSettled};
+ghost use Rattle.trip_builder.specs.Boards.{part_at, KeepsBy, IsTold, AreSettled};
 
 use crate::ranks::{FirstTwo, NONE, join};
 
@@ -28,27 +28,6 @@ impl Parts {
         ensures { result ≡ part_at self seconds }
     {
         (seconds.saturating_sub(self.start) >> (self.shift % 64)) as usize
-    }
-
-    /// No earlier than any second of the part, but none after `last`.
-    pub(crate) fn end_of(self, part: usize, last: u64) -> u64
-        ensures { (seconds : ℕ) → seconds ≤ last → part_at self seconds ≤ part → seconds ≤ result }
-    {
-        let size = 1u64 << (self.shift % 64);
-        let past = (part as u64).saturating_add(1).saturating_mul(size);
-        self.start.saturating_add(past).min(last)
-    }
-}
-
-/// Notes in this part, or in the last one where there are fewer, that something leaves in it.
-pub(crate) fn tell(rests: &mut [FirstTwo], part: usize, two: FirstTwo)
-    ensures kept { Keeps rests.old rests.new }
-    ensures told { (rank : ℕ) → Precede two rank → IsTold rests.new part rank }
-{
-    let count = rests.len();
-    if count > 0 {
-        let place = part.min(count - 1);
-        rests[place] = join(rests[place], two);
     }
 }
 

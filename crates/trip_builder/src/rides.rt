@@ -1,7 +1,7 @@
 ghost use Rattle.std.specs.Prelude.{◌≡◌, ◌<◌, ◌+◌, ◌-◌, ◌*◌, ℕ, true, false, length, IfOk, slice_index_or};
 ghost use Rattle.train_runs.specs.Runs.{RunsView};
 ghost use Rattle.trip_builder.specs.declared.trip.TripWish.{TripWish};
-ghost use Rattle.trip_builder.specs.Bounds.{RanksView, AreRides, AreUnknown, FirstsOfRide, IsMarkedRun, LeavesLate, firsts_in};
+ghost use Rattle.trip_builder.specs.Bounds.{RanksView, AreRides, AreUnknown, FirstsOfRide, AreMarked, KeepMarks, LeavesLate, firsts_in};
 ghost use Rattle.trip_builder.specs.Reached.{AreReached, StayMarked};
 
 use crate::ranks::{FirstTwo, UNKNOWN};
@@ -18,7 +18,6 @@ pub(crate) struct Rides {
     width: u8,
     firsts: Vec<FirstTwo>,
     marks: Vec<bool>,
-    done: Vec<bool>,
     all: bool,
 }
 
@@ -30,14 +29,13 @@ impl Rides {
         width: u8,
         stations: usize,
     ) -> Result<Rides, AllocError>
-        ensures { IfOk result (AreUnknown (length runs.now.runs)) }
+        ensures { IfOk result AreUnknown }
     {
         let count = runs.count() as usize;
         Ok(Rides {
             width,
             firsts: Vec::from_elem(alloc, UNKNOWN, count.saturating_mul(usize::from(width)))?,
             marks: Vec::from_elem(alloc, false, stations)?,
-            done: Vec::from_elem(alloc, false, count)?,
             all: false,
         })
     }
@@ -74,8 +72,7 @@ impl Rides {
     pub(crate) fn mark(&mut self, station: StationNo)
         ensures rides { (r : RunsView) (w : TripWish) (v : RanksView) (changes : ℕ) → AreRides r w v changes self.old
             → AreRides r w v changes self.new }
-        ensures kept { (n : ℕ) → slice_index_or self.old.marks.items n true ≡ true
-            → slice_index_or self.new.marks.items n true ≡ true }
+        ensures kept { KeepMarks self.old.marks.items self.new.marks.items }
         ensures marked { slice_index_or self.new.marks.items station.0 true ≡ true }
     {
         let place = station.0 as usize;
@@ -95,8 +92,7 @@ impl Rides {
     )
         ensures rides { (r : RunsView) (w : TripWish) (v : RanksView) (changes : ℕ) → AreRides r w v changes self.old
             → FirstsOfRide r w v changes run.0 stop two → AreRides r w v changes self.new }
-        ensures kept { (n : ℕ) → slice_index_or self.old.marks.items n true ≡ true
-            → slice_index_or self.new.marks.items n true ≡ true }
+        ensures kept { KeepMarks self.old.marks.items self.new.marks.items }
         ensures marked { two.first < late → slice_index_or self.new.marks.items station.0 true ≡ true }
     {
         self.put(run, stop, two);
@@ -105,38 +101,12 @@ impl Rides {
         }
     }
 
-    /// All stations that the run leaves in time are marked.
-    pub(crate) fn end_run(&mut self, run: RunNo)
-        ensures { (r : RunsView) (w : TripWish) (v : RanksView) (changes : ℕ) → AreRides r w v changes self.old
-            → IsMarkedRun r w v changes run.0 self.old.marks.items → AreRides r w v changes self.new }
-    {
-        let place = run.0 as usize;
-        if place < self.done.len() {
-            self.done[place] = true;
-        }
-    }
-
-    /// Looks whether that holds of all runs: else no mark says anything.
+    /// All stations that something leaves in time are marked: before, no mark says anything.
     pub(crate) fn end(&mut self)
         ensures { (r : RunsView) (w : TripWish) (v : RanksView) (changes : ℕ) → AreRides r w v changes self.old
-            → AreRides r w v changes self.new }
+            → AreMarked r w v changes self.old.marks.items → AreRides r w v changes self.new }
     {
-        if self.are_done() {
-            self.all = true;
-        }
-    }
-
-    // Whether that holds of all runs.
-    fn are_done(&self) -> bool
-        ensures { result ≡ true → (run : ℕ) → run < length self.now.done.items
-            → slice_index_or self.now.done.items run false ≡ true }
-    {
-        for run in 0..self.done.len() {
-            if !self.done[run] {
-                return false;
-            }
-        }
-        true
+        self.all = true;
     }
 
     /// Takes away the marks of those of that many stations to which one doesn't come: no trip of the wish goes on

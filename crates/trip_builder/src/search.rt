@@ -1,6 +1,5 @@
-ghost use Rattle.std.specs.Prelude.{◌≡◌, ◌≤◌, ◌<◌, ◌+◌, true, length, IfOk, OnOk};
+ghost use Rattle.std.specs.Prelude.{◌≡◌, ◌≤◌, ◌<◌, ◌+◌, length, IfOk, OnOk};
 ghost use Rattle.trip_builder.specs.Trips.{trips_of};
-ghost use Rattle.trip_builder.specs.Best.{HasNoTrip};
 ghost use Rattle.trip_builder.specs.Search.{IsWay, MayTake, Rise, Grows, AreDecided, AreDecidedFrom};
 ghost use Rattle.trip_builder.specs.Keeping.{IsSearch};
 
@@ -11,7 +10,6 @@ use crate::departures::{leaving, stops_of, window_of};
 use crate::ends::Ends;
 use crate::found::{Found, get_off, is_hopeless, longer, may_lead};
 use crate::ranks::NEVER;
-use crate::reached::may_arrive;
 use crate::shortest::Shortest;
 use crate::trip::{Trip, TripWish};
 use offer_codes::Segment;
@@ -21,8 +19,8 @@ use train_runs::{Departure, Runs};
 /// How many segments a trip has at most.
 pub(crate) const MOST_SEGMENTS: usize = 3;
 
-/// How many tries a search has before it looks where its trains go, and makes the bounds: both take memory for each
-/// station, and some passes over all runs and their departures.
+/// How many tries a search has before it makes the bounds, which take memory for each station, and some passes over all
+/// runs and their departures.
 const SHORT_SEARCH: u32 = 50_000;
 
 /// A train with that many stops is a try more: each of them is looked at.
@@ -45,7 +43,6 @@ pub fn trips(alloc: Global, runs: &Runs, wish: &TripWish) -> Result<Vec<Trip>, A
         ends: Ends::unknown(alloc, runs)?,
         shortest: Shortest::blank(alloc),
         bounds: Bounds::unknown(alloc),
-        over: false,
         left: SHORT_SEARCH,
         ceiling: 0,
     };
@@ -86,17 +83,13 @@ fn go_on(
     ensures decided { OnOk result (AreDecided runs.now wish.now found.new.best.trips.items way.now changes) }
 {
     bound_long_search(runs, wish, found)?;
-    if found.over {
-        return Ok(());
-    }
     let window = window_of(runs, wish, way);
     let bound = found.bounds.of_leaving(changes, &window, way);
     if is_hopeless(runs, found, bound, way, changes + 1) {
         return Ok(());
     }
-    let part = found.bounds.narrowed(changes, &window);
-    let least = found.shortest.least_from(changes, part.station);
-    for departure in leaving(runs, part) {
+    let least = found.shortest.least_from(changes, window.station);
+    for departure in leaving(runs, window) {
         if found
             .best
             .are_all_before(departure.moment.seconds() + least)
@@ -153,8 +146,7 @@ fn ride(
     Ok(())
 }
 
-// Counts a try. Where the search has got long, it looks whether there may be a trip; if so, it makes the bounds, and
-// looks ahead by them.
+// Counts a try. Where the search has got long, it makes the bounds, and looks ahead by them.
 fn bound_long_search(runs: &Runs, wish: &TripWish, found: &mut Found) -> Result<(), AllocError>
     requires { IsSearch runs.now wish.now found.old }
     ensures search { OnOk result (IsSearch runs.now wish.now found.new) }
@@ -164,27 +156,12 @@ fn bound_long_search(runs: &Runs, wish: &TripWish, found: &mut Found) -> Result<
         found.left -= 1;
         return Ok(());
     }
-    if found.over || !found.bounds.are_unknown() {
+    if !found.bounds.are_unknown() {
         return Ok(());
     }
-    found.over = is_over(runs, wish, found)?;
-    if !found.over {
-        let alloc = found.best.allocator();
-        found.bounds = Bounds::of(alloc, runs, wish, &mut found.ends, found.best.limit())?;
-        found.left = SHORT_SEARCH;
-        look_ahead(runs, wish, found)?;
-    }
+    let alloc = found.best.allocator();
+    found.bounds = Bounds::of(alloc, runs, wish, &mut found.ends, found.best.limit())?;
+    found.left = SHORT_SEARCH;
+    look_ahead(runs, wish, found)?;
     Ok(())
-}
-
-// Whether there is no trip, as it is known where there are none yet and the trains of the wish don't come to the
-// destination.
-fn is_over(runs: &Runs, wish: &TripWish, found: &Found) -> Result<bool, AllocError>
-    ensures { IfOk result (λ b. b ≡ true → HasNoTrip runs.now wish.now) }
-{
-    if !found.best.are_none() {
-        return Ok(false);
-    }
-    let may = may_arrive(found.best.allocator(), runs, wish)?;
-    Ok(!may)
 }

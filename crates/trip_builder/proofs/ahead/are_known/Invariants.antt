@@ -1,6 +1,6 @@
 use Rattle.std.proofs.Common.{ℕ, ◌<◌, get_or}
 use Rattle.offer_codes.specs.declared.code.Segment.{Segment}
-use Rattle.trip_builder.specs.Best.{IsKnown}
+use Rattle.trip_builder.specs.Segments.{IsKnown}
 use Rattle.trip_builder.proofs.ahead.are_known.Given as goal
 
 abbrev pub invariant-loop-segment : goal.invariant-loop-segment

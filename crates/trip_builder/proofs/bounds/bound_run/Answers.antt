@@ -28,6 +28,7 @@ loop-back-preserved c =
     (λ w changes are. ride_firsts r w v (changes + 1) run size old back stop whole test refl (was.further w changes are)) in
     record {
       rides = λ w changes are rides. c.note.ensures.rides r w v (changes + 1) (was.rides w changes are rides) (own w changes are);
+      kept = λ n holds. c.note.ensures.kept n (was.kept n holds);
       late = λ rank past few. c.firsts_with-firsts.ensures.further rank (was.late rank past few);
       further = λ w changes are.
           firsts_more r w v (changes + 1) run size old new back stop off test refl there c.firsts_with-firsts.ensures.further (c.firsts_with-firsts.ensures.own w v changes are was.late) (was.further w changes are);
@@ -36,11 +37,8 @@ loop-back-preserved c =
           c.note.ensures.marked (was.marked w changes are);
     }
 
-pub returns : goal.returns
-returns c =
-    λ w changes are rides.
-    (let r = c.args.runs.now in
-    let v = c.args.ranks.now in
-    let was = c.loop-back.invariant in
-    c.end_run.ensures r w v (changes + 1) (was.rides w changes are rides)
-    (run_marked r w v (changes + 1) c.args.run.0 (length c.stops_of-stops.result.now) c.loop-back.rides.marks.items c.loop-back.back c.loop-back-test.false (was.marked w changes are)))
+pub returns-clause-marked : goal.returns-clause-marked
+returns-clause-marked c =
+    λ w changes are.
+    run_marked c.args.runs.now w c.args.ranks.now (changes + 1) c.args.run.0 (length c.stops_of-stops.result.now) c.loop-back.rides.marks.items c.loop-back.back c.loop-back-test.false
+    (c.loop-back.invariant.marked w changes are)

@@ -2,20 +2,8 @@ use Rattle.std.proofs.Common.{◌≡◌, ◌+◌, List, length, ap, arith}
 use Rattle.train_runs.specs.declared.run.Stop.{Stop}
 use Rattle.trip_builder.specs.Segments.{stops_of}
 use Rattle.trip_builder.proofs.Boarding.{stop_is}
-use Rattle.trip_builder.proofs.Reaching.{below_more, below_all, ride_ended}
+use Rattle.trip_builder.proofs.Reaching.{below_more, below_all}
 use Rattle.trip_builder.proofs.bounds.firsts_after.Goals as goal
-
-pub returns-then-precede_after : goal.returns-then-precede_after
-returns-then-precede_after c =
-    λ w changes are.
-    (let r = c.args.runs.now in
-    let d = c.args.departure.now in
-    let stops = c.stops_of-stops.result.now in
-    let stop = c.loop-stop.stop in
-    let off = c.index-stops-stop.result in
-    let there = stop_is r d.run.0 stop stops off c.stops_of-stops.ensures.stops c.loop-stop-test.true c.index-stops-stop.is in
-    ride_ended r w c.args.ranks.now changes c.args.reach.now d.run.0 d.stop stop c.seconds.result c.station_count-stations.result c.loop-stop.firsts off are c.requires.rise c.requires.known c.station_count-stations.ensures.value
-    c.loop-stop.invariant.late (c.precede_after.ensures c.if-precede_after.true) there c.seconds.ensures.value (c.loop-stop.invariant.so_far w changes are))
 
 pub loop-stop-preserved : goal.loop-stop-preserved
 loop-stop-preserved c =
@@ -27,10 +15,10 @@ loop-stop-preserved c =
     let off = c.index-stops-stop.result in
     let was = c.loop-stop.invariant in
     let there = stop_is r d.run.0 stop stops off c.stops_of-stops.ensures.stops c.loop-stop-test.true c.index-stops-stop.is in
-    let by = c.firsts_by_board-firsts.ensures in
+    let by = c.firsts_with-firsts.ensures in
     record {
       late = λ rank past few. by.further rank (was.late rank past few);
-      so_far = λ w changes are. below_more r w v (changes + 1) d.run.0 d.stop stop c.loop-stop.firsts c.firsts_by_board-firsts.result off there by.further (by.own w v changes are was.late) (was.so_far w changes are);
+      so_far = λ w changes are. below_more r w v (changes + 1) d.run.0 d.stop stop c.loop-stop.firsts c.firsts_with-firsts.result off there by.further (by.own w v changes are was.late) (was.so_far w changes are);
     }
 
 pub returns : goal.returns

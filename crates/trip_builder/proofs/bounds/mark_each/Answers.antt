@@ -1,4 +1,23 @@
+use Rattle.std.proofs.Common.{arith}
+use Rattle.trip_builder.specs.Bounds.{IsMarkedRun}
+use Rattle.trip_builder.proofs.Deciding.{one_further}
+use Rattle.trip_builder.proofs.Reaching.{still_so, past_marked}
 use Rattle.trip_builder.proofs.bounds.mark_each.Goals as goal
 
 pub loop-run-preserved : goal.loop-run-preserved
-loop-run-preserved c = λ w ranks are. c.mark_run.ensures w ranks (c.loop-run.invariant w ranks are)
+loop-run-preserved c =
+    let r = c.args.runs.now in
+    let v = c.args.ranks.now in
+    let old = c.loop-run.rides.marks.items in
+    let new = c.mark_run.new.rides.marks.items in
+    let was = c.loop-run.invariant in
+    let made = c.mark_run.ensures in
+    record {
+      rides = λ w ranks are. made.rides w ranks (was.rides w ranks are);
+      marked = λ w ranks. one_further (λ run. IsMarkedRun r w v 0 run new) c.loop-run.run (λ run less. still_so r w v 0 run old new made.kept (was.marked w ranks run less)) (made.marked w ranks);
+    }
+
+pub returns-clause-marked : goal.returns-clause-marked
+returns-clause-marked c =
+    λ w ranks. past_marked c.args.runs.now w c.args.ranks.now 0 c.count-run-end.result c.loop-run.rides.marks.items c.count-run-end.ensures.value
+    (λ run less. c.loop-run.invariant.marked w ranks run (let ended = c.loop-run-test.false in omega (arith, less, ended)))

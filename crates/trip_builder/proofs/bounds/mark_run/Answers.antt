@@ -16,19 +16,19 @@ loop-stop-preserved c =
     let least = c.min-count.ensures in
     record {
       rides = λ w ranks are. c.mark.ensures.rides c.args.runs.now w c.args.ranks.now 0 (was.rides w ranks are);
+      kept = λ n holds. c.mark.ensures.kept n (was.kept n holds);
       marked = one_further (λ k. get_or new (stop_at stops k).station.0 true ≡ true) stop (λ k less. c.mark.ensures.kept (stop_at stops k).station.0 (was.marked k less))
           (at_read stops (λ (x : Stop). get_or new x.station.0 true ≡ true) stop c.index-stops-stop.result (omega (arith, early, least)) c.index-stops-stop.is
           (subst (λ (x : Stop). get_or new x.station.0 true ≡ true) (sym c.index-stops-stop.is) c.mark.ensures.marked) no_stop);
     }
 
-pub returns : goal.returns
-returns c =
-    λ w ranks are.
+pub returns-clause-marked : goal.returns-clause-marked
+returns-clause-marked c =
+    λ w ranks.
     (let r = c.args.runs.now in
     let v = c.args.ranks.now in
     let was = c.loop-stop.invariant in
     let ended = c.loop-stop-test.false in
-    c.end_run.ensures r w v 0 (was.rides w ranks are)
-    (last_marked r w v c.args.run.0 c.from.result c.stops_of-stops.result.now c.loop-stop.rides.marks.items c.min-count.result c.stops_of-stops.ensures.stops
+    last_marked r w v c.args.run.0 c.from.result c.stops_of-stops.result.now c.loop-stop.rides.marks.items c.min-count.result c.stops_of-stops.ensures.stops
     (λ s is leads less. c.stop_of.ensures r w ranks s is leads less ∙ sym c.from.ensures) (least_is c.min-count.result c.from.result (length c.stops_of-stops.result.now) c.min-count.ensures)
-    (λ k less. was.marked k (omega (arith, less, ended)))))
+    (λ k less. was.marked k (omega (arith, less, ended))))

@@ -1,5 +1,5 @@
 use Rattle.trip_builder.proofs.Leaving.{are_leaving}
-use Rattle.trip_builder.proofs.Rising.{all_rise, all_known}
+use Rattle.trip_builder.proofs.Rising.{all_rise}
 use Rattle.trip_builder.proofs.departures.leaving_from.Goals as goal
 
 pub returns-clause-leaving : goal.returns-clause-leaving
@@ -8,6 +8,3 @@ returns-clause-leaving g c =
 
 pub returns-clause-rise : goal.returns-clause-rise
 returns-clause-rise g c = all_rise c.args.runs.now c.departures_within.ensures.sound
-
-pub returns-clause-known : goal.returns-clause-known
-returns-clause-known g c = all_known c.args.runs.now c.departures_within.ensures.sound

@@ -10,16 +10,12 @@ use Rattle.trip_builder.specs.Keeping.{IsSearch, IsOutdone}
 use Rattle.trip_builder.specs.Shortest.{TakesAtLeast}
 use Rattle.trip_builder.proofs.Ways.{way_taken, trip_goes_on}
 use Rattle.trip_builder.proofs.Deciding.{same_grows, grows_on, stays_with, one_further, with_further, not_ridden}
-use Rattle.trip_builder.proofs.Boarding.{all_covered, part_taken, stop_is}
+use Rattle.trip_builder.proofs.Boarding.{all_covered, taken_there, stop_is}
 use Rattle.trip_builder.proofs.Riding.{late_from, change_late, further_late}
 use Rattle.trip_builder.proofs.Bounding.{window_hopeless}
 use Rattle.trip_builder.proofs.Outdoing.{window_outdone}
 use Rattle.trip_builder.proofs.search.+search.Goals as goal
 use Rattle.trip_builder.proofs.search.+search.Goals.{go_on-then-may_lead+in_ok-ride, go_on-else-may_lead, ride-then-not-are_all_before+in_ok-go_on, ride-else-not-are_all_before}
-
-pub go_on-returns-then-found-clause-decided : goal.go_on-returns-then-found-clause-decided
-go_on-returns-then-found-clause-decided t c =
-    λ s rest count trip. absurd ((c.in_ok-bound_long_search.ensures.search.over c.if-found.true).none (c.args.way.now ++ s ∷ rest) trip)
 
 pub go_on-returns-then-is_hopeless-clause-decided : goal.go_on-returns-then-is_hopeless-clause-decided
 go_on-returns-then-is_hopeless-clause-decided t c =
@@ -50,13 +46,10 @@ go_on-returns-then-are_all_before-clause-decided t c =
     let least = c.least_from-least.result in
     let late = c.are_all_before.ensures r w c.loop-departure.invariant.search.kept c.if-are_all_before.true in
     let at : c.seconds.result ≡ (get_or ds i d).moment = c.seconds.ensures.value ∙ ap (λ (x : Departure). x.moment) c.departure-item.is in
-    let part = c.narrowed-part.result in
-    let narrowed = c.narrowed-part.ensures in
     let search = c.in_ok-bound_long_search.ensures.search in
     let leaving = c.leaving-departure-items.ensures in
-    all_covered r w best way c.args.changes win.station part.station win.from win.to part.from part.to ds d leaving.leaving narrowed.station
-    (narrowed.leading r w search.bounds) c.window_of-window.ensures.window
-    (late_from r w best way c.args.changes part.station part.from part.to ds d i (c.seconds.result + least) least leaving.leaving (c.least_from-least.ensures.least r w leaving.rise search.shortest) late
+    all_covered r w best way c.args.changes win.station win.from win.to ds d leaving.leaving c.window_of-window.ensures.window
+    (late_from r w best way c.args.changes win.station win.from win.to ds d i (c.seconds.result + least) least leaving.leaving (c.least_from-least.ensures.least r w leaving.rise search.shortest) late
     (omega (arith, at)) c.loop-departure.invariant.tried)
 
 pub go_on-loop-departure-preserved : goal.go_on-loop-departure-preserved
@@ -87,7 +80,7 @@ go_on-loop-departure-preserved t c =
           }
       | go_on-else-may_lead v ↦ record {
         grows = subst (λ b. Grows r w old b.best.trips.items) (sym v.found-is) c.loop-departure.invariant.grows;
-        search = subst (IsSearch r w) (sym v.found-is) (let was = c.loop-departure.invariant.search in record { kept = was.kept; ends = was.ends; bounds = was.bounds; shortest = was.shortest; over = was.over });
+        search = subst (IsSearch r w) (sym v.found-is) (let was = c.loop-departure.invariant.search in record { kept = was.kept; ends = was.ends; bounds = was.bounds; shortest = was.shortest });
         tried = subst (λ b. (k : ℕ) → k < i + 1 → P b.best.trips.items k) (sym v.found-is)
             (one_further (P best) i c.loop-departure.invariant.tried (here best (c.may_lead.ensures.decided v.if-may_lead.false)));
       }
@@ -101,16 +94,14 @@ go_on-ride-requires t c =
     let ds = c.leaving-departure-items.result.now in
     let i = c.loop-departure.departure-index in
     let d = c.departure-item.result in
-    let part = c.narrowed-part.result in
-    let narrowed = c.narrowed-part.ensures in
     let was = c.loop-departure.invariant.search in
-    let leaves = subst (Leaves r part.station part.from part.to) (sym c.departure-item.is) (c.leaving-departure-items.ensures.leaving.each i d c.loop-departure-test.true) in
-    let taken = part_taken r w c.args.way.now win.station part.station win.from win.to part.from part.to d leaves narrowed.station narrowed.from narrowed.to c.window_of-window.ensures.window
+    let leaves = subst (Leaves r win.station win.from win.to) (sym c.departure-item.is) (c.leaving-departure-items.ensures.leaving.each i d c.loop-departure-test.true) in
+    let taken = taken_there r w c.args.way.now win.station win.from win.to d leaves c.window_of-window.ensures.window
     (c.may_lead.ensures.fresh c.if-may_lead.true) in (
       omega (arith, c.decreases),
       (
         c.requires.few,
-        (c.requires.way, (record { kept = was.kept; ends = was.ends; bounds = was.bounds; shortest = was.shortest; over = was.over }, (c.leaving-departure-items.ensures.rise, taken))),
+        (c.requires.way, (record { kept = was.kept; ends = was.ends; bounds = was.bounds; shortest = was.shortest }, (c.leaving-departure-items.ensures.rise, taken))),
       ),
     )
 
@@ -122,10 +113,7 @@ go_on-returns-clause-decided t c =
     let ds = c.leaving-departure-items.result.now in
     let ended = c.loop-departure-test.false in
     let none : Departure = record { moment = 0; run = record { 0 = 0 }; stop = 0 } in
-    let part = c.narrowed-part.result in
-    let narrowed = c.narrowed-part.ensures in
-    all_covered r w c.loop-departure.found.best.trips.items c.args.way.now c.args.changes win.station part.station win.from win.to part.from part.to ds none c.leaving-departure-items.ensures.leaving narrowed.station
-    (narrowed.leading r w c.in_ok-bound_long_search.ensures.search.bounds) c.window_of-window.ensures.window
+    all_covered r w c.loop-departure.found.best.trips.items c.args.way.now c.args.changes win.station win.from win.to ds none c.leaving-departure-items.ensures.leaving c.window_of-window.ensures.window
     (λ k h to. c.loop-departure.invariant.tried k (omega (arith, h, ended)) none to)
 
 pub ride-go_on-requires : goal.ride-go_on-requires
@@ -161,7 +149,7 @@ ride-loop-to-init t c =
     let search = c.requires.search in
     record {
       grows = same_grows r w best search.kept.are;
-      search = record { kept = search.kept; ends = search.ends; shortest = search.shortest; bounds = search.bounds; over = search.over };
+      search = record { kept = search.kept; ends = search.ends; shortest = search.shortest; bounds = search.bounds };
       tried = λ k h. not_ridden r w best way c.args.changes (segment d.run.0 d.stop k) (λ known. (let up = known.rises in omega (arith, up, h)));
     }
 

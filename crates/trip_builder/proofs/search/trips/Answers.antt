@@ -1,4 +1,4 @@
-use Rattle.std.proofs.Common.{◌∙◌, ◌<◌, List, [], length, subst, arith, sym, true≢false}
+use Rattle.std.proofs.Common.{◌∙◌, ◌<◌, List, [], length, subst, arith}
 use Rattle.trip_builder.specs.Bounds.{ReachView}
 use Rattle.trip_builder.specs.Search.{AreDecided}
 use Rattle.trip_builder.proofs.Deciding.{best_of_all, one_further, stays_with}
@@ -15,7 +15,6 @@ loop-changes-init c =
         ends = c.in_ok-unknown.ensures r w;
         shortest = none_shortest r w c.blank.result c.blank.ensures;
         bounds = λ n none h. (let inside = subst (λ (l : List ReachView). n < length l) c.unknown-2.ensures h in absurd (omega (arith, inside)));
-        over = λ says. absurd (true≢false (sym says));
       };
       decided = λ n h. absurd (omega (arith, h));
     }

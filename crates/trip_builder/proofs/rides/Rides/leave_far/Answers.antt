@@ -14,7 +14,5 @@ returns c =
     let stay : StayMarked times marks.items new = subst (λ (l : List Bool). StayMarked times l new) c.as_mut_slice.ensures.value c.unmark_far.ensures in
     λ r w v changes reached are. record {
       firsts = are.firsts;
-      count = are.count;
-      done = λ run says. subst (IsMarkedRun r w v changes run) (sym kept) (still_marked r w v changes run times marks.items new reached stay (are.done run says));
       whole = λ says run. subst (IsMarkedRun r w v changes run) (sym kept) (still_marked r w v changes run times marks.items new reached stay (are.whole says run));
     }

@@ -10,7 +10,5 @@ returns-then-place-len-clause-rides c =
     let size = c.args.self.now.firsts.ok in
     record {
       firsts = firsts_put r w v changes c.args.self.now.width c.args.self.now.firsts.items c.args.run.0 c.args.stop c.place-place.result c.args.two c.place-place.ensures c.if-stop-self.false (omega (arith, test, count, size)) are.firsts own;
-      count = are.count;
-      done = are.done;
       whole = are.whole;
     })
