@@ -28,7 +28,7 @@ moved : (answers : List Pieces) (written : ℕ) (heads more : List (List ℕ)) �
     → HaveBegun answers written more → HaveBegun answers written heads
 moved answers written heads more is it = subst (λ (t : List (List ℕ)). HaveBegun answers written t) (sym is) it
 
--- the writes of a list, from where so many bytes of an answer are left
+-- the writes of a list, from where a number of bytes of an answer is left
 pub counted : (writes : List Handed) (answers : List Pieces) (left same written : ℕ) (heads : List (List ℕ))
     → HandOver left answers writes → Counts same writes heads → same ≡ left → written ≡ taken_in writes - left
     → HaveBegun answers written heads

@@ -23,13 +23,13 @@ abbrev pub taken_in : List Handed → ℕ
 taken_in [] = 0
 taken_in (h ∷ writes) = h.taken + taken_in writes
 
--- So many bytes of the answer under way were left; of a write of that many some were taken; an answer has begun or
--- none; so many are left now.
+-- The bytes that were left of the answer under way, those of a write, and those of them that were taken; whether an
+-- answer has begun with them; and the bytes that are left now.
 abbrev pub Turns : ℕ → ℕ → ℕ → Bool → ℕ → Type 0
 Turns left size taken true after = (left ≡ 0) × (0 < taken) × (after ≡ size - taken)
 Turns left size taken false after = ((taken ≡ 0) × (after ≡ left)) ⊎ ((0 < left) × (after ≡ left - taken))
 
--- a counter, of whose answer under way so many bytes are left, counts at these writes the answers with these heads
+-- a counter with this number of bytes left of the answer under way counts at these writes the answers with these heads
 abbrev pub Counts : ℕ → List Handed → List (List ℕ) → Type 0
 Counts left [] counted = counted ≡ []
 Counts left (h ∷ writes) counted =
@@ -45,7 +45,7 @@ GoesOn left h = (0 < left) × (size_in h ≡ left) × (h.taken ≤ left)
 abbrev pub Begins : ℕ → Pieces → Handed → Type 0
 Begins left a h = (left ≡ 0) × (h.first ≡ a.head) × (h.second ≡ a.body) × (h.taken ≤ size_of a)
 
--- These writes hand over, where so many bytes of an answer are left, what is left of it and then these answers in turn.
+-- With this number of bytes left of an answer, these writes hand over what is left of it and then these answers in turn.
 -- Each write is of all that is left of an answer, of which the sink takes as much as it likes.
 abbrev pub HandOver : ℕ → List Pieces → List Handed → Type 0
 HandOver left answers [] = Unit {0}
@@ -55,7 +55,7 @@ HandOver left (a ∷ answers) (h ∷ writes) =
     ⊎ (Begins left a h × (((0 < h.taken) × HandOver (size_of a - h.taken) answers writes)
     ⊎ ((h.taken ≡ 0) × HandOver 0 (a ∷ answers) writes)))
 
--- of these answers those have begun which have these heads, where so many bytes of them are written
+-- where this number of bytes of these answers is written, those have begun that have these heads
 abbrev pub HaveBegun : List Pieces → ℕ → List (List ℕ) → Type 0
 HaveBegun [] written heads = heads ≡ []
 HaveBegun (a ∷ answers) written heads =
