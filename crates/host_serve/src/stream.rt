@@ -5,7 +5,8 @@ ghost use Rattle.session_loop.specs.declared.end.ConnEnd.TheVariants.{ReadFault,
 ghost use Rattle.claim_rule.specs.Desks.{IsOf};
 ghost use Rattle.claim_rule.specs.Out.{IsTidy};
 ghost use Rattle.rail_service.specs.Connections.{ServesWhole, connection_at};
-ghost use Rattle.rail_service.specs.Moments.{PermitsReplies, service_at};
+ghost use Rattle.session_loop.specs.Writes.{showing};
+ghost use Rattle.rail_service.specs.Moments.{CutGiven, HandsReplies, PermitsReplies, service_at};
 ghost use Rattle.worker_pool.specs.Turns.{KeepsDesk};
 ghost use Rattle.host_serve.specs.Turns.{HasCatalogue};
 
@@ -28,7 +29,8 @@ pub fn serve_stream<I: Source, O: Outlet, C: Clock>(
     requires has { HasCatalogue books.now common.cat.now }
     requires own { IsOf books.now desk.old }
     requires tidy { IsTidy desk.old }
-    requires permits { PermitsReplies O.permits common.cat.now O.held O.told (service_at desk.old (C.told clock.old))
+    requires permits { PermitsReplies O.permits common.cat.now (CutGiven C.told C.begun C.ends)
+        (showing O.told O.takes O.held) (service_at desk.old (C.told clock.old))
         (I.told waiting.input) waiting.output }
     ensures own { IsOf books.now desk.new }
     ensures tidy { IsTidy desk.new }
@@ -39,6 +41,12 @@ pub fn serve_stream<I: Source, O: Outlet, C: Clock>(
     ensures served { ServesWhole common.entry.cat.now
         (connection_at desk.old (C.told clock.old) (I.told waiting.input) (O.told waiting.output))
         (connection_at desk.new (C.told clock.new) (I.told result.input) (O.told result.output)) result.end }
+
+    // Calls of the outlet's own have handed it just these, also where it doesn't tell its bytes, as a socket's doesn't.
+    ensures handed { HandsReplies common.entry.cat.now (showing O.told O.takes O.held)
+        (connection_at desk.old (C.told clock.old) (I.told waiting.input) (O.told waiting.output))
+        (connection_at desk.new (C.told clock.new) (I.told result.input) (O.told result.output))
+        waiting.output result.output result.end }
 
     // A device's failure is the end where its count of faults rose in this call, and at every other end that count is
     // as it was.

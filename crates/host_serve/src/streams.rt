@@ -2,7 +2,8 @@
 ghost use Rattle.std.specs.Prelude.{◌≡◌, ◌+◌, ℕ, IfSome, IfNone, IsSomeAnd};
 ghost use Rattle.rail_service.specs.Listeners.{HandingBy, IsGiven};
 ghost use Rattle.rail_service.specs.Connections.{ServiceView};
-ghost use Rattle.rail_service.specs.Moments.{PermitsReplies};
+ghost use Rattle.session_loop.specs.Writes.{showing};
+ghost use Rattle.rail_service.specs.Moments.{AnyCut, PermitsReplies};
 ghost use Rattle.rail_catalogue.specs.Contents.{CatalogueView};
 ghost use Rattle.host_serve.specs.Turns.{LettingGo};
 
@@ -42,14 +43,15 @@ pub trait Streams {
     ghost tells: { Self → Type 0 };
 
     /// The next stream, for which it may wait, or none, where there will be no more, and all may see it. At each moment
-    /// the stream's outlet permits the next bytes of the defined replies, whatever the catalogue and the desk.
+    /// the stream's outlet permits the next bytes of the defined replies, whatever the catalogue and the desk, and
+    /// whichever cut they wait for.
     fn next_stream(&mut self) -> Option<Waiting<Self::Input, Self::Output>>
         ensures some { IfSome result (λ _. handed self.new ≡ handed self.old + 1) }
         ensures hands { IfSome result (λ w.
             hands self.old (Self.Input.told w.input) (Self.Output.told w.output) self.new) }
         ensures permits { IfSome result (λ w. (cat : CatalogueView) (service : ServiceView)
-            → PermitsReplies Self.Output.permits cat Self.Output.held Self.Output.told service
-            (Self.Input.told w.input) w.output) }
+            → PermitsReplies Self.Output.permits cat AnyCut
+            (showing Self.Output.told Self.Output.takes Self.Output.held) service (Self.Input.told w.input) w.output) }
         ensures none { IfNone result (handed self.new ≡ handed self.old) }
         ensures tells { IfNone result (tells self.new) };
 

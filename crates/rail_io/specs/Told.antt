@@ -1,5 +1,5 @@
 -- What a source has left and what a sink has taken, where the object tells it.
-use Rattle.std.specs.Prelude.{◌≡◌, ◌≤◌, ◌<◌, ℕ, List, [], ◌++◌, length, take, Option, option_map, IfSome, ⊤, Some}
+use Rattle.std.specs.Prelude.{◌≡◌, ◌≤◌, ◌<◌, ◌⊎◌, ℕ, List, [], ◌++◌, length, take, Option, option_map, IfSome, ⊤, Some}
 use Rattle.rail_io.specs.declared.source.Pulled.{Pulled}
 use Rattle.rail_io.specs.declared.source.Pulled.TheVariants.{Got, End, Failed}
 use Rattle.rail_io.specs.declared.sink.Pushed.{Pushed}
@@ -30,6 +30,22 @@ Pushes before after piece SinkFailed = after ≡ before
 abbrev pub PushesBoth : Option (List ℕ) → Option (List ℕ) → List ℕ → PushedBoth → Type 0
 PushesBoth before after pieces (TookBoth n) = (0 < n) × (n ≤ length pieces) × (after ≡ with_end before (take n pieces))
 PushesBoth before after pieces (FailedBoth n) = (n < length pieces) × (after ≡ with_end before (take n pieces))
+
+-- the bytes of a piece that a write took
+abbrev pub taken_by : List ℕ → Pushed → List ℕ
+taken_by piece (Took n) = take n piece
+taken_by piece SinkFailed = []
+
+-- the bytes of both pieces that a write of them took
+abbrev pub both_taken_by : List ℕ → PushedBoth → List ℕ
+both_taken_by pieces (TookBoth n) = take n pieces
+both_taken_by pieces (FailedBoth n) = take n pieces
+
+-- one call took these bytes, or one took a front of them and the next one the rest
+abbrev pub TakesInTurn : {K : Type 0} → (K → List ℕ → K → Type 0) → K → List ℕ → K → Type 0
+TakesInTurn {K} takes before bytes after =
+    takes before bytes after
+    ⊎ ((mid : K) × (front rest : List ℕ) × takes before front mid × takes mid rest after × (bytes ≡ front ++ rest))
 
 -- the sink failed in it
 abbrev pub HasFailed : PushedBoth → Type 0

@@ -2,7 +2,7 @@
 ghost use Rattle.std.specs.Prelude.{◌≡◌, ◌≤◌, ◌<◌, ◌++◌, ℕ, List, Option, length};
 ghost use Rattle.rail_io.specs.declared.sink.Pushed.TheVariants.{Failed};
 ghost use Rattle.rail_io.specs.Faults.{Rose};
-ghost use Rattle.rail_io.specs.Told.{Pushes, PushesBoth, HasFailed};
+ghost use Rattle.rail_io.specs.Told.{Pushes, PushesBoth, HasFailed, TakesInTurn, taken_by, both_taken_by};
 
 /// What a write answers.
 #[derive(Clone, Copy, PartialEq, Eq)]
@@ -31,6 +31,10 @@ pub trait Sink {
     /// call that doesn't fail.
     ghost faults: { Self → ℕ };
 
+    /// That one call took just these bytes: the sink before it, the bytes, and the sink after it. Whoever knows nothing
+    /// of a sink but this trait can show that of it only by such a call.
+    ghost takes: { Self → List ℕ → Self → Type 0 } = { λ _ _ _. Unit {0} };
+
     /// That it was told once that what is written from then on may leave only once the cut of a number is kept: the
     /// sink before it, the number, and the sink after it. Whoever knows nothing of a sink but this trait can show that
     /// of it only by telling it. A sink that knows no journal stays as it was.
@@ -40,6 +44,7 @@ pub trait Sink {
     fn write(&mut self, piece: &[u8]) -> Pushed
         requires { 0 < length piece.now }
         ensures pushes { Pushes (told self.old) (told self.new) piece.now result }
+        ensures takes { takes self.old (taken_by piece.now result) self.new }
         ensures never_falls { faults self.old ≤ faults self.new }
         ensures cause { result ≡ Failed → Rose (faults self.old) (faults self.new) }
         ensures steady { (result ≡ Failed → ⊥) → faults self.new ≡ faults self.old };
@@ -49,6 +54,7 @@ pub trait Sink {
     fn write_both(&mut self, first: &[u8], second: &[u8]) -> PushedBoth
         requires { 0 < length first.now }
         ensures pushes { PushesBoth (told self.old) (told self.new) (first.now ++ second.now) result }
+        ensures takes { TakesInTurn takes self.old (both_taken_by (first.now ++ second.now) result) self.new }
         ensures never_falls { faults self.old ≤ faults self.new }
         ensures cause { HasFailed result → Rose (faults self.old) (faults self.new) }
         ensures steady { (HasFailed result → ⊥) → faults self.new ≡ faults self.old }

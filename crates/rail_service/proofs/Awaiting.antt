@@ -16,7 +16,7 @@ use Rattle.osdm_json.specs.declared.command.Command.{Command}
 use Rattle.service_rules.specs.Checks.{ordered}
 use Rattle.rail_service.specs.Commands.{Says}
 use Rattle.rail_service.specs.Reaching.{reach_of}
-use Rattle.rail_service.specs.Responding.{IsGivenCut}
+use Rattle.rail_service.specs.Moments.{IsGivenCut}
 use Rattle.rail_service.specs.Serving.{HasFound, AsksOn, AsksAdmitted}
 use Rattle.rail_service.proofs.Looking.{looks_alone}
 

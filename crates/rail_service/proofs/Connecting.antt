@@ -1,5 +1,5 @@
 -- A connection, from the answers of its service.
-use Rattle.std.proofs.Common.{◌≡◌, ℕ, true, List, Option, refl, sym, ◌∙◌, subst}
+use Rattle.std.proofs.Common.{◌≡◌, ℕ, true, List, Option, refl, sym, ◌∙◌, subst, inl, inr}
 use Rattle.history_model.specs.History.{IsLegal}
 use Rattle.history_model.proofs.Legal.{NoDouble-from_WellFormed, WellFormed-history}
 use Rattle.history_model.proofs.Seen.{legal-front}
@@ -11,7 +11,9 @@ use Rattle.http_wire.specs.Requests.{RequestText}
 use Rattle.session_loop.specs.declared.end.ConnEnd.{ConnEnd}
 use Rattle.session_loop.specs.declared.end.ConnEnd.TheVariants.{WriteFault}
 use Rattle.session_loop.specs.Session.{IsEnd}
-use Rattle.session_loop.specs.Moments.{Awaiting, MayWrite}
+use Rattle.rail_io.specs.declared.clock.Reach.{Reach}
+use Rattle.session_loop.specs.Writes.{Showing}
+use Rattle.session_loop.specs.Moments.{Awaiting, Permitting, MayWrite}
 use Rattle.session_loop.proofs.Keeping.{end_keeps}
 use Rattle.session_loop.proofs.Views.{end_seen, moment_seen}
 use Rattle.rail_catalogue.specs.Contents.{CatalogueView}
@@ -20,8 +22,8 @@ use Rattle.rail_service.specs.Bytes.{reply_bytes}
 use Rattle.rail_service.specs.declared.service.Service.{Service}
 use Rattle.rail_service.specs.Refusals.{problem_of_wire}
 use Rattle.rail_service.specs.Connections.{ServiceView, IsAnswer, answers_of, refusals_of, NeverDouble, IsServed}
-use Rattle.rail_service.specs.Moments.{MayReply}
-use Rattle.rail_service.specs.Responding.{view_of, Responds, Declines}
+use Rattle.rail_service.specs.Moments.{AnyCut, CutGiven, MayReply, PermitsReplies}
+use Rattle.rail_service.specs.Responding.{view_of, Responds, Awaits, Declines}
 use Rattle.rail_service.proofs.Owned.{Own, own_then, own_same}
 
 never_double : (desk : DeskView) → IsLegal desk.layout desk.seen → NeverDouble desk
@@ -82,21 +84,54 @@ module _ {C : Type 0} (told : C → Option (ℕ → ℕ)) (start after : Service
         idle = idle;
       }
 
+-- the cut that a service's answer waits for, as its view shows it
+await_seen : {C : Type 0} (told : C → Option (ℕ → ℕ)) (begun : C → Reach → Type 0) (ends : C → ℕ → C → Type 0) (start before : Service C) (cut : ℕ) (after : Service C)
+    → before.cat.now ≡ start.cat.now → Awaits begun ends before cut after → CutGiven told begun ends (view_of told before) cut (view_of told after)
+await_seen told begun ends start before cut after keeps (inl none) = inl none
+await_seen told begun ends start before cut after keeps (inr given) = inr (after.clock.now, given, refl)
+
 -- what may be handed over at a moment of a service's session is of a defined reply
-pub may_reply : {C K : Type 0} (clock_told : C → Option (ℕ → ℕ)) (awaits : Awaiting (Service C)) (held : K → ℕ → K → Type 0) (told : K → Option (List ℕ)) (start : Service C) (source : Option (List ℕ)) (sink now : K) (piece : List ℕ)
+pub may_reply : {C K : Type 0} (clock_told : C → Option (ℕ → ℕ)) (begun : C → Reach → Type 0) (ends : C → ℕ → C → Type 0) (shows : Showing K) (start : Service C) (source : Option (List ℕ)) (sink now : K) (piece : List ℕ)
     → IsLegal start.desk.now.layout start.desk.now.seen
-    → MayWrite (λ (before : Service C) request text (next : Service C). Responds clock_told before request text next) (λ (service : Service C) fault text. Declines service fault text) awaits held told start source sink now piece
-    → MayReply start.cat.now held told (view_of clock_told start) source sink now piece
-may_reply {C} {K} clock_told awaits held told start source sink now piece legal m =
+    → MayWrite (λ (before : Service C) request text (next : Service C). Responds clock_told before request text next) (λ (service : Service C) fault text. Declines service fault text)
+    (λ (before : Service C) (cut : ℕ) (after : Service C). Awaits begun ends before cut after) shows start source sink now piece
+    → MayReply start.cat.now (CutGiven clock_told begun ends) shows (view_of clock_told start) source sink now piece
+may_reply {C} {K} clock_told begun ends shows start source sink now piece legal m =
     let t = through clock_told start m.after m.taken m.left m.written WriteFault legal m.next in
     let seen = moment_seen (λ before request text next. Responds clock_told before request text next) (λ service fault text. Declines service fault text) (answers_of start.cat.now) (refusals_of start.cat.now)
-    (view_of clock_told) (λ (s : Service C). s.cat.now ≡ start.cat.now) (answered clock_told start) (refused start) awaits held told start source sink now piece refl m in
+    (view_of clock_told) (λ (s : Service C). s.cat.now ≡ start.cat.now) (answered clock_told start) (refused start)
+    (λ (before : Service C) (cut : ℕ) (after : Service C). Awaits begun ends before cut after) (CutGiven clock_told begun ends) shows
+    (await_seen clock_told begun ends start) start source sink now piece refl m in
     record {
       is = seen.0;
       steps = t.own.0;
       shape = subst (λ (v : ServiceView). AddsSteps start.desk.now v.desk t.own.0) (sym seen.1) t.own.1;
       no_double = subst (λ (v : ServiceView). NeverDouble v.desk) (sym seen.1) (never_double m.after.desk.now t.own.1.legal);
     }
+
+-- an outlet that permits a reply whichever cut it waits for permits it where it waits for its own
+pub permits_any : {K : Type 0} (permits : Permitting K) (cat : CatalogueView) (awaits : Awaiting ServiceView) (shows : Showing K) (before : ServiceView) (source : Option (List ℕ)) (sink : K)
+    → PermitsReplies permits cat AnyCut shows before source sink → PermitsReplies permits cat awaits shows before source sink
+permits_any {K} permits cat awaits shows before source sink may = λ now piece m. may now piece (record {
+  is = record {
+    taken = m.is.taken;
+    left = m.is.left;
+    reads = m.is.reads;
+    after = m.is.after;
+    written = m.is.written;
+    sent = m.is.sent;
+    next = m.is.next;
+    rest = m.is.rest;
+    cut = m.is.cut;
+    awaited = tt;
+    turn = m.is.turn;
+    before_it = m.is.before_it;
+    took = m.is.took;
+  };
+  steps = m.steps;
+  shape = m.shape;
+  no_double = m.no_double;
+})
 
 -- what the service held at its end is left at the desk and the clock
 pub served_there : {C : Type 0} (told : C → Option (ℕ → ℕ)) (cat : CatalogueView) (before : ServiceView) (service : Service C) (desk : DeskView) (clock : C) (taken : List ℕ) (left : Option (List ℕ)) (written : List ℕ) (end : ConnEnd)

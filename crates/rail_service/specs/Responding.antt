@@ -2,16 +2,14 @@
 use Rattle.std.specs.Prelude.{◌≡◌, ◌⊎◌, ℕ, true, List, Option}
 use Rattle.http_wire.specs.declared.request.WireFault.{WireFault}
 use Rattle.http_wire.specs.Requests.{RequestText}
-use Rattle.claim_rule.specs.Rule.{DeskView}
-use Rattle.claim_rule.specs.Calls.{AddsStepsBy}
-use Rattle.claim_rule.specs.Out.{AllLooks, IsTidy}
+use Rattle.claim_rule.specs.Out.{IsTidy}
 use Rattle.rail_io.specs.declared.clock.Reach.{Reach}
-use Rattle.rail_io.specs.declared.clock.Reach.TheVariants.{Changes}
 use Rattle.osdm_texts.specs.Answers.{problem}
 use Rattle.rail_service.specs.Bytes.{reply_bytes}
 use Rattle.rail_service.specs.declared.service.Service.{Service}
 use Rattle.rail_service.specs.Refusals.{problem_of_wire}
 use Rattle.rail_service.specs.Connections.{ServiceView, IsAnswer}
+use Rattle.rail_service.specs.Moments.{IsGivenCut}
 
 -- what contracts see of a service, by what its clock tells
 abbrev pub view_of : {C : Type 0} → (C → Option (ℕ → ℕ)) → Service C → ServiceView
@@ -26,16 +24,6 @@ pub record Responds {C : Type 0} (told : C → Option (ℕ → ℕ)) (before : S
   pub books : after.books.now ≡ before.books.now
   pub desk : after.desk.ghost_name ≡ before.desk.ghost_name
   pub clock : after.clock.ghost_name ≡ before.clock.ghost_name
-
--- A clock gave this cut at the end of a command that had begun there, by which the desk came from the one to the other.
--- One that wasn't said to change bookings has made looks alone.
-pub record IsGivenCut {C : Type 0} (begun : C → Reach → Type 0) (ends : C → ℕ → C → Type 0) (old new : DeskView)
-    (cut : ℕ) (after : C) : Type 0 where
-  pub clock : C
-  pub reach : Reach
-  pub began : begun clock reach
-  pub looks : (reach ≡ Changes → ⊥) → AddsStepsBy AllLooks old new
-  pub given : ends clock cut after
 
 -- An answer waits for the cut that the clock gave at the command's end; for none, where the desk has done nothing.
 abbrev pub Awaits : {C : Type 0} → (C → Reach → Type 0) → (C → ℕ → C → Type 0) → Service C → ℕ → Service C → Type 0

@@ -1,14 +1,15 @@
 //! One connection, from its first byte to its end.
 ghost use Rattle.std.specs.Prelude.{◌≡◌, ℕ, List, []};
 ghost use Rattle.rail_io.specs.Faults.{Rose};
-ghost use Rattle.rail_io.specs.Told.{with_front, with_end};
+ghost use Rattle.rail_io.specs.Told.{with_front};
 ghost use Rattle.session_loop.specs.declared.end.ConnEnd.TheVariants.{ReadFault, WriteFault};
 ghost use Rattle.rail_catalogue.specs.Contents.{legs_in};
 ghost use Rattle.claim_rule.specs.Desks.{IsOf};
 ghost use Rattle.claim_rule.specs.Out.{IsIdle, IsTidy};
 ghost use Rattle.lone_desk.specs.Lone.{IsAlone};
 ghost use Rattle.rail_service.specs.Connections.{IsServed, ServesWhole, connection_at};
-ghost use Rattle.rail_service.specs.Moments.{PermitsReplies, service_at};
+ghost use Rattle.session_loop.specs.Writes.{Handed, showing};
+ghost use Rattle.rail_service.specs.Moments.{CutGiven, HandsReplies, PermitsReplies, service_at};
 ghost use Rattle.rail_service.specs.OneThread.{ServesAlone};
 ghost use Rattle.rail_service.specs.Readiness.{IsReady};
 ghost use Rattle.rail_service.specs.Responding.{view_of};
@@ -33,13 +34,13 @@ fn serve<S: Source, K: Outlet, C: Clock>(
     requires fresh { intake.old.given ≡ 0 }
     requires empty { intake.old.unread ≡ [] }
     requires ready { IsReady service.old.cat.now service.old.books.now service.old.router.now service.old.desk.now }
-    requires permits { PermitsReplies K.permits service.old.cat.now K.held K.told (view_of C.told service.old)
-        (S.told source.old) sink.old }
+    requires permits { PermitsReplies K.permits service.old.cat.now (CutGiven C.told C.begun C.ends)
+        (showing K.told K.takes K.held) (view_of C.told service.old) (S.told source.old) sink.old }
     ensures own { IsOf service.old.books.now service.new.desk.now }
     ensures tidy { IsTidy service.old.desk.now → IsTidy service.new.desk.now }
     ensures served { (taken written : List ℕ)
         × (S.told source.old ≡ with_front taken (S.told source.new))
-        × (K.told sink.new ≡ with_end (K.told sink.old) written)
+        × Handed (showing K.told K.takes K.held) sink.old written sink.new
         × IsServed service.old.cat.now (view_of C.told service.old) (view_of C.told service.new)
         taken (S.told source.new) written result }
     ensures read_cause { result ≡ ReadFault → Rose (S.faults source.old) (S.faults source.new) }
@@ -68,8 +69,8 @@ pub fn serve_permitted<S: Source, K: Outlet, C: Clock>(
     requires legs { books.now.layout.legs ≡ legs_in cat.now }
     requires rows { books.now.layout.rows ≡ cat.now.rows }
     requires idle { IsIdle desk.old }
-    requires permits { PermitsReplies K.permits cat.now K.held K.told (service_at desk.old (C.told clock.old))
-        (S.told source.old) sink.old }
+    requires permits { PermitsReplies K.permits cat.now (CutGiven C.told C.begun C.ends)
+        (showing K.told K.takes K.held) (service_at desk.old (C.told clock.old)) (S.told source.old) sink.old }
     ensures own { IsOf books.now desk.new }
     ensures idle { IsIdle desk.new }
     ensures tidy { IsTidy desk.old → IsTidy desk.new }
@@ -78,6 +79,11 @@ pub fn serve_permitted<S: Source, K: Outlet, C: Clock>(
     ensures served { ServesWhole cat.now
         (connection_at desk.old (C.told clock.old) (S.told source.old) (K.told sink.old))
         (connection_at desk.new (C.told clock.new) (S.told source.new) (K.told sink.new)) result }
+
+    // Calls of the sink's own have handed it just these, also where it doesn't tell its bytes.
+    ensures handed { HandsReplies cat.now (showing K.told K.takes K.held)
+        (connection_at desk.old (C.told clock.old) (S.told source.old) (K.told sink.old))
+        (connection_at desk.new (C.told clock.new) (S.told source.new) (K.told sink.new)) sink.old sink.new result }
 
     // At a desk that is alone, whatever it has done, they are those of a host of one thread, which begins with the
     // desk's bookings.
@@ -144,6 +150,11 @@ pub fn serve_connection<S: Source, K: Sink, C: Clock>(
     ensures served { ServesWhole cat.now
         (connection_at desk.old (C.told clock.old) (S.told source.old) (K.told sink.old))
         (connection_at desk.new (C.told clock.new) (S.told source.new) (K.told sink.new)) result }
+
+    // Calls of the sink's own have handed it just these, also where it doesn't tell its bytes.
+    ensures handed { HandsReplies cat.now (showing K.told K.takes K.held)
+        (connection_at desk.old (C.told clock.old) (S.told source.old) (K.told sink.old))
+        (connection_at desk.new (C.told clock.new) (S.told source.new) (K.told sink.new)) sink.old sink.new result }
 
     // At a desk that is alone, whatever it has done, they are those of a host of one thread, which begins with the
     // desk's bookings.

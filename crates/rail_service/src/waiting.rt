@@ -7,7 +7,8 @@ ghost use Rattle.claim_rule.specs.Desks.{IsOf};
 ghost use Rattle.claim_rule.specs.Out.{IsIdle, IsTidy};
 ghost use Rattle.lone_desk.specs.Lone.{IsAlone};
 ghost use Rattle.rail_service.specs.Connections.{ServesWhole, connection_at};
-ghost use Rattle.rail_service.specs.Moments.{PermitsReplies, service_at};
+ghost use Rattle.session_loop.specs.Writes.{showing};
+ghost use Rattle.rail_service.specs.Moments.{CutGiven, HandsReplies, PermitsReplies, service_at};
 ghost use Rattle.rail_service.specs.OneThread.{ServesAlone};
 
 use crate::connection::serve_permitted;
@@ -70,7 +71,8 @@ pub fn spend_permitted<I: Source, O: Outlet, C: Clock>(
     requires legs { books.now.layout.legs ≡ legs_in cat.now }
     requires rows { books.now.layout.rows ≡ cat.now.rows }
     requires idle { IsIdle desk.old }
-    requires permits { PermitsReplies O.permits cat.now O.held O.told (service_at desk.old (C.told clock.old))
+    requires permits { PermitsReplies O.permits cat.now (CutGiven C.told C.begun C.ends)
+        (showing O.told O.takes O.held) (service_at desk.old (C.told clock.old))
         (I.told waiting.input) waiting.output }
     ensures own { IsOf books.now desk.new }
     ensures idle { IsIdle desk.new }
@@ -80,6 +82,12 @@ pub fn spend_permitted<I: Source, O: Outlet, C: Clock>(
     ensures served { ServesWhole cat.now
         (connection_at desk.old (C.told clock.old) (I.told waiting.input) (O.told waiting.output))
         (connection_at desk.new (C.told clock.new) (I.told result.input) (O.told result.output)) result.end }
+
+    // Calls of the sink's own have handed it just these, also where it doesn't tell its bytes.
+    ensures handed { HandsReplies cat.now (showing O.told O.takes O.held)
+        (connection_at desk.old (C.told clock.old) (I.told waiting.input) (O.told waiting.output))
+        (connection_at desk.new (C.told clock.new) (I.told result.input) (O.told result.output))
+        waiting.output result.output result.end }
 
     // At a desk that is alone, whatever it has done, they are those of a host of one thread, which begins with the
     // desk's bookings.
@@ -121,6 +129,12 @@ pub fn serve_waiting<I: Source, O: Sink, C: Clock>(
     ensures served { ServesWhole cat.now
         (connection_at desk.old (C.told clock.old) (I.told waiting.input) (O.told waiting.output))
         (connection_at desk.new (C.told clock.new) (I.told result.input) (O.told result.output)) result.end }
+
+    // Calls of the sink's own have handed it just these, also where it doesn't tell its bytes.
+    ensures handed { HandsReplies cat.now (showing O.told O.takes O.held)
+        (connection_at desk.old (C.told clock.old) (I.told waiting.input) (O.told waiting.output))
+        (connection_at desk.new (C.told clock.new) (I.told result.input) (O.told result.output))
+        waiting.output result.output result.end }
 
     // At a desk that is alone, whatever it has done, they are those of a host of one thread, which begins with the
     // desk's bookings.

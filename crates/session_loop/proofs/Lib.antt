@@ -3,3 +3,4 @@ pub mod Serving
 pub mod Views
 pub mod Keeping
 pub mod Handing
+pub mod Records

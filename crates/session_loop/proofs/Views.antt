@@ -6,6 +6,7 @@ use Rattle.http_wire.specs.Requests.{RequestText, Rest, empty, unfinished, close
 use Rattle.session_loop.specs.declared.end.ConnEnd.{ConnEnd}
 use Rattle.session_loop.specs.declared.end.ConnEnd.TheVariants.{Done, Cut, Refused, ReadFault, WriteFault, NoMemory}
 use Rattle.session_loop.specs.Session.{Answering, Refusing, Chain, IsRefusal, IsAnswered, IsCutShort, IsEnd}
+use Rattle.session_loop.specs.Writes.{Showing}
 use Rattle.session_loop.specs.Moments.{Awaiting, MayWrite}
 
 -- `Keeps` holds of the responder all along, and under it the view answers as other relations say.
@@ -85,10 +86,12 @@ module _ {R Q : Type 0} (answers : Answering R) (refuses : Refusing R) (replies 
   end_seen before after taken told written NoMemory keeps none = none
 
   -- What may be handed over at a moment of the responder's session may be at that moment of the view's.
-  pub moment_seen : {K : Type 0} (awaits : Awaiting R) (held : K → ℕ → K → Type 0) (told : K → Option (List ℕ)) (start : R) (source : Option (List ℕ)) (sink now : K) (piece : List ℕ) → Keeps start
-      → (m : MayWrite answers refuses awaits held told start source sink now piece)
-      → (v : MayWrite replies refusals (λ _ _ _. Unit {0}) held told (view start) source sink now piece) × (v.after ≡ view m.after)
-  moment_seen {K} awaits held told start source sink now piece keeps m =
+  pub moment_seen : {K : Type 0} (awaits : Awaiting R) (awaiting : Awaiting Q) (shows : Showing K)
+      → ((before : R) (cut : ℕ) (after : R) → Keeps before → awaits before cut after → awaiting (view before) cut (view after))
+      → (start : R) (source : Option (List ℕ)) (sink now : K) (piece : List ℕ) → Keeps start
+      → (m : MayWrite answers refuses awaits shows start source sink now piece)
+      → (v : MayWrite replies refusals awaiting shows (view start) source sink now piece) × (v.after ≡ view m.after)
+  moment_seen {K} awaits awaiting shows await_seen start source sink now piece keeps m =
       let seen = chain_seen m.next.requests start m.next.mid m.next.replies keeps m.next.chain in (
         record {
           taken = m.taken;
@@ -114,10 +117,10 @@ module _ {R Q : Type 0} (answers : Answering R) (refuses : Refusing R) (replies 
           };
           rest = m.rest;
           cut = m.cut;
-          awaited = tt;
+          awaited = await_seen m.next.mid m.cut m.after seen.0 m.awaited;
           turn = m.turn;
           before_it = m.before_it;
-          writes = m.writes;
+          took = m.took;
         },
         refl,
       )

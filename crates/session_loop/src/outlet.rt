@@ -2,7 +2,7 @@
 ghost use Rattle.std.specs.Prelude.{◌≡◌, ◌≤◌, ◌<◌, ◌++◌, ℕ, List, Option, length};
 ghost use Rattle.rail_io.specs.declared.sink.Pushed.TheVariants.{Failed};
 ghost use Rattle.rail_io.specs.Faults.{Rose};
-ghost use Rattle.rail_io.specs.Told.{Pushes, PushesBoth, HasFailed};
+ghost use Rattle.rail_io.specs.Told.{Pushes, PushesBoth, HasFailed, TakesInTurn, taken_by, both_taken_by};
 
 use rail_io::{Pushed, PushedBoth, Sink};
 
@@ -16,6 +16,10 @@ pub trait Outlet {
     /// How often it has failed.
     ghost faults: { Self → ℕ };
 
+    /// That one call took just these bytes: the outlet before it, the bytes, and the outlet after it. Whoever knows
+    /// nothing of an outlet but this trait can show that of it only by such a call.
+    ghost takes: { Self → List ℕ → Self → Type 0 };
+
     /// That it was told once that what is handed to it from then on may leave only once the cut of a number is kept:
     /// the outlet before it, the number, and the outlet after it.
     ghost held: { Self → ℕ → Self → Type 0 };
@@ -28,6 +32,7 @@ pub trait Outlet {
         requires some { 0 < length piece.now }
         requires permitted { permits self.old piece.now }
         ensures pushes { Pushes (told self.old) (told self.new) piece.now result }
+        ensures takes { takes self.old (taken_by piece.now result) self.new }
         ensures never_falls { faults self.old ≤ faults self.new }
         ensures cause { result ≡ Failed → Rose (faults self.old) (faults self.new) }
         ensures steady { (result ≡ Failed → ⊥) → faults self.new ≡ faults self.old };
@@ -37,6 +42,7 @@ pub trait Outlet {
         requires some { 0 < length first.now }
         requires permitted { permits self.old (first.now ++ second.now) }
         ensures pushes { PushesBoth (told self.old) (told self.new) (first.now ++ second.now) result }
+        ensures takes { TakesInTurn takes self.old (both_taken_by (first.now ++ second.now) result) self.new }
         ensures never_falls { faults self.old ≤ faults self.new }
         ensures cause { HasFailed result → Rose (faults self.old) (faults self.new) }
         ensures steady { (HasFailed result → ⊥) → faults self.new ≡ faults self.old };
@@ -53,6 +59,8 @@ impl<K: Sink> Outlet for K {
     ghost told = { λ sink. K.told sink };
 
     ghost faults = { λ sink. K.faults sink };
+
+    ghost takes = { λ before bytes after. K.takes before bytes after };
 
     ghost held = { λ before cut after. K.held before cut after };
 

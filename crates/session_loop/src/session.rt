@@ -6,7 +6,7 @@ ghost use Rattle.rail_io.specs.Told.{with_front, with_end};
 ghost use Rattle.session_loop.specs.declared.end.ConnEnd.TheVariants.{ReadFault, WriteFault};
 ghost use Rattle.session_loop.specs.Moments.{MayStep, MayWrite, PermitsAnswer};
 ghost use Rattle.session_loop.specs.Session.{IsStep, IsEnd};
-ghost use Rattle.session_loop.specs.Writes.{Writes};
+ghost use Rattle.session_loop.specs.Writes.{Handed, HandsFor, showing};
 
 use crate::end::ConnEnd;
 use crate::outlet::Outlet;
@@ -21,9 +21,10 @@ use rail_io::{Sink, Source};
 #[inline(never)]
 fn refuse<K: Outlet, R: Responder>(sink: &mut K, responder: &mut R, fault: WireFault) -> bool
     requires permits { (answer : List ℕ) (cut : ℕ) → R.refuses responder.old fault answer
-        → R.awaits responder.old cut responder.old → PermitsAnswer K.permits K.held K.told sink.old cut answer }
-    ensures writes { (answer : List ℕ) × R.refuses responder.old fault answer
-        × Writes (K.told sink.old) (K.told sink.new) answer result }
+        → R.awaits responder.old cut responder.old
+        → PermitsAnswer K.permits (showing K.told K.takes K.held) sink.old cut answer }
+    ensures hands { (answer : List ℕ) × (cut : ℕ) × R.refuses responder.old fault answer
+        × HandsFor (showing K.told K.takes K.held) sink.old sink.new cut answer result }
     ensures same { responder.new ≡ responder.old }
     ensures never_falls { K.faults sink.old ≤ K.faults sink.new }
     ensures cause { result ≡ false → Rose (K.faults sink.old) (K.faults sink.new) }
@@ -43,12 +44,12 @@ fn step<S: Source, K: Outlet, R: Responder>(
     requires few { intake.old.given < 65536 }
     requires ready { R.ready responder.old }
     requires permits { (now : K) (piece : List ℕ)
-        → MayStep R.answers R.refuses R.awaits K.held K.told (intake.old.given + 1) intake.old.unread responder.old
-        (S.told source.old) sink.old now piece
+        → MayStep R.answers R.refuses R.awaits (showing K.told K.takes K.held) (intake.old.given + 1) intake.old.unread
+        responder.old (S.told source.old) sink.old now piece
         → K.permits now piece }
     ensures step { (pulled written : List ℕ)
         × (S.told source.old ≡ with_front pulled (S.told source.new))
-        × (K.told sink.new ≡ with_end (K.told sink.old) written)
+        × Handed (showing K.told K.takes K.held) sink.old written sink.new
         × IsStep R.answers R.refuses (intake.old.given + 1) (intake.old.unread ++ pulled) intake.new.unread
         responder.old responder.new (S.told source.new) written result }
     ensures ready { R.ready responder.new }
@@ -96,11 +97,12 @@ pub fn run_permitted<S: Source, K: Outlet, R: Responder>(
     requires empty { intake.old.unread ≡ [] }
     requires ready { R.ready responder.old }
     requires permits { (now : K) (piece : List ℕ)
-        → MayWrite R.answers R.refuses R.awaits K.held K.told responder.old (S.told source.old) sink.old now piece
+        → MayWrite R.answers R.refuses R.awaits (showing K.told K.takes K.held) responder.old (S.told source.old)
+        sink.old now piece
         → K.permits now piece }
     ensures answers { (taken written : List ℕ)
         × (S.told source.old ≡ with_front taken (S.told source.new))
-        × (K.told sink.new ≡ with_end (K.told sink.old) written)
+        × Handed (showing K.told K.takes K.held) sink.old written sink.new
         × IsEnd R.answers R.refuses responder.old responder.new taken (S.told source.new) written result }
     ensures ready { R.ready responder.new }
     ensures source_faults { S.faults source.old ≤ S.faults source.new }

@@ -3,7 +3,7 @@ ghost use Rattle.std.specs.Prelude.{◌≡◌, ◌≤◌, ◌+◌, ◌++◌, ◌
 ghost use Rattle.rail_io.specs.Faults.{Rose};
 ghost use Rattle.session_loop.specs.Answered.{answer_bytes};
 ghost use Rattle.session_loop.specs.Moments.{PermitsAnswer, PermitsPiece};
-ghost use Rattle.session_loop.specs.Writes.{Writes, WritesHeld};
+ghost use Rattle.session_loop.specs.Writes.{Writes, Hands, HandsFor, showing};
 
 use crate::outlet::Outlet;
 use http_wire::{Answer, Body};
@@ -21,8 +21,8 @@ pub fn write_all<K: Sink>(sink: &mut K, piece: &[u8]) -> bool
 
 /// Writes all of the piece, of which the sink permits all that is left at each moment.
 fn hand_all<K: Outlet>(sink: &mut K, piece: &[u8]) -> bool
-    requires permits { PermitsPiece K.permits K.told sink.old piece.now }
-    ensures writes { Writes (K.told sink.old) (K.told sink.new) piece.now result }
+    requires permits { PermitsPiece K.permits (showing K.told K.takes K.held) sink.old piece.now }
+    ensures hands { Hands (showing K.told K.takes K.held) sink.old sink.new piece.now result }
     ensures never_falls { K.faults sink.old ≤ K.faults sink.new }
     ensures cause { result ≡ false → Rose (K.faults sink.old) (K.faults sink.new) }
     ensures steady { result ≡ true → K.faults sink.new ≡ K.faults sink.old }
@@ -52,8 +52,8 @@ fn behind<'a>(first: &'a [u8], second: &'a [u8], count: usize) -> (&'a [u8], &'a
 /// Writes both pieces, one after the other, without joining them: together where the sink can.
 #[inline(never)]
 fn hand_two<K: Outlet>(sink: &mut K, first: &[u8], second: &[u8]) -> bool
-    requires permits { PermitsPiece K.permits K.told sink.old (first.now ++ second.now) }
-    ensures writes { Writes (K.told sink.old) (K.told sink.new) (first.now ++ second.now) result }
+    requires permits { PermitsPiece K.permits (showing K.told K.takes K.held) sink.old (first.now ++ second.now) }
+    ensures hands { Hands (showing K.told K.takes K.held) sink.old sink.new (first.now ++ second.now) result }
     ensures never_falls { K.faults sink.old ≤ K.faults sink.new }
     ensures cause { result ≡ false → Rose (K.faults sink.old) (K.faults sink.new) }
     ensures steady { result ≡ true → K.faults sink.new ≡ K.faults sink.old }
@@ -74,9 +74,10 @@ fn hand_two<K: Outlet>(sink: &mut K, first: &[u8], second: &[u8]) -> bool
 /// inlined call made never stands in memory as a whole: it is large to clear and to copy.
 #[inline(always)]
 pub fn write_answer<K: Outlet>(sink: &mut K, answer: Answer) -> bool
-    requires permits { PermitsAnswer K.permits K.held K.told sink.old answer.after (answer_bytes answer) }
-    ensures writes { Writes (K.told sink.old) (K.told sink.new) (answer_bytes answer) result }
-    ensures held { WritesHeld K.held K.told sink.old answer.after (answer_bytes answer) result sink.new }
+    requires permits { PermitsAnswer K.permits (showing K.told K.takes K.held) sink.old
+        answer.after (answer_bytes answer) }
+    ensures hands { HandsFor (showing K.told K.takes K.held) sink.old sink.new
+        answer.after (answer_bytes answer) result }
     ensures never_falls { K.faults sink.old ≤ K.faults sink.new }
     ensures cause { result ≡ false → Rose (K.faults sink.old) (K.faults sink.new) }
     ensures steady { result ≡ true → K.faults sink.new ≡ K.faults sink.old }

@@ -1,4 +1,5 @@
 ghost use Rattle.std.specs.Prelude.{ℕ, ◌≡◌, ◌<◌, ◌≤◌, ◌≢◌, [], ◌∷◌, length, slice_index, IfOk};
+ghost use mathlib.Core.List.{IsPrefix};
 ghost use Rattle.leg_masks.specs.Interval.{IsPiece};
 ghost use Rattle.claim_rule.specs.Desks.{IsOf};
 ghost use Rattle.claim_rule.specs.Out.{IsHolding, IsIdle, HoldsNone, KeepsEndings};
@@ -176,6 +177,34 @@ fn two_desks_by_part(rt: HostRuntime) -> Result<(), Fail> {
     );
     let wall = books.finish(first);
     assert_eq!(rt; wall.place_word(PlaceNo(0), 0), Some(3));
+    Ok(())
+}
+
+// Lets a desk learn what another one has seen.
+fn tell_on(books: &Books, from: &mut Desk, to: &mut Desk)
+    requires own { IsOf books.now from.old }
+    requires other { IsOf books.now to.old }
+    ensures own { IsOf books.now to.new }
+    ensures same { from.new ≡ from.old }
+    ensures learned { IsPrefix from.old.seen to.new.seen }
+{
+    let told = books.tell(from);
+    books.learn(to, told);
+}
+
+/// A desk that was told what another one has seen finds the other's booking, and both go on.
+#[test]
+fn what_was_told_is_found(rt: HostRuntime) -> Result<(), Fail> {
+    let (books, mut first, mut second) = two_desks(rt.alloc())?;
+    let limit = moment(&rt, 900);
+    let row = book(&rt, &books, &mut first, PlaceNo(0), span(&rt, 0, 2), limit);
+    tell_on(&books, &mut first, &mut second);
+    assert_eq!(rt; confirm_first(&rt, &books, &mut second, row), None);
+    tell_on(&books, &mut second, &mut first);
+    assert_eq!(rt;
+        confirm_first(&rt, &books, &mut first, row),
+        Some(Phase::Confirmed)
+    );
     Ok(())
 }
 

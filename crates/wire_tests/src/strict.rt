@@ -1,5 +1,5 @@
 // A session into an outlet that may be handed the next of the defined answers, and nothing else.
-ghost use Rattle.std.specs.Prelude.{◌≡◌, ℕ, List, true, false};
+ghost use Rattle.std.specs.Prelude.{◌≡◌, ◌≤◌, ◌++◌, ℕ, List, true, false};
 ghost use Rattle.http_wire.specs.Answers.{head_text};
 ghost use Rattle.http_wire.specs.declared.request.WireFault.{WireFault};
 ghost use Rattle.http_wire.specs.Requests.{RequestText};
@@ -13,33 +13,39 @@ use std::alloc::{AllocError, Global};
 use std::marker::{Brand, PhantomData};
 use std::test::Fail;
 
-/// What may come after what was taken.
+/// What may come after what was taken, while so late a cut is to be kept first.
 trait Wanted {
-    ghost next: { List ℕ → List ℕ → Type 0 };
+    ghost next: { List ℕ → ℕ → List ℕ → Type 0 };
 }
 
 impl Wanted for Brand {
-    ghost next = { λ _ _. ⊥ };
+    ghost next = { λ _ _ _. ⊥ };
 }
 
-/// Keeps what it takes, and may be handed only what is wanted next.
+/// Keeps what it takes and the latest cut that it was told of, and tells neither. It may be handed only what is wanted
+/// next.
 #[derive(Drop)]
 struct StrictOutlet<N> {
     bytes: Vec<u8>,
+    cut: u64,
     faults: u64,
     wanted: PhantomData<N>,
 }
 
 impl<N: Wanted> Outlet for StrictOutlet<N> {
-    ghost use Rattle.std.specs.Prelude.{Some};
+    ghost use Rattle.std.specs.Prelude.{None};
 
-    ghost told = { λ s. Some s.bytes.items };
+    ghost told = { λ _. None };
 
     ghost faults = { λ s. s.faults };
 
-    ghost held = { λ before _ after. after ≡ before };
+    ghost takes = { λ before bytes after. (after.bytes.items ≡ before.bytes.items ++ bytes)
+        × (after.cut ≡ before.cut) };
 
-    ghost permits = { λ s piece. N.next s.bytes.items piece };
+    ghost held = { λ before cut after. (after.bytes.items ≡ before.bytes.items) × (before.cut ≤ after.cut)
+        × (cut ≤ after.cut) };
+
+    ghost permits = { λ s piece. N.next s.bytes.items s.cut piece };
 
     fn hand(&mut self, piece: &[u8]) -> Pushed {
         if self.bytes.extend_from_slice(piece).is_ok() {
@@ -61,11 +67,16 @@ impl<N: Wanted> Outlet for StrictOutlet<N> {
     }
 
     fn hold_for(&mut self, cut: u64) {
-        let _ = cut;
+        if self.cut < cut {
+            self.cut = cut;
+        }
     }
 }
 
-/// Answers each request with a head alone.
+// The cut that each answer waits for.
+const CUT: u64 = 7;
+
+/// Answers each request with a head alone, which waits for a cut.
 #[derive(Drop)]
 struct Heads;
 
@@ -76,11 +87,13 @@ impl Responder for Heads {
 
     ghost refuses = { λ _ _ text. text ≡ head_text 400 true 0 true };
 
+    ghost awaits = { λ _ cut _. cut ≡ 7 };
+
     fn answer(&mut self, _intake: &Intake, _request: &Request, last: bool) -> Answer {
         Answer {
             head: write_head(200, false, 0, last),
             body: Body::Small(ArrayVec::new()),
-            after: 0,
+            after: CUT,
         }
     }
 
@@ -88,7 +101,7 @@ impl Responder for Heads {
         Answer {
             head: write_head(400, true, 0, true),
             body: Body::Small(ArrayVec::new()),
-            after: 0,
+            after: CUT,
         }
     }
 }
@@ -102,15 +115,16 @@ struct Answered {
 
 /// Answers a stream into an outlet that wants just the next of its answers.
 fn answer_strictly<N: Wanted>(alloc: Global, stream: Vec<u8>) -> Result<Answered, AllocError>
-    requires wanted { (before : Heads) (taken piece : List ℕ)
+    requires wanted { (before : Heads) (taken : List ℕ) (cut : ℕ) (piece : List ℕ)
         → IsNextOf (λ (_ : Heads) (request : RequestText) text (_ : Heads). text ≡ head_text 200 false 0 request.last)
         (λ (_ : Heads) (_ : WireFault) text. text ≡ head_text 400 true 0 true) before stream.items taken piece
-        → N.next taken piece }
+        → 7 ≤ cut → N.next taken cut piece }
 {
     let mut intake = Intake::start(alloc)?;
     let mut source = BytesSource::new(stream, Vec::new(alloc));
     let mut outlet = StrictOutlet::<N> {
         bytes: Vec::new(alloc),
+        cut: 0,
         faults: 0,
         wanted: PhantomData,
     };

@@ -1,6 +1,7 @@
 use Rattle.std.proofs.Common.{subst}
 use Rattle.claim_rule.specs.Rule.{BooksView}
 use Rattle.claim_rule.specs.Desks.{IsOf}
+use Rattle.session_loop.specs.Writes.{showing}
 use Rattle.rail_service.proofs.Connecting.{through, serves, may_reply}
 use Rattle.rail_service.proofs.connection.serve.Goals as goal
 
@@ -41,5 +42,6 @@ returns-clause-same_clock g c =
 
 pub run_permitted-requires-clause-permits : goal.run_permitted-requires-clause-permits
 run_permitted-requires-clause-permits g c = λ now piece may. c.requires.permits now piece
-    (may_reply g.C.Clock.told _ g.K.Outlet.held g.K.Outlet.told c.args.service.now (g.S.Source.told c.args.source.now) c.args.sink.now now piece
+    (may_reply g.C.Clock.told g.C.Clock.begun g.C.Clock.ends (showing g.K.Outlet.told g.K.Outlet.takes g.K.Outlet.held) c.args.service.now
+    (g.S.Source.told c.args.source.now) c.args.sink.now now piece
     c.requires.ready.own.legal may)

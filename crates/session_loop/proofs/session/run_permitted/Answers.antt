@@ -1,8 +1,7 @@
-use Rattle.std.proofs.Common.{◌+◌, ℕ, List, [], ◌++◌, Option, refl, sym, ◌∙◌, ap, arith}
-use Rattle.rail_io.specs.Told.{with_end}
-use Rattle.session_loop.proofs.WriteLemmas.{end_more, end_none}
+use Rattle.std.proofs.Common.{◌+◌, [], ◌++◌, refl, sym, ◌∙◌, arith}
+use Rattle.session_loop.specs.Writes.{showing}
 use Rattle.session_loop.proofs.Serving.{Through, front_more, front_none, step_more, step_end}
-use Rattle.session_loop.proofs.Handing.{may_write}
+use Rattle.session_loop.proofs.Handing.{handed_none, handed_then, may_write}
 use Rattle.session_loop.proofs.session.run_permitted.Goals as goal
 
 pub requests-init : goal.requests-init
@@ -15,7 +14,7 @@ requests-init g c = record {
   count = c.requires.fresh;
   few = omega (arith, c.requires.fresh);
   written = [];
-  sent = end_none (g.K.Outlet.told c.args.sink.now);
+  handed = handed_none (showing g.K.Outlet.told g.K.Outlet.takes g.K.Outlet.held) c.args.sink.now;
   chain = (refl, refl);
   ready = c.requires.ready;
   source_faults = refl;
@@ -38,7 +37,7 @@ returns-in-Some-clause-answers g c =
       inv.written ++ step.1,
       front_more (g.S.Source.told c.args.source.now) (g.S.Source.told c.requests.source) (g.S.Source.told c.step.new.source)
           inv.taken step.0 inv.told step.2,
-      step.3 ∙ ap (λ (o : Option (List ℕ)). with_end o step.1) inv.sent ∙ end_more (g.K.Outlet.told c.args.sink.now) inv.written step.1,
+      handed_then (showing g.K.Outlet.told g.K.Outlet.takes g.K.Outlet.held) c.args.sink.now c.requests.sink c.step.new.sink inv.written step.1 inv.handed step.3,
       step_end g.R.Responder.answers g.R.Responder.refuses c.args.responder.now inv.taken step.0 c.requests.intake.given c.requests.intake.unread
           c.step.new.intake.unread c.requests.responder c.step.new.responder inv.written (g.S.Source.told c.step.new.source) step.1 c.in-Some.end t step.4,
     )
@@ -68,7 +67,7 @@ requests-preserved g c =
       count = c.in_default.ensures.given ∙ next.count;
       few = omega (arith, c.in_default.ensures.given, next.few);
       written = inv.written ++ step.1;
-      sent = step.3 ∙ ap (λ (o : Option (List ℕ)). with_end o step.1) inv.sent ∙ end_more (g.K.Outlet.told c.args.sink.now) inv.written step.1;
+      handed = handed_then (showing g.K.Outlet.told g.K.Outlet.takes g.K.Outlet.held) c.args.sink.now c.requests.sink c.step.new.sink inv.written step.1 inv.handed step.3;
       chain = next.chain;
       ready = c.in_default.ensures.ready;
       source_faults = c.in_default.ensures.source_steady (λ e. absurd cc) ∙ inv.source_faults;
@@ -87,6 +86,6 @@ step-requires-clause-permits g c =
       chain = inv.chain;
     } in
     λ now piece may. c.requires.permits now piece
-    (may_write g.R.Responder.answers g.R.Responder.refuses g.R.Responder.awaits g.K.Outlet.held g.K.Outlet.told c.args.responder.now
+    (may_write g.R.Responder.answers g.R.Responder.refuses g.R.Responder.awaits (showing g.K.Outlet.told g.K.Outlet.takes g.K.Outlet.held) c.args.responder.now
     (g.S.Source.told c.args.source.now) (g.S.Source.told c.requests.source) c.args.sink.now c.requests.sink inv.taken c.requests.intake.given
-    c.requests.intake.unread c.requests.responder inv.written t inv.told inv.sent now piece may)
+    c.requests.intake.unread c.requests.responder inv.written t inv.told inv.handed now piece may)

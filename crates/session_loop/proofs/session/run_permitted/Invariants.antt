@@ -1,7 +1,8 @@
 use Rattle.std.proofs.Common.{◌≡◌, ℕ, ◌-◌, ◌<◌, List, length}
-use Rattle.rail_io.specs.Told.{with_front, with_end}
+use Rattle.rail_io.specs.Told.{with_front}
 use Rattle.http_wire.specs.Requests.{RequestText, Begins, AreOpen}
 use Rattle.session_loop.specs.Session.{Chain}
+use Rattle.session_loop.specs.Writes.{Handed, showing}
 use Rattle.session_loop.proofs.session.run_permitted.Given as goal
 
 abbrev pub invariant-requests : goal.invariant-requests
@@ -14,7 +15,7 @@ invariant-requests g l = record {
   count : l.intake.given ≡ length requests;
   few : l.intake.given < 65536;
   written : List ℕ;
-  sent : g.K.Outlet.told l.sink ≡ with_end (g.K.Outlet.told l.fn.sink) written;
+  handed : Handed (showing g.K.Outlet.told g.K.Outlet.takes g.K.Outlet.held) l.fn.sink written l.sink;
   chain : Chain g.R.Responder.answers l.fn.responder requests written l.responder;
   ready : g.R.Responder.ready l.responder;
   source_faults : g.S.Source.faults l.source ≡ g.S.Source.faults l.fn.source;

@@ -1,11 +1,11 @@
 use Rattle.std.proofs.Common.{◌≡◌, ℕ, List, ◌++◌, length}
-use Rattle.rail_io.specs.Told.{with_end}
+use Rattle.session_loop.specs.Writes.{showing, Took}
 use Rattle.session_loop.proofs.writing.hand_all.Given as goal
 
 abbrev pub invariant-loop-rest : goal.invariant-loop-rest
 invariant-loop-rest g l = record {
   written : List ℕ;
-  told : g.K.Outlet.told l.sink ≡ with_end (g.K.Outlet.told l.fn.sink) written;
+  took : Took (showing g.K.Outlet.told g.K.Outlet.takes g.K.Outlet.held) l.fn.sink written l.sink;
   is : l.fn.piece ≡ written ++ l.rest;
   faults : g.K.Outlet.faults l.sink ≡ g.K.Outlet.faults l.fn.sink;
 }

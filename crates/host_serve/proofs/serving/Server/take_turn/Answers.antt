@@ -1,4 +1,5 @@
 use Rattle.rail_service.specs.Moments.{service_at}
+use Rattle.rail_service.proofs.Connecting.{permits_any}
 use Rattle.host_serve.proofs.serving.Server.take_turn.Goals as goal
 
 -- the stream that was handed out is the one that was served and let go
@@ -12,4 +13,5 @@ returns-clause-turn g c = (
 -- the stream's outlet permits the replies of this desk
 pub serve_stream-finished-requires-clause-permits : goal.serve_stream-finished-requires-clause-permits
 serve_stream-finished-requires-clause-permits g c =
-    c.in-Some.ensures.permits c.args.self.now.common.cat.now (service_at c.args.desk.now (g.C.Clock.told c.args.self.now.clock))
+    permits_any _ _ _ _ _ _ _
+    (c.in-Some.ensures.permits c.args.self.now.common.cat.now (service_at c.args.desk.now (g.C.Clock.told c.args.self.now.clock)))
