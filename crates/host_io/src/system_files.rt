@@ -1,5 +1,5 @@
 // The files of the system as those of a journal. They tell no content.
-ghost use Rattle.std.specs.Prelude.{◌≡◌, ◌+◌, IfOk, IfSome, take};
+ghost use Rattle.std.specs.Prelude.{◌≡◌, ◌+◌, None, IfOk, IfSome, take};
 ghost use Rattle.host_io.specs.Opened.{locked_by, present_by};
 ghost use Rattle.std.specs.Path.{HasNoSlash, path_add_extension, path_buf_bytes};
 
@@ -155,7 +155,10 @@ fn not_held() -> io::Error {
 
 impl<F: Files<File = File> + Drop> SystemFiles<F> {
     /// The files of no journal yet.
-    pub fn new(files: F, alloc: Global) -> Self {
+    pub fn new(files: F, alloc: Global) -> Self
+        ensures held { result.held ≡ None }
+        ensures text { result.text ≡ None }
+    {
         SystemFiles {
             files,
             alloc,
@@ -167,8 +170,6 @@ impl<F: Files<File = File> + Drop> SystemFiles<F> {
 }
 
 impl<F: Files<File = File> + Drop> JournalFiles for SystemFiles<F> {
-    ghost use Rattle.std.specs.Prelude.{None};
-
     ghost kept = { λ _. None };
 
     ghost fresh = { λ _. None };

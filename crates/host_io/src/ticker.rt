@@ -15,7 +15,9 @@ pub struct SleepTicker<C: time::Clock + Drop, K: Keeper + Drop> {
 
 impl<C: time::Clock + Drop> SleepTicker<C, NoKeeper> {
     /// A ticker that sleeps by this clock, and ticks for ever.
-    pub fn new(clock: C) -> Self {
+    pub fn new(clock: C) -> Self
+        ensures clock { result.clock ≡ clock }
+    {
         SleepTicker {
             clock,
             keeper: NoKeeper,
@@ -25,7 +27,10 @@ impl<C: time::Clock + Drop> SleepTicker<C, NoKeeper> {
 
 impl<C: time::Clock + Drop, K: Keeper + Drop> SleepTicker<C, K> {
     /// A ticker that sleeps by this clock, and ends once the keeper has lost.
-    pub fn until_lost(clock: C, keeper: K) -> Self {
+    pub fn until_lost(clock: C, keeper: K) -> Self
+        ensures clock { result.clock ≡ clock }
+        ensures keeper { result.keeper ≡ keeper }
+    {
         SleepTicker { clock, keeper }
     }
 }

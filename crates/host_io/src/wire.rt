@@ -56,7 +56,9 @@ pub(crate) struct TcpWire {
 
 impl TcpWire {
     /// The calls at this stream.
-    pub(crate) fn of(stream: TcpStream) -> TcpWire {
+    pub(crate) fn of(stream: TcpStream) -> TcpWire
+        ensures { result.stream ≡ stream }
+    {
         TcpWire { stream }
     }
 }
