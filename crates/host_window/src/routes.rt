@@ -46,22 +46,28 @@ const BOUNDS: [&[u8]; 15] = [
     b"0.05", b"0.1", b"0.2", b"0.5", b"1", b"+Inf",
 ];
 
+/// The nanoseconds of a microsecond.
+const MICROSECOND: u64 = 1_000;
+
+/// The nanoseconds of a millisecond.
+const MILLISECOND: u64 = 1_000 * MICROSECOND;
+
 /// The same in nanoseconds, but for the last.
 const LIMITS: [u64; 14] = [
-    50_000,
-    100_000,
-    200_000,
-    500_000,
-    1_000_000,
-    2_000_000,
-    5_000_000,
-    10_000_000,
-    20_000_000,
-    50_000_000,
-    100_000_000,
-    200_000_000,
-    500_000_000,
-    1_000_000_000,
+    50 * MICROSECOND,
+    100 * MICROSECOND,
+    200 * MICROSECOND,
+    500 * MICROSECOND,
+    MILLISECOND,
+    2 * MILLISECOND,
+    5 * MILLISECOND,
+    10 * MILLISECOND,
+    20 * MILLISECOND,
+    50 * MILLISECOND,
+    100 * MILLISECOND,
+    200 * MILLISECOND,
+    500 * MILLISECOND,
+    1_000 * MILLISECOND,
 ];
 
 // The number of a route's name.
