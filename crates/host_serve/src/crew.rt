@@ -40,11 +40,10 @@ pub struct Crewed<'s, R, L: Listener + Drop, N: Named, T, C, W> {
     pub rest: Share<N>,
 }
 
-/// As many serving members as the words say, and after them a sweeping one, each at a desk that was parted from the
-/// first and with a clock of its own, which goes through the gate: the last one is the first member's. Each serving
-/// member has a part of the share.
-/// The watchers come last, each at such a desk. There is room for all, so that this can't fail once there is a listener
-/// to share.
+/// As many serving members as the words say, and after them a sweeping one. Each has a desk that was parted from the
+/// first, and a clock of its own, which goes through the gate: the last clock is the first member's. Each serving member
+/// has a part of the share. The watchers come last, each at such a desk. There is room for all, so that this can't fail
+/// once there is a listener to share.
 pub fn crew_of<
     's,
     R: Wait,

@@ -46,11 +46,11 @@ pub record MayStep {R K : Type 0} (answers : Answering R) (refuses : Refusing R)
   pub awaited : awaits before cut after
   pub took : TookFor shows sink cut part now
 
--- At a moment of a session these bytes may be handed over. From the outlet at the session's beginning to the outlet at
--- this moment, calls of its own took just the answers to the first requests of a beginning of the bytes that were to
--- come, and then a part of the answer to one request more, or to what stands in its place. These bytes are all that is
--- left of that answer. Before its first byte the outlet was told, once, after which cut it may leave, and of no other
--- cut since the answers before it.
+-- At a moment of a session these bytes may be handed over. Since the session's beginning calls of the outlet's own took
+-- just the answers to the first requests of a beginning of the bytes that were to come. Then they took a part of the
+-- answer to one request more, or to what stands in its place. These bytes are all that is left of that answer. Before
+-- its first byte the outlet was told, once, after which cut it may leave, and of no other cut since the answers before
+-- it.
 pub record MayWrite {R K : Type 0} (answers : Answering R) (refuses : Refusing R) (awaits : Awaiting R)
     (shows : Showing K) (before : R) (source : Option (List ℕ)) (sink now : K) (piece : List ℕ) : Type 0 where
   pub taken : List ℕ
