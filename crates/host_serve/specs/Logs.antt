@@ -5,7 +5,7 @@ use Rattle.claim_rule.specs.Calls.{AddsStepsBy, Calls}
 use Rattle.claim_rule.specs.Rule.{DeskView}
 use Rattle.rail_io.specs.Journals.{Appends, Replaces}
 use Rattle.journal_text.specs.Texts.{SaidCut, SaidHead, cut_text, head_text, own_sum, sum_of}
-use Rattle.row_cuts.specs.Lines.{WritesLines, marked_rows}
+use Rattle.row_cuts.specs.Lines.{WritesLines, WritesMarked}
 use Rattle.host_serve.specs.declared.log.Head.{Head}
 use Rattle.host_serve.specs.declared.log.Lines.{Lines}
 use Rattle.host_serve.specs.declared.log.Log.{Log}
@@ -47,10 +47,10 @@ GrowsBy before after old lines new true =
 GrowsBy before after old lines new false =
     (after ≡ before) ⊎ Appends before after (cut_text (cut_with (old.number + 1) old.sum lines)) false
 
--- the lines of all rows, or of those that are set in these marks, as looks showed them
-abbrev pub WritesRows : Bool → ℕ → List ℕ → Lines → Calls
-WritesRows true rows marks lines es = WritesLines (range_with_len 0 rows) [] lines.text.items lines.count es
-WritesRows false rows marks lines es = WritesLines (marked_rows rows marks) [] lines.text.items lines.count es
+-- the lines of all rows, or of those that are set in some marks, as looks showed them
+abbrev pub WritesRows : Bool → ℕ → Lines → Calls
+WritesRows true rows lines es = WritesLines (range_with_len 0 rows) [] lines.text.items lines.count es
+WritesRows false rows lines es = WritesMarked rows [] lines.text.items lines.count es
 
 -- the lines are kept: as the one cut of a new journal, or as the cut that follows, where there are any
 abbrev pub KeepsLines : Bool → Option (List ℕ) → Option (List ℕ) → Head → LogEnd → Lines → LogEnd → Type 0
@@ -60,17 +60,17 @@ KeepsLines false before after head old lines new =
 
 -- A call of the journal put these lines there: as the one cut of a new journal, or as the cut that follows, where there
 -- are any.
-abbrev pub PutsLines : {J : Type 0} → (J → List ℕ → J → Type 0) → (J → List ℕ → J → Type 0) → Bool → J → J → Head → LogEnd
-    → Lines → Type 0
+abbrev pub PutsLines : {J : Type 0} → (J → List ℕ → J → Type 0) → (J → List ℕ → J → Type 0) → Bool → J → J → Head
+    → LogEnd → Lines → Type 0
 PutsLines puts adds true before after head old lines = puts before (whole_text head lines) after
 PutsLines puts adds false before after head old lines =
     (lines.count ≡ 0) ⊎ adds before (cut_text (cut_with (old.number + 1) old.sum lines)) after
 
--- A cut was kept: its lines are what the desk's looks showed of all rows, or of just those that are set in these marks;
+-- A cut was kept: its lines are what the desk's looks showed of all rows, or of just those that are set in some marks;
 -- and the journal keeps them.
-pub record KeepsCut (rows : ℕ) (marks : List ℕ) (before after : Option (List ℕ)) (head : Head) (old new : LogEnd)
+pub record KeepsCut (rows : ℕ) (before after : Option (List ℕ)) (head : Head) (old new : LogEnd)
     (began ended : DeskView) : Type 0 where
   pub whole : Bool
   pub lines : Lines
-  pub looks : AddsStepsBy (WritesRows whole rows marks lines) began ended
+  pub looks : AddsStepsBy (WritesRows whole rows lines) began ended
   pub kept : KeepsLines whole before after head old lines new

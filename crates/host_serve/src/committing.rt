@@ -1,9 +1,8 @@
 // The member that has bookings kept.
-ghost use Rattle.std.specs.Prelude.{◌≡◌, ℕ, List, IfSome, length};
+ghost use Rattle.std.specs.Prelude.{◌≡◌, IfSome};
 ghost use Rattle.claim_rule.specs.Calls.{AddsStepsBy};
 ghost use Rattle.claim_rule.specs.Desks.{IsOf};
 ghost use Rattle.claim_rule.specs.Out.{AllLooks, IsTidy};
-ghost use Rattle.row_cuts.specs.Lines.{mark_blocks};
 ghost use Rattle.host_serve.specs.Logs.{KeepsCut, log_end};
 
 use crate::log::{Kept, Log};
@@ -12,7 +11,6 @@ use crate::watching::Watcher;
 use answer_gate::{Closed, Cuts, Taken};
 use claim_rule::{Books, Desk};
 use rail_io::{Bell, Journal};
-use row_cuts::take_all_marks;
 use std::alloc::Global;
 use std::sync::Wait;
 use worker_pool::TurnEnd;
@@ -26,55 +24,33 @@ pub struct Committer<'g, R, J, B> {
     pub cuts: &'g Cuts<Kept>,
     pub alloc: Global,
     pub log: Log<J>,
-    /// The marks that were taken for the last cut; kept from one to the next, so that a cut takes no memory for them.
-    pub marks: Vec<u64>,
     /// Is rung at the port once the journal is lost, since a member may wait there for a connection.
     pub bell: B,
     pub port: u16,
 }
 
 impl<R: Wait, J: Journal, B: Bell> Committer<'_, R, J, B> {
-    /// Looks at all rows, or at those that are set in the marks; opens the gate; and has their lines kept: the cut that
-    /// was taken, and a receipt where it is kept.
-    fn commit(&mut self, closed: Closed, books: &Books, desk: &mut Desk) -> (Taken, Option<Kept>)
-        requires own { IsOf books.now desk.old }
-        requires tidy { IsTidy desk.old }
-        requires marks { length self.old.marks.items ≡ mark_blocks books.now.layout.rows }
-        ensures own { IsOf books.now desk.new }
-        ensures tidy { IsTidy desk.new }
-        ensures looks { AddsStepsBy AllLooks desk.old desk.new }
-        ensures kept { IfSome result.1 (λ _. KeepsCut books.now.layout.rows self.old.marks.items
-            (J.told self.old.log.journal) (J.told self.new.log.journal) self.old.log.head (log_end self.old.log)
-            (log_end self.new.log) desk.old desk.new) }
-        ensures of { IfSome result.1 (λ kept. kept.number ≡ result.0.number) }
-    {
-        let is_whole = self.log.is_grown();
-        let marks = self.marks.as_slice();
-        let looked = look(&closed, self.alloc, books, desk, is_whole, marks);
-        let taken = self.cuts.taken(self.rt, closed);
-        let kept = match looked {
-            Ok(looked) => self.log.keep(self.alloc, &taken, looked, is_whole),
-            Err(_) => None,
-        };
-        (taken, kept)
-    }
-
-    /// Takes a cut of all rows that were marked since the cut before, and goes on so.
+    /// Looks at the rows that were marked since the cut before, or at all; opens the gate; and has their lines kept.
+    /// Gives the cut that was taken, and a receipt where it is kept.
     fn take_cut(&mut self, closed: Closed, books: &Books, desk: &mut Desk) -> (Taken, Option<Kept>)
         requires own { IsOf books.now desk.old }
         requires tidy { IsTidy desk.old }
         ensures own { IsOf books.now desk.new }
         ensures tidy { IsTidy desk.new }
         ensures looks { AddsStepsBy AllLooks desk.old desk.new }
-        ensures kept { IfSome result.1 (λ _. (marks : List ℕ) × KeepsCut books.now.layout.rows marks
-            (J.told self.old.log.journal) (J.told self.new.log.journal) self.old.log.head (log_end self.old.log)
-            (log_end self.new.log) desk.old desk.new) }
+        ensures kept { IfSome result.1 (λ _. KeepsCut books.now.layout.rows (J.told self.old.log.journal)
+            (J.told self.new.log.journal) self.old.log.head (log_end self.old.log) (log_end self.new.log)
+            desk.old desk.new) }
         ensures of { IfSome result.1 (λ kept. kept.number ≡ result.0.number) }
     {
-        if take_all_marks(&mut self.marks, books).is_err() {
-            return (self.cuts.taken(self.rt, closed), None);
-        }
-        self.commit(closed, books, desk)
+        let is_whole = self.log.is_grown();
+        let looked = look(&closed, self.alloc, books, desk, is_whole);
+        let taken = self.cuts.taken(self.rt, closed);
+        let kept = match looked {
+            Ok(looked) => self.log.keep(self.alloc, &taken, looked, is_whole),
+            Err(_) => None,
+        };
+        (taken, kept)
     }
 }
 

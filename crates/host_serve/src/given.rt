@@ -32,7 +32,6 @@ use host_words::ServeWords;
 use rail_catalogue::Catalogue;
 use rail_io::{Bell, Clock, Journal, Shelf, Ticker};
 use rail_service::Listener;
-use row_cuts::new_marks;
 use std::alloc::{AllocError, Global};
 use std::sync::Wait;
 use std::thread::Threads;
@@ -162,9 +161,6 @@ where
             Ok(opened) => opened,
             Err(fault) => return Run::without_wall(fault.outcome(), devices.listener),
         };
-        let Ok(marks) = new_marks(alloc, &opened.books) else {
-            return Run::without_wall(ServeOutcome::NoMemory.kept(false), devices.listener);
-        };
         let common = Common {
             alloc,
             cat,
@@ -176,12 +172,12 @@ where
             cuts,
             alloc,
             log,
-            marks,
             bell,
             port: said.numbers.port,
         };
         let Ok(watchers) = list_of(alloc, committer) else {
-            return Run::without_wall(ServeOutcome::NoMemory.kept(false), devices.listener);
+            let outcome = KeptOutcome::Plain(ServeOutcome::NoMemory);
+            return Run::without_wall(outcome, devices.listener);
         };
         cuts.gate().expect(rt, said.numbers.workers + 1);
         let Run {

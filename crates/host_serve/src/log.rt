@@ -19,6 +19,9 @@ const HALF: usize = 134_217_728;
 /// From how many bytes on any that is longer by `LONG` than what its bookings take is.
 const MOST: usize = 201_326_592;
 
+/// How many bytes of a cut aren't lines, at most: its first line and its sum.
+const CUT_ROOM: usize = 256;
+
 /// What the first line of a journal says.
 #[derive(Clone, Copy)]
 pub struct Head {
@@ -190,7 +193,7 @@ fn cut_of(alloc: Global, number: u64, before: &Sum, lines: &Lines) -> Result<Sum
     ensures text { IfOk result (λ s. s.text.items ≡ cut_text (cut_with number before.now.digits lines.now)) }
     ensures sum { IfOk result (λ s. s.sum.digits ≡ own_sum (cut_with number before.now.digits lines.now)) }
 {
-    let mut text = Vec::new(alloc);
+    let mut text = Vec::with_capacity(alloc, lines.text.len().saturating_add(CUT_ROOM))?;
     let sum = push_cut(
         &mut text,
         number,

@@ -3,12 +3,14 @@ use Rattle.std.proofs.Common.{◌≡◌, ℕ, zero, suc, ◌+◌, ◌-◌, ◌*�
 use Rattle.std.specs.List.{range_with_len}
 use Rattle.std.specs.Int.{bit_at}
 use Rattle.std.proofs.lemmas.Nat.Bits.{bit_at-zero}
+use Rattle.std.proofs.lemmas.List.{get_or_append_left, length-append}
+use Rattle.std.proofs.Math.Seq.{get_or-append_seam}
 use Rattle.std.proofs.lemmas.List.Elements.{filter-append}
 use Rattle.std.proofs.lemmas.List.FromFn.{filter_of_map_range_with_len_more}
 use Rattle.history_model.specs.History.{IsLegal}
 use Rattle.claim_rule.specs.Calls.{AddsStepsBy}
 use Rattle.claim_rule.specs.Rule.{DeskView}
-use Rattle.row_cuts.specs.Lines.{WritesLines, is_marked, is_set, marked_rows}
+use Rattle.row_cuts.specs.Lines.{WritesLines, WritesMarked, is_marked, is_set, mark_blocks, marked_rows}
 use Rattle.row_cuts.proofs.Writing.{itself, lines_few, lines_none, lines_then}
 
 -- the rows that are set, of a range
@@ -121,6 +123,38 @@ pub blocks_then : (all : List ℕ) (block rows : ℕ) (old now new : List ℕ) (
 blocks_then all block rows old now new n m a b c low so more =
     subst (λ (xs : List ℕ). AddsStepsBy (WritesLines xs old new (n + m)) a c) (block_more all block rows low)
     (lines_then (marked_rows (min (64 * block) rows) all) (set_rows (get_or all block 0) (64 * block) (min (64 * block + 64) rows)) old now new n m a b c so more)
+
+-- marks of a later block change nothing of the rows before it
+marked_more : (marks : List ℕ) (mark block rows : ℕ) → length marks ≡ block
+    → marked_rows (min (64 * block) rows) marks ≡ marked_rows (min (64 * block) rows) (marks ++ mark ∷ [])
+marked_more marks mark block rows many =
+    same_of (is_marked marks) (is_marked (marks ++ mark ∷ [])) 0 (min (64 * block) rows) (λ row low high.
+    let at : row / 64 < length marks = omega (arith, many, high) in
+    ap (λ (k : ℕ). is_set k row) (sym (get_or_append_left marks (mark ∷ []) 0 (row / 64) at)))
+
+-- one block more, with its marks
+pub marks_then : (marks : List ℕ) (mark block rows : ℕ) (old now new : List ℕ) (n m : ℕ) (a b c : DeskView) → length marks ≡ block → 64 * block ≤ rows
+    → AddsStepsBy (WritesLines (marked_rows (min (64 * block) rows) marks) old now n) a b
+    → AddsStepsBy (WritesLines (set_rows mark (64 * block) (min (64 * block + 64) rows)) now new m) b c
+    → (all : List ℕ) × (length all ≡ block + 1) × AddsStepsBy (WritesLines (marked_rows (min (64 * (block + 1)) rows) all) old new (n + m)) a c
+marks_then marks mark block rows old now new n m a b c many low so more =
+    let all = marks ++ mark ∷ [] in
+    let long : length all ≡ length marks + 1 = length-append marks (mark ∷ []) in
+    let last : get_or all block 0 ≡ mark = subst (λ (k : ℕ). get_or all k 0 ≡ mark) many (get_or-append_seam marks mark [] 0) in (
+      all,
+      omega (arith, long, many),
+      blocks_then all block rows old now new n m a b c low
+          (subst (λ (xs : List ℕ). AddsStepsBy (WritesLines xs old now n) a b) (marked_more marks mark block rows many) so)
+          (subst (λ (k : ℕ). AddsStepsBy (WritesLines (set_rows k (64 * block) (min (64 * block + 64) rows)) now new m) b c) (sym last) more),
+    )
+
+-- all blocks
+pub all_marked : (marks : List ℕ) (block rows : ℕ) (old new : List ℕ) (n : ℕ) (a b : DeskView) → block ≡ mark_blocks rows → length marks ≡ block
+    → AddsStepsBy (WritesLines (marked_rows (min (64 * block) rows) marks) old new n) a b → AddsStepsBy (WritesMarked rows old new n) a b
+all_marked marks block rows old new n a b all many so =
+    let whole : min (64 * block) rows ≡ rows = omega (arith, all) in
+    let is = subst (λ (k : ℕ). AddsStepsBy (WritesLines (marked_rows k marks) old new n) a b) whole so in
+    (is.0, record { marks = marks; blocks = many ∙ all; writes = is.1 }, is.2)
 
 pub none_marked : (all : List ℕ) (rows : ℕ) (text : List ℕ) (a : DeskView) → IsLegal a.layout a.seen → AddsStepsBy (WritesLines (marked_rows (min (64 * 0) rows) all) text text 0) a a
 none_marked all rows text a legal =

@@ -67,3 +67,9 @@ is_marked marks row = is_set (get_or marks (row / block_rows) 0) row
 -- all rows that are marked, in rising number
 abbrev pub marked_rows : ℕ → List ℕ → List ℕ
 marked_rows rows marks = filter (is_marked marks) (range_with_len 0 rows)
+
+-- the rows that are set in some marks of as many blocks as the rows have were looked at, and their lines were written
+pub record WritesMarked (rows : ℕ) (old new : List ℕ) (count : ℕ) (es : List Step) : Type 0 where
+  pub marks : List ℕ
+  pub blocks : length marks ≡ mark_blocks rows
+  pub writes : WritesLines (marked_rows rows marks) old new count es

@@ -1,15 +1,15 @@
 //! The lines of rows.
-ghost use Rattle.std.specs.Prelude.{◌≡◌, ◌+◌, ◌-◌, ◌<◌, ◌≤◌, ◌∷◌, [], IfOk, OnOk, cond, filter, length, min, true};
+ghost use Rattle.std.specs.Prelude.{◌≡◌, ◌+◌, ◌-◌, ◌<◌, ◌≤◌, ◌∷◌, [], IfOk, cond, filter, min, true};
 ghost use Rattle.std.specs.List.{range_with_len};
 ghost use Rattle.history_model.specs.Booking.{most_rows};
 ghost use Rattle.claim_rule.specs.Calls.{AddsStepsBy};
 ghost use Rattle.claim_rule.specs.Desks.{IsOf};
 ghost use Rattle.claim_rule.specs.Out.{AllLooks, IsTidy, KeepsEndings, KeepsHolds};
-ghost use Rattle.row_cuts.specs.Lines.{WritesLines, is_set, mark_blocks, marked_rows};
+ghost use Rattle.row_cuts.specs.Lines.{WritesLines, WritesMarked, is_set, mark_blocks};
 
 use crate::looks::{look_at, push_shown};
 use claim_rule::{Books, Desk};
-use std::alloc::{AllocError, Global};
+use std::alloc::AllocError;
 
 /// How many rows have their marks in one number.
 const BLOCK_ROWS: u32 = 64;
@@ -22,35 +22,17 @@ fn block_count(books: &Books) -> u32
     books.rows() / BLOCK_ROWS + 1
 }
 
-/// A list with room for the marks of all rows, which has none yet.
-pub fn new_marks(alloc: Global, books: &Books) -> Result<Vec<u64>, AllocError> {
-    Vec::with_capacity(alloc, block_count(books) as usize)
-}
-
-/// Takes the marks of all rows into the list, in the place of all that it has, 64 in each number; and clears them. It
-/// takes no memory where the list has room for them.
-pub fn take_all_marks(marks: &mut Vec<u64>, books: &Books) -> Result<(), AllocError>
-    ensures blocks { OnOk result (length marks.new.items ≡ mark_blocks books.now.layout.rows) }
-{
-    marks.clear();
-    for block in 0..block_count(books) {
-        marks.push(books.take_marks(block))?;
-    }
-    Ok(())
-}
-
-/// Writes the lines of the rows that are marked in these marks after the text, in rising row, and gives their count.
+/// Takes the marks of all rows, which clears them; writes the lines of the rows that were marked after the text, in
+/// rising row; and gives their count. A row that is marked while this runs has its mark taken now, or the next time.
 pub fn push_marked_lines(
     text: &mut Vec<u8>,
     books: &Books,
     desk: &mut Desk,
-    marks: &[u64],
 ) -> Result<u64, AllocError>
     requires own { IsOf books.now desk.old }
-    requires blocks { length marks.now ≡ mark_blocks books.now.layout.rows }
     ensures own { IsOf books.now desk.new }
-    ensures lines { IfOk result (λ count. AddsStepsBy (WritesLines (marked_rows books.now.layout.rows marks.now)
-        text.old.items text.new.items count) desk.old desk.new) }
+    ensures lines { IfOk result (λ count. AddsStepsBy (WritesMarked books.now.layout.rows text.old.items text.new.items
+        count) desk.old desk.new) }
     ensures looks { AddsStepsBy AllLooks desk.old desk.new }
     ensures holds { KeepsHolds desk.old desk.new }
     ensures endings { KeepsEndings desk.old desk.new }
@@ -59,7 +41,8 @@ pub fn push_marked_lines(
     let mut count = 0;
     let blocks = block_count(books);
     for block in 0..blocks {
-        count += push_block(text, books, desk, BLOCK_ROWS * block, marks[block as usize])?;
+        let marks = books.take_marks(block);
+        count += push_block(text, books, desk, BLOCK_ROWS * block, marks)?;
     }
     Ok(count)
 }

@@ -4,7 +4,7 @@ ghost use Rattle.history_model.specs.Booking.{most_rows};
 ghost use Rattle.claim_rule.specs.Desks.{IsOf};
 ghost use Rattle.claim_rule.specs.Out.{IsIdle};
 
-use crate::{new_marks, print_of, push_all_lines, push_marked_lines, take_all_marks};
+use crate::{print_of, push_all_lines, push_marked_lines};
 use booking_rows::{keep_row, start_hold};
 use claim_rule::{Books, Desk, start_books};
 use cold_store::{ImportFault, import_books};
@@ -74,21 +74,6 @@ fn open(alloc: Global, rows: u32, text: &[u8]) -> Result<(Books, Desk), ImportFa
     Ok((books, desk))
 }
 
-// The lines of the rows that are marked now.
-fn push_changed(
-    alloc: Global,
-    text: &mut Vec<u8>,
-    books: &Books,
-    desk: &mut Desk,
-) -> Result<u64, AllocError>
-    requires own { IsOf books.now desk.old }
-    ensures own { IsOf books.now desk.new }
-{
-    let mut marks = new_marks(alloc, books)?;
-    take_all_marks(&mut marks, books)?;
-    push_marked_lines(text, books, desk, marks.as_slice())
-}
-
 // Starts a row, and keeps it.
 fn start_row(rt: &impl Abort, books: &Books, desk: &mut Desk)
     requires own { IsOf books.now desk.old }
@@ -108,7 +93,7 @@ fn all_rows_have_their_lines(rt: HostRuntime) -> Result<(), Fail> {
         panic!(rt; "refused");
     };
     let mut lines = Vec::new(rt.alloc());
-    assert_eq!(rt; push_changed(rt.alloc(), &mut lines, &books, &mut desk)?, 0);
+    assert_eq!(rt; push_marked_lines(&mut lines, &books, &mut desk)?, 0);
     assert_eq!(rt; push_all_lines(&mut lines, &books, &mut desk)?, 8);
     assert_eq!(rt; lines.as_slice(), LINES);
     Ok(())
@@ -123,12 +108,12 @@ fn a_row_in_the_making_has_a_stub(rt: HostRuntime) -> Result<(), Fail> {
     };
     start_row(&rt, &books, &mut desk);
     let mut lines = Vec::new(rt.alloc());
-    assert_eq!(rt; push_changed(rt.alloc(), &mut lines, &books, &mut desk)?, 1);
+    assert_eq!(rt; push_marked_lines(&mut lines, &books, &mut desk)?, 1);
     assert_eq!(rt;
         lines.as_slice(),
         b"row 0 5 r 0 0 0 1 0.0.1 p0 0 -\n".as_slice()
     );
-    assert_eq!(rt; push_changed(rt.alloc(), &mut lines, &books, &mut desk)?, 0);
+    assert_eq!(rt; push_marked_lines(&mut lines, &books, &mut desk)?, 0);
     Ok(())
 }
 
@@ -138,7 +123,7 @@ fn new_rows_have_no_lines(rt: HostRuntime) -> Result<(), Fail> {
     let (books, mut desk) = start_books(rt.alloc(), LEGS.as_slice(), 70)?;
     start_row(&rt, &books, &mut desk);
     let mut lines = Vec::new(rt.alloc());
-    assert_eq!(rt; push_changed(rt.alloc(), &mut lines, &books, &mut desk)?, 0);
+    assert_eq!(rt; push_marked_lines(&mut lines, &books, &mut desk)?, 0);
     assert_eq!(rt; push_all_lines(&mut lines, &books, &mut desk)?, 0);
     assert_eq!(rt; lines.len(), 0);
     Ok(())

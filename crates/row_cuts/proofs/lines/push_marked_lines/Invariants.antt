@@ -1,4 +1,4 @@
-use Rattle.std.proofs.Common.{◌*◌, min}
+use Rattle.std.proofs.Common.{◌≡◌, ◌*◌, List, ℕ, length, min}
 use Rattle.claim_rule.specs.Calls.{AddsStepsBy}
 use Rattle.claim_rule.specs.Desks.{IsOf}
 use Rattle.claim_rule.specs.Out.{KeepsEndings, KeepsHolds}
@@ -10,5 +10,6 @@ invariant-loop-block l = record {
   own : IsOf l.books l.desk;
   holds : KeepsHolds l.fn.desk l.desk;
   endings : KeepsEndings l.fn.desk l.desk;
-  lines : AddsStepsBy (WritesLines (marked_rows (min (64 * l.block) l.books.layout.rows) l.fn.marks) l.fn.text.items l.text.items l.count) l.fn.desk l.desk;
+  lines : (marks : List ℕ) × (length marks ≡ l.block)
+      × AddsStepsBy (WritesLines (marked_rows (min (64 * l.block) l.books.layout.rows) marks) l.fn.text.items l.text.items l.count) l.fn.desk l.desk;
 }

@@ -26,7 +26,7 @@ returns-clause-serves g c =
     let plan = c.in-Ok.opened.0.books.layout in
     let listens = subst (λ (k : ℕ). ListensTo cat plan said.numbers (record left { watchers = k }) run.result.outcome) c.in-Ok-list_of.ensures run.ensures.ends in
     let from : Sources = sources_of (g.F.Shelf.told c.args.shelf.now) (said_in said) (g.J.Journal.told c.args.keeping.journal) in
-    subst (λ (o : KeptOutcome). ServesBooks cat said.numbers from left o) (sym c.kept-2.ensures)
+    subst (λ (o : KeptOutcome). ServesBooks cat said.numbers from left o) (sym c.kept.ensures)
     (served_left cat said.numbers from left ok.0 plan ok.1 ok.2.layout c.is_lost.result run.result.outcome listens)
 
 pub returns-clause-cause : goal.returns-clause-cause
@@ -44,5 +44,5 @@ returns-clause-cause g c =
     let fails = g.F.Shelf.faults c.open_journal.new.shelf in
     let missed = g.F.Shelf.misses c.args.shelf.now in
     let misses = g.F.Shelf.misses c.open_journal.new.shelf in
-    subst (λ (o : KeptOutcome). HasKeptCause o failed fails missed misses) (sym c.kept-2.ensures)
+    subst (λ (o : KeptOutcome). HasKeptCause o failed fails missed misses) (sym c.kept.ensures)
     (listened_kept cat said.numbers from left failed fails missed misses plan c.in-Ok.ensures.steady c.is_lost.result run.result.outcome listens)
