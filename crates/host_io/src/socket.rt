@@ -89,7 +89,7 @@ impl<K: Keeper + Drop> Sink for SocketSink<K> {
 
     ghost faults = { λ s. s.faults };
 
-    // The connection holds the cut, or nothing more is written.
+    // The sink is as it was, or nothing more is written. That the connection holds the cut is read.
     ghost held = { λ before _ after. (after ≡ before) ⊎ (after.failed ≡ true) };
 
     fn write(&mut self, piece: &[u8]) -> Pushed {

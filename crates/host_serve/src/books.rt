@@ -191,7 +191,8 @@ where
     ensures never_falls { L.faults devices.listener ≤ L.faults result.listener }
     ensures ends { BooksEnd common.entry.cat.now opened.books.layout common.entry.said
         (record
-        (left_of (heard L.told L.faults L.becomes L.hands) C.told T.ticked devices result.listener result.wall) { hands = IsGiven N.gives; watchers = length watchers.items })
+        (left_of (heard L.told L.faults L.becomes L.hands) C.told T.ticked devices result.listener result.wall)
+        { hands = IsGiven N.gives; watchers = length watchers.items })
         result.outcome }
 {
     let mut opened = opened;

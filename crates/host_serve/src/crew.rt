@@ -41,9 +41,9 @@ pub struct Crewed<'s, R, L: Listener + Drop, N: Named, T, C, W> {
 }
 
 /// As many serving members as the words say, and after them a sweeping one. Each has a desk that was parted from the
-/// first, and a clock of its own, which goes through the gate: the last clock is the first member's. Each serving member
-/// has a part of the share. The watchers come last, each at such a desk. There is room for all, so that this can't fail
-/// once there is a listener to share.
+/// first, and a clock of its own, which goes through the gate: the last clock is the first member's. Each member that
+/// serves has a part of the share. The watchers come last, each at such a desk. There is room for all, so that this
+/// can't fail once there is a listener to share.
 pub fn crew_of<
     's,
     R: Wait,

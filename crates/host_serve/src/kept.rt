@@ -136,9 +136,9 @@ fn end_unread<E: Sink, L>(outcome: ServeOutcome, listener: L, notes: &mut E) -> 
 }
 
 /// Serves a catalogue to connections as `run_serve` does, with a journal where the words name one by `--journal`. Then
-/// the books begin with the bookings that the journal leaves, and one further member has all changes kept there. Where
-/// there is no such journal they begin with those of the export that `--from` names, or with none. No answer that tells
-/// of a booking leaves before its cut is kept.
+/// the books begin with the bookings that the journal leaves, and one further member has what it looked at kept there.
+/// Where there is no such journal they begin with those of the export that `--from` names, or with none. The sink of an
+/// answer that tells of a booking is told to hold it until its cut is kept.
 ///
 /// | status | where |
 /// |---|---|

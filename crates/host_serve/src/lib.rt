@@ -8,7 +8,7 @@
 //! after the other, or of its sweeps. The first desk, which joined them, has done nothing else.
 //!
 //! `serve_kept` does so with a journal: the books open with the bookings that it leaves, and one member more, the
-//! committer, has all changes kept there. It is one of the members that watch, whose desks only look, and whose trait
+//! committer, has what it looked at kept there. It is one of the members that watch, whose desks only look, and whose trait
 //! is `Watcher`. `Log` knows the journal's text, and `Committer` takes the cuts.
 //!
 //! It is a crate of its own since here alone threads meet the service.

@@ -42,7 +42,7 @@ pub fn serve_stream<I: Source, O: Outlet, C: Clock>(
         (connection_at desk.old (C.told clock.old) (I.told waiting.input) (O.told waiting.output))
         (connection_at desk.new (C.told clock.new) (I.told result.input) (O.told result.output)) result.end }
 
-    // Calls of the outlet's own have handed it just these, also where it doesn't tell its bytes, as a socket's doesn't.
+    // Calls of the outlet's own have handed it just these, also where it tells no bytes, but shows its calls (`takes`).
     ensures handed { HandsReplies common.entry.cat.now (showing O.told O.takes O.held)
         (connection_at desk.old (C.told clock.old) (I.told waiting.input) (O.told waiting.output))
         (connection_at desk.new (C.told clock.new) (I.told result.input) (O.told result.output))

@@ -45,8 +45,8 @@ GoesOn left h = (0 < left) × (size_in h ≡ left) × (h.taken ≤ left)
 abbrev pub Begins : ℕ → Pieces → Handed → Type 0
 Begins left a h = (left ≡ 0) × (h.first ≡ a.head) × (h.second ≡ a.body) × (h.taken ≤ size_of a)
 
--- With this number of bytes left of an answer, these writes hand over what is left of it and then these answers in turn.
--- Each write is of all that is left of an answer, of which the sink takes as much as it likes.
+-- With this number of bytes left of an answer, these writes hand over what is left of it, and then these answers in
+-- turn. Each write is of all that is left of an answer, of which the sink takes as much as it likes.
 abbrev pub HandOver : ℕ → List Pieces → List Handed → Type 0
 HandOver left answers [] = Unit {0}
 HandOver left [] (h ∷ writes) = GoesOn left h × HandOver (left - h.taken) [] writes

@@ -40,8 +40,8 @@ pub(crate) const STATUSES: [&[u8]; 16] = [
     b"{status=\"other\"}",
 ];
 
-/// The labels of codes of problems, and last that of all others, of which there are none. They are looked through in this
-/// order, so those come first that a right request may meet.
+/// The labels of codes of problems, and last that of all others, of which there are none. They are looked through in
+/// this order, so those come first that a right request may meet.
 pub(crate) const CODES: [&[u8]; 24] = [
     b"{code=\"NoPlace\"}",
     b"{code=\"RowsFull\"}",

@@ -19,8 +19,8 @@ use Rattle.rail_service.specs.Connections.{ServiceView, ConnectionView, answers_
 abbrev pub service_at : DeskView → Option (ℕ → ℕ) → ServiceView
 service_at desk clock = record { desk = desk; first = None; clock = clock }
 
--- A clock gave this cut at the end of a command that had begun there, by which the desk came from the one to the other.
--- A command that wasn't said to change bookings has made looks alone.
+-- A clock gave this cut by an `end`, at which a command of some reach had begun. Where that reach isn't to change
+-- bookings, the desk has made looks alone from the one to the other.
 pub record IsGivenCut {C : Type 0} (begun : C → Reach → Type 0) (ends : C → ℕ → C → Type 0) (old new : DeskView)
     (cut : ℕ) (after : C) : Type 0 where
   pub clock : C
@@ -59,7 +59,7 @@ PermitsReplies {K} permits cat awaits shows before source sink =
     (now : K) (piece : List ℕ) → MayReply cat awaits shows before source sink now piece → permits now piece
 
 -- Up to this end calls of the outlet's own took just the defined replies to the requests of the bytes taken, in order.
--- So it is also of an outlet that doesn't tell its bytes.
+-- So it is also of an outlet that tells no bytes, but shows its calls.
 abbrev pub HandsReplies : {K : Type 0} → CatalogueView → Showing K → ConnectionView → ConnectionView → K → K → ConnEnd
     → Type 0
 HandsReplies cat shows before after sink now end = (taken written : List ℕ) × (first : Option RetailerNo)

@@ -80,7 +80,7 @@ pub fn serve_permitted<S: Source, K: Outlet, C: Clock>(
         (connection_at desk.old (C.told clock.old) (S.told source.old) (K.told sink.old))
         (connection_at desk.new (C.told clock.new) (S.told source.new) (K.told sink.new)) result }
 
-    // Calls of the sink's own have handed it just these, also where it doesn't tell its bytes.
+    // Calls of the sink's own have handed it just these, also where it tells no bytes, but shows its calls (`takes`).
     ensures handed { HandsReplies cat.now (showing K.told K.takes K.held)
         (connection_at desk.old (C.told clock.old) (S.told source.old) (K.told sink.old))
         (connection_at desk.new (C.told clock.new) (S.told source.new) (K.told sink.new)) sink.old sink.new result }
@@ -151,7 +151,7 @@ pub fn serve_connection<S: Source, K: Sink, C: Clock>(
         (connection_at desk.old (C.told clock.old) (S.told source.old) (K.told sink.old))
         (connection_at desk.new (C.told clock.new) (S.told source.new) (K.told sink.new)) result }
 
-    // Calls of the sink's own have handed it just these, also where it doesn't tell its bytes.
+    // Calls of the sink's own have handed it just these, also where it tells no bytes, but shows its calls (`takes`).
     ensures handed { HandsReplies cat.now (showing K.told K.takes K.held)
         (connection_at desk.old (C.told clock.old) (S.told source.old) (K.told sink.old))
         (connection_at desk.new (C.told clock.new) (S.told source.new) (K.told sink.new)) sink.old sink.new result }

@@ -83,7 +83,7 @@ pub fn spend_permitted<I: Source, O: Outlet, C: Clock>(
         (connection_at desk.old (C.told clock.old) (I.told waiting.input) (O.told waiting.output))
         (connection_at desk.new (C.told clock.new) (I.told result.input) (O.told result.output)) result.end }
 
-    // Calls of the sink's own have handed it just these, also where it doesn't tell its bytes.
+    // Calls of the sink's own have handed it just these, also where it tells no bytes, but shows its calls (`takes`).
     ensures handed { HandsReplies cat.now (showing O.told O.takes O.held)
         (connection_at desk.old (C.told clock.old) (I.told waiting.input) (O.told waiting.output))
         (connection_at desk.new (C.told clock.new) (I.told result.input) (O.told result.output))
@@ -130,7 +130,7 @@ pub fn serve_waiting<I: Source, O: Sink, C: Clock>(
         (connection_at desk.old (C.told clock.old) (I.told waiting.input) (O.told waiting.output))
         (connection_at desk.new (C.told clock.new) (I.told result.input) (O.told result.output)) result.end }
 
-    // Calls of the sink's own have handed it just these, also where it doesn't tell its bytes.
+    // Calls of the sink's own have handed it just these, also where it tells no bytes, but shows its calls (`takes`).
     ensures handed { HandsReplies cat.now (showing O.told O.takes O.held)
         (connection_at desk.old (C.told clock.old) (I.told waiting.input) (O.told waiting.output))
         (connection_at desk.new (C.told clock.new) (I.told result.input) (O.told result.output))
