@@ -3,7 +3,7 @@
 //! `TcpPort` stands before a port, whose answers an `Outbox` holds back, and `SleepTicker` before the machine's clock.
 //!
 //! It is a crate of its own since `TcpPort`, its streams and `SleepTicker` are the edge of the proof: what the system
-//! does is trusted there, and what is made of its answers is proved, but for the lines that docs/proved.md lists.
+//! does is trusted there. What is made of its answers is proved, but for the lines that docs/proved.md lists.
 #![tactic(auto)]
 
 mod address;
