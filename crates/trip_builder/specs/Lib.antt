@@ -1,6 +1,8 @@
+-- The rules, which other crates cite.
 pub mod Segments
 pub mod Order
 pub mod Trips
+-- The search, which none of them cites.
 pub mod Search
 pub mod Best
 pub mod Bounds

@@ -12,17 +12,21 @@
 //! (`AreBounds`), so bounds that know less cost time alone.
 #![tactic(auto)]
 
+// The rules: what a trip is, and which stands first.
+mod chain;
+mod departures;
+mod order;
+mod trip;
+
+// The search, which is behind `trips` alone.
 mod ahead;
 mod best;
 mod board;
 mod boards;
 mod bounds;
-mod chain;
-mod departures;
 mod ends;
 mod found;
 mod hints;
-mod order;
 mod probe;
 mod ranks;
 mod reached;
@@ -30,7 +34,6 @@ mod rests;
 mod rides;
 mod search;
 mod shortest;
-mod trip;
 
 pub use chain::are_connected;
 pub use departures::{first_stop_of, last_stop_of};
