@@ -10,7 +10,7 @@ use Rattle.train_runs.specs.declared.departure.Departure.{Departure}
 use Rattle.trip_builder.specs.declared.trip.TripWish.{TripWish}
 use Rattle.trip_builder.specs.Segments.{IsKnown, segment, stops_of, first_stop, last_stop, last_of, no_segment}
 use Rattle.trip_builder.specs.Order.{last_arrival}
-use Rattle.trip_builder.specs.Trips.{leaves, begins, connects, uses_run, follows, is_chain, arrives, sets_out, is_trip, change_at, longest_wait}
+use Rattle.trip_builder.specs.Trips.{begins, connects, uses_run, follows, is_chain, arrives, sets_out, is_trip, change_at, longest_wait}
 use Rattle.trip_builder.specs.Best.{IsTrip}
 use Rattle.trip_builder.specs.Search.{is_way, IsWay, goes_on, has_run, MayTake, Rise}
 

@@ -1,4 +1,3 @@
-use Rattle.std.proofs.Common.{◌≡◌}
 use Rattle.trip_builder.specs.Reached.{StayMarked}
 use Rattle.trip_builder.proofs.rides.unmark_far.Given as goal
 
