@@ -1,3 +1,6 @@
 pub mod Texts
 pub mod Opened
 pub mod Folded
+pub mod Written
+pub mod Streams
+pub mod Without

@@ -3,3 +3,5 @@ pub mod Loading
 pub mod Opening
 pub mod Journals
 pub mod Notes
+pub mod Ends
+pub mod Noted

@@ -4,7 +4,7 @@ use Rattle.claim_rule.specs.Walls.{WallView}
 use Rattle.host_drill.specs.declared.drill.Cause.{Cause}
 use Rattle.host_drill.specs.declared.drill.Cause.TheVariants.{Whole, Words, Write, Memory}
 use Rattle.host_drill.specs.Ends.{IsForDrill, IsNoDrill, Leaves, end_of_drill}
-use Rattle.host_notes.specs.Ends.{status_of}
+use Rattle.host_catalogue.specs.Ends.{status_of}
 
 pub when_refused : (words : List (List ℕ)) (before after : Option (List ℕ)) (wall : Option WallView) (cause : Cause) → Leaves words before after wall cause
     → IsNoDrill words → (status_of (end_of_drill cause) ≡ 2) ⊎ ((status_of (end_of_drill cause) ≡ 5) × IsForDrill words)

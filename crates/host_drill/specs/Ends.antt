@@ -6,8 +6,8 @@ use Rattle.host_words.specs.Commands.{IsFor}
 use Rattle.host_words.specs.declared.command.CommandName.TheVariants as command
 use Rattle.host_words.specs.Drill.{drill_words}
 use Rattle.host_words.specs.declared.drill.DrillWords.{DrillWords}
-use Rattle.host_notes.specs.declared.ending.CommandEnd.{CommandEnd}
-use Rattle.host_notes.specs.declared.ending.CommandEnd.TheVariants as ended
+use Rattle.host_catalogue.specs.declared.ending.CommandEnd.{CommandEnd}
+use Rattle.host_catalogue.specs.declared.ending.CommandEnd.TheVariants as ended
 use Rattle.host_drill.specs.Totals.{totals_line}
 use Rattle.host_drill.specs.declared.drill.Cause.{Cause}
 use Rattle.host_drill.specs.declared.drill.Cause.TheVariants.{Whole, Words, Write, Memory}

@@ -23,8 +23,8 @@ use Rattle.host_catalogue.specs.Files.{Files}
 use Rattle.host_catalogue.specs.Opening.{Fails, HasBooks, HasNoBooks}
 use Rattle.host_words.specs.Replay.{ReplayView}
 use Rattle.host_words.specs.declared.command.CommandName.TheVariants as command
-use Rattle.host_notes.specs.Ends.{status_of_end}
-use Rattle.host_notes.proofs.Streams.{done_from, cut_from}
+use Rattle.host_catalogue.specs.Ends.{status_of_end}
+use Rattle.host_catalogue.proofs.Streams.{done_from, cut_from}
 use Rattle.host_replay.specs.Input.{told_of}
 use Rattle.host_replay.specs.Input.{IsAsked, IsFirstDesk, IsUntouched, opening, plain_opening, status_of_replay, HasShelfCause, IsOfRefusedText, IsWithoutBooks}
 use Rattle.host_replay.specs.Export.{RanExport, EndsCut, Exports, ExportsAll, HasNoText, IsCutOf, IsExport, IsSurelyReplayed, IsExportOf, IsInputRun, IsTextRun, ServedSo}

@@ -20,8 +20,8 @@ use Rattle.host_catalogue.specs.declared.journal.JournalRefusal.{JournalRefusal}
 use Rattle.host_catalogue.specs.declared.journal.JournalRefusal.TheVariants as refusal
 use Rattle.host_catalogue.specs.declared.journal.RecoverFault.{RecoverFault}
 use Rattle.host_catalogue.specs.declared.journal.RecoverFault.TheVariants as fault
-use Rattle.host_notes.specs.Ends.{status_of_fault, status_of_refusal}
-use Rattle.host_notes.proofs.Without.{fault_status, lacks, missed, never_loaded, never_text, same_text}
+use Rattle.host_catalogue.specs.Ends.{status_of_fault, status_of_refusal}
+use Rattle.host_catalogue.proofs.Without.{fault_status, lacks, missed, never_loaded, never_text, same_text}
 use Rattle.host_replay.specs.Recover.{HasEndCause, RanRecover, status_of_recover}
 use Rattle.host_replay.specs.declared.recover_end.RecoverEnd.{RecoverEnd}
 use Rattle.host_replay.specs.declared.recover_end.RecoverEnd.TheVariants as end

@@ -25,15 +25,15 @@ use Rattle.host_catalogue.specs.Opening.{Fails, HasBooks, HasNoBooks}
 use Rattle.host_words.specs.Replay.{ReplayView}
 use Rattle.host_words.specs.declared.command.CommandName.{CommandName}
 use Rattle.host_words.specs.declared.command.CommandName.TheVariants as command
-use Rattle.host_notes.specs.Ends.{status_of_end}
+use Rattle.host_catalogue.specs.Ends.{status_of_end}
 use Rattle.host_replay.specs.Input.{told_of}
 use Rattle.host_replay.specs.Input.{HasShelfCause, IsAsked, IsFirstDesk, IsInputOf, IsOfRefusedText, IsTaken, IsUnread, IsUntouched, IsWithoutBooks}
 use Rattle.host_replay.specs.Input.{opening, plain_opening, status_of_replay}
 use Rattle.host_replay.specs.Replay.{RanReplay, IsReplay, IsReplayRun, IsReplayed, IsReplayCut, Replays}
 use Rattle.host_replay.specs.declared.end.ReplayEnd.{ReplayEnd}
 use Rattle.host_replay.specs.declared.end.ReplayEnd.TheVariants as end
-use Rattle.host_notes.proofs.Streams.{stream_is, done_from, cut_from, read_from, write_from}
-use Rattle.host_notes.proofs.Without.{fault_status, lacks_books, missed_file, never_opened}
+use Rattle.host_catalogue.proofs.Streams.{stream_is, done_from, cut_from, read_from, write_from}
+use Rattle.host_catalogue.proofs.Without.{fault_status, lacks_books, missed_file, never_opened}
 
 -- a connection at the first desk begins as a host of one thread with the bookings that the books open with
 pub opens_plainly : (cat : CatalogueView) (kept : List KeptBooking) (desk : DeskView) (said : ReplayView) → IsFirstDesk cat kept desk → plain_view (opening desk said) ≡ plain_opening kept said

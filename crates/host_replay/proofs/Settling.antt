@@ -24,8 +24,8 @@ use Rattle.host_words.specs.Settle.{IsSettle}
 use Rattle.host_catalogue.specs.Files.{Files}
 use Rattle.host_catalogue.specs.Opening.{HasBooks, HasNoBooks, IsOpened, IsRefusedFile, LacksBooks}
 use Rattle.host_catalogue.specs.declared.file.LoadFault.{LoadFault}
-use Rattle.host_notes.specs.Ends.{status_of_fault}
-use Rattle.host_notes.proofs.Without.{fault_status, lacks_books, missed_file, never_opened}
+use Rattle.host_catalogue.specs.Ends.{status_of_fault}
+use Rattle.host_catalogue.proofs.Without.{fault_status, lacks_books, missed_file, never_opened}
 use Rattle.host_replay.specs.Settle.{RanSettle, HasSettleCause, IsFetchedTable, IsTableOf, IsUnused, status_of_settle}
 use Rattle.host_replay.specs.declared.settle_end.SettleEnd.{SettleEnd}
 use Rattle.host_replay.specs.declared.settle_end.SettleEnd.TheVariants as end

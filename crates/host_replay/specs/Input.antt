@@ -16,9 +16,9 @@ use Rattle.host_catalogue.specs.Opening.{HasBooks, IsRefusedFile, LacksBooks}
 use Rattle.host_words.specs.Commands.{IsFor, name_of}
 use Rattle.host_words.specs.declared.command.CommandName.{CommandName}
 use Rattle.host_words.specs.Replay.{ReplayView, input_words}
-use Rattle.host_notes.specs.Ends.{end_of, status_of}
-use Rattle.host_notes.specs.declared.ending.CommandEnd.{CommandEnd}
-use Rattle.host_notes.specs.declared.ending.CommandEnd.TheVariants as ended
+use Rattle.host_catalogue.specs.Ends.{end_of, status_of}
+use Rattle.host_catalogue.specs.declared.ending.CommandEnd.{CommandEnd}
+use Rattle.host_catalogue.specs.declared.ending.CommandEnd.TheVariants as ended
 use Rattle.host_replay.specs.declared.end.ReplayEnd.{ReplayEnd}
 use Rattle.host_replay.specs.declared.end.ReplayEnd.TheVariants as end
 

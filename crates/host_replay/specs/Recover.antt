@@ -5,9 +5,9 @@ use Rattle.host_words.specs.Recover.{IsRecover}
 use Rattle.host_catalogue.specs.Files.{Files}
 use Rattle.host_catalogue.specs.Journals.{HasRecoverCause, IsNotRecovered, IsRecovered, IsRefusedSource, LacksRecovery}
 use Rattle.host_catalogue.specs.declared.journal.RecoverFault.TheVariants as fault
-use Rattle.host_notes.specs.Ends.{status_of}
-use Rattle.host_notes.specs.declared.ending.CommandEnd.{CommandEnd}
-use Rattle.host_notes.specs.declared.ending.CommandEnd.TheVariants as ended
+use Rattle.host_catalogue.specs.Ends.{status_of}
+use Rattle.host_catalogue.specs.declared.ending.CommandEnd.{CommandEnd}
+use Rattle.host_catalogue.specs.declared.ending.CommandEnd.TheVariants as ended
 use Rattle.host_replay.specs.declared.recover_end.RecoverEnd.{RecoverEnd}
 use Rattle.host_replay.specs.declared.recover_end.RecoverEnd.TheVariants as end
 

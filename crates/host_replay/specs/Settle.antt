@@ -11,9 +11,9 @@ use Rattle.rail_catalogue.specs.Contents.{CatalogueView, legs_in}
 use Rattle.host_words.specs.Settle.{IsSettle}
 use Rattle.host_catalogue.specs.Files.{Files, HasCause}
 use Rattle.host_catalogue.specs.Opening.{Fails, HasBooks, IsRefusedFile, LacksBooks}
-use Rattle.host_notes.specs.Ends.{status_of}
-use Rattle.host_notes.specs.declared.ending.CommandEnd.{CommandEnd}
-use Rattle.host_notes.specs.declared.ending.CommandEnd.TheVariants as ended
+use Rattle.host_catalogue.specs.Ends.{status_of}
+use Rattle.host_catalogue.specs.declared.ending.CommandEnd.{CommandEnd}
+use Rattle.host_catalogue.specs.declared.ending.CommandEnd.TheVariants as ended
 use Rattle.host_replay.specs.declared.settle_end.SettleEnd.{SettleEnd}
 use Rattle.host_replay.specs.declared.settle_end.SettleEnd.TheVariants as end
 

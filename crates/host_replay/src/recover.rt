@@ -5,9 +5,9 @@ ghost use Rattle.host_words.specs.Options.{words_texts};
 ghost use Rattle.host_words.specs.Recover.{IsNoRecover, IsRecover};
 ghost use Rattle.host_catalogue.specs.Files.{OfCounts};
 ghost use Rattle.host_catalogue.specs.Journals.{HasNoRecovery};
-ghost use Rattle.host_notes.specs.Ends.{note_of};
-ghost use Rattle.host_notes.specs.Noted.{TakesNote};
-ghost use Rattle.host_notes.specs.declared.ending.CommandEnd.TheVariants.{WordsRefused};
+ghost use Rattle.host_catalogue.specs.Ends.{note_of};
+ghost use Rattle.host_catalogue.specs.Noted.{TakesNote};
+ghost use Rattle.host_catalogue.specs.declared.ending.CommandEnd.TheVariants.{WordsRefused};
 ghost use Rattle.host_replay.specs.Recover.{HasEndCause, HasNoneToRecover, IsExportFrom, IsOfRefusedSource, RanRecover};
 ghost use Rattle.host_replay.specs.Recover.{Recovers, end_of_recover, status_of_recover};
 ghost use Rattle.host_replay.specs.declared.recover_end.RecoverEnd.{RecoverEnd};
@@ -15,7 +15,7 @@ ghost use Rattle.host_replay.specs.declared.recover_end.RecoverEnd.TheVariants a
 
 use crate::recover_end::{RecoverEnd, command_end};
 use host_catalogue::recover_export;
-use host_notes::{CommandEnd, end_command};
+use host_catalogue::{CommandEnd, end_command};
 use host_words::{RecoverWords, read_recover};
 use rail_io::{Shelf, Sink};
 use session_loop::write_all;

@@ -3,7 +3,7 @@ ghost use Rattle.std.specs.Prelude.{◌≡◌};
 ghost use Rattle.host_replay.specs.Recover.{end_of_recover};
 
 use host_catalogue::RecoverFault;
-use host_notes::CommandEnd;
+use host_catalogue::CommandEnd;
 
 /// How a recovery ended.
 #[derive(Drop)]

@@ -3,7 +3,7 @@ ghost use Rattle.std.specs.Prelude.{◌≡◌};
 ghost use Rattle.host_replay.specs.Settle.{end_of_settle};
 
 use host_catalogue::LoadFault;
-use host_notes::CommandEnd;
+use host_catalogue::CommandEnd;
 
 /// How a settlement ended.
 #[derive(Drop)]

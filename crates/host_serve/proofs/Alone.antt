@@ -9,8 +9,8 @@ use Rattle.host_words.specs.Serve.{ServeView}
 use Rattle.host_words.specs.declared.serve.Serving.{Serving}
 use Rattle.host_catalogue.specs.Files.{Files}
 use Rattle.host_catalogue.specs.Opening.{HasBooks}
-use Rattle.host_notes.specs.Ends.{note_of}
-use Rattle.host_notes.specs.Noted.{IsNoted}
+use Rattle.host_catalogue.specs.Ends.{note_of}
+use Rattle.host_catalogue.specs.Noted.{IsNoted}
 use Rattle.host_serve.specs.Ends.{end_of_kept, end_of_serve, outcome_of_books, status_of_kept, status_of_serve}
 use Rattle.host_serve.specs.Kept.{EndsAlone, IsNotSaid, IsSaid, ListensTo, Scene, ServesKept, WritesKept}
 use Rattle.host_serve.specs.Serve.{BooksEnd, Ends, HasShelfCause, HasWall, IsNoServe, IsServe, IsServedWall, Left, Runs}

@@ -8,7 +8,7 @@ use Rattle.rail_catalogue.specs.Contents.{CatalogueView}
 use Rattle.host_catalogue.specs.Files.{Files}
 use Rattle.host_catalogue.specs.Opening.{HasBooks, HasNoBooks}
 use Rattle.host_catalogue.specs.declared.file.LoadFault.TheVariants as load
-use Rattle.host_notes.proofs.Without.{lacks_books, missed_file, never_opened}
+use Rattle.host_catalogue.proofs.Without.{lacks_books, missed_file, never_opened}
 use Rattle.host_words.specs.Serve.{ServeView}
 use Rattle.host_serve.specs.declared.end.ServeOutcome.{ServeOutcome}
 use Rattle.host_serve.specs.declared.end.ServeOutcome.TheVariants as end

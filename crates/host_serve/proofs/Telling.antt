@@ -13,8 +13,8 @@ use Rattle.rail_catalogue.specs.Contents.{CatalogueView, legs_in}
 use Rattle.host_catalogue.specs.Files.{Files}
 use Rattle.host_catalogue.specs.declared.file.LoadFault.{LoadFault}
 use Rattle.host_catalogue.specs.declared.file.LoadFault.TheVariants as load
-use Rattle.host_notes.specs.Ends.{status_of_fault}
-use Rattle.host_notes.specs.Noted.{IsNoted}
+use Rattle.host_catalogue.specs.Ends.{status_of_fault}
+use Rattle.host_catalogue.specs.Noted.{IsNoted}
 use Rattle.host_words.specs.Serve.{ServeView}
 use Rattle.host_serve.specs.Ends.{status_of_serve}
 use Rattle.host_serve.specs.Serve.{Ends, HasShelfCause, HasWall, IsExporting, IsPlain, IsServe, IsServedWall, Left, Runs}

@@ -1,8 +1,8 @@
 -- The ends of `serve`.
 use Rattle.std.specs.Prelude.{ℕ, Bool, true}
-use Rattle.host_notes.specs.Ends.{status_of}
-use Rattle.host_notes.specs.declared.ending.CommandEnd.{CommandEnd}
-use Rattle.host_notes.specs.declared.ending.CommandEnd.TheVariants as ended
+use Rattle.host_catalogue.specs.Ends.{status_of}
+use Rattle.host_catalogue.specs.declared.ending.CommandEnd.{CommandEnd}
+use Rattle.host_catalogue.specs.declared.ending.CommandEnd.TheVariants as ended
 use Rattle.host_serve.specs.declared.end.BooksOutcome.{BooksOutcome}
 use Rattle.host_serve.specs.declared.end.BooksOutcome.TheVariants as books
 use Rattle.host_catalogue.specs.declared.file.File.TheVariants.{Journal}

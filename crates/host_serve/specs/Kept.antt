@@ -17,8 +17,8 @@ use Rattle.host_catalogue.specs.Journals.{IsFoldFor, IsNotFolded}
 use Rattle.host_catalogue.specs.Loading.{Loads}
 use Rattle.host_catalogue.specs.Opening.{BeginsWith, IsExportFor, IsNotOpened, IsOpened}
 use Rattle.host_catalogue.specs.declared.file.File.TheVariants.{Journal}
-use Rattle.host_notes.specs.Ends.{note_of}
-use Rattle.host_notes.specs.Noted.{IsNoted}
+use Rattle.host_catalogue.specs.Ends.{note_of}
+use Rattle.host_catalogue.specs.Noted.{IsNoted}
 use Rattle.host_serve.specs.Ends.{end_of_kept, status_of_kept, status_of_serve}
 use Rattle.host_serve.specs.Serve.{HasFailed, HasShelfCause, IsForServe, IsServedWall, IsSpent, IsUnbound, Left, Runs}
 use Rattle.host_serve.specs.Telling.{IsSilent, IsTold, Noting, WritesExport}

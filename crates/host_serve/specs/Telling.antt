@@ -4,8 +4,8 @@ use Rattle.rail_io.specs.Faults.{Rose}
 use Rattle.rail_io.specs.Told.{with_end}
 use Rattle.claim_rule.specs.Walls.{WallView}
 use Rattle.cold_store.specs.Exports.{text_on}
-use Rattle.host_notes.specs.Ends.{note_of}
-use Rattle.host_notes.specs.Noted.{IsNoted}
+use Rattle.host_catalogue.specs.Ends.{note_of}
+use Rattle.host_catalogue.specs.Noted.{IsNoted}
 use Rattle.host_serve.specs.Ends.{end_of_serve}
 use Rattle.host_serve.specs.Serve.{IsExporting, IsPlain}
 use Rattle.host_serve.specs.declared.end.ServeOutcome.{ServeOutcome}

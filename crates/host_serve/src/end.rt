@@ -5,7 +5,7 @@ ghost use Rattle.host_serve.specs.declared.end.BooksOutcome.TheVariants.{AcceptF
 
 use claim_rule::Wall;
 use host_catalogue::{File, JournalRefusal, LoadFault};
-use host_notes::CommandEnd;
+use host_catalogue::CommandEnd;
 
 /// Why serving ended.
 #[derive(Drop)]

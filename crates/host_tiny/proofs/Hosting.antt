@@ -7,8 +7,8 @@ use Rattle.http_wire.specs.Requests.{RequestText, empty, unfinished, closed, ref
 use Rattle.session_loop.specs.declared.end.ConnEnd.{ConnEnd}
 use Rattle.session_loop.specs.Session.{IsEnd}
 use Rattle.session_loop.proofs.Views.{end_seen}
-use Rattle.host_notes.specs.Ends.{status_of_end}
-use Rattle.host_notes.proofs.Streams.{stream_is, done_from, cut_from as cut_stream, read_from as read_stream, write_from as write_stream}
+use Rattle.host_catalogue.specs.Ends.{status_of_end}
+use Rattle.host_catalogue.proofs.Streams.{stream_is, done_from, cut_from as cut_stream, read_from as read_stream, write_from as write_stream}
 use Rattle.host_tiny.specs.Reservations.{Held}
 use Rattle.host_tiny.specs.Run.{RunView}
 use Rattle.host_tiny.specs.declared.responder.Tiny.{Tiny}

@@ -7,13 +7,13 @@ ghost use Rattle.session_loop.specs.declared.end.ConnEnd.{ConnEnd};
 ghost use Rattle.session_loop.specs.declared.end.ConnEnd.TheVariants.{ReadFault, WriteFault};
 ghost use Rattle.host_words.specs.Options.{words_texts};
 ghost use Rattle.host_words.specs.Tiny.{IsNoTiny};
-ghost use Rattle.host_notes.specs.Ends.{end_of, note_of, status_of};
-ghost use Rattle.host_notes.specs.Noted.{TakesNote};
-ghost use Rattle.host_notes.specs.declared.ending.CommandEnd.TheVariants.{WordsRefused};
+ghost use Rattle.host_catalogue.specs.Ends.{end_of, note_of, status_of};
+ghost use Rattle.host_catalogue.specs.Noted.{TakesNote};
+ghost use Rattle.host_catalogue.specs.declared.ending.CommandEnd.TheVariants.{WordsRefused};
 ghost use Rattle.host_tiny.specs.Host.{IsTinyRun, IsHostEnd, ServesAll, IsCutOrRefused, IsReadFault, IsWriteFault};
 
 use crate::responder::Tiny;
-use host_notes::{CommandEnd, end_command};
+use host_catalogue::{CommandEnd, end_command};
 use host_words::{TinyWords, read_tiny};
 use http_wire::Intake;
 use rail_io::{Sink, Source};

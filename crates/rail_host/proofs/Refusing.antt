@@ -7,7 +7,7 @@ use Rattle.host_words.specs.Commands.{IsNamed}
 use Rattle.host_words.specs.declared.command.CommandName.{CommandName}
 use Rattle.host_words.specs.declared.command.CommandName.TheVariants.{Tiny, Replay, Export, Settle, Recover, Drill, Serve}
 use Rattle.host_catalogue.specs.declared.file.LoadFault.TheVariants as load
-use Rattle.host_notes.specs.Ends.{end_of, status_of}
+use Rattle.host_catalogue.specs.Ends.{end_of, status_of}
 use Rattle.host_replay.specs.Input.{status_of_replay}
 use Rattle.host_replay.specs.declared.end.ReplayEnd.{ReplayEnd}
 use Rattle.host_replay.specs.declared.end.ReplayEnd.TheVariants as replay

@@ -12,7 +12,7 @@ use Rattle.host_words.specs.Tiny.{IsNoTiny}
 use Rattle.host_words.specs.declared.command.CommandName.{CommandName}
 use Rattle.host_words.specs.declared.command.CommandName.TheVariants.{Drill, Serve}
 use Rattle.host_catalogue.specs.Opening.{HasNoBooks}
-use Rattle.host_notes.specs.Ends.{note_of, status_of}
+use Rattle.host_catalogue.specs.Ends.{note_of, status_of}
 use Rattle.host_replay.specs.Replay.{IsNoReplay}
 use Rattle.host_replay.specs.Export.{IsNoExport}
 use Rattle.host_drill.specs.Ends.{IsNoDrill, Leaves, end_of_drill}

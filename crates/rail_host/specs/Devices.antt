@@ -3,7 +3,7 @@ use Rattle.std.specs.Prelude.{◌≡◌, ℕ, List, Option}
 use Rattle.rail_io.specs.Faults.{Rose}
 use Rattle.rail_io.specs.Told.{WritesWhere}
 use Rattle.host_catalogue.specs.Files.{Files}
-use Rattle.host_notes.specs.Noted.{TakesNote}
+use Rattle.host_catalogue.specs.Noted.{TakesNote}
 use Rattle.host_replay.specs.Input.{Told, told_of}
 use Rattle.host_serve.specs.Telling.{Noting}
 

@@ -13,8 +13,8 @@ use Rattle.host_words.specs.declared.command.CommandName.TheVariants.{Drill, Ser
 use Rattle.host_catalogue.specs.Files.{Files}
 use Rattle.host_catalogue.specs.Journals.{HasNoRecovery}
 use Rattle.host_catalogue.specs.Opening.{HasNoBooks}
-use Rattle.host_notes.specs.Ends.{end_of, note_of, status_of}
-use Rattle.host_notes.specs.declared.ending.CommandEnd.TheVariants.{WordsRefused}
+use Rattle.host_catalogue.specs.Ends.{end_of, note_of, status_of}
+use Rattle.host_catalogue.specs.declared.ending.CommandEnd.TheVariants.{WordsRefused}
 use Rattle.host_tiny.specs.Host.{IsTinyRun, ServesAll, IsCutOrRefused, IsReadFault, IsWriteFault}
 use Rattle.host_replay.specs.Input.{HasShelfCause, IsAsked, IsOfRefusedText, IsUntouched as IsUnserved, IsWithoutBooks}
 use Rattle.host_replay.specs.Input.{end_of_replay, status_of_replay}

@@ -1,6 +1,6 @@
 // What `main` itself does by the words of `serve`.
 use crate::window::{Window, asked_window};
-use host_notes::CommandEnd;
+use host_catalogue::CommandEnd;
 use host_words::{CommandName, WordsFault, is_for, read_address};
 use std::alloc::{AllocError, Global};
 use std::net::{IpAddr, Ipv4Addr};

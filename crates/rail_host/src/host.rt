@@ -2,7 +2,7 @@
 ghost use Rattle.host_words.specs.Options.{words_texts};
 ghost use Rattle.rail_host.specs.Plain.{RanPlainly};
 
-use host_notes::{CommandEnd, end_command};
+use host_catalogue::{CommandEnd, end_command};
 use host_replay::{run_export, run_recover, run_replay, run_settle};
 use host_tiny::run_tiny;
 use host_words::{CommandName, command_of};

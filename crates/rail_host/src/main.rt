@@ -21,7 +21,7 @@ use asked::{Asked, asked_of};
 use devices::{Devices, ForServe};
 use exit::run_host;
 use host_io::{FileJournal, SleepTicker, TcpBell, TcpPort};
-use host_notes::{CommandEnd, end_command};
+use host_catalogue::{CommandEnd, end_command};
 use host_serve::Keeping;
 use host_window::{CountingJournal, CountingTicker, show_all};
 use rail_io::{Bell, FileShelf, ReaderSource, WriterSink};

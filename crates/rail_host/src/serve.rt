@@ -8,7 +8,7 @@ ghost use Rattle.host_serve.specs.Kept.{IsNotSaid};
 ghost use Rattle.rail_host.specs.Commands.{EndsServing};
 
 use crate::devices::{Devices, ForServe};
-use host_notes::{CommandEnd, end_command};
+use host_catalogue::{CommandEnd, end_command};
 use host_serve::{CLOCKS, Devices as ServeDevices, ServeEnd, serve_kept};
 use host_window::{Counters, CountingClock};
 use rail_io::{Bell, Journal, Shelf, Sink, Source, SystemClock, Ticker};

@@ -1,7 +1,7 @@
 use Rattle.std.proofs.Common.{◌≡◌, ◌⊎◌, ◌∙◌, ℕ, ap, sym, subst}
 use Rattle.std.specs.Prelude.{option_map}
 use Rattle.host_words.specs.Options.{words_texts}
-use Rattle.host_notes.specs.Ends.{status_of}
+use Rattle.host_catalogue.specs.Ends.{status_of}
 use Rattle.host_drill.specs.Ends.{IsForDrill}
 use Rattle.host_drill.proofs.Ending.{none_left, when_refused, words_refused}
 use Rattle.host_drill.proofs.drill.run_drill.Goals as goal

@@ -3,7 +3,7 @@ use Rattle.std.specs.Prelude.{◌⊎◌}
 use Rattle.rail_io.specs.Told.{with_end}
 use Rattle.host_words.specs.Options.{words_texts}
 use Rattle.host_words.specs.Said.{view_of}
-use Rattle.host_notes.specs.Ends.{status_of}
+use Rattle.host_catalogue.specs.Ends.{status_of}
 use Rattle.host_replay.specs.Input.{told_of}
 use Rattle.host_replay.specs.Input.{status_of_replay}
 use Rattle.host_replay.specs.Export.{Exports}

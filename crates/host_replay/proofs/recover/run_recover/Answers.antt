@@ -3,7 +3,7 @@ use Rattle.rail_io.specs.Told.{with_end}
 use Rattle.host_words.specs.Options.{words_texts}
 use Rattle.host_catalogue.specs.Files.{Files}
 use Rattle.host_catalogue.specs.Journals.{HasNoRecovery}
-use Rattle.host_notes.specs.Ends.{status_of}
+use Rattle.host_catalogue.specs.Ends.{status_of}
 use Rattle.host_replay.specs.Recover.{RanRecover}
 use Rattle.host_replay.proofs.Recovering.{ends_without, few, front_export, missed_source, same_catalogue, same_journal, whole_export, without}
 use Rattle.host_replay.proofs.recover.run_recover.Goals as goal

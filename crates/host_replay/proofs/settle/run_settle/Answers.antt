@@ -3,7 +3,7 @@ use Rattle.rail_io.specs.Told.{with_end}
 use Rattle.host_words.specs.Options.{words_texts}
 use Rattle.host_catalogue.specs.Files.{Files}
 use Rattle.host_catalogue.specs.Opening.{HasNoBooks}
-use Rattle.host_notes.specs.Ends.{status_of}
+use Rattle.host_catalogue.specs.Ends.{status_of}
 use Rattle.host_replay.specs.Settle.{RanSettle}
 use Rattle.host_replay.proofs.Settling.{ends_without, few, front_table, missed, same_catalogue, same_export, whole_table, without}
 use Rattle.host_replay.proofs.settle.run_settle.Goals as goal

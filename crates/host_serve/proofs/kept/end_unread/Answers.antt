@@ -1,7 +1,7 @@
 use Rattle.std.proofs.Common.{subst}
-use Rattle.host_notes.specs.Ends.{note_of}
-use Rattle.host_notes.specs.Noted.{IsNoted}
-use Rattle.host_notes.specs.declared.ending.CommandEnd.{CommandEnd}
+use Rattle.host_catalogue.specs.Ends.{note_of}
+use Rattle.host_catalogue.specs.Noted.{IsNoted}
+use Rattle.host_catalogue.specs.declared.ending.CommandEnd.{CommandEnd}
 use Rattle.host_serve.proofs.kept.end_unread.Goals as goal
 
 pub returns-clause-noted : goal.returns-clause-noted

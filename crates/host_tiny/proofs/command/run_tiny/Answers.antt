@@ -1,6 +1,6 @@
 use Rattle.std.proofs.Common.{ℕ, List, Option, sym, ◌∙◌, ap}
 use Rattle.rail_io.specs.Told.{with_end}
-use Rattle.host_notes.specs.Ends.{status_of}
+use Rattle.host_catalogue.specs.Ends.{status_of}
 use Rattle.host_tiny.proofs.Hosting.{served_from, cut_from}
 use Rattle.host_tiny.proofs.command.run_tiny.Goals as goal
 

@@ -1,5 +1,0 @@
-use Rattle.claim_rule.specs.Desks.{IsOf}
-use Rattle.booking_tests.proofs.lives.count_confirmed.Given as goal
-
-abbrev pub invariant-loop-row : goal.invariant-loop-row
-invariant-loop-row g l = record { own : IsOf l.books l.desk }
