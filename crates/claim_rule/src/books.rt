@@ -138,6 +138,12 @@ impl Books {
         self.rows
     }
 
+    /// Clears the marks of 64 blocks of rows, and answers which were set: block 64 * `group` has the lowest bit. A block
+    /// is marked by the first step that marks one of its rows.
+    pub fn take_marked_blocks(&self, group: u32) -> u64 {
+        self.marks.take_blocks(group)
+    }
+
     /// Clears the marks of 64 rows, and answers which were set: the first row of the block, 64 * `block`, has the
     /// lowest bit. A row is marked by each step that changes its standing word. None is marked where books open, and
     /// past the last row none ever is.
