@@ -4,7 +4,8 @@ use crate::routes::{RouteCounts, buckets_of, requests_of, times_of};
 use crate::tallies::{Tallies, Tally};
 use std::alloc::{AllocError, Global};
 use std::sync::atomic::{AtomicU64, Ordering};
-use window_texts::{Counts, Sample};
+use crate::counts::Counts;
+use crate::family::Sample;
 
 /// How many sets of counts connections have, which take them in turn: as many as there may be workers, so that two of
 /// them seldom raise the same count at once.

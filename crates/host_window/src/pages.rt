@@ -10,7 +10,7 @@ use crate::words::Word;
 use http_wire::{Answer, Intake, Request, WireFault};
 use session_loop::Responder;
 use std::alloc::Global;
-use window_texts::metrics_page;
+use crate::metrics::metrics_page;
 
 /// What a request asks for.
 #[derive(Clone, Copy, PartialEq, Eq)]

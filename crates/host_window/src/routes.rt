@@ -4,7 +4,8 @@ ghost use Rattle.std.specs.Prelude.{◌<◌};
 use crate::tallies::Tallies;
 use rail_io::RouteName;
 use std::alloc::{AllocError, Global};
-use window_texts::{Bucket, RouteTime, Sample};
+use crate::family::Sample;
+use crate::route_texts::{Bucket, RouteTime};
 
 /// The names of routes, in their order.
 const ROUTES: [&[u8]; 13] = [
