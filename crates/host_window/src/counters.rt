@@ -1,10 +1,11 @@
 //! What is counted of a host while it runs.
+use crate::counts::Counts;
+use crate::family::Sample;
 use crate::labels::{CAUSES, CODES, Cause, STATUSES, number_of_code, number_of_status};
 use crate::routes::{RouteCounts, buckets_of, requests_of, times_of};
 use crate::tallies::{Tallies, Tally};
 use std::alloc::{AllocError, Global};
 use std::sync::atomic::{AtomicU64, Ordering};
-use window_texts::{Counts, Sample};
 
 /// How many sets of counts connections have, which take them in turn: as many as there may be workers, so that two of
 /// them seldom raise the same count at once.

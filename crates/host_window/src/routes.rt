@@ -1,10 +1,11 @@
 //! What is counted of requests by their route.
 ghost use Rattle.std.specs.Prelude.{◌<◌};
 
+use crate::family::Sample;
+use crate::route_texts::{Bucket, RouteTime};
 use crate::tallies::Tallies;
 use rail_io::RouteName;
 use std::alloc::{AllocError, Global};
-use window_texts::{Bucket, RouteTime, Sample};
 
 /// The names of routes, in their order.
 const ROUTES: [&[u8]; 13] = [

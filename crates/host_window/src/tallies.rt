@@ -1,7 +1,7 @@
 //! Counts that all threads may raise.
+use crate::family::Sample;
 use std::alloc::{AllocError, Global};
 use std::sync::atomic::{AtomicU64, Ordering};
-use window_texts::Sample;
 
 /// A count that all threads may raise.
 #[derive(Drop)]
