@@ -123,6 +123,17 @@ fn has_two_bookings(wall: &Wall) -> bool {
         && wall.row_word(0, 8) != wall.row_word(1, 8)
 }
 
+#[test]
+fn two_connections(rt: HostRuntime) -> Result<(), Fail> {
+    let alloc = rt.alloc();
+    let listener = ListListener::new(alloc, two_streams(alloc)?, Vec::new(alloc));
+    let mut notes = VecSink::new(alloc, Vec::new(alloc));
+    let (status, wall) = serve(&rt, alloc, at_six(TWO), listener, &mut notes)?;
+    assert!(rt; status == 0);
+    assert!(rt; has_two_bookings(&wall.expect(&rt, "a wall")));
+    Ok(())
+}
+
 /// The first stream's first read waits until the second stream was answered, so that both are served at once. Both are
 /// dropped before the host ends.
 #[test]

@@ -11,8 +11,10 @@
 //!   case of the built program (`tests/cases`).
 //! - `left`: the fault of an export after a desk was given up in the middle. What else an export has, and each fault of
 //!   one that is read, is shown by the program (`tests/cases`, `tests/model/exports.py`).
-//! - `lives`, `trades`: what takes two desks or two moments: a thousand bookings that are confirmed and swept at the same
-//!   time, a search for a row, and an exchange that is lost. What a connection is answered is a case.
+//! - `lives`, `trades`: a booking's life, over the crates that decide it: held, sealed, confirmed, collected, released,
+//!   expired, refunded by its quotes. And what takes two desks: a thousand bookings that are confirmed and swept at the
+//!   same time, a search for a row, and an exchange that is lost. What a connection is answered is shown in
+//!   `service_tests` and by cases.
 #![tactic(auto)]
 
 #[cfg(test)]

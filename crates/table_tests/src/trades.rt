@@ -9,13 +9,15 @@ use exchange_core::{Exchanged, Readied, accept_exchange, ready_exchange};
 use history_model::phase::Phase;
 use hold_core::{Added, abandon, add_places};
 use leg_masks::{HALVES, Span, pieces};
-use offer_codes::read_exchange;
+use offer_codes::{RefundCode, read_exchange};
 use rail_catalogue::Catalogue;
-use rail_ids::{PlaceNo, RowNo};
+use rail_ids::{PlaceNo, RetailerNo, RowNo};
+use rail_time::Moment;
+use refund_core::{Quoted, Refunded, accept_refund, quote_refund};
 use seat_words::glance;
 use std::process::Abort;
 use std::test::Fail;
-use test_kit::{LEGS, NORTH, after_six, sample};
+use test_kit::{LEGS, NORTH, SOUTH, after_six, sample};
 
 // The first booking's.
 const FIRST: RowNo = RowNo {
@@ -83,6 +85,47 @@ fn confirms(rt: &impl Abort, books: &Books, desk: &mut Desk, row: RowNo)
     assert!(rt; done == Confirmed::Done);
 }
 
+// Quotes a refund that many seconds after six, of this amount: when it was made.
+fn quotes(
+    rt: &impl Abort,
+    cat: &Catalogue,
+    books: &Books,
+    desk: &mut Desk,
+    seconds: u32,
+    amount: u64,
+) -> Moment
+    requires own { IsOf books.now desk.old }
+    requires idle { IsIdle desk.old }
+    ensures own { IsOf books.now desk.new }
+    ensures idle { IsIdle desk.new }
+{
+    let Quoted::Done(code) = quote_refund(cat, books, desk, FIRST, NORTH, after_six(seconds)) else {
+        panic!(rt; "no quote");
+    };
+    assert!(rt; code.row == FIRST);
+    assert!(rt; code.made == after_six(seconds));
+    assert!(rt; !code.fulfilled);
+    assert!(rt; code.amount == amount);
+    code.made
+}
+
+// Accepts a quote that many seconds after six.
+fn accepts(
+    cat: &Catalogue,
+    books: &Books,
+    desk: &mut Desk,
+    retailer: RetailerNo,
+    code: &RefundCode,
+    seconds: u32,
+) -> Refunded
+    requires own { IsOf books.now desk.old }
+    requires idle { IsIdle desk.old }
+    ensures own { IsOf books.now desk.new }
+    ensures idle { IsIdle desk.new }
+{
+    accept_refund(cat, books, desk, retailer, code, after_six(seconds))
+}
+
 // The word of the first half of a place.
 fn word(rt: &impl Abort, books: &Books, desk: &mut Desk, place: PlaceNo) -> u64
     requires own { IsOf books.now desk.old }
@@ -93,6 +136,58 @@ fn word(rt: &impl Abort, books: &Books, desk: &mut Desk, place: PlaceNo) -> u64
     let there = place.0 < books.places();
     assert!(rt; there);
     glance(books, desk, place, 0)
+}
+
+// Accepts quotes of that moment, for this amount, that many seconds after six.
+fn accepts_each(rt: &impl Abort, cat: &Catalogue, books: &Books, desk: &mut Desk, made: Moment)
+    requires own { IsOf books.now desk.old }
+    requires idle { IsIdle desk.old }
+{
+    for (retailer, amount, seconds, want) in [
+        (NORTH, 3186, 600, Refunded::QuoteWrong),
+        (
+            NORTH,
+            3187,
+            599,
+            Refunded::QuoteStale {
+                made,
+                now: after_six(599),
+            },
+        ),
+        (
+            NORTH,
+            3187,
+            1501,
+            Refunded::QuoteStale {
+                made,
+                now: after_six(1501),
+            },
+        ),
+        (SOUTH, 3187, 600, Refunded::Unknown),
+        (NORTH, 3187, 1500, Refunded::Done { amount: 3187 }),
+    ] {
+        let code = RefundCode {
+            row: FIRST,
+            made,
+            fulfilled: false,
+            amount,
+        };
+        let got = accepts(cat, books, desk, retailer, &code, seconds);
+        assert!(rt; got == want);
+    }
+}
+
+/// A quote stands for 900 seconds, for its own amount and retailer.
+#[test]
+fn a_quote_is_right_and_fresh(rt: HostRuntime) -> Result<(), Fail> {
+    let alloc = rt.alloc();
+    let cat = sample(alloc).expect(&rt, "a catalogue");
+    let (books, mut desk) = start_books(alloc, LEGS.as_slice(), 4)?;
+    let row = prebooked(&rt, &books, &mut desk, PlaceNo(4), 4250);
+    confirms(&rt, &books, &mut desk, row);
+    let made = quotes(&rt, &cat, &books, &mut desk, 600, 3187);
+    accepts_each(&rt, &cat, &books, &mut desk, made);
+    Ok(())
 }
 
 // Holds the second leg of a place for 800, checks the quote, and then collects the ticket: the exchange is lost, and
