@@ -22,7 +22,7 @@ use std::test::Fail;
 const RETAILER: RetailerNo = RetailerNo(7);
 
 // Takes the legs of a place for a hold without items.
-fn take(
+pub(crate) fn take(
     rt: &impl Abort,
     books: &Books,
     desk: &mut Desk,
@@ -314,11 +314,12 @@ fn undo_and_keep(books: &Books, desk: &mut Desk, mut hold: Hold)
 }
 
 // A hold on the first free row.
-fn start(rt: &impl Abort, books: &Books, desk: &mut Desk) -> Hold
+pub(crate) fn start(rt: &impl Abort, books: &Books, desk: &mut Desk) -> Hold
     requires own { IsOf books.now desk.old }
     requires none { HoldsNone desk.old }
     ensures own { IsOf books.now desk.new }
     ensures hold { IsHolding desk.new result }
+    ensures none { result.items ≡ [] }
     ensures number { desk.new.number ≡ desk.old.number }
     ensures endings { KeepsEndings desk.old desk.new }
 {

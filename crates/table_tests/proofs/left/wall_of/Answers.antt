@@ -1,5 +1,5 @@
 use Rattle.table_tests.proofs.Closed.{closed_at}
-use Rattle.table_tests.proofs.walls.wall_of.Goals as goal
+use Rattle.table_tests.proofs.left.wall_of.Goals as goal
 
 pub finish-requires-clause-idle : goal.finish-requires-clause-idle
 finish-requires-clause-idle c = c.requires.idle
