@@ -18,7 +18,7 @@ mod departures;
 mod order;
 mod trip;
 
-// The search, which `trips` alone calls.
+// The search, which is behind `trips` alone.
 mod ahead;
 mod best;
 mod board;
