@@ -1,5 +1,5 @@
 -- What is written of rows.
-use Rattle.std.specs.Prelude.{◌≡◌, ℕ, ◌+◌, ◌/◌, ◌%◌, ◌==◌, Bool, if◌then◌else◌, List, [], ◌∷◌, ◌++◌, Option, Some, None, filter, filter_map, get_or, length, map, option_to_list}
+use Rattle.std.specs.Prelude.{◌≡◌, ℕ, ◌+◌, ◌-◌, ◌*◌, ◌/◌, ◌%◌, ◌==◌, Bool, if◌then◌else◌, List, [], ◌∷◌, ◌++◌, Option, Some, None, filter, filter_map, get_or, length, map, min, option_to_list}
 use Rattle.std.specs.List.{AllByRecursion, range_with_len}
 use Rattle.std.specs.Int.{bit_at}
 use Rattle.history_model.specs.declared.entry.Step.{Step}
@@ -67,6 +67,23 @@ is_marked marks row = is_set (get_or marks (row / block_rows) 0) row
 -- all rows that are marked, in rising number
 abbrev pub marked_rows : ℕ → List ℕ → List ℕ
 marked_rows rows marks = filter (is_marked marks) (range_with_len 0 rows)
+
+-- the rows of a block that are set in its marks
+abbrev pub set_in : ℕ → ℕ → ℕ → List ℕ
+set_in rows block marks =
+    filter (is_set marks) (range_with_len (block_rows * block) (min (block_rows * block + block_rows) rows - block_rows * block))
+
+-- the rows of these blocks that are set in their marks, of which each block has a number
+abbrev pub set_in_all : ℕ → List ℕ → List ℕ → List ℕ
+set_in_all rows [] marks = []
+set_in_all rows (block ∷ blocks) [] = []
+set_in_all rows (block ∷ blocks) (mark ∷ marks) = set_in rows block mark ++ set_in_all rows blocks marks
+
+-- the rows of these blocks that are set in some marks of them were looked at, and their lines were written
+pub record WritesBlocks (rows : ℕ) (blocks old new : List ℕ) (count : ℕ) (es : List Step) : Type 0 where
+  pub marks : List ℕ
+  pub each : length marks ≡ length blocks
+  pub writes : WritesLines (set_in_all rows blocks marks) old new count es
 
 -- the rows that are set in some marks of as many blocks as the rows have were looked at, and their lines were written
 pub record WritesMarked (rows : ℕ) (old new : List ℕ) (count : ℕ) (es : List Step) : Type 0 where

@@ -1,11 +1,11 @@
 //! The lines of rows.
-ghost use Rattle.std.specs.Prelude.{◌≡◌, ◌+◌, ◌-◌, ◌<◌, ◌≤◌, ◌∷◌, [], IfOk, cond, filter, min, true};
+ghost use Rattle.std.specs.Prelude.{◌≡◌, ◌+◌, ◌-◌, ◌/◌, ◌<◌, ◌≤◌, ◌∷◌, [], IfOk, cond, filter, min, true};
 ghost use Rattle.std.specs.List.{range_with_len};
 ghost use Rattle.history_model.specs.Booking.{most_rows};
 ghost use Rattle.claim_rule.specs.Calls.{AddsStepsBy};
 ghost use Rattle.claim_rule.specs.Desks.{IsOf};
 ghost use Rattle.claim_rule.specs.Out.{AllLooks, IsTidy, KeepsEndings, KeepsHolds};
-ghost use Rattle.row_cuts.specs.Lines.{WritesLines, WritesMarked, is_set, mark_blocks};
+ghost use Rattle.row_cuts.specs.Lines.{WritesBlocks, WritesLines, WritesMarked, is_set, mark_blocks};
 
 use crate::looks::{look_at, push_shown};
 use claim_rule::{Books, Desk};
@@ -14,12 +14,23 @@ use std::alloc::AllocError;
 /// How many rows have their marks in one number.
 const BLOCK_ROWS: u32 = 64;
 
-// How many numbers have the marks of all rows.
+/// How many blocks have their marks in one number.
+const GROUP_BLOCKS: u32 = 64;
+
+// How many numbers have the marks of all rows: one for each block.
 fn block_count(books: &Books) -> u32
     ensures count { result ≡ mark_blocks books.now.layout.rows }
     ensures most { books.now.layout.rows ≤ most_rows }
 {
     books.rows() / BLOCK_ROWS + 1
+}
+
+// How many groups of 64 blocks there are.
+fn group_count(books: &Books) -> u32
+    ensures count { result ≡ mark_blocks books.now.layout.rows / 64 + 1 }
+    ensures most { books.now.layout.rows ≤ most_rows }
+{
+    block_count(books) / GROUP_BLOCKS + 1
 }
 
 /// Takes the marks of all rows, which clears them; writes the lines of the rows that were marked after the text, in
@@ -39,10 +50,9 @@ pub fn push_marked_lines(
     ensures tidy { IsTidy desk.old → IsTidy desk.new }
 {
     let mut count = 0;
-    let blocks = block_count(books);
-    for block in 0..blocks {
-        let marks = books.take_marks(block);
-        count += push_block(text, books, desk, BLOCK_ROWS * block, marks)?;
+    for group in 0..group_count(books) {
+        let marked = books.take_marked_blocks(group);
+        count += push_group(text, books, desk, GROUP_BLOCKS * group, marked)?;
     }
     Ok(count)
 }
@@ -63,6 +73,61 @@ pub fn push_all_lines(text: &mut Vec<u8>, books: &Books, desk: &mut Desk) -> Res
         count += push_row(text, books, desk, row)?;
     }
     Ok(count)
+}
+
+// The lines of the marked rows of a group of blocks, which begins with this block. The marks of a block that isn't
+// marked aren't taken.
+fn push_group(
+    text: &mut Vec<u8>,
+    books: &Books,
+    desk: &mut Desk,
+    start: u32,
+    marked: u64,
+) -> Result<u64, AllocError>
+    requires own { IsOf books.now desk.old }
+    requires start { start ≤ mark_blocks books.now.layout.rows }
+    ensures own { IsOf books.now desk.new }
+    ensures lines { IfOk result (λ count. AddsStepsBy (WritesBlocks books.now.layout.rows
+        (range_with_len start (min (start + 64) (mark_blocks books.now.layout.rows) - start))
+        text.old.items text.new.items count) desk.old desk.new) }
+    ensures looks { AddsStepsBy AllLooks desk.old desk.new }
+    ensures holds { KeepsHolds desk.old desk.new }
+    ensures endings { KeepsEndings desk.old desk.new }
+{
+    let mut count = 0;
+    if marked == 0 {
+        return Ok(count);
+    }
+    for block in start..end_of_64(start, block_count(books)) {
+        let is_marked = marked >> (block % GROUP_BLOCKS) & 1 == 1;
+        count += push_block_if_marked(text, books, desk, block, is_marked)?;
+    }
+    Ok(count)
+}
+
+// The lines of the marked rows of a block, if it is marked.
+fn push_block_if_marked(
+    text: &mut Vec<u8>,
+    books: &Books,
+    desk: &mut Desk,
+    block: u32,
+    is_marked: bool,
+) -> Result<u64, AllocError>
+    requires own { IsOf books.now desk.old }
+    requires most { books.now.layout.rows ≤ most_rows }
+    requires block { block < mark_blocks books.now.layout.rows }
+    ensures own { IsOf books.now desk.new }
+    ensures lines { IfOk result (λ count. AddsStepsBy (WritesBlocks books.now.layout.rows (block ∷ [])
+        text.old.items text.new.items count) desk.old desk.new) }
+    ensures looks { AddsStepsBy AllLooks desk.old desk.new }
+    ensures holds { KeepsHolds desk.old desk.new }
+    ensures endings { KeepsEndings desk.old desk.new }
+{
+    if !is_marked {
+        return Ok(0);
+    }
+    let marks = books.take_marks(block);
+    push_block(text, books, desk, BLOCK_ROWS * block, marks)
 }
 
 // The lines of the marked rows of a block, which begins with this row.
@@ -87,22 +152,22 @@ fn push_block(
     if marks == 0 {
         return Ok(count);
     }
-    for row in start..end_of_block(start, books.rows()) {
+    for row in start..end_of_64(start, books.rows()) {
         let marked = marks >> (row % BLOCK_ROWS) & 1 == 1;
         count += push_if_marked(text, books, desk, row, marked)?;
     }
     Ok(count)
 }
 
-// Where the block that begins with this row ends.
-fn end_of_block(start: u32, rows: u32) -> u32
-    requires { start ≤ rows }
-    ensures { result ≡ min (start + 64) rows }
+// Where 64 numbers end that begin with this one, of as many.
+fn end_of_64(start: u32, count: u32) -> u32
+    requires { start ≤ count }
+    ensures { result ≡ min (start + 64) count }
 {
-    if rows - start < BLOCK_ROWS {
-        rows
+    if count - start < 64 {
+        count
     } else {
-        start + BLOCK_ROWS
+        start + 64
     }
 }
 
