@@ -71,11 +71,13 @@ impl StreamCounts {
     }
 
     /// So many bytes were received.
+    #[inline(always)]
     pub(crate) fn note_received(&self, count: usize) {
         self.received.add(count as u64);
     }
 
     /// So many bytes of answers were written.
+    #[inline(always)]
     pub(crate) fn note_sent(&self, count: usize) {
         self.sent.add(count as u64);
     }
@@ -91,11 +93,18 @@ impl StreamCounts {
     }
 
     /// An answer of this status has begun to be written, with this body.
+    #[inline(always)]
     pub(crate) fn note_answer(&self, status: u16, body: &[u8]) {
         self.answers.add(number_of_status(status), 1);
         if status >= 400 {
-            self.problems.add(number_of_code(body), 1);
+            self.note_problem(body);
         }
+    }
+
+    // A problem with this body.
+    #[inline(never)]
+    fn note_problem(&self, body: &[u8]) {
+        self.problems.add(number_of_code(body), 1);
     }
 }
 

@@ -122,11 +122,13 @@ impl RouteCounts {
     }
 
     /// A request came.
+    #[inline(always)]
     pub(crate) fn note_arrival(&self, route: RouteName) {
         self.arrived.add(number_of(route), 1);
     }
 
     /// A request was carried out in this time.
+    #[inline(always)]
     pub(crate) fn note_done(&self, route: RouteName, nanoseconds: u64) {
         let number = number_of(route);
         self.spent.add(number, nanoseconds);
