@@ -15,9 +15,10 @@ use std::time::Duration;
 #[derive(Drop)]
 pub struct CountingClock<'c, N> {
     time: N,
-    /// The last reading, since 1970.
-    last: Duration,
+    last: Moment,
     counts: Option<&'c RouteCounts>,
+    /// The last reading, since 1970, where there are counts.
+    since: Duration,
     /// The last request that had a route and has no answer.
     came: Option<RouteName>,
 }
@@ -27,8 +28,9 @@ impl<'c, N: time::Clock> CountingClock<'c, N> {
     pub fn of(time: N, counts: Option<&'c RouteCounts>) -> CountingClock<'c, N> {
         CountingClock {
             time,
-            last: Duration::from_secs(0),
+            last: moment_of(Duration::from_secs(0)),
             counts,
+            since: Duration::from_secs(0),
             came: None,
         }
     }
@@ -40,7 +42,7 @@ impl<'c, N: time::Clock> CountingClock<'c, N> {
             return;
         };
         if let Ok(now) = self.time.since_1970() {
-            counts.note_done(route, nanoseconds_since(self.last, now));
+            counts.note_done(route, nanoseconds_since(self.since, now));
         }
     }
 }
@@ -72,9 +74,12 @@ impl<N: time::Clock + Drop> Clock for CountingClock<'_, N> {
     #[inline(always)]
     fn now(&mut self) -> Moment {
         if let Ok(since) = self.time.since_1970() {
-            self.last = since;
+            self.last = moment_of(since);
+            if self.counts.is_some() {
+                self.since = since;
+            }
         }
-        moment_of(self.last)
+        self.last
     }
 
     #[inline(always)]
