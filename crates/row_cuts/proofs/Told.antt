@@ -1,5 +1,5 @@
 -- What was told before a cut is there when the books open again.
-use Rattle.std.proofs.Common.{◌≡◌, ◌≢◌, ◌⊎◌, inl, inr, ⊎_elim, ℕ, zero, suc, ◌+◌, ◌<◌, ◌≤◌, ◌==◌, Bool, true, false, cond, eq-eqb, ne_eqb, nat_eq, if◌then◌else◌, List, [], ◌∷◌, ◌++◌, filter_map, length, map, Option, Some, None, IfSome, IsSomeAnd, refl, sym, ap, ◌∙◌, subst, arith}
+use Rattle.std.proofs.Common.{◌≡◌, ◌≢◌, ◌⊎◌, inl, inr, ⊎_elim, ℕ, zero, suc, ◌+◌, ◌<◌, ◌≤◌, ◌==◌, Bool, true, false, cond, eq-eqb, ne_eqb, if◌then◌else◌, List, [], ◌∷◌, ◌++◌, filter_map, length, map, Option, Some, None, IfSome, IsSomeAnd, refl, sym, ap, ◌∙◌, subst, arith}
 use Rattle.std.specs.Prelude.{option_and_then}
 use Rattle.std.specs.Option.{option_map_or}
 use Rattle.std.specs.List.{AllByRecursion, cons_option, range_with_len}
@@ -11,7 +11,7 @@ use Rattle.history_model.specs.declared.entry.Entry.{Entry}
 use Rattle.history_model.specs.declared.phase.EndKind.{EndKind}
 use Rattle.history_model.specs.declared.phase.Phase.{Phase}
 use Rattle.history_model.specs.declared.phase.Phase.TheVariants.{Free, Making, Prebooked, Confirmed, Fulfilled, Ending, Ended}
-use Rattle.history_model.specs.Booking.{Booking, Layout, State, booking_at, next_generation, phase_at, present}
+use Rattle.history_model.specs.Booking.{Booking, Layout, State, booking_at, phase_at, present}
 use Rattle.history_model.specs.History.{IsLegal, IsLegalFrom, state_after, state_of}
 use Rattle.history_model.specs.Laws.{IsInRange, IsSound, KeepsSeal, Stays, unmarked}
 use Rattle.history_model.specs.Life.{LeadsTo}
@@ -25,7 +25,7 @@ use Rattle.history_model.proofs.Seen.{legal-rest, state_of-append}
 use Rattle.claim_rule.specs.Openings.{AreRising, KeptBooking, booked, end_in, kept_as, kept_bookings, kept_in, kept_of_row, layout_with, opening_booking, opening_of, placed, stub}
 use Rattle.claim_rule.specs.Walls.{WallView}
 use Rattle.claim_rule.proofs.Moves.{is_sound}
-use Rattle.claim_rule.proofs.OpeningKept.{at_row, kept_at, present_found}
+use Rattle.claim_rule.proofs.OpeningKept.{kept_at, present_found}
 use Rattle.cold_store.specs.Exports.{state_on}
 use Rattle.cold_store.specs.Imports.{OpensAs}
 use Rattle.cold_store.specs.Lines.{SaidBooking}

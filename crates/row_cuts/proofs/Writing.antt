@@ -96,6 +96,10 @@ pub row_result : {E : Type 0} (row : ℕ) (kept : Option KeptBooking) (old new :
 row_result row kept old new (Ok count) a b looks text counts = one_row row kept old new count a b looks text counts
 row_result row kept old new (Err e) a b looks text counts = tt
 
+-- a row that has none
+pub no_line : (row : ℕ) (text : List ℕ) (a b : DeskView) → AddsStepsBy (LooksAt row None) a b → AddsStepsBy (WritesLines (row ∷ []) text text 0) a b
+no_line row text a b looks = one_row row None text text 0 a b looks (sym (append-nil text)) refl
+
 -- rows and then more rows
 
 text_then : (xs ys : List RowLook) → text_of (map kept_line (all_kept (xs ++ ys))) ≡ text_of (map kept_line (all_kept xs)) ++ text_of (map kept_line (all_kept ys))

@@ -1,29 +1,11 @@
 -- What is written of rows.
-use Rattle.std.specs.Prelude.{◌≡◌, ℕ, ◌+◌, ◌-◌, ◌*◌, ◌/◌, ◌%◌, ◌==◌, Bool, if◌then◌else◌, List, [], ◌∷◌, ◌++◌, Option, Some, None, filter, filter_map, get_or, length, map, min, option_to_list}
+use Rattle.std.specs.Prelude.{◌≡◌, ℕ, ◌+◌, ◌-◌, ◌*◌, ◌/◌, ◌%◌, ◌==◌, Bool, List, [], ◌∷◌, ◌++◌, Option, filter, filter_map, get_or, length, map, min, option_to_list}
 use Rattle.std.specs.List.{AllByRecursion, range_with_len}
 use Rattle.std.specs.Int.{bit_at}
 use Rattle.history_model.specs.declared.entry.Step.{Step}
-use Rattle.claim_rule.specs.Openings.{KeptBooking, stub}
+use Rattle.claim_rule.specs.Openings.{KeptBooking}
 use Rattle.cold_store.specs.Lines.{booking_line, said_of, text_of}
-use Rattle.booking_rows.specs.Views.{IsSeen}
-use Rattle.row_cuts.specs.declared.looks.Shown.{Shown}
-use Rattle.row_cuts.specs.declared.looks.Shown.TheVariants.{Nothing, Unmade, Sealed}
-use Rattle.row_cuts.specs.Looks.{IsRowLook, RowLook, kept_looked, kept_seen, looks_steps}
-
--- what is kept of a row of which this was shown
-abbrev pub kept_shown : ℕ → Shown → Option KeptBooking
-kept_shown row Nothing = None
-kept_shown row (Unmade generation) = Some (stub row generation)
-kept_shown row (Sealed generation view) = Some (kept_seen row generation view)
-
--- what is shown of a row whose booking of this generation isn't made yet
-abbrev pub unmade_in : ℕ → Shown
-unmade_in generation = if generation == 0 then Nothing else Unmade generation
-
-abbrev pub IsShown : Shown → Type 0
-IsShown Nothing = Unit {0}
-IsShown (Unmade generation) = Unit {0}
-IsShown (Sealed generation view) = IsSeen view
+use Rattle.row_cuts.specs.Looks.{IsRowLook, RowLook, kept_looked, looks_steps}
 
 -- the line of a kept booking, where there is one, and the count of these lines
 abbrev pub kept_line : KeptBooking → List ℕ
@@ -56,6 +38,13 @@ block_rows = 64
 -- how many numbers have the marks of these rows: one for each block, and one more for the rest
 abbrev pub mark_blocks : ℕ → ℕ
 mark_blocks rows = rows / block_rows + 1
+
+-- how many blocks have their marks in one number, and how many numbers have those of all blocks: as with rows
+abbrev pub group_blocks : ℕ
+group_blocks = block_rows
+
+abbrev pub mark_groups : ℕ → ℕ
+mark_groups rows = mark_blocks rows / group_blocks + 1
 
 -- whether the row is marked in the marks of its block, the first row of which has the lowest bit
 abbrev pub is_set : ℕ → ℕ → Bool

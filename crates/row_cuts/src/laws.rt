@@ -46,10 +46,11 @@ pub fn changed_rows_suffice()
     ensures { ChangedRowsSuffice }
 {}
 
-/// Where all desks were between two calls at the last cut, and what a desk had seen when it answered begins what the cut
-/// has seen, the books that open with the fold go on from there. They begin with just what was kept at the cut. Each
-/// booking that the answer showed sealed is in its row with its retailer, limit, total and items, in the phase that was
-/// shown or in one that follows, and with its end where it had one; or the row serves for a later generation.
+/// Where all desks were between two calls at the last cut, and what a desk had seen when it answered begins what the
+/// cut has seen, the books that open with the fold go on from there. They begin with just what was kept at the cut.
+/// Each booking that the answer showed sealed is in its row, with its retailer, limit, total and items. It is in the
+/// phase that was shown or in one that follows, and has its end where it had one. Or the row serves for a later
+/// generation.
 pub fn told_histories_go_on()
     ensures { ToldHistoriesGoOn }
 {}

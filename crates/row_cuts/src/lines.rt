@@ -1,13 +1,13 @@
 //! The lines of rows.
-ghost use Rattle.std.specs.Prelude.{◌≡◌, ◌+◌, ◌-◌, ◌/◌, ◌<◌, ◌≤◌, ◌∷◌, [], IfOk, cond, filter, min, true};
+ghost use Rattle.std.specs.Prelude.{◌≡◌, ◌+◌, ◌-◌, ◌<◌, ◌≤◌, ◌∷◌, [], IfOk, cond, filter, min, true};
 ghost use Rattle.std.specs.List.{range_with_len};
 ghost use Rattle.history_model.specs.Booking.{most_rows};
 ghost use Rattle.claim_rule.specs.Calls.{AddsStepsBy};
 ghost use Rattle.claim_rule.specs.Desks.{IsOf};
 ghost use Rattle.claim_rule.specs.Out.{AllLooks, IsTidy, KeepsEndings, KeepsHolds};
-ghost use Rattle.row_cuts.specs.Lines.{WritesBlocks, WritesLines, WritesMarked, is_set, mark_blocks};
+ghost use Rattle.row_cuts.specs.Lines.{WritesBlocks, WritesLines, WritesMarked, block_rows, group_blocks, is_set, mark_blocks, mark_groups};
 
-use crate::looks::{look_at, push_shown};
+use crate::looks::push_row;
 use claim_rule::{Books, Desk};
 use std::alloc::AllocError;
 
@@ -25,9 +25,9 @@ fn block_count(books: &Books) -> u32
     books.rows() / BLOCK_ROWS + 1
 }
 
-// How many groups of 64 blocks there are.
+// How many groups of blocks there are.
 fn group_count(books: &Books) -> u32
-    ensures count { result ≡ mark_blocks books.now.layout.rows / 64 + 1 }
+    ensures count { result ≡ mark_groups books.now.layout.rows }
     ensures most { books.now.layout.rows ≤ most_rows }
 {
     block_count(books) / GROUP_BLOCKS + 1
@@ -88,7 +88,7 @@ fn push_group(
     requires start { start ≤ mark_blocks books.now.layout.rows }
     ensures own { IsOf books.now desk.new }
     ensures lines { IfOk result (λ count. AddsStepsBy (WritesBlocks books.now.layout.rows
-        (range_with_len start (min (start + 64) (mark_blocks books.now.layout.rows) - start))
+        (range_with_len start (min (start + group_blocks) (mark_blocks books.now.layout.rows) - start))
         text.old.items text.new.items count) desk.old desk.new) }
     ensures looks { AddsStepsBy AllLooks desk.old desk.new }
     ensures holds { KeepsHolds desk.old desk.new }
@@ -98,7 +98,7 @@ fn push_group(
     if marked == 0 {
         return Ok(count);
     }
-    for block in start..end_of_64(start, block_count(books)) {
+    for block in start..end_of_block(start, block_count(books)) {
         let is_marked = marked >> (block % GROUP_BLOCKS) & 1 == 1;
         count += push_block_if_marked(text, books, desk, block, is_marked)?;
     }
@@ -142,7 +142,7 @@ fn push_block(
     requires start { start ≤ books.now.layout.rows }
     ensures own { IsOf books.now desk.new }
     ensures lines { IfOk result (λ count. AddsStepsBy (WritesLines
-        (filter (is_set marks) (range_with_len start (min (start + 64) books.now.layout.rows - start)))
+        (filter (is_set marks) (range_with_len start (min (start + block_rows) books.now.layout.rows - start)))
         text.old.items text.new.items count) desk.old desk.new) }
     ensures looks { AddsStepsBy AllLooks desk.old desk.new }
     ensures holds { KeepsHolds desk.old desk.new }
@@ -152,22 +152,22 @@ fn push_block(
     if marks == 0 {
         return Ok(count);
     }
-    for row in start..end_of_64(start, books.rows()) {
+    for row in start..end_of_block(start, books.rows()) {
         let marked = marks >> (row % BLOCK_ROWS) & 1 == 1;
         count += push_if_marked(text, books, desk, row, marked)?;
     }
     Ok(count)
 }
 
-// Where 64 numbers end that begin with this one, of as many.
-fn end_of_64(start: u32, count: u32) -> u32
+// Where the block that begins with this row ends, or the group that begins with this block. Both have as many.
+fn end_of_block(start: u32, count: u32) -> u32
     requires { start ≤ count }
-    ensures { result ≡ min (start + 64) count }
+    ensures { result ≡ min (start + block_rows) count }
 {
-    if count - start < 64 {
+    if count - start < BLOCK_ROWS {
         count
     } else {
-        start + 64
+        start + BLOCK_ROWS
     }
 }
 
@@ -192,19 +192,4 @@ fn push_if_marked(
         return Ok(0);
     }
     push_row(text, books, desk, row)
-}
-
-// The line of a row, if it has one, and the count of these lines.
-fn push_row(text: &mut Vec<u8>, books: &Books, desk: &mut Desk, row: u32) -> Result<u64, AllocError>
-    requires own { IsOf books.now desk.old }
-    requires row { row < books.now.layout.rows }
-    ensures own { IsOf books.now desk.new }
-    ensures lines { IfOk result (λ count. AddsStepsBy (WritesLines (row ∷ []) text.old.items text.new.items count)
-        desk.old desk.new) }
-    ensures looks { AddsStepsBy AllLooks desk.old desk.new }
-    ensures holds { KeepsHolds desk.old desk.new }
-    ensures endings { KeepsEndings desk.old desk.new }
-{
-    let shown = look_at(books, desk, row);
-    push_shown(text, row, shown)
 }

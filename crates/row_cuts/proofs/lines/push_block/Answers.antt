@@ -36,8 +36,8 @@ overflow_add-count c =
     let one = few_one _ l.row _ _ c.in_ok-count.field-0 l.desk c.push_if_marked.new.desk c.in_ok-count.ensures.lines in
     let most = c.rows.ensures.most in
     let below = c.loop-row-test.true in
-    let end = c.end_of_64-row-end.ensures in
-    let sum : l.count + c.in_ok-count.field-0 < 2 ^ 64 = few_sum_block c.args.start l.count c.in_ok-count.field-0 l.row c.end_of_64-row-end.result c.rows.result before one below end most in
+    let end = c.end_of_block-row-end.ensures in
+    let sum : l.count + c.in_ok-count.field-0 < 2 ^ 64 = few_sum_block c.args.start l.count c.in_ok-count.field-0 l.row c.end_of_block-row-end.result c.rows.result before one below end most in
     search
 
 pub loop-row-preserved : goal.loop-row-preserved

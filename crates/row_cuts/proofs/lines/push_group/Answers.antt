@@ -34,7 +34,7 @@ overflow_add-count c =
     let before = few_of_blocks rows c.args.start (l.block - c.args.start) _ _ l.count c.args.desk.now l.desk l.invariant.lines in
     let one = few_of_block rows l.block _ _ c.in_ok-count.field-0 l.desk c.push_block_if_marked.new.desk c.in_ok-count.ensures.lines in
     let sum : l.count + c.in_ok-count.field-0 < 2 ^ 64 =
-    few_sum_blocks c.args.start l.count c.in_ok-count.field-0 l.block c.end_of_64-block-end.result c.block_count.result rows before one c.loop-block-test.true c.end_of_64-block-end.ensures
+    few_sum_blocks c.args.start l.count c.in_ok-count.field-0 l.block c.end_of_block-block-end.result c.block_count.result rows before one c.loop-block-test.true c.end_of_block-block-end.ensures
     c.block_count.ensures.count c.block_count.ensures.most in
     search
 
