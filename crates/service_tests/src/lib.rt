@@ -16,7 +16,7 @@
 //!
 //! And tests of the wire below it, of what no clause says:
 //! - `outside`: what `Unsteady` devices answer behind the adapters, interrupts among them, and that the adapters use
-//!   the system's own streams, files and clock.
+//!   the system's own streams, files and clock. And a journal of memory, which no command has.
 //! - `requests`: that the rules on streams are what RFC 9112 means, by streams with the requests that they have and
 //!   what comes after them, at their limits and one past them, in pieces of every size. Also that a read asks for no
 //!   more than what tells (a clause says so of the bytes held, none of how they come). A table is a text, since a table
