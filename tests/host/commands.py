@@ -324,6 +324,10 @@ def journals(runs: Runs):
     runs.check("a link to no file", runs.run("serve k1.json --port 8080 --journal link.journal"), (3, b"", "rail_host: journal failed\n"))
     runs.check("what is at the link", (runs.holds("link.journal"), runs.holds("gone.journal")), (True, False))
     runs.check("recover without a journal", runs.run("recover k1.json nothere.journal"), (1, b"", "rail_host: journal missing\n"))
+    runs.check("recover a folder", runs.run("recover k1.json ."), (3, b"", READ_FAULT))
+    runs.check("recover a catalogue", runs.run("recover sold.journal k1.json"), (1, b"", "rail_host: catalogue fault 1\n"))
+    with open("/dev/full", "wb") as full:
+        runs.check("recover: a full device", runs.run("recover k1.json sold.journal", stdout=full), (4, b"", WRITE_FAULT))
 
 
 def notes_that_fail():

@@ -18,7 +18,7 @@ from definitions import CRATES, ROOT
 BUDGET = ROOT / "tests" / "house" / "words.json"
 MOST_WORDS = 40
 THINGS = r"(?:a|an|the|its|their|one|each|such|any|both|these|those|our|your|his|her|\w+'s)"
-HIDING = "proxy|proxies|nginx|traits?|adapters?|locks?|listeners?|firewall|balancer|gateway|TLS|door"
+HIDING = "proxy|proxies|nginx|traits?|adapters?|locks?|listeners?|firewall|balancer|gateway|TLS|door|x alone"
 
 # What not to say, as a pattern of the text in one line, and what to say. Each pattern passes over the uses that are plain English.
 WORDS = [

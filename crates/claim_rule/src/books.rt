@@ -138,8 +138,8 @@ impl Books {
         self.rows
     }
 
-    /// Clears the marks of 64 blocks of rows, and answers which were set: block 64 * `group` has the lowest bit. A block
-    /// is marked by the first step that marks one of its rows.
+    /// Clears the marks of 64 blocks of rows, and answers which were set: block 64 * `group` has the lowest bit. A
+    /// block is marked by the first step that marks one of its rows.
     pub fn take_marked_blocks(&self, group: u32) -> u64 {
         self.marks.take_blocks(group)
     }

@@ -8,8 +8,8 @@
 //! A row serves one booking after another, each with a generation of its own. Once its booking has ended, a row may be
 //! started again with the next generation; it is never free again.
 //!
-//! Each row has a mark, which the steps set that change its standing word, and `take_marks` clears; and each 64 rows have
-//! one of them all, which `take_marked_blocks` clears: so who writes down what changed need not look at all rows.
+//! Each row has a mark, which the steps set that change its standing word, and `take_marks` clears. Each 64 rows have
+//! one of them all, which `take_marked_blocks` clears. So who writes down what changed need not look at all rows.
 //!
 //! No call takes memory but `start_books` and `adopt_books`, and none waits.
 //!

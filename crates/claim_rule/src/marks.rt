@@ -5,8 +5,8 @@ use std::sync::atomic::{AtomicU64, Ordering};
 /// How many rows have their marks in one word.
 pub(crate) const BLOCK_ROWS: u32 = 64;
 
-/// A mark for each row, and one for each block of rows in which a row is marked. Marks are hints for whoever writes down
-/// what changed: no contract says anything of them.
+/// A mark for each row, and one for each block of rows in which a row is marked. Marks are hints for whoever writes
+/// down what changed: no contract says anything of them.
 #[derive(Drop)]
 pub(crate) struct Marks {
     words: Vec<AtomicU64>,

@@ -1,6 +1,6 @@
-//! The files of a command, and how it ends. The catalogue is loaded from a shelf, with the export or the journal that its
-//! books may open with; or it is said why there are no books. Each end has its status and its note, in one table for
-//! all commands, and notes are written to a sink that may fail.
+//! The files of a command, and how it ends. The catalogue is loaded from a shelf, with the export or the journal that
+//! its books may open with; or it is said why there are no books. Each end has its status and its note, in one table
+//! for all commands, and notes are written to a sink that may fail.
 //!
 //! It is a crate of its own, since it alone says what a command's files may be: their limits, what is read of them,
 //! each fault with the count of the shelf that shows it, and the fault's note. Only here a status meets its note.

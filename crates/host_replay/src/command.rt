@@ -22,8 +22,7 @@ ghost use Rattle.host_replay.specs.declared.end.ReplayEnd.TheVariants.{Served};
 
 use crate::end::{ReplayEnd, command_end};
 use claim_rule::{Books, Desk};
-use host_catalogue::load_books;
-use host_catalogue::{CommandEnd, end_command};
+use host_catalogue::{CommandEnd, end_command, load_books};
 use host_words::{ReplayWords, WordsFault, read_replay};
 use rail_catalogue::Catalogue;
 use rail_io::{ScriptClock, Shelf, Sink, Source};

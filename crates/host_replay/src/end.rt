@@ -2,8 +2,7 @@
 ghost use Rattle.std.specs.Prelude.{◌≡◌};
 ghost use Rattle.host_replay.specs.Input.{end_of_replay};
 
-use host_catalogue::LoadFault;
-use host_catalogue::CommandEnd;
+use host_catalogue::{CommandEnd, LoadFault};
 use session_loop::ConnEnd;
 
 /// How a replay or an export ended.

@@ -14,8 +14,7 @@ ghost use Rattle.host_replay.specs.declared.recover_end.RecoverEnd.{RecoverEnd};
 ghost use Rattle.host_replay.specs.declared.recover_end.RecoverEnd.TheVariants as end;
 
 use crate::recover_end::{RecoverEnd, command_end};
-use host_catalogue::recover_export;
-use host_catalogue::{CommandEnd, end_command};
+use host_catalogue::{CommandEnd, end_command, recover_export};
 use host_words::{RecoverWords, read_recover};
 use rail_io::{Shelf, Sink};
 use session_loop::write_all;

@@ -2,8 +2,7 @@
 ghost use Rattle.std.specs.Prelude.{◌≡◌};
 ghost use Rattle.host_replay.specs.Recover.{end_of_recover};
 
-use host_catalogue::RecoverFault;
-use host_catalogue::CommandEnd;
+use host_catalogue::{CommandEnd, RecoverFault};
 
 /// How a recovery ended.
 #[derive(Drop)]

@@ -18,8 +18,7 @@ ghost use Rattle.host_replay.specs.declared.settle_end.SettleEnd.TheVariants as 
 
 use crate::settle_end::{SettleEnd, command_end};
 use claim_rule::{Books, Desk};
-use host_catalogue::load_books;
-use host_catalogue::{CommandEnd, end_command};
+use host_catalogue::{CommandEnd, end_command, load_books};
 use host_words::{SettleWords, read_settle};
 use rail_io::{Shelf, Sink};
 use session_loop::write_all;

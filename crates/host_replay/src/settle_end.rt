@@ -2,8 +2,7 @@
 ghost use Rattle.std.specs.Prelude.{◌≡◌};
 ghost use Rattle.host_replay.specs.Settle.{end_of_settle};
 
-use host_catalogue::LoadFault;
-use host_catalogue::CommandEnd;
+use host_catalogue::{CommandEnd, LoadFault};
 
 /// How a settlement ended.
 #[derive(Drop)]

@@ -4,8 +4,7 @@ ghost use Rattle.host_serve.specs.Ends.{end_of_kept, end_of_serve, lost_or, outc
 ghost use Rattle.host_serve.specs.declared.end.BooksOutcome.TheVariants.{AcceptFailed, Served};
 
 use claim_rule::Wall;
-use host_catalogue::{File, JournalRefusal, LoadFault};
-use host_catalogue::CommandEnd;
+use host_catalogue::{CommandEnd, File, JournalRefusal, LoadFault};
 
 /// Why serving ended.
 #[derive(Drop)]

@@ -1,5 +1,5 @@
 //! Tests of the crates of the commands, by their public calls. What a run of the built program shows is tested by
-//! `tests/host` instead, and what `serve` does in memory by `serve_tests`. A crate of its own, so that those crates are
+//! `tests/host` and `tests/journal` instead, and what `serve` does in memory by `serve_tests`. A crate of its own, so that those crates are
 //! proved once, without tests.
 //!
 //! - `crews`: members run at the same time (the first one's turn waits for the second's); each takes its turns up to
@@ -8,8 +8,6 @@
 //!   note; a failing note changes nothing. Each happy path of `run_tiny` and `run_replay`.
 //! - `held`: bytes that an outbox holds back go out in order when they are sent, and not before unless it is full; what
 //!   a sink failed to take stays held.
-//! - `recoveries`: `run_recover` of a journal with a torn end, of each kind that is refused, and over devices that
-//!   fail.
 //! - `port`: a stream that is made ready sends without delay and has its time limits.
 #![tactic(auto)]
 
@@ -21,5 +19,3 @@ mod devices;
 mod held;
 #[cfg(test)]
 mod port;
-#[cfg(test)]
-mod recoveries;

@@ -2,3 +2,6 @@ pub mod Counting
 pub mod Labels
 pub mod Pages
 pub mod Showing
+pub mod Texts
+pub mod Routes
+pub mod Metrics

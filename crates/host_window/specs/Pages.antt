@@ -3,8 +3,8 @@ use Rattle.std.specs.Prelude.{◌≡◌, ◌⊎◌, ℕ, Bool, true, List, ◌++
 use Rattle.http_wire.specs.Answers.{close_of}
 use Rattle.http_wire.specs.Requests.{RequestText}
 use Rattle.http_wire.specs.declared.request.WireFault.{WireFault}
-use Rattle.window_texts.specs.Metrics.{metrics_text}
-use Rattle.window_texts.specs.declared.counts.Counts.{Counts}
+use Rattle.host_window.specs.Metrics.{metrics_text}
+use Rattle.host_window.specs.declared.counts.Counts.{Counts}
 use Rattle.host_window.specs.declared.counters.Health.{Health}
 use Rattle.host_window.specs.declared.counters.Health.TheVariants as health
 use Rattle.host_window.specs.declared.pages.Page.{Page}

@@ -1,5 +1,5 @@
-//! A clock whose commands are counted and timed.
-ghost use Rattle.std.specs.Prelude.{◌≡◌};
+//! The system's clock, whose commands are counted and timed.
+ghost use Rattle.std.specs.Prelude.{◌≡◌, None};
 
 use crate::routes::RouteCounts;
 use rail_io::{Clock, Reach, RouteName};
@@ -7,93 +7,99 @@ use rail_time::Moment;
 use std::time;
 use std::time::Duration;
 
-/// Reads as its clock does. Where there are counts, it counts requests by their route, and how long it takes from a
-/// request's route to its answer, by a clock that doesn't go back.
+/// The system's clock, in whole seconds and brought into the range of moments. It tells no reading. Where there are
+/// counts, it counts requests by their route, and how long it takes from a request's moment to its answer.
+///
+/// One reading gives a request its moment and begins its time. So where the system's clock is set meanwhile, that
+/// request's time is wrong, and none where it was set back.
 #[derive(Drop)]
-pub struct CountingClock<'c, C, N> {
-    clock: C,
-    counts: Option<&'c RouteCounts>,
+pub struct CountingClock<'c, N> {
     time: N,
-    /// The last request that had a route and has no answer, and when it came, in nanoseconds.
-    came: Option<(RouteName, u64)>,
+    last: Moment,
+    counts: Option<&'c RouteCounts>,
+    /// The last reading, since 1970, where there are counts.
+    since: Duration,
+    /// The last request that had a route and has no answer.
+    came: Option<RouteName>,
 }
 
-impl<'c, C, N: time::Clock> CountingClock<'c, C, N> {
-    /// Before this clock.
-    pub fn of(clock: C, counts: Option<&'c RouteCounts>, time: N) -> CountingClock<'c, C, N>
-        ensures { result.clock ≡ clock }
-    {
+impl<'c, N: time::Clock> CountingClock<'c, N> {
+    /// A clock by this one, which hasn't been read.
+    pub fn of(time: N, counts: Option<&'c RouteCounts>) -> CountingClock<'c, N> {
         CountingClock {
-            clock,
-            counts,
             time,
+            last: moment_of(Duration::from_secs(0)),
+            counts,
+            since: Duration::from_secs(0),
             came: None,
         }
     }
 
-    // A request came.
+    // The last request has its answer.
     #[inline(always)]
-    fn note_arrival(&mut self, counts: &RouteCounts, route: RouteName)
-        ensures { self.new.clock ≡ self.old.clock }
-    {
-        counts.note_arrival(route);
-        self.came = match self.time.monotonic() {
-            Ok(now) => Some((route, nanoseconds_in(now))),
-            Err(_) => None,
-        };
-    }
-
-    // The last one has its answer.
-    #[inline(always)]
-    fn note_end(&mut self, counts: &RouteCounts)
-        ensures { self.new.clock ≡ self.old.clock }
-    {
-        let Some((route, came)) = self.came.take() else {
+    fn note_end(&mut self, counts: &RouteCounts) {
+        let Some(route) = self.came.take() else {
             return;
         };
-        if let Ok(now) = self.time.monotonic() {
-            counts.note_done(route, nanoseconds_in(now).saturating_sub(came));
+        if let Ok(now) = self.time.since_1970() {
+            counts.note_done(route, nanoseconds_since(self.since, now));
         }
     }
 }
 
-// The nanoseconds of a time. They begin anew at 0 after 584 years.
-fn nanoseconds_in(time: Duration) -> u64 {
-    let seconds = time.as_secs().wrapping_mul(1_000_000_000);
-    seconds.wrapping_add(u64::from(time.subsec_nanos()))
+// The nanoseconds from a reading to a later one, or 0. They begin anew at 0 after 584 years.
+#[inline(always)]
+fn nanoseconds_since(before: Duration, now: Duration) -> u64 {
+    let seconds = now.as_secs().wrapping_sub(before.as_secs());
+    let further = u64::from(now.subsec_nanos()).wrapping_sub(u64::from(before.subsec_nanos()));
+    let nanoseconds = seconds.wrapping_mul(1_000_000_000).wrapping_add(further);
+    if nanoseconds > u64::MAX / 2 {
+        0
+    } else {
+        nanoseconds
+    }
 }
 
-impl<C: Clock, N: time::Clock> Clock for CountingClock<'_, C, N> {
-    ghost told = { λ c. C.told c.clock };
+// The moment of a reading since 1970, or the first or the last one.
+#[inline(always)]
+fn moment_of(since: Duration) -> Moment {
+    let seconds = u32::try_from(since.as_secs()).unwrap_or(u32::MAX);
+    Moment::of(0).unwrap().later(seconds)
+}
 
-    ghost begun = { λ c reach. C.begun c.clock reach };
+impl<N: time::Clock + Drop> Clock for CountingClock<'_, N> {
+    ghost told = { λ _. None };
 
-    ghost ends = { λ before cut after. C.ends before.clock cut after.clock };
-
+    // Where the system's clock can't be read, the last reading stands in.
     #[inline(always)]
     fn now(&mut self) -> Moment {
-        self.clock.now()
+        if let Ok(since) = self.time.since_1970() {
+            self.last = moment_of(since);
+            if self.counts.is_some() {
+                self.since = since;
+            }
+        }
+        self.last
     }
 
     #[inline(always)]
     fn arrive(&mut self, route: RouteName) {
-        self.clock.arrive(route);
         if let Some(counts) = self.counts {
-            self.note_arrival(counts, route);
+            counts.note_arrival(route);
+            self.came = Some(route);
         }
     }
 
     #[inline(always)]
     fn begin(&mut self, reach: Reach) {
-        self.clock.begin(reach);
+        let _ = reach;
     }
 
     #[inline(always)]
     fn end(&mut self) -> u64 {
-        let cut = self.clock.end();
         if let Some(counts) = self.counts {
             self.note_end(counts);
         }
-        cut
+        0
     }
 }

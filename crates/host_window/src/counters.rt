@@ -1,10 +1,11 @@
 //! What is counted of a host while it runs.
+use crate::counts::Counts;
+use crate::family::Sample;
 use crate::labels::{CAUSES, CODES, Cause, STATUSES, number_of_code, number_of_status};
 use crate::routes::{RouteCounts, buckets_of, requests_of, times_of};
 use crate::tallies::{Tallies, Tally};
 use std::alloc::{AllocError, Global};
 use std::sync::atomic::{AtomicU64, Ordering};
-use window_texts::{Counts, Sample};
 
 /// How many sets of counts connections have, which take them in turn: as many as there may be workers, so that two of
 /// them seldom raise the same count at once.
@@ -70,11 +71,13 @@ impl StreamCounts {
     }
 
     /// So many bytes were received.
+    #[inline(always)]
     pub(crate) fn note_received(&self, count: usize) {
         self.received.add(count as u64);
     }
 
     /// So many bytes of answers were written.
+    #[inline(always)]
     pub(crate) fn note_sent(&self, count: usize) {
         self.sent.add(count as u64);
     }
@@ -90,11 +93,18 @@ impl StreamCounts {
     }
 
     /// An answer of this status has begun to be written, with this body.
+    #[inline(always)]
     pub(crate) fn note_answer(&self, status: u16, body: &[u8]) {
         self.answers.add(number_of_status(status), 1);
         if status >= 400 {
-            self.problems.add(number_of_code(body), 1);
+            self.note_problem(body);
         }
+    }
+
+    // A problem with this body.
+    #[inline(never)]
+    fn note_problem(&self, body: &[u8]) {
+        self.problems.add(number_of_code(body), 1);
     }
 }
 

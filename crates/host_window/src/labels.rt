@@ -81,6 +81,7 @@ impl Cause {
 }
 
 /// The number of a status's label.
+#[inline(always)]
 pub(crate) fn number_of_status(status: u16) -> usize
     ensures { result ≡ status_number status }
 {

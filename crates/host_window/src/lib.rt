@@ -1,15 +1,31 @@
-//! The operator's window.
+//! The operator's window: a port that says whether the host is well, and what it has done.
+//!
+//! The devices here stand before those of the host, and hand on just what these answer: `CountingSource` and
+//! `CountingSink` count bytes and answers, `CountingTicker` sweeps, and `CountingJournal` what is kept. `CountingClock`
+//! is the system's clock, and counts requests and times. They raise the numbers of `Counters`, which all threads share
+//! and which are added up where they are asked for.
+//!
+//! `show_all` serves those who look, one after the other, by `Pages`: each request is answered once, in order, by its
+//! method and its path (`show_pages`). `metrics_page` writes the counts for Prometheus, in its text format of version
+//! 0.0.4. Its contract says every byte: `specs/Texts` has the form of a family of numbers, `specs/Metrics` the
+//! families, and `specs/Routes` those of routes.
+//!
+//! The crate knows no booking and no host: it takes nothing but numbers.
 #![tactic(auto)]
 
 mod callers;
 mod clock;
 mod counters;
+mod counts;
 mod crossing;
+mod family;
 mod heads;
 mod journal;
 mod labels;
+mod metrics;
 mod pages;
 mod reply;
+mod route_texts;
 mod routes;
 mod sink;
 mod source;

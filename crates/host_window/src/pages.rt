@@ -5,12 +5,12 @@ ghost use Rattle.host_window.specs.Pages.{IsAsked, Shows};
 ghost use Rattle.host_window.specs.declared.pages.Page.TheVariants.{Metrics};
 
 use crate::counters::Counters;
+use crate::metrics::metrics_page;
 use crate::reply::{answer_of, page_answer};
 use crate::words::Word;
 use http_wire::{Answer, Intake, Request, WireFault};
 use session_loop::Responder;
 use std::alloc::Global;
-use window_texts::metrics_page;
 
 /// What a request asks for.
 #[derive(Clone, Copy, PartialEq, Eq)]

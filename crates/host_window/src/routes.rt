@@ -1,10 +1,11 @@
 //! What is counted of requests by their route.
 ghost use Rattle.std.specs.Prelude.{◌<◌};
 
+use crate::family::Sample;
+use crate::route_texts::{Bucket, RouteTime};
 use crate::tallies::Tallies;
 use rail_io::RouteName;
 use std::alloc::{AllocError, Global};
-use window_texts::{Bucket, RouteTime, Sample};
 
 /// The names of routes, in their order.
 const ROUTES: [&[u8]; 13] = [
@@ -121,11 +122,13 @@ impl RouteCounts {
     }
 
     /// A request came.
+    #[inline(always)]
     pub(crate) fn note_arrival(&self, route: RouteName) {
         self.arrived.add(number_of(route), 1);
     }
 
     /// A request was carried out in this time.
+    #[inline(always)]
     pub(crate) fn note_done(&self, route: RouteName, nanoseconds: u64) {
         let number = number_of(route);
         self.spent.add(number, nanoseconds);

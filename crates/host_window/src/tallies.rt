@@ -1,7 +1,7 @@
 //! Counts that all threads may raise.
+use crate::family::Sample;
 use std::alloc::{AllocError, Global};
 use std::sync::atomic::{AtomicU64, Ordering};
-use window_texts::Sample;
 
 /// A count that all threads may raise.
 #[derive(Drop)]
@@ -18,6 +18,7 @@ impl Tally {
     }
 
     /// So many more. It begins anew at 0 after the last number of 64 bits.
+    #[inline(always)]
     pub(crate) fn add(&self, more: u64) {
         self.count.fetch_add(more, Ordering::SeqCst);
     }
@@ -45,6 +46,7 @@ impl Tallies {
     }
 
     /// So many more with the label of this number, where there is one.
+    #[inline(always)]
     pub(crate) fn add(&self, label: usize, more: u64) {
         if let Some(count) = self.counts.get(label) {
             count.add(more);

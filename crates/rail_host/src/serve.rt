@@ -11,7 +11,7 @@ use crate::devices::{Devices, ForServe};
 use host_catalogue::{CommandEnd, end_command};
 use host_serve::{CLOCKS, Devices as ServeDevices, ServeEnd, serve_kept};
 use host_window::{Counters, CountingClock};
-use rail_io::{Bell, Journal, Shelf, Sink, Source, SystemClock, Ticker};
+use rail_io::{Bell, Journal, Shelf, Sink, Source, Ticker};
 use rail_service::Listener;
 use std::alloc::{AllocError, Global};
 use std::sync::Wait;
@@ -19,7 +19,7 @@ use std::thread::Threads;
 use std::time;
 
 /// The clock by which a member serves: the system's, whose commands are counted.
-type ServeClock<'c, C> = CountingClock<'c, SystemClock<C>, C>;
+type ServeClock<'c, C> = CountingClock<'c, C>;
 
 /// Clocks that read this one, as many as serving takes. Their commands are counted, where there are counters.
 fn system_clocks<'c, C: time::Clock + Copy + Drop>(
@@ -35,7 +35,7 @@ fn system_clocks<'c, C: time::Clock + Copy + Drop>(
             Some(counters) => counters.route_counts(usize::from(number)),
             None => None,
         };
-        clocks.push(CountingClock::of(SystemClock::new(clock), counts, clock))?;
+        clocks.push(CountingClock::of(clock, counts))?;
     }
     Ok(clocks)
 }

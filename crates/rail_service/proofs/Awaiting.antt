@@ -1,5 +1,5 @@
 -- What a request asks for, and which cut its answer waits for.
-use Rattle.std.proofs.Common.{◌≡◌, ℕ, Result, Ok, Err, ap, subst, sym, ◌∙◌}
+use Rattle.std.proofs.Common.{◌≡◌, ℕ, Result, Ok, Err, refl, ap, subst, sym, ◌∙◌}
 use Rattle.history_model.specs.History.{IsLegal}
 use Rattle.claim_rule.specs.Rule.{DeskView}
 use Rattle.claim_rule.specs.Calls.{AddsStepsBy}
@@ -11,20 +11,25 @@ use Rattle.rail_catalogue.specs.Contents.{CatalogueView}
 use Rattle.rail_ids.specs.declared.RetailerNo.{RetailerNo}
 use Rattle.osdm_texts.specs.declared.problem.Problem.{Problem}
 use Rattle.osdm_texts.specs.Answers.{Told}
-use Rattle.osdm_json.specs.declared.route.Route.{Route}
 use Rattle.osdm_json.specs.declared.command.Command.{Command}
 use Rattle.service_rules.specs.Checks.{ordered}
 use Rattle.rail_service.specs.Commands.{Says}
 use Rattle.rail_service.specs.Reaching.{reach_of}
 use Rattle.rail_service.specs.Moments.{IsGivenCut}
-use Rattle.rail_service.specs.Serving.{HasFound, AsksOn, AsksAdmitted}
+use Rattle.rail_service.specs.Serving.{AsksSomewhere, AsksAdmitted}
 use Rattle.rail_service.proofs.Looking.{looks_alone}
 
--- asked at the request's own route
-pub asked_on : (cat : CatalogueView) (request : RequestText) (found : Result Route Problem) (admitted : Result RetailerNo Problem) (asked : Result (RetailerNo × Command) Problem)
-    → HasFound request found → AsksOn cat request found admitted asked → AsksAdmitted cat request admitted asked
-asked_on cat request found (Ok retailer) asked has is = (found, has, is)
-asked_on cat request found (Err p) asked has is = is
+-- what a retailer asks for, by what its request asks for
+abbrev pub by_retailer : RetailerNo → Result Command Problem → Result (RetailerNo × Command) Problem
+by_retailer retailer (Ok command) = Ok (retailer, command)
+by_retailer retailer (Err p) = Err p
+
+-- asked by a retailer who may ask, at the request's own route
+pub asked_by_retailer : (cat : CatalogueView) (request : RequestText) (retailer : RetailerNo) (asked : Result Command Problem)
+    → AsksSomewhere cat request asked → AsksAdmitted cat request (Ok retailer) (by_retailer retailer asked)
+asked_by_retailer cat request retailer asked (Err p, has, is) = (Err p, has, ap (by_retailer retailer) is)
+asked_by_retailer cat request retailer (Ok command) (Ok r, has, is) = (Ok r, has, (refl, is))
+asked_by_retailer cat request retailer (Err p) (Ok r, has, is) = (Ok r, has, is)
 
 -- a command that isn't said to change bookings looks alone, by what was said of it
 pub said_looks : (cat : CatalogueView) (retailer now : ℕ) (command : Command) (reach : Reach) (old new : DeskView) (said : Told)

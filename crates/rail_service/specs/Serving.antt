@@ -62,11 +62,15 @@ AsksAdmitted cat request (Ok retailer) asked =
 abbrev pub HasFound : RequestText → Result Route Problem → Type 0
 HasFound request found = FindsRoute request.method request.path found
 
--- the same, where this is the request's route, or why it has none
-abbrev pub AsksOn : CatalogueView → RequestText → Result Route Problem → Result RetailerNo Problem
-    → Result (RetailerNo × Command) Problem → Type 0
-AsksOn cat request found (Err p) asked = asked ≡ Err p
-AsksOn cat request found (Ok retailer) asked = AsksAt cat retailer request.body found asked
+-- what a request asks for at its route, where its retailer may ask, or why it asks for none
+abbrev pub AsksOn : CatalogueView → RequestText → Result Route Problem → Result Command Problem → Type 0
+AsksOn cat request (Ok r) asked = ReadsAs cat r request.body asked
+AsksOn cat request (Err p) asked = asked ≡ Err p
+
+-- the same, whichever route it has
+abbrev pub AsksSomewhere : CatalogueView → RequestText → Result Command Problem → Type 0
+AsksSomewhere cat request asked =
+    (found : Result Route Problem) × HasFound request found × AsksOn cat request found asked
 
 -- What a request asks for, on a connection with this first retailer so far: a retailer's command, or why it asks for
 -- none, by its key, by its route and last by its body.

@@ -4,8 +4,9 @@ ghost use Rattle.http_wire.specs.Pieces.{request_text, ArePiecesWithin};
 ghost use Rattle.osdm_json.specs.Readable.{IsReadable};
 ghost use Rattle.rail_service.specs.Paths.{all_rows};
 ghost use Rattle.rail_service.specs.Serving.{retailer_of as retailer_in, first_after as first_then};
-ghost use Rattle.rail_service.specs.Serving.{admitted as admitted_of, ReadsAs, HasFound, AsksOn};
+ghost use Rattle.rail_service.specs.Serving.{admitted as admitted_of, ReadsAs, HasFound, AsksSomewhere};
 
+use crate::reach::name_of;
 use crate::resource::Resource;
 use crate::routing::find_route;
 use http_wire::{Intake, Request};
@@ -13,6 +14,7 @@ use matchit::Router;
 use osdm_json::{BodyRoom, Command, Problem, Route, read_command_in};
 use rail_catalogue::Catalogue;
 use rail_ids::RetailerNo;
+use rail_io::Clock;
 
 /// The retailer of the request's key, if the catalogue has it.
 pub fn retailer_of(cat: &Catalogue, intake: &Intake, request: &Request) -> Option<RetailerNo>
@@ -60,9 +62,9 @@ fn read(
     }
 }
 
-/// The route of a request, or why it has none. No memory is taken. Inlined, since a route is costly to hand on.
+/// The route of a request, or why it has none. No memory is taken.
 #[inline(always)]
-pub fn route_of<'i>(
+fn route_of<'i>(
     router: &Router<Resource>,
     intake: &'i Intake,
     request: &Request,
@@ -78,27 +80,43 @@ pub fn route_of<'i>(
     )
 }
 
-/// What a request asks for that has this route, where its retailer may ask: a retailer's command, or why it asks for
-/// none. No memory is taken before a body is read.
-pub fn asked(
+/// What a request asks for, where its retailer may ask: a command, or why it asks for none. The clock is told of its
+/// route first. No memory is taken before a body is read.
+// It stands apart, so that room for a route is cleared only here.
+#[inline(never)]
+pub fn asked<C: Clock>(
+    clock: &mut C,
     room: &mut BodyRoom,
     cat: &Catalogue,
-    admitted: Result<RetailerNo, Problem>,
-    found: &Result<Route<'_>, Problem>,
+    router: &Router<Resource>,
     intake: &Intake,
     request: &Request,
-) -> Result<(RetailerNo, Command), Problem>
+) -> Result<Command, Problem>
+    requires rows { router.now ≡ all_rows }
     requires given { ArePiecesWithin (length intake.now.taken) request.now }
-    ensures asks { AsksOn cat.now (request_text intake.now.taken request.now) found.now admitted result }
-    ensures readable { IfOk result (λ a. IsReadable cat.now a.1) }
+    ensures same { C.told clock.new ≡ C.told clock.old }
+    ensures asks { AsksSomewhere cat.now (request_text intake.now.taken request.now) result }
+    ensures readable { IfOk result (λ c. IsReadable cat.now c) }
 {
-    let retailer = admitted?;
-    let route = match found {
-        Ok(route) => *route,
-        Err(problem) => return Err(*problem),
-    };
-    match read(room, cat, route, intake.part(request.body)) {
-        Ok(command) => Ok((retailer, command)),
-        Err(problem) => Err(problem),
+    let route = route_of(router, intake, request)?;
+    clock.arrive(name_of(route));
+    read(room, cat, route, intake.part(request.body))
+}
+
+/// Tells the clock of the route of a request that is refused for its key, where it has one.
+#[cold]
+#[inline(never)]
+pub fn hear_refused<C: Clock>(
+    clock: &mut C,
+    router: &Router<Resource>,
+    intake: &Intake,
+    request: &Request,
+)
+    requires rows { router.now ≡ all_rows }
+    requires given { ArePiecesWithin (length intake.now.taken) request.now }
+    ensures same { C.told clock.new ≡ C.told clock.old }
+{
+    if let Ok(route) = route_of(router, intake, request) {
+        clock.arrive(name_of(route));
     }
 }

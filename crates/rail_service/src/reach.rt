@@ -4,12 +4,12 @@ ghost use Rattle.rail_io.specs.declared.clock.Reach.TheVariants.{Changes};
 ghost use Rattle.osdm_json.specs.declared.command.Command.{Command};
 ghost use Rattle.rail_service.specs.Reaching.{name_of as name_in, reach_of as reach_in, LooksAlone};
 
-use osdm_json::{Command, Problem, Route};
-use rail_io::{Clock, Reach, RouteName};
+use osdm_json::{Command, Route};
+use rail_io::{Reach, RouteName};
 
 /// The route by its name alone.
 #[inline(always)]
-fn name_of(route: Route<'_>) -> RouteName
+pub(crate) fn name_of(route: Route<'_>) -> RouteName
     ensures name { result ≡ name_in route.entry }
 {
     match route {
@@ -26,16 +26,6 @@ fn name_of(route: Route<'_>) -> RouteName
         Route::AcceptExchange { .. } => RouteName::AcceptExchange,
         Route::Places { .. } => RouteName::Places,
         Route::Sweep => RouteName::Sweep,
-    }
-}
-
-/// Tells the clock of a request that has a route.
-#[inline(always)]
-pub(crate) fn hear<C: Clock>(clock: &mut C, found: &Result<Route<'_>, Problem>)
-    ensures same { C.told clock.new ≡ C.told clock.old }
-{
-    if let Ok(route) = found {
-        clock.arrive(name_of(*route));
     }
 }
 

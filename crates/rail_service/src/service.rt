@@ -1,8 +1,8 @@
 //! The service as it answers the requests of one connection.
 use crate::answering::{answer_of, problem_answer};
-use crate::asking::{admit, asked, first_after, retailer_of, route_of};
+use crate::asking::{admit, asked, first_after, hear_refused, retailer_of};
 use crate::performing::say_begun;
-use crate::reach::{hear, reach_of};
+use crate::reach::reach_of;
 use crate::refusal::refusal_of;
 use crate::resource::Resource;
 use claim_rule::{Books, Desk};
@@ -49,12 +49,24 @@ impl<C: Clock> Responder for Service<'_, '_, '_, C> {
         let now = self.clock.now();
         let retailer = retailer_of(self.cat, intake, request);
         let admitted = admit(self.first, retailer);
-        let found = route_of(self.router, intake, request);
-        hear(self.clock, &found);
-        let asking = asked(self.room, self.cat, admitted, &found, intake, request);
         self.first = first_after(self.first, retailer);
-        let (retailer, command) = match asking {
-            Ok(asked) => asked,
+        let retailer = match admitted {
+            Ok(retailer) => retailer,
+            Err(problem) => {
+                hear_refused(self.clock, self.router, intake, request);
+                return problem_answer(&problem, last, 0);
+            }
+        };
+        let asking = asked(
+            self.clock,
+            self.room,
+            self.cat,
+            self.router,
+            intake,
+            request,
+        );
+        let command = match asking {
+            Ok(command) => command,
             Err(problem) => return problem_answer(&problem, last, 0),
         };
         let shop = Shop {

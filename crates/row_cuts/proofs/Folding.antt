@@ -1,5 +1,5 @@
 -- Cuts of rows fold to the export of the state at the last one.
-use Rattle.std.proofs.Common.{◌≡◌, ◌≢◌, ◌⊎◌, inl, inr, ⊎_elim, ℕ, zero, suc, ◌+◌, ◌<◌, ◌≤◌, ◌==◌, Bool, true, false, cond, if◌then◌else◌, List, [], ◌∷◌, ◌++◌, append_assoc, filter, filter_map, flat_map, length, map, Option, Some, None, option_map, refl, sym, ap, ◌∙◌, subst, arith, eq-eqb, true≢false}
+use Rattle.std.proofs.Common.{◌≡◌, ◌⊎◌, inl, inr, ⊎_elim, ℕ, zero, suc, ◌+◌, ◌<◌, ◌==◌, Bool, true, false, cond, if◌then◌else◌, List, [], ◌∷◌, ◌++◌, append_assoc, filter, filter_map, length, map, Option, Some, None, option_map, refl, sym, ap, ◌∙◌, arith, eq-eqb, true≢false}
 use Rattle.std.specs.Prelude.{option_and_then}
 use Rattle.std.specs.List.{cons_option, range_with_len}
 use Rattle.std.proofs.lemmas.Bool.{eqb-true}
@@ -9,10 +9,10 @@ use Rattle.history_model.specs.declared.phase.Phase.{Phase}
 use Rattle.history_model.specs.declared.phase.Phase.TheVariants.{Free, Making, Prebooked, Confirmed, Fulfilled, Ending, Ended}
 use Rattle.history_model.proofs.Ranges.{row_of}
 use Rattle.claim_rule.specs.Openings.{KeptBooking, kept_as, kept_bookings, kept_in, kept_of_row, stub}
-use Rattle.cold_store.specs.Lines.{SaidBooking, booking_line, end_fields, export_text_of, first_line, items_fields, last_line, number_field, phase_field, said_of, text_of}
-use Rattle.journal_text.specs.Folds.{all_lines, fold_text, last_lines, last_of, line_of}
+use Rattle.cold_store.specs.Lines.{booking_line, export_text_of, first_line, last_line, said_of, text_of}
+use Rattle.journal_text.specs.Folds.{all_lines, last_lines, last_of, line_of}
 use Rattle.journal_text.specs.Texts.{RowLine, row_text}
-use Rattle.row_cuts.specs.Cuts.{ComesAfter, Cut, FollowOn, IsAmong, IsKept, after_row, folded_text, last_state, lines_cut, row_line}
+use Rattle.row_cuts.specs.Cuts.{ComesAfter, Cut, FollowOn, IsAmong, IsKept, folded_text, last_state, lines_cut, row_line}
 
 -- the last line of a row, by going through the lines
 

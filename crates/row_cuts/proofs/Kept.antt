@@ -1,13 +1,13 @@
 -- A row of which something is kept has something ever after.
-use Rattle.std.proofs.Common.{◌≡◌, ◌≢◌, ◌⊎◌, inl, inr, ⊎_elim, ℕ, zero, suc, ◌+◌, ◌<◌, ◌≤◌, ◌==◌, Bool, true, false, cond, ne_eqb, if◌then◌else◌, List, ◌++◌, Option, Some, None, refl, sym, ap, ◌∙◌, subst, arith}
+use Rattle.std.proofs.Common.{◌≡◌, ◌≢◌, ◌⊎◌, inl, inr, ℕ, zero, suc, ◌≤◌, ◌==◌, Bool, cond, ne_eqb, if◌then◌else◌, List, ◌++◌, Option, Some, None, refl, sym, ap, ◌∙◌, subst, arith}
 use Rattle.std.specs.Prelude.{option_and_then}
 use Rattle.std.specs.Option.{option_map_or}
 use Rattle.std.specs.List.{AllByRecursion}
 use Rattle.history_model.specs.declared.entry.Entry.{Entry}
 use Rattle.history_model.specs.declared.phase.Phase.{Phase}
 use Rattle.history_model.specs.declared.phase.Phase.TheVariants.{Free, Making, Prebooked, Confirmed, Fulfilled, Ending, Ended}
-use Rattle.history_model.specs.Booking.{Booking, Layout, State, booking_at, next_generation, phase_at, present}
-use Rattle.history_model.specs.History.{IsLegal, state_after, state_of}
+use Rattle.history_model.specs.Booking.{Booking, Layout, State, next_generation, phase_at, present}
+use Rattle.history_model.specs.History.{IsLegal, state_of}
 use Rattle.history_model.specs.Laws.{IsSound, stage}
 use Rattle.history_model.proofs.Forward.{next-history, stages-history}
 use Rattle.history_model.proofs.Generations.{free_next, present_key, present_latest}

@@ -3,6 +3,7 @@ pub mod Writing
 pub mod Folding
 pub mod Printing
 pub mod ReadBack
+pub mod Told
 pub mod Quiet
 pub mod Kept
 pub mod Unchanged

@@ -1,8 +1,7 @@
 -- What the looks at one row show.
-use Rattle.std.proofs.Common.{◌≡◌, ◌≢◌, ◌⊎◌, inl, inr, ℕ, ◌+◌, ◌*◌, ◌/◌, ◌%◌, ◌==◌, ◌<◌, ◌≤◌, Bool, true, false, if◌then◌else◌, eq-eqb, List, [], ◌∷◌, Option, Some, None, option_map, refl, sym, ap, ◌∙◌, subst, arith}
+use Rattle.std.proofs.Common.{◌≡◌, ◌≢◌, ◌⊎◌, inl, inr, ℕ, ◌+◌, ◌*◌, ◌/◌, ◌%◌, ◌<◌, ◌≤◌, Bool, true, false, if◌then◌else◌, eq-eqb, [], ◌∷◌, Option, None, option_map, refl, sym, ap, ◌∙◌, subst, arith}
 use Rattle.rail_ids.specs.declared.RowNo.{RowNo}
 use Rattle.rail_ids.specs.Spelling.{last_generation}
-use Rattle.history_model.specs.declared.entry.Step.{Step}
 use Rattle.history_model.specs.declared.entry.Step.TheVariants.{SawRow}
 use Rattle.history_model.specs.declared.phase.Phase.{Phase}
 use Rattle.history_model.specs.declared.phase.Phase.TheVariants.{Free, Making, Prebooked, Confirmed, Fulfilled, Ending, Ended}
@@ -14,19 +13,16 @@ use Rattle.history_model.proofs.PhaseWords.{phase_back}
 use Rattle.history_model.proofs.Ranges.{all_found}
 use Rattle.history_model.proofs.Writing.{word_in}
 use Rattle.claim_rule.specs.Calls.{AddsStepsBy}
-use Rattle.claim_rule.specs.Desks.{AddsSteps, Stepped}
-use Rattle.claim_rule.specs.Openings.{KeptBooking, stub}
+use Rattle.claim_rule.specs.Desks.{Stepped}
 use Rattle.claim_rule.specs.Out.{KeepsEndings, KeepsHolds}
 use Rattle.claim_rule.specs.Rule.{DeskView, state_seen}
 use Rattle.claim_rule.proofs.Moves.{is_sound}
-use Rattle.claim_rule.proofs.Out.{endings_then, holds_then, looks_endings, looks_holds}
+use Rattle.claim_rule.proofs.Out.{looks_endings, looks_holds}
 use Rattle.claim_rule.proofs.Reading.{saw}
 use Rattle.claim_rule.proofs.Shapes.{shape_then, step_shape}
 use Rattle.booking_rows.specs.Views.{LooksRow, RowSeen}
 use Rattle.booking_rows.proofs.ViewLemmas.{first_shown}
-use Rattle.row_cuts.specs.declared.looks.Shown.TheVariants.{Nothing, Unmade}
-use Rattle.row_cuts.specs.Lines.{IsShown, kept_shown, unmade_in}
-use Rattle.row_cuts.specs.Looks.{GoesOn, IsRowLook, LooksAt, RowLook, generation_looked, kept_by, kept_looked, kept_seen, kept_unmade, look_steps, phase_looked}
+use Rattle.row_cuts.specs.Looks.{GoesOn, LooksAt, RowLook, generation_looked, kept_by, kept_seen, kept_unmade, phase_looked}
 
 small : (phase : Phase) → word_of_phase phase < 16
 small Free = omega arith
@@ -117,20 +113,6 @@ unmade_looks row n generation a b did making said =
       (l, subst (λ (p : Phase). GoesOn (is_sealed p) l) (sym making) (refl, refl), refl, ap (λ (p : Phase). kept_by p l) making ∙ ap (kept_unmade row) said, refl),
       step_shape (SawRow row 0 n) a b did,
     )
-
-unmade_is : (row generation : ℕ) (none : Bool) → kept_shown row (if none then Nothing else Unmade generation) ≡ (if none then None else Some (stub row generation))
-unmade_is row generation true = refl
-unmade_is row generation false = refl
-
-pub unmade_kept : (row generation : ℕ) → kept_shown row (unmade_in generation) ≡ kept_unmade row generation
-unmade_kept row generation = unmade_is row generation (generation == 0)
-
-unmade_right : (generation : ℕ) (none : Bool) → IsShown (if none then Nothing else Unmade generation)
-unmade_right generation true = tt
-unmade_right generation false = tt
-
-pub unmade_shown : (generation : ℕ) → IsShown (unmade_in generation)
-unmade_shown generation = unmade_right generation (generation == 0)
 
 kept_sealed : (phase : Phase) (l : RowLook) → is_sealed phase ≡ true → kept_by phase l ≡ option_map (kept_seen l.row (generation_looked l)) l.seen
 kept_sealed Free l sealed = absurd (let no : false ≡ true = sealed in cc)

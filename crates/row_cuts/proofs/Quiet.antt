@@ -1,9 +1,8 @@
 -- What looks show while nobody changes anything is what the state has.
-use Rattle.std.proofs.Common.{◌≡◌, ◌≢◌, ◌⊎◌, inl, inr, ℕ, zero, suc, ◌+◌, ◌*◌, ◌/◌, ◌%◌, ◌<◌, ◌≤◌, ◌==◌, ℤ, pos, negsuc, Bool, true, false, cond, if◌then◌else◌, List, [], ◌∷◌, ◌++◌, drop, filter, filter_map, flat_map, get_or, length, map, take, Option, Some, None, option_map, refl, sym, ap, ◌∙◌, subst, arith, slice_index}
+use Rattle.std.proofs.Common.{◌≡◌, inl, inr, ℕ, suc, ◌+◌, ◌*◌, ◌/◌, ◌%◌, ◌<◌, ◌≤◌, ◌==◌, ℤ, pos, negsuc, Bool, true, false, cond, if◌then◌else◌, List, [], ◌∷◌, ◌++◌, drop, filter_map, get_or, length, map, take, Option, Some, None, option_map, refl, sym, ap, ◌∙◌, subst, arith, slice_index}
 use Rattle.std.specs.Prelude.{option_and_then}
 use Rattle.std.specs.List.{All, AllByRecursion, cons_option}
 use Rattle.std.proofs.lemmas.List.{get_or-drop, length-map}
-use Rattle.std.proofs.lemmas.Int.{ints}
 use Rattle.leg_masks.specs.Interval.{item_word, most_legs}
 use Rattle.leg_masks.specs.Interval.{PlacedSpan as Item}
 use Rattle.leg_masks.proofs.Items.{one_item}
@@ -20,7 +19,7 @@ use Rattle.history_model.specs.declared.phase.Phase.TheVariants.{Free, Making, P
 use Rattle.history_model.specs.Allowed.{IsAllowed, IsAllowedStep, IsAmountOf}
 use Rattle.history_model.specs.Apply.{apply}
 use Rattle.history_model.specs.Booking.{Booking, Layout, State, amount_word, present}
-use Rattle.history_model.specs.History.{IsLegal, IsLegalFrom, entry, own, state_after, state_of}
+use Rattle.history_model.specs.History.{IsLegal, IsLegalFrom, entry, own, state_after}
 use Rattle.history_model.specs.Laws.{HasAmountFor, IsInRange, IsSound, LiesWithin}
 use Rattle.history_model.specs.Phase.{is_sealed, phase_shown, row_word_of, said_phase}
 use Rattle.history_model.specs.Words.{row_word}
@@ -29,19 +28,18 @@ use Rattle.history_model.proofs.PhaseWords.{row_word_same, shown_back}
 use Rattle.history_model.proofs.Ranges.{all_found, ranges_all, row_of}
 use Rattle.history_model.proofs.Writing.{word_in}
 use Rattle.claim_rule.specs.Calls.{AddsStepsBy}
-use Rattle.claim_rule.specs.Desks.{AddsSteps}
 use Rattle.claim_rule.specs.Endings.{item_looks}
 use Rattle.claim_rule.specs.Openings.{KeptBooking, end_in, kept_as, kept_in, kept_of_row, placed, stub}
 use Rattle.claim_rule.specs.Out.{is_look}
 use Rattle.claim_rule.specs.Rule.{DeskView, state_seen}
 use Rattle.claim_rule.proofs.Moves.{is_sound}
 use Rattle.claim_rule.proofs.Shapes.{shape_rest}
-use Rattle.cold_store.specs.Lines.{booking_line, said_of, text_of}
+use Rattle.cold_store.specs.Lines.{text_of}
 use Rattle.cold_store.proofs.WallRows.{word_on}
 use Rattle.booking_rows.specs.SealedRows.{FitWords}
-use Rattle.booking_rows.specs.Views.{HasSaidAmount, HasWord, IsSeen, LooksNone, LooksRow, RowSeen, RowWords, has_end, said_amount, saw_end, saw_row, saw_words, words_read}
-use Rattle.journal_text.specs.Texts.{RowLine, lines_text, row_text}
-use Rattle.row_cuts.specs.Cuts.{Cut, lines_cut, row_line}
+use Rattle.booking_rows.specs.Views.{HasSaidAmount, HasWord, LooksRow, RowSeen, has_end, said_amount, saw_end, saw_words, words_read}
+use Rattle.journal_text.specs.Texts.{lines_text, row_text}
+use Rattle.row_cuts.specs.Cuts.{lines_cut, row_line}
 use Rattle.row_cuts.specs.Lines.{WritesLines, all_kept, kept_line}
 use Rattle.row_cuts.specs.Looks.{GoesOn, IsRowLook, RowLook, end_seen, generation_looked, kept_by, kept_looked, kept_seen, look_steps, looks_steps, phase_looked}
 use Rattle.row_cuts.specs.Quiet.{IsQuietSince, cut_seen}

@@ -1,13 +1,11 @@
 -- The fold of cuts is an export, and each export is read back.
-use Rattle.std.proofs.Common.{◌≡◌, ℕ, List, [], length, map, ap, ◌∙◌}
+use Rattle.std.proofs.Common.{◌≡◌, List, [], length, map, ap, ◌∙◌}
 use Rattle.history_model.specs.Booking.{State}
 use Rattle.claim_rule.specs.Openings.{kept_bookings}
 use Rattle.claim_rule.specs.Walls.{WallView}
-use Rattle.claim_rule.proofs.OpeningKept.{kept_back}
-use Rattle.cold_store.specs.Exports.{IsClosed, IsExport, said_on, state_on, text_on}
+use Rattle.cold_store.specs.Exports.{IsClosed, state_on, text_on}
 use Rattle.cold_store.specs.Laws.{HasBegun, HasSizes, IsReadBack}
 use Rattle.cold_store.specs.Lines.{export_text_of, said_of}
-use Rattle.cold_store.specs.Right.{kept_of}
 use Rattle.cold_store.specs.Tidy.{IsTidyWall}
 use Rattle.cold_store.proofs.ReadAgain.{exports_read_back}
 use Rattle.cold_store.proofs.Tidied.{tidied}

@@ -1,5 +1,5 @@
 -- A row whose standing word nobody changes is kept as it was.
-use Rattle.std.proofs.Common.{◌≡◌, ◌≢◌, ◌⊎◌, inl, inr, ⊎_elim, ℕ, zero, suc, ◌+◌, ◌<◌, ◌≤◌, ◌==◌, Bool, true, false, if◌then◌else◌, List, [], ◌∷◌, ◌++◌, map, Option, Some, None, refl, sym, ap, subst, ◌∙◌, arith, eq-eqb, get_or-set_other, true≢false}
+use Rattle.std.proofs.Common.{◌≡◌, inl, inr, ⊎_elim, ℕ, zero, suc, ◌==◌, false, if◌then◌else◌, List, [], ◌∷◌, ◌++◌, map, Option, Some, None, refl, sym, ap, subst, ◌∙◌, arith, eq-eqb, get_or-set_other, true≢false}
 use Rattle.std.specs.Prelude.{option_and_then}
 use Rattle.std.specs.List.{AllByRecursion}
 use Rattle.std.proofs.lemmas.Bool.{cases_eq}
@@ -13,13 +13,13 @@ use Rattle.history_model.specs.declared.phase.Phase.{Phase}
 use Rattle.history_model.specs.declared.phase.Phase.TheVariants.{Making, Ending}
 use Rattle.history_model.specs.Allowed.{IsAllowedStep, IsEndWord, IsMadeBy, MayGive, MayNote}
 use Rattle.history_model.specs.Apply.{apply, apply_step, closed, given, in_phase, item_taken, items_given, marked, noted, turned, words_of_row}
-use Rattle.history_model.specs.Booking.{Booking, Layout, State, change, key_of, most_items, present, word_at}
+use Rattle.history_model.specs.Booking.{Booking, Layout, State, change, key_of, present, word_at}
 use Rattle.history_model.specs.History.{IsLegal, IsLegalFrom, state_after, state_of}
 use Rattle.history_model.specs.WholeEnds.{end_at}
 use Rattle.history_model.proofs.Generations.{present-changed, present-changed_other, present-started_other}
 use Rattle.history_model.proofs.Keeping.{found}
 use Rattle.history_model.proofs.Seen.{legal-rest, state_of-append}
-use Rattle.claim_rule.specs.Openings.{KeptBooking, end_in, kept_as, kept_in, kept_of_row, placed, stub}
+use Rattle.claim_rule.specs.Openings.{end_in, kept_in, kept_of_row, placed, stub}
 use Rattle.row_cuts.specs.Kept.{restands}
 
 -- a change of another row, and one of this row that keeps what is kept of its booking

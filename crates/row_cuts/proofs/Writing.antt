@@ -1,11 +1,10 @@
 -- Lines of rows, one after another.
-use Rattle.std.proofs.Common.{◌≡◌, ℕ, suc, ◌+◌, ◌*◌, ◌^◌, ◌<◌, ◌≤◌, min, Result, Ok, Err, IfOk, OnOk, Bool, true, false, List, [], ◌∷◌, ◌++◌, append_assoc, append-nil, filter_map, flat_map, length, length-append, map, Option, Some, None, option_to_list, refl, sym, ap, ◌∙◌, subst, arith}
+use Rattle.std.proofs.Common.{◌≡◌, ℕ, suc, ◌+◌, ◌^◌, ◌<◌, ◌≤◌, Result, Ok, Err, IfOk, OnOk, Bool, true, false, List, [], ◌∷◌, ◌++◌, append_assoc, append-nil, length, length-append, map, Option, Some, None, option_to_list, refl, sym, ap, ◌∙◌, subst, arith}
 use Rattle.std.specs.List.{AllByRecursion, cons_option, range_with_len}
 use Rattle.std.proofs.lemmas.List.{length-map, map-append}
 use Rattle.std.proofs.lemmas.List.Concat.{flat_map-append}
 use Rattle.std.proofs.lemmas.List.Elements.{filter_map-append}
 use Rattle.std.proofs.lemmas.List.FromFn.{length-range_with_len, map-range_with_len_more}
-use Rattle.rail_ids.specs.declared.RowNo.{RowNo}
 use Rattle.history_model.specs.declared.entry.Step.{Step}
 use Rattle.history_model.specs.declared.entry.Step.TheVariants.{Look, Take, Give, Start, SawRow, Note, Seal, Turn, LostTurn, Close, Met}
 use Rattle.history_model.specs.History.{IsLegal}
@@ -13,7 +12,7 @@ use Rattle.history_model.specs.Phase.{is_sealed}
 use Rattle.history_model.specs.Work.{NoStep}
 use Rattle.history_model.proofs.ListLemmas.{All-append}
 use Rattle.claim_rule.specs.Calls.{AddsStepsBy}
-use Rattle.claim_rule.specs.Desks.{AddsSteps, IsOf}
+use Rattle.claim_rule.specs.Desks.{IsOf}
 use Rattle.claim_rule.specs.Openings.{KeptBooking}
 use Rattle.claim_rule.specs.Out.{AllLooks, IsTidy, KeepsEndings, KeepsHolds, exchanges, is_look}
 use Rattle.claim_rule.specs.Rule.{BooksView, DeskView}
@@ -96,6 +95,10 @@ pub row_result : {E : Type 0} (row : ℕ) (kept : Option KeptBooking) (old new :
     → IfOk result (λ count. AddsStepsBy (WritesLines (row ∷ []) old new count) a b)
 row_result row kept old new (Ok count) a b looks text counts = one_row row kept old new count a b looks text counts
 row_result row kept old new (Err e) a b looks text counts = tt
+
+-- a row that has none
+pub no_line : (row : ℕ) (text : List ℕ) (a b : DeskView) → AddsStepsBy (LooksAt row None) a b → AddsStepsBy (WritesLines (row ∷ []) text text 0) a b
+no_line row text a b looks = one_row row None text text 0 a b looks (sym (append-nil text)) refl
 
 -- rows and then more rows
 

@@ -1,5 +1,5 @@
 -- Cuts of the rows of books, one after another, and what they fold to.
-use Rattle.std.specs.Prelude.{◌≡◌, ◌⊎◌, ℕ, ◌<◌, List, [], ◌∷◌, ◌++◌, Option, Some, decimal, filter_map, length, map}
+use Rattle.std.specs.Prelude.{◌≡◌, ◌⊎◌, ℕ, ◌<◌, List, [], ◌∷◌, ◌++◌, Some, decimal, filter_map, length, map}
 use Rattle.std.specs.List.{AllByRecursion}
 use Rattle.history_model.specs.Booking.{State}
 use Rattle.claim_rule.specs.Openings.{KeptBooking, kept_bookings, kept_of_row}

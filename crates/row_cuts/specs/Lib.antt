@@ -5,3 +5,4 @@ pub mod Cuts
 pub mod Quiet
 pub mod Kept
 pub mod Exports
+pub mod Told

@@ -1,29 +1,11 @@
 -- What is written of rows.
-use Rattle.std.specs.Prelude.{◌≡◌, ℕ, ◌+◌, ◌/◌, ◌%◌, ◌==◌, Bool, if◌then◌else◌, List, [], ◌∷◌, ◌++◌, Option, Some, None, filter, filter_map, get_or, length, map, option_to_list}
+use Rattle.std.specs.Prelude.{◌≡◌, ℕ, ◌+◌, ◌-◌, ◌*◌, ◌/◌, ◌%◌, ◌==◌, Bool, List, [], ◌∷◌, ◌++◌, Option, filter, filter_map, get_or, length, map, min, option_to_list}
 use Rattle.std.specs.List.{AllByRecursion, range_with_len}
 use Rattle.std.specs.Int.{bit_at}
 use Rattle.history_model.specs.declared.entry.Step.{Step}
-use Rattle.claim_rule.specs.Openings.{KeptBooking, stub}
+use Rattle.claim_rule.specs.Openings.{KeptBooking}
 use Rattle.cold_store.specs.Lines.{booking_line, said_of, text_of}
-use Rattle.booking_rows.specs.Views.{IsSeen}
-use Rattle.row_cuts.specs.declared.looks.Shown.{Shown}
-use Rattle.row_cuts.specs.declared.looks.Shown.TheVariants.{Nothing, Unmade, Sealed}
-use Rattle.row_cuts.specs.Looks.{IsRowLook, RowLook, kept_looked, kept_seen, looks_steps}
-
--- what is kept of a row of which this was shown
-abbrev pub kept_shown : ℕ → Shown → Option KeptBooking
-kept_shown row Nothing = None
-kept_shown row (Unmade generation) = Some (stub row generation)
-kept_shown row (Sealed generation view) = Some (kept_seen row generation view)
-
--- what is shown of a row whose booking of this generation isn't made yet
-abbrev pub unmade_in : ℕ → Shown
-unmade_in generation = if generation == 0 then Nothing else Unmade generation
-
-abbrev pub IsShown : Shown → Type 0
-IsShown Nothing = Unit {0}
-IsShown (Unmade generation) = Unit {0}
-IsShown (Sealed generation view) = IsSeen view
+use Rattle.row_cuts.specs.Looks.{IsRowLook, RowLook, kept_looked, looks_steps}
 
 -- the line of a kept booking, where there is one, and the count of these lines
 abbrev pub kept_line : KeptBooking → List ℕ
@@ -57,6 +39,13 @@ block_rows = 64
 abbrev pub mark_blocks : ℕ → ℕ
 mark_blocks rows = rows / block_rows + 1
 
+-- how many blocks have their marks in one number, and how many numbers have those of all blocks: as with rows
+abbrev pub group_blocks : ℕ
+group_blocks = block_rows
+
+abbrev pub mark_groups : ℕ → ℕ
+mark_groups rows = mark_blocks rows / group_blocks + 1
+
 -- whether the row is marked in the marks of its block, the first row of which has the lowest bit
 abbrev pub is_set : ℕ → ℕ → Bool
 is_set marks row = bit_at marks (row % block_rows) == 1
@@ -67,6 +56,23 @@ is_marked marks row = is_set (get_or marks (row / block_rows) 0) row
 -- all rows that are marked, in rising number
 abbrev pub marked_rows : ℕ → List ℕ → List ℕ
 marked_rows rows marks = filter (is_marked marks) (range_with_len 0 rows)
+
+-- the rows of a block that are set in its marks
+abbrev pub set_in : ℕ → ℕ → ℕ → List ℕ
+set_in rows block marks =
+    filter (is_set marks) (range_with_len (block_rows * block) (min (block_rows * block + block_rows) rows - block_rows * block))
+
+-- the rows of these blocks that are set in their marks, of which each block has a number
+abbrev pub set_in_all : ℕ → List ℕ → List ℕ → List ℕ
+set_in_all rows [] marks = []
+set_in_all rows (block ∷ blocks) [] = []
+set_in_all rows (block ∷ blocks) (mark ∷ marks) = set_in rows block mark ++ set_in_all rows blocks marks
+
+-- the rows of these blocks that are set in some marks of them were looked at, and their lines were written
+pub record WritesBlocks (rows : ℕ) (blocks old new : List ℕ) (count : ℕ) (es : List Step) : Type 0 where
+  pub marks : List ℕ
+  pub each : length marks ≡ length blocks
+  pub writes : WritesLines (set_in_all rows blocks marks) old new count es
 
 -- the rows that are set in some marks of as many blocks as the rows have were looked at, and their lines were written
 pub record WritesMarked (rows : ℕ) (old new : List ℕ) (count : ℕ) (es : List Step) : Type 0 where

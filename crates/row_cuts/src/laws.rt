@@ -3,6 +3,7 @@
 ghost use Rattle.row_cuts.specs.Cuts.{CutsFoldToExports, JournalsAreReadBack, JournalsFoldToExports};
 ghost use Rattle.row_cuts.specs.Kept.{ChangedRowsSuffice, KeptRowsStay, UnchangedRowsStay};
 ghost use Rattle.row_cuts.specs.Quiet.{LinesAreOfOneMoment};
+ghost use Rattle.row_cuts.specs.Told.{ToldHistoriesGoOn};
 
 /// Lines are of one moment where nobody changes anything while they are written: they are those of a cut of the rows
 /// that were looked at.
@@ -43,4 +44,13 @@ pub fn unchanged_rows_stay()
 /// cut, as `cuts_fold_to_exports` asks.
 pub fn changed_rows_suffice()
     ensures { ChangedRowsSuffice }
+{}
+
+/// Where all desks were between two calls at the last cut, and what a desk had seen when it answered begins what the
+/// cut has seen, the books that open with the fold go on from there. They begin with just what was kept at the cut.
+/// Each booking that the answer showed sealed is in its row, with its retailer, limit, total and items. It is in the
+/// phase that was shown or in one that follows, and has its end where it had one. Or the row serves for a later
+/// generation.
+pub fn told_histories_go_on()
+    ensures { ToldHistoriesGoOn }
 {}

@@ -13,8 +13,8 @@
 //! `print_of` is a print of what the numbers of a catalogue's places mean.
 //!
 //! `specs/Looks` has what looks at rows show, `Lines` what is written of them, and `Quiet` when they are of one moment.
-//! `Kept` has what of a row stays, `Cuts` what cuts fold to, `Exports` which lines an export has, and `Prints` the text
-//! of a print. `laws` says what holds of them.
+//! `Kept` has what of a row stays, `Cuts` what cuts fold to, `Told` what of an answer is there afterwards, `Exports`
+//! which lines an export has, and `Prints` the text of a print. `laws` says what holds of them.
 #![tactic(auto)]
 
 mod exports;

@@ -5,21 +5,32 @@ ghost use Rattle.history_model.specs.Booking.{most_rows};
 ghost use Rattle.claim_rule.specs.Calls.{AddsStepsBy};
 ghost use Rattle.claim_rule.specs.Desks.{IsOf};
 ghost use Rattle.claim_rule.specs.Out.{AllLooks, IsTidy, KeepsEndings, KeepsHolds};
-ghost use Rattle.row_cuts.specs.Lines.{WritesLines, WritesMarked, is_set, mark_blocks};
+ghost use Rattle.row_cuts.specs.Lines.{WritesBlocks, WritesLines, WritesMarked, block_rows, group_blocks, is_set, mark_blocks, mark_groups};
 
-use crate::looks::{look_at, push_shown};
+use crate::looks::push_row;
 use claim_rule::{Books, Desk};
 use std::alloc::AllocError;
 
 /// How many rows have their marks in one number.
 const BLOCK_ROWS: u32 = 64;
 
-// How many numbers have the marks of all rows.
+/// How many blocks have their marks in one number.
+const GROUP_BLOCKS: u32 = 64;
+
+// How many numbers have the marks of all rows: one for each block.
 fn block_count(books: &Books) -> u32
     ensures count { result ≡ mark_blocks books.now.layout.rows }
     ensures most { books.now.layout.rows ≤ most_rows }
 {
     books.rows() / BLOCK_ROWS + 1
+}
+
+// How many groups of blocks there are.
+fn group_count(books: &Books) -> u32
+    ensures count { result ≡ mark_groups books.now.layout.rows }
+    ensures most { books.now.layout.rows ≤ most_rows }
+{
+    block_count(books) / GROUP_BLOCKS + 1
 }
 
 /// Takes the marks of all rows, which clears them; writes the lines of the rows that were marked after the text, in
@@ -39,10 +50,9 @@ pub fn push_marked_lines(
     ensures tidy { IsTidy desk.old → IsTidy desk.new }
 {
     let mut count = 0;
-    let blocks = block_count(books);
-    for block in 0..blocks {
-        let marks = books.take_marks(block);
-        count += push_block(text, books, desk, BLOCK_ROWS * block, marks)?;
+    for group in 0..group_count(books) {
+        let marked = books.take_marked_blocks(group);
+        count += push_group(text, books, desk, GROUP_BLOCKS * group, marked)?;
     }
     Ok(count)
 }
@@ -65,6 +75,61 @@ pub fn push_all_lines(text: &mut Vec<u8>, books: &Books, desk: &mut Desk) -> Res
     Ok(count)
 }
 
+// The lines of the marked rows of a group of blocks, which begins with this block. The marks of a block that isn't
+// marked aren't taken.
+fn push_group(
+    text: &mut Vec<u8>,
+    books: &Books,
+    desk: &mut Desk,
+    start: u32,
+    marked: u64,
+) -> Result<u64, AllocError>
+    requires own { IsOf books.now desk.old }
+    requires start { start ≤ mark_blocks books.now.layout.rows }
+    ensures own { IsOf books.now desk.new }
+    ensures lines { IfOk result (λ count. AddsStepsBy (WritesBlocks books.now.layout.rows
+        (range_with_len start (min (start + group_blocks) (mark_blocks books.now.layout.rows) - start))
+        text.old.items text.new.items count) desk.old desk.new) }
+    ensures looks { AddsStepsBy AllLooks desk.old desk.new }
+    ensures holds { KeepsHolds desk.old desk.new }
+    ensures endings { KeepsEndings desk.old desk.new }
+{
+    let mut count = 0;
+    if marked == 0 {
+        return Ok(count);
+    }
+    for block in start..end_of_block(start, block_count(books)) {
+        let is_marked = marked >> (block % GROUP_BLOCKS) & 1 == 1;
+        count += push_block_if_marked(text, books, desk, block, is_marked)?;
+    }
+    Ok(count)
+}
+
+// The lines of the marked rows of a block, if it is marked.
+fn push_block_if_marked(
+    text: &mut Vec<u8>,
+    books: &Books,
+    desk: &mut Desk,
+    block: u32,
+    is_marked: bool,
+) -> Result<u64, AllocError>
+    requires own { IsOf books.now desk.old }
+    requires most { books.now.layout.rows ≤ most_rows }
+    requires block { block < mark_blocks books.now.layout.rows }
+    ensures own { IsOf books.now desk.new }
+    ensures lines { IfOk result (λ count. AddsStepsBy (WritesBlocks books.now.layout.rows (block ∷ [])
+        text.old.items text.new.items count) desk.old desk.new) }
+    ensures looks { AddsStepsBy AllLooks desk.old desk.new }
+    ensures holds { KeepsHolds desk.old desk.new }
+    ensures endings { KeepsEndings desk.old desk.new }
+{
+    if !is_marked {
+        return Ok(0);
+    }
+    let marks = books.take_marks(block);
+    push_block(text, books, desk, BLOCK_ROWS * block, marks)
+}
+
 // The lines of the marked rows of a block, which begins with this row.
 fn push_block(
     text: &mut Vec<u8>,
@@ -77,7 +142,7 @@ fn push_block(
     requires start { start ≤ books.now.layout.rows }
     ensures own { IsOf books.now desk.new }
     ensures lines { IfOk result (λ count. AddsStepsBy (WritesLines
-        (filter (is_set marks) (range_with_len start (min (start + 64) books.now.layout.rows - start)))
+        (filter (is_set marks) (range_with_len start (min (start + block_rows) books.now.layout.rows - start)))
         text.old.items text.new.items count) desk.old desk.new) }
     ensures looks { AddsStepsBy AllLooks desk.old desk.new }
     ensures holds { KeepsHolds desk.old desk.new }
@@ -94,13 +159,13 @@ fn push_block(
     Ok(count)
 }
 
-// Where the block that begins with this row ends.
-fn end_of_block(start: u32, rows: u32) -> u32
-    requires { start ≤ rows }
-    ensures { result ≡ min (start + 64) rows }
+// Where the block that begins with this row ends, or the group that begins with this block. Both have as many.
+fn end_of_block(start: u32, count: u32) -> u32
+    requires { start ≤ count }
+    ensures { result ≡ min (start + block_rows) count }
 {
-    if rows - start < BLOCK_ROWS {
-        rows
+    if count - start < BLOCK_ROWS {
+        count
     } else {
         start + BLOCK_ROWS
     }
@@ -127,19 +192,4 @@ fn push_if_marked(
         return Ok(0);
     }
     push_row(text, books, desk, row)
-}
-
-// The line of a row, if it has one, and the count of these lines.
-fn push_row(text: &mut Vec<u8>, books: &Books, desk: &mut Desk, row: u32) -> Result<u64, AllocError>
-    requires own { IsOf books.now desk.old }
-    requires row { row < books.now.layout.rows }
-    ensures own { IsOf books.now desk.new }
-    ensures lines { IfOk result (λ count. AddsStepsBy (WritesLines (row ∷ []) text.old.items text.new.items count)
-        desk.old desk.new) }
-    ensures looks { AddsStepsBy AllLooks desk.old desk.new }
-    ensures holds { KeepsHolds desk.old desk.new }
-    ensures endings { KeepsEndings desk.old desk.new }
-{
-    let shown = look_at(books, desk, row);
-    push_shown(text, row, shown)
 }

@@ -1,14 +1,14 @@
 //! Looks at a row, and the line of what they showed.
-ghost use Rattle.std.specs.Prelude.{◌≡◌, ◌≤◌, ◌++◌, ◌<◌, IfOk, OnOk, option_map};
+ghost use Rattle.std.specs.Prelude.{◌≡◌, ◌≤◌, ◌++◌, ◌∷◌, [], ◌<◌, IfOk, OnOk, Some, option_map};
 ghost use Rattle.history_model.specs.WholeEnds.{end_at};
 ghost use Rattle.booking_rows.specs.Ends.{shown_end, word_of_successor};
 ghost use Rattle.booking_rows.specs.Views.{IsSeen, MaySucceed, last_successor};
 ghost use Rattle.claim_rule.specs.Calls.{AddsStepsBy};
 ghost use Rattle.claim_rule.specs.Desks.{IsOf};
-ghost use Rattle.claim_rule.specs.Out.{KeepsEndings, KeepsHolds};
+ghost use Rattle.claim_rule.specs.Out.{AllLooks, KeepsEndings, KeepsHolds};
 ghost use Rattle.cold_store.specs.Written.{said_line};
-ghost use Rattle.row_cuts.specs.Lines.{IsShown, kept_shown, line_count, line_text, unmade_in};
-ghost use Rattle.row_cuts.specs.Looks.{LooksAt, end_seen, kept_seen};
+ghost use Rattle.row_cuts.specs.Lines.{WritesLines, line_count, line_text};
+ghost use Rattle.row_cuts.specs.Looks.{end_seen, kept_seen, kept_unmade};
 
 use booking_rows::{EndView, RowView, look_row};
 use claim_rule::{Books, Desk};
@@ -19,71 +19,67 @@ use history_model::successor::successor_word;
 use rail_ids::RowNo;
 use std::alloc::AllocError;
 
-/// What looks at a row showed of it.
-#[derive(Drop)]
-pub(crate) enum Shown {
-    /// Nothing that has a line: it was free, or in the making for the first time, or was given away meanwhile.
-    Nothing,
-    /// It serves again, and its booking of this generation isn't made yet.
-    Unmade { generation: u32 },
-    /// A sealed booking of this generation.
-    Sealed { generation: u32, view: RowView },
-}
-
-/// Looks at a row: at word 0, and where that shows a sealed booking, at all of its words.
-pub(crate) fn look_at(books: &Books, desk: &mut Desk, row: u32) -> Shown
+/// Looks at a row: at word 0, and where that shows a sealed booking, at all of its words. Writes its line after the
+/// text, if it has one, and gives the count of these lines. A row has none that was free, or in the making for the
+/// first time, or was given away meanwhile.
+pub(crate) fn push_row(
+    text: &mut Vec<u8>,
+    books: &Books,
+    desk: &mut Desk,
+    row: u32,
+) -> Result<u64, AllocError>
     requires own { IsOf books.now desk.old }
     requires row { row < books.now.layout.rows }
     ensures own { IsOf books.now desk.new }
-    ensures looks { AddsStepsBy (LooksAt row (kept_shown row result)) desk.old desk.new }
-    ensures seen { IsShown result }
+    ensures lines { IfOk result (λ count. AddsStepsBy (WritesLines (row ∷ []) text.old.items text.new.items count)
+        desk.old desk.new) }
+    ensures looks { AddsStepsBy AllLooks desk.old desk.new }
     ensures holds { KeepsHolds desk.old desk.new }
     ensures endings { KeepsEndings desk.old desk.new }
 {
     let word = books.step_read(desk, RowNo { row, generation: 0 }, STANDING_WORD);
     let Some((phase, generation)) = read_row_word(word) else {
-        return Shown::Nothing;
+        return Ok(0);
     };
     if let Phase::Free = phase {
-        return Shown::Nothing;
+        return Ok(0);
     }
     if let Phase::Making = phase {
-        return unmade(generation);
+        return push_unmade(text, row, generation);
     }
     match look_row(books, desk, RowNo { row, generation }) {
-        Some(view) => Shown::Sealed { generation, view },
-        None => Shown::Nothing,
+        Some(view) => push_seen(text, row, generation, &view),
+        None => Ok(0),
     }
 }
 
-// A row whose booking of this generation isn't made yet.
-fn unmade(generation: u32) -> Shown
-    ensures { result ≡ unmade_in generation }
+// The line of a row whose booking of this generation isn't made yet, and the count of these lines. The first one of a
+// row has none.
+fn push_unmade(text: &mut Vec<u8>, row: u32, generation: u32) -> Result<u64, AllocError>
+    ensures line { OnOk result (text.new.items ≡ text.old.items ++ line_text (kept_unmade row generation)) }
+    ensures count { IfOk result (λ count. count ≡ line_count (kept_unmade row generation)) }
 {
     if generation == 0 {
-        Shown::Nothing
-    } else {
-        Shown::Unmade { generation }
+        return Ok(0);
     }
+    push_stub(text, row, generation)?;
+    Ok(1)
 }
 
-/// The line of what looks at a row showed, if it has one, and the count of these lines.
-pub(crate) fn push_shown(text: &mut Vec<u8>, row: u32, shown: Shown) -> Result<u64, AllocError>
-    requires seen { IsShown shown }
-    ensures line { OnOk result (text.new.items ≡ text.old.items ++ line_text (kept_shown row shown)) }
-    ensures count { IfOk result (λ count. count ≡ line_count (kept_shown row shown)) }
+// The line of a sealed booking that looks showed, and the count of these lines.
+fn push_seen(
+    text: &mut Vec<u8>,
+    row: u32,
+    generation: u32,
+    view: &RowView,
+) -> Result<u64, AllocError>
+    requires seen { IsSeen view.now }
+    ensures line { OnOk result (text.new.items
+        ≡ text.old.items ++ line_text (Some (kept_seen row generation view.now))) }
+    ensures count { IfOk result (λ count. count ≡ line_count (Some (kept_seen row generation view.now))) }
 {
-    match shown {
-        Shown::Nothing => Ok(0),
-        Shown::Unmade { generation } => {
-            push_stub(text, row, generation)?;
-            Ok(1)
-        }
-        Shown::Sealed { generation, view } => {
-            push_line(text, &line_of(row, generation, &view))?;
-            Ok(1)
-        }
-    }
+    push_line(text, &line_of(row, generation, view))?;
+    Ok(1)
 }
 
 // The line of a booking that looks showed.

@@ -32,7 +32,7 @@ const EXPORT_AND_FAULT: &str =
     "rail-export 1 18 4\nrow 0 0 P 1 1780294500 1100 1 4.0.2\nrow 1 0 P 1 1780294500 1100 1 5.0.2\nend 2\nrail_host: read fault\n";
 
 // The files of the sample catalogue, with four rows, and of books with one booking.
-pub fn shelf_of(alloc: Global) -> Result<MapShelf, AllocError> {
+fn shelf_of(alloc: Global) -> Result<MapShelf, AllocError> {
     let mut shelf = MapShelf::new(alloc, Vec::new(alloc));
     let members = CATALOGUE.strip_prefix("{").unwrap_or("");
     let text = format!(in alloc; "{{\"rows\":4,{members}")?;
@@ -43,7 +43,7 @@ pub fn shelf_of(alloc: Global) -> Result<MapShelf, AllocError> {
     Ok(shelf)
 }
 
-pub fn words_of(alloc: Global, line: &str) -> Result<Vec<String>, AllocError> {
+fn words_of(alloc: Global, line: &str) -> Result<Vec<String>, AllocError> {
     let mut words = Vec::new(alloc);
     for word in line.split(' ') {
         words.push(String::from_str(alloc, word)?)?;
@@ -52,7 +52,7 @@ pub fn words_of(alloc: Global, line: &str) -> Result<Vec<String>, AllocError> {
 }
 
 // As many clocks as `serve` is given, all that many seconds after six.
-pub fn clocks_of(alloc: Global, seconds: u32) -> Result<Vec<ScriptClock>, AllocError>
+fn clocks_of(alloc: Global, seconds: u32) -> Result<Vec<ScriptClock>, AllocError>
     ensures { IfOk result (λ clocks. length clocks.items ≡ 17) }
 {
     let next = after_six(seconds);
@@ -64,7 +64,7 @@ pub fn clocks_of(alloc: Global, seconds: u32) -> Result<Vec<ScriptClock>, AllocE
 }
 
 // Two streams, each with one reservation.
-pub fn two_streams(alloc: Global) -> Result<Vec<Vec<u8>>, AllocError> {
+fn two_streams(alloc: Global) -> Result<Vec<Vec<u8>>, AllocError> {
     let mut streams = Vec::new(alloc);
     for _ in 0..2u32 {
         streams.push(RESERVES.as_bytes().to_vec(alloc)?)?;
@@ -116,7 +116,7 @@ where
 }
 
 // Whether rows 0 and 1 are prebooked at different places.
-pub fn has_two_bookings(wall: &Wall) -> bool {
+fn has_two_bookings(wall: &Wall) -> bool {
     let prebooked = Some(phase_word(Phase::Prebooked));
     wall.row_word(0, 0) == prebooked
         && wall.row_word(1, 0) == prebooked

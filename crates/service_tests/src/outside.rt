@@ -2,8 +2,8 @@
 ghost use Rattle.std.specs.Prelude.{◌≤◌, IfOk};
 
 use rail_io::{
-    Clock, Fetched, FileShelf, Pulled, Pushed, ReaderSource, Shelf, Sink, Source, SystemClock,
-    WriterSink,
+    Clock, Fetched, FileShelf, Journal, JournalOpened, MemoryJournal, Pulled, Pushed, ReaderSource,
+    Shelf, Sink, Source, SystemClock, WriterSink,
 };
 use std::io::{ErrorKind, Read, Write};
 use std::test::Fail;
@@ -116,4 +116,16 @@ fn file_shelf_fetches_files(rt: HostRuntime) -> Result<(), Fail> {
     assert!(rt; matches!(&failed, Fetched::Failed));
     fs::remove_file(&rt, "shelf.txt")?;
     Ok(())
+}
+
+#[test]
+fn memory_journal_keeps_its_text(rt: HostRuntime) {
+    let alloc = rt.alloc();
+    let mut journal = MemoryJournal::new(alloc, Vec::new(alloc), Vec::new(alloc));
+    assert!(rt; journal.replace(b"one "));
+    assert!(rt; journal.append(b"two"));
+    match journal.open(alloc, "j", 7) {
+        JournalOpened::Text(text) => assert!(rt; text.as_slice() == b"one two".as_slice()),
+        _ => panic!(rt; "no text"),
+    }
 }

@@ -1,17 +1,27 @@
 ghost use Rattle.std.specs.Prelude.{◌≢◌, ◌<◌};
 ghost use Rattle.claim_rule.specs.Desks.{IsOf};
-ghost use Rattle.claim_rule.specs.Out.{EndsNone, HoldsNone, IsIdle};
+ghost use Rattle.claim_rule.specs.Out.{EndsNone, IsIdle};
+ghost use Rattle.cold_store.specs.Exports.{IsClosed};
 
-use crate::texts::{LEGS, ROWS};
-use crate::walls::{LATER, Wanted, book, hold_of, moment, span, wall_of};
+use crate::rows::{book, moment, span, start, take, two_desks};
 use booking_rows::{Aim, Turned, look_row, turn};
-use claim_rule::{Books, Desk, start_books};
+use claim_rule::{Books, Desk, Wall};
 use cold_store::{ExportFault, export_text};
 use history_model::phase::Phase;
 use rail_ids::{PlaceNo, RowNo};
 use std::alloc::Global;
 use std::process::Abort;
 use std::test::Fail;
+
+// The wall of the books as the desk leaves them.
+fn wall_of(books: Books, desk: Desk) -> Wall
+    requires own { IsOf books desk }
+    requires idle { IsIdle desk }
+    ensures closed { IsClosed result }
+{
+    let _ = books.places();
+    books.finish(desk)
+}
 
 // The fault of the export of the books as the first desk leaves them.
 fn fault_is(rt: &impl Abort, alloc: Global, books: Books, desk: Desk, fault: ExportFault)
@@ -36,7 +46,7 @@ fn leave_ending(rt: &impl Abort, books: &Books, mut desk: Desk, row: RowNo)
         panic!(rt; "the row is sealed");
     }
     let aim = Aim::Release {
-        now: moment(rt, LATER),
+        now: moment(rt, 800),
     };
     match turn(books, &mut desk, row, Phase::Prebooked, aim) {
         Turned::Ending(ending) => ending.leave(desk),
@@ -47,16 +57,10 @@ fn leave_ending(rt: &impl Abort, books: &Books, mut desk: Desk, row: RowNo)
 /// A desk that was given up in the middle of an ending leaves a row that no export has.
 #[test]
 fn an_ending_left_is_open(rt: HostRuntime) -> Result<(), Fail> {
-    let legs = LEGS.as_slice();
-    let (books, mut first) = start_books(rt.alloc(), legs, ROWS)?;
-    let mut second = books.part(&mut first);
-    let places = [PlaceNo(0)];
-    let wanted = Wanted {
-        places: places.as_slice(),
-        span: span(&rt, 0, 2),
-        total: 2200,
-    };
-    let row = book(&rt, &books, &mut second, legs, &wanted);
+    let (books, first, mut second) = two_desks(rt.alloc())?;
+    let legs = span(&rt, 0, 2);
+    let limit = moment(&rt, 900);
+    let row = book(&rt, &books, &mut second, PlaceNo(0), legs, limit);
     assert_eq!(rt; row.row, 0);
     leave_ending(&rt, &books, second, row);
     fault_is(
@@ -72,16 +76,10 @@ fn an_ending_left_is_open(rt: HostRuntime) -> Result<(), Fail> {
 /// And one in the middle of a hold a place.
 #[test]
 fn a_hold_left_holds_its_place(rt: HostRuntime) -> Result<(), Fail> {
-    let legs = LEGS.as_slice();
-    let (books, mut first) = start_books(rt.alloc(), legs, ROWS)?;
-    let mut second = books.part(&mut first);
-    let places = [PlaceNo(0)];
-    let wanted = Wanted {
-        places: places.as_slice(),
-        span: span(&rt, 0, 1),
-        total: 1100,
-    };
-    let hold = hold_of(&rt, &books, &mut second, legs, &wanted);
+    let (books, first, mut second) = two_desks(rt.alloc())?;
+    let leg = span(&rt, 0, 1);
+    let mut hold = start(&rt, &books, &mut second);
+    take(&rt, &books, &mut second, &mut hold, PlaceNo(0), leg);
     hold.leave(second);
     fault_is(
         &rt,

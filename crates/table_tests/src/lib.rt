@@ -1,6 +1,6 @@
-//! Tests of the table of words and of bookings by public calls: the booking machine, a desk's calls, exports and imports,
-//! a booking's life, and the trips that it is made for. They stand in a crate of their own, so that the crates that
-//! they test are proved once, without tests.
+//! Tests of the table of words and of bookings by public calls: the booking machine, a desk's calls, exports of desks that
+//! were given up, and a booking's life. They stand in a crate of their own, so that the crates that they test are proved
+//! once, without tests.
 //!
 //! - `entries`: the machine's steps on a plain list of bookings (`ListHost`). Each kind of step once allowed and, but
 //!   for a meeting, once refused, in five tables of entries, and the words of places after each. The words of phases,
@@ -9,20 +9,16 @@
 //!   isn't.
 //! - `rows`, `holds`, `given_away`: a desk's rows and holds, on one desk and on two. What looks at places show is a
 //!   case of the built program (`tests/cases`).
-//! - `texts`, `walls`, `faults`, `left`: exports and imports, the worked texts and the faults, and desks that were
-//!   given up in the middle.
+//! - `left`: the fault of an export after a desk was given up in the middle. What else an export has, and each fault of
+//!   one that is read, is shown by the program (`tests/cases`, `tests/model/exports.py`).
 //! - `lives`, `trades`: a booking's life, over the crates that decide it: held, sealed, confirmed, collected, released,
-//!   expired, refunded by its quotes, and an exchange that is lost. What a connection is answered is shown in
-//!   `service_tests`.
-//! - `filtered`, `networks`, `plain`: the trips of a wish, compared with a plain filter of all lists of segments.
+//!   expired, refunded by its quotes. And what takes two desks: a thousand bookings that are confirmed and swept at the
+//!   same time, a search for a row, and an exchange that is lost. What a connection is answered is shown in
+//!   `service_tests` and by cases.
 #![tactic(auto)]
 
 #[cfg(test)]
 mod entries;
-#[cfg(test)]
-mod faults;
-#[cfg(test)]
-mod filtered;
 #[cfg(test)]
 mod given_away;
 #[cfg(test)]
@@ -34,14 +30,6 @@ mod lines;
 #[cfg(test)]
 mod lives;
 #[cfg(test)]
-mod networks;
-#[cfg(test)]
-mod plain;
-#[cfg(test)]
 mod rows;
 #[cfg(test)]
-mod texts;
-#[cfg(test)]
 mod trades;
-#[cfg(test)]
-mod walls;

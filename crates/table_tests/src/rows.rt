@@ -22,7 +22,7 @@ use std::test::Fail;
 const RETAILER: RetailerNo = RetailerNo(7);
 
 // Takes the legs of a place for a hold without items.
-fn take(
+pub(crate) fn take(
     rt: &impl Abort,
     books: &Books,
     desk: &mut Desk,
@@ -143,18 +143,18 @@ fn two_desks_by_part(rt: HostRuntime) -> Result<(), Fail> {
     let limit = moment(&rt, 900);
     let one = book(&rt, &books, &mut first, PlaceNo(0), front, limit);
     let two = book(&rt, &books, &mut second, PlaceNo(0), back, limit);
-    assert_eq!(rt;
-        (one, two),
-        (
-            RowNo {
-                row: 0,
-                generation: 0
-            },
-            RowNo {
-                row: 1,
-                generation: 0
-            }
-        )
+    assert!(rt;
+        (one, two)
+            == (
+                RowNo {
+                    row: 0,
+                    generation: 0
+                },
+                RowNo {
+                    row: 1,
+                    generation: 0
+                }
+            )
     );
     if let Some(hold) = start_hold(&books, &mut first) {
         keep_row(&mut first, hold);
@@ -164,19 +164,13 @@ fn two_desks_by_part(rt: HostRuntime) -> Result<(), Fail> {
     let Some(view) = look_row(&books, &mut first, two) else {
         panic!(rt; "row 1 is sealed");
     };
-    assert_eq!(rt;
-        (view.phase, view.retailer, view.total),
-        (Phase::Prebooked, RETAILER, 1900)
-    );
-    assert_eq!(rt; (view.limit.seconds(), view.ended), (900, None));
-    assert_eq!(rt; view.items.len(), 1);
+    assert!(rt; (view.phase, view.retailer, view.total) == (Phase::Prebooked, RETAILER, 1900));
+    assert!(rt; (view.limit.seconds(), view.ended) == (900, None));
+    assert!(rt; view.items.len() == 1);
     let item = view.items[0];
-    assert_eq!(rt;
-        (item.place(), item.span().from(), item.span().to()),
-        (0, 1, 2)
-    );
+    assert!(rt; (item.place(), item.span().from(), item.span().to()) == (0, 1, 2));
     let wall = books.finish(first);
-    assert_eq!(rt; wall.place_word(PlaceNo(0), 0), Some(3));
+    assert!(rt; wall.place_word(PlaceNo(0), 0) == Some(3));
     Ok(())
 }
 
@@ -199,12 +193,9 @@ fn what_was_told_is_found(rt: HostRuntime) -> Result<(), Fail> {
     let limit = moment(&rt, 900);
     let row = book(&rt, &books, &mut first, PlaceNo(0), span(&rt, 0, 2), limit);
     tell_on(&books, &mut first, &mut second);
-    assert_eq!(rt; confirm_first(&rt, &books, &mut second, row), None);
+    assert!(rt; confirm_first(&rt, &books, &mut second, row) == None);
     tell_on(&books, &mut second, &mut first);
-    assert_eq!(rt;
-        confirm_first(&rt, &books, &mut first, row),
-        Some(Phase::Confirmed)
-    );
+    assert!(rt; confirm_first(&rt, &books, &mut first, row) == Some(Phase::Confirmed));
     Ok(())
 }
 
@@ -235,11 +226,8 @@ fn first_turn_decides(rt: HostRuntime) -> Result<(), Fail> {
     let (books, mut first, mut second) = two_desks(rt.alloc())?;
     let limit = moment(&rt, 900);
     let row = book(&rt, &books, &mut first, PlaceNo(0), span(&rt, 0, 2), limit);
-    assert_eq!(rt; confirm_first(&rt, &books, &mut second, row), None);
-    assert_eq!(rt;
-        confirm_first(&rt, &books, &mut first, row),
-        Some(Phase::Confirmed)
-    );
+    assert!(rt; confirm_first(&rt, &books, &mut second, row) == None);
+    assert!(rt; confirm_first(&rt, &books, &mut first, row) == Some(Phase::Confirmed));
     Ok(())
 }
 
@@ -288,13 +276,13 @@ fn contend(
     let front = span(rt, 0, 1);
     let back = span(rt, 1, 2);
     let word = glance(books, first, PlaceNo(0), 0);
-    assert_eq!(rt; word, 0);
+    assert!(rt; word == 0);
     let other = try_on(rt, books, second, two, back, 0);
-    assert_eq!(rt; other, Take::Won);
+    assert!(rt; other == Take::Won);
     let missed = try_on(rt, books, first, one, front, 0);
-    assert_eq!(rt; missed, Take::Moving { shown: 2 });
+    assert!(rt; missed == Take::Moving { shown: 2 });
     let again = try_on(rt, books, first, one, front, 2);
-    assert_eq!(rt; again, Take::Won);
+    assert!(rt; again == Take::Won);
     assert!(rt; one.items().len() == 1);
     assert!(rt; two.items().len() == 1);
 }
@@ -314,11 +302,12 @@ fn undo_and_keep(books: &Books, desk: &mut Desk, mut hold: Hold)
 }
 
 // A hold on the first free row.
-fn start(rt: &impl Abort, books: &Books, desk: &mut Desk) -> Hold
+pub(crate) fn start(rt: &impl Abort, books: &Books, desk: &mut Desk) -> Hold
     requires own { IsOf books.now desk.old }
     requires none { HoldsNone desk.old }
     ensures own { IsOf books.now desk.new }
     ensures hold { IsHolding desk.new result }
+    ensures none { result.items ≡ [] }
     ensures number { desk.new.number ≡ desk.old.number }
     ensures endings { KeepsEndings desk.old desk.new }
 {
@@ -337,10 +326,10 @@ fn undone_beside_another_desk(rt: HostRuntime) -> Result<(), Fail> {
     undo_and_keep(&books, &mut second, two);
     books.meet(&mut first, second);
     let wall = books.finish(first);
-    assert_eq!(rt; wall.place_word(PlaceNo(0), 0), Some(0));
-    assert_eq!(rt; wall.place_word(PlaceNo(1), 0), Some(0));
-    assert_eq!(rt; wall.row_word(0, 0), Some(1));
-    assert_eq!(rt; wall.row_word(1, 0), Some(1));
+    assert!(rt; wall.place_word(PlaceNo(0), 0) == Some(0));
+    assert!(rt; wall.place_word(PlaceNo(1), 0) == Some(0));
+    assert!(rt; wall.row_word(0, 0) == Some(1));
+    assert!(rt; wall.row_word(1, 0) == Some(1));
     Ok(())
 }
 
@@ -356,8 +345,8 @@ fn two_desks_on_one_place(rt: HostRuntime) -> Result<(), Fail> {
     close_hold(&books, &mut second, two, limit);
     books.meet(&mut first, second);
     let wall = books.finish(first);
-    assert_eq!(rt; wall.place_word(PlaceNo(0), 0), Some(3));
-    assert_eq!(rt; wall.row_word(0, 0), Some(2));
-    assert_eq!(rt; wall.row_word(1, 0), Some(2));
+    assert!(rt; wall.place_word(PlaceNo(0), 0) == Some(3));
+    assert!(rt; wall.row_word(0, 0) == Some(2));
+    assert!(rt; wall.row_word(1, 0) == Some(2));
     Ok(())
 }

@@ -43,8 +43,8 @@ pub const NORTH: RetailerNo = RetailerNo(1);
 /// The retailer of the key `south`.
 pub const SOUTH: RetailerNo = RetailerNo(2);
 
-/// 2026-06-01T06:00:00Z, in seconds: two hours before the first train departs.
-pub const SIX: u64 = 1_780_293_600;
+// 2026-06-01T06:00:00Z, in seconds: two hours before the first train departs.
+const SIX: u64 = 1_780_293_600;
 
 /// So many seconds after 06:00:00Z on the day of the sample's trains.
 pub fn after_six(seconds: u32) -> Moment

@@ -13,8 +13,8 @@ mod source;
 mod turns;
 
 pub use catalogue::{
-    CATALOGUE, LEGS, NORTH, SIX, SOUTH, after_six, open_books, sample, sample_with_rows,
+    CATALOGUE, LEGS, NORTH, SOUTH, after_six, open_books, sample, sample_with_rows,
 };
 pub use sink::SlowSink;
 pub use source::SlowSource;
-pub use turns::{Asked, Wanted, answer_text, ask, conversation, refused, request_text, told};
+pub use turns::{Asked, Wanted, answer_text, refused, request_text, told};

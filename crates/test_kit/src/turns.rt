@@ -19,15 +19,6 @@ pub struct Wanted {
     pub body: &'static str,
 }
 
-/// A request with this key, this method and path, and this body.
-pub fn ask(key: &'static str, line: &'static str, body: &'static str) -> Asked
-    ensures key { result.key.now ≡ key.now }
-    ensures line { result.line.now ≡ line.now }
-    ensures body { result.body.now ≡ body.now }
-{
-    Asked { key, line, body }
-}
-
 /// An answer that is a problem (RFC 9457).
 pub fn refused(status: &'static str, body: &'static str) -> Wanted
     ensures media { result.media.now ≡ codes "application/problem+json" }
@@ -77,18 +68,4 @@ pub fn answer_text(alloc: Global, wanted: Wanted, close: &str) -> Result<String,
     format!(in alloc;
         "HTTP/1.1 {status}\r\nContent-Type: {media}\r\nContent-Length: {length}\r\n{close}\r\n{body}"
     )
-}
-
-/// The bytes of a connection of these requests, and of their answers.
-pub fn conversation(
-    alloc: Global,
-    turns: &[(Asked, Wanted)],
-) -> Result<(String, String), AllocError> {
-    let mut input = String::new(alloc);
-    let mut output = String::new(alloc);
-    for (asked, wanted) in turns {
-        input.push_str(request_text(alloc, *asked)?.as_str())?;
-        output.push_str(answer_text(alloc, *wanted, "")?.as_str())?;
-    }
-    Ok((input, output))
 }

@@ -24,8 +24,8 @@ const BOUNDED_CHANGES: usize = 3;
 /// The seconds of a change's window, both ends included, where a change takes no time.
 const LONGEST_WINDOW: u32 = 14_401;
 
-/// The bounds with one number of changes: of each ride, and of what leaves each station. Without a change rides are known
-/// by the ranks.
+/// The bounds with one number of changes: of each ride, and of what leaves each station. Without a change rides are
+/// known by the ranks.
 #[derive(Drop)]
 struct Reach {
     rides: Rides,

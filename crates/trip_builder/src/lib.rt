@@ -6,10 +6,10 @@
 //! then their runs and stops.
 //!
 //! How `search` keeps it short, of which only the answer is proved: once sixteen trips are known it leaves out what
-//! leaves too late by the shortest ride from there (`Shortest`). A long search is bounded (`Bounds`): for rides (`Rides`)
-//! and for departures of stations (`Boards`) it has a moment before which nothing comes to the destination from there.
-//! `Near` says which stations need no board. That no bound is later than the arrival of a trip that it bounds is proved
-//! (`AreBounds`), so bounds that know less cost time alone.
+//! leaves too late by the shortest ride from there (`Shortest`). A long search is bounded (`Bounds`): for rides
+//! (`Rides`) and for departures of stations (`Boards`) it has a moment before which nothing comes to the destination
+//! from there. `Near` says which stations need no board. That no bound is later than the arrival of a trip that it
+//! bounds is proved (`AreBounds`), so bounds that know less cost time alone.
 #![tactic(auto)]
 
 // The rules: what a trip is, and which stands first.

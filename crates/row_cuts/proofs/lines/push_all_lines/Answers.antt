@@ -1,4 +1,4 @@
-use Rattle.std.proofs.Common.{◌≡◌, ◌+◌, ◌≤◌, ◌<◌, ◌^◌, arith}
+use Rattle.std.proofs.Common.{◌+◌, ◌<◌, ◌^◌}
 use Rattle.claim_rule.proofs.Out.{endings_then, holds_then}
 use Rattle.row_cuts.proofs.Writing.{all_few, all_more, few_sum, lines_few, looks_of, looks_then, looks_tidy}
 use Rattle.row_cuts.proofs.lines.push_all_lines.Goals as goal

@@ -1,4 +1,4 @@
-use Rattle.std.proofs.Common.{◌≡◌, ℕ, ◌+◌, ◌%◌, ◌≤◌, ◌<◌, ◌^◌, ◌==◌, ap, arith, min}
+use Rattle.std.proofs.Common.{ℕ, ◌+◌, ◌%◌, ◌<◌, ◌^◌, ◌==◌, ap, arith, min}
 use Rattle.claim_rule.proofs.Out.{endings_same, endings_then, holds_same, holds_then}
 use Rattle.std.proofs.lemmas.Nat.Bits.{shr_and_one}
 use Rattle.row_cuts.proofs.Writing.{looks_of, looks_then}

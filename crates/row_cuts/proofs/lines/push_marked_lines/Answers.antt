@@ -1,69 +1,71 @@
-use Rattle.std.proofs.Common.{◌≡◌, ◌+◌, ◌*◌, ◌≤◌, ◌<◌, ◌^◌, [], arith, min, refl}
+use Rattle.std.proofs.Common.{◌≡◌, ◌+◌, ◌*◌, ◌≤◌, ◌<◌, ◌^◌, arith, min, refl}
 use Rattle.claim_rule.proofs.Out.{endings_same, endings_then, holds_same, holds_then}
-use Rattle.row_cuts.proofs.Writing.{looks_of, looks_then, looks_tidy}
-use Rattle.row_cuts.proofs.Marking.{all_marked, few_blocks, few_marked, few_set, marks_then, none_marked}
+use Rattle.row_cuts.specs.Lines.{mark_blocks}
+use Rattle.row_cuts.proofs.Writing.{looks_then, looks_tidy}
+use Rattle.row_cuts.proofs.Marking.{all_marked, blocks_look, blocks_none, few_of_blocks, few_sum_groups, group_then}
 use Rattle.row_cuts.proofs.lines.push_marked_lines.Goals as goal
 
-pub loop-block-init : goal.loop-block-init
-loop-block-init c = record {
+pub loop-group-init : goal.loop-group-init
+loop-group-init c = record {
   own = c.requires.own;
   holds = holds_same c.args.desk.now;
   endings = endings_same c.args.desk.now;
-  lines = ([], refl, none_marked [] c.args.books.now.layout.rows c.args.text.now.items c.args.desk.now c.requires.own.legal);
+  lines = blocks_none c.args.books.now.layout.rows _ c.args.text.now.items c.args.desk.now c.requires.own.legal;
 }
 
 pub returns-in_err-count-clause-looks : goal.returns-in_err-count-clause-looks
 returns-in_err-count-clause-looks c =
-    let l = c.loop-block in
-    looks_then c.args.desk.now l.desk c.push_block.new.desk (looks_of _ _ _ _ c.args.desk.now l.desk l.invariant.lines.2) c.push_block.ensures.looks
+    let l = c.loop-group in
+    looks_then c.args.desk.now l.desk c.push_group.new.desk (blocks_look _ _ _ _ _ c.args.desk.now l.desk l.invariant.lines) c.push_group.ensures.looks
 
 pub returns-in_err-count-clause-holds : goal.returns-in_err-count-clause-holds
-returns-in_err-count-clause-holds c = holds_then c.args.desk.now c.loop-block.desk c.push_block.new.desk c.loop-block.invariant.holds c.push_block.ensures.holds
+returns-in_err-count-clause-holds c = holds_then c.args.desk.now c.loop-group.desk c.push_group.new.desk c.loop-group.invariant.holds c.push_group.ensures.holds
 
 pub returns-in_err-count-clause-endings : goal.returns-in_err-count-clause-endings
-returns-in_err-count-clause-endings c = endings_then c.args.desk.now c.loop-block.desk c.push_block.new.desk c.loop-block.invariant.endings c.push_block.ensures.endings
+returns-in_err-count-clause-endings c = endings_then c.args.desk.now c.loop-group.desk c.push_group.new.desk c.loop-group.invariant.endings c.push_group.ensures.endings
 
 pub returns-in_err-count-clause-tidy : goal.returns-in_err-count-clause-tidy
 returns-in_err-count-clause-tidy c =
-    let l = c.loop-block in
-    looks_tidy c.args.books.now c.args.desk.now c.push_block.new.desk c.push_block.ensures.own
-    (looks_then c.args.desk.now l.desk c.push_block.new.desk (looks_of _ _ _ _ c.args.desk.now l.desk l.invariant.lines.2) c.push_block.ensures.looks)
-    (holds_then c.args.desk.now l.desk c.push_block.new.desk l.invariant.holds c.push_block.ensures.holds)
-    (endings_then c.args.desk.now l.desk c.push_block.new.desk l.invariant.endings c.push_block.ensures.endings)
+    let l = c.loop-group in
+    looks_tidy c.args.books.now c.args.desk.now c.push_group.new.desk c.push_group.ensures.own
+    (looks_then c.args.desk.now l.desk c.push_group.new.desk (blocks_look _ _ _ _ _ c.args.desk.now l.desk l.invariant.lines) c.push_group.ensures.looks)
+    (holds_then c.args.desk.now l.desk c.push_group.new.desk l.invariant.holds c.push_group.ensures.holds)
+    (endings_then c.args.desk.now l.desk c.push_group.new.desk l.invariant.endings c.push_group.ensures.endings)
 
 pub overflow_add-count : goal.overflow_add-count
 overflow_add-count c =
-    let l = c.loop-block in
+    let l = c.loop-group in
     let rows = c.args.books.now.layout.rows in
-    let start : 64 * l.block ≤ rows = omega arith in
-    let before = few_marked l.invariant.lines.0 (min (64 * l.block) rows) _ _ l.count c.args.desk.now l.desk l.invariant.lines.2 in
-    let more = few_set _ (64 * l.block) (min (64 * l.block + 64) rows) _ _ c.in_ok-count.field-0 l.desk c.push_block.new.desk (omega arith) c.in_ok-count.ensures.lines in
+    let before = few_of_blocks rows 0 (min (64 * l.group) (mark_blocks rows)) _ _ l.count c.args.desk.now l.desk l.invariant.lines in
+    let more = few_of_blocks rows (64 * l.group) _ _ _ c.in_ok-count.field-0 l.desk c.push_group.new.desk c.in_ok-count.ensures.lines in
     let most : rows ≤ 262144 = omega arith in
-    let sum : l.count + c.in_ok-count.field-0 < 2 ^ 64 = few_blocks l.block l.count c.in_ok-count.field-0 rows (64 * l.block) refl start before more most in
+    let sum : l.count + c.in_ok-count.field-0 < 2 ^ 64 = few_sum_groups l.count c.in_ok-count.field-0 l.group (mark_blocks rows) rows before more refl most in
     search
 
-pub loop-block-preserved : goal.loop-block-preserved
-loop-block-preserved c =
-    let l = c.loop-block in
+pub loop-group-preserved : goal.loop-group-preserved
+loop-group-preserved c =
+    let l = c.loop-group in
     let rows = c.args.books.now.layout.rows in
-    let start : 64 * l.block ≤ rows = omega arith in
+    let start : 64 * l.group ≤ mark_blocks rows = omega arith in
     record {
-      own = c.push_block.ensures.own;
-      holds = holds_then c.args.desk.now l.desk c.push_block.new.desk l.invariant.holds c.push_block.ensures.holds;
-      endings = endings_then c.args.desk.now l.desk c.push_block.new.desk l.invariant.endings c.push_block.ensures.endings;
-      lines = marks_then l.invariant.lines.0 c.take_marks-marks.result l.block rows c.args.text.now.items l.text.items c.push_block.new.text.items l.count c.in_ok-count.field-0 c.args.desk.now l.desk c.push_block.new.desk
-          l.invariant.lines.1 start l.invariant.lines.2 c.in_ok-count.ensures.lines;
+      own = c.push_group.ensures.own;
+      holds = holds_then c.args.desk.now l.desk c.push_group.new.desk l.invariant.holds c.push_group.ensures.holds;
+      endings = endings_then c.args.desk.now l.desk c.push_group.new.desk l.invariant.endings c.push_group.ensures.endings;
+      lines = group_then rows (mark_blocks rows) l.group c.args.text.now.items l.text.items c.push_group.new.text.items l.count c.in_ok-count.field-0 c.args.desk.now l.desk c.push_group.new.desk
+          start l.invariant.lines c.in_ok-count.ensures.lines;
     }
 
 pub returns-clause-looks : goal.returns-clause-looks
-returns-clause-looks c = looks_of _ _ _ _ c.args.desk.now c.loop-block.desk c.loop-block.invariant.lines.2
+returns-clause-looks c = blocks_look _ _ _ _ _ c.args.desk.now c.loop-group.desk c.loop-group.invariant.lines
 
 pub returns-clause-tidy : goal.returns-clause-tidy
 returns-clause-tidy c =
-    let l = c.loop-block in
-    looks_tidy c.args.books.now c.args.desk.now l.desk l.invariant.own (looks_of _ _ _ _ c.args.desk.now l.desk l.invariant.lines.2) l.invariant.holds l.invariant.endings
+    let l = c.loop-group in
+    looks_tidy c.args.books.now c.args.desk.now l.desk l.invariant.own (blocks_look _ _ _ _ _ c.args.desk.now l.desk l.invariant.lines) l.invariant.holds l.invariant.endings
 
 pub returns-clause-lines : goal.returns-clause-lines
 returns-clause-lines c =
-    let l = c.loop-block in
-    all_marked l.invariant.lines.0 l.block c.args.books.now.layout.rows c.args.text.now.items l.text.items l.count c.args.desk.now l.desk (search (arith)) l.invariant.lines.1 l.invariant.lines.2
+    let l = c.loop-group in
+    let rows = c.args.books.now.layout.rows in
+    let whole : min (64 * l.group) (mark_blocks rows) ≡ mark_blocks rows = omega arith in
+    all_marked rows _ c.args.text.now.items l.text.items l.count c.args.desk.now l.desk whole l.invariant.lines

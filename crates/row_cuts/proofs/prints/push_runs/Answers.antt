@@ -1,4 +1,3 @@
-use Rattle.std.proofs.Common.{◌≡◌, ◌∙◌}
 use Rattle.row_cuts.proofs.Printing.{one_run_more}
 use Rattle.row_cuts.proofs.prints.push_runs.Goals as goal
 

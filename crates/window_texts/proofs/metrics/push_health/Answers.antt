@@ -1,5 +1,0 @@
-use Rattle.window_texts.proofs.Joining.{joined, joined_ok}
-use Rattle.window_texts.proofs.metrics.push_health.Goals as goal
-
-pub returns : goal.returns
-returns c = joined_ok c.push_one-3.result _ _ _ _ _ (joined _ _ _ _ _ c.in_ok-push_one.ensures c.in_ok-push_one-2.ensures) c.push_one-3.ensures

@@ -1,6 +1,0 @@
-use Rattle.std.proofs.Common.{◌≡◌, ◌++◌, take}
-use Rattle.window_texts.specs.Routes.{buckets_text}
-use Rattle.window_texts.proofs.routes.push_buckets.Given as goal
-
-abbrev pub invariant-loop-bucket : goal.invariant-loop-bucket
-invariant-loop-bucket l = l.text.items ≡ l.fn.text.items ++ buckets_text (take l.bucket-index l.buckets)
