@@ -1,2 +1,4 @@
 pub mod Sending
 pub mod Reading
+pub mod Setting
+pub mod Staying

@@ -4,3 +4,5 @@ pub mod Opened
 pub mod Wires
 pub mod Talks
 pub mod Paces
+pub mod Refusals
+pub mod Doors

@@ -1,6 +1,7 @@
 -- What contracts see of an outbox.
 use Rattle.std.specs.Prelude.{ℕ, List, [], ◌≡◌, ◌+◌, ◌≤◌, ◌<◌, ◌++◌, length, take, Option}
 use Rattle.rail_io.specs.Told.{with_end}
+use Rattle.host_io.specs.Wires.{Limits}
 use Rattle.rail_io.specs.declared.sink.PushedBoth.{PushedBoth}
 use Rattle.rail_io.specs.declared.sink.PushedBoth.TheVariants.{Took, Failed}
 
@@ -35,3 +36,16 @@ with_piece o piece = record { held = o.held ++ piece; used = o.used + length pie
 abbrev pub TakesSome : Option (List ℕ) → Option (List ℕ) → List ℕ → PushedBoth → Type 0
 TakesSome before after piece (Took n) = (n ≤ length piece) × (after ≡ with_end before (take n piece))
 TakesSome before after piece (Failed n) = (n < length piece) × (after ≡ with_end before (take n piece))
+
+-- What a sink may show that stays the same while it takes bytes: those still to come from where it leads, how that is
+-- set, and the cut that it is held for.
+pub record Steady : Type 0 where
+  pub incoming : Option (List ℕ)
+  pub limits : Option Limits
+  pub cut : ℕ
+
+-- all that each take leaves as it was is as it was
+abbrev pub Stays : {K : Type 0} → (K → List ℕ → K → Type 0) → K → K → Type 0
+Stays {K} takes old new = (seen : K → Steady)
+    → ((before after : K) → (bytes : List ℕ) → takes before bytes after → seen after ≡ seen before)
+    → seen new ≡ seen old

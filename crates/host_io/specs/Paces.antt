@@ -1,5 +1,5 @@
 -- How a connection's pace goes on.
-use Rattle.std.specs.Prelude.{◌≡◌, ℕ, zero, suc, ◌*◌, Bool, true, false, ◌==◌, if◌then◌else◌, Option, None, Some, Result, Ok, Err}
+use Rattle.std.specs.Prelude.{◌≡◌, ℕ, zero, suc, ◌*◌, ◌-◌, Bool, true, false, ◌==◌, if◌then◌else◌, Option, None, Some, IfSome, Result, Ok, Err}
 use Rattle.std.specs.IoError.{error_kind}
 use Rattle.std.specs.declared.io.Error.{Error}
 use Rattle.std.specs.declared.io.ErrorKind.{ErrorKind}
@@ -28,7 +28,15 @@ IsLimited old new spent changed = (limit_of old.idle spent ≡ Some new.limit)
     × (new ≡ record old { limit = new.limit })
     × (changed ≡ (if new.limit == old.limit then None else Some new.limit))
 
--- likewise, where the request has taken some time, and none where nothing of it has come
-abbrev pub IsAllowed : Pace → Pace → Option ℕ → Type 0
-IsAllowed old new changed = (spent : ℕ) × (old.idle ≡ true → spent ≡ 0)
+-- The milliseconds that a request has taken, by what the watch read, where it tells it: none where nothing of it has
+-- come, or where this is its first look.
+abbrev pub IsSpent : Pace → Pace → Option ℕ → ℕ → Type 0
+IsSpent old new now spent = (old.idle ≡ true → (new.begun ≡ None) × (spent ≡ 0))
+    × (old.idle ≡ false → old.begun ≡ None → (spent ≡ 0) × IfSome now (λ read. new.begun ≡ Some read))
+    × (old.idle ≡ false
+    → IfSome old.begun (λ begun. (new.begun ≡ Some begun) × IfSome now (λ read. spent ≡ read - begun)))
+
+-- likewise, where the request has taken what the watch says
+abbrev pub IsAllowed : Pace → Pace → Option ℕ → Option ℕ → Type 0
+IsAllowed old new now changed = (spent : ℕ) × IsSpent old new now spent
     × IsLimited (record old { begun = new.begun }) new spent changed

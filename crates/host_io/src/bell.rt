@@ -2,19 +2,17 @@
 ghost use Rattle.host_io.specs.Tcp.{IsLocal, IsReachedAt};
 
 use crate::address::{local_address, reached_at};
-use rail_io::Bell;
-use std::net::{IpAddr, Net, SocketAddr, TcpStream};
-use std::time::Duration;
+use std::net::{IpAddr, Net};
 
 /// How long it may take to ring. Where the port has no room for one connection more, nobody has to be woken.
-const RING_SECONDS: u64 = 1;
+pub(crate) const RING_SECONDS: u64 = 1;
 
 /// Wakes whoever waits at a port of an address, by a connection that it lets go at once.
 #[derive(Drop)]
 pub struct TcpBell<N: Net + Drop> {
-    net: N,
+    pub(crate) net: N,
     /// The address at which those who wait are reached.
-    address: IpAddr,
+    pub(crate) address: IpAddr,
 }
 
 impl<N: Net + Drop> TcpBell<N> {
@@ -36,12 +34,5 @@ impl<N: Net + Drop> TcpBell<N> {
             net: self.net,
             address: reached_at(address),
         }
-    }
-}
-
-impl<N: Net + Drop> Bell for TcpBell<N> {
-    fn ring(&mut self, port: u16) {
-        let door = SocketAddr::new(self.address, port);
-        let _rung = TcpStream::connect_timeout(&self.net, &door, Duration::from_secs(RING_SECONDS));
     }
 }

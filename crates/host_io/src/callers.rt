@@ -1,20 +1,23 @@
 // A port whose callers look through the operator's window.
-use crate::socket::{SocketReader, SocketSink};
-use crate::tcp_port::TcpPort;
+ghost use Rattle.std.specs.Prelude.{◌≡◌, is_some};
+ghost use Rattle.host_io.specs.Doors.{AsksFor};
+
+use crate::door::Door;
+use crate::shared::{PortReader, PortSink};
+use crate::tcp_port::Port;
+use crate::watch::Watch;
 use host_window::Callers;
 use rail_io::{Keeper, ReaderSource};
-use std::net::{Net, TcpListener, TcpStream};
-use std::time;
 
-impl<
-    N: Net<Listener = TcpListener, Stream = TcpStream> + time::Clock + Copy + Drop,
-    K: Keeper + Copy + Drop,
-> Callers for TcpPort<'_, N, K> {
-    type Input = ReaderSource<SocketReader<N, K>>;
+impl<D: Door + Drop, T: Watch + Copy + Drop, K: Keeper + Copy + Drop> Callers
+    for Port<'_, D, T, K> {
+    type Input = ReaderSource<PortReader<D::Wire, K, T>>;
 
-    type Output = SocketSink<K>;
+    type Output = PortSink<D::Wire, K>;
 
-    fn next_caller(&mut self) -> Option<(Self::Input, Self::Output)> {
+    fn next_caller(&mut self) -> Option<(Self::Input, Self::Output)>
+        ensures asks { AsksFor (D.calls self.old.door) (D.calls self.new.door) (is_some result) }
+    {
         let (input, output) = self.next_stream()?;
         Some((ReaderSource::new(input), output))
     }

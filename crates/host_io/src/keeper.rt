@@ -1,4 +1,6 @@
 // Where there is no journal.
+ghost use Rattle.std.specs.Prelude.{◌≡◌, false};
+
 use rail_io::Keeper;
 
 /// Keeps nothing, and says of every cut that it is kept: each answer may leave at once.
@@ -11,7 +13,9 @@ impl Keeper for NoKeeper {
         true
     }
 
-    fn is_lost(&self) -> bool {
+    fn is_lost(&self) -> bool
+        ensures never { result ≡ false }
+    {
         false
     }
 }

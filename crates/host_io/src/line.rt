@@ -1,6 +1,6 @@
 // A stream whose reads look for a moment before they wait.
-ghost use Rattle.std.specs.Prelude.{◌≡◌, ◌++◌};
-ghost use Rattle.host_io.specs.Wires.{Receives, Sends};
+ghost use Rattle.std.specs.Prelude.{◌≡◌, ◌++◌, ◌⊎◌, OnOk, OnErr};
+ghost use Rattle.host_io.specs.Wires.{Receives, Sends, limits_of, set_waits as waits_as};
 
 use crate::wire::Wire;
 use rail_io::RETRIES;
@@ -39,6 +39,12 @@ impl<W: Wire + Drop> Line<W> {
 
     // Sets whether calls of the system wait. Where the system refuses it, they do as before.
     fn set_waits(&mut self, waits: bool) -> io::Result<()>
+        ensures set { OnOk result (((self.old.waits ≡ waits) × (W.settings self.new.wire ≡ W.settings self.old.wire))
+            ⊎ (W.settings self.new.wire ≡ waits_as waits (W.settings self.old.wire))) }
+        ensures noted { OnOk result (self.new.waits ≡ waits) }
+        ensures refused { OnErr result ((self.new.waits ≡ self.old.waits)
+            × (W.settings self.new.wire ≡ W.settings self.old.wire)) }
+        ensures limits { limits_of (W.settings self.new.wire) ≡ limits_of (W.settings self.old.wire) }
         ensures left { W.incoming self.new.wire ≡ W.incoming self.old.wire }
         ensures sent { W.outgoing self.new.wire ≡ W.outgoing self.old.wire }
     {
@@ -54,6 +60,7 @@ impl<W: Wire + Drop> Line<W> {
     pub(crate) fn read(&mut self, room: &mut [u8]) -> io::Result<usize>
         ensures receives { Receives (W.incoming self.old.wire) (W.incoming self.new.wire) room.new result }
         ensures sent { W.outgoing self.new.wire ≡ W.outgoing self.old.wire }
+        ensures limits { limits_of (W.settings self.new.wire) ≡ limits_of (W.settings self.old.wire) }
     {
         if self.without == 0 {
             match self.look(room) {
@@ -72,6 +79,7 @@ impl<W: Wire + Drop> Line<W> {
     fn look(&mut self, room: &mut [u8]) -> io::Result<usize>
         ensures receives { Receives (W.incoming self.old.wire) (W.incoming self.new.wire) room.new result }
         ensures sent { W.outgoing self.new.wire ≡ W.outgoing self.old.wire }
+        ensures limits { limits_of (W.settings self.new.wire) ≡ limits_of (W.settings self.old.wire) }
     {
         if self.set_waits(false).is_err() {
             return Err(io::Error::from(ErrorKind::WouldBlock));
@@ -90,6 +98,7 @@ impl<W: Wire + Drop> Line<W> {
     fn tries_again(&mut self, kind: ErrorKind) -> bool
         ensures left { W.incoming self.new.wire ≡ W.incoming self.old.wire }
         ensures sent { W.outgoing self.new.wire ≡ W.outgoing self.old.wire }
+        ensures limits { limits_of (W.settings self.new.wire) ≡ limits_of (W.settings self.old.wire) }
     {
         match kind {
             ErrorKind::Interrupted => true,
@@ -102,6 +111,7 @@ impl<W: Wire + Drop> Line<W> {
     pub(crate) fn send(&mut self, piece: &[u8]) -> io::Result<usize>
         ensures sends { Sends (W.outgoing self.old.wire) (W.outgoing self.new.wire) piece.now result }
         ensures left { W.incoming self.new.wire ≡ W.incoming self.old.wire }
+        ensures limits { limits_of (W.settings self.new.wire) ≡ limits_of (W.settings self.old.wire) }
     {
         for _ in 0..RETRIES {
             match self.wire.send(piece) {
@@ -116,6 +126,7 @@ impl<W: Wire + Drop> Line<W> {
     pub(crate) fn send_both(&mut self, first: &[u8], second: &[u8]) -> io::Result<usize>
         ensures sends { Sends (W.outgoing self.old.wire) (W.outgoing self.new.wire) (first.now ++ second.now) result }
         ensures left { W.incoming self.new.wire ≡ W.incoming self.old.wire }
+        ensures limits { limits_of (W.settings self.new.wire) ≡ limits_of (W.settings self.old.wire) }
     {
         for _ in 0..RETRIES {
             match self.wire.send_both(first, second) {

@@ -4,7 +4,7 @@ ghost use Rattle.rail_io.specs.Faults.{Rose};
 ghost use Rattle.rail_io.specs.Told.{Pushes, PushesBoth, HasFailed, with_end};
 ghost use Rattle.rail_io.specs.declared.sink.Pushed.TheVariants.{Failed, Took};
 ghost use Rattle.rail_io.specs.declared.sink.PushedBoth.TheVariants.{Took as TookBoth};
-ghost use Rattle.host_io.specs.Outbox.{Fits, IsInRoom, TakesSome, with_piece};
+ghost use Rattle.host_io.specs.Outbox.{Fits, IsInRoom, Stays, TakesSome, with_piece};
 
 use rail_io::{Pushed, PushedBoth, Sink};
 use std::alloc::{AllocError, Global};
@@ -20,6 +20,7 @@ fn write_behind<K: Sink>(sink: &mut K, first: &[u8], second: &[u8]) -> PushedBot
     ensures never_falls { K.faults sink.old ≤ K.faults sink.new }
     ensures cause { HasFailed result → Rose (K.faults sink.old) (K.faults sink.new) }
     ensures steady { (HasFailed result → ⊥) → K.faults sink.new ≡ K.faults sink.old }
+    ensures stays { Stays K.takes sink.old sink.new }
 {
     if first.is_empty() {
         return sink.write_both(second, first);
@@ -68,6 +69,7 @@ impl Outbox {
         ensures steady { result ≡ true → K.faults sink.new ≡ K.faults sink.old }
         ensures unused { result ≡ true → self.new.used ≡ 0 }
         ensures room { IsInRoom self.new }
+        ensures stays { Stays K.takes sink.old sink.new }
     {
         while self.sent < self.bytes.len() {
             match sink.write(&self.bytes[self.sent..]) {
@@ -103,6 +105,7 @@ impl Outbox {
         ensures cause { result ≡ Failed → Rose (K.faults sink.old) (K.faults sink.new) }
         ensures steady { (result ≡ Failed → ⊥) → K.faults sink.new ≡ K.faults sink.old }
         ensures room { IsInRoom self.new }
+        ensures stays { Stays K.takes sink.old sink.new }
     {
         if self.hold(piece) {
             return Pushed::Took(piece.len());
@@ -143,6 +146,7 @@ impl Outbox {
         ensures cause { HasFailed result → Rose (K.faults sink.old) (K.faults sink.new) }
         ensures steady { (HasFailed result → ⊥) → K.faults sink.new ≡ K.faults sink.old }
         ensures room { IsInRoom self.new }
+        ensures stays { Stays K.takes sink.old sink.new }
     {
         match write_behind(sink, &self.bytes[self.sent..], piece) {
             PushedBoth::Took(count) => PushedBoth::Took(self.let_go(count)),
@@ -163,6 +167,7 @@ impl Outbox {
         ensures cause { HasFailed result → Rose (K.faults sink.old) (K.faults sink.new) }
         ensures steady { (HasFailed result → ⊥) → K.faults sink.new ≡ K.faults sink.old }
         ensures room { IsInRoom self.new }
+        ensures stays { Stays K.takes sink.old sink.new }
     {
         let Pushed::Took(count) = self.write(sink, first) else {
             return PushedBoth::Failed(0);

@@ -1,11 +1,11 @@
 // How long a connection waits for a request.
 ghost use Rattle.std.specs.Prelude.{◌≡◌, None, Ok, IfOk, OnErr, true};
 ghost use Rattle.host_io.specs.Tcp.{seconds_of, limit_of};
-ghost use Rattle.host_io.specs.Paces.{first_pace, noted, IsLimited, IsAllowed};
+ghost use Rattle.host_io.specs.Paces.{first_pace, noted, IsSpent, IsLimited, IsAllowed};
 
+use crate::watch::Watch;
+use std::io;
 use std::io::ErrorKind;
-use std::time::Instant;
-use std::{io, time};
 
 /// How many seconds a read waits where nothing has come since the last answer.
 pub(crate) const IDLE_SECONDS: u64 = 5;
@@ -41,9 +41,9 @@ fn read_limit(idle: bool, spent: u64) -> Option<u64>
 pub(crate) struct Pace {
     /// Whether nothing has come since the last answer.
     idle: bool,
-    /// When a request was first found not to be whole, which is as soon as its first bytes have come. A request that
-    /// comes whole by one read costs no look at the clock.
-    begun: Option<Instant>,
+    /// When a request was first found not to be whole, in milliseconds, which is as soon as its first bytes have come.
+    /// A request that comes whole by one read costs no look at the clock.
+    begun: Option<u64>,
     /// The milliseconds that a read may wait now.
     limit: u64,
     /// Whether the other side may still send.
@@ -78,20 +78,20 @@ impl Pace {
     }
 
     // The milliseconds since the request began that the next read is for: 0 where nothing of it has come.
-    fn spent<C: time::Clock>(&mut self, clock: &C) -> io::Result<u64>
+    fn spent<T: Watch>(&mut self, watch: &mut T) -> io::Result<u64>
         ensures same { self.new ≡ record self.old { begun = self.new.begun } }
         ensures idle { self.old.idle ≡ true → (self.new.begun ≡ None) × (result ≡ Ok 0) }
+        ensures spent { IfOk result (IsSpent self.old self.new (T.next watch.old)) }
     {
         if self.idle {
             self.begun = None;
             return Ok(0);
         }
         let Some(begun) = self.begun else {
-            self.begun = Some(Instant::now(clock)?);
+            self.begun = Some(watch.look()?);
             return Ok(0);
         };
-        let spent = begun.elapsed(clock)?.as_millis();
-        Ok(u64::try_from(spent).unwrap_or(u64::MAX))
+        Ok(watch.look()?.saturating_sub(begun))
     }
 
     // How many milliseconds the next read may wait whose request has taken these, where that has changed.
@@ -111,10 +111,10 @@ impl Pace {
 
     /// How many milliseconds the next read may wait, where that has changed since the last one. An error where no time
     /// is left.
-    pub(crate) fn next_limit<C: time::Clock>(&mut self, clock: &C) -> io::Result<Option<u64>>
-        ensures limit { IfOk result (IsAllowed self.old self.new) }
+    pub(crate) fn next_limit<T: Watch>(&mut self, watch: &mut T) -> io::Result<Option<u64>>
+        ensures limit { IfOk result (IsAllowed self.old self.new (T.next watch.old)) }
     {
-        let spent = self.spent(clock)?;
+        let spent = self.spent(watch)?;
         self.allow(spent)
     }
 

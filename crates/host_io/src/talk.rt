@@ -1,23 +1,24 @@
 // A connection, whose answers are held back until the next read.
-ghost use Rattle.std.specs.Prelude.{◌≡◌, ◌≤◌, ◌<◌, ◌++◌, ◌⊎◌, [], IsOk, IfOk, length, max, true};
+ghost use Rattle.std.specs.Prelude.{◌≡◌, ◌≤◌, ◌<◌, ◌++◌, ◌⊎◌, [], IsOk, IfOk, OnOk, length, max, true};
 ghost use Rattle.rail_io.specs.Told.{Pushes, PushesBoth};
-ghost use Rattle.host_io.specs.Talks.{answered_by};
+ghost use Rattle.host_io.specs.Talks.{answered_by, drained, IsSetTo};
+ghost use Rattle.host_io.specs.Wires.{Receives, limits_of};
 ghost use Rattle.host_io.specs.Paces.{first_pace};
 
 use crate::kept_line::KeptLine;
 use crate::line::Line;
 use crate::outbox::Outbox;
 use crate::pace::Pace;
+use crate::watch::Watch;
 use crate::wire::Wire;
 use rail_io::{Keeper, Pushed, PushedBoth, Sink};
+use std::io;
 use std::io::ErrorKind;
-use std::time::{Duration, Instant};
-use std::{io, time};
 
 /// How long a drain waits for each piece, how long it takes as a whole, and how many pieces it reads at most.
 const DRAIN_MILLISECONDS: u64 = 250;
 
-const DRAIN_SECONDS: u64 = 2;
+const DRAIN_MOST_MILLISECONDS: u64 = 2_000;
 
 const DRAIN_PIECES: u32 = 1_000_000;
 
@@ -26,7 +27,7 @@ const DRAIN_ROOM: usize = 16_384;
 /// A connection as both its halves have it. Answers are held back until the next read, or until they are many: so one
 /// call of the system sends the answers to all requests that one read gave.
 #[derive(Drop)]
-pub(crate) struct Talk<W: Wire + Drop, K: Keeper + Drop> {
+pub struct Talk<W: Wire + Drop, K: Keeper + Drop> {
     sink: KeptLine<W, K>,
     /// What was answered and isn't sent yet.
     outbox: Outbox,
@@ -53,12 +54,18 @@ impl<W: Wire + Drop, K: Keeper + Drop> Talk<W, K> {
         }
     }
 
-    /// What is answered from now on leaves only once the cut of this number is kept.
-    pub(crate) fn hold_until(&mut self, cut: u64)
-        ensures cut { self.new.sink.cut ≡ max self.old.sink.cut cut }
+    // Sends what is held back. False where that fails.
+    fn send_held(&mut self) -> bool
         ensures same { answered_by W.outgoing self.new ≡ answered_by W.outgoing self.old }
+        ensures all { result ≡ true → self.new.outbox.held ≡ [] }
+        ensures pace { (self.new.pace ≡ self.old.pace) × (self.new.answered ≡ self.old.answered)
+            × (self.new.failed ≡ self.old.failed) }
+        ensures left { W.incoming self.new.sink.line.wire ≡ W.incoming self.old.sink.line.wire }
+        ensures limits { limits_of (W.settings self.new.sink.line.wire)
+            ≡ limits_of (W.settings self.old.sink.line.wire) }
+        ensures cut { self.new.sink.cut ≡ self.old.sink.cut }
     {
-        self.sink.hold_until(cut);
+        self.outbox.send(&mut self.sink)
     }
 
     /// Sends what was answered, and says whether anything was since the last call. Once it has failed, nothing is sent.
@@ -66,8 +73,16 @@ impl<W: Wire + Drop, K: Keeper + Drop> Talk<W, K> {
         ensures same { answered_by W.outgoing self.new ≡ answered_by W.outgoing self.old }
         ensures all { IsOk result → self.new.outbox.held ≡ [] }
         ensures ended { (self.new.failed ≡ true) ⊎ (self.new.outbox.held ≡ []) }
+        ensures pace { self.new.pace ≡ self.old.pace }
+        ensures cut { self.new.sink.cut ≡ self.old.sink.cut }
+        ensures left { W.incoming self.new.sink.line.wire ≡ W.incoming self.old.sink.line.wire }
+        ensures limits { limits_of (W.settings self.new.sink.line.wire)
+            ≡ limits_of (W.settings self.old.sink.line.wire) }
     {
-        if self.failed || !self.outbox.send(&mut self.sink) {
+        if self.failed {
+            return Err(io::Error::from(ErrorKind::BrokenPipe));
+        }
+        if !self.send_held() {
             self.failed = true;
             return Err(io::Error::from(ErrorKind::BrokenPipe));
         }
@@ -76,30 +91,41 @@ impl<W: Wire + Drop, K: Keeper + Drop> Talk<W, K> {
         Ok(answered)
     }
 
-    /// Takes some of an answer, to be sent with others.
-    pub(crate) fn take(&mut self, piece: &[u8]) -> Pushed
+    /// Takes some of an answer, to be sent with others. It leaves only once the cut of this number is kept.
+    pub(crate) fn take(&mut self, cut: u64, piece: &[u8]) -> Pushed
         requires { 0 < length piece.now }
-        ensures { Pushes (answered_by W.outgoing self.old) (answered_by W.outgoing self.new) piece.now result }
+        ensures pushes { Pushes (answered_by W.outgoing self.old) (answered_by W.outgoing self.new) piece.now result }
+        ensures held { (self.new.failed ≡ true) ⊎ (self.new.sink.cut ≡ max self.old.sink.cut cut) }
+        ensures left { W.incoming self.new.sink.line.wire ≡ W.incoming self.old.sink.line.wire }
+        ensures limits { limits_of (W.settings self.new.sink.line.wire)
+            ≡ limits_of (W.settings self.old.sink.line.wire) }
     {
         if self.failed {
             return Pushed::Failed;
         }
         self.answered = true;
+        self.sink.hold_until(cut);
         let taken = self.outbox.write(&mut self.sink, piece);
         self.failed = taken == Pushed::Failed;
         taken
     }
 
     /// Takes some of both pieces of an answer, to be sent with others, or at once where they are too long to be held.
-    pub(crate) fn take_both(&mut self, first: &[u8], second: &[u8]) -> PushedBoth
+    /// They leave only once the cut of this number is kept.
+    pub(crate) fn take_both(&mut self, cut: u64, first: &[u8], second: &[u8]) -> PushedBoth
         requires { 0 < length first.now }
-        ensures { PushesBoth (answered_by W.outgoing self.old) (answered_by W.outgoing self.new)
+        ensures pushes { PushesBoth (answered_by W.outgoing self.old) (answered_by W.outgoing self.new)
             (first.now ++ second.now) result }
+        ensures held { (self.new.failed ≡ true) ⊎ (self.new.sink.cut ≡ max self.old.sink.cut cut) }
+        ensures left { W.incoming self.new.sink.line.wire ≡ W.incoming self.old.sink.line.wire }
+        ensures limits { limits_of (W.settings self.new.sink.line.wire)
+            ≡ limits_of (W.settings self.old.sink.line.wire) }
     {
         if self.failed {
             return PushedBoth::Failed(0);
         }
         self.answered = true;
+        self.sink.hold_until(cut);
         let taken = self.outbox.write_both(&mut self.sink, first, second);
         self.failed = matches!(taken, PushedBoth::Failed(_));
         taken
@@ -109,6 +135,10 @@ impl<W: Wire + Drop, K: Keeper + Drop> Talk<W, K> {
     fn send_all(&mut self) -> io::Result<()>
         ensures same { answered_by W.outgoing self.new ≡ answered_by W.outgoing self.old }
         ensures all { IsOk result → self.new.outbox.held ≡ [] }
+        ensures rested { (self.new.pace ≡ self.old.pace) ⊎ (self.new.pace ≡ record self.old.pace { idle = true }) }
+        ensures left { W.incoming self.new.sink.line.wire ≡ W.incoming self.old.sink.line.wire }
+        ensures limits { limits_of (W.settings self.new.sink.line.wire)
+            ≡ limits_of (W.settings self.old.sink.line.wire) }
     {
         if self.send_answers()? {
             self.pace.rest();
@@ -117,36 +147,45 @@ impl<W: Wire + Drop, K: Keeper + Drop> Talk<W, K> {
     }
 
     // Sets the time limit of the next read, which fails where none is left, or where the journal is lost.
-    fn limit_read<C: time::Clock>(&mut self, clock: &C) -> io::Result<()>
+    fn limit_read<T: Watch>(&mut self, watch: &mut T) -> io::Result<()>
         ensures same { answered_by W.outgoing self.new ≡ answered_by W.outgoing self.old }
         ensures held { self.new.outbox.held ≡ self.old.outbox.held }
+        ensures left { W.incoming self.new.sink.line.wire ≡ W.incoming self.old.sink.line.wire }
+        ensures limited { OnOk result (IsSetTo self.old.pace self.new.pace
+            (limits_of (W.settings self.old.sink.line.wire)) (limits_of (W.settings self.new.sink.line.wire))) }
     {
-        if self.sink.is_lost() {
+        if self.sink.keeper.is_lost() {
             return Err(io::Error::from(ErrorKind::BrokenPipe));
         }
-        if let Some(limit) = self.pace.next_limit(clock)? {
+        if let Some(limit) = self.pace.next_limit(watch)? {
             self.sink.line.wire.set_read_limit(limit)?;
         }
         Ok(())
     }
 
     // What comes before a read.
-    fn prepare<C: time::Clock>(&mut self, clock: &C) -> io::Result<()>
+    fn prepare<T: Watch>(&mut self, watch: &mut T) -> io::Result<()>
         ensures same { answered_by W.outgoing self.new ≡ answered_by W.outgoing self.old }
         ensures all { IsOk result → self.new.outbox.held ≡ [] }
+        ensures left { W.incoming self.new.sink.line.wire ≡ W.incoming self.old.sink.line.wire }
+        ensures limited { OnOk result (IsSetTo self.old.pace self.new.pace
+            (limits_of (W.settings self.old.sink.line.wire)) (limits_of (W.settings self.new.sink.line.wire))) }
     {
         self.send_all()?;
-        self.limit_read(clock)
+        self.limit_read(watch)
     }
 
     /// Reads some of what has come, or waits for it, once all that was answered is sent.
-    pub(crate) fn read<C: time::Clock>(&mut self, clock: &C, room: &mut [u8]) -> io::Result<usize>
+    pub(crate) fn read<T: Watch>(&mut self, watch: &mut T, room: &mut [u8]) -> io::Result<usize>
         ensures same { answered_by W.outgoing self.new ≡ answered_by W.outgoing self.old }
         ensures all { IsOk result → self.new.outbox.held ≡ [] }
         ensures sent { IsOk result → W.outgoing self.new.sink.line.wire ≡ answered_by W.outgoing self.old }
-        ensures bound { IfOk result (λ count. count ≤ length room.new) }
+        ensures receives { Receives (W.incoming self.old.sink.line.wire) (W.incoming self.new.sink.line.wire)
+            room.new result }
+        ensures limited { OnOk result (IsSetTo self.old.pace self.new.pace
+            (limits_of (W.settings self.old.sink.line.wire)) (limits_of (W.settings self.new.sink.line.wire))) }
     {
-        let answer = match self.prepare(clock) {
+        let answer = match self.prepare(watch) {
             Ok(()) => self.sink.line.read(room),
             Err(error) => Err(error),
         };
@@ -156,29 +195,30 @@ impl<W: Wire + Drop, K: Keeper + Drop> Talk<W, K> {
 
     /// Sends what was answered, and reads away for a moment what still comes where the other side hasn't ended the
     /// connection, so that it gets to read the last answer.
-    pub(crate) fn end<C: time::Clock>(&mut self, clock: &C)
+    pub(crate) fn end<T: Watch>(&mut self, watch: &mut T)
         ensures same { answered_by W.outgoing self.new ≡ answered_by W.outgoing self.old }
         ensures sent { (self.new.failed ≡ true)
             ⊎ (W.outgoing self.new.sink.line.wire ≡ answered_by W.outgoing self.old) }
     {
         let _sent = self.send_answers();
         if self.pace.is_open() {
-            let _drained = drain(clock, &mut self.sink.line);
+            let _drained = drain(watch, &mut self.sink.line);
         }
     }
 }
 
 /// Tells the other side that no more comes, and reads away what it still sends, for about two seconds at most.
-fn drain<W: Wire + Drop, C: time::Clock>(clock: &C, line: &mut Line<W>) -> io::Result<()>
+fn drain<W: Wire + Drop, T: Watch>(watch: &mut T, line: &mut Line<W>) -> io::Result<()>
     ensures sent { W.outgoing line.new.wire ≡ W.outgoing line.old.wire }
+    ensures told { OnOk result (limits_of (W.settings line.new.wire) ≡ drained (limits_of (W.settings line.old.wire))) }
 {
-    let start = Instant::now(clock)?;
+    let start = watch.look()?;
     line.wire.end_sending()?;
     line.wire.set_read_limit(DRAIN_MILLISECONDS)?;
     let mut room = [0u8; DRAIN_ROOM];
     for _piece in 0..DRAIN_PIECES {
         let none_left = line.read(&mut room)? == 0;
-        if none_left || start.elapsed(clock)? >= Duration::from_secs(DRAIN_SECONDS) {
+        if none_left || watch.look()?.saturating_sub(start) >= DRAIN_MOST_MILLISECONDS {
             return Ok(());
         }
     }

@@ -1,44 +1,49 @@
 // A port of this machine as a listener. Its streams tell no content.
-ghost use Rattle.std.specs.Prelude.{◌≡◌, ◌≤◌};
+ghost use Rattle.std.specs.Prelude.{◌≡◌, ◌≤◌, [], is_some, IfSome, IfOk, IfErr, OnOk, None};
 ghost use Rattle.rail_io.specs.Faults.{Rose};
-ghost use Rattle.std.specs.IoError.{raw_os_error};
-ghost use Rattle.host_io.specs.Tcp.{after_refusal as after_of, tcp_view, tcp_faults, code_by, IsLaterOf};
-ghost use Rattle.host_io.specs.Tcp.{HandsUntold, IsLocal};
+ghost use Rattle.rail_service.specs.Listeners.{Binds};
+ghost use Rattle.rail_service.specs.declared.listener.Bound.TheVariants.{Ready, Failed};
+ghost use Rattle.host_io.specs.Tcp.{tcp_view, tcp_faults, IsLaterOf, HandsUntold, IsLocal};
+ghost use Rattle.host_io.specs.Doors.{AsksAgain, AsksFor, AsksLast, Refuses, with_call, Gave, Listened};
+ghost use Rattle.host_io.specs.Paces.{first_pace};
 
 use crate::address::local_address;
-use crate::socket::{SocketReader, SocketSink, halves_of};
-use host_window::{Counters, CountingSink, CountingSource, Health, StreamCounts};
+use crate::door::Door;
+use crate::kept_line::KeptLine;
+use crate::line::Line;
+use crate::noting::{note_door, take_counts};
+use crate::outbox::Outbox;
+use crate::refusals::{AfterRefusal, after_refusal, code_of};
+use crate::shared::{Halves, PortReader, PortSink, halves_of};
+use crate::system_watch::SystemWatch;
+use crate::talk::Talk;
+use crate::tcp_door::TcpDoor;
+use crate::watch::Watch;
+use crate::wire::Wire;
+use host_window::{Counters, CountingSink, CountingSource, Health};
 use rail_io::{Keeper, ReaderSource};
 use rail_service::{Accepted, Bound, Listener, Waiting};
 use std::alloc::Global;
-use std::net::{IpAddr, Net, SocketAddr, TcpListener, TcpStream};
-use std::time::Duration;
-use std::{io, thread, time};
+use std::net::{IpAddr, Net, TcpListener, TcpStream};
+use std::{io, time};
 
 /// How long accepting pauses where handles or memory are wanting.
 const PAUSE_MILLISECONDS: u64 = 100;
 
-/// What an accept does that the system gave no stream.
-#[derive(Clone, Copy, PartialEq, Eq)]
-pub enum AfterRefusal {
-    /// It fails: the listener is gone.
-    Fail,
-    /// It asks again: a connection was given up before it was accepted, or the call was interrupted.
-    Again,
-    /// It asks again after a pause: handles of files, memory or something else is wanting that comes back.
-    Pause,
-}
-
-/// What an accept does after this error of Linux: EBADF, EINVAL, ENOTSOCK and EOPNOTSUPP say that the listener is gone;
-/// EINTR, EPROTO and ECONNABORTED concern one connection alone.
-pub fn after_refusal(code: u32) -> AfterRefusal
-    ensures { result ≡ after_of code }
+/// A connection of this stream, of which nothing has come and to which nothing went out.
+fn talk_of<W: Wire + Drop, K: Keeper + Drop>(
+    alloc: Global,
+    keeper: K,
+    wire: W,
+) -> io::Result<Talk<W, K>>
+    ensures wire { IfOk result (λ talk. talk.sink.line.wire ≡ wire) }
+    ensures held { IfOk result (λ talk. talk.outbox.held ≡ []) }
+    ensures free { IfOk result (λ talk. talk.sink.cut ≡ 0) }
+    ensures keeper { IfOk result (λ talk. talk.sink.keeper ≡ keeper) }
+    ensures pace { IfOk result (λ talk. talk.pace ≡ first_pace) }
 {
-    match code {
-        9 | 22 | 88 | 95 => AfterRefusal::Fail,
-        4 | 71 | 103 => AfterRefusal::Again,
-        _ => AfterRefusal::Pause,
-    }
+    let outbox = Outbox::new(alloc)?;
+    Ok(Talk::new(KeptLine::of(Line::of(wire), keeper), outbox))
 }
 
 /// Listens at 127.0.0.1, or at another address that it is given. Its streams send without delay. A read fails that
@@ -49,77 +54,60 @@ pub fn after_refusal(code: u32) -> AfterRefusal
 ///
 /// What it hands out is counted, where there are counters.
 #[derive(Drop)]
-pub struct TcpPort<
-    'c,
-    N: Net<Listener = TcpListener, Stream = TcpStream> + time::Clock + Copy + Drop,
-    K: Keeper + Copy + Drop,
-> {
-    net: N,
+pub struct Port<'c, D: Door + Drop, T: Watch + Copy + Drop, K: Keeper + Copy + Drop> {
+    door: D,
+    watch: T,
     alloc: Global,
     keeper: K,
     counters: Option<&'c Counters>,
     address: IpAddr,
-    listener: Option<TcpListener>,
+    /// Whether it was bound.
+    listens: bool,
     port: u16,
     limit: u32,
     handed: u32,
     faults: u64,
 }
 
-// The next connection, made ready. None where the journal is lost.
-fn accept_one<C: time::Clock + Drop, K: Keeper + Drop>(
-    clock: C,
-    alloc: Global,
-    keeper: K,
-    listener: &TcpListener,
-) -> io::Result<Option<(SocketReader<C, K>, SocketSink<K>)>> {
-    let (stream, _) = listener.accept()?;
-    if keeper.is_lost() {
-        return Ok(None);
-    }
-    Ok(Some(halves_of(clock, alloc, keeper, stream)?))
-}
-
-// The number of the system's error, or 0 for one of our own.
-fn code_of(error: io::Error) -> u32
-    ensures { result ≡ code_by (raw_os_error error) }
-{
-    match error.raw_os_error() {
-        Some(code) => u32::try_from(code).unwrap_or(0),
-        None => 0,
-    }
-}
+/// A port of this machine.
+pub type TcpPort<'c, N, K> = Port<'c, TcpDoor<N>, SystemWatch<N>, K>;
 
 impl<
     'c,
     N: Net<Listener = TcpListener, Stream = TcpStream> + time::Clock + Copy + Drop,
     K: Keeper + Copy + Drop,
-> TcpPort<'c, N, K> {
+> Port<'c, TcpDoor<N>, SystemWatch<N>, K> {
     /// A listener at port 0 of 127.0.0.1 with limit 0 that has handed out nothing and hasn't failed.
     pub fn new(net: N, alloc: Global, keeper: K, counters: Option<&'c Counters>) -> Self
         ensures view { tcp_view result ≡ record { port = 0; limit = 0; handed = 0 } }
         ensures faults { tcp_faults result ≡ 0 }
         ensures address { IsLocal result.address }
     {
-        TcpPort {
-            net,
+        Port {
+            door: TcpDoor {
+                net,
+                listener: None,
+            },
+            watch: SystemWatch { clock: net },
             alloc,
             keeper,
             counters,
             address: local_address(),
-            listener: None,
+            listens: false,
             port: 0,
             limit: 0,
             handed: 0,
             faults: 0,
         }
     }
+}
 
+impl<'c, D: Door + Drop, T: Watch + Copy + Drop, K: Keeper + Copy + Drop> Port<'c, D, T, K> {
     /// The same listener, which listens at the address where it is bound from now on.
     pub fn at(self, address: IpAddr) -> Self
         ensures same { result ≡ record self.entry { address = address } }
     {
-        TcpPort { address, ..self }
+        Port { address, ..self }
     }
 
     // A call that fails changes the count alone.
@@ -127,63 +115,80 @@ impl<
         ensures view { tcp_view self.new ≡ tcp_view self.old }
         ensures never_falls { tcp_faults self.old ≤ tcp_faults self.new }
         ensures rose { Rose (tcp_faults self.old) (tcp_faults self.new) }
+        ensures door { self.new.door ≡ self.old.door }
     {
         self.faults = self.faults.saturating_add(1);
     }
 
-    // How it does from now on, unless the journal is lost. That may be so though no write of it failed: where there was
-    // no memory for a cut.
-    fn note(&self, health: Health) {
-        let Some(counters) = self.counters else {
-            return;
+    // Asks the door once, unless the journal is lost then: None for a connection that comes too late. An error says
+    // what to do where there is none, also for want of memory.
+    fn accept_one(&mut self) -> Result<Option<Halves<D::Wire, K, T>>, AfterRefusal>
+        ensures gave { OnOk result (D.calls self.new.door ≡ with_call (D.calls self.old.door) Gave) }
+        ensures refused { IfErr result (Refuses (D.calls self.old.door) (D.calls self.new.door)) }
+        ensures same { self.new ≡ record self.old { door = self.new.door } }
+    {
+        let wire = match self.door.accept() {
+            Ok(wire) => wire,
+            Err(error) => return Err(after_refusal(code_of(error))),
         };
         if self.keeper.is_lost() {
-            counters.note_door(Health::Lost);
-        } else {
-            counters.note_door(health);
+            return Ok(None);
+        }
+        let Ok(talk) = talk_of(self.alloc, self.keeper, wire) else {
+            return Err(AfterRefusal::Pause);
+        };
+        match halves_of(self.alloc, talk, self.watch) {
+            Ok(halves) => Ok(Some(halves)),
+            Err(_) => Err(AfterRefusal::Pause),
         }
     }
 
-    // What is counted of the next connection, and of others.
-    fn take_counts(&self) -> Option<&'c StreamCounts> {
-        match self.counters {
-            Some(counters) => counters.take_connection(),
-            None => None,
+    // Asks once, and waits where something is wanting that comes back: None where it is to be asked again, else what
+    // comes of it.
+    fn ask(&mut self) -> Option<Option<Halves<D::Wire, K, T>>>
+        ensures last { IfSome result (λ halves.
+            AsksLast (D.calls self.old.door) (D.calls self.new.door) (is_some halves)) }
+        ensures again { result ≡ None → AsksAgain (D.calls self.old.door) (D.calls self.new.door) }
+        ensures same { self.new ≡ record self.old { door = self.new.door } }
+    {
+        if self.keeper.is_lost() {
+            return Some(None);
+        }
+        match self.accept_one() {
+            Ok(halves) => Some(halves),
+            Err(AfterRefusal::Fail) => Some(None),
+            Err(AfterRefusal::Again) => None,
+            Err(AfterRefusal::Pause) => {
+                self.door.pause(PAUSE_MILLISECONDS);
+                None
+            }
         }
     }
 
     /// The next connection, for which it may wait, also until handles and memory are there again. None where the
     /// listener is gone or its keeper has lost: that is asked before each wait and after it, since a bell may end one.
-    pub fn next_stream(&self) -> Option<(SocketReader<N, K>, SocketSink<K>)> {
-        let listener = self.listener.as_ref()?;
+    pub(crate) fn next_stream(&mut self) -> Option<Halves<D::Wire, K, T>>
+        ensures asks { AsksFor (D.calls self.old.door) (D.calls self.new.door) (is_some result) }
+        ensures same { self.new ≡ record self.old { door = self.new.door } }
+    {
+        if !self.listens {
+            return None;
+        }
         for _ in 0..u64::MAX {
-            if self.keeper.is_lost() {
-                return None;
-            }
-            let error = match accept_one(self.net, self.alloc, self.keeper, listener) {
-                Ok(halves) => return halves,
-                Err(error) => error,
-            };
-            match after_refusal(code_of(error)) {
-                AfterRefusal::Fail => return None,
-                AfterRefusal::Again => {}
-                AfterRefusal::Pause => {
-                    thread::sleep(&self.net, Duration::from_millis(PAUSE_MILLISECONDS));
-                }
+            match self.ask() {
+                Some(halves) => return halves,
+                None => {}
             }
         }
         None
     }
 }
 
-impl<
-    'c,
-    N: Net<Listener = TcpListener, Stream = TcpStream> + time::Clock + Copy + Drop,
-    K: Keeper + Copy + Drop,
-> Listener for TcpPort<'c, N, K> {
-    type Input = CountingSource<'c, ReaderSource<SocketReader<N, K>>>;
+impl<'c, D: Door + Drop, T: Watch + Copy + Drop, K: Keeper + Copy + Drop> Listener
+    for Port<'c, D, T, K> {
+    type Input = CountingSource<'c, ReaderSource<PortReader<D::Wire, K, T>>>;
 
-    type Output = CountingSink<'c, SocketSink<K>>;
+    type Output = CountingSink<'c, PortSink<D::Wire, K>>;
 
     ghost told = { tcp_view };
 
@@ -193,14 +198,20 @@ impl<
 
     ghost hands = { HandsUntold };
 
-    fn bind(&mut self, port: u16) -> Bound {
-        // What contracts see of the port is that of the very door which the system is asked for.
-        let door = SocketAddr::new(self.address, port);
-        match TcpListener::bind(&self.net, door) {
-            Ok(listener) => {
-                self.listener = Some(listener);
-                self.port = door.port();
-                self.note(Health::Well);
+    fn bind(&mut self, port: u16) -> Bound
+        ensures binds { Binds (tcp_view self.old) port (tcp_view self.new) result }
+        ensures becomes { IsLaterOf self.old self.new }
+        ensures never_falls { tcp_faults self.old ≤ tcp_faults self.new }
+        ensures cause { result ≡ Failed → Rose (tcp_faults self.old) (tcp_faults self.new) }
+        ensures steady { (result ≡ Failed → ⊥) → tcp_faults self.new ≡ tcp_faults self.old }
+        ensures listens { result ≡ Ready
+            → D.calls self.new.door ≡ with_call (D.calls self.old.door) (Listened self.old.address port) }
+    {
+        match self.door.listen(self.address, port) {
+            Ok(()) => {
+                self.listens = true;
+                self.port = port;
+                note_door(self.counters, &self.keeper, Health::Well);
                 Bound::Ready
             }
             Err(_) => {
@@ -212,20 +223,20 @@ impl<
 
     fn accept(&mut self) -> Accepted<Self::Input, Self::Output> {
         if self.handed >= self.limit {
-            self.note(Health::Draining);
+            note_door(self.counters, &self.keeper, Health::Draining);
             return Accepted::Closed;
         }
         match self.next_stream() {
             Some((input, output)) => {
                 self.handed += 1;
-                let counts = self.take_counts();
+                let counts = take_counts(self.counters);
                 Accepted::Stream(Waiting::of(
                     CountingSource::of(ReaderSource::new(input), counts),
                     CountingSink::of(output, counts),
                 ))
             }
             None => {
-                self.note(Health::Deaf);
+                note_door(self.counters, &self.keeper, Health::Deaf);
                 self.fail();
                 Accepted::Failed
             }

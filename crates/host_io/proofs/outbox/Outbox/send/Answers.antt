@@ -20,5 +20,6 @@ loop-self-preserved g c =
       within = search rules;
       few = inv.few;
       room = inv.room;
+      stays = λ seen same. same _ _ _ c.in-Took.ensures.takes ∙ inv.stays seen same;
       faults = c.in-Took.ensures.steady (λ e. absurd cc) ∙ inv.faults;
     }

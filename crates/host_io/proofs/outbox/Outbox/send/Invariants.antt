@@ -1,6 +1,6 @@
 use Rattle.std.proofs.Common.{◌≡◌, ◌≤◌, ◌-◌, drop, vec_len, vec_capacity}
 use Rattle.rail_io.specs.Told.{with_end}
-use Rattle.host_io.specs.Outbox.{most_held}
+use Rattle.host_io.specs.Outbox.{most_held, Stays}
 use Rattle.host_io.proofs.outbox.Outbox.send.Given as goal
 
 abbrev pub invariant-loop-self : goal.invariant-loop-self
@@ -9,6 +9,7 @@ invariant-loop-self g l = record {
   within : l.self-inside.sent ≤ vec_len l.self-inside.bytes;
   few : vec_len l.self-inside.bytes ≤ most_held;
   room : most_held ≤ vec_capacity l.self-inside.bytes;
+  stays : Stays g.K.Sink.takes l.fn.sink l.sink;
   faults : g.K.Sink.faults l.sink ≡ g.K.Sink.faults l.fn.sink;
 }
 

@@ -1,0 +1,63 @@
+-- The calls that were made of a port, and how one asks it for the next stream.
+use Rattle.std.specs.Prelude.{◌≡◌, ◌⊎◌, ◌++◌, ℕ, zero, suc, Bool, true, false, List, [], ◌∷◌, Option, option_map, Result, Ok, Err}
+use Rattle.std.specs.IoError.{raw_os_error}
+use Rattle.std.specs.declared.io.Error.{Error}
+use Rattle.std.specs.declared.net.ip_addr.IpAddr.{IpAddr}
+use Rattle.host_io.specs.declared.refusals.AfterRefusal.{AfterRefusal}
+use Rattle.host_io.specs.declared.refusals.AfterRefusal.TheVariants.{Fail, Again, Pause}
+use Rattle.host_io.specs.Refusals.{after_refusal, code_by}
+
+-- one call, and what it came to
+pub data DoorCall : Type 0 where
+  -- it listens at a port of an address
+  Listened : IpAddr → ℕ → DoorCall
+  -- a stream was accepted
+  Gave : DoorCall
+  -- none was, for the system's error of this number, or 0 for one of our own
+  Refused : ℕ → DoorCall
+  -- so many milliseconds were waited
+  Paused : ℕ → DoorCall
+
+-- one call more, where they are told
+abbrev pub with_call : Option (List DoorCall) → DoorCall → Option (List DoorCall)
+with_call told call = option_map (λ calls. calls ++ (call ∷ [])) told
+
+-- what an accept came to
+abbrev pub answered : {W : Type 0} → Result W Error → DoorCall
+answered (Ok wire) = Gave
+answered (Err e) = Refused (code_by (raw_os_error e))
+
+-- the milliseconds that are waited where something is wanting that comes back
+abbrev pub pause : ℕ
+pause = 100
+
+-- what is to be done after an error, also where there was no memory for a stream that it gave
+abbrev pub Refuses : Option (List DoorCall) → Option (List DoorCall) → AfterRefusal → Type 0
+Refuses before after todo =
+    ((code : ℕ) × (todo ≡ after_refusal code) × (after ≡ with_call before (Refused code)))
+    ⊎ ((todo ≡ Pause) × (after ≡ with_call before Gave))
+
+-- It is asked again: after an error that concerns one connection alone, or after a pause, where something was wanting
+-- that comes back, also the memory for a stream that it gave.
+abbrev pub AsksAgain : Option (List DoorCall) → Option (List DoorCall) → Type 0
+AsksAgain before after =
+    ((code : ℕ) × (Again ≡ after_refusal code) × (after ≡ with_call before (Refused code)))
+    ⊎ (((code : ℕ) × (Pause ≡ after_refusal code)
+    × (after ≡ with_call (with_call before (Refused code)) (Paused pause)))
+    ⊎ (after ≡ with_call (with_call before Gave) (Paused pause)))
+
+-- so often
+abbrev pub AsksOn : ℕ → Option (List DoorCall) → Option (List DoorCall) → Type 0
+AsksOn zero before after = after ≡ before
+AsksOn (suc n) before after = (mid : Option (List DoorCall)) × AsksOn n before mid × AsksAgain mid after
+
+-- The last time: it gave the stream that is handed out. Or none is handed out: it wasn't asked, it gave a stream that
+-- comes too late, or it is gone.
+abbrev pub AsksLast : Option (List DoorCall) → Option (List DoorCall) → Bool → Type 0
+AsksLast before after true = after ≡ with_call before Gave
+AsksLast before after false = (after ≡ before) ⊎ ((after ≡ with_call before Gave)
+    ⊎ ((code : ℕ) × (Fail ≡ after_refusal code) × (after ≡ with_call before (Refused code))))
+
+-- asked until a stream came, or until there will be none
+abbrev pub AsksFor : Option (List DoorCall) → Option (List DoorCall) → Bool → Type 0
+AsksFor before after came = (n : ℕ) × (mid : Option (List DoorCall)) × AsksOn n before mid × AsksLast mid after came
