@@ -15,7 +15,7 @@ pub data DoorCall : Type 0 where
   Gave : DoorCall
   -- none was, for the system's error of this number, or 0 for one of our own
   Refused : ℕ → DoorCall
-  -- so many milliseconds were waited
+  -- that many milliseconds were waited
   Paused : ℕ → DoorCall
 
 -- one call more, where they are told
