@@ -55,7 +55,7 @@ abbrev pub LooksUp : List ℕ → Option (List FileCall) → Option (List FileCa
 LooksUp name before after =
     (after ≡ with_call before (Resolved name)) ⊎ (after ≡ with_call (with_call before (Resolved name)) (Seen name))
 
--- The file beside the path is opened, and locked.
+-- The file next to the path is opened, and locked.
 abbrev pub Locks : List ℕ → Option (List FileCall) → Option (List FileCall) → Type 0
 Locks path before after =
     after ≡ with_call (with_call before (Opened (path_add_extension path lock_ending) of_lock)) Locked
