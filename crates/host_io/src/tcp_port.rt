@@ -121,11 +121,7 @@ impl<'c, D: Door + Drop, T: Watch + Copy + Drop, K: Keeper + Copy + Drop> Port<'
     }
 
     // Asks the door once, unless the journal is lost then: None for a connection that comes too late. An error says
-<<<<<<< HEAD
-    // what to do where there is none, also where memory is out.
-=======
     // what to do where there is none, also where there is no memory for it.
->>>>>>> 66e801362ded0fcf17d58d5de4a544e3e27253ac
     fn accept_one(&mut self) -> Result<Option<Halves<D::Wire, K, T>>, AfterRefusal>
         ensures gave { OnOk result (D.calls self.new.door ≡ with_call (D.calls self.old.door) Gave) }
         ensures refused { IfErr result (Refuses (D.calls self.old.door) (D.calls self.new.door)) }
