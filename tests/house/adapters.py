@@ -3,10 +3,11 @@
 
   tests/house/adapters.py [--write]
 
-It reads host_io, the devices of rail_io, and `main`. A function is untold if it has no `ensures` of its own, and nor has the trait whose
-method it is, or if its device tells nothing (`λ _. None`). Of each file with such a function two numbers are given: all its lines that are
-neither empty nor a comment, and those of the untold functions without their contracts. They have to be the table in docs/proved.md, which
---write makes anew, and the sums may only fall: a sum above the one that stands there is refused, also by --write.
+It reads host_io, the devices of rail_io, the clock by which `serve` goes, and `main` with what it needs. A function is untold if it has no
+`ensures` of its own, and nor has the trait whose method it is, or if its device tells nothing (`λ _. None`). Of each file with such a
+function two numbers are given: its lines but for empty ones, comments and imports, and those of the untold functions without their
+contracts. They have to be the table in docs/proved.md, which --write makes anew, and the sums may only fall: a sum above the one that
+stands there is refused, also by --write.
 """
 import argparse
 import pathlib
@@ -17,10 +18,11 @@ from definitions import CRATES, ROOT
 
 PAGE = ROOT / "docs" / "proved.md"
 HEAD = "| file | lines | untold functions | their lines |"
-FILES = ["host_io/src/*.rt", "rail_io/src/file_shelf.rt", "rail_io/src/system_clock.rt", "rail_io/src/standard.rt",
-         "rail_host/src/main.rt"]
+FILES = ["host_io/src/*.rt", "host_window/src/clock.rt", "rail_io/src/file_shelf.rt", "rail_io/src/system_*.rt",
+         "rail_io/src/standard.rt", "rail_host/src/asked.rt", "rail_host/src/main.rt", "rail_host/src/window.rt"]
 # A clause of this method speaks of the sink as a whole, also where it tells no bytes.
 OF_ITSELF = {("Sink", "hold_until")}
+IMPORT = re.compile(r"\s*(?:pub(?:\(crate\))? |ghost )?use ")
 FUNCTION = re.compile(r"^( *)(?:pub(?:\(crate\))? )?(?:const )?fn (\w+)")
 CLAUSE = re.compile(r"\s*(requires|ensures)\b")
 BLOCK = re.compile(r"^(?:impl|(?:pub )?trait)\b")
@@ -28,6 +30,17 @@ BLOCK = re.compile(r"^(?:impl|(?:pub )?trait)\b")
 
 def is_code(line):
     return bool(line.strip()) and not line.strip().startswith("//")
+
+
+def without_imports(lines):
+    """The lines but for those of imports, of which one may have several."""
+    kept, inside = [], False
+    for line in lines:
+        inside = inside or IMPORT.match(line) is not None
+        if not inside:
+            kept.append(line)
+        inside = inside and not line.endswith(";")
+    return kept
 
 
 class Function:
@@ -126,7 +139,7 @@ def rows():
             if untold:
                 crate, _, name = path.relative_to(CRATES).as_posix().partition("/src/")
                 names = ", ".join("`%s`" % function.name for function in untold)
-                yield "%s `%s`" % (crate, name), sum(map(is_code, lines)), names, sum(function.lines for function in untold)
+                yield "%s `%s`" % (crate, name), sum(map(is_code, without_imports(lines))), names, sum(function.lines for function in untold)
 
 
 def table():
