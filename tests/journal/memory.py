@@ -5,7 +5,7 @@
 
 In each round (60) one allocation of a host fails, or that one and all later ones: the allocations of its start by turns, and those of its
 commands, answers and cuts by lot. Two clients sell meanwhile; an answer 500 says that nothing was done. The host goes on until it is killed a
-moment after that, or ends: with status 5 or 3 and its note where it didn't begin, and with 4 and its note where it had no memory for a cut.
+moment after that, or ends: with status 5 or 3 and its note where it has served nobody, and with 4 and its note where it had no memory for a cut.
 Further rounds (at most 200) follow until each of these was met, and an answer 500. Each file is judged as by kill.py. Last, `recover` reads the
 file with each of its allocations refused, and writes the export or ends with status 5. Needs cc and the C library of the host to be linked
 dynamically.
@@ -88,7 +88,7 @@ class Scarce(Story):
         return ", ".join(what for what, count in met.items() if not count)
 
     def round(self, at: int, goes_on: bool):
-        host = Host(self.program, self.folder, env=self.environment(at, goes_on))
+        host, answered = Host(self.program, self.folder, env=self.environment(at, goes_on)), self.answered()
         listened, pending = host.wait(), []
         if listened:
             threads = self.start_clients(host.port)
@@ -97,7 +97,7 @@ class Scarce(Story):
             # Where no client is served any more the host may be about to end, after its sweeper's next tick.
             self.wait_for(lambda: any(thread.is_alive() for thread in threads) or host.has_ended(), END_SECONDS)
         if not listened or host.has_ended():
-            self.hold_end(host.ended(), listened, at)
+            self.hold_end(host.ended(), listened, self.answered() > answered, at)
         else:
             self.ended["went on"] += 1
             host.end()
@@ -114,10 +114,14 @@ class Scarce(Story):
         while not what() and time.monotonic() < end:
             time.sleep(0.005)
 
-    def hold_end(self, ended: tuple, listened: bool, at: int):
-        self.ended["lost its journal" if listened else "never began"] += 1
-        # One that wasn't seen to listen may have begun and lost its journal between two looks.
-        if ended not in ENDS[listened] + ([] if listened else ENDS[True]):
+    def answered(self) -> int:
+        return self.ledger.answers + self.refused()
+
+    def hold_end(self, ended: tuple, listened: bool, answered: bool, at: int):
+        # One that wasn't seen to listen may have begun and lost its journal between two looks. One that listens may
+        # still have no memory for those who are to serve: it has answered nobody.
+        self.ended["lost its journal" if ended in ENDS[True] else "never began"] += 1
+        if ended not in ENDS[True] + ([] if answered else ENDS[False]):
             self.ledger.fault("with allocation %d refused a host ended with %s" % (at, ended))
 
     def recover(self) -> int:
