@@ -6,4 +6,3 @@ pub mod Talks
 pub mod Paces
 pub mod Refusals
 pub mod Doors
-pub mod FileCalls

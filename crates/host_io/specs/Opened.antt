@@ -2,6 +2,7 @@
 use Rattle.std.specs.Prelude.{Bool, true, false, ◌≡◌, ◌+◌, ℕ, List, [], length, take, Option, None, Some, Result, Ok, Err, Vec, if◌then◌else◌, leb}
 use Rattle.std.specs.IoError.{error_kind}
 use Rattle.std.specs.declared.alloc.Global.{Global}
+use Rattle.std.specs.declared.fs.File.{File}
 use Rattle.std.specs.declared.fs.TryLockError.{TryLockError}
 use Rattle.std.specs.declared.fs.TryLockError.TheVariants.{WouldBlock, Error as Broken}
 use Rattle.std.specs.declared.io.Error.{Error}
@@ -35,7 +36,7 @@ abbrev pub is_missing : ErrorKind → Bool
 is_missing NotFound = true
 is_missing _ = false
 
-abbrev pub present_by : {F : Type 0} → Result F Error → Result (Option F) Error
+abbrev pub present_by : Result File Error → Result (Option File) Error
 present_by (Ok file) = Ok (Some file)
 present_by (Err e) = if is_missing (error_kind e) then Ok None else Err e
 

@@ -6,7 +6,6 @@ ghost use Rattle.host_io.specs.Opened.{file_journal_faults};
 
 use crate::journal_files::JournalFiles;
 use crate::opened::{opened_of, refused_of};
-use crate::system_calls::SystemCalls;
 use crate::system_files::SystemFiles;
 use rail_io::{Journal, JournalOpened};
 use std::alloc::Global;
@@ -21,7 +20,7 @@ pub struct FileJournal<J: JournalFiles + Drop> {
     faults: u64,
 }
 
-impl<F: Files<File = File> + Drop> FileJournal<SystemFiles<SystemCalls<F>>> {
+impl<F: Files<File = File> + Drop> FileJournal<SystemFiles<F>> {
     /// A journal in these files of the system that isn't open, and hasn't failed.
     pub fn new(files: F, alloc: Global) -> Self
         ensures faults { file_journal_faults result ≡ 0 }

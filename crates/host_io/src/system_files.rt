@@ -1,91 +1,60 @@
-// The files of the system as those of a journal. They tell no content, but which calls they make.
-ghost use Rattle.std.specs.Prelude.{◌≡◌, ◌+◌, None, Ok, IfOk, IfSome, OnOk, take};
+// The files of the system as those of a journal. They tell no content.
+ghost use Rattle.std.specs.Prelude.{◌≡◌, ◌+◌, None, IfOk, IfSome, take};
 ghost use Rattle.host_io.specs.Opened.{locked_by, present_by};
-ghost use Rattle.host_io.specs.FileCalls.{with_call, new_ending, Holds, KeepsFolder, Locks, LooksUp, WritesNew};
-ghost use Rattle.host_io.specs.FileCalls.{BytesKept, Read as ReadCall, Renamed, Seen, Written};
-ghost use Rattle.std.specs.IoError.{error_kind};
-ghost use Rattle.std.specs.declared.io.ErrorKind.TheVariants.{NotConnected};
 ghost use Rattle.std.specs.Path.{HasNoSlash, path_add_extension, path_buf_bytes};
 
-use crate::file_calls::{FileCalls, Opening};
 use crate::journal_files::JournalFiles;
-use crate::system_calls::SystemCalls;
 use std::alloc::Global;
-use std::fs::{File, Files, TryLockError};
-use std::io;
-use std::io::{ErrorKind, Read};
+use std::fs::{File, Files, OpenOptions, TryLockError};
+use std::io::{ErrorKind, Read, Write};
+use std::os::fd::AsRawFd;
 use std::path::PathBuf;
+use std::{fs, io};
 
 /// The numbers of standard input, output and error: no file of a journal may have one, also where the process was
 /// started without them, since notes would be written into it.
 const STANDARD_FILES: i32 = 3;
 
-/// How the lock is opened, and a new text.
-const MADE: Opening = Opening {
-    reads: false,
-    appends: true,
-    creates: true,
-};
-
-/// How the text is opened.
-const TEXT: Opening = Opening {
-    reads: true,
-    appends: true,
-    creates: false,
-};
-
-/// How a folder is opened.
-const FOLDER: Opening = Opening {
-    reads: true,
-    appends: false,
-    creates: false,
-};
-
 /// That this process has a journal for itself alone.
 #[derive(Drop)]
-struct Held<H: Drop> {
+struct Held {
     /// The path of the journal's text.
     path: PathBuf,
     /// A file of its own next to the journal, which is locked, and is never renamed nor removed. So no two processes
     /// can have locked different files of one name, as they could if the lock lay on the text, whose name other texts
     /// take.
-    lock: H,
+    lock: File,
 }
 
 /// The files of one journal in the system's. Beside its text stands a file for its lock, with `.lock` after the
 /// journal's name, and a new text is written under that name with `.new`.
 #[derive(Drop)]
-pub struct SystemFiles<C: FileCalls + Drop> {
-    calls: C,
+pub struct SystemFiles<F: Files<File = File> + Drop> {
+    files: F,
     alloc: Global,
-    held: Option<Held<C::File>>,
+    held: Option<Held>,
     /// The journal's text, where one is held that is there.
-    text: Option<C::File>,
+    text: Option<File>,
     /// The new text, by its name and as a file, where one is written that hasn't taken the place of the old one.
-    fresh: Option<(PathBuf, C::File)>,
+    fresh: Option<(PathBuf, File)>,
 }
 
 // The path that a name leads to. Where the name is a link, the path is that of its file, so that a new text of the
 // journal takes the place of the old one and not that of the link.
-fn path_of<C: FileCalls>(calls: &mut C, alloc: Global, name: &str) -> io::Result<PathBuf>
-    ensures looks { LooksUp name.now (C.calls calls.old) (C.calls calls.new) }
-{
-    match calls.resolve(alloc, name) {
-        Err(error) if error.kind() == ErrorKind::NotFound => new_path(calls, alloc, name),
+fn path_of<F: Files>(files: &F, alloc: Global, name: &str) -> io::Result<PathBuf> {
+    match files.canonicalize(alloc, name) {
+        Err(error) if error.kind() == ErrorKind::NotFound => new_path(files, alloc, name),
         found => found,
     }
 }
 
 // The path of a journal that isn't there yet. A link to a file that isn't there is refused: the new text would take the
 // place of the link, and the lock would be that of the link.
-fn new_path<C: FileCalls>(calls: &mut C, alloc: Global, name: &str) -> io::Result<PathBuf>
-    ensures looks { C.calls calls.new ≡ with_call (C.calls calls.old) (Seen name.now) }
-    ensures path { IfOk result (λ path. path_buf_bytes path ≡ name.now) }
-{
-    if calls.is_there(name) {
-        return Err(io::Error::from(ErrorKind::InvalidInput));
+fn new_path<F: Files>(files: &F, alloc: Global, name: &str) -> io::Result<PathBuf> {
+    match files.symlink_metadata(name) {
+        Ok(_) => Err(io::Error::from(ErrorKind::InvalidInput)),
+        Err(_) => Ok(PathBuf::from_str(alloc, name)?),
     }
-    Ok(PathBuf::from_str(alloc, name)?)
 }
 
 // The path with this ending after a dot.
@@ -102,19 +71,20 @@ fn beside(alloc: Global, path: &str, ending: &str) -> io::Result<PathBuf>
 }
 
 // The file that is locked while the journal of this path is held, and whether it is locked now.
-fn lock_of<C: FileCalls>(
-    calls: &mut C,
+fn lock_of<F: Files<File = File>>(
+    files: &F,
     alloc: Global,
-    path: &PathBuf,
-) -> io::Result<(C::File, bool)>
-    ensures locks { OnOk result (Locks (path_buf_bytes path.now) (C.calls calls.old) (C.calls calls.new)) }
-{
-    let name = beside(alloc, path.as_str(), "lock")?;
-    let lock = calls.open(name.as_str(), MADE)?;
-    if calls.number(&lock) < STANDARD_FILES {
+    path: &str,
+) -> io::Result<(File, bool)> {
+    let name = beside(alloc, path, "lock")?;
+    let lock = OpenOptions::new()
+        .write(true)
+        .create(true)
+        .open(files, &name)?;
+    if lock.as_raw_fd() < STANDARD_FILES {
         return Err(io::Error::from(ErrorKind::Unsupported));
     }
-    let locked = is_locked(calls.lock(&lock))?;
+    let locked = is_locked(lock.try_lock())?;
     Ok((lock, locked))
 }
 
@@ -130,7 +100,7 @@ fn is_locked(answer: Result<(), TryLockError>) -> io::Result<bool>
 }
 
 // A file that may be missing: None where it is.
-fn unless_missing<H: Drop>(answer: io::Result<H>) -> io::Result<Option<H>>
+fn unless_missing(answer: io::Result<File>) -> io::Result<Option<File>>
     ensures { result ≡ present_by answer }
 {
     match answer {
@@ -140,8 +110,8 @@ fn unless_missing<H: Drop>(answer: io::Result<H>) -> io::Result<Option<H>>
     }
 }
 
-/// All that the reader gives, or its first bytes, one more than there is room for.
-pub(crate) fn read_text<R: Read + Drop>(text: R, alloc: Global, room: u32) -> io::Result<Vec<u8>>
+// All that the reader gives, or its first bytes, one more than there is room for.
+fn read_text<R: Read + Drop>(text: R, alloc: Global, room: u32) -> io::Result<Vec<u8>>
     ensures { IfSome (R.remaining text) (λ bytes. IfOk result (λ read. read.items ≡ take (room + 1) bytes)) }
 {
     let mut content = Vec::new(alloc);
@@ -150,53 +120,47 @@ pub(crate) fn read_text<R: Read + Drop>(text: R, alloc: Global, room: u32) -> io
 }
 
 // Keeps the names of the folder that the path lies in.
-fn sync_folder<C: FileCalls>(calls: &mut C, path: &PathBuf) -> io::Result<()>
-    ensures keeps { OnOk result (KeepsFolder (path_buf_bytes path.now) (C.calls calls.old) (C.calls calls.new)) }
-{
+fn sync_folder<F: Files<File = File>>(files: &F, path: &PathBuf) -> io::Result<()> {
     let folder = match path.parent() {
         Some(folder) if !folder.as_str().is_empty() => folder.as_str(),
         _ => ".",
     };
-    let folder = calls.open(folder, FOLDER)?;
-    calls.keep(&folder)
+    fs::open(files, folder)?.sync_all()
 }
 
 // A new text for the path, written next to it and kept there, which may be used by those who may use the old one.
-fn new_text<C: FileCalls>(
-    calls: &mut C,
+fn new_text<F: Files<File = File>>(
+    files: &F,
     name: &PathBuf,
-    old: Option<&C::File>,
+    old: Option<&File>,
     bytes: &[u8],
-) -> io::Result<C::File>
-    ensures writes { OnOk result
-        (WritesNew (path_buf_bytes name.now) bytes.now (C.calls calls.old) (C.calls calls.new)) }
-{
-    let mut text = calls.open(name.as_str(), MADE)?;
-    calls.empty(&text)?;
+) -> io::Result<File> {
+    let mut text = OpenOptions::new()
+        .append(true)
+        .create(true)
+        .open(files, name)?;
+    text.set_len(0)?;
     if let Some(old) = old {
-        calls.share_as(&text, old)?;
+        text.set_permissions(old.metadata()?.permissions())?;
     }
-    calls.write(&mut text, bytes)?;
-    calls.keep(&text)?;
+    text.write_all(bytes)?;
+    text.sync_all()?;
     Ok(text)
 }
 
 // What a call comes to where no journal is held.
-fn not_held() -> io::Error
-    ensures { error_kind result ≡ NotConnected }
-{
+fn not_held() -> io::Error {
     io::Error::from(ErrorKind::NotConnected)
 }
 
-impl<F: Files<File = File> + Drop> SystemFiles<SystemCalls<F>> {
+impl<F: Files<File = File> + Drop> SystemFiles<F> {
     /// The files of no journal yet.
     pub fn new(files: F, alloc: Global) -> Self
         ensures held { result.held ≡ None }
         ensures text { result.text ≡ None }
-        ensures fresh { result.fresh ≡ None }
     {
         SystemFiles {
-            calls: SystemCalls { files },
+            files,
             alloc,
             held: None,
             text: None,
@@ -205,80 +169,63 @@ impl<F: Files<File = File> + Drop> SystemFiles<SystemCalls<F>> {
     }
 }
 
-impl<C: FileCalls + Drop> JournalFiles for SystemFiles<C> {
+impl<F: Files<File = File> + Drop> JournalFiles for SystemFiles<F> {
     ghost kept = { λ _. None };
 
     ghost fresh = { λ _. None };
 
-    fn hold(&mut self, name: &str) -> io::Result<bool>
-        ensures holds { IfOk result (Holds name.now (C.calls self.old.calls) (C.calls self.new.calls)) }
-    {
+    fn hold(&mut self, name: &str) -> io::Result<bool> {
         self.let_go();
-        let path = path_of(&mut self.calls, self.alloc, name)?;
-        let (lock, locked) = lock_of(&mut self.calls, self.alloc, &path)?;
+        let path = path_of(&self.files, self.alloc, name)?;
+        let (lock, locked) = lock_of(&self.files, self.alloc, path.as_str())?;
         if locked {
-            let text = self.calls.open(path.as_str(), TEXT);
+            let text = OpenOptions::new()
+                .read(true)
+                .append(true)
+                .open(&self.files, &path);
             self.text = unless_missing(text)?;
             self.held = Some(Held { path, lock });
         }
         Ok(locked)
     }
 
-    fn let_go(&mut self)
-        ensures lets_go { self.new ≡ record self.old { held = None; text = None; fresh = None } }
-    {
+    fn let_go(&mut self) {
         self.held = None;
         self.text = None;
         self.fresh = None;
     }
 
-    fn read(&mut self, alloc: Global, room: u32) -> io::Result<Option<Vec<u8>>>
-        ensures none { self.old.text ≡ None → result ≡ Ok None }
-        ensures reads { IfSome self.old.text
-            (λ _. C.calls self.new.calls ≡ with_call (C.calls self.old.calls) (ReadCall room)) }
-    {
+    fn read(&mut self, alloc: Global, room: u32) -> io::Result<Option<Vec<u8>>> {
         match &self.text {
-            Some(text) => Ok(Some(self.calls.read(text, alloc, room)?)),
+            Some(text) => Ok(Some(read_text(text, alloc, room)?)),
             None => Ok(None),
         }
     }
 
-    fn write_new(&mut self, bytes: &[u8]) -> io::Result<()>
-        ensures writes { OnOk result (IfSome self.old.held
-            (λ held. WritesNew (path_add_extension (path_buf_bytes held.path) new_ending) bytes.now
-            (C.calls self.old.calls) (C.calls self.new.calls))) }
-    {
+    fn write_new(&mut self, bytes: &[u8]) -> io::Result<()> {
         let Some(held) = &self.held else {
             return Err(not_held());
         };
         let name = beside(self.alloc, held.path.as_str(), "new")?;
-        let text = new_text(&mut self.calls, &name, self.text.as_ref(), bytes)?;
+        let text = new_text(&self.files, &name, self.text.as_ref(), bytes)?;
         self.fresh = Some((name, text));
         Ok(())
     }
 
-    fn put_new(&mut self) -> io::Result<()>
-        ensures puts { OnOk result (IfSome self.old.held (λ held. IfSome self.old.fresh
-            (λ fresh. KeepsFolder (path_buf_bytes held.path)
-            (with_call (C.calls self.old.calls) (Renamed (path_buf_bytes fresh.0) (path_buf_bytes held.path)))
-            (C.calls self.new.calls)))) }
-    {
+    fn put_new(&mut self) -> io::Result<()> {
         let (Some(held), Some((name, text))) = (&self.held, self.fresh.take()) else {
             return Err(not_held());
         };
-        self.calls.rename(name.as_str(), held.path.as_str())?;
+        fs::rename(&self.files, &name, &held.path)?;
         self.text = Some(text);
-        sync_folder(&mut self.calls, &held.path)
+        sync_folder(&self.files, &held.path)
     }
 
-    fn append(&mut self, piece: &[u8]) -> io::Result<()>
-        ensures appends { OnOk result (C.calls self.new.calls
-            ≡ with_call (with_call (C.calls self.old.calls) (Written piece.now)) BytesKept) }
-    {
+    fn append(&mut self, piece: &[u8]) -> io::Result<()> {
         let Some(text) = &mut self.text else {
             return Err(not_held());
         };
-        self.calls.write(text, piece)?;
-        self.calls.keep_bytes(text)
+        text.write_all(piece)?;
+        text.sync_data()
     }
 }
