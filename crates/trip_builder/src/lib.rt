@@ -5,11 +5,11 @@
 //! first sixteen of all trips of the wish, by their last arrival, then the later first departure, then fewer segments,
 //! then their runs and stops.
 //!
-//! How `search` keeps it short, of which only the answer is proved: once sixteen trips are known it leaves out what
-//! leaves too late by the shortest ride from there (`Shortest`). A long search is bounded (`Bounds`): for rides
-//! (`Rides`) and for departures of stations (`Boards`) it has a moment before which nothing comes to the destination
-//! from there. `Near` says which stations need no board. That no bound is later than the arrival of a trip that it
-//! bounds is proved (`AreBounds`), so bounds that know less cost time alone.
+//! How `search` keeps it short is no part of its contract, which gives the answer alone. Once sixteen trips are known, it
+//! passes over what leaves too late by the shortest ride from there (`Shortest`). In a long search it has bounds besides
+//! (`Bounds`): for rides (`Rides`), and for departures of stations (`Boards`), a moment before which no trip of the wish
+//! comes to the destination from there. `Near` says which stations need no board. A bound that knows less costs time
+//! and changes no answer.
 #![tactic(auto)]
 
 // The rules: what a trip is, and which stands first.
