@@ -5,11 +5,11 @@
 //! first sixteen of all trips of the wish, by their last arrival, then the later first departure, then fewer segments,
 //! then their runs and stops.
 //!
-//! How `search` keeps it short is no part of its contract, which gives the answer alone. Once sixteen trips are known, it
-//! passes over what leaves too late by the shortest ride from there (`Shortest`). In a long search it has bounds besides
-//! (`Bounds`): for rides (`Rides`), and for departures of stations (`Boards`), a moment before which no trip of the wish
-//! comes to the destination from there. `Near` says which stations need no board. A bound that knows less costs time
-//! and changes no answer.
+//! How `search` keeps it short is no part of its contract, which gives the answer alone. Once sixteen trips are known,
+//! it passes over what leaves too late by the shortest ride from there (`Shortest`). In a long search it has bounds
+//! besides (`Bounds`): for rides (`Rides`), and for departures of stations (`Boards`), a moment before which no trip of
+//! the wish comes to the destination from there. `Near` says which stations need no board. A bound that knows less
+//! costs time and changes no answer.
 #![tactic(auto)]
 
 // The rules: what a trip is, and which stands first.
