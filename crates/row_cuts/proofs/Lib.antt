@@ -1,5 +1,6 @@
 pub mod Looking
 pub mod Writing
+pub mod Counting
 pub mod Folding
 pub mod Printing
 pub mod ReadBack

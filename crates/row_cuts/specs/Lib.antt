@@ -1,4 +1,5 @@
 pub mod Looks
+pub mod Counts
 pub mod Lines
 pub mod Prints
 pub mod Cuts
