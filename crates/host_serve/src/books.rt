@@ -166,7 +166,7 @@ pub fn run_books<
     rt: &'x R,
     common: Common<'x>,
     opened: Opened,
-    devices: Devices<L, T, C>,
+    devices: Devices<'_, L, T, C>,
     watchers: Vec<W>,
     blank: Blank,
 ) -> Run<BooksOutcome, L>
@@ -209,7 +209,7 @@ where
         common,
         &mut opened,
         Means {
-            ticker: Until::of(devices.ticker, shared, common.gate, rt),
+            ticker: Until::of(devices.ticker, shared, common, rt),
             clocks: devices.clocks,
             watchers,
             share: rest,

@@ -9,7 +9,7 @@
 //!
 //! `serve_kept` does so with a journal: the books open with the bookings that it leaves, and one member more, the
 //! committer, has what it looked at kept there. It is one of the members that watch, whose desks only look, and whose trait
-//! is `Watcher`. `Log` knows the journal's text, and `Committer` takes the cuts.
+//! is `Watcher`. Another one is the `Looker`, which counts rows and places for the operator's window. `Log` knows the journal's text, and `Committer` takes the cuts.
 //!
 //! It is a crate of its own since here alone threads meet the service.
 #![tactic(auto)]
@@ -29,6 +29,7 @@ mod letting;
 mod listening;
 mod log;
 mod looked;
+mod looker;
 mod mark;
 mod meeting;
 mod member;
@@ -46,6 +47,7 @@ pub use end::{KeptOutcome, ServeEnd, ServeOutcome};
 pub use keeping::Keeping;
 pub use kept::serve_kept;
 pub use log::Kept;
+pub use looker::Looker;
 pub use mark::{Mark, Over};
 pub use member::{Common, Post};
 pub use run::run_serve;
@@ -54,4 +56,4 @@ pub use shared_listener::{Ended, ListenerEnd, Named, SharedListener};
 pub use streams::{Door, Streams};
 pub use sweeping::Sweeper;
 pub use until::Until;
-pub use watching::{Lookout, NoWatcher, Watcher};
+pub use watching::{Either, Lookout, Watcher};
