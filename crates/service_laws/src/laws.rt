@@ -10,10 +10,10 @@ ghost use Rattle.service_laws.specs.Told.{BookingsAreFound, BookingsAreShown, Re
 ghost use Rattle.service_laws.specs.Told.{ShownIsSo, ConfirmedIsSo, FulfilledIsSo, ReleasedIsSo, RefundedIsSo};
 ghost use Rattle.service_laws.specs.Told.{CreatedIsSo, ExchangedIsSo};
 
-/// A call may be said to begin where its desk had seen no more than before it. For two calls at any desks: where, when
-/// the one was answered and the other hadn't begun, both desks had seen beginnings of one history, in which the other's
-/// own entries all stood, the other adds no entry or begins after all that the first had seen. So does a call of a
-/// desk that had learned before it what another desk told.
+/// A call may be said to begin where its desk had seen no more than before it. Take two calls at any desks, and a
+/// history of which both desks had seen beginnings when the one was answered and the other hadn't begun. If the other's
+/// own entries all stood in it, the other adds no entry, or begins after all that the first had seen. So does a call of
+/// a desk that had learned before it what another desk told.
 pub fn calls_in_order()
     ensures begin { CallsBeginAtSeen }
     ensures in_order { CallsInOrder }
