@@ -17,12 +17,13 @@ use Rattle.host_replay.specs.Replay.{IsNoReplay}
 use Rattle.host_replay.specs.Export.{IsNoExport}
 use Rattle.host_drill.specs.Ends.{IsNoDrill, Leaves, end_of_drill}
 use Rattle.host_drill.specs.declared.drill.Cause.{Cause}
-use Rattle.host_serve.specs.Ends.{status_of_serve}
+use Rattle.host_journal.specs.Ends.{status_of_serve}
 use Rattle.host_serve.specs.Kept.{EndsKept, IsNoKeptServe, Scene}
-use Rattle.host_serve.specs.Serve.{HasShelfCause, IsExporting, IsNoServe, IsOfRefusedText, IsOnlyLimited, IsServe}
+use Rattle.host_journal.specs.Causes.{HasShelfCause}
+use Rattle.host_serve.specs.Serve.{IsExporting, IsNoServe, IsOfRefusedText, IsOnlyLimited, IsServe}
 use Rattle.host_serve.specs.Serve.{IsWithoutBooks, Left, Runs}
 use Rattle.host_serve.specs.Telling.{IsTold}
-use Rattle.host_serve.specs.declared.end.ServeOutcome.{ServeOutcome}
+use Rattle.host_journal.specs.declared.end.ServeOutcome.{ServeOutcome}
 use Rattle.rail_host.specs.Devices.{Devices, FailsAt, HasFailed, IsUntouched, OfShelf, ShelfFailed, Takes}
 use Rattle.rail_host.specs.Devices.{after, before, files_of, noting}
 use Rattle.rail_host.specs.Plain.{EndsPlainly}

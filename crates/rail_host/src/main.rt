@@ -22,7 +22,7 @@ use devices::{Devices, ForServe};
 use exit::run_host;
 use host_catalogue::{CommandEnd, end_command};
 use host_io::{FileJournal, SleepTicker, TcpBell, TcpPort};
-use host_serve::Keeping;
+use host_journal::Keeping;
 use host_window::{CountingJournal, CountingTicker, show_all};
 use rail_io::{Bell, FileShelf, ReaderSource, WriterSink};
 use std::alloc::{AllocError, Global};

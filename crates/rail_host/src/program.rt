@@ -11,7 +11,7 @@ use crate::devices::{Devices, ForServe};
 use crate::host::run_plain;
 use crate::serve::serve_port;
 use host_drill::{DrillEnd, run_drill};
-use host_serve::ServeEnd;
+use host_journal::ServeEnd;
 use host_words::{CommandName, command_of};
 use rail_io::{Bell, Journal, Shelf, Sink, Source, Ticker};
 use rail_service::Listener;
