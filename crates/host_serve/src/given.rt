@@ -26,7 +26,9 @@ use crate::listening::listen_and_serve;
 use crate::member::Common;
 use claim_rule::{Books, Desk};
 use host_catalogue::{LoadFault, load_books, load_catalogue};
-use host_journal::{Committer, Keeping, KeptOutcome, NoWatcher, Opened, ServeOutcome, open_journal};
+use host_journal::{
+    Committer, Keeping, KeptOutcome, NoWatcher, Opened, ServeOutcome, open_journal,
+};
 use host_words::ServeWords;
 use rail_catalogue::Catalogue;
 use rail_io::{Bell, Clock, Journal, Shelf, Ticker};

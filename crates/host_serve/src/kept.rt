@@ -21,7 +21,7 @@ use crate::export::write_export;
 use crate::given::Given;
 use claim_rule::Wall;
 use host_catalogue::end_command;
-use host_journal::{KeptOutcome, Keeping, ServeEnd, ServeOutcome, command_end, kept_end};
+use host_journal::{Keeping, KeptOutcome, ServeEnd, ServeOutcome, command_end, kept_end};
 use host_words::{CommandName, ServeWords, WordsFault, is_for, read_serve};
 use rail_io::{Bell, Clock, Journal, Shelf, Sink, Ticker};
 use rail_service::Listener;
