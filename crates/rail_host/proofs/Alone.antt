@@ -11,8 +11,8 @@ use Rattle.host_journal.specs.declared.end.ServeOutcome.{ServeOutcome}
 use Rattle.host_journal.specs.declared.end.ServeOutcome.TheVariants as end
 use Rattle.host_serve.proofs.Ending.{ends_without, missed, no_words, refused_wall, some_wall, stays, wall_missing, when_refused, without}
 use Rattle.host_serve.proofs.Telling.{rose_before, told_part, told_whole}
-use Rattle.rail_host.specs.Commands.{EndsServe, scene}
-use Rattle.rail_host.specs.Devices.{Devices, IsUntouched, ShelfFailed, files_of, noting}
+use Rattle.plain_commands.specs.Devices.{Devices, IsUntouched, ShelfFailed, files_of}
+use Rattle.rail_host.specs.Commands.{EndsServe, noting, scene}
 
 module _ (words : List (List ℕ)) (files : Files) (left : Left) where
   -- status 3: the listener failed, or the shelf

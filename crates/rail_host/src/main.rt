@@ -11,7 +11,6 @@ ghost use Rattle.std.specs.Vec.Iter.{into_iter_items};
 mod asked;
 mod devices;
 mod exit;
-mod host;
 mod program;
 mod serve;
 mod window;

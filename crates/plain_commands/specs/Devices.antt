@@ -5,7 +5,6 @@ use Rattle.rail_io.specs.Told.{WritesWhere}
 use Rattle.host_catalogue.specs.Files.{Files}
 use Rattle.host_catalogue.specs.Noted.{TakesNote}
 use Rattle.host_replay.specs.Input.{Told, told_of}
-use Rattle.host_serve.specs.Telling.{Noting}
 
 -- a source or a sink, as it was handed in and as it is left
 pub record Stream (D : Type 0) : Type 0 where
@@ -65,10 +64,6 @@ pub record FailsAt {D : Type 0} (fault status : ℕ) (s : Stream D) : Type 0 whe
 -- the notes took a front of this text: all of it, unless they failed
 abbrev pub Takes : {D : Type 0} → Stream D → List ℕ → Type 0
 Takes s text = TakesNote s.told s.faults s.old s.new text
-
--- the notes, as `serve` sees them
-abbrev pub noting : {D : Type 0} → Stream D → Noting
-noting s = record { before = s.told s.old; failed = s.faults s.old; after = s.told s.new; fails = s.faults s.new }
 
 -- Where the input and the output tell their bytes, and this holds, some bytes are written: this of those to come.
 abbrev pub Writes : {F S K E : Type 0} → Type 0 → Devices F S K E → (List ℕ → List ℕ → Type 0) → Type 0

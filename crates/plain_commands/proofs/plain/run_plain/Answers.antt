@@ -3,7 +3,7 @@ use Rattle.host_words.specs.Commands.{IsFor}
 use Rattle.host_words.specs.Options.{words_texts}
 use Rattle.host_words.specs.declared.command.CommandName.{CommandName}
 use Rattle.host_words.specs.declared.command.CommandName.TheVariants.{Tiny, Replay, Export, Settle, Recover}
-use Rattle.rail_host.proofs.host.run_plain.Goals as goal
+use Rattle.plain_commands.proofs.plain.run_plain.Goals as goal
 
 pub returns-in-Some-Tiny : goal.returns-in-Some-Tiny
 returns-in-Some-Tiny g c =

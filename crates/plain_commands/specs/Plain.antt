@@ -27,9 +27,9 @@ use Rattle.host_replay.specs.declared.settle_end.SettleEnd.{SettleEnd}
 use Rattle.host_replay.specs.Recover.{HasEndCause, HasNoneToRecover, IsExportFrom, IsOfNames, IsOfRefusedSource}
 use Rattle.host_replay.specs.Recover.{Recovers, end_of_recover, status_of_recover}
 use Rattle.host_replay.specs.declared.recover_end.RecoverEnd.{RecoverEnd}
-use Rattle.rail_host.specs.Devices.{Devices, FailsAt, HasFailed, IsSteady, IsUntouched, OfShelf, Shelf, ShelfFailed}
-use Rattle.rail_host.specs.Devices.{Takes, Writes}
-use Rattle.rail_host.specs.Devices.{after, before, files_of, streams_of}
+use Rattle.plain_commands.specs.Devices.{Devices, FailsAt, HasFailed, IsSteady, IsUntouched, OfShelf, Shelf, ShelfFailed}
+use Rattle.plain_commands.specs.Devices.{Takes, Writes}
+use Rattle.plain_commands.specs.Devices.{after, before, files_of, streams_of}
 
 -- The words are refused, and nothing is touched but the notes.
 pub record EndsRefused {F S K E : Type 0} (status : ℕ) (d : Devices F S K E) : Type 0 where

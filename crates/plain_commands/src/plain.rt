@@ -1,6 +1,6 @@
 // The top call for plain commands.
 ghost use Rattle.host_words.specs.Options.{words_texts};
-ghost use Rattle.rail_host.specs.Plain.{RanPlainly};
+ghost use Rattle.plain_commands.specs.Plain.{RanPlainly};
 
 use host_catalogue::{CommandEnd, end_command};
 use host_replay::{run_export, run_recover, run_replay, run_settle};
