@@ -11,8 +11,9 @@ pub record TakenCut : Type 0 where
   pub number : ℕ
   pub began : List Entry
 
--- A moment: the one history of all desks; how the gate stands; the cuts that were taken, the last one first; and the
--- last one that the journal has, and the last of which those who wait have heard so, each with all before it
+-- A moment: the one history of all desks, how the gate stands, and the cuts that were taken, the last one first. With
+-- it goes the number of the last cut that the journal has, with all before it, and of the last one that those who wait
+-- have heard to be kept
 pub record Moment : Type 0 where
   pub history : List Entry
   pub gate : Standing
