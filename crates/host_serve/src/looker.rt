@@ -5,8 +5,8 @@ ghost use Rattle.claim_rule.specs.Desks.{IsOf};
 ghost use Rattle.claim_rule.specs.Out.{AllLooks, IsTidy};
 ghost use Rattle.host_serve.specs.Serve.{some_count};
 
-use crate::watching::Watcher;
 use claim_rule::{Books, Desk};
+use host_journal::Watcher;
 use host_window::{Findings, Found};
 use rail_catalogue::Catalogue;
 use row_cuts::{SoldCount, count_rows, count_sold};
@@ -53,6 +53,22 @@ impl<R: Wait> Watcher for Looker<'_, R> {
         let sold = sold_in(self.cat, books, desk);
         self.findings.answer(self.rt, Found { rows, sold });
         TurnEnd::Again
+    }
+}
+
+/// One of two kinds of watchers.
+#[derive(Drop)]
+pub enum Either<A, B> {
+    One(A),
+    Other(B),
+}
+
+impl<A: Watcher, B: Watcher> Watcher for Either<A, B> {
+    fn watch(&mut self, books: &Books, desk: &mut Desk) -> TurnEnd {
+        match self {
+            Either::One(watcher) => watcher.watch(books, desk),
+            Either::Other(watcher) => watcher.watch(books, desk),
+        }
     }
 }
 
