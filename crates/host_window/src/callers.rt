@@ -5,7 +5,6 @@ ghost use Rattle.session_loop.specs.declared.end.ConnEnd.TheVariants.{ReadFault,
 ghost use Rattle.host_window.specs.Showing.{IsShown};
 
 use crate::counters::Counters;
-use crate::findings::Findings;
 use crate::pages::Pages;
 use http_wire::Intake;
 use rail_io::{Sink, Source};
@@ -50,13 +49,7 @@ pub fn show_pages<R: Wait, S: Source, K: Sink>(
 }
 
 /// Shows the pages to all who look, one after the other, until there will be none any more or the host is over.
-pub fn show_all<R: Wait, W: Callers>(
-    rt: &R,
-    alloc: Global,
-    callers: &mut W,
-    counters: &Counters,
-    findings: &Findings,
-) {
+pub fn show_all<R: Wait, W: Callers>(rt: &R, alloc: Global, callers: &mut W, counters: &Counters) {
     for _ in 0..u64::MAX {
         let Some((mut input, mut output)) = callers.next_caller() else {
             return;
@@ -68,7 +61,6 @@ pub fn show_all<R: Wait, W: Callers>(
             rt,
             alloc,
             counters,
-            findings,
         };
         let _end = show_pages(&mut input, &mut output, &mut pages);
     }

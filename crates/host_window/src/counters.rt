@@ -1,6 +1,7 @@
 //! What is counted of a host while it runs.
 use crate::counts::Counts;
 use crate::family::Sample;
+use crate::findings::Findings;
 use crate::labels::{CAUSES, CODES, Cause, STATUSES, number_of_code, number_of_status};
 use crate::routes::{RouteCounts, buckets_of, requests_of, times_of};
 use crate::tallies::{Tallies, Tally};
@@ -56,6 +57,8 @@ pub struct Counters {
     lost: AtomicU64,
     /// 1 once the host is over.
     over: AtomicU64,
+    /// What the members of the host find in its books.
+    pub findings: Findings,
 }
 
 impl StreamCounts {
@@ -193,6 +196,7 @@ impl Counters {
             writing: AtomicU64::new(0),
             lost: AtomicU64::new(0),
             over: AtomicU64::new(0),
+            findings: Findings::new(),
         })
     }
 

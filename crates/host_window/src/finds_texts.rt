@@ -78,24 +78,9 @@ fn push_rows(text: &mut Vec<u8>, rows: &RowCount) -> Result<(), AllocError>
     )?;
     let name = b"sumacgate_rows";
     push_labelled(text, name, b"{phase=\"making\"}", rows.making)?;
-    push_number(
-        text,
-        name,
-        b"{phase=\"prebooked\"}",
-        u64::from(rows.prebooked),
-    )?;
-    push_number(
-        text,
-        name,
-        b"{phase=\"confirmed\"}",
-        u64::from(rows.confirmed),
-    )?;
-    push_number(
-        text,
-        name,
-        b"{phase=\"fulfilled\"}",
-        u64::from(rows.fulfilled),
-    )?;
+    push_labelled(text, name, b"{phase=\"prebooked\"}", rows.prebooked)?;
+    push_labelled(text, name, b"{phase=\"confirmed\"}", rows.confirmed)?;
+    push_labelled(text, name, b"{phase=\"fulfilled\"}", rows.fulfilled)?;
     push_labelled(text, name, b"{phase=\"ending\"}", rows.ending)?;
     push_labelled(text, name, b"{phase=\"ended\"}", rows.ended)
 }

@@ -5,7 +5,6 @@ ghost use Rattle.host_window.specs.Pages.{IsAsked, Shows};
 ghost use Rattle.host_window.specs.declared.pages.Page.TheVariants.{Metrics};
 
 use crate::counters::Counters;
-use crate::findings::Findings;
 use crate::finds_texts::window_page;
 use crate::reply::{answer_of, page_answer};
 use crate::words::Word;
@@ -33,7 +32,6 @@ pub struct Pages<'c, R> {
     pub rt: &'c R,
     pub alloc: Global,
     pub counters: &'c Counters,
-    pub findings: &'c Findings,
 }
 
 // The page of a path, as if by GET.
@@ -59,7 +57,7 @@ impl<R: Wait> Pages<'_, R> {
     fn metrics(&self, last: bool) -> Answer
         ensures { Shows Metrics last (answer_bytes result) }
     {
-        let finds = self.findings.read(self.rt);
+        let finds = self.counters.findings.read(self.rt);
         match self.counters.read(self.alloc) {
             Ok(counts) => match window_page(self.alloc, &counts, &finds) {
                 Ok(page) => page_answer(page, last),

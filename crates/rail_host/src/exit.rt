@@ -53,7 +53,7 @@ where
         (record
         (left_by L.told L.faults L.becomes L.hands (replicate clock_count None) (Asks T.ticked given.entry.ticker)
         given.entry.listener last wall)
-        { watchers = some_count given.entry.findings })
+        { watchers = some_count given.entry.counters })
         (J.told given.entry.keeping.journal)
         (exit_status result)
         (record {

@@ -88,7 +88,7 @@ where
         (record
         (left_by L.told L.faults L.becomes L.hands (replicate clock_count None) (Asks T.ticked given.entry.ticker)
         given.entry.listener result.listener result.wall)
-        { watchers = some_count given.entry.findings })
+        { watchers = some_count given.entry.counters })
         (J.told given.entry.keeping.journal)
         result.status
         (record {

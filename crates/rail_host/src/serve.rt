@@ -11,7 +11,7 @@ use crate::devices::{Devices, ForServe};
 use host_catalogue::{CommandEnd, end_command};
 use host_journal::ServeEnd;
 use host_serve::{CLOCKS, Devices as ServeDevices, serve_kept};
-use host_window::{Counters, CountingClock};
+use host_window::{Counters, CountingClock, Findings};
 use rail_io::{Bell, Journal, Shelf, Sink, Source, Ticker};
 use rail_service::Listener;
 use std::alloc::{AllocError, Global};
@@ -39,6 +39,14 @@ fn system_clocks<'c, C: time::Clock + Copy + Drop>(
         clocks.push(CountingClock::of(clock, counts))?;
     }
     Ok(clocks)
+}
+
+/// What is told of the books, where there are counters.
+fn findings_of(counters: Option<&Counters>) -> Option<&Findings>
+    ensures { some_count result ≡ some_count counters.entry }
+{
+    let counters = counters?;
+    Some(&counters.findings)
 }
 
 /// Serves the connections that a listener hands out, by the system's clock, and hands back the status of `serve`, the
@@ -75,7 +83,7 @@ where
         (record
         (left_by L.told L.faults L.becomes L.hands (replicate clock_count None) (Asks T.ticked given.entry.ticker)
         given.entry.listener result.listener result.wall)
-        { watchers = some_count given.entry.findings })
+        { watchers = some_count given.entry.counters })
         (J.told given.entry.keeping.journal)
         result.status
         (record {
@@ -104,7 +112,7 @@ where
         listener: given.listener,
         ticker: given.ticker,
         clocks,
-        findings: given.findings,
+        findings: findings_of(given.counters),
     };
     serve_kept(
         rt,

@@ -1,8 +1,8 @@
-use Rattle.std.proofs.Common.{◌⊎◌, List, None, arith, inl, inr, refl, replicate, subst}
+use Rattle.std.proofs.Common.{◌⊎◌, ℕ, List, None, arith, inl, inr, refl, replicate, subst}
 use Rattle.host_words.specs.Limits.{clock_count}
 use Rattle.host_words.specs.Options.{words_texts}
 use Rattle.host_serve.specs.Kept.{EndsAlone, EndsKept}
-use Rattle.host_serve.specs.Serve.{left_by}
+use Rattle.host_serve.specs.Serve.{left_by, some_count}
 use Rattle.host_serve.specs.Turns.{Asks, Readings}
 use Rattle.host_journal.specs.declared.end.ServeOutcome.TheVariants.{NoMemory}
 use Rattle.rail_host.specs.Commands.{scene}
@@ -51,8 +51,12 @@ returns-clause-ended g c =
     let words = words_texts c.args.words.now in
     let status = c.serve_kept.result.status in
     let journal = g.J.Journal.told c.args.given.keeping.journal in
-    let left = λ (clocks : List Readings). left_by g.L.Listener.told g.L.Listener.faults g.L.Listener.becomes g.L.Listener.hands clocks
-    (Asks g.T.Ticker.ticked c.args.given.ticker) c.args.given.listener c.serve_kept.result.listener c.serve_kept.result.wall in
+    let left = λ (clocks : List Readings) (n : ℕ). record
+    (left_by g.L.Listener.told g.L.Listener.faults g.L.Listener.becomes g.L.Listener.hands clocks
+    (Asks g.T.Ticker.ticked c.args.given.ticker) c.args.given.listener c.serve_kept.result.listener c.serve_kept.result.wall)
+    { watchers = n } in
+    let looked = some_count c.findings_of.result in
+    let watch = some_count c.args.given.counters in
     let d : Devices _ _ _ _ = record {
       shelf = record {
         told = g.F.Shelf.told;
@@ -80,10 +84,13 @@ returns-clause-ended g c =
         new = c.serve_kept.new.notes;
       };
     } in
-    let ended = subst (λ (clocks : List Readings). EndsAlone (scene words (left clocks) d) status ⊎ EndsKept (scene words (left clocks) d) journal status)
+    let with_looks = subst (λ (clocks : List Readings). EndsAlone (scene words (left clocks looked) d) status ⊎ EndsKept (scene words (left clocks looked) d) journal status)
     (untold (λ clock. None) (λ clock. refl) _ clock_count c.in-Ok.ensures) e.ended in
+    let none = replicate clock_count None in
+    let ended = subst (λ (n : ℕ). EndsAlone (scene words (left none n) d) status ⊎ EndsKept (scene words (left none n) d) journal status)
+    c.findings_of.ensures with_looks in
     elim ended [
-      | inl alone_so ↦ inl (alone words (left (replicate clock_count None)) status d alone_so e.never_falls e.files
+      | inl alone_so ↦ inl (alone words (left (replicate clock_count None) watch) status d alone_so e.never_falls e.files
           (λ two. record { unfetched = e.nothing_fetched two; unread = refl; unwritten = refl }) refl refl)
       | inr kept ↦ inr (record { kept = kept; never_falls = e.never_falls; same = e.files; unread = refl; unwritten = refl })
     ]
