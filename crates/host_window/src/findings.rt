@@ -58,7 +58,7 @@ impl Findings {
         }
     }
 
-    /// A sweep expired so many bookings, lost so many to other turns, and left so many that aren't late.
+    /// How many bookings a sweep expired, lost to other turns, and left since they weren't late.
     pub fn note_swept(&self, expired: u32, lost: u32, waiting: u32) {
         self.expired.add(u64::from(expired));
         self.lost.add(u64::from(lost));
