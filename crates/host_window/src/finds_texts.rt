@@ -1,6 +1,6 @@
 //! What the window shows of a host's books.
 ghost use Rattle.std.specs.Prelude.{◌≡◌, ◌++◌, IfOk, OnOk};
-ghost use Rattle.host_window.specs.Texts.{said_head};
+ghost use Rattle.host_window.specs.Texts.{one_text, said_head};
 ghost use Rattle.host_window.specs.Finds.{begun_text, found_text, labelled_text, looked_text, places_text, rows_text, swept_text, window_text};
 
 use crate::counts::Counts;
@@ -16,6 +16,13 @@ fn push_begun(text: &mut Vec<u8>, head: Head) -> Result<(), AllocError>
     ensures { OnOk result (text.new.items ≡ text.old.items ++ begun_text (said_head head)) }
 {
     push_head(text, head)
+}
+
+// A family of one number.
+fn push_count(text: &mut Vec<u8>, head: Head, value: u32) -> Result<(), AllocError>
+    ensures { OnOk result (text.new.items ≡ text.old.items ++ one_text (said_head head) value) }
+{
+    push_one(text, head, u64::from(value))
 }
 
 // A number of a family, with a label.
@@ -106,24 +113,24 @@ fn push_places(text: &mut Vec<u8>, sold: &SoldCount) -> Result<(), AllocError>
 fn push_looked(text: &mut Vec<u8>, found: &Found) -> Result<(), AllocError>
     ensures { OnOk result (text.new.items ≡ text.old.items ++ looked_text found.now) }
 {
-    push_one(
+    push_count(
         text,
         Head {
             name: b"sumacgate_rows_never_used",
             help: b"Rows that have never been used.",
             kind: Kind::Gauge,
         },
-        u64::from(found.rows.never_used),
+        found.rows.never_used,
     )?;
     push_rows(text, &found.rows)?;
-    push_one(
+    push_count(
         text,
         Head {
             name: b"sumacgate_greatest_generation",
             help: b"The greatest generation of a row: how often it was used again.",
             kind: Kind::Gauge,
         },
-        u64::from(found.rows.greatest_generation),
+        found.rows.greatest_generation,
     )?;
     push_places(text, &found.sold)
 }

@@ -6,6 +6,7 @@ ghost use Rattle.host_window.specs.declared.pages.Page.TheVariants.{Metrics};
 
 use crate::counters::Counters;
 use crate::finds_texts::window_page;
+use crate::found::Finds;
 use crate::reply::{answer_of, page_answer};
 use crate::words::Word;
 use http_wire::{Answer, Intake, Request, WireFault};
@@ -53,18 +54,25 @@ fn page_of(method: &[u8], path: &[u8]) -> Page
 }
 
 impl<R: Wait> Pages<'_, R> {
-    // The page with what is counted.
-    fn metrics(&self, last: bool) -> Answer
+    // The page with what is counted, and with what was found.
+    fn counted(&self, finds: &Finds, last: bool) -> Answer
         ensures { Shows Metrics last (answer_bytes result) }
     {
-        let finds = self.counters.findings.read(self.rt);
         match self.counters.read(self.alloc) {
-            Ok(counts) => match window_page(self.alloc, &counts, &finds) {
+            Ok(counts) => match window_page(self.alloc, &counts, finds) {
                 Ok(page) => page_answer(page, last),
                 Err(_) => answer_of(Word::NoMemory, last),
             },
             Err(_) => answer_of(Word::NoMemory, last),
         }
+    }
+
+    // The page with what is counted, and with what is found now.
+    fn metrics(&self, last: bool) -> Answer
+        ensures { Shows Metrics last (answer_bytes result) }
+    {
+        let finds = self.counters.findings.read(self.rt);
+        self.counted(&finds, last)
     }
 
     // The page that is asked for.
