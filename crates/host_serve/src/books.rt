@@ -158,7 +158,7 @@ pub fn run_books<
     rt: &'x R,
     common: Common<'x>,
     opened: Opened,
-    devices: Devices<L, T, C>,
+    devices: Devices<'_, L, T, C>,
     watchers: Vec<W>,
     blank: Blank,
 ) -> Run<BooksOutcome, L>
@@ -201,7 +201,7 @@ where
         common,
         &mut opened,
         Means {
-            ticker: Until::of(devices.ticker, shared, common.gate, rt),
+            ticker: Until::of(devices.ticker, shared, common, rt),
             clocks: devices.clocks,
             watchers,
             share: rest,
