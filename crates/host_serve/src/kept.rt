@@ -181,7 +181,7 @@ where
       fails = F.faults shelf.new;
       missed = F.misses shelf.old;
       misses = F.misses shelf.new;
-      left = left_of (heard L.told L.faults L.becomes L.hands) C.told T.ticked devices result.listener result.wall;
+      left = left_of (heard L.told L.faults L.becomes L.hands) C.told T.ticked devices.entry result.listener result.wall;
       notes = record {
         before = E.told notes.old;
         failed = E.faults notes.old;
@@ -195,8 +195,8 @@ where
         (λ _. IsNotSaid (words_texts words.now)) }
     ensures refused_wall { result.status ≡ 2 → result.wall ≡ None }
     ensures nothing_fetched { result.status ≡ 2 → shelf.new ≡ shelf.old }
-    ensures nothing_heard { result.status ≡ 2 → result.listener ≡ devices.listener }
-    ensures never_falls { L.faults devices.listener ≤ L.faults result.listener }
+    ensures nothing_heard { result.status ≡ 2 → result.listener ≡ devices.entry.listener }
+    ensures never_falls { L.faults devices.entry.listener ≤ L.faults result.listener }
     ensures files { F.told shelf.new ≡ F.told shelf.old }
 {
     let said = match said_of(alloc, words) {

@@ -43,10 +43,10 @@ where
     requires fresh { (L.told devices.listener).handed ≡ 0 }
     requires ranges { IsInRange common.said }
     requires few { length watchers.items ≤ 2 }
-    ensures never_falls { L.faults devices.listener ≤ L.faults result.listener }
+    ensures never_falls { L.faults devices.entry.listener ≤ L.faults result.listener }
     ensures ends { ListensTo common.entry.cat.now opened.books.layout common.entry.said
         (record
-        (left_of (heard L.told L.faults L.becomes L.hands) C.told T.ticked devices result.listener result.wall)
+        (left_of (heard L.told L.faults L.becomes L.hands) C.told T.ticked devices.entry result.listener result.wall)
         { watchers = length watchers.items })
         result.outcome }
 {

@@ -40,17 +40,24 @@ generation_head =
 abbrev pub places_head : HeadView
 places_head = head (codes "sumacgate_places_sold") (codes "Places of which a leg is sold, by class.") Gauge
 
+-- the beginning of a family, and a number of it with a label
+unfoldable pub begun_text : HeadView → List ℕ
+begun_text h = head_text h
+
+unfoldable pub labelled_text : List ℕ → List ℕ → ℕ → List ℕ
+labelled_text name label n = number_text name label n
+
 -- what it shows of sweeps
 unfoldable pub swept_text : Finds → List ℕ
 swept_text f = (one_text expired_head f.expired ++ one_text late_head f.lost) ++ one_text waiting_head f.waiting
 
 -- of rows in use, each phase with its number
 abbrev pub phase_text : List ℕ → ℕ → List ℕ
-phase_text label n = number_text (codes "sumacgate_rows") label n
+phase_text label n = labelled_text (codes "sumacgate_rows") label n
 
 unfoldable pub rows_text : RowCount → List ℕ
 rows_text r =
-    (((((head_text rows_head ++ phase_text (codes "{phase=\"making\"}") r.making)
+    (((((begun_text rows_head ++ phase_text (codes "{phase=\"making\"}") r.making)
     ++ phase_text (codes "{phase=\"prebooked\"}") r.prebooked)
     ++ phase_text (codes "{phase=\"confirmed\"}") r.confirmed)
     ++ phase_text (codes "{phase=\"fulfilled\"}") r.fulfilled)
@@ -59,11 +66,11 @@ rows_text r =
 
 -- of places, each class with its number
 abbrev pub class_text : List ℕ → ℕ → List ℕ
-class_text label n = number_text (codes "sumacgate_places_sold") label n
+class_text label n = labelled_text (codes "sumacgate_places_sold") label n
 
 unfoldable pub places_text : SoldCount → List ℕ
 places_text s =
-    (head_text places_head ++ class_text (codes "{class=\"first\"}") s.first)
+    (begun_text places_head ++ class_text (codes "{class=\"first\"}") s.first)
     ++ class_text (codes "{class=\"second\"}") s.second
 
 -- of looks

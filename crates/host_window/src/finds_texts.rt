@@ -1,6 +1,7 @@
 //! What the window shows of a host's books.
 ghost use Rattle.std.specs.Prelude.{◌≡◌, ◌++◌, IfOk, OnOk};
-ghost use Rattle.host_window.specs.Finds.{found_text, looked_text, places_text, rows_text, swept_text, window_text};
+ghost use Rattle.host_window.specs.Texts.{said_head};
+ghost use Rattle.host_window.specs.Finds.{begun_text, found_text, labelled_text, looked_text, places_text, rows_text, swept_text, window_text};
 
 use crate::counts::Counts;
 use crate::family::{Head, Kind, push_head, push_number, push_one};
@@ -8,6 +9,27 @@ use crate::found::{Finds, Found};
 use crate::metrics::metrics_page;
 use row_cuts::{RowCount, SoldCount};
 use std::alloc::{AllocError, Global};
+
+// Begins a family.
+#[tactic(auto, unfolding(crate::specs::Finds::begun_text))]
+fn push_begun(text: &mut Vec<u8>, head: Head) -> Result<(), AllocError>
+    ensures { OnOk result (text.new.items ≡ text.old.items ++ begun_text (said_head head)) }
+{
+    push_head(text, head)
+}
+
+// A number of a family, with a label.
+#[tactic(auto, unfolding(crate::specs::Finds::labelled_text))]
+fn push_labelled(
+    text: &mut Vec<u8>,
+    name: &[u8],
+    label: &[u8],
+    value: u32,
+) -> Result<(), AllocError>
+    ensures { OnOk result (text.new.items ≡ text.old.items ++ labelled_text name.now label.now value) }
+{
+    push_number(text, name, label, u64::from(value))
+}
 
 // What it shows of sweeps.
 fn push_swept(text: &mut Vec<u8>, finds: &Finds) -> Result<(), AllocError>
@@ -46,7 +68,7 @@ fn push_swept(text: &mut Vec<u8>, finds: &Finds) -> Result<(), AllocError>
 fn push_rows(text: &mut Vec<u8>, rows: &RowCount) -> Result<(), AllocError>
     ensures { OnOk result (text.new.items ≡ text.old.items ++ rows_text rows.now) }
 {
-    push_head(
+    push_begun(
         text,
         Head {
             name: b"sumacgate_rows",
@@ -55,7 +77,7 @@ fn push_rows(text: &mut Vec<u8>, rows: &RowCount) -> Result<(), AllocError>
         },
     )?;
     let name = b"sumacgate_rows";
-    push_number(text, name, b"{phase=\"making\"}", u64::from(rows.making))?;
+    push_labelled(text, name, b"{phase=\"making\"}", rows.making)?;
     push_number(
         text,
         name,
@@ -74,15 +96,15 @@ fn push_rows(text: &mut Vec<u8>, rows: &RowCount) -> Result<(), AllocError>
         b"{phase=\"fulfilled\"}",
         u64::from(rows.fulfilled),
     )?;
-    push_number(text, name, b"{phase=\"ending\"}", u64::from(rows.ending))?;
-    push_number(text, name, b"{phase=\"ended\"}", u64::from(rows.ended))
+    push_labelled(text, name, b"{phase=\"ending\"}", rows.ending)?;
+    push_labelled(text, name, b"{phase=\"ended\"}", rows.ended)
 }
 
 // What it shows of places.
 fn push_places(text: &mut Vec<u8>, sold: &SoldCount) -> Result<(), AllocError>
     ensures { OnOk result (text.new.items ≡ text.old.items ++ places_text sold.now) }
 {
-    push_head(
+    push_begun(
         text,
         Head {
             name: b"sumacgate_places_sold",
@@ -91,8 +113,8 @@ fn push_places(text: &mut Vec<u8>, sold: &SoldCount) -> Result<(), AllocError>
         },
     )?;
     let name = b"sumacgate_places_sold";
-    push_number(text, name, b"{class=\"first\"}", u64::from(sold.first))?;
-    push_number(text, name, b"{class=\"second\"}", u64::from(sold.second))
+    push_labelled(text, name, b"{class=\"first\"}", sold.first)?;
+    push_labelled(text, name, b"{class=\"second\"}", sold.second)
 }
 
 // What it shows of looks.
@@ -132,6 +154,7 @@ fn push_found(text: &mut Vec<u8>, found: &Option<Found>) -> Result<(), AllocErro
 }
 
 /// The page for Prometheus, in its text format of version 0.0.4.
+#[tactic(auto, unfolding(crate::specs::Finds::window_text))]
 pub fn window_page(alloc: Global, counts: &Counts, finds: &Finds) -> Result<Vec<u8>, AllocError>
     ensures { IfOk result (λ text. text.items ≡ window_text counts.now finds.now) }
 {
