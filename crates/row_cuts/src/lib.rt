@@ -22,8 +22,6 @@ pub mod laws;
 mod lines;
 mod looks;
 mod prints;
-#[cfg(test)]
-mod tests;
 
 pub use exports::export_rows;
 pub use lines::{push_all_lines, push_marked_lines};
