@@ -27,8 +27,6 @@ mod lines;
 mod looks;
 mod prints;
 mod sold;
-#[cfg(test)]
-mod tests;
 
 pub use counts::{RowCount, count_rows};
 pub use exports::export_rows;
