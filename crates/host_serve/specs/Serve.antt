@@ -17,7 +17,7 @@ use Rattle.rail_catalogue.specs.Contents.{CatalogueView, legs_in}
 use Rattle.rail_service.specs.Listeners.{Handing, HandingBy, ListenerView}
 use Rattle.host_words.specs.Serve.{ServeView, serve_words}
 use Rattle.host_words.specs.declared.serve.Serving.{Serving}
-use Rattle.host_catalogue.specs.Files.{Files, HasCause}
+use Rattle.host_catalogue.specs.Files.{Files}
 use Rattle.host_catalogue.specs.Opening.{Fails, HasBooks, IsRefusedFile, LacksBooks}
 use Rattle.host_words.specs.Commands.{IsFor}
 use Rattle.host_words.specs.declared.command.CommandName.TheVariants as command
@@ -25,10 +25,10 @@ use Rattle.host_serve.specs.Crews.{OnlyMet, sum_below}
 use Rattle.host_serve.specs.Turns.{Asks, Readings, Stand, OneTurn, Chain, Connection, HandedBy, Sweep, TickingBy}
 use Rattle.host_serve.specs.Turns.{clock_for}
 use Rattle.host_serve.specs.declared.devices.Devices.{Devices}
-use Rattle.host_serve.specs.declared.end.BooksOutcome.{BooksOutcome}
-use Rattle.host_serve.specs.declared.end.BooksOutcome.TheVariants as books
-use Rattle.host_serve.specs.declared.end.ServeOutcome.{ServeOutcome}
-use Rattle.host_serve.specs.declared.end.ServeOutcome.TheVariants as end
+use Rattle.host_journal.specs.declared.end.BooksOutcome.{BooksOutcome}
+use Rattle.host_journal.specs.declared.end.BooksOutcome.TheVariants as books
+use Rattle.host_journal.specs.declared.end.ServeOutcome.{ServeOutcome}
+use Rattle.host_journal.specs.declared.end.ServeOutcome.TheVariants as end
 
 -- the command is `serve`
 abbrev pub IsForServe : List (List ℕ) → Type 0
@@ -236,11 +236,6 @@ Runs words files left end.NoText = (said : ServeView) × IsServe words said × E
 Runs words files left end.NotBound = (said : ServeView) × IsServe words said × Ends files said left end.NotBound
 Runs words files left (end.NotLoaded fault) =
     (said : ServeView) × IsServe words said × Ends files said left (end.NotLoaded fault)
-
--- Where the shelf gave no books, its counts show why; and at every other end its count of faults is as it was.
-abbrev pub HasShelfCause : ServeOutcome → ℕ → ℕ → ℕ → ℕ → Type 0
-HasShelfCause (end.NotLoaded fault) failed fails missed misses = HasCause fault failed fails missed misses
-HasShelfCause _ failed fails missed misses = fails ≡ failed
 
 -- the words are those of `serve`, and the shelf, where it tells its files, has no books for them
 pub record IsWithoutBooks (words : List (List ℕ)) (files : Files) : Type 0 where

@@ -19,7 +19,6 @@ ghost use Rattle.host_serve.specs.Turns.{HasCatalogue, Chain, Connection};
 use crate::crew::{Crewed, Means, crew_of};
 use crate::devices::Devices;
 use crate::draining::drain_listener;
-use crate::end::BooksOutcome;
 use crate::giving::Gives;
 use crate::letting::Dropping;
 use crate::meeting::meet_others;
@@ -27,9 +26,9 @@ use crate::member::Common;
 use crate::shared_listener::{Ended, ListenerEnd, Named, SharedListener};
 use crate::streams::Door;
 use crate::until::Until;
-use crate::watching::Watcher;
 use answer_gate::GatedClock;
 use claim_rule::{Books, Desk, Wall};
+use host_journal::{BooksOutcome, Opened, Watcher};
 use rail_io::{Clock, Ticker};
 use rail_service::Listener;
 use std::sync::Wait;
@@ -59,13 +58,6 @@ impl<O, L> Run<O, L> {
             wall: None,
         }
     }
-}
-
-/// Books and their first desk.
-#[derive(Drop)]
-pub struct Opened {
-    pub books: Books,
-    pub first: Desk,
 }
 
 /// Runs a crew until its members have ended, joins the desks of all but the first, with what those had counted, and

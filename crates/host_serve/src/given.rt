@@ -10,24 +10,25 @@ ghost use Rattle.host_words.specs.Serve.{IsInRange};
 ghost use Rattle.host_catalogue.specs.Files.{HasCause, OfCounts};
 ghost use Rattle.host_catalogue.specs.Opening.{Fails, HasBooks};
 ghost use Rattle.host_serve.specs.Crews.{IsFirst};
-ghost use Rattle.host_serve.specs.Kept.{HasKeptCause, ServesBooks, ServesKept, sources_of};
-ghost use Rattle.host_serve.specs.Serve.{Ends, HasShelfCause, heard, left_of};
+ghost use Rattle.host_journal.specs.Causes.{HasKeptCause};
+ghost use Rattle.host_serve.specs.Kept.{ServesBooks, ServesKept, sources_of};
+ghost use Rattle.host_journal.specs.Causes.{HasShelfCause};
+ghost use Rattle.host_serve.specs.Serve.{Ends, heard, left_of};
 ghost use Rattle.host_serve.specs.Telling.{IsBefore};
 ghost use Rattle.host_serve.specs.Turns.{HasCatalogue};
-ghost use Rattle.host_serve.specs.declared.end.ServeOutcome.{ServeOutcome};
-ghost use Rattle.host_serve.specs.declared.end.ServeOutcome.TheVariants as outcome;
-ghost use Rattle.host_serve.specs.declared.end.KeptOutcome.TheVariants as kept;
+ghost use Rattle.host_journal.specs.declared.end.ServeOutcome.{ServeOutcome};
+ghost use Rattle.host_journal.specs.declared.end.ServeOutcome.TheVariants as outcome;
+ghost use Rattle.host_journal.specs.declared.end.KeptOutcome.TheVariants as kept;
 
-use crate::books::{Opened, Run};
-use crate::committing::Committer;
+use crate::books::Run;
 use crate::devices::Devices;
-use crate::end::{KeptOutcome, ServeOutcome};
-use crate::keeping::{Keeping, open_journal};
 use crate::listening::listen_and_serve;
 use crate::member::Common;
-use crate::watching::NoWatcher;
 use claim_rule::{Books, Desk};
 use host_catalogue::{LoadFault, load_books, load_catalogue};
+use host_journal::{
+    Committer, Keeping, KeptOutcome, NoWatcher, Opened, ServeOutcome, open_journal,
+};
 use host_words::ServeWords;
 use rail_catalogue::Catalogue;
 use rail_io::{Bell, Clock, Journal, Shelf, Ticker};

@@ -8,11 +8,10 @@ ghost use Rattle.host_serve.specs.Kept.{ListensTo};
 ghost use Rattle.host_serve.specs.Serve.{heard, left_of};
 ghost use Rattle.host_serve.specs.Turns.{HasCatalogue};
 
-use crate::books::{Opened, Run, run_books};
+use crate::books::{Run, run_books};
 use crate::devices::Devices;
-use crate::end::ServeOutcome;
 use crate::member::Common;
-use crate::watching::Watcher;
+use host_journal::{Opened, ServeOutcome, Watcher};
 use rail_io::{Clock, Ticker};
 use rail_service::{Bound, Listener};
 use std::marker::Brand;

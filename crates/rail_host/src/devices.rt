@@ -1,5 +1,5 @@
 // What commands touch.
-use host_serve::Keeping;
+use host_journal::Keeping;
 use host_window::Counters;
 
 /// The devices of a command.

@@ -5,14 +5,14 @@ ghost use Rattle.host_words.specs.Options.{words_texts};
 ghost use Rattle.host_serve.specs.Serve.{IsForServe, left_by};
 ghost use Rattle.host_serve.specs.Turns.{Asks};
 ghost use Rattle.rail_host.specs.Commands.{IsNoCommand, Ran};
-ghost use Rattle.rail_host.specs.Plain.{RanPlainly};
+ghost use Rattle.plain_commands.specs.Plain.{RanPlainly};
 
 use crate::devices::{Devices, ForServe};
-use crate::host::run_plain;
 use crate::serve::serve_port;
 use host_drill::{DrillEnd, run_drill};
-use host_serve::ServeEnd;
+use host_journal::ServeEnd;
 use host_words::{CommandName, command_of};
+use plain_commands::run_plain;
 use rail_io::{Bell, Journal, Shelf, Sink, Source, Ticker};
 use rail_service::Listener;
 use std::alloc::Global;

@@ -9,7 +9,8 @@ ghost use Rattle.rail_host.specs.Commands.{EndsServing};
 
 use crate::devices::{Devices, ForServe};
 use host_catalogue::{CommandEnd, end_command};
-use host_serve::{CLOCKS, Devices as ServeDevices, ServeEnd, serve_kept};
+use host_journal::ServeEnd;
+use host_serve::{CLOCKS, Devices as ServeDevices, serve_kept};
 use host_window::{Counters, CountingClock};
 use rail_io::{Bell, Journal, Shelf, Sink, Source, Ticker};
 use rail_service::Listener;

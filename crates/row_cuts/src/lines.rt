@@ -33,8 +33,9 @@ fn group_count(books: &Books) -> u32
     block_count(books) / GROUP_BLOCKS + 1
 }
 
-/// Takes the marks of all rows, which clears them; writes the lines of the rows that were marked after the text, in
-/// rising row; and gives their count. A row that is marked while this runs has its mark taken now, or the next time.
+/// Takes marks of rows, which clears them; writes the lines of the rows that were marked after the text, in rising row;
+/// and gives their count. They are the marks of all rows, which no clause says. A row that is marked while this runs
+/// has its mark taken now, or the next time.
 pub fn push_marked_lines(
     text: &mut Vec<u8>,
     books: &Books,

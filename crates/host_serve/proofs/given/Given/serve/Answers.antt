@@ -3,7 +3,8 @@ use Rattle.cold_store.specs.Exports.{IsClosed}
 use Rattle.cold_store.specs.Tidy.{IsTidyWall}
 use Rattle.host_words.specs.Said.{said_in}
 use Rattle.host_catalogue.specs.Files.{OfCounts}
-use Rattle.host_serve.specs.Kept.{HasKeptCause, ServesKept}
+use Rattle.host_journal.specs.Causes.{HasKeptCause}
+use Rattle.host_serve.specs.Kept.{ServesKept}
 use Rattle.host_serve.specs.Serve.{Left, heard, left_of}
 use Rattle.host_serve.proofs.Alone.{match_some}
 use Rattle.host_serve.proofs.Leaving.{wall_said}

@@ -1,8 +1,10 @@
 use Rattle.std.proofs.Common.{ℕ, sym, subst}
 use Rattle.host_words.specs.Said.{said_in}
-use Rattle.host_serve.specs.Kept.{HasKeptCause, ListensTo, ServesBooks, Sources, sources_of}
+use Rattle.host_journal.specs.Causes.{HasKeptCause}
+use Rattle.host_journal.specs.Left.{Sources}
+use Rattle.host_serve.specs.Kept.{ListensTo, ServesBooks, sources_of}
 use Rattle.host_serve.specs.Serve.{Left, heard, left_of}
-use Rattle.host_serve.specs.declared.end.KeptOutcome.{KeptOutcome}
+use Rattle.host_journal.specs.declared.end.KeptOutcome.{KeptOutcome}
 use Rattle.host_serve.proofs.Leaving.{listened_kept, opened_first, opened_has, served_left}
 use Rattle.host_serve.proofs.given.Given.serve_left.Goals as goal
 
