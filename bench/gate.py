@@ -20,6 +20,7 @@ import json
 import os
 import pathlib
 import re
+import statistics
 import subprocess
 import sys
 import time
@@ -28,6 +29,7 @@ ROOT = pathlib.Path(__file__).resolve().parent.parent
 TICK = os.sysconf("SC_CLK_TCK")
 EACH_SECONDS = 0.2
 MEMORY_EACH = 5  # samples
+LEAST_PROOF = 5.0  # seconds of a proof that tells how fast a machine is
 CRATE = re.compile(r"--crate-name\0(\w+)")
 PARTS = ("proof", "tests", "before edits", "edits", "runs")
 
@@ -297,6 +299,12 @@ def cells_of(row):
     return [row["seconds"].get(part, 0) for part in PARTS[:4]] + [sum_of(row)] if row else [0.0] * 5
 
 
+def pace(before, after):
+    """The median, over the crates of both runs, of what a crate's own proof took after by what it took before: how fast the machines are."""
+    pairs = [(before[name]["seconds"].get("proof", 0), after[name]["seconds"].get("proof", 0)) for name in set(before) & set(after)]
+    return statistics.median([two / one for one, two in pairs if one >= LEAST_PROOF and two >= LEAST_PROOF] or [1.0])
+
+
 def compare(before, after, new):
     """Two runs, crate by crate. Apart from the rest stand the crates that are named: they hold only what came since."""
     names = sorted(set(before["crates"]) | set(after["crates"]), key=lambda name: (name in new, name))
@@ -310,6 +318,8 @@ def compare(before, after, new):
     table(["crate", "proof s", "tests' proof s", "before edits s", "edits s", "all s"], lines)
     known, whole = sums[False], sums[False][9] + sums[True][9]
     print("\nafter by before, without the new crates: %.2f; with them: %.2f" % (known[9] / (known[8] or 1), whole / (known[8] or 1)))
+    median = pace(before["crates"], after["crates"])
+    print("the crates' own proofs, after by before: %.2f by the median, which is the machine's part of it; without it %.2f for all but the new" % (median, known[9] / (known[8] or 1) / median))
     print("in one of the two runs alone: %s" % " ".join(sorted(set(before["crates"]) ^ set(after["crates"]))))
 
 

@@ -1,5 +1,5 @@
 -- What stays so from moment to moment.
-use Rattle.std.proofs.Common.{◌≡◌, ◌⊎◌, inl, inr, ⊎_elim, ℕ, ◌+◌, ◌<◌, ◌≤◌, nat_lt, nat_le, Bool, true, false, true≢false, ◌&&◌, ◌||◌, if◌then◌else◌, List, [], ◌∷◌, ◌++◌, append-nil, append_assoc, refl, sym, ap, ◌∙◌, subst, arith}
+use Rattle.std.proofs.Common.{◌≡◌, ◌⊎◌, inl, inr, ⊎_elim, ℕ, ◌+◌, ◌<◌, ◌≤◌, nat_lt, nat_le, max, Bool, true, false, true≢false, ◌&&◌, ◌||◌, if◌then◌else◌, List, [], ◌∷◌, ◌++◌, append-nil, append_assoc, refl, sym, ap, ◌∙◌, subst, arith}
 use Rattle.std.specs.List.{AllByRecursion}
 use Rattle.std.proofs.lemmas.Bool.{ltb-false, or_parts}
 use mathlib.Core.List.{IsPrefix}
@@ -11,9 +11,9 @@ use Rattle.answer_gate.specs.declared.state.Phase.TheVariants.{Open, Looking}
 use Rattle.answer_gate.specs.declared.state.Standing.{Standing}
 use Rattle.answer_gate.specs.Standings.{HasRoom, Looked, entered, left, looked_at}
 use Rattle.journal_laws.specs.Moments.{Begins, Follows, LeadsTo, Moment, Passes, TakenCut}
-use Rattle.journal_laws.specs.Ahead.{GivesCut, HasCut, FollowsCut, OnlyLooked, Shows}
+use Rattle.journal_laws.specs.Ahead.{GivesCut, HasCut, HasWritten, IsKeptAnswer, OnlyLooked, Shows}
 
-has_map : (P Q : TakenCut → Type 0) → ((c : TakenCut) → P c → Q c) → (cuts : List TakenCut) → HasCut cuts P → HasCut cuts Q
+pub has_map : (P Q : TakenCut → Type 0) → ((c : TakenCut) → P c → Q c) → (cuts : List TakenCut) → HasCut cuts P → HasCut cuts Q
 has_map P Q f [] none = absurd none
 has_map P Q f (c ∷ more) (inl p) = inl (f c p)
 has_map P Q f (c ∷ more) (inr rest) = inr (has_map P Q f more rest)
@@ -34,7 +34,8 @@ not_open p before looking = let no : Open ≡ Looking = sym before ∙ looking i
 
 -- what is so of each moment
 record Holds (m : Moment) : Type 0 where
-  kept : m.gate.kept ≤ m.written
+  heard : m.gate.kept ≤ m.kept
+  kept : m.kept ≤ m.written
   written : m.written ≤ m.gate.taken
   quiet : m.gate.changed ≡ false → m.gate.inside ≡ 0 → HasCut m.cuts (λ c. (c.number ≡ m.gate.taken) × OnlyLooked c.began m.history)
   looking : m.gate.phase ≡ Looking → (m.gate.inside ≡ 0) × (m.gate.changed ≡ false)
@@ -43,10 +44,12 @@ begins : (m : Moment) → Begins m → Holds m
 begins m b =
     let gate = b.gate in
     let none : m.written ≡ 0 = b.written in
-    let kept : m.gate.kept ≡ 0 = ap (λ (s : Standing). s.kept) gate in
+    let at_gate : m.gate.kept ≡ 0 = ap (λ (s : Standing). s.kept) gate in
     let taken : m.gate.taken ≡ 0 = ap (λ (s : Standing). s.taken) gate in
     let at_first : m.gate.phase ≡ Open = ap (λ (s : Standing). s.phase) gate in
+    let told : m.kept ≡ 0 = b.kept in
     record {
+      heard = omega arith;
       kept = omega arith;
       written = omega arith;
       quiet = λ same nobody. subst (λ (cuts : List TakenCut). HasCut cuts (λ c. (c.number ≡ m.gate.taken) × OnlyLooked c.began m.history)) (sym b.cuts) (inl (sym taken, looked_none m.history));
@@ -55,6 +58,7 @@ begins m b =
 
 adds : (old : Moment) (e : Entry) → (is_look e.step ≡ true) ⊎ (0 < old.gate.inside) → Holds old → Holds (record old { history = old.history ++ e ∷ [] })
 adds old e may h = record {
+  heard = h.heard;
   kept = h.kept;
   written = h.written;
   quiet = λ same nobody. ⊎_elim
@@ -67,6 +71,7 @@ adds old e may h = record {
 
 enters : (old : Moment) → HasRoom old.gate → Holds old → Holds (record old { gate = entered old.gate })
 enters old room h = record {
+  heard = h.heard;
   kept = h.kept;
   written = h.written;
   quiet = λ same nobody. absurd (let some : old.gate.inside + 1 ≡ 0 = nobody in omega arith);
@@ -75,6 +80,7 @@ enters old room h = record {
 
 leaves : (old : Moment) → 0 < old.gate.inside → Holds old → Holds (record old { gate = left old.gate })
 leaves old some h = record {
+  heard = h.heard;
   kept = h.kept;
   written = h.written;
   quiet = λ same nobody. absurd (true≢false same);
@@ -83,7 +89,8 @@ leaves old some h = record {
 
 passes : (old : Moment) (gate : Standing) → Passes old.gate gate → Holds old → Holds (record old { gate = gate })
 passes old gate p h = record {
-  kept = (let same = p.kept in let k = h.kept in omega arith);
+  heard = (let same = p.kept in let k = h.heard in omega arith);
+  kept = h.kept;
   written = (let same = p.taken in let w = h.written in omega arith);
   quiet = λ same nobody.
       has_map (λ c. (c.number ≡ old.gate.taken) × OnlyLooked c.began old.history) (λ c. (c.number ≡ gate.taken) × OnlyLooked c.began old.history) (λ c q. (q.0 ∙ sym p.taken, q.1)) old.cuts
@@ -93,6 +100,7 @@ passes old gate p h = record {
 
 takes : (old : Moment) → old.gate.inside ≡ 0 → Holds old → Holds (record old { gate = looked_at old.gate; cuts = record { number = old.gate.taken + 1; began = old.history } ∷ old.cuts })
 takes old nobody h = record {
+  heard = h.heard;
   kept = h.kept;
   written = (let w = h.written in omega arith);
   quiet = λ same none. inl (refl, looked_none old.history);
@@ -101,26 +109,37 @@ takes old nobody h = record {
 
 writes : (old : Moment) (number : ℕ) → old.written ≤ number → number ≤ old.gate.taken → Holds old → Holds (record old { written = number })
 writes old number more taken h = record {
+  heard = h.heard;
   kept = (let k = h.kept in omega arith);
   written = taken;
   quiet = h.quiet;
   looking = h.looking;
 }
 
-keeps : (old : Moment) (number : ℕ) (b : Bool) → number ≤ old.written → Holds old → Holds (record old { gate = if b then record old.gate { kept = number } else old.gate })
-keeps old number true has h = record { kept = has; written = h.written; quiet = h.quiet; looking = h.looking }
+tells : (old : Moment) (number : ℕ) → number ≤ old.written → Holds old → Holds (record old { kept = max old.kept number })
+tells old number has h = record {
+  heard = (let k = h.heard in omega arith);
+  kept = (let k = h.kept in omega arith);
+  written = h.written;
+  quiet = h.quiet;
+  looking = h.looking;
+}
+
+keeps : (old : Moment) (number : ℕ) (b : Bool) → number ≤ old.kept → Holds old → Holds (record old { gate = if b then record old.gate { kept = number } else old.gate })
+keeps old number true has h = record { heard = has; kept = h.kept; written = h.written; quiet = h.quiet; looking = h.looking }
 keeps old number false has h = h
 
 -- the moment in which a cut was taken
-taken_is : (old new : Moment) (number : ℕ) → Looked old.gate new.gate number → new.cuts ≡ record { number = number; began = old.history } ∷ old.cuts → new.history ≡ old.history → new.written ≡ old.written
+taken_is : (old new : Moment) (number : ℕ) → Looked old.gate new.gate number → new.cuts ≡ record { number = number; began = old.history } ∷ old.cuts → new.history ≡ old.history → new.written ≡ old.written → new.kept ≡ old.kept
     → new ≡ record old { gate = looked_at old.gate; cuts = record { number = old.gate.taken + 1; began = old.history } ∷ old.cuts }
-taken_is old new number looked cuts history written =
+taken_is old new number looked cuts history written kept =
     let is : number ≡ old.gate.taken + 1 = looked.1 ∙ ap (λ (s : Standing). s.taken) looked.2 in
     λ i. record {
       history = history i;
       gate = looked.2 i;
       cuts = (cuts ∙ ap (λ (n : ℕ). record { number = n; began = old.history } ∷ old.cuts) is) i;
       written = written i;
+      kept = kept i;
     }
 
 follows : (old new : Moment) → Follows old new → Holds old → Holds new
@@ -128,10 +147,11 @@ follows old new (inl (e, may, is)) h = subst Holds (sym is) (adds old e may h)
 follows old new (inr (inl (room, is))) h = subst Holds (sym is) (enters old room h)
 follows old new (inr (inr (inl (some, is)))) h = subst Holds (sym is) (leaves old some h)
 follows old new (inr (inr (inr (inl (gate, p, is))))) h = subst Holds (sym is) (passes old gate p h)
-follows old new (inr (inr (inr (inr (inl (nobody, number, looked, cuts, history, written)))))) h =
-    subst Holds (sym (taken_is old new number looked cuts history written)) (takes old nobody h)
+follows old new (inr (inr (inr (inr (inl (nobody, number, looked, cuts, history, written, kept)))))) h =
+    subst Holds (sym (taken_is old new number looked cuts history written kept)) (takes old nobody h)
 follows old new (inr (inr (inr (inr (inr (inl (number, more, taken, is))))))) h = subst Holds (sym is) (writes old number more taken h)
-follows old new (inr (inr (inr (inr (inr (inr (number, has, is))))))) h =
+follows old new (inr (inr (inr (inr (inr (inr (inl (number, has, is)))))))) h = subst Holds (sym is) (tells old number has h)
+follows old new (inr (inr (inr (inr (inr (inr (inr (number, has, is)))))))) h =
     subst Holds (sym is) (keeps old number (nat_lt old.gate.kept number && nat_le number old.gate.taken) has h)
 
 leads : (first last : Moment) (moments : List Moment) → LeadsTo first moments last → Holds first → Holds last
@@ -156,6 +176,7 @@ shown_now m cut told h front false is false of given =
     let parts = or_parts m.gate.changed (nat_lt 0 m.gate.inside) is in
     let nobody : m.gate.inside ≡ 0 = (let none = ltb-false 0 m.gate.inside parts.1 in omega arith) in
     let all = ltb-false m.gate.kept m.gate.taken of in
+    let at_gate = h.heard in
     let kept = h.kept in
     inr (has_map (λ c. (c.number ≡ m.gate.taken) × OnlyLooked c.began m.history) (λ c. ((c.number ≤ cut) ⊎ (c.number ≤ m.written)) × Shows c.began told)
     (λ c q. (inr (let n = q.0 in omega arith), (m.history, q.1, front))) m.cuts (h.quiet parts.0 nobody))
@@ -185,28 +206,29 @@ waits_on cut told old new (inr (inl (room, is))) w = subst (Waits cut told) (sym
 waits_on cut told old new (inr (inr (inl (some, is)))) w = subst (Waits cut told) (sym is) w
 waits_on cut told old new (inr (inr (inr (inl (gate, p, is))))) w = subst (Waits cut told) (sym is)
     (⊎_elim (λ (n : (cut ≡ old.gate.taken + 1) × IsPrefix told old.history). inl ((let same = p.taken in let next = n.0 in omega arith), n.1)) (λ has. inr has) w)
-waits_on cut told old new (inr (inr (inr (inr (inl (nobody, number, looked, cuts, history, written)))))) w =
-    subst (Waits cut told) (sym (taken_is old new number looked cuts history written)) (waits_takes old cut told w)
+waits_on cut told old new (inr (inr (inr (inr (inl (nobody, number, looked, cuts, history, written, kept)))))) w =
+    subst (Waits cut told) (sym (taken_is old new number looked cuts history written kept)) (waits_takes old cut told w)
 waits_on cut told old new (inr (inr (inr (inr (inr (inl (number, more, taken, is))))))) w = subst (Waits cut told) (sym is) (waits_writes old number cut told more w)
-waits_on cut told old new (inr (inr (inr (inr (inr (inr (number, has, is))))))) w =
+waits_on cut told old new (inr (inr (inr (inr (inr (inr (inl (number, has, is)))))))) w = subst (Waits cut told) (sym is) w
+waits_on cut told old new (inr (inr (inr (inr (inr (inr (inr (number, has, is)))))))) w =
     subst (Waits cut told) (sym is) (waits_keeps old number cut told (nat_lt old.gate.kept number && nat_le number old.gate.taken) w)
 
 waits_through : (cut : ℕ) (told : List Entry) (first last : Moment) (moments : List Moment) → LeadsTo first moments last → Waits cut told first → Waits cut told last
 waits_through cut told first last [] is w = subst (Waits cut told) (sym is) w
 waits_through cut told first last (next ∷ more) (one, rest) w = waits_through cut told next last more rest (waits_on cut told first next one w)
 
-all_told : (m : Moment) (cut : ℕ) (told : List Entry) → Holds m → cut ≤ m.gate.kept → Waits cut told m → FollowsCut m told
+all_told : (m : Moment) (cut : ℕ) (told : List Entry) → Holds m → cut ≤ m.kept → Waits cut told m → HasWritten m (λ c. Shows c.began told)
 all_told m cut told h kept (inl next) = absurd (let n = next.0 in let k = h.kept in let w = h.written in omega arith)
 all_told m cut told h kept (inr has) =
     let k = h.kept in
     has_map (λ c. ((c.number ≤ cut) ⊎ (c.number ≤ m.written)) × Shows c.began told) (λ c. (c.number ≤ m.written) × Shows c.began told)
     (λ c q. (⊎_elim (λ (l : c.number ≤ cut). omega arith) (λ (l : c.number ≤ m.written). l) q.0, q.1)) m.cuts has
 
-pub follows_cut : (first answered later : Moment) (before between : List Moment) (told : List Entry) (cut : ℕ) → Begins first → LeadsTo first before answered → IsPrefix told answered.history → GivesCut answered cut
-    → LeadsTo answered between later → cut ≤ later.gate.kept → FollowsCut later told
-follows_cut first answered later before between told cut b to front gives on kept =
-    let h = leads first answered before to (begins first b) in
-    all_told later cut told (leads answered later between on h) kept (waits_through cut told answered later between on (given answered cut told h front gives))
+pub follows_cut : (later : Moment) (told : List Entry) → IsKeptAnswer later told → HasWritten later (λ c. Shows c.began told)
+follows_cut later told a =
+    let h = leads a.first a.answered a.before a.came (begins a.first a.begins) in
+    all_told later a.cut told (leads a.answered later a.between a.went h) a.kept
+    (waits_through a.cut told a.answered later a.between a.went (given a.answered a.cut told h a.seen a.given))
 
 pub unchanged_meanwhile : (first now : Moment) (before : List Moment) → Begins first → LeadsTo first before now → now.gate.phase ≡ Looking → HasCut now.cuts (λ c. (c.number ≡ now.gate.taken) × OnlyLooked c.began now.history)
 unchanged_meanwhile first now before b to looking =

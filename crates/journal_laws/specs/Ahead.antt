@@ -27,17 +27,29 @@ Shows began told = (now : List Entry) × OnlyLooked began now × IsPrefix told n
 abbrev pub GivesCut : Moment → ℕ → Type 0
 GivesCut m cut = (cut ≡ m.gate.taken + 1) ⊎ (cut ≡ shown_by m.gate)
 
--- The journal has a cut of which the looks began after all that was told, but for looks
-abbrev pub FollowsCut : Moment → List Entry → Type 0
-FollowsCut m told = HasCut m.cuts (λ c. (c.number ≤ m.written) × Shows c.began told)
+-- An answer that told this, as its desk had seen it when the answer was given its cut, of which the cut is kept at a
+-- later moment
+pub record IsKeptAnswer (later : Moment) (told : List Entry) : Type 0 where
+  pub first : Moment
+  pub before : List Moment
+  pub answered : Moment
+  pub between : List Moment
+  pub cut : ℕ
+  pub begins : Begins first
+  pub came : LeadsTo first before answered
+  pub seen : IsPrefix told answered.history
+  pub given : GivesCut answered cut
+  pub went : LeadsTo answered between later
+  pub kept : cut ≤ later.kept
 
--- An answer tells what its desk had seen when it was given its cut. At each later moment at which that cut is kept,
--- the journal has a cut that shows all of it
+-- the journal has a cut of which this is so
+abbrev pub HasWritten : Moment → (TakenCut → Type 0) → Type 0
+HasWritten m Is = HasCut m.cuts (λ c. (c.number ≤ m.written) × Is c)
+
+-- of each such answer the journal has a cut that shows all that was told
 abbrev pub AnswersFollowCuts : Type 0
 AnswersFollowCuts =
-    (first answered later : Moment) (before between : List Moment) (told : List Entry) (cut : ℕ) → Begins first
-    → LeadsTo first before answered → IsPrefix told answered.history → GivesCut answered cut
-    → LeadsTo answered between later → cut ≤ later.gate.kept → FollowsCut later told
+    (later : Moment) (told : List Entry) → IsKeptAnswer later told → HasWritten later (λ c. Shows c.began told)
 
 -- while the rows are looked at, nothing has changed since the looks of this cut began
 abbrev pub NothingChangesMeanwhile : Type 0

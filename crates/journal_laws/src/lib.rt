@@ -8,13 +8,17 @@
 //!
 //! Two things are premises here. A desk makes an entry that isn't a look only while somebody is inside of the gate: so
 //! say `begun` of `say_begun` (rail_service) and of `sweep_begun` (host_serve), with an `Inside` that the clock holds.
-//! And the gate hears that a cut is kept once the journal has it: so says the receipt that `keep` of `Cuts` takes.
+//! And those who wait for a cut hear that it is kept once the journal has it: so says the receipt that `keep` of `Cuts`
+//! takes.
 //!
 //! The crate has definitions and laws alone: it does nothing when it runs.
 //!
-//! Where to look in `specs/`: `Moments` (which moment follows another), `Ahead` (what stands before what).
+//! Where to look in `specs/`: `Moments` (which moment follows another), `Ahead` (what stands before what), `There`
+//! (what is there again).
 #![tactic(auto)]
 
 mod laws;
 
-pub use laws::{answers_follow_cuts, nothing_changes_meanwhile, other_calls_pass};
+pub use laws::{
+    answers_are_there_again, answers_follow_cuts, nothing_changes_meanwhile, other_calls_pass,
+};
