@@ -1,6 +1,6 @@
-//! Tests of the table of words and of bookings by public calls: the booking machine, a desk's calls, exports of desks that
-//! were given up, a booking's life, and the texts of journals. They stand in a crate of their own, so that the crates that they test are proved
-//! once, without tests.
+//! Tests of the table of words and of bookings by public calls: the booking machine, a desk's calls, exports of desks
+//! that were given up, a booking's life, and the texts of journals. They stand in a crate of their own, so that the
+//! crates that they test are proved once, without tests.
 //!
 //! - `entries`: the machine's steps on a plain list of bookings (`ListHost`). Each kind of step once allowed and, but
 //!   for a meeting, once refused, in five tables of entries, and the words of places after each. The words of phases,
