@@ -56,22 +56,6 @@ impl<R: Wait> Watcher for Looker<'_, R> {
     }
 }
 
-/// One of two kinds of watchers.
-#[derive(Drop)]
-pub enum Either<A, B> {
-    One(A),
-    Other(B),
-}
-
-impl<A: Watcher, B: Watcher> Watcher for Either<A, B> {
-    fn watch(&mut self, books: &Books, desk: &mut Desk) -> TurnEnd {
-        match self {
-            Either::One(watcher) => watcher.watch(books, desk),
-            Either::Other(watcher) => watcher.watch(books, desk),
-        }
-    }
-}
-
 /// Nobody looks any more.
 pub(crate) fn end<R: Wait>(findings: Option<&Findings>, rt: &R) {
     if let Some(findings) = findings {

@@ -58,7 +58,8 @@ impl Findings {
         }
     }
 
-    /// How many bookings a sweep expired, lost to other turns, and left since they weren't late.
+    /// Notes a sweep: how many bookings it expired, how many turns it lost to others, and how many are prebooked and
+    /// not late after it.
     pub fn note_swept(&self, expired: u32, lost: u32, waiting: u32) {
         self.expired.add(u64::from(expired));
         self.lost.add(u64::from(lost));

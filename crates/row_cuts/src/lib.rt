@@ -17,7 +17,8 @@
 //!
 //! `specs/Looks` has what looks at rows show, `Lines` what is written of them, and `Quiet` when they are of one moment.
 //! `Kept` has what of a row stays, `Cuts` what cuts fold to, `Told` what of an answer is there afterwards, `Exports`
-//! which lines an export has, `Counts` and `Sold` what a count is, and `Prints` the text of a print. `laws` says what holds of them.
+//! which lines an export has, `Counts` and `Sold` what a count is, and `Prints` the text of a print. `laws` says what
+//! holds of them.
 #![tactic(auto)]
 
 mod counts;
@@ -27,8 +28,6 @@ mod lines;
 mod looks;
 mod prints;
 mod sold;
-#[cfg(test)]
-mod tests;
 
 pub use counts::{RowCount, count_rows};
 pub use exports::export_rows;

@@ -8,7 +8,7 @@ ghost use Rattle.host_serve.specs.Turns.{FitsBooks, HasCatalogue};
 use crate::connections::RESERVES;
 use claim_rule::{Books, Desk};
 use history_model::phase::{EndKind, Phase, phase_word};
-use host_journal::NoWatcher;
+use host_journal::Watcher;
 use host_serve::{Post, Streams, Sweeper};
 use rail_catalogue::Catalogue;
 use rail_io::{BytesSource, CountTicker, ScriptClock, VecSink};
@@ -160,6 +160,18 @@ impl Streams for NoStreams {
         ensures handed { ◌≡◌ {A = ℕ} 0 0 }
     {
         let _closed = finished;
+    }
+}
+
+/// Nobody watches.
+#[derive(Drop)]
+struct NoWatcher;
+
+impl Watcher for NoWatcher {
+    fn watch(&mut self, books: &Books, desk: &mut Desk) -> TurnEnd {
+        let _ = books;
+        let _ = desk;
+        TurnEnd::End
     }
 }
 
