@@ -2,7 +2,7 @@
 use Rattle.std.proofs.Common.{inl, inr, List, [], ◌∷◌, ◌++◌, append-nil, refl, arith}
 use Rattle.history_model.specs.declared.entry.Entry.{Entry}
 use Rattle.answer_gate.specs.declared.state.Standing.{Standing}
-use Rattle.answer_gate.specs.Standings.{closed, entered, fresh, left, looked_at, opened}
+use Rattle.answer_gate.specs.Standings.{closed, entered, fresh, left, looked_at}
 use Rattle.journal_laws.specs.Moments.{Moment, Passes}
 use Rattle.journal_laws.specs.Ahead.{IsKeptAnswer}
 
