@@ -5,7 +5,8 @@ ghost use Rattle.history_model.specs.Booking.{most_rows};
 ghost use Rattle.claim_rule.specs.Calls.{AddsStepsBy};
 ghost use Rattle.claim_rule.specs.Desks.{IsOf};
 ghost use Rattle.claim_rule.specs.Out.{AllLooks, IsTidy, KeepsEndings, KeepsHolds};
-ghost use Rattle.row_cuts.specs.Lines.{WritesBlocks, WritesLines, WritesMarked, block_rows, group_blocks, is_set, mark_blocks, mark_groups};
+ghost use Rattle.row_cuts.specs.Lines.{WritesBlocks, WritesLines, WritesMarked, block_rows, group_blocks, is_set};
+ghost use Rattle.row_cuts.specs.Lines.{mark_blocks, mark_groups};
 
 use crate::looks::push_row;
 use claim_rule::{Books, Desk};
