@@ -1,2 +1,3 @@
 pub mod Running
 pub mod Again
+pub mod OneAnswer

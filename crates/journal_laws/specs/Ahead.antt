@@ -51,6 +51,11 @@ abbrev pub AnswersFollowCuts : Type 0
 AnswersFollowCuts =
     (later : Moment) (told : List Entry) → IsKeptAnswer later told → HasWritten later (λ c. Shows c.began told)
 
+-- there are such answers: one that tells of an entry which was just made may be kept
+abbrev pub AnswersMayBeKept : Type 0
+AnswersMayBeKept =
+    (history : List Entry) (made : Entry) → (later : Moment) × IsKeptAnswer later (history ++ made ∷ [])
+
 -- while the rows are looked at, nothing has changed since the looks of this cut began
 abbrev pub NothingChangesMeanwhile : Type 0
 NothingChangesMeanwhile =

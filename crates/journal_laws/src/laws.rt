@@ -1,7 +1,7 @@
 //! What holds of all moments of a host that keeps a journal, as contracts of functions that do nothing.
 
 ghost use Rattle.answer_gate.specs.declared.state.Standing.{Standing};
-ghost use Rattle.journal_laws.specs.Ahead.{AnswersFollowCuts, NothingChangesMeanwhile, OthersPass};
+ghost use Rattle.journal_laws.specs.Ahead.{AnswersFollowCuts, AnswersMayBeKept, NothingChangesMeanwhile, OthersPass};
 ghost use Rattle.journal_laws.specs.There.{AnswersAreThereAgain};
 
 /// Where an answer's cut is kept, the journal has a cut that shows all that the answer tells. What its desk had seen when
@@ -22,6 +22,11 @@ pub fn answers_are_there_again()
 /// While the rows are looked at for a cut, nothing has changed since its looks began. So its lines are of one moment.
 pub fn nothing_changes_meanwhile()
     ensures still { NothingChangesMeanwhile }
+{}
+
+/// There are answers of which the other laws speak: one that tells of an entry that was just made may be kept.
+pub fn answers_may_be_kept()
+    ensures some { AnswersMayBeKept }
 {}
 
 /// Each call of a gate that doesn't enter, leave, take a cut or keep one is such that a moment may follow by it.

@@ -20,5 +20,6 @@
 mod laws;
 
 pub use laws::{
-    answers_are_there_again, answers_follow_cuts, nothing_changes_meanwhile, other_calls_pass,
+    answers_are_there_again, answers_follow_cuts, answers_may_be_kept, nothing_changes_meanwhile,
+    other_calls_pass,
 };
