@@ -10,6 +10,9 @@
 //! 0.0.4. Its contract says every byte: `specs/Texts` has the form of a family of numbers, `specs/Metrics` the
 //! families, and `specs/Routes` those of routes.
 //!
+//! `count_session` is a session in memory whose counts stand in memory too: each answer of which a byte was taken is
+//! counted once, by its status, and the counts add up to these answers (`counts_add_up`).
+//!
 //! The crate knows no booking and no host: it takes nothing but numbers.
 #![tactic(auto)]
 
@@ -23,10 +26,12 @@ mod heads;
 mod journal;
 mod labels;
 mod metrics;
+mod noted;
 mod pages;
 mod reply;
 mod route_texts;
 mod routes;
+mod run;
 mod sink;
 mod source;
 mod tallies;
@@ -41,7 +46,7 @@ pub use crossing::crosses;
 pub use journal::CountingJournal;
 pub use pages::Pages;
 pub use routes::RouteCounts;
+pub use run::{Script, ScriptOutlet, count_session, counts_add_up};
 pub use sink::CountingSink;
 pub use source::CountingSource;
 pub use ticker::CountingTicker;
-pub use turn::answers_are_counted_once;
