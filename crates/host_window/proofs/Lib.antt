@@ -1,2 +1,3 @@
-pub mod Counted
 pub mod Joining
+pub mod Runs
+pub mod Sums

@@ -1,4 +1,6 @@
 pub mod Counting
+pub mod Counted
+pub mod Runs
 pub mod Labels
 pub mod Pages
 pub mod Showing

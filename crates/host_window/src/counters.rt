@@ -2,7 +2,7 @@
 use crate::counts::Counts;
 use crate::family::Sample;
 use crate::findings::Findings;
-use crate::labels::{CAUSES, CODES, Cause, STATUSES, number_of_code, number_of_status};
+use crate::labels::{CAUSES, CODES, Cause, FIRST_PROBLEM, STATUSES, number_of_code};
 use crate::routes::{RouteCounts, buckets_of, requests_of, times_of};
 use crate::tallies::{Tallies, Tally};
 use std::alloc::{AllocError, Global};
@@ -95,11 +95,11 @@ impl StreamCounts {
         self.ended.add(cause.number(), 1);
     }
 
-    /// An answer of this status has begun to be written, with this body.
+    /// An answer whose status has this label has begun to be written, with this body.
     #[inline(always)]
-    pub(crate) fn note_answer(&self, status: u16, body: &[u8]) {
-        self.answers.add(number_of_status(status), 1);
-        if status >= 400 {
+    pub(crate) fn note_answer(&self, label: usize, body: &[u8]) {
+        self.answers.add(label, 1);
+        if label >= FIRST_PROBLEM {
             self.note_problem(body);
         }
     }

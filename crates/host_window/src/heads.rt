@@ -1,13 +1,56 @@
 //! What is read of an answer that is written.
+ghost use Rattle.std.specs.Prelude.{◌≡◌, ◌++◌, slice_index};
+ghost use Rattle.host_window.specs.Counted.{label_in, number_in};
 
-/// The status of an answer with this head. Each of its three bytes is taken for a digit.
-#[inline(always)]
-pub(crate) fn status_of(first: &[u8]) -> Option<u16> {
-    match first {
-        [_, _, _, _, _, _, _, _, _, a, b, c, ..] => {
-            let digits = u16::from(*a) * 100 + u16::from(*b) * 10 + u16::from(*c);
-            Some(digits.wrapping_sub(u16::from(b'0') * 111))
-        }
-        _ => None,
+use crate::labels::number_of_status;
+
+// The number of three digits, or 0.
+fn number_of(hundreds: u8, tens: u8, ones: u8) -> u16
+    ensures { result ≡ number_in hundreds tens ones }
+{
+    if hundreds.is_ascii_digit() && tens.is_ascii_digit() && ones.is_ascii_digit() {
+        u16::from(hundreds - b'0') * 100 + u16::from(tens - b'0') * 10 + u16::from(ones - b'0')
+    } else {
+        0
     }
+}
+
+// The byte of both pieces at this place, or 0 behind them.
+fn byte_at(first: &[u8], second: &[u8], place: usize) -> u8
+    ensures { result ≡ slice_index (first.now ++ second.now) place }
+{
+    if place < first.len() {
+        return first[place];
+    }
+    match second.get(place - first.len()) {
+        Some(byte) => *byte,
+        None => 0,
+    }
+}
+
+// The number of the label of any answer.
+#[inline(never)]
+fn label_by_digits(first: &[u8], second: &[u8]) -> usize
+    ensures { result ≡ label_in (first.now ++ second.now) }
+{
+    let hundreds = byte_at(first, second, 9);
+    let tens = byte_at(first, second, 10);
+    let ones = byte_at(first, second, 11);
+    number_of_status(number_of(hundreds, tens, ones))
+}
+
+/// The number of the label of an answer that begins with these two pieces. Most are 200 and 201, so that these are
+/// looked for first.
+#[inline(always)]
+pub(crate) fn label_of(first: &[u8], second: &[u8]) -> usize
+    ensures { result ≡ label_in (first.now ++ second.now) }
+{
+    if first.len() >= 12 && first[9] == b'2' && first[10] == b'0' {
+        match first[11] {
+            b'0' => return 0,
+            b'1' => return 1,
+            _ => {}
+        }
+    }
+    label_by_digits(first, second)
 }

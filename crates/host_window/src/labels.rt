@@ -40,6 +40,9 @@ pub(crate) const STATUSES: [&[u8]; 16] = [
     b"{status=\"other\"}",
 ];
 
+/// From this label on an answer is a problem.
+pub(crate) const FIRST_PROBLEM: usize = 2;
+
 /// The labels of codes of problems, and last that of all others, of which there are none. They are looked through in
 /// this order, so those come first that a right request may meet.
 pub(crate) const CODES: [&[u8]; 24] = [

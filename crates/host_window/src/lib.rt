@@ -13,6 +13,9 @@
 //! What is in the books a member of the host looks up, where the window asks for it by `Findings`, by which sweeps also
 //! tell what they found. `specs/Finds` has their families.
 //!
+//! `count_session` is a session in memory whose counts stand in memory too: each answer of which a byte was taken is
+//! counted once, by its status, and the counts add up to these answers (`counts_add_up`).
+//!
 //! The crate knows no booking and no host: it takes nothing but numbers.
 #![tactic(auto)]
 
@@ -29,10 +32,12 @@ mod heads;
 mod journal;
 mod labels;
 mod metrics;
+mod noted;
 mod pages;
 mod reply;
 mod route_texts;
 mod routes;
+mod run;
 mod sink;
 mod source;
 mod tallies;
@@ -49,7 +54,7 @@ pub use found::{Finds, Found};
 pub use journal::CountingJournal;
 pub use pages::Pages;
 pub use routes::RouteCounts;
+pub use run::{Script, ScriptOutlet, count_session, counts_add_up};
 pub use sink::CountingSink;
 pub use source::CountingSource;
 pub use ticker::CountingTicker;
-pub use turn::answers_are_counted_once;

