@@ -4,7 +4,12 @@
   bench/gate.py [--save FILE] [--edits]               starts `rt ci` here and goes along with it
   bench/gate.py [--save FILE] [--edits] --pid PID     goes along with a run that is on its way (PID is that of `rt ci`)
   bench/gate.py --join RUN.. --save FILE              the saved runs of one tree, of which each goes on where the one before was ended, as one
-  bench/gate.py --compare BEFORE AFTER                two saved runs, crate by crate
+  bench/gate.py --compare BEFORE AFTER [--new NAME..]  two saved runs, crate by crate; the crates named hold only what came since
+  bench/gate.py --show RUN [--crates FILE] [--edits]  a saved run; FILE is its tree's crates.txt, where that isn't saved with it
+
+After the table comes the longest chain of crates, each of which stands on the one before: the seconds of their proofs, one job each, with
+the proof of the last one's tests. And how long processors would need that do one task each, computed from the table: next is a proof
+with the longest chain behind it, and edits where no proof is ready.
 
 The processes of the run are looked up in /proc five times a second, so a process counts up to a fifth of a second too little. The seconds are
 those of the processor, and grow by a tenth or more where other work shares caches and memory: compare runs of one machine in one state.
@@ -15,13 +20,16 @@ import json
 import os
 import pathlib
 import re
+import statistics
 import subprocess
 import sys
 import time
 
+ROOT = pathlib.Path(__file__).resolve().parent.parent
 TICK = os.sysconf("SC_CLK_TCK")
 EACH_SECONDS = 0.2
 MEMORY_EACH = 5  # samples
+LEAST_PROOF = 5.0  # seconds of a proof that tells how fast a machine is
 CRATE = re.compile(r"--crate-name\0(\w+)")
 PARTS = ("proof", "tests", "before edits", "edits", "runs")
 
@@ -170,6 +178,89 @@ def sum_of(row):
     return sum(row["seconds"].values())
 
 
+def read_lines(path):
+    """The libraries that each crate names in a crates.txt."""
+    lines = re.findall(r"^(\w+)[^:#\n]*:([^#\n]*)", path.read_text(), re.MULTILINE)
+    return {crate: names.split() for crate, names in lines}
+
+
+class Chains:
+    """The chains of crates that stand on each other, by the seconds of a run."""
+
+    def __init__(self, rows, lines):
+        self.seconds = {name: row["seconds"] for name, row in rows.items()}
+        self.lines = {name: [below for below in lines.get(name, []) if below in rows] for name in rows}
+        self.found = {}
+
+    def up_to(self, name):
+        """The longest chain that ends with this crate's proof: its seconds, and its crates."""
+        if name not in self.found:
+            seconds, names = max((self.up_to(below) for below in self.lines[name]), default=(0.0, []))
+            self.found[name] = seconds + self.seconds[name].get("proof", 0), names + [name]
+        return self.found[name]
+
+    def longest(self):
+        """The longest of all, with the tests of its last crate."""
+        ends = {name: self.seconds[name].get("tests", 0) for name in self.lines}
+        last = max(self.lines, key=lambda name: self.up_to(name)[0] + ends[name])
+        return self.up_to(last)[0] + ends[last], self.up_to(last)[1]
+
+
+def tasks_of(rows, lines):
+    """What a run has to do: each task's seconds, and the tasks that it waits for."""
+    tasks = {}
+    for name, row in rows.items():
+        seconds, proof = row["seconds"], (name, "proof")
+        before = [(name, "before edits")] if seconds.get("before edits") else [proof]
+        tasks[proof] = seconds.get("proof", 0), [(below, "proof") for below in lines.get(name, []) if below in rows]
+        for part in ("tests", "runs", "before edits"):
+            if seconds.get(part):
+                tasks[name, part] = seconds[part], [proof]
+        tasks |= {(name, edit, "edits"): (spent, before) for edit, spent in row["edits"].items()}
+    return tasks
+
+
+def seconds_behind(tasks):
+    """The seconds of each task with the longest chain of those that wait for it."""
+    above, found = collections.defaultdict(list), {}
+    for key, (_, waits) in tasks.items():
+        for it in waits:
+            above[it].append(key)
+
+    def of(key):
+        if key not in found:
+            found[key] = tasks[key][0] + max(map(of, above[key]), default=0)
+        return found[key]
+
+    return {key: of(key) for key in tasks}
+
+
+def time_on(processors, tasks):
+    """How long so many processors need that do one task each, as `rt ci` chooses the next one."""
+    behind = seconds_behind(tasks)
+    left = sorted(tasks, key=lambda key: (key[-1] in ("edits", "before edits"), -behind[key]))
+    now, running, ended = 0.0, {}, set()
+    while left or running:
+        for key in [it for it in left if ended.issuperset(tasks[it][1])][: processors - len(running)]:
+            left.remove(key)
+            running[key] = now + tasks[key][0]
+        key = min(running, key=running.get)
+        now = running.pop(key)
+        ended.add(key)
+    return now
+
+
+def show_times(saved, lines):
+    rows = saved["crates"]
+    seconds, names = Chains(rows, lines).longest()
+    links = ["%s %.0f" % (name, rows[name]["seconds"].get("proof", 0)) for name in names]
+    tests = rows[names[-1]]["seconds"].get("tests", 0)
+    print("\nthe longest chain %.0f s (%.1f minutes): %s%s" % (seconds, seconds / 60, " > ".join(links), " > its tests %.0f" % tests if tests else ""))
+    tasks = tasks_of(rows, lines)
+    for processors in (2, 4):
+        print("on %d processors, one task each, computed: %.0f minutes" % (processors, time_on(processors, tasks) / 60))
+
+
 def show(saved, with_edits):
     rows, lines = saved["crates"], []
     for name, row in sorted(rows.items(), key=lambda entry: -sum_of(entry[1])):
@@ -195,6 +286,7 @@ def join(runs):
     for run in runs:
         for part in ("rt", "total", "wall"):
             whole[part] += run[part]
+        whole["lines"] = run.get("lines") or whole.get("lines")
         for name, row in run["crates"].items():
             crate = whole["crates"].setdefault(name, {"seconds": collections.Counter(), "memory": collections.Counter(), "edits": collections.Counter()})
             crate["seconds"].update(row["seconds"])
@@ -203,19 +295,32 @@ def join(runs):
     return whole
 
 
-def compare(before, after):
-    def cells(row):
-        return [row["seconds"].get(part, 0) for part in PARTS[:4]] + [sum_of(row)] if row else [0.0] * 5
+def cells_of(row):
+    return [row["seconds"].get(part, 0) for part in PARTS[:4]] + [sum_of(row)] if row else [0.0] * 5
 
-    lines, sums = [], [0.0] * 10
-    names = sorted(set(before["crates"]) | set(after["crates"]))
+
+def pace(before, after):
+    """The median, over the crates of both runs, of what a crate's own proof took after by what it took before: how fast the machines are."""
+    pairs = [(before[name]["seconds"].get("proof", 0), after[name]["seconds"].get("proof", 0)) for name in set(before) & set(after)]
+    return statistics.median([two / one for one, two in pairs if one >= LEAST_PROOF and two >= LEAST_PROOF] or [1.0])
+
+
+def compare(before, after, new):
+    """Two runs, crate by crate. Apart from the rest stand the crates that are named: they hold only what came since."""
+    names = sorted(set(before["crates"]) | set(after["crates"]), key=lambda name: (name in new, name))
+    sums, lines = {False: [0.0] * 10, True: [0.0] * 10}, []
     for name in names:
-        one, two = cells(before["crates"].get(name)), cells(after["crates"].get(name))
-        sums = [a + b for a, b in zip(sums, [number for pair in zip(one, two) for number in pair])]
-        lines.append([name, *("%.0f > %.0f" % pair for pair in zip(one, two))])
-    lines.append(["all", *("%.0f > %.0f" % (sums[at], sums[at + 1]) for at in range(0, 10, 2))])
+        pairs = list(zip(*(cells_of(run["crates"].get(name)) for run in (before, after))))
+        sums[name in new] = [a + b for a, b in zip(sums[name in new], [number for pair in pairs for number in pair])]
+        lines.append([name, *("%.0f > %.0f" % pair for pair in pairs)])
+    for title, sum_row in (("all but the new", sums[False]), ("the new", sums[True])):
+        lines.append([title, *("%.0f > %.0f" % (sum_row[at], sum_row[at + 1]) for at in range(0, 10, 2))])
     table(["crate", "proof s", "tests' proof s", "before edits s", "edits s", "all s"], lines)
-    print("\nafter by before: %.2f" % (sums[9] / sums[8] if sums[8] else 0))
+    known, whole = sums[False], sums[False][9] + sums[True][9]
+    print("\nafter by before, without the new crates: %.2f; with them: %.2f" % (known[9] / (known[8] or 1), whole / (known[8] or 1)))
+    median = pace(before["crates"], after["crates"])
+    print("the crates' own proofs, after by before: %.2f by the median, which is the machine's part of it; without it %.2f for all but the new" % (median, known[9] / (known[8] or 1) / median))
+    print("in one of the two runs alone: %s" % " ".join(sorted(set(before["crates"]) ^ set(after["crates"]))))
 
 
 def read_run(name):
@@ -226,6 +331,7 @@ def finish(run, given):
     if given.save:
         pathlib.Path(given.save).write_text(json.dumps(run, indent=1))
     show(run, given.edits)
+    show_times(run, run.get("lines") or read_lines(given.crates))
 
 
 def main():
@@ -235,22 +341,27 @@ def main():
     words.add_argument("--edits", action="store_true", help="list each edit")
     words.add_argument("--join", nargs="+", metavar="RUN")
     words.add_argument("--compare", nargs=2, metavar=("BEFORE", "AFTER"))
+    words.add_argument("--new", nargs="+", metavar="NAME", default=[], help="crates of AFTER that hold only what came since")
+    words.add_argument("--show", metavar="RUN")
+    words.add_argument("--crates", metavar="FILE", type=pathlib.Path, default=ROOT / "crates.txt")
     given = words.parse_args()
     if given.compare:
-        return compare(*map(read_run, given.compare))
+        return compare(*map(read_run, given.compare), given.new)
+    if given.show:
+        return finish(read_run(given.show), given)
     if given.join:
         return finish(join(map(read_run, given.join)), given)
     if given.pid:
         root = given.pid
         started, top = None, Process(root).folder()
     else:
-        top = pathlib.Path(__file__).resolve().parent.parent
+        top = ROOT
         started = subprocess.Popen(["rt", "ci"], cwd=top)
         root = started.pid
-    run, began = Run(root, top / "crates"), time.time()
+    run, began, lines = Run(root, top / "crates"), time.time(), read_lines(top / "crates.txt")
     while run.sample() and (started is None or started.poll() is None):
         time.sleep(EACH_SECONDS)
-    finish({"rt": run.own, "total": run.total, "wall": time.time() - began, "crates": run.rows()}, given)
+    finish({"rt": run.own, "total": run.total, "wall": time.time() - began, "lines": lines, "crates": run.rows()}, given)
     return started.wait() if started else 0
 
 

@@ -42,7 +42,7 @@ def build(out):
         environment = {**os.environ, "TMPDIR": name}
         done = subprocess.run(words, env=environment, stdin=subprocess.DEVNULL, capture_output=True, text=True)
     if not out.exists():
-        sys.exit("unproved: nothing was built\n" + done.stderr)
+        sys.exit("unproved: nothing was built, status %d\n%s%s" % (done.returncode, done.stdout, done.stderr))
 
 
 def main():

@@ -24,6 +24,7 @@ from jsonschema import Draft202012Validator
 from openapi_spec_validator import validate
 
 from inputs import BROKEN, CASES
+from references import without_references
 
 TESTS = pathlib.Path(__file__).resolve().parent.parent
 sys.path.append(str(TESTS))
@@ -37,21 +38,6 @@ WIRE = {"BadHead", "HeadTooLarge", "BodyTooLarge", "Coding", "BadLength"}
 UNFORCED = {"Contended", "NoMemory"}
 # Fields with rules that no schema of the document says.
 RULED = {"adults", "destination", "earliest", "latest", "run", "to"}
-
-
-def without_references(document, value):
-    """The value with each reference into the document replaced by what it names."""
-    if isinstance(value, list):
-        return [without_references(document, item) for item in value]
-    if not isinstance(value, dict):
-        return value
-    rest = {name: without_references(document, item) for name, item in value.items() if name != "$ref"}
-    if "$ref" not in value:
-        return rest
-    named = document
-    for part in value["$ref"].removeprefix("#/").split("/"):
-        named = named[part]
-    return {**without_references(document, named), **rest}
 
 
 def codes_of(schema):

@@ -102,14 +102,19 @@ def provided(root, program):
         shutil.rmtree(left) if left.is_dir() else left.unlink(missing_ok=True)
 
 
-def main():
-    words = argparse.ArgumentParser(description=__doc__, formatter_class=argparse.RawDescriptionHelpFormatter)
+def given_words(page):
+    """The words of a script that runs a booted Debian, and the folder of that system, which may be one to throw away."""
+    words = argparse.ArgumentParser(description=page, formatter_class=argparse.RawDescriptionHelpFormatter)
     words.add_argument("program", type=pathlib.Path)
     words.add_argument("--root", type=pathlib.Path)
     given = words.parse_args()
     if os.getuid() != 0 or not shutil.which("debootstrap") or not shutil.which("systemd-nspawn"):
         words.error("it needs root, debootstrap and systemd-nspawn")
-    root = given.root or pathlib.Path(tempfile.mkdtemp())
+    return given, given.root or pathlib.Path(tempfile.mkdtemp())
+
+
+def main():
+    given, root = given_words(__doc__)
     provided(root, given.program)
     system, wrong = Booted(root), 0
     try:

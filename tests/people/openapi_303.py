@@ -17,6 +17,10 @@ from openapi_schema_validator import OAS30Validator
 from openapi_spec_validator import OpenAPIV30SpecValidator, OpenAPIV31SpecValidator
 
 ROOT = pathlib.Path(__file__).resolve().parents[2]
+sys.dont_write_bytecode = True
+sys.path.append(str(ROOT / "tests" / "openapi"))
+from references import without_references
+
 SOURCE, MADE = ROOT / "docs" / "openapi.yaml", ROOT / "docs" / "openapi-3.0.3.yaml"
 TOP = "# Made of docs/openapi.yaml by tests/people/openapi_303.py: change that document, not this one.\n"
 TYPES = {str: "string", bool: "boolean", int: "integer"}
@@ -64,20 +68,6 @@ class Dumper(yaml.SafeDumper):
 def text_of(made):
     Dumper.add_representer(str, lambda dumper, text: dumper.represent_scalar("tag:yaml.org,2002:str", text, style="|" if "\n" in text else None))
     return TOP + yaml.dump(made, Dumper=Dumper, sort_keys=False, width=120, allow_unicode=True)
-
-
-def without_references(document, value):
-    if isinstance(value, list):
-        return [without_references(document, item) for item in value]
-    if not isinstance(value, dict):
-        return value
-    rest = {name: without_references(document, item) for name, item in value.items() if name != "$ref"}
-    if "$ref" not in value:
-        return rest
-    named = document
-    for part in value["$ref"].removeprefix("#/").split("/"):
-        named = named[part]
-    return {**without_references(document, named), **rest}
 
 
 def examples_of(document):

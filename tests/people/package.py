@@ -7,16 +7,13 @@ It needs what packaging/deb needs, and root, `debootstrap`, `systemd-nspawn` (`a
 systemd-container`) and a mirror of Debian. It takes some minutes the first time; with --root it keeps the system and
 begins with it the next time. So it is tried by name.
 """
-import argparse
-import os
 import pathlib
 import re
 import shutil
 import subprocess
 import sys
-import tempfile
 
-from booted import PACKAGES, Booted, provide
+from booted import PACKAGES, Booted, given_words, provide
 
 ROOT = pathlib.Path(__file__).resolve().parents[2]
 OLD, NEW = "0.1-1", "0.2-1"
@@ -115,7 +112,7 @@ def page_commands():
 
 
 def provided(root):
-    provide(root, PACKAGES + ",python3")
+    provide(root, PACKAGES)
     for left in ("packages", "etc/sumacgate", "var/lib/private/sumacgate"):
         shutil.rmtree(root / left, ignore_errors=True)
     # The unit that tests/people/booted.py puts beside those of packages.
@@ -136,13 +133,7 @@ def faults_of_steps(system):
 
 
 def main():
-    words = argparse.ArgumentParser(description=__doc__, formatter_class=argparse.RawDescriptionHelpFormatter)
-    words.add_argument("program", type=pathlib.Path)
-    words.add_argument("--root", type=pathlib.Path)
-    given = words.parse_args()
-    if os.getuid() != 0 or not shutil.which("debootstrap") or not shutil.which("systemd-nspawn"):
-        words.error("it needs root, debootstrap and systemd-nspawn")
-    root = given.root or pathlib.Path(tempfile.mkdtemp())
+    given, root = given_words(__doc__)
     provided(root)
     found = list(packages(given.program.resolve(), root / "packages"))
     if not found:

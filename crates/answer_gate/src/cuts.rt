@@ -15,8 +15,10 @@ use std::sync::{Condvar, Mutex, Wait};
 pub struct Cuts<K: Receipt + Drop = Brand> {
     gate: Gate,
     tally: Mutex<Tally<K>>,
-    /// Whoever waits until a cut is kept.
-    waiting: Condvar,
+    /// Whoever waits until a cut of an even number is kept.
+    even: Condvar,
+    /// Likewise of an odd one.
+    odd: Condvar,
     /// Whether the journal is lost.
     lost: AtomicBool,
 }
@@ -27,7 +29,8 @@ impl<K: Receipt + Drop> Cuts<K> {
         Cuts {
             gate: Gate::new(),
             tally: Mutex::new(Tally::new()),
-            waiting: Condvar::new(),
+            even: Condvar::new(),
+            odd: Condvar::new(),
             lost: AtomicBool::new(false),
         }
     }
@@ -35,6 +38,12 @@ impl<K: Receipt + Drop> Cuts<K> {
     /// The gate.
     pub fn gate(&self) -> &Gate {
         &self.gate
+    }
+
+    // Where those wait who wait for the cut of this number. Those who wait for the next one wait elsewhere, so that
+    // they sleep on while this one is kept.
+    fn room(&self, cut: u64) -> &Condvar {
+        if cut % 2 == 0 { &self.even } else { &self.odd }
     }
 
     /// Waits until somebody waits for a cut, closes the gate, and waits until nobody is inside. The gate stays closed
@@ -65,8 +74,8 @@ impl<K: Receipt + Drop> Cuts<K> {
         let number = taken.number();
         taken.settle();
         self.tally.lock(rt).keep(number);
+        self.room(number).notify_all();
         self.gate.keep(rt, number);
-        self.waiting.notify_all();
     }
 
     /// The journal is lost, and the cut with it: wakes all. No further cut is ever kept.
@@ -80,7 +89,8 @@ impl<K: Receipt + Drop> Cuts<K> {
     // No more cuts will be kept: wakes those that wait for one.
     fn end<R: Wait>(&self, rt: &R) {
         self.tally.lock(rt).end();
-        self.waiting.notify_all();
+        self.even.notify_all();
+        self.odd.notify_all();
     }
 
     /// Waits until the cut of this number is kept, for which it wakes the committer. Where it is, that is shown of it
@@ -90,7 +100,7 @@ impl<K: Receipt + Drop> Cuts<K> {
     {
         self.gate.want(rt, cut);
         let tally = self
-            .waiting
+            .room(cut)
             .wait_while(rt, self.tally.lock(rt), |tally| tally.is_awaited(cut));
         tally.has_kept(cut)
     }

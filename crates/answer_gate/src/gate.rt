@@ -67,9 +67,19 @@ impl Gate {
         }
     }
 
-    /// Somebody waits for the cut of this number: wakes the committer for it.
+    /// Somebody waits for the cut of this number. Where no cut is under way, the gate closes for it. The committer is
+    /// woken, now or by the last one inside.
     pub(crate) fn want<R: Wait>(&self, rt: &R, cut: u64) {
-        if self.state.lock(rt).want(cut) {
+        let mut state = self.state.lock(rt);
+        if !state.want(cut) {
+            return;
+        }
+        if state.is_free() {
+            state.close();
+        }
+        let wakes = !state.is_closing();
+        drop(state);
+        if wakes {
             self.committer.notify_one();
         }
     }

@@ -4,7 +4,7 @@
 //! leaves the desk's hold and ending. A row is started and turned by one compare and exchange on its phase word, so of
 //! all turns of a booking from one phase the first decides.
 //!
-//! No call takes memory, and none waits.
+//! No call takes memory, and none waits: none is given anything to do it with.
 //!
 //! All searches of a desk for a row that was never used, also those that find none, have together at most one entry
 //! for each row (`laws::searches_are_few`).

@@ -146,7 +146,7 @@ impl Books {
 
     /// Clears the marks of 64 rows, and answers which were set: the first row of the block, 64 * `block`, has the
     /// lowest bit. A row is marked by each step that changes its standing word. None is marked where books open, and
-    /// past the last row none ever is.
+    /// past the last row none ever is. No contract speaks of marks.
     pub fn take_marks(&self, block: u32) -> u64 {
         self.marks.take(block)
     }

@@ -9,9 +9,10 @@
 //! started again with the next generation; it is never free again.
 //!
 //! Each row has a mark, which the steps set that change its standing word, and `take_marks` clears. Each 64 rows have
-//! one of them all, which `take_marked_blocks` clears. So who writes down what changed need not look at all rows.
+//! one of them all, which `take_marked_blocks` clears. So who writes down what changed need not look at all rows. No
+//! contract speaks of marks: that each such step sets one is read and tested.
 //!
-//! No call takes memory but `start_books` and `adopt_books`, and none waits.
+//! No call takes memory but `start_books` and `adopt_books`, and none waits: no other is given anything to do it with.
 //!
 //! What contracts say of a desk (`specs/Desks`, `specs/Out`):
 //! - `IsOf books desk`: it is of these books, has seen a legal history, and knows that every row below `past` is

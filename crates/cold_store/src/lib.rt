@@ -1,7 +1,7 @@
 //! Bookings as a text: the export of a closed wall, and books that open with the bookings of an export.
 //!
 //! The text has a line for each booking that is kept, in rising row. What an export writes is read back as the same
-//! bookings; a text that a person edited is refused by name and by line.
+//! bookings; a text that isn't right is refused with its first fault, by name and by line.
 //!
 //! It knows no catalogue, no file and no command. `specs/Lines` has the form of a text, `Reads` what a reader answers
 //! of it, `Right` which bookings are right, `Imports` and `Exports` the cause of each fault;

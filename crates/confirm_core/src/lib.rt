@@ -4,7 +4,7 @@
 //! Each call looks at the row, and then decides by one exchange on the row's phase: of all turns from one phase, by
 //! whatever desks, the first decides. Every refusal has its cause in what this call's looks, or its lost turn, showed.
 //!
-//! No call takes memory, and none waits.
+//! No call takes memory, and none waits: none is given anything to do it with.
 //!
 //! A confirmation and a collection add at most six entries.
 //!

@@ -5,7 +5,7 @@
 //! its successor. The new one is sealed and the old one ended only after that turn is won, so no item is ever in
 //! neither.
 //!
-//! No call takes memory, and none waits.
+//! No call takes memory, and none waits: none is given anything to do it with.
 //!
 //! `ready_exchange` refuses in the order of refunds. `ExchangeReady` stands for a quote that was checked; it stays so
 //! whatever others do (`laws::ready_stays`). An exchange has at most 103 entries. It alone of the crates that decide

@@ -4,7 +4,7 @@
 //! confirmation that comes first wins; and it gives all legs of each row that it expired back. It is complete: no
 //! booking that was late when it began is prebooked when it has ended.
 //!
-//! No call takes memory, and none waits.
+//! No call takes memory, and none waits: none is given anything to do it with.
 //!
 //! A sweep has at most 105 entries for each row.
 #![tactic(auto)]

@@ -5,7 +5,7 @@
 //! second isn't won. What it answers has its cause in looks and takes of this very call. `abandon` gives every place of
 //! a hold back.
 //!
-//! No call takes memory, and none waits.
+//! No call takes memory, and none waits: none is given anything to do it with.
 //!
 //! There are at most 20 entries for each candidate, and at most nine, and one note for each place won, where the span
 //! lies in one half. `laws::contended_looks_have_causes`: between two neighbouring looks of a contended place another

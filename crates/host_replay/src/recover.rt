@@ -53,7 +53,7 @@ fn recover<F: Shelf, K: Sink>(
 /// | status | where |
 /// |---|---|
 /// | 0 | the export is written |
-/// | 1 | the catalogue is missing, larger than 33,554,432 bytes, or refused; or the journal is, at 4,294,967,295 bytes |
+/// | 1 | the catalogue is missing, larger than 33,554,432 bytes or refused; or the journal, at 4,294,967,295 bytes |
 /// | 2 | the words are refused; nothing is written or fetched |
 /// | 3 | the shelf failed in this call |
 /// | 4 | the output failed in this call |

@@ -11,16 +11,17 @@ use Rattle.host_catalogue.specs.Files.{Files}
 use Rattle.host_catalogue.specs.Opening.{HasBooks}
 use Rattle.host_catalogue.specs.Ends.{note_of}
 use Rattle.host_catalogue.specs.Noted.{IsNoted}
-use Rattle.host_serve.specs.Ends.{end_of_kept, end_of_serve, outcome_of_books, status_of_kept, status_of_serve}
+use Rattle.host_journal.specs.Ends.{end_of_kept, end_of_serve, outcome_of_books, status_of_kept, status_of_serve}
 use Rattle.host_serve.specs.Kept.{EndsAlone, IsNotSaid, IsSaid, ListensTo, Scene, ServesKept, WritesKept}
-use Rattle.host_serve.specs.Serve.{BooksEnd, Ends, HasShelfCause, HasWall, IsNoServe, IsServe, IsServedWall, Left, Runs}
+use Rattle.host_journal.specs.Causes.{HasShelfCause}
+use Rattle.host_serve.specs.Serve.{BooksEnd, Ends, HasWall, IsNoServe, IsServe, IsServedWall, Left, Runs}
 use Rattle.host_serve.specs.Telling.{IsBefore, Noting, Tells, WritesExport, cut_short, without_text}
-use Rattle.host_serve.specs.declared.end.BooksOutcome.{BooksOutcome}
-use Rattle.host_serve.specs.declared.end.BooksOutcome.TheVariants as books
-use Rattle.host_serve.specs.declared.end.KeptOutcome.{KeptOutcome}
-use Rattle.host_serve.specs.declared.end.KeptOutcome.TheVariants as kept
-use Rattle.host_serve.specs.declared.end.ServeOutcome.{ServeOutcome}
-use Rattle.host_serve.specs.declared.end.ServeOutcome.TheVariants as end
+use Rattle.host_journal.specs.declared.end.BooksOutcome.{BooksOutcome}
+use Rattle.host_journal.specs.declared.end.BooksOutcome.TheVariants as books
+use Rattle.host_journal.specs.declared.end.KeptOutcome.{KeptOutcome}
+use Rattle.host_journal.specs.declared.end.KeptOutcome.TheVariants as kept
+use Rattle.host_journal.specs.declared.end.ServeOutcome.{ServeOutcome}
+use Rattle.host_journal.specs.declared.end.ServeOutcome.TheVariants as end
 use Rattle.host_catalogue.specs.declared.journal.JournalRefusal.TheVariants as journal
 use Rattle.host_serve.proofs.Ending.{refused_by}
 use Rattle.host_serve.proofs.Telling.{exported, runs_so, tells_plain}

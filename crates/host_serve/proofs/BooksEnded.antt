@@ -7,10 +7,10 @@ use Rattle.rail_catalogue.specs.Contents.{CatalogueView, legs_in}
 use Rattle.host_catalogue.specs.Files.{Files}
 use Rattle.host_catalogue.specs.Opening.{HasBooks}
 use Rattle.host_words.specs.Serve.{ServeView}
-use Rattle.host_serve.specs.declared.end.ServeOutcome.{ServeOutcome}
-use Rattle.host_serve.specs.declared.end.BooksOutcome.{BooksOutcome}
-use Rattle.host_serve.specs.declared.end.BooksOutcome.TheVariants as books
-use Rattle.host_serve.specs.Ends.{outcome_of_books}
+use Rattle.host_journal.specs.declared.end.ServeOutcome.{ServeOutcome}
+use Rattle.host_journal.specs.declared.end.BooksOutcome.{BooksOutcome}
+use Rattle.host_journal.specs.declared.end.BooksOutcome.TheVariants as books
+use Rattle.host_journal.specs.Ends.{outcome_of_books}
 use Rattle.host_serve.specs.Serve.{BooksEnd, Ends, HasWall, IsServedWall, Left}
 use Rattle.host_serve.specs.Telling.{IsBefore}
 

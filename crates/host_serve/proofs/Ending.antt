@@ -10,10 +10,11 @@ use Rattle.host_catalogue.specs.Opening.{HasBooks, HasNoBooks}
 use Rattle.host_catalogue.specs.declared.file.LoadFault.TheVariants as load
 use Rattle.host_catalogue.proofs.Without.{lacks_books, missed_file, never_opened}
 use Rattle.host_words.specs.Serve.{ServeView}
-use Rattle.host_serve.specs.declared.end.ServeOutcome.{ServeOutcome}
-use Rattle.host_serve.specs.declared.end.ServeOutcome.TheVariants as end
-use Rattle.host_serve.specs.Ends.{status_of_serve}
-use Rattle.host_serve.specs.Serve.{Left, Runs, HasShelfCause, IsNoServe, IsOfRefusedText, IsOnlyLimited, IsServe, IsWithoutBooks}
+use Rattle.host_journal.specs.declared.end.ServeOutcome.{ServeOutcome}
+use Rattle.host_journal.specs.declared.end.ServeOutcome.TheVariants as end
+use Rattle.host_journal.specs.Ends.{status_of_serve}
+use Rattle.host_journal.specs.Causes.{HasShelfCause}
+use Rattle.host_serve.specs.Serve.{Left, Runs, IsNoServe, IsOfRefusedText, IsOnlyLimited, IsServe, IsWithoutBooks}
 
 pub refused_by : (o : ServeOutcome) → status_of_serve o ≡ 2 → o ≡ end.Refused
 refused_by end.Refused e = refl

@@ -16,12 +16,13 @@ use Rattle.host_catalogue.specs.declared.file.LoadFault.TheVariants as load
 use Rattle.host_catalogue.specs.Ends.{status_of_fault}
 use Rattle.host_catalogue.specs.Noted.{IsNoted}
 use Rattle.host_words.specs.Serve.{ServeView}
-use Rattle.host_serve.specs.Ends.{status_of_serve}
-use Rattle.host_serve.specs.Serve.{Ends, HasShelfCause, HasWall, IsExporting, IsPlain, IsServe, IsServedWall, Left, Runs}
+use Rattle.host_journal.specs.Ends.{status_of_serve}
+use Rattle.host_journal.specs.Causes.{HasShelfCause}
+use Rattle.host_serve.specs.Serve.{Ends, HasWall, IsExporting, IsPlain, IsServe, IsServedWall, Left, Runs}
 use Rattle.host_serve.specs.Telling.{IsBefore, IsSilent, IsTold, Noting, Tells, WritesExport}
 use Rattle.host_serve.proofs.Ending.{some_wall}
-use Rattle.host_serve.specs.declared.end.ServeOutcome.{ServeOutcome}
-use Rattle.host_serve.specs.declared.end.ServeOutcome.TheVariants as end
+use Rattle.host_journal.specs.declared.end.ServeOutcome.{ServeOutcome}
+use Rattle.host_journal.specs.declared.end.ServeOutcome.TheVariants as end
 
 -- no fault of books has these statuses
 pub never_zero : (fault : LoadFault) → status_of_fault fault ≡ 0 → ⊥

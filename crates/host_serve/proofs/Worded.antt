@@ -10,8 +10,8 @@ use Rattle.rail_service.specs.Listeners.{Handing, ListenerView}
 use Rattle.host_words.specs.declared.serve.Serving.{Serving}
 use Rattle.host_serve.specs.Turns.{Readings, Stand, Leads, Chain, Connection, ConnectionBy, HandedOut, Passed, Passing}
 use Rattle.host_serve.specs.Serve.{AllWorked, BooksEnd, HasWorked, IsServedWall, Left}
-use Rattle.host_serve.specs.declared.end.BooksOutcome.{BooksOutcome}
-use Rattle.host_serve.specs.declared.end.BooksOutcome.TheVariants as books
+use Rattle.host_journal.specs.declared.end.BooksOutcome.{BooksOutcome}
+use Rattle.host_journal.specs.declared.end.BooksOutcome.TheVariants as books
 use Rattle.host_serve.proofs.Chaining.{one_so}
 
 module _ (here there : Passing) (goes : (p : Passed) → here p → there p) (cat : CatalogueView) where

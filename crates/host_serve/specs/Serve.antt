@@ -17,7 +17,7 @@ use Rattle.rail_catalogue.specs.Contents.{CatalogueView, legs_in}
 use Rattle.rail_service.specs.Listeners.{Handing, HandingBy, ListenerView}
 use Rattle.host_words.specs.Serve.{ServeView, serve_words}
 use Rattle.host_words.specs.declared.serve.Serving.{Serving}
-use Rattle.host_catalogue.specs.Files.{Files, HasCause}
+use Rattle.host_catalogue.specs.Files.{Files}
 use Rattle.host_catalogue.specs.Opening.{Fails, HasBooks, IsRefusedFile, LacksBooks}
 use Rattle.host_words.specs.Commands.{IsFor}
 use Rattle.host_words.specs.declared.command.CommandName.TheVariants as command
@@ -25,10 +25,10 @@ use Rattle.host_serve.specs.Crews.{OnlyMet, sum_below}
 use Rattle.host_serve.specs.Turns.{Asks, Readings, Stand, OneTurn, Chain, Connection, HandedBy, Sweep, TickingBy}
 use Rattle.host_serve.specs.Turns.{clock_for}
 use Rattle.host_serve.specs.declared.devices.Devices.{Devices}
-use Rattle.host_serve.specs.declared.end.BooksOutcome.{BooksOutcome}
-use Rattle.host_serve.specs.declared.end.BooksOutcome.TheVariants as books
-use Rattle.host_serve.specs.declared.end.ServeOutcome.{ServeOutcome}
-use Rattle.host_serve.specs.declared.end.ServeOutcome.TheVariants as end
+use Rattle.host_journal.specs.declared.end.BooksOutcome.{BooksOutcome}
+use Rattle.host_journal.specs.declared.end.BooksOutcome.TheVariants as books
+use Rattle.host_journal.specs.declared.end.ServeOutcome.{ServeOutcome}
+use Rattle.host_journal.specs.declared.end.ServeOutcome.TheVariants as end
 
 -- the command is `serve`
 abbrev pub IsForServe : List (List ℕ) → Type 0
@@ -109,12 +109,20 @@ pub record Hearing (L : Type 0) : Type 1 where
 abbrev pub heard : {L : Type 0} → (L → ListenerView) → (L → ℕ) → (L → L → Type 0) → HandingBy L → Hearing L
 heard told faults becomes hands = record { told = told; faults = faults; becomes = becomes; hands = hands }
 
--- so of devices that were handed in, and of the listener and the wall that were handed back
+-- one where there is one
+abbrev pub some_count : {X : Type 0} → Option X → ℕ
+some_count None = 0
+some_count (Some x) = 1
+
+-- so of devices that were handed in, and of the listener and the wall that were handed back: one member watched where
+-- somebody asks what is in the books
 abbrev pub left_of : {L T C : Type 0} → Hearing L → (C → Readings) → TickingBy T → Devices L T C → L
     → Option WallView → Left
 left_of hear told ticked devices last wall =
-    left_by hear.told hear.faults hear.becomes hear.hands (map told devices.clocks.items) (Asks ticked devices.ticker)
-    devices.listener last wall
+    record
+    (left_by hear.told hear.faults hear.becomes hear.hands (map told devices.clocks.items) (Asks ticked devices.ticker)
+    devices.listener last wall)
+    { watchers = some_count devices.findings }
 
 -- In the history the desks 1 to the number of workers served connections, all together as many as the listener has
 -- handed out, and the desk after them swept, each by its own of the clocks. It made as many sweeps as the ticker
@@ -236,11 +244,6 @@ Runs words files left end.NoText = (said : ServeView) × IsServe words said × E
 Runs words files left end.NotBound = (said : ServeView) × IsServe words said × Ends files said left end.NotBound
 Runs words files left (end.NotLoaded fault) =
     (said : ServeView) × IsServe words said × Ends files said left (end.NotLoaded fault)
-
--- Where the shelf gave no books, its counts show why; and at every other end its count of faults is as it was.
-abbrev pub HasShelfCause : ServeOutcome → ℕ → ℕ → ℕ → ℕ → Type 0
-HasShelfCause (end.NotLoaded fault) failed fails missed misses = HasCause fault failed fails missed misses
-HasShelfCause _ failed fails missed misses = fails ≡ failed
 
 -- the words are those of `serve`, and the shelf, where it tells its files, has no books for them
 pub record IsWithoutBooks (words : List (List ℕ)) (files : Files) : Type 0 where

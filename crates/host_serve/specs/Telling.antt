@@ -6,10 +6,10 @@ use Rattle.claim_rule.specs.Walls.{WallView}
 use Rattle.cold_store.specs.Exports.{text_on}
 use Rattle.host_catalogue.specs.Ends.{note_of}
 use Rattle.host_catalogue.specs.Noted.{IsNoted}
-use Rattle.host_serve.specs.Ends.{end_of_serve}
+use Rattle.host_journal.specs.Ends.{end_of_serve}
 use Rattle.host_serve.specs.Serve.{IsExporting, IsPlain}
-use Rattle.host_serve.specs.declared.end.ServeOutcome.{ServeOutcome}
-use Rattle.host_serve.specs.declared.end.ServeOutcome.TheVariants as end
+use Rattle.host_journal.specs.declared.end.ServeOutcome.{ServeOutcome}
+use Rattle.host_journal.specs.declared.end.ServeOutcome.TheVariants as end
 
 -- what the notes told and how often they had failed, before and after
 pub record Noting : Type 0 where

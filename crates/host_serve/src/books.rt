@@ -19,7 +19,6 @@ ghost use Rattle.host_serve.specs.Turns.{HasCatalogue, Chain, Connection};
 use crate::crew::{Crewed, Means, crew_of};
 use crate::devices::Devices;
 use crate::draining::drain_listener;
-use crate::end::BooksOutcome;
 use crate::giving::Gives;
 use crate::letting::Dropping;
 use crate::meeting::meet_others;
@@ -27,9 +26,9 @@ use crate::member::Common;
 use crate::shared_listener::{Ended, ListenerEnd, Named, SharedListener};
 use crate::streams::Door;
 use crate::until::Until;
-use crate::watching::Watcher;
 use answer_gate::GatedClock;
 use claim_rule::{Books, Desk, Wall};
+use host_journal::{BooksOutcome, Opened, Watcher};
 use rail_io::{Clock, Ticker};
 use rail_service::Listener;
 use std::sync::Wait;
@@ -59,13 +58,6 @@ impl<O, L> Run<O, L> {
             wall: None,
         }
     }
-}
-
-/// Books and their first desk.
-#[derive(Drop)]
-pub struct Opened {
-    pub books: Books,
-    pub first: Desk,
 }
 
 /// Runs a crew until its members have ended, joins the desks of all but the first, with what those had counted, and
@@ -166,7 +158,7 @@ pub fn run_books<
     rt: &'x R,
     common: Common<'x>,
     opened: Opened,
-    devices: Devices<L, T, C>,
+    devices: Devices<'_, L, T, C>,
     watchers: Vec<W>,
     blank: Blank,
 ) -> Run<BooksOutcome, L>
@@ -188,10 +180,10 @@ where
     requires over { EndsOver L.told L.faults L.becomes N.limit N.faults N.over devices.listener }
     requires workers { 1 ≤ common.said.workers }
     requires few { common.said.workers + 1 + length watchers.items < 2 ^ 63 }
-    ensures never_falls { L.faults devices.listener ≤ L.faults result.listener }
+    ensures never_falls { L.faults devices.entry.listener ≤ L.faults result.listener }
     ensures ends { BooksEnd common.entry.cat.now opened.books.layout common.entry.said
         (record
-        (left_of (heard L.told L.faults L.becomes L.hands) C.told T.ticked devices result.listener result.wall)
+        (left_of (heard L.told L.faults L.becomes L.hands) C.told T.ticked devices.entry result.listener result.wall)
         { hands = IsGiven N.gives; watchers = length watchers.items })
         result.outcome }
 {
@@ -209,7 +201,7 @@ where
         common,
         &mut opened,
         Means {
-            ticker: Until::of(devices.ticker, shared, common.gate, rt),
+            ticker: Until::of(devices.ticker, shared, common, rt),
             clocks: devices.clocks,
             watchers,
             share: rest,

@@ -5,15 +5,14 @@ ghost use Rattle.claim_rule.specs.Out.{IsTidy};
 ghost use Rattle.host_serve.specs.Crews.{AreGated, AreReady, Filling, IsCrew, IsFirst};
 ghost use Rattle.host_serve.specs.Turns.{FitsBooks, HasCatalogue, gated};
 
-use crate::books::Opened;
 use crate::member::{Common, Post};
 use crate::serving::Server;
 use crate::shared_listener::Named;
 use crate::streams::{Door, LockedStreams};
 use crate::sweeping::Sweeper;
-use crate::watching::{Lookout, Watcher};
 use answer_gate::GatedClock;
 use claim_rule::{Books, Desk};
+use host_journal::{Lookout, Opened, Watcher};
 use rail_io::{Clock, Ticker};
 use rail_service::Listener;
 use std::sync::Wait;
@@ -110,6 +109,7 @@ pub fn crew_of<
         ticker,
         seconds: common.said.sweep,
         clock: GatedClock::new(clocks.pop().unwrap(), common.gate, rt),
+        findings: common.findings,
         ended: false,
     });
     crew.push_reserved(Member {

@@ -4,9 +4,9 @@ ghost use Rattle.cold_store.specs.Exports.{IsClosed};
 ghost use Rattle.cold_store.specs.Tidy.{IsTidyWall};
 ghost use Rattle.host_serve.specs.Telling.{WritesExport};
 
-use crate::end::ServeOutcome;
 use claim_rule::Wall;
 use cold_store::export_tidy;
+use host_journal::ServeOutcome;
 use rail_io::Sink;
 use session_loop::write_all;
 use std::alloc::Global;

@@ -8,27 +8,23 @@
 //! after the other, or of its sweeps. The first desk, which joined them, has done nothing else.
 //!
 //! `serve_kept` does so with a journal: the books open with the bookings that it leaves, and one member more, the
-//! committer, has what it looked at kept there. It is one of the members that watch, whose desks only look, and whose trait
-//! is `Watcher`. `Log` knows the journal's text, and `Committer` takes the cuts.
+//! committer of `host_journal`, has what it looked at kept there. Another one that only looks is the `Looker`, which
+//! counts rows and places for the operator's window.
 //!
 //! It is a crate of its own since here alone threads meet the service.
 #![tactic(auto)]
 
 mod books;
-mod committing;
 mod crew;
 mod devices;
 mod draining;
-mod end;
 mod export;
 mod given;
 mod giving;
-mod keeping;
 mod kept;
 mod letting;
 mod listening;
-mod log;
-mod looked;
+mod looker;
 mod mark;
 mod meeting;
 mod member;
@@ -39,13 +35,10 @@ mod stream;
 mod streams;
 mod sweeping;
 mod until;
-mod watching;
 
 pub use devices::{CLOCKS, Devices};
-pub use end::{KeptOutcome, ServeEnd, ServeOutcome};
-pub use keeping::Keeping;
 pub use kept::serve_kept;
-pub use log::Kept;
+pub use looker::Looker;
 pub use mark::{Mark, Over};
 pub use member::{Common, Post};
 pub use run::run_serve;
@@ -54,4 +47,3 @@ pub use shared_listener::{Ended, ListenerEnd, Named, SharedListener};
 pub use streams::{Door, Streams};
 pub use sweeping::Sweeper;
 pub use until::Until;
-pub use watching::{Lookout, NoWatcher, Watcher};

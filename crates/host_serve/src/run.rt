@@ -15,19 +15,19 @@ ghost use Rattle.host_words.specs.declared.fault.WordsFault.TheVariants as words
 ghost use Rattle.host_catalogue.specs.Files.{HasCause};
 ghost use Rattle.host_catalogue.specs.Opening.{Fails, HasBooks, HasNoBooks};
 ghost use Rattle.host_serve.specs.Crews.{IsFirst};
-ghost use Rattle.host_serve.specs.Ends.{status_of_serve};
-ghost use Rattle.host_serve.specs.Serve.{Ends, HasShelfCause, IsExporting, IsNoServe, IsOfRefusedText, IsOnlyLimited};
+ghost use Rattle.host_journal.specs.Ends.{status_of_serve};
+ghost use Rattle.host_journal.specs.Causes.{HasShelfCause};
+ghost use Rattle.host_serve.specs.Serve.{Ends, IsExporting, IsNoServe, IsOfRefusedText, IsOnlyLimited};
 ghost use Rattle.host_serve.specs.Serve.{IsServe};
 ghost use Rattle.host_serve.specs.Serve.{IsWithoutBooks, Runs, left_by};
 ghost use Rattle.host_serve.specs.Telling.{IsBefore, IsTold, Tells};
 ghost use Rattle.host_serve.specs.Turns.{Asks, HasCatalogue};
-ghost use Rattle.host_serve.specs.declared.end.ServeOutcome.{ServeOutcome};
-ghost use Rattle.host_serve.specs.declared.end.ServeOutcome.TheVariants as outcome;
+ghost use Rattle.host_journal.specs.declared.end.ServeOutcome.{ServeOutcome};
+ghost use Rattle.host_journal.specs.declared.end.ServeOutcome.TheVariants as outcome;
 
 use crate::devices::Devices;
-use crate::end::ServeEnd;
-use crate::keeping::Keeping;
 use crate::kept::serve_kept;
+use host_journal::{Keeping, ServeEnd};
 use rail_io::{Clock, MemoryJournal, NoBell, Shelf, Sink, Ticker};
 use rail_service::Listener;
 use std::alloc::Global;
@@ -149,6 +149,7 @@ where
         listener,
         ticker,
         clocks,
+        findings: None,
     };
     let none: Option<Keeping<'_, MemoryJournal, NoBell>> = None;
     serve_kept(rt, alloc, words, shelf, devices, none, notes)

@@ -1,6 +1,6 @@
 //! Tests of the crates of the commands, by their public calls. What a run of the built program shows is tested by
-//! `tests/host` and `tests/journal` instead, and what `serve` does in memory by `serve_tests`. A crate of its own, so that those crates are
-//! proved once, without tests.
+//! `tests/host` and `tests/journal` instead, and what `serve` does in memory by `serve_tests`. A crate of its own, so
+//! that those crates are proved once, without tests.
 //!
 //! - `crews`: members run at the same time (the first one's turn waits for the second's); each takes its turns up to
 //!   its own end, with the gate's calls round each; one member alone, and none.

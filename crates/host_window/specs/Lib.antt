@@ -7,3 +7,4 @@ pub mod Showing
 pub mod Texts
 pub mod Routes
 pub mod Metrics
+pub mod Finds

@@ -1,16 +1,17 @@
 //! Requests of HTTP/1.1 out of a source, and heads of answers, after the message form of RFC 9112.
 //!
 //! Any stream of bytes spells one list of requests and one rest (`one_reading`), whatever pieces the
-//! source hands out. `Intake::next_request` answers the requests in order, each once and whole, or
-//! says what stands in the next one's place: the end, a cut, one of five faults, or a failed read.
-//! All memory of the wire is the intake's, and is taken at its start.
+//! source hands out. `Intake::next_request` gives the next request of what it holds and pulls, whole, or
+//! says what stands in its place: the end, a cut, one of five faults, or a failed read.
+//! All memory of the wire is the intake's, and is taken at its start: no other call is handed an allocator.
 //!
 //! The profile: heads are read by `httparse` with its default settings, bodies are counted by
 //! `Content-Length` alone, and a request is the last of its connection where it is HTTP/1.0, where it
 //! says `Connection: close`, or where it is number 65,536.
 //!
-//! `Intake::start` takes 278,528 bytes. Over all calls no byte is looked at twice in the search for a head's end
-//! (`each_once`), and where the bytes held tell what comes next, nothing is read (`at_once`).
+//! `Intake::start` takes 278,528 bytes, which no clause says. The search for a head's end takes, over all calls, at most
+//! a step for each byte (`each_once`); that each byte looked at is a step is seen in the code. Where the bytes held tell
+//! what comes next, nothing is read (`at_once`).
 #![tactic(auto)]
 
 mod answer;

@@ -1,10 +1,10 @@
 //! What a desk sees between whose steps no other desk's stand. It is a crate of its own since `tiny`, which
 //! rests on no service, needs it as the plain host does.
 //!
-//! A desk that parted no other has all entries there are, so each call adds just the call's own. On such a desk a try
-//! of a candidate needs one look at each piece, which decides it, and nothing is contended. A hold starts on the least
-//! row that is not in use, or, where all are, on the least whose booking may be followed by another. Services of one
-//! thread rest on this. The crate has laws alone: it does nothing when it runs.
+//! The first desk of books, where it parted no other, has all entries there are, so each call adds just the call's own.
+//! On such a desk a try of a candidate needs one look at each piece, which decides it, and nothing is contended. A hold
+//! starts on the least row that is not in use, or, where all are, on the least whose booking may be followed by
+//! another. Services of one thread rest on this. The crate has laws alone: it does nothing when it runs.
 #![tactic(auto)]
 
 ghost use Rattle.std.specs.Prelude.{◌≡◌, ◌≢◌, ◌<◌, ◌≤◌, ◌↔◌, ◌∷◌, ◌++◌, ℕ, List, Option};

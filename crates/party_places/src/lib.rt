@@ -6,7 +6,7 @@
 //! stretch is left it adds the first places that are free, as `add_places` does. What it answers has its cause in looks
 //! and takes of this very call.
 //!
-//! No call takes memory, and none waits.
+//! No call takes memory, and none waits: none is given anything to do it with.
 #![tactic(auto)]
 
 mod party;

@@ -3,15 +3,16 @@ use Rattle.std.proofs.Common.{◌≡◌, ◌≤◌, ◌⊎◌, ◌∙◌, ℕ, L
 use Rattle.rail_io.specs.Faults.{Rose}
 use Rattle.host_catalogue.specs.Files.{Files}
 use Rattle.host_catalogue.specs.declared.file.LoadFault.TheVariants as load
-use Rattle.host_serve.specs.Ends.{status_of_serve}
+use Rattle.host_journal.specs.Ends.{status_of_serve}
 use Rattle.host_serve.specs.Kept.{EndsAlone}
-use Rattle.host_serve.specs.Serve.{HasShelfCause, Left, Runs}
-use Rattle.host_serve.specs.declared.end.ServeOutcome.{ServeOutcome}
-use Rattle.host_serve.specs.declared.end.ServeOutcome.TheVariants as end
+use Rattle.host_journal.specs.Causes.{HasShelfCause}
+use Rattle.host_serve.specs.Serve.{Left, Runs}
+use Rattle.host_journal.specs.declared.end.ServeOutcome.{ServeOutcome}
+use Rattle.host_journal.specs.declared.end.ServeOutcome.TheVariants as end
 use Rattle.host_serve.proofs.Ending.{ends_without, missed, no_words, refused_wall, some_wall, stays, wall_missing, when_refused, without}
 use Rattle.host_serve.proofs.Telling.{rose_before, told_part, told_whole}
-use Rattle.rail_host.specs.Commands.{EndsServe, scene}
-use Rattle.rail_host.specs.Devices.{Devices, IsUntouched, ShelfFailed, files_of, noting}
+use Rattle.plain_commands.specs.Devices.{Devices, IsUntouched, ShelfFailed, files_of}
+use Rattle.rail_host.specs.Commands.{EndsServe, noting, scene}
 
 module _ (words : List (List ℕ)) (files : Files) (left : Left) where
   -- status 3: the listener failed, or the shelf

@@ -20,8 +20,8 @@ use Rattle.host_replay.specs.declared.recover_end.RecoverEnd.TheVariants as reco
 use Rattle.host_catalogue.specs.declared.journal.JournalRefusal.TheVariants as refusal
 use Rattle.host_catalogue.specs.declared.journal.RecoverFault.TheVariants as fault
 use Rattle.host_serve.specs.Serve.{Left}
-use Rattle.rail_host.specs.Devices.{Devices}
-use Rattle.rail_host.specs.Plain.{EndsPlainly}
+use Rattle.plain_commands.specs.Devices.{Devices}
+use Rattle.plain_commands.specs.Plain.{EndsPlainly}
 use Rattle.rail_host.specs.Commands.{Ends, IsNoCommand}
 use Rattle.rail_host.proofs.Naming.{differs, no_drill, no_export, no_kept, no_recover, no_replay, no_serve, no_settle, no_tiny}
 

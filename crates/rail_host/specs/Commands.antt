@@ -17,15 +17,16 @@ use Rattle.host_replay.specs.Replay.{IsNoReplay}
 use Rattle.host_replay.specs.Export.{IsNoExport}
 use Rattle.host_drill.specs.Ends.{IsNoDrill, Leaves, end_of_drill}
 use Rattle.host_drill.specs.declared.drill.Cause.{Cause}
-use Rattle.host_serve.specs.Ends.{status_of_serve}
+use Rattle.host_journal.specs.Ends.{status_of_serve}
 use Rattle.host_serve.specs.Kept.{EndsKept, IsNoKeptServe, Scene}
-use Rattle.host_serve.specs.Serve.{HasShelfCause, IsExporting, IsNoServe, IsOfRefusedText, IsOnlyLimited, IsServe}
+use Rattle.host_journal.specs.Causes.{HasShelfCause}
+use Rattle.host_serve.specs.Serve.{IsExporting, IsNoServe, IsOfRefusedText, IsOnlyLimited, IsServe}
 use Rattle.host_serve.specs.Serve.{IsWithoutBooks, Left, Runs}
-use Rattle.host_serve.specs.Telling.{IsTold}
-use Rattle.host_serve.specs.declared.end.ServeOutcome.{ServeOutcome}
-use Rattle.rail_host.specs.Devices.{Devices, FailsAt, HasFailed, IsUntouched, OfShelf, ShelfFailed, Takes}
-use Rattle.rail_host.specs.Devices.{after, before, files_of, noting}
-use Rattle.rail_host.specs.Plain.{EndsPlainly}
+use Rattle.host_serve.specs.Telling.{IsTold, Noting}
+use Rattle.host_journal.specs.declared.end.ServeOutcome.{ServeOutcome}
+use Rattle.plain_commands.specs.Devices.{Devices, FailsAt, HasFailed, IsUntouched, OfShelf, ShelfFailed, Stream, Takes}
+use Rattle.plain_commands.specs.Devices.{after, before, files_of}
+use Rattle.plain_commands.specs.Plain.{EndsPlainly}
 
 -- they are those of no command
 pub record IsNoCommand (words : List (List ℕ)) : Type 0 where
@@ -49,6 +50,10 @@ pub record EndsDrill {F S K E : Type 0} (words : List (List ℕ)) (wall : Option
   pub output : FailsAt 4 status d.output
   pub unread : d.input.new ≡ d.input.old
   pub unfetched : d.shelf.new ≡ d.shelf.old
+
+-- the notes, as `serve` sees them
+abbrev pub noting : {D : Type 0} → Stream D → Noting
+noting s = record { before = s.told s.old; failed = s.faults s.old; after = s.told s.new; fails = s.faults s.new }
 
 -- What the status of `serve` says of the shelf and of the listener.
 pub record ServesFrom {F S K E : Type 0} (words : List (List ℕ)) (left : Left) (status : ℕ)

@@ -11,7 +11,6 @@ ghost use Rattle.std.specs.Vec.Iter.{into_iter_items};
 mod asked;
 mod devices;
 mod exit;
-mod host;
 mod program;
 mod serve;
 mod window;
@@ -22,7 +21,7 @@ use devices::{Devices, ForServe};
 use exit::run_host;
 use host_catalogue::{CommandEnd, end_command};
 use host_io::{FileJournal, SleepTicker, TcpBell, TcpPort};
-use host_serve::Keeping;
+use host_journal::Keeping;
 use host_window::{CountingJournal, CountingTicker, show_all};
 use rail_io::{Bell, FileShelf, ReaderSource, WriterSink};
 use std::alloc::{AllocError, Global};
@@ -30,7 +29,7 @@ use std::io::ErrorKind;
 use std::process::ExitCode;
 use std::rt::Env;
 use std::{env, thread};
-use window::{counters_of, window_port};
+use window::{counters_of, findings_of, window_port};
 
 /// The words after the first, which is the program's name. None of them is left out.
 fn words_after_name(alloc: Global, mut given: env::Args) -> Result<Vec<String>, AllocError>
@@ -66,7 +65,10 @@ fn main(rt: HostRuntime) -> ExitCode {
             let Some(mut port) = window_port(&rt, alloc, window) else {
                 return ExitCode::from(end_command(&mut notes, &CommandEnd::ReadFault));
             };
-            let shown = scope.spawn(move || show_all(alloc, &mut port, &window.counters));
+            let waits = &rt;
+            let shown = scope.spawn(move || {
+                show_all(waits, alloc, &mut port, &window.counters, &window.findings)
+            });
             if shown.is_err() {
                 return ExitCode::from(end_command(&mut notes, &CommandEnd::NoMemory));
             }
@@ -95,6 +97,7 @@ fn main(rt: HostRuntime) -> ExitCode {
                 bell: TcpBell::new(&rt).at(address),
             },
             counters,
+            findings: findings_of(&window),
         };
         let exit = run_host(&rt, alloc, words, &mut devices, given);
         if let Some(window) = &window {

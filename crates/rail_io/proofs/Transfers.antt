@@ -1,5 +1,5 @@
 -- What two writes handed on, one after the other, where the writer tells its bytes.
-use Rattle.std.proofs.Common.{◌≡◌, ◌≤◌, ◌<◌, ◌+◌, ◌++◌, ℕ, List, Option, Some, None, ap, ◌∙◌, arith, subst, length, length-append, take}
+use Rattle.std.proofs.Common.{◌≡◌, ◌≤◌, ◌+◌, ◌++◌, ℕ, List, Option, Some, None, ap, ◌∙◌, arith, subst, length, length-append, take}
 use Rattle.rail_io.specs.Told.{with_end}
 use Rattle.rail_io.specs.Standard.{PushesTold, PushesBothTold}
 use Rattle.rail_io.specs.declared.sink.Pushed.TheVariants.{Took}

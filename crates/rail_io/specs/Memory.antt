@@ -10,7 +10,6 @@ use Rattle.rail_io.specs.declared.memory_shelf.MapShelf.{MapShelf}
 use Rattle.rail_io.specs.declared.file_shelf.FileShelf.{FileShelf}
 use Rattle.rail_io.specs.declared.standard.ReaderSource.{ReaderSource}
 use Rattle.rail_io.specs.declared.standard.WriterSink.{WriterSink}
-use Rattle.rail_io.specs.declared.system_clock.SystemClock.{SystemClock}
 
 -- the number of the call after that many, of a count that stands still at its last value
 abbrev pub call_after : ℕ → ℕ
@@ -109,6 +108,3 @@ file_faults s = s.faults
 
 abbrev pub file_misses : {F X Y : Type 0} → FileShelf F X Y → ℕ
 file_misses s = s.misses
-
-abbrev pub clock_faults : {C : Type 0} → SystemClock C → ℕ
-clock_faults c = c.faults

@@ -2,7 +2,8 @@
 
 /// Wakes whoever waits at a port of this machine.
 pub trait Bell {
-    /// Wakes whoever waits now for a connection to the port. It may be that nobody does.
+    /// Is to wake whoever waits now for a connection to the port. It may be that nobody does. No clause says that it
+    /// does.
     fn ring(&mut self, port: u16);
 }
 

@@ -1,5 +1,5 @@
 // The files of the system as a shelf. It tells no content.
-ghost use Rattle.std.specs.Prelude.{None};
+ghost use Rattle.std.specs.Prelude.{◌≡◌, ◌+◌, None, IfSome, IfOk, take};
 
 use crate::answers::fetched_of;
 use crate::{Fetched, Shelf};
@@ -16,7 +16,6 @@ pub struct FileShelf<F: fs::Files + Drop> {
 }
 
 impl<F: fs::Files + Drop> FileShelf<F> {
-    ghost use Rattle.std.specs.Prelude.{◌≡◌};
     ghost use Rattle.rail_io.specs.Memory.{file_faults, file_misses};
 
     /// A shelf of these files, that hasn't failed or missed a file.
@@ -32,12 +31,19 @@ impl<F: fs::Files + Drop> FileShelf<F> {
     }
 }
 
+/// All that a reader has, or its first bytes, one more than there is room for.
+pub fn read_from<R: Read + Drop>(reader: R, alloc: Global, room: u32) -> io::Result<Vec<u8>>
+    ensures bytes { IfOk result (λ content. IfSome (R.remaining reader) (λ left.
+        content.items ≡ take (room + 1) left)) }
+{
+    let mut content = Vec::new(alloc);
+    reader.take(u64::from(room) + 1).read_to_end(&mut content)?;
+    Ok(content)
+}
+
 // The content of a file, or its first bytes, one more than there is room for.
 fn read_file<F: fs::Files>(files: &F, alloc: Global, name: &str, room: u32) -> io::Result<Vec<u8>> {
-    let file = fs::open(files, name)?;
-    let mut content = Vec::new(alloc);
-    file.take(u64::from(room) + 1).read_to_end(&mut content)?;
-    Ok(content)
+    read_from(fs::open(files, name)?, alloc, room)
 }
 
 impl<F: fs::Files + Drop> Shelf for FileShelf<F> {

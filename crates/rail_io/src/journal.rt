@@ -25,11 +25,10 @@ pub enum JournalOpened {
 
 /// A text that outlives the process and the machine's sudden end.
 ///
-/// A journal that has failed once does nothing more: after a write that failed nobody knows what the next one would
+/// A journal that has failed once keeps nothing more: after a write that failed nobody knows what the next one would
 /// find.
 pub trait Journal {
-    /// The bytes that are kept, where the journal tells them: what is there if the machine stops now. A journal that
-    /// isn't there keeps none.
+    /// The bytes that are kept, where the journal tells them. A journal that isn't there keeps none.
     ghost told: { Self → Option (List ℕ) };
 
     /// How often it has failed. The count stands still at the last value of 64 bits, and at every call that doesn't
@@ -43,8 +42,7 @@ pub trait Journal {
     /// That a call appended these bytes, and all are kept: likewise.
     ghost adds: { Self → List ℕ → Self → Type 0 } = { λ _ _ _. Unit {0} };
 
-    /// Opens the journal of this name for this process alone, and reads it whole, at most `room` bytes. Nothing in it
-    /// changes.
+    /// Opens the journal of this name, and reads it whole, at most `room` bytes. Nothing in it changes.
     fn open(&mut self, alloc: Global, name: &str, room: u32) -> JournalOpened
         ensures opens { IfSome (told self.old) (λ kept. Opens kept room result) }
         ensures same { told self.new ≡ told self.old }
@@ -52,8 +50,8 @@ pub trait Journal {
         ensures cause { result ≡ Failed → Rose (faults self.old) (faults self.new) }
         ensures steady { (result ≡ Failed → ⊥) → faults self.new ≡ faults self.old };
 
-    /// Puts this text in the place of all that is kept, and answers whether it is kept now. At each moment the one or
-    /// the other is there, and whole.
+    /// Puts this text in the place of all that is kept, and answers whether it is kept now. Where it fails, what was
+    /// kept before is kept, or this text, each whole. What is there while the call runs, no clause says.
     fn replace(&mut self, text: &[u8]) -> bool
         ensures replaces { Replaces (told self.old) (told self.new) text.now result }
         ensures puts { result ≡ true → puts self.old text.now self.new }

@@ -6,10 +6,10 @@ pub trait Keeper {
     /// What is shown of a cut that is kept, by its number.
     ghost kept: { Self → ℕ → Type 0 } = { λ _ _. Unit {0} };
 
-    /// Waits until the cut of this number is kept, which is then shown. False, where it never will be.
+    /// True only where the cut of this number is kept, for which it may wait. False says nothing to contracts.
     fn wait_kept(&self, cut: u64) -> bool
         ensures { result ≡ true → kept self.now cut };
 
-    /// Whether the journal is lost: nothing more may be taken on. It doesn't wait.
+    /// Whether nothing more may be taken on, since the journal is lost. It says nothing to contracts.
     fn is_lost(&self) -> bool;
 }

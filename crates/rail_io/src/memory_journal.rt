@@ -7,8 +7,8 @@ use crate::{Journal, JournalOpened};
 use std::alloc::Global;
 
 /// Keeps its bytes in memory, and is one that isn't there where it has none. `fails` lists the calls that are to fail,
-/// counted from 1. An append that is to fail keeps the first half of its piece. Where there is no memory to grow,
-/// nothing more is kept, and the call fails.
+/// counted from 1. An append that fails keeps a front of its piece, maybe none of it. Where there is no memory to grow,
+/// a call may fail too.
 #[derive(Drop)]
 pub struct MemoryJournal {
     alloc: Global,

@@ -49,8 +49,8 @@ pub trait Sink {
         ensures cause { result ≡ Failed → Rose (faults self.old) (faults self.new) }
         ensures steady { (result ≡ Failed → ⊥) → faults self.new ≡ faults self.old };
 
-    /// Takes some of the bytes at the front of `first`, which isn't empty, and `second` after it, without joining
-    /// them. A sink that has no better way writes one after the other.
+    /// Takes some of the bytes at the front of `first`, which isn't empty, with `second` after it. A sink that has no
+    /// better way writes one after the other.
     fn write_both(&mut self, first: &[u8], second: &[u8]) -> PushedBoth
         requires { 0 < length first.now }
         ensures pushes { PushesBoth (told self.old) (told self.new) (first.now ++ second.now) result }

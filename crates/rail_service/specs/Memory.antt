@@ -2,7 +2,8 @@
 use Rattle.std.specs.Prelude.{◌≡◌, ℕ, List, [], ◌∷◌, ◌++◌, map, Option, Some}
 use Rattle.rail_io.specs.declared.memory_source.BytesSource.{BytesSource}
 use Rattle.rail_io.specs.declared.memory_sink.VecSink.{VecSink}
-use Rattle.rail_io.specs.Memory.{source_left, source_calls, source_faults, source_fails, sink_taken, sink_calls, sink_faults, sink_fails}
+use Rattle.rail_io.specs.Memory.{source_left, source_calls, source_faults, source_fails, sink_taken, sink_calls}
+use Rattle.rail_io.specs.Memory.{sink_faults, sink_fails}
 use Rattle.rail_service.specs.declared.memory_listener.ListListener.{ListListener}
 use Rattle.rail_service.specs.declared.listener.Accepted.{Accepted}
 use Rattle.rail_service.specs.declared.listener.Accepted.TheVariants.{Stream, Failed, Closed}

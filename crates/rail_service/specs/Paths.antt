@@ -1,5 +1,6 @@
 -- The paths that are served, and what a path names.
-use Rattle.std.specs.Prelude.{◌≢◌, ◌<◌, ℕ, zero, suc, ◌+◌, ◌==◌, not, List, [], ◌∷◌, length, drop, take_while, fold, Option, None, option_map, Result, Ok, Err, if◌then◌else◌, codes}
+use Rattle.std.specs.Prelude.{◌≢◌, ◌<◌, ℕ, zero, suc, ◌+◌, ◌==◌, not, List, [], ◌∷◌, length, drop, take_while, fold}
+use Rattle.std.specs.Prelude.{Option, None, option_map, Result, Ok, Err, if◌then◌else◌, codes}
 use Rattle.std.specs.List.{AllByRecursion}
 use Rattle.std.specs.Str.{IsUtf8, is_utf8}
 use Rattle.matchit.specs.Rows.{RowsOf}
@@ -9,7 +10,10 @@ use Rattle.matchit.specs.Route.{Scan, parse_route}
 use Rattle.matchit.specs.Router.{RouteOf, route_from}
 use Rattle.matchit.specs.declared.error.InsertError.{InsertError}
 use Rattle.rail_service.specs.declared.resource.Resource.{Resource}
-use Rattle.rail_service.specs.declared.resource.Resource.TheVariants.{Offers, Bookings, Reservations, Booking, Fulfillments, RefundOffers, RefundOffer, ExchangeOffers, ExchangeOperations, Places, Sweeps}
+use Rattle.rail_service.specs.declared.resource.Resource.TheVariants.{Offers, Bookings, Reservations, Booking}
+use Rattle.rail_service.specs.declared.resource.Resource.TheVariants.{Fulfillments, RefundOffers, RefundOffer}
+use Rattle.rail_service.specs.declared.resource.Resource.TheVariants.{ExchangeOffers, ExchangeOperations, Places}
+use Rattle.rail_service.specs.declared.resource.Resource.TheVariants.{Sweeps}
 
 -- the paths that are served, in order
 abbrev pub paths : List (List ℕ × Resource)

@@ -5,7 +5,10 @@ use Rattle.osdm_texts.specs.declared.problem.Problem.TheVariants.{NoRoute, NoMet
 use Rattle.osdm_json.specs.declared.route.Route.{Route}
 use Rattle.osdm_json.specs.declared.route.Route.TheVariants as route
 use Rattle.rail_service.specs.declared.resource.Resource.{Resource}
-use Rattle.rail_service.specs.declared.resource.Resource.TheVariants.{Offers, Bookings, Reservations, Booking, Fulfillments, RefundOffers, RefundOffer, ExchangeOffers, ExchangeOperations, Places, Sweeps}
+use Rattle.rail_service.specs.declared.resource.Resource.TheVariants.{Offers, Bookings, Reservations, Booking}
+use Rattle.rail_service.specs.declared.resource.Resource.TheVariants.{Fulfillments, RefundOffers, RefundOffer}
+use Rattle.rail_service.specs.declared.resource.Resource.TheVariants.{ExchangeOffers, ExchangeOperations, Places}
+use Rattle.rail_service.specs.declared.resource.Resource.TheVariants.{Sweeps}
 use Rattle.rail_service.specs.Paths.{resource_at, part}
 
 -- The route that the method has at this resource, with the parameters of the path.

@@ -1,5 +1,6 @@
 -- The defined reply to a request.
-use Rattle.std.specs.Prelude.{◌≡◌, ◌⊎◌, ℕ, ◌==◌, not, Bool, true, false, List, Option, Some, None, option_and_then, Result, Ok, Err, if◌then◌else◌}
+use Rattle.std.specs.Prelude.{◌≡◌, ◌⊎◌, ℕ, ◌==◌, not, Bool, true, false, List, Option, Some, None, option_and_then}
+use Rattle.std.specs.Prelude.{Result, Ok, Err, if◌then◌else◌}
 use Rattle.http_wire.specs.Requests.{RequestText}
 use Rattle.rail_ids.specs.declared.RetailerNo.{RetailerNo}
 use Rattle.rail_catalogue.specs.Retailers.{retailer_with}

@@ -54,8 +54,8 @@ fn serve<S: Source, K: Outlet, C: Clock>(
 }
 
 /// Serves one connection, as `serve_connection` does, into an outlet of which it is known that it permits the next
-/// bytes of the defined replies. Whatever the outlet permits, no other bytes are handed to it at any moment, whether or
-/// not the connection ever ends.
+/// bytes of the defined replies, by entries that the desk may have. Whatever the outlet permits, no other bytes are
+/// handed to it at any moment, whether or not the connection ever ends.
 pub fn serve_permitted<S: Source, K: Outlet, C: Clock>(
     alloc: Global,
     cat: &Catalogue,
@@ -123,8 +123,8 @@ pub fn serve_permitted<S: Source, K: Outlet, C: Clock>(
 /// Serves one connection at a desk of the books: its requests are read from the source, each is answered at the clock's
 /// next reading, and the answers are written to the sink, until an end.
 ///
-/// All memory of the wire and of the routes is taken first; where there is none, the end is `NoMemory`, and nothing is
-/// read, written or done. A later lack of memory is answered 500, and changes no booking's fate.
+/// Where there is no memory to begin with, the end is `NoMemory`, and nothing is read, written or done. A later lack of
+/// memory is answered 500, and changes no booking's fate.
 ///
 /// Where source and sink don't tell their bytes, as those of a socket don't, `served` names none that came or went.
 /// What is left of it there is safety: the desk's entries are those of some requests, answered in order, and no place

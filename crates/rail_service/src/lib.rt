@@ -5,11 +5,11 @@
 //! can't be dropped. Only `serve_waiting` and `spend_permitted`, which it calls, can spend it; without memory they do
 //! nothing with it. `ListListener` stands in memory.
 //!
-//! `serve_connection` takes the memory of the wire and of the routes first, and later that of bodies and answers
-//! alone. It requires that the books have the catalogue's places and rows, and that nothing is out at the desk; it
-//! has no premise about other desks. `serve_permitted` and `spend_permitted` say the same of each moment: an outlet is
-//! handed nothing but the next bytes of the defined replies, whether or not the call returns. `paths_name_resources` is
-//! the table of paths as a law.
+//! `serve_connection` does nothing where there is no memory to begin with. It requires that the books have the
+//! catalogue's places and rows, and that nothing is out at the desk; it has no premise about other desks.
+//! `serve_permitted` and `spend_permitted` say of each moment: an outlet is handed nothing but the next bytes of
+//! defined replies, by entries that the desk may have, whether or not the call returns. `paths_name_resources` is the
+//! table of paths as a law.
 //!
 //! The clock is told of each command before it is done, whether it may change bookings, and gives after it the number
 //! of the cut that the answer waits for. `unchanging_commands_look` says what a command does that isn't said to change

@@ -57,8 +57,8 @@ pub struct Finished<I, O> {
 }
 
 /// Serves a stream that was handed out, as `serve_waiting` does, into an outlet of which it is known that it permits
-/// the next bytes of the defined replies. Whatever the outlet permits, no other bytes are handed to it at any moment,
-/// whether or not the connection ever ends.
+/// the next bytes of the defined replies, by entries that the desk may have. Whatever the outlet permits, no other
+/// bytes are handed to it at any moment, whether or not the connection ever ends.
 pub fn spend_permitted<I: Source, O: Outlet, C: Clock>(
     alloc: Global,
     cat: &Catalogue,

@@ -1,5 +1,6 @@
 -- What is written of rows.
-use Rattle.std.specs.Prelude.{◌≡◌, ℕ, ◌+◌, ◌-◌, ◌*◌, ◌/◌, ◌%◌, ◌==◌, Bool, List, [], ◌∷◌, ◌++◌, Option, filter, filter_map, get_or, length, map, min, option_to_list}
+use Rattle.std.specs.Prelude.{◌≡◌, ℕ, ◌+◌, ◌-◌, ◌*◌, ◌/◌, ◌%◌, ◌==◌, Bool, List, [], ◌∷◌, ◌++◌, Option, filter}
+use Rattle.std.specs.Prelude.{filter_map, get_or, length, map, min, option_to_list}
 use Rattle.std.specs.List.{AllByRecursion, range_with_len}
 use Rattle.std.specs.Int.{bit_at}
 use Rattle.history_model.specs.declared.entry.Step.{Step}
@@ -60,7 +61,8 @@ marked_rows rows marks = filter (is_marked marks) (range_with_len 0 rows)
 -- the rows of a block that are set in its marks
 abbrev pub set_in : ℕ → ℕ → ℕ → List ℕ
 set_in rows block marks =
-    filter (is_set marks) (range_with_len (block_rows * block) (min (block_rows * block + block_rows) rows - block_rows * block))
+    filter (is_set marks)
+    (range_with_len (block_rows * block) (min (block_rows * block + block_rows) rows - block_rows * block))
 
 -- the rows of these blocks that are set in their marks, of which each block has a number
 abbrev pub set_in_all : ℕ → List ℕ → List ℕ → List ℕ

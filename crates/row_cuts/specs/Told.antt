@@ -5,7 +5,8 @@ use Rattle.history_model.specs.declared.entry.Entry.{Entry}
 use Rattle.history_model.specs.declared.phase.EndKind.{EndKind}
 use Rattle.history_model.specs.declared.phase.Phase.TheVariants.{Ended}
 use Rattle.history_model.specs.Allowed.{OnRow}
-use Rattle.history_model.specs.Booking.{Booking, Layout, State, booking_at, limit_word, retailer_word, total_word, word_at}
+use Rattle.history_model.specs.Booking.{Booking, Layout, State, booking_at, limit_word, retailer_word, total_word}
+use Rattle.history_model.specs.Booking.{word_at}
 use Rattle.history_model.specs.History.{state_of}
 use Rattle.history_model.specs.Life.{LeadsTo}
 use Rattle.history_model.specs.Phase.{is_sealed}
@@ -45,7 +46,8 @@ StandsOrIsFollowed s b = OnRow s b.row (λ c. (b.generation < c.generation) ⊎ 
 -- so it is of each booking that is sealed in the former state
 abbrev pub HasAllOf : State → State → Type 0
 HasAllOf former s =
-    (row generation : ℕ) → IfSome (booking_at former row generation) (λ b. is_sealed b.phase ≡ true → StandsOrIsFollowed s b)
+    (row generation : ℕ)
+    → IfSome (booking_at former row generation) (λ b. is_sealed b.phase ≡ true → StandsOrIsFollowed s b)
 
 -- the books open with just what the history at the last cut keeps, and they have all bookings of what was told
 pub record GoOnFrom (w : WallView) (told : List Entry) (opened : Layout) : Type 0 where

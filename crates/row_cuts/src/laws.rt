@@ -34,8 +34,8 @@ pub fn kept_rows_stay()
     ensures { KeptRowsStay }
 {}
 
-/// A row of which no entry changes the standing word is kept as it was. Each such change marks the row
-/// (`Books::take_marks`), so the rows that weren't marked since a cut need no line in the next one.
+/// A row of which no entry changes the standing word is kept as it was. So where each such change marks the row, as
+/// `claim_rule` says of its steps in words, the rows that weren't marked since a cut need no line in the next one.
 pub fn unchanged_rows_stay()
     ensures { UnchangedRowsStay }
 {}
@@ -48,9 +48,9 @@ pub fn changed_rows_suffice()
 
 /// Where all desks were between two calls at the last cut, and what a desk had seen when it answered begins what the
 /// cut has seen, the books that open with the fold go on from there. They begin with just what was kept at the cut.
-/// Each booking that the answer showed sealed is in its row, with its retailer, limit, total and items. It is in the
-/// phase that was shown or in one that follows, and has its end where it had one. Or the row serves for a later
-/// generation.
+/// Each booking that was sealed in what the desk had seen is in its row, with its retailer, limit, total and items. It
+/// is in the phase that it had or in one that follows, and has its end where it had ended. Or the row serves for a
+/// later generation.
 pub fn told_histories_go_on()
     ensures { ToldHistoriesGoOn }
 {}

@@ -1,30 +1,36 @@
 //! The rows of books as lines of a journal, by looks of a desk while the books sell.
 //!
-//! `push_marked_lines` takes the marks of the rows whose standing changed, and writes the lines of the rows that are
-//! set in them, and of no others; `push_all_lines` writes those of all rows, and leaves the marks. A line is the one
-//! that an export has for the row, byte for byte, by `cold_store`'s own writer. A desk that writes them only looks:
-//! nothing of the books changes but the marks, and what the desk has out stays as it is.
+//! `push_marked_lines` takes the marks of rows, and writes the lines of the rows that are set in them, and of no
+//! others; `push_all_lines` writes those of all rows, and leaves the marks. That all marks are taken, and that each row
+//! is marked whose standing changed, no contract says: it is read and tested. A line is the one that an export has for
+//! the row, byte for byte, by `cold_store`'s own writer. A desk that writes them only looks: nothing of the books
+//! changes but the marks, and what the desk has out stays as it is.
 //!
 //! A line says what its looks showed. While other desks step, looks at two rows may be of two moments; lines of one
 //! moment need that nobody changes a booking between the first look and the last.
 //!
 //! `export_rows` finds the same lines in the text of an export, whose books a journal begins with.
 //!
+//! `count_rows` counts the rows by their phase, and `count_sold` the sold places by their class, by looks alone.
+//!
 //! `print_of` is a print of what the numbers of a catalogue's places mean.
 //!
 //! `specs/Looks` has what looks at rows show, `Lines` what is written of them, and `Quiet` when they are of one moment.
 //! `Kept` has what of a row stays, `Cuts` what cuts fold to, `Told` what of an answer is there afterwards, `Exports`
-//! which lines an export has, and `Prints` the text of a print. `laws` says what holds of them.
+//! which lines an export has, `Counts` and `Sold` what a count is, and `Prints` the text of a print. `laws` says what
+//! holds of them.
 #![tactic(auto)]
 
+mod counts;
 mod exports;
 pub mod laws;
 mod lines;
 mod looks;
 mod prints;
-#[cfg(test)]
-mod tests;
+mod sold;
 
+pub use counts::{RowCount, count_rows};
 pub use exports::export_rows;
 pub use lines::{push_all_lines, push_marked_lines};
 pub use prints::print_of;
+pub use sold::{SoldCount, count_sold};

@@ -5,7 +5,8 @@ ghost use Rattle.history_model.specs.Booking.{most_rows};
 ghost use Rattle.claim_rule.specs.Calls.{AddsStepsBy};
 ghost use Rattle.claim_rule.specs.Desks.{IsOf};
 ghost use Rattle.claim_rule.specs.Out.{AllLooks, IsTidy, KeepsEndings, KeepsHolds};
-ghost use Rattle.row_cuts.specs.Lines.{WritesBlocks, WritesLines, WritesMarked, block_rows, group_blocks, is_set, mark_blocks, mark_groups};
+ghost use Rattle.row_cuts.specs.Lines.{WritesBlocks, WritesLines, WritesMarked, block_rows, group_blocks, is_set};
+ghost use Rattle.row_cuts.specs.Lines.{mark_blocks, mark_groups};
 
 use crate::looks::push_row;
 use claim_rule::{Books, Desk};
@@ -33,8 +34,9 @@ fn group_count(books: &Books) -> u32
     block_count(books) / GROUP_BLOCKS + 1
 }
 
-/// Takes the marks of all rows, which clears them; writes the lines of the rows that were marked after the text, in
-/// rising row; and gives their count. A row that is marked while this runs has its mark taken now, or the next time.
+/// Takes marks of rows, which clears them; writes the lines of the rows that were marked after the text, in rising row;
+/// and gives their count. They are the marks of all rows, which no clause says. A row that is marked while this runs
+/// has its mark taken now, or the next time.
 pub fn push_marked_lines(
     text: &mut Vec<u8>,
     books: &Books,

@@ -4,7 +4,7 @@
 //! hold and ending. A taken leg is set by one compare and exchange on a word that was free there; a give clears the
 //! legs of its item alone.
 //!
-//! No call takes memory, and none waits.
+//! No call takes memory, and none waits: none is given anything to do it with.
 #![tactic(auto)]
 
 ghost use Rattle.std.specs.Prelude.{ℕ, ◌≡◌, ◌≢◌, ◌<◌, ◌≤◌, true, List, [], ◌∷◌, length, slice_index};

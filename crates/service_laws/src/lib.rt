@@ -3,9 +3,9 @@
 //!
 //! A sweep leaves no booking prebooked that was past its limit when the sweep began. For 900 seconds a refund quote
 //! that was given is paid, and an exchange quote is found right, while the booking stays in the phase in which it was
-//! quoted. That is for its retailer, under one catalogue, by clocks that don't run back, and where there is memory. A
-//! desk is any desk here: the one that accepts need not be the one that quoted. Each is said of the call that does it,
-//! and of the command with its reply.
+//! quoted. That is for calls of its retailer that begin after all that the quoting desk had seen, under one catalogue,
+//! by clocks that don't run back, and where there is memory. A desk is any desk here: the one that accepts need not be
+//! the one that quoted. Each is said of the call that does it, and of the command with its reply.
 //!
 //! What a reply tells of a booking is so in what was seen by then. At any desk, each look of a later call that shows
 //! the booking shows it in that phase or in one that follows.

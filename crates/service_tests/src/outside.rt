@@ -2,8 +2,8 @@
 ghost use Rattle.std.specs.Prelude.{◌≤◌, IfOk};
 
 use rail_io::{
-    Clock, Fetched, FileShelf, Journal, JournalOpened, MemoryJournal, Pulled, Pushed, ReaderSource,
-    Shelf, Sink, Source, SystemClock, WriterSink,
+    Fetched, FileShelf, Journal, JournalOpened, MemoryJournal, Pulled, Pushed, ReaderSource, Shelf,
+    Sink, Source, WriterSink,
 };
 use std::io::{ErrorKind, Read, Write};
 use std::test::Fail;
@@ -91,14 +91,6 @@ fn writer_sink_retries_interrupts(rt: HostRuntime) {
     assert!(rt; output.write(b"out\n") == Pushed::Took(4));
     let mut errors = WriterSink::new(rt.stderr());
     assert!(rt; errors.write(b"err\n") == Pushed::Took(4));
-}
-
-#[test]
-fn system_clock_reads_a_moment_of_this_century(rt: HostRuntime) {
-    let mut clock = SystemClock::new(&rt);
-    let reading = clock.now().seconds();
-    assert!(rt; reading > 1_700_000_000);
-    assert!(rt; clock.faults() == 0);
 }
 
 #[test]

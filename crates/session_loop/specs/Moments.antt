@@ -19,7 +19,7 @@ abbrev pub PermitsPiece : {K : Type 0} → Permitting K → Showing K → K → 
 PermitsPiece {K} permits shows sink piece =
     (now : K) (part more : List ℕ) → Took shows sink part now → piece ≡ part ++ more → permits now more
 
--- The same of an answer: while it is written, and once the outlet was told after which cut it may leave.
+-- The same of an answer: while it is written, and, where it waits for a cut, once the outlet was told of that cut.
 abbrev pub PermitsAnswer : {K : Type 0} → Permitting K → Showing K → K → ℕ → List ℕ → Type 0
 PermitsAnswer {K} permits shows sink cut answer =
     (now : K) (part more : List ℕ) → TookFor shows sink cut part now → answer ≡ part ++ more → permits now more
@@ -31,8 +31,8 @@ IsNextAnswer answers refuses number bytes before after answer =
     × answers before request answer after)
     ⊎ ((fault : WireFault) × IsFault fault bytes × refuses before fault answer × (after ≡ before))
 
--- In one step: the bytes are all that is left of the answer to the next request, or to what stands in its place, and
--- the outlet was told after which cut it may leave.
+-- In one step: the bytes are all that is left of the answer to the next request, or to what stands in its place. Where
+-- it waits for a cut, the outlet was told of that cut before its first byte.
 pub record MayStep {R K : Type 0} (answers : Answering R) (refuses : Refusing R) (awaits : Awaiting R)
     (shows : Showing K) (number : ℕ) (unread : List ℕ) (before : R) (source : Option (List ℕ)) (sink now : K)
     (piece : List ℕ) : Type 0 where
@@ -47,10 +47,10 @@ pub record MayStep {R K : Type 0} (answers : Answering R) (refuses : Refusing R)
   pub took : TookFor shows sink cut part now
 
 -- At a moment of a session these bytes may be handed over. Since the session's beginning calls of the outlet's own took
--- just the answers to the first requests of a beginning of the bytes that were to come. Then they took a part of the
--- answer to one request more, or to what stands in its place. These bytes are all that is left of that answer. Before
--- its first byte the outlet was told, once, after which cut it may leave, and of no other cut since the answers before
--- it.
+-- just the bytes of the answers to the first requests of a beginning of the bytes that were to come. Then they took a
+-- part of the answer to one request more, or to what stands in its place. These bytes are all that is left of that
+-- answer. Where it waits for a cut, the outlet was told of that cut before its first byte, and of none after that. Of
+-- which cuts it was told before, this doesn't say.
 pub record MayWrite {R K : Type 0} (answers : Answering R) (refuses : Refusing R) (awaits : Awaiting R)
     (shows : Showing K) (before : R) (source : Option (List ℕ)) (sink now : K) (piece : List ℕ) : Type 0 where
   pub taken : List ℕ

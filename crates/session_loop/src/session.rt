@@ -85,8 +85,8 @@ fn step<S: Source, K: Outlet, R: Responder>(
 }
 
 /// Reads, answers and writes in turn until an end, as `run_session` does, into an outlet of which it is known that it
-/// permits the next bytes of the defined answers. Whatever the outlet permits, no other bytes are handed to it at any
-/// moment, whether or not the session ever ends.
+/// permits the next bytes of the defined answers. Into one that permits these alone no others are handed at any moment,
+/// whether or not the session ever ends.
 pub fn run_permitted<S: Source, K: Outlet, R: Responder>(
     intake: &mut Intake,
     source: &mut S,

@@ -1,9 +1,9 @@
-//! Workers on desks of their own, each in a thread of its own.
+//! Workers on desks of their own, each in a thread of its own where threads can be made.
 //!
 //! A `Member` is a worker and its desk. `run_workers` runs each member's turns until one answers that its
 //! worker has ended. It promises that each member's turns followed one another on its own desk, whatever the
-//! other threads do. Where no thread can be made, members run one after another. It waits for its members,
-//! and nothing is said of when they end.
+//! other threads do. Where no thread can be made, members run one after another. It waits for its members.
+//! No clause says that threads are made, that members run side by side, or when they end.
 //!
 //! It is a crate of its own since it knows threads and desks, and nothing of what the members do there.
 //!

@@ -43,7 +43,7 @@ fn run_member<R: Wait, W: Worker, G: Gate>(
 
 /// Runs the turns of each member until one ends its worker, at the same time as those of the others as far
 /// as threads can be made, with the gate's calls round each turn. The gate knows a member by its place in the
-/// crew, from 0, and all after 4,294,967,295 by that number.
+/// crew, from 0, and all after 4,294,967,295 by that number. Of threads and of the gate's calls no clause speaks.
 pub fn run_workers<R: Threads + Wait + Sync, W: Worker + Send, G: Gate + Sync>(
     rt: &R,
     books: &Books,

@@ -5,7 +5,7 @@ use Rattle.cold_store.specs.Tidy.{AreSucceeded}
 use Rattle.rail_io.specs.Faults.{Rose}
 use Rattle.answer_gate.specs.declared.clock.GatedClock.{GatedClock}
 use Rattle.rail_service.specs.Listeners.{Handing, IsGiven}
-use Rattle.host_serve.specs.declared.end.BooksOutcome.{BooksOutcome}
+use Rattle.host_journal.specs.declared.end.BooksOutcome.{BooksOutcome}
 use Rattle.host_serve.specs.Serve.{BooksEnd, IsServedWall, Left}
 use Rattle.host_serve.proofs.Chaining.{until_asks}
 use Rattle.host_serve.proofs.Crewing.{complete, one_more}

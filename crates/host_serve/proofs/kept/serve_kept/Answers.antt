@@ -5,8 +5,8 @@ use Rattle.host_words.specs.Said.{said_in}
 use Rattle.host_serve.specs.Kept.{EndsAlone, EndsKept, IsNotSaid, Scene, WritesKept}
 use Rattle.host_serve.specs.Serve.{IsNoServe, Left, heard, left_of}
 use Rattle.host_serve.specs.Telling.{Noting}
-use Rattle.host_serve.specs.declared.end.KeptOutcome.{KeptOutcome}
-use Rattle.host_serve.specs.declared.end.ServeOutcome.TheVariants.{NoMemory, Refused}
+use Rattle.host_journal.specs.declared.end.KeptOutcome.{KeptOutcome}
+use Rattle.host_journal.specs.declared.end.ServeOutcome.TheVariants.{NoMemory, Refused}
 use Rattle.host_serve.proofs.Alone.{chosen, ended_alone, match_so, match_to, maybe, never_kept, never_refused, refused_said, unnamed, unread, unserved, was_refused}
 use Rattle.host_serve.proofs.kept.serve_kept.Goals as goal
 

@@ -1,7 +1,7 @@
 use Rattle.std.proofs.Common.{true, refl, subst, sym}
 use Rattle.host_serve.specs.Kept.{WritesKept}
-use Rattle.host_serve.specs.declared.end.KeptOutcome.{KeptOutcome}
-use Rattle.host_serve.specs.declared.end.KeptOutcome.TheVariants.{Plain}
+use Rattle.host_journal.specs.declared.end.KeptOutcome.{KeptOutcome}
+use Rattle.host_journal.specs.declared.end.KeptOutcome.TheVariants.{Plain}
 use Rattle.host_serve.specs.Telling.{Noting}
 use Rattle.host_serve.proofs.Alone.{stays_so}
 use Rattle.host_serve.proofs.kept.write_kept.Goals as goal

@@ -2,7 +2,7 @@ use Rattle.std.proofs.Common.{◌≡◌, ℕ, List, Option, Ok, ap, subst, sym}
 use Rattle.std.specs.Prelude.{IfOk, Result}
 use Rattle.host_words.specs.Options.{words_texts}
 use Rattle.host_serve.specs.Serve.{Left}
-use Rattle.rail_host.specs.Devices.{Devices}
+use Rattle.plain_commands.specs.Devices.{Devices}
 use Rattle.rail_host.specs.Commands.{Ran}
 use Rattle.rail_host.proofs.exit.run_host.Goals as goal
 

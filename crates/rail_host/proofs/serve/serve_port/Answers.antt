@@ -4,9 +4,9 @@ use Rattle.host_words.specs.Options.{words_texts}
 use Rattle.host_serve.specs.Kept.{EndsAlone, EndsKept}
 use Rattle.host_serve.specs.Serve.{left_by}
 use Rattle.host_serve.specs.Turns.{Asks, Readings}
-use Rattle.host_serve.specs.declared.end.ServeOutcome.TheVariants.{NoMemory}
+use Rattle.host_journal.specs.declared.end.ServeOutcome.TheVariants.{NoMemory}
 use Rattle.rail_host.specs.Commands.{scene}
-use Rattle.rail_host.specs.Devices.{Devices}
+use Rattle.plain_commands.specs.Devices.{Devices}
 use Rattle.rail_host.proofs.Alone.{alone}
 use Rattle.rail_host.proofs.Untold.{untold}
 use Rattle.rail_host.proofs.serve.serve_port.Goals as goal

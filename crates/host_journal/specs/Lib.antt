@@ -1,0 +1,4 @@
+pub mod Ends
+pub mod Causes
+pub mod Logs
+pub mod Left
