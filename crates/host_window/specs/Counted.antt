@@ -10,10 +10,10 @@ use Rattle.host_window.specs.Labels.{status_number}
 use Rattle.host_window.specs.declared.noted.Noted.{Noted}
 use Rattle.host_window.specs.declared.noted.Noted.TheVariants.{Nowhere, Shared, Plain}
 
--- the number of these three digits, or 0 where one of them is none
+-- the number of these three digits, or 0 where one of them is none; 5328 is 111 times the character of 0
 abbrev pub number_in : ℕ → ℕ → ℕ → ℕ
 number_in a b c =
-    if is_ascii_digit a && (is_ascii_digit b && is_ascii_digit c) then (a - 48) * 100 + (b - 48) * 10 + (c - 48) else 0
+    if is_ascii_digit a && (is_ascii_digit b && is_ascii_digit c) then a * 100 + b * 10 + c - 5328 else 0
 
 -- the number of the label of an answer's status, which is its tenth to twelfth byte
 abbrev pub label_in : List ℕ → ℕ

@@ -9,13 +9,14 @@ fn number_of(hundreds: u8, tens: u8, ones: u8) -> u16
     ensures { result ≡ number_in hundreds tens ones }
 {
     if hundreds.is_ascii_digit() && tens.is_ascii_digit() && ones.is_ascii_digit() {
-        u16::from(hundreds - b'0') * 100 + u16::from(tens - b'0') * 10 + u16::from(ones - b'0')
+        let sum = u16::from(hundreds) * 100 + u16::from(tens) * 10 + u16::from(ones);
+        sum - u16::from(b'0') * 111
     } else {
         0
     }
 }
 
-// The byte of both pieces at this place, or 0 behind them.
+// The byte of both pieces at this place, or 0 past their end.
 fn byte_at(first: &[u8], second: &[u8], place: usize) -> u8
     ensures { result ≡ slice_index (first.now ++ second.now) place }
 {
