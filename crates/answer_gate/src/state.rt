@@ -52,8 +52,8 @@ pub struct Inside {
     _entered: (),
 }
 
-/// A closed gate with nobody inside, for the cut of this number. Until one is handed back that a gate gave, nobody
-/// enters that gate: the rows may be looked at.
+/// A closed gate with nobody inside, for the cut of this number. Until one is handed back that a gate gave, or the
+/// journal is lost, nobody enters that gate: the rows may be looked at.
 pub struct Closed {
     number: u64,
 }
