@@ -51,10 +51,6 @@ Wakes cut s = (s.wanted < cut) × (s.taken < cut)
 abbrev pub IsAsleep : Standing → Type 0
 IsAsleep s = (s.course ≡ course.Going) × (s.wanted ≤ s.taken) × ((0 < s.inside) ⊎ (0 < s.servers))
 
--- the gate is open, and no cut is under way: there will be one more, and each that was taken is kept
-abbrev pub IsFree : Standing → Type 0
-IsFree s = (s.phase ≡ phase.Open) × (s.course ≡ course.Going) × (s.kept ≡ s.taken)
-
 -- something changed that no cut shows, or somebody waits for the next cut, and there will be one
 abbrev pub IsLeft : Standing → Type 0
 IsLeft s = (s.course ≡ course.Going) × ((s.changed ≡ true) ⊎ (s.taken < s.wanted))

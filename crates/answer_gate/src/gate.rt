@@ -67,19 +67,9 @@ impl Gate {
         }
     }
 
-    /// Somebody waits for the cut of this number. Where no cut is under way, the gate closes for it. The committer is
-    /// woken, now or by the last one inside.
+    /// Somebody waits for the cut of this number: wakes the committer for it.
     pub(crate) fn want<R: Wait>(&self, rt: &R, cut: u64) {
-        let mut state = self.state.lock(rt);
-        if !state.want(cut) {
-            return;
-        }
-        if state.is_free() {
-            state.close();
-        }
-        let wakes = !state.is_closing();
-        drop(state);
-        if wakes {
+        if self.state.lock(rt).want(cut) {
             self.committer.notify_one();
         }
     }

@@ -6,9 +6,8 @@
 //! Whoever leaves is told the number of a cut, and the answer may go out once that cut is kept.
 //!
 //! One member, the committer, takes the cuts and has them kept: `next_cut`, `taken`, `keep`, or `lose` where the
-//! journal fails. It sleeps while nobody waits for a cut, so that one cut serves all answers that one read gave.
-//! Whoever is the first to wait for the next cut closes the gate for it, where no cut is under way. So the committer
-//! is woken once for it, when nobody is inside. Nobody has the lock while rows are looked at or a device works.
+//! journal fails. It sleeps while nobody waits for a cut, so that one cut serves all answers that one read gave. Nobody
+//! has the lock while rows are looked at or a device works.
 //!
 //! The value under the gate's lock has facts that each call keeps: nobody is inside in the phase in which rows are
 //! looked at, and no cut is kept that wasn't taken. What a call does to that value is said by the clauses of `State`.

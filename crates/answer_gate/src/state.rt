@@ -3,7 +3,7 @@ ghost use Rattle.std.specs.Prelude.{◌≡◌, ◌≢◌, ◌≤◌, ◌<◌, �
 ghost use Rattle.answer_gate.specs.declared.state.Phase.TheVariants.{Open, Closing, Looking};
 ghost use Rattle.answer_gate.specs.declared.state.Course.TheVariants.{Going, Over, Lost};
 ghost use Rattle.answer_gate.specs.Standings.{fresh, entered, left, shown_by, wanted_by, closed, opened, kept_by, over};
-ghost use Rattle.answer_gate.specs.Standings.{lost, IsLastIn, IsAsleep, IsFree, HasRoom, IsLeft, Wakes, Looked, NotLooked};
+ghost use Rattle.answer_gate.specs.Standings.{lost, IsLastIn, IsAsleep, HasRoom, IsLeft, Wakes, Looked, NotLooked};
 
 /// What a gate does with those who come.
 #[derive(Clone, Copy, PartialEq, Eq)]
@@ -52,8 +52,8 @@ pub struct Inside {
     _entered: (),
 }
 
-/// A closed gate with nobody inside, for the cut of this number. Until one is handed back that a gate gave, nobody
-/// enters that gate: the rows may be looked at.
+/// A closed gate with nobody inside, for the cut of this number. Until one is handed back that a gate gave, or the
+/// journal is lost, nobody enters that gate: the rows may be looked at.
 pub struct Closed {
     number: u64,
 }
@@ -246,14 +246,6 @@ impl State {
     {
         self.standing.phase = Phase::Open;
         self.standing.course = course;
-    }
-
-    /// Whether the gate is open and no cut is under way: there will be one more, and each that was taken is kept.
-    pub fn is_free(&self) -> bool
-        ensures { (result ≡ true) ↔ IsFree self.now.standing }
-    {
-        let now = &self.standing;
-        now.phase == Phase::Open && now.course == Course::Going && now.kept == now.taken
     }
 
     /// Closes the gate.
