@@ -31,9 +31,9 @@ abbrev pub left : Standing → Standing
 left s = record s { inside = s.inside - 1; changed = true }
 
 -- The cut that shows all that anyone can have seen. It is the next one, where something may have changed since the
--- last, or may be changing now; else the last one, where it isn't kept yet. It is none, 0, where all is kept.
+-- last, or may be changing now; else the last one, whether it is kept or not. It is none, 0, where none was taken.
 abbrev pub shown_by : Standing → ℕ
-shown_by s = if s.changed || nat_lt 0 s.inside then s.taken + 1 else if nat_lt s.kept s.taken then s.taken else 0
+shown_by s = if s.changed || nat_lt 0 s.inside then s.taken + 1 else s.taken
 
 -- no other is inside than the one who leaves, and the committer may be waiting for that
 abbrev pub IsLastIn : Standing → Type 0

@@ -188,10 +188,8 @@ impl State {
         let now = &self.standing;
         if now.changed || now.inside > 0 {
             now.taken + 1
-        } else if now.kept < now.taken {
-            now.taken
         } else {
-            0
+            now.taken
         }
     }
 

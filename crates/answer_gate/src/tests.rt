@@ -157,7 +157,8 @@ fn cuts_of_three_servers(rt: HostRuntime) -> Result<(), Fail> {
     for rows in &trial.rows {
         assert!(rt; rows.shown.load(Ordering::SeqCst) == COMMANDS);
     }
-    assert!(rt; trial.cuts.gate().tell(&rt).number() == 0);
+    assert!(rt; trial.cuts.gate().tell(&rt).number() == cuts);
+    assert!(rt; trial.cuts.wait_kept(&rt, cuts));
     Ok(())
 }
 
@@ -299,7 +300,7 @@ fn cuts_by_reach(rt: HostRuntime) -> Result<(), Fail> {
     cuts.keep(&rt, first, Written { number });
     assert!(rt; told_of(&mut clock, Reach::Tells) == 2);
     assert!(rt; take_and_keep(&rt, &cuts) == Some(2));
-    assert!(rt; told_of(&mut clock, Reach::Tells) == 0);
+    assert!(rt; told_of(&mut clock, Reach::Tells) == 2);
     assert!(rt; clock.end() == 0);
     assert!(rt; take_and_keep(&rt, &cuts).is_none());
     let keeper = GateKeeper::new(&cuts, &rt);

@@ -36,7 +36,7 @@ abbrev told : List Entry → Entry → Moment
 told history made = record (written history made) { kept = 1 }
 
 closes : (s : Standing) → Passes s (closed s)
-closes s = record { inside = refl; changed = refl; taken = refl; kept = refl; looking = λ is. cc }
+closes s = record { inside = refl; changed = refl; taken = refl; looking = λ is. cc }
 
 pub one_answer : (history : List Entry) (made : Entry) → (later : Moment) × IsKeptAnswer later (history ++ made ∷ [])
 one_answer history made = (
@@ -59,7 +59,7 @@ one_answer history made = (
           inr (inr (inr (inr (inl (refl, 1, (refl, refl, refl), refl, refl, refl, refl))))),
           (
             inr (inr (inr (inr (inr (inl (1, omega arith, omega arith, refl)))))),
-            (inr (inr (inr (inr (inr (inr (inl (1, omega arith, refl))))))), refl),
+            (inr (inr (inr (inr (inr (inr (1, omega arith, refl)))))), refl),
           ),
         ),
       ),

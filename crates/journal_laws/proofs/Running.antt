@@ -11,7 +11,7 @@ use Rattle.answer_gate.specs.declared.state.Phase.TheVariants.{Open, Looking}
 use Rattle.answer_gate.specs.declared.state.Standing.{Standing}
 use Rattle.answer_gate.specs.Standings.{HasRoom, Looked, entered, left, looked_at}
 use Rattle.journal_laws.specs.Moments.{Begins, Follows, LeadsTo, Moment, Passes, TakenCut}
-use Rattle.journal_laws.specs.Ahead.{GivesCut, HasCut, HasWritten, IsKeptAnswer, OnlyLooked, Shows}
+use Rattle.journal_laws.specs.Ahead.{GivesCut, HasCut, HasWritten, IsKeptAnswer, OnlyLooked, OthersPass, Shows}
 
 pub has_map : (P Q : TakenCut → Type 0) → ((c : TakenCut) → P c → Q c) → (cuts : List TakenCut) → HasCut cuts P → HasCut cuts Q
 has_map P Q f [] none = absurd none
@@ -34,7 +34,6 @@ not_open p before looking = let no : Open ≡ Looking = sym before ∙ looking i
 
 -- what is so of each moment
 record Holds (m : Moment) : Type 0 where
-  heard : m.gate.kept ≤ m.kept
   kept : m.kept ≤ m.written
   written : m.written ≤ m.gate.taken
   quiet : m.gate.changed ≡ false → m.gate.inside ≡ 0 → HasCut m.cuts (λ c. (c.number ≡ m.gate.taken) × OnlyLooked c.began m.history)
@@ -44,12 +43,10 @@ begins : (m : Moment) → Begins m → Holds m
 begins m b =
     let gate = b.gate in
     let none : m.written ≡ 0 = b.written in
-    let at_gate : m.gate.kept ≡ 0 = ap (λ (s : Standing). s.kept) gate in
     let taken : m.gate.taken ≡ 0 = ap (λ (s : Standing). s.taken) gate in
     let at_first : m.gate.phase ≡ Open = ap (λ (s : Standing). s.phase) gate in
     let told : m.kept ≡ 0 = b.kept in
     record {
-      heard = omega arith;
       kept = omega arith;
       written = omega arith;
       quiet = λ same nobody. subst (λ (cuts : List TakenCut). HasCut cuts (λ c. (c.number ≡ m.gate.taken) × OnlyLooked c.began m.history)) (sym b.cuts) (inl (sym taken, looked_none m.history));
@@ -58,7 +55,6 @@ begins m b =
 
 adds : (old : Moment) (e : Entry) → (is_look e.step ≡ true) ⊎ (0 < old.gate.inside) → Holds old → Holds (record old { history = old.history ++ e ∷ [] })
 adds old e may h = record {
-  heard = h.heard;
   kept = h.kept;
   written = h.written;
   quiet = λ same nobody. ⊎_elim
@@ -71,7 +67,6 @@ adds old e may h = record {
 
 enters : (old : Moment) → HasRoom old.gate → Holds old → Holds (record old { gate = entered old.gate })
 enters old room h = record {
-  heard = h.heard;
   kept = h.kept;
   written = h.written;
   quiet = λ same nobody. absurd (let some : old.gate.inside + 1 ≡ 0 = nobody in omega arith);
@@ -80,7 +75,6 @@ enters old room h = record {
 
 leaves : (old : Moment) → 0 < old.gate.inside → Holds old → Holds (record old { gate = left old.gate })
 leaves old some h = record {
-  heard = h.heard;
   kept = h.kept;
   written = h.written;
   quiet = λ same nobody. absurd (true≢false same);
@@ -89,7 +83,6 @@ leaves old some h = record {
 
 passes : (old : Moment) (gate : Standing) → Passes old.gate gate → Holds old → Holds (record old { gate = gate })
 passes old gate p h = record {
-  heard = (let same = p.kept in let k = h.heard in omega arith);
   kept = h.kept;
   written = (let same = p.taken in let w = h.written in omega arith);
   quiet = λ same nobody.
@@ -100,7 +93,6 @@ passes old gate p h = record {
 
 takes : (old : Moment) → old.gate.inside ≡ 0 → Holds old → Holds (record old { gate = looked_at old.gate; cuts = record { number = old.gate.taken + 1; began = old.history } ∷ old.cuts })
 takes old nobody h = record {
-  heard = h.heard;
   kept = h.kept;
   written = (let w = h.written in omega arith);
   quiet = λ same none. inl (refl, looked_none old.history);
@@ -109,7 +101,6 @@ takes old nobody h = record {
 
 writes : (old : Moment) (number : ℕ) → old.written ≤ number → number ≤ old.gate.taken → Holds old → Holds (record old { written = number })
 writes old number more taken h = record {
-  heard = h.heard;
   kept = (let k = h.kept in omega arith);
   written = taken;
   quiet = h.quiet;
@@ -118,16 +109,11 @@ writes old number more taken h = record {
 
 tells : (old : Moment) (number : ℕ) → number ≤ old.written → Holds old → Holds (record old { kept = max old.kept number })
 tells old number has h = record {
-  heard = (let k = h.heard in omega arith);
   kept = (let k = h.kept in omega arith);
   written = h.written;
   quiet = h.quiet;
   looking = h.looking;
 }
-
-keeps : (old : Moment) (number : ℕ) (b : Bool) → number ≤ old.kept → Holds old → Holds (record old { gate = if b then record old.gate { kept = number } else old.gate })
-keeps old number true has h = record { heard = has; kept = h.kept; written = h.written; quiet = h.quiet; looking = h.looking }
-keeps old number false has h = h
 
 -- the moment in which a cut was taken
 taken_is : (old new : Moment) (number : ℕ) → Looked old.gate new.gate number → new.cuts ≡ record { number = number; began = old.history } ∷ old.cuts → new.history ≡ old.history → new.written ≡ old.written → new.kept ≡ old.kept
@@ -150,9 +136,7 @@ follows old new (inr (inr (inr (inl (gate, p, is))))) h = subst Holds (sym is) (
 follows old new (inr (inr (inr (inr (inl (nobody, number, looked, cuts, history, written, kept)))))) h =
     subst Holds (sym (taken_is old new number looked cuts history written kept)) (takes old nobody h)
 follows old new (inr (inr (inr (inr (inr (inl (number, more, taken, is))))))) h = subst Holds (sym is) (writes old number more taken h)
-follows old new (inr (inr (inr (inr (inr (inr (inl (number, has, is)))))))) h = subst Holds (sym is) (tells old number has h)
-follows old new (inr (inr (inr (inr (inr (inr (inr (number, has, is)))))))) h =
-    subst Holds (sym is) (keeps old number (nat_lt old.gate.kept number && nat_le number old.gate.taken) has h)
+follows old new (inr (inr (inr (inr (inr (inr (number, has, is))))))) h = subst Holds (sym is) (tells old number has h)
 
 leads : (first last : Moment) (moments : List Moment) → LeadsTo first moments last → Holds first → Holds last
 leads first last [] is h = subst Holds (sym is) h
@@ -161,43 +145,23 @@ leads first last (next ∷ more) (one, rest) h = leads next last more rest (foll
 -- an answer waits for the next cut, or a cut that was taken shows it
 abbrev Waits : ℕ → List Entry → Moment → Type 0
 Waits cut told m =
-    ((cut ≡ m.gate.taken + 1) × IsPrefix told m.history)
-    ⊎ HasCut m.cuts (λ c. ((c.number ≤ cut) ⊎ (c.number ≤ m.written)) × Shows c.began told)
+    ((cut ≡ m.gate.taken + 1) × IsPrefix told m.history) ⊎ HasCut m.cuts (λ c. (c.number ≤ cut) × Shows c.began told)
 
-shown_now : (m : Moment) (cut : ℕ) (told : List Entry) → Holds m → IsPrefix told m.history → (t : Bool) → (m.gate.changed || nat_lt 0 m.gate.inside) ≡ t → (u : Bool) → nat_lt m.gate.kept m.gate.taken ≡ u
-    → cut ≡ (if t then m.gate.taken + 1 else if u then m.gate.taken else 0) → Waits cut told m
-shown_now m cut told h front true is u of given = inl (given, front)
-shown_now m cut told h front false is true of given =
+shown_now : (m : Moment) (cut : ℕ) (told : List Entry) → Holds m → IsPrefix told m.history → (t : Bool) → (m.gate.changed || nat_lt 0 m.gate.inside) ≡ t → cut ≡ (if t then m.gate.taken + 1 else m.gate.taken) → Waits cut told m
+shown_now m cut told h front true is given = inl (given, front)
+shown_now m cut told h front false is given =
     let parts = or_parts m.gate.changed (nat_lt 0 m.gate.inside) is in
     let nobody : m.gate.inside ≡ 0 = (let none = ltb-false 0 m.gate.inside parts.1 in omega arith) in
-    inr (has_map (λ c. (c.number ≡ m.gate.taken) × OnlyLooked c.began m.history) (λ c. ((c.number ≤ cut) ⊎ (c.number ≤ m.written)) × Shows c.began told)
-    (λ c q. (inl (let n = q.0 in omega arith), (m.history, q.1, front))) m.cuts (h.quiet parts.0 nobody))
-shown_now m cut told h front false is false of given =
-    let parts = or_parts m.gate.changed (nat_lt 0 m.gate.inside) is in
-    let nobody : m.gate.inside ≡ 0 = (let none = ltb-false 0 m.gate.inside parts.1 in omega arith) in
-    let all = ltb-false m.gate.kept m.gate.taken of in
-    let at_gate = h.heard in
-    let kept = h.kept in
-    inr (has_map (λ c. (c.number ≡ m.gate.taken) × OnlyLooked c.began m.history) (λ c. ((c.number ≤ cut) ⊎ (c.number ≤ m.written)) × Shows c.began told)
-    (λ c q. (inr (let n = q.0 in omega arith), (m.history, q.1, front))) m.cuts (h.quiet parts.0 nobody))
+    inr (has_map (λ c. (c.number ≡ m.gate.taken) × OnlyLooked c.began m.history) (λ c. (c.number ≤ cut) × Shows c.began told)
+    (λ c q. ((let n = q.0 in omega arith), (m.history, q.1, front))) m.cuts (h.quiet parts.0 nobody))
 
 given : (m : Moment) (cut : ℕ) (told : List Entry) → Holds m → IsPrefix told m.history → GivesCut m cut → Waits cut told m
 given m cut told h front (inl next) = inl (next, front)
-given m cut told h front (inr shown) = shown_now m cut told h front (m.gate.changed || nat_lt 0 m.gate.inside) refl (nat_lt m.gate.kept m.gate.taken) refl shown
-
-waits_keeps : (old : Moment) (number cut : ℕ) (told : List Entry) (b : Bool) → Waits cut told old → Waits cut told (record old { gate = if b then record old.gate { kept = number } else old.gate })
-waits_keeps old number cut told true w = w
-waits_keeps old number cut told false w = w
+given m cut told h front (inr shown) = shown_now m cut told h front (m.gate.changed || nat_lt 0 m.gate.inside) refl shown
 
 waits_takes : (old : Moment) (cut : ℕ) (told : List Entry) → Waits cut told old → Waits cut told (record old { gate = looked_at old.gate; cuts = record { number = old.gate.taken + 1; began = old.history } ∷ old.cuts })
-waits_takes old cut told (inl (next, front)) = inr (inl (inl (omega arith), (old.history, looked_none old.history, front)))
+waits_takes old cut told (inl (next, front)) = inr (inl (omega arith, (old.history, looked_none old.history, front)))
 waits_takes old cut told (inr has) = inr (inr has)
-
-waits_writes : (old : Moment) (number cut : ℕ) (told : List Entry) → old.written ≤ number → Waits cut told old → Waits cut told (record old { written = number })
-waits_writes old number cut told more (inl next) = inl next
-waits_writes old number cut told more (inr has) =
-    inr (has_map (λ c. ((c.number ≤ cut) ⊎ (c.number ≤ old.written)) × Shows c.began told) (λ c. ((c.number ≤ cut) ⊎ (c.number ≤ number)) × Shows c.began told)
-    (λ c q. (⊎_elim (λ (l : c.number ≤ cut). inl l) (λ (l : c.number ≤ old.written). inr (omega arith)) q.0, q.1)) old.cuts has)
 
 waits_on : (cut : ℕ) (told : List Entry) (old new : Moment) → Follows old new → Waits cut told old → Waits cut told new
 waits_on cut told old new (inl (e, may, is)) w = subst (Waits cut told) (sym is)
@@ -208,10 +172,8 @@ waits_on cut told old new (inr (inr (inr (inl (gate, p, is))))) w = subst (Waits
     (⊎_elim (λ (n : (cut ≡ old.gate.taken + 1) × IsPrefix told old.history). inl ((let same = p.taken in let next = n.0 in omega arith), n.1)) (λ has. inr has) w)
 waits_on cut told old new (inr (inr (inr (inr (inl (nobody, number, looked, cuts, history, written, kept)))))) w =
     subst (Waits cut told) (sym (taken_is old new number looked cuts history written kept)) (waits_takes old cut told w)
-waits_on cut told old new (inr (inr (inr (inr (inr (inl (number, more, taken, is))))))) w = subst (Waits cut told) (sym is) (waits_writes old number cut told more w)
-waits_on cut told old new (inr (inr (inr (inr (inr (inr (inl (number, has, is)))))))) w = subst (Waits cut told) (sym is) w
-waits_on cut told old new (inr (inr (inr (inr (inr (inr (inr (number, has, is)))))))) w =
-    subst (Waits cut told) (sym is) (waits_keeps old number cut told (nat_lt old.gate.kept number && nat_le number old.gate.taken) w)
+waits_on cut told old new (inr (inr (inr (inr (inr (inl (number, more, taken, is))))))) w = subst (Waits cut told) (sym is) w
+waits_on cut told old new (inr (inr (inr (inr (inr (inr (number, has, is))))))) w = subst (Waits cut told) (sym is) w
 
 waits_through : (cut : ℕ) (told : List Entry) (first last : Moment) (moments : List Moment) → LeadsTo first moments last → Waits cut told first → Waits cut told last
 waits_through cut told first last [] is w = subst (Waits cut told) (sym is) w
@@ -221,8 +183,8 @@ all_told : (m : Moment) (cut : ℕ) (told : List Entry) → Holds m → cut ≤ 
 all_told m cut told h kept (inl next) = absurd (let n = next.0 in let k = h.kept in let w = h.written in omega arith)
 all_told m cut told h kept (inr has) =
     let k = h.kept in
-    has_map (λ c. ((c.number ≤ cut) ⊎ (c.number ≤ m.written)) × Shows c.began told) (λ c. (c.number ≤ m.written) × Shows c.began told)
-    (λ c q. (⊎_elim (λ (l : c.number ≤ cut). omega arith) (λ (l : c.number ≤ m.written). l) q.0, q.1)) m.cuts has
+    has_map (λ c. (c.number ≤ cut) × Shows c.began told) (λ c. (c.number ≤ m.written) × Shows c.began told)
+    (λ c q. ((let n = q.0 in omega arith), q.1)) m.cuts has
 
 pub follows_cut : (later : Moment) (told : List Entry) → IsKeptAnswer later told → HasWritten later (λ c. Shows c.began told)
 follows_cut later told a =
@@ -235,3 +197,18 @@ unchanged_meanwhile first now before b to looking =
     let h = leads first now before to (begins first b) in
     let still = h.looking looking in
     h.quiet still.1 still.0
+
+by_kept : (s : Standing) (cut : ℕ) (b : Bool) → Passes s (if b then record s { kept = cut } else s)
+by_kept s cut true = record { inside = refl; changed = refl; taken = refl; looking = λ is. is }
+by_kept s cut false = record { inside = refl; changed = refl; taken = refl; looking = λ is. is }
+
+pub others_pass : (s : Standing) → OthersPass s
+others_pass s = record {
+  wanted = λ cut. record { inside = refl; changed = refl; taken = refl; looking = λ is. is };
+  closed = record { inside = refl; changed = refl; taken = refl; looking = λ is. cc };
+  opened = record { inside = refl; changed = refl; taken = refl; looking = λ is. cc };
+  kept = λ cut. by_kept s cut (nat_lt s.kept cut && nat_le cut s.taken);
+  over = record { inside = refl; changed = refl; taken = refl; looking = λ is. cc };
+  lost = record { inside = refl; changed = refl; taken = refl; looking = λ is. cc };
+  servers = λ count. record { inside = refl; changed = refl; taken = refl; looking = λ is. is };
+}

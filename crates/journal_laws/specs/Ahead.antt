@@ -6,7 +6,7 @@ use Rattle.history_model.specs.declared.entry.Entry.{Entry}
 use Rattle.claim_rule.specs.Out.{is_look}
 use Rattle.answer_gate.specs.declared.state.Phase.TheVariants.{Looking}
 use Rattle.answer_gate.specs.declared.state.Standing.{Standing}
-use Rattle.answer_gate.specs.Standings.{closed, lost, opened, over, shown_by, wanted_by}
+use Rattle.answer_gate.specs.Standings.{closed, kept_by, lost, opened, over, shown_by, wanted_by}
 use Rattle.journal_laws.specs.Moments.{Begins, LeadsTo, Moment, Passes, TakenCut}
 
 -- there is such a cut among these
@@ -62,12 +62,13 @@ NothingChangesMeanwhile =
     (first now : Moment) (before : List Moment) → Begins first → LeadsTo first before now → now.gate.phase ≡ Looking
     → HasCut now.cuts (λ c. (c.number ≡ now.gate.taken) × OnlyLooked c.began now.history)
 
--- A gate's calls but those that enter, leave, take a cut or keep one: somebody waits for a cut, the gate closes or
--- opens, no more cuts are taken, and how many members serve is said
+-- A gate's calls but those that enter, leave or take a cut: somebody waits for a cut, the gate closes or opens, it hears
+-- that a cut is kept, no more cuts are taken, and how many members serve is said
 pub record OthersPass (s : Standing) : Type 0 where
   pub wanted : (cut : ℕ) → Passes s (wanted_by cut s)
   pub closed : Passes s (closed s)
   pub opened : Passes s (opened s)
+  pub kept : (cut : ℕ) → Passes s (kept_by cut s)
   pub over : Passes s (over s)
   pub lost : Passes s (lost s)
   pub servers : (count : ℕ) → Passes s (record s { servers = count })

@@ -4,7 +4,7 @@ use Rattle.history_model.specs.declared.entry.Entry.{Entry}
 use Rattle.claim_rule.specs.Out.{is_look}
 use Rattle.answer_gate.specs.declared.state.Phase.TheVariants.{Looking}
 use Rattle.answer_gate.specs.declared.state.Standing.{Standing}
-use Rattle.answer_gate.specs.Standings.{HasRoom, Looked, entered, fresh, kept_by, left}
+use Rattle.answer_gate.specs.Standings.{HasRoom, Looked, entered, fresh, left}
 
 -- a cut that was taken: its number, and the one history of all desks as it was when its looks began
 pub record TakenCut : Type 0 where
@@ -34,12 +34,11 @@ Enters old new = HasRoom old.gate × (new ≡ record old { gate = entered old.ga
 abbrev pub Leaves : Moment → Moment → Type 0
 Leaves old new = (0 < old.gate.inside) × (new ≡ record old { gate = left old.gate })
 
--- a gate's other calls: who is inside, what was taken and what is kept stays, and no look begins
+-- a gate's other calls: who is inside, whether something changed, and what was taken stays, and no look begins
 pub record Passes (old new : Standing) : Type 0 where
   pub inside : new.inside ≡ old.inside
   pub changed : new.changed ≡ old.changed
   pub taken : new.taken ≡ old.taken
-  pub kept : new.kept ≡ old.kept
   pub looking : new.phase ≡ Looking → old.phase ≡ Looking
 
 abbrev pub MakesCall : Moment → Moment → Type 0
@@ -57,17 +56,14 @@ abbrev pub WritesCut : Moment → Moment → Type 0
 WritesCut old new =
     (number : ℕ) × (old.written ≤ number) × (number ≤ old.gate.taken) × (new ≡ record old { written = number })
 
--- those who wait for a cut hear that the journal has it, and then the gate hears it too
+-- those who wait for a cut hear that the journal has it
 abbrev pub TellsKept : Moment → Moment → Type 0
 TellsKept old new = (number : ℕ) × (number ≤ old.written) × (new ≡ record old { kept = max old.kept number })
-
-abbrev pub KeepsCut : Moment → Moment → Type 0
-KeepsCut old new = (number : ℕ) × (number ≤ old.kept) × (new ≡ record old { gate = kept_by number old.gate })
 
 abbrev pub Follows : Moment → Moment → Type 0
 Follows old new =
     AddsEntry old new ⊎ Enters old new ⊎ Leaves old new ⊎ MakesCall old new ⊎ TakesCut old new ⊎ WritesCut old new
-    ⊎ TellsKept old new ⊎ KeepsCut old new
+    ⊎ TellsKept old new
 
 -- each moment follows the one before, and the last is this one
 abbrev pub LeadsTo : Moment → List Moment → Moment → Type 0

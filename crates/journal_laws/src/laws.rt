@@ -29,7 +29,7 @@ pub fn answers_may_be_kept()
     ensures some { AnswersMayBeKept }
 {}
 
-/// Each call of a gate that doesn't enter, leave, take a cut or keep one is such that a moment may follow by it.
+/// Each call of a gate that doesn't enter, leave or take a cut is such that a moment may follow by it.
 pub fn other_calls_pass()
     ensures { (s : Standing) → OthersPass s }
 {}
