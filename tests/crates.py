@@ -25,7 +25,7 @@ SERVICES = {"shop", "service_rules", "booking_service", "reservation_service", "
 KEPT = [
     ("only one crate touches words", r"\batomic_table\b", {"claim_rule"}),
     ("the system is touched at the edge alone", r"\bstd::(fs|net(?!::IpAddr)|env|process|io|time)\b", {"rail_io", "host_io", "host_window", "rail_host"}),
-    ("no call waits, but where its type says Wait", r"\bWait\b", {"worker_pool", "answer_gate", "host_journal", "host_serve", "rail_host"}),
+    ("no call waits, but where its type says Wait", r"\bWait\b", {"worker_pool", "answer_gate", "host_journal", "host_serve", "host_window", "rail_host"}),
     ("threads start in three crates", r"\bthread::(scope|join|for_each_mut|spawn)\b", {"worker_pool", "host_drill", "rail_host"}),
     ("no check of the compiler is passed by", r"\bunsafe\b", {"osdm_texts"}),
     (

@@ -20,6 +20,7 @@ import time
 
 EXAMPLE = os.path.join(os.path.dirname(__file__), "..", "..", "examples", "k1.json")
 SECONDS = 60
+ROWS = 65_536  # as many as a catalogue has that says none
 SAMPLE = re.compile(r'^(\w+)(?:\{((?:\w+="[^"]*",?)+)\})? (\d+)(e-9)?$')
 LABEL = re.compile(r'\w+="([^"]*)"')
 PROBLEM = re.compile(rb'^\{"code":"(\w+)"')
@@ -208,6 +209,29 @@ def compare(numbers: dict, tally: Tally) -> None:
         expect(there == here, f"{name}: the host counted {there}, the clients {here}")
 
 
+def compare_books(numbers: dict, tally: Tally) -> None:
+    """What looks at the books show: each booking that a client was told of is prebooked in a row, with one place of second class."""
+    booked, phases = tally.statuses["201"], table(numbers, "sumacgate_rows")
+    expect(booked > 0 and phases.pop("prebooked", 0) == booked, f"{booked} bookings, and rows in phases {table(numbers, 'sumacgate_rows')}")
+    kept = phases.pop("making", 0)
+    expect(not phases and kept <= 4, f"rows of no booking: {phases}, {kept} in the making")
+    expect(numbers["sumacgate_rows_never_used"] == ROWS - booked - kept, f"{numbers['sumacgate_rows_never_used']} rows were never used")
+    sold = table(numbers, "sumacgate_places_sold")
+    expect(sold == {"second": booked}, f"{booked} places are booked, and sold are {sold}")
+    expect(numbers["sumacgate_greatest_generation"] == 0, "a row was used again")
+
+
+def compare_sweeps(port: int, tally: Tally) -> None:
+    """What the last of two further sweeps found: all bookings wait to be confirmed."""
+    end, begun = time.monotonic() + SECONDS, scraped(port)[1]["sumacgate_sweeps_total"]
+    while scraped(port)[1]["sumacgate_sweeps_total"] < begun + 2:
+        expect(time.monotonic() < end, "no sweep is counted")
+        time.sleep(0.1)
+    numbers = scraped(port)[1]
+    found = [numbers["sumacgate_" + name] for name in ("sweeps_expired_total", "sweeps_lost_total", "sweep_waiting")]
+    expect(found == [0, 0, tally.statuses["201"]], f"sweeps expired, lost and left {found}")
+
+
 def compare_times(numbers: dict, tally: Tally, seconds: float) -> None:
     """Each route's times: as many as were carried out, in buckets that only grow, and together no longer than the load took its workers."""
     for route in {key[1] for key in numbers if key[0] == "sumacgate_answer_seconds_count"}:
@@ -269,6 +293,8 @@ def try_host(program: str, port: int, clients: int, rounds: int, folder: str) ->
         text, numbers = settled(window, clients)
         compare(numbers, tally)
         compare_times(numbers, tally, time.monotonic() - begun)
+        compare_books(numbers, tally)
+        compare_sweeps(window, tally)
         said = check_text(text)
         check_slow(port, window)
         expect(numbers["sumacgate_journal_cuts_total"] > 0, "no cut of the journal is counted")

@@ -1,18 +1,22 @@
 //! The gate that commands go through which change bookings, and the count of the cuts of a journal: which were taken,
 //! which are kept, and which of them an answer has to wait for.
 //!
-//! A command that may change bookings *enters* the gate and *leaves* it with its answer made. A cut is taken in this
-//! way: the gate closes, so that nobody enters; once nobody is inside, the rows that changed are looked at; then it
-//! opens. So no command is half done in a cut. Whoever leaves is told the number of the next cut to be taken, which
-//! shows all that its answer tells. The answer may go out once that cut is kept.
+//! A command that may change bookings *enters* the gate and *leaves* it with its answer made. For a cut the gate
+//! closes, so that nobody enters. Once nobody is inside, the rows that changed are looked at, and then the gate opens.
+//! Whoever leaves is told the number of a cut, and the answer may go out once that cut is kept.
 //!
 //! One member, the committer, takes the cuts and has them kept: `next_cut`, `taken`, `keep`, or `lose` where the
-//! journal fails. It sleeps while nobody waits for a cut, so that one cut serves all answers that one read gave. Nobody
-//! has the lock while rows are looked at or a device works.
+//! journal fails. It sleeps while nobody waits for a cut, so that one cut serves all answers that one read gave.
+//! Whoever is the first to wait for the next cut closes the gate for it, where no cut is under way. So the committer
+//! is woken once for it, when nobody is inside. Nobody has the lock while rows are looked at or a device works.
 //!
-//! That nobody is inside while the rows are looked at is a fact of the value under the lock, which each call keeps, as
-//! it is that no cut is kept that wasn't taken. What a call did to that value, no clause of a `Gate` can say: that is
-//! said by the clauses of `State`, whose calls a `Gate` makes.
+//! The value under the gate's lock has facts that each call keeps: nobody is inside in the phase in which rows are
+//! looked at, and no cut is kept that wasn't taken. What a call does to that value is said by the clauses of `State`.
+//! A cut that `wait_kept` finds kept has what its receipt means.
+//!
+//! No clause of a `Gate` can say what a call did to the value under its lock. So some things are only read and tested:
+//! that nobody enters between `next_cut` and `taken`; that the cut that an answer waits for shows all that the answer
+//! tells; and that whoever sleeps here is woken.
 #![tactic(auto)]
 
 mod clock;

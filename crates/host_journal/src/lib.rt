@@ -22,4 +22,4 @@ pub use keeping::{KeepFault, Keeping, open_journal};
 pub use log::{Head, Kept, Lines, Log};
 pub use looked::Looked;
 pub use opened::Opened;
-pub use watching::{Lookout, NoWatcher, Watcher};
+pub use watching::{Either, Lookout, Watcher};

@@ -1,5 +1,5 @@
 -- What `serve` promises with a journal.
-use Rattle.std.specs.Prelude.{◌≡◌, ◌⊎◌, ◌≤◌, ℕ, Bool, true, false, List, Option, Some, None}
+use Rattle.std.specs.Prelude.{◌≡◌, ◌⊎◌, ◌≤◌, ◌+◌, ℕ, Bool, true, false, List, Option, Some, None}
 use Rattle.std.specs.Prelude.{IsSomeAnd, Ok, Err}
 use Rattle.claim_rule.specs.Openings.{KeptBooking, layout_with}
 use Rattle.claim_rule.specs.Walls.{WallView}
@@ -125,13 +125,13 @@ pub record EndsAlone (s : Scene) (status : ℕ) : Type 0 where
   pub later : told.count ≤ s.notes.fails
   pub cause : HasShelfCause outcome s.failed s.fails s.missed s.misses
 
--- it ended with the journal that the words name, which had told this; one further member watched
+-- it ended with the journal that the words name, which had told this; one further member watched than without it
 pub record EndsKept (s : Scene) (told : Option (List ℕ)) (status : ℕ) : Type 0 where
   pub said : ServeView
   pub name : List ℕ
   pub words_are : IsKeptServe s.words said name
   pub served : KeptOutcome
-  pub ends : ServesKept s.files said told (record s.left { watchers = 1 }) served
+  pub ends : ServesKept s.files said told (record s.left { watchers = 1 + s.left.watchers }) served
   pub outcome : KeptOutcome
   pub between : Option (List ℕ)
   pub count : ℕ

@@ -109,12 +109,20 @@ pub record Hearing (L : Type 0) : Type 1 where
 abbrev pub heard : {L : Type 0} → (L → ListenerView) → (L → ℕ) → (L → L → Type 0) → HandingBy L → Hearing L
 heard told faults becomes hands = record { told = told; faults = faults; becomes = becomes; hands = hands }
 
--- so of devices that were handed in, and of the listener and the wall that were handed back
+-- one where there is one
+abbrev pub some_count : {X : Type 0} → Option X → ℕ
+some_count None = 0
+some_count (Some x) = 1
+
+-- so of devices that were handed in, and of the listener and the wall that were handed back: one member watched where
+-- somebody asks what is in the books
 abbrev pub left_of : {L T C : Type 0} → Hearing L → (C → Readings) → TickingBy T → Devices L T C → L
     → Option WallView → Left
 left_of hear told ticked devices last wall =
-    left_by hear.told hear.faults hear.becomes hear.hands (map told devices.clocks.items) (Asks ticked devices.ticker)
-    devices.listener last wall
+    record
+    (left_by hear.told hear.faults hear.becomes hear.hands (map told devices.clocks.items) (Asks ticked devices.ticker)
+    devices.listener last wall)
+    { watchers = some_count devices.findings }
 
 -- In the history the desks 1 to the number of workers served connections, all together as many as the listener has
 -- handed out, and the desk after them swept, each by its own of the clocks. It made as many sweeps as the ticker

@@ -158,7 +158,7 @@ pub fn run_books<
     rt: &'x R,
     common: Common<'x>,
     opened: Opened,
-    devices: Devices<L, T, C>,
+    devices: Devices<'_, L, T, C>,
     watchers: Vec<W>,
     blank: Blank,
 ) -> Run<BooksOutcome, L>
@@ -180,10 +180,10 @@ where
     requires over { EndsOver L.told L.faults L.becomes N.limit N.faults N.over devices.listener }
     requires workers { 1 ≤ common.said.workers }
     requires few { common.said.workers + 1 + length watchers.items < 2 ^ 63 }
-    ensures never_falls { L.faults devices.listener ≤ L.faults result.listener }
+    ensures never_falls { L.faults devices.entry.listener ≤ L.faults result.listener }
     ensures ends { BooksEnd common.entry.cat.now opened.books.layout common.entry.said
         (record
-        (left_of (heard L.told L.faults L.becomes L.hands) C.told T.ticked devices result.listener result.wall)
+        (left_of (heard L.told L.faults L.becomes L.hands) C.told T.ticked devices.entry result.listener result.wall)
         { hands = IsGiven N.gives; watchers = length watchers.items })
         result.outcome }
 {
@@ -201,7 +201,7 @@ where
         common,
         &mut opened,
         Means {
-            ticker: Until::of(devices.ticker, shared, common.gate, rt),
+            ticker: Until::of(devices.ticker, shared, common, rt),
             clocks: devices.clocks,
             watchers,
             share: rest,

@@ -109,6 +109,7 @@ pub fn crew_of<
         ticker,
         seconds: common.said.sweep,
         clock: GatedClock::new(clocks.pop().unwrap(), common.gate, rt),
+        findings: common.findings,
         ended: false,
     });
     crew.push_reserved(Member {

@@ -1,5 +1,5 @@
 // What a run of `serve` is given, and how it serves.
-ghost use Rattle.std.specs.Prelude.{◌≡◌, ◌≤◌, ℕ, List, None, Some, IfErr, IfOk, IfSome, MatchOption, length};
+ghost use Rattle.std.specs.Prelude.{◌≡◌, ◌≤◌, ◌+◌, ℕ, List, None, Some, IfErr, IfOk, IfSome, MatchOption, length};
 ghost use Rattle.claim_rule.specs.Openings.{KeptBooking, layout_with};
 ghost use Rattle.cold_store.specs.Exports.{IsClosed};
 ghost use Rattle.cold_store.specs.Tidy.{AreSucceeded, IsTidyWall};
@@ -10,10 +10,9 @@ ghost use Rattle.host_words.specs.Serve.{IsInRange};
 ghost use Rattle.host_catalogue.specs.Files.{HasCause, OfCounts};
 ghost use Rattle.host_catalogue.specs.Opening.{Fails, HasBooks};
 ghost use Rattle.host_serve.specs.Crews.{IsFirst};
-ghost use Rattle.host_journal.specs.Causes.{HasKeptCause};
-ghost use Rattle.host_serve.specs.Kept.{ServesBooks, ServesKept, sources_of};
-ghost use Rattle.host_journal.specs.Causes.{HasShelfCause};
-ghost use Rattle.host_serve.specs.Serve.{Ends, heard, left_of};
+ghost use Rattle.host_journal.specs.Causes.{HasKeptCause, HasShelfCause};
+ghost use Rattle.host_serve.specs.Kept.{ListensTo, ServesBooks, ServesKept, sources_of};
+ghost use Rattle.host_serve.specs.Serve.{Ends, heard, left_of, some_count};
 ghost use Rattle.host_serve.specs.Telling.{IsBefore};
 ghost use Rattle.host_serve.specs.Turns.{HasCatalogue};
 ghost use Rattle.host_journal.specs.declared.end.ServeOutcome.{ServeOutcome};
@@ -23,12 +22,11 @@ ghost use Rattle.host_journal.specs.declared.end.KeptOutcome.TheVariants as kept
 use crate::books::Run;
 use crate::devices::Devices;
 use crate::listening::listen_and_serve;
+use crate::looker::Looker;
 use crate::member::Common;
 use claim_rule::{Books, Desk};
 use host_catalogue::{LoadFault, load_books, load_catalogue};
-use host_journal::{
-    Committer, Keeping, KeptOutcome, NoWatcher, Opened, ServeOutcome, open_journal,
-};
+use host_journal::{Committer, Either, Keeping, KeptOutcome, Opened, ServeOutcome, open_journal};
 use host_words::ServeWords;
 use rail_catalogue::Catalogue;
 use rail_io::{Bell, Clock, Journal, Shelf, Ticker};
@@ -44,7 +42,7 @@ pub struct Given<'g, 's, R, L: Listener, T, C> {
     pub rt: &'g R,
     pub alloc: Global,
     pub said: &'s ServeWords<'s>,
-    pub devices: Devices<L, T, C>,
+    pub devices: Devices<'g, L, T, C>,
     ghost clocks: { length devices.clocks.items ≡ clock_count },
     ghost fresh: { (L.told devices.listener).handed ≡ 0 },
     ghost ranges: { IsInRange said.now.numbers },
@@ -71,13 +69,73 @@ fn open<F: Shelf>(
     load_books(alloc, shelf, said.catalogue, said.from)
 }
 
-/// A list of one.
-fn list_of<W: Drop>(alloc: Global, item: W) -> Result<Vec<W>, AllocError>
-    ensures { IfOk result (λ list. length list.items ≡ 1) }
+/// A list of those that there are.
+fn list_of<W: Drop>(
+    alloc: Global,
+    first: Option<W>,
+    second: Option<W>,
+) -> Result<Vec<W>, AllocError>
+    ensures { IfOk result (λ list. length list.items ≡ some_count first + some_count second) }
 {
     let mut list = Vec::new(alloc);
-    list.push(item)?;
+    if let Some(item) = first {
+        list.push(item)?;
+    }
+    if let Some(item) = second {
+        list.push(item)?;
+    }
     Ok(list)
+}
+
+/// Another kind of watcher, where there is one.
+fn other<A, B>(watcher: Option<B>) -> Option<Either<A, B>>
+    ensures { some_count result ≡ some_count watcher }
+{
+    let watcher = watcher?;
+    Some(Either::Other(watcher))
+}
+
+/// Serves opened books of the catalogue to the connections that come, without a journal.
+fn listen_alone<
+    'x,
+    R: Threads + Wait + Sync,
+    L: Listener + Drop + Send,
+    T: Ticker + Drop + Send,
+    C: Clock + Drop + Send,
+>(
+    rt: &'x R,
+    alloc: Global,
+    said: &ServeWords<'_>,
+    cat: &'x Catalogue,
+    opened: Opened,
+    devices: Devices<'x, L, T, C>,
+) -> Run<ServeOutcome, L>
+where
+    L::Input: Send,
+    L::Output: Send,
+    requires has { HasCatalogue opened.books cat.now }
+    requires opening { AreSucceeded opened.books.layout.opening }
+    requires first { IsFirst opened.books 0 opened.first }
+    requires clocks { length devices.clocks.items ≡ clock_count }
+    requires fresh { (L.told devices.listener).handed ≡ 0 }
+    requires ranges { IsInRange said.now.numbers }
+    ensures never_falls { L.faults devices.entry.listener ≤ L.faults result.listener }
+    ensures ends { ListensTo cat.now opened.books.layout said.now.numbers
+        (left_of (heard L.told L.faults L.becomes L.hands) C.told T.ticked devices.entry result.listener result.wall)
+        result.outcome }
+{
+    let common = Common {
+        alloc,
+        cat,
+        said: said.numbers,
+        gate: None,
+        findings: devices.findings,
+    };
+    let looker = Looker::of(rt, cat, devices.findings);
+    let Ok(watchers) = list_of(alloc, looker, None) else {
+        return Run::without_wall(ServeOutcome::NoMemory, devices.listener);
+    };
+    listen_and_serve(rt, common, opened, devices, watchers)
 }
 
 impl<
@@ -114,19 +172,7 @@ where
                 return Run::without_wall(ServeOutcome::NotLoaded(fault), devices.listener);
             }
         };
-        let common = Common {
-            alloc,
-            cat: &cat,
-            said: said.numbers,
-            gate: None,
-        };
-        listen_and_serve(
-            rt,
-            common,
-            Opened { books, first },
-            devices,
-            Vec::<NoWatcher>::new(alloc),
-        )
+        listen_alone(rt, alloc, said, &cat, Opened { books, first }, devices)
     }
 
     /// Serves the catalogue's books with the bookings that the journal of the words leaves, or that their export begins
@@ -142,7 +188,7 @@ where
             (sources_of (F.told shelf.old) (said_in self.entry.said.now) (J.told keeping.entry.journal))
             (record
             (left_of (heard L.told L.faults L.becomes L.hands) C.told T.ticked self.entry.devices result.listener
-            result.wall) { watchers = 1 })
+            result.wall) { watchers = 1 + some_count self.entry.devices.findings })
             result.outcome }
         ensures same { F.told shelf.new ≡ F.told shelf.old }
         ensures cause { OfCounts F.faults F.misses shelf.old shelf.new (HasKeptCause result.outcome) }
@@ -167,6 +213,7 @@ where
             cat,
             said: said.numbers,
             gate: Some(cuts.gate()),
+            findings: devices.findings,
         };
         let committer = Committer {
             rt,
@@ -176,7 +223,8 @@ where
             bell,
             port: said.numbers.port,
         };
-        let Ok(watchers) = list_of(alloc, committer) else {
+        let looker = other(Looker::of(rt, cat, devices.findings));
+        let Ok(watchers) = list_of(alloc, Some(Either::One(committer)), looker) else {
             let outcome = KeptOutcome::Plain(ServeOutcome::NoMemory);
             return Run::without_wall(outcome, devices.listener);
         };
@@ -203,7 +251,7 @@ where
         ensures serves { ServesKept (F.told shelf.old) (said_in self.entry.said.now) (J.told keeping.entry.journal)
             (record
             (left_of (heard L.told L.faults L.becomes L.hands) C.told T.ticked self.entry.devices result.listener
-            result.wall) { watchers = 1 })
+            result.wall) { watchers = 1 + some_count self.entry.devices.findings })
             result.outcome }
         ensures same { F.told shelf.new ≡ F.told shelf.old }
         ensures cause { OfCounts F.faults F.misses shelf.old shelf.new (HasKeptCause result.outcome) }
@@ -238,7 +286,7 @@ where
             (λ k. ServesKept (F.told shelf.old) (said_in self.entry.said.now) (J.told k.journal)
             (record
             (left_of (heard L.told L.faults L.becomes L.hands) C.told T.ticked self.entry.devices result.listener
-            result.wall) { watchers = 1 })
+            result.wall) { watchers = 1 + some_count self.entry.devices.findings })
             result.outcome
             × OfCounts F.faults F.misses shelf.old shelf.new (HasKeptCause result.outcome)) }
         ensures closed { IfSome result.wall IsClosed }

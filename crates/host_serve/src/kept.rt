@@ -145,8 +145,9 @@ fn end_unread<E: Sink, L>(outcome: ServeOutcome, listener: L, notes: &mut E) -> 
 /// | 3 | the journal couldn't be read, or not be written anew, and nothing was served |
 /// | 4 | the journal failed while its bookings were served, and all connections have ended |
 ///
-/// It is too large from 4,294,967,296 bytes on. All else is as without a journal. In the wall's history the further
-/// member's desk, which is the last, only looks. Words that name a journal are refused where none is given.
+/// It is too large from 4,294,967,296 bytes on. All else is as without a journal. Where the devices have somebody who asks
+/// what is in the books, one member more looks. In the wall's history the desks of these further members, which are the
+/// last, only look. Words that name a journal are refused where none is given.
 pub fn serve_kept<
     'g,
     R: Threads + Wait + Sync,
@@ -162,7 +163,7 @@ pub fn serve_kept<
     alloc: Global,
     words: &[String],
     shelf: &mut F,
-    devices: Devices<L, T, C>,
+    devices: Devices<'g, L, T, C>,
     keeping: Option<Keeping<'g, J, B>>,
     notes: &mut E,
 ) -> ServeEnd<L>
@@ -180,7 +181,7 @@ where
       fails = F.faults shelf.new;
       missed = F.misses shelf.old;
       misses = F.misses shelf.new;
-      left = left_of (heard L.told L.faults L.becomes L.hands) C.told T.ticked devices result.listener result.wall;
+      left = left_of (heard L.told L.faults L.becomes L.hands) C.told T.ticked devices.entry result.listener result.wall;
       notes = record {
         before = E.told notes.old;
         failed = E.faults notes.old;
@@ -194,8 +195,8 @@ where
         (λ _. IsNotSaid (words_texts words.now)) }
     ensures refused_wall { result.status ≡ 2 → result.wall ≡ None }
     ensures nothing_fetched { result.status ≡ 2 → shelf.new ≡ shelf.old }
-    ensures nothing_heard { result.status ≡ 2 → result.listener ≡ devices.listener }
-    ensures never_falls { L.faults devices.listener ≤ L.faults result.listener }
+    ensures nothing_heard { result.status ≡ 2 → result.listener ≡ devices.entry.listener }
+    ensures never_falls { L.faults devices.entry.listener ≤ L.faults result.listener }
     ensures files { F.told shelf.new ≡ F.told shelf.old }
 {
     let said = match said_of(alloc, words) {

@@ -8,7 +8,8 @@
 //! after the other, or of its sweeps. The first desk, which joined them, has done nothing else.
 //!
 //! `serve_kept` does so with a journal: the books open with the bookings that it leaves, and one member more, the
-//! committer of `host_journal`, has what it looked at kept there.
+//! committer of `host_journal`, has what it looked at kept there. Another one that only looks is the `Looker`, which
+//! counts rows and places for the operator's window.
 //!
 //! It is a crate of its own since here alone threads meet the service.
 #![tactic(auto)]
@@ -23,6 +24,7 @@ mod giving;
 mod kept;
 mod letting;
 mod listening;
+mod looker;
 mod mark;
 mod meeting;
 mod member;
@@ -36,6 +38,7 @@ mod until;
 
 pub use devices::{CLOCKS, Devices};
 pub use kept::serve_kept;
+pub use looker::Looker;
 pub use mark::{Mark, Over};
 pub use member::{Common, Post};
 pub use run::run_serve;

@@ -30,7 +30,7 @@ pub fn listen_and_serve<
     rt: &R,
     common: Common<'_>,
     opened: Opened,
-    devices: Devices<L, T, C>,
+    devices: Devices<'_, L, T, C>,
     watchers: Vec<W>,
 ) -> Run<ServeOutcome, L>
 where
@@ -42,11 +42,11 @@ where
     requires clocks { length devices.clocks.items ≡ clock_count }
     requires fresh { (L.told devices.listener).handed ≡ 0 }
     requires ranges { IsInRange common.said }
-    requires few { length watchers.items ≤ 1 }
-    ensures never_falls { L.faults devices.listener ≤ L.faults result.listener }
+    requires few { length watchers.items ≤ 2 }
+    ensures never_falls { L.faults devices.entry.listener ≤ L.faults result.listener }
     ensures ends { ListensTo common.entry.cat.now opened.books.layout common.entry.said
         (record
-        (left_of (heard L.told L.faults L.becomes L.hands) C.told T.ticked devices result.listener result.wall)
+        (left_of (heard L.told L.faults L.becomes L.hands) C.told T.ticked devices.entry result.listener result.wall)
         { watchers = length watchers.items })
         result.outcome }
 {
@@ -54,6 +54,7 @@ where
         mut listener,
         ticker,
         clocks,
+        findings,
     } = devices;
     listener.set_limit(common.said.connections);
     if let Bound::Failed = listener.bind(common.said.port) {
@@ -71,6 +72,7 @@ where
             listener,
             ticker,
             clocks,
+            findings,
         },
         watchers,
         Blank::new(common.said.workers as u64),

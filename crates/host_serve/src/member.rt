@@ -7,6 +7,7 @@ use crate::sweeping::Sweeper;
 use answer_gate::Gate;
 use claim_rule::{Books, Desk};
 use host_journal::{Lookout, Watcher};
+use host_window::Findings;
 use host_words::Serving;
 use rail_catalogue::Catalogue;
 use rail_io::{Clock, Ticker};
@@ -16,7 +17,7 @@ use std::sync::Wait;
 use std::sync::ledger::Share;
 use worker_pool::{TurnEnd, Worker};
 
-/// What all members share: memory, the catalogue, the numbers of the words, and the gate.
+/// What all members share: memory, the catalogue, the numbers of the words, the gate, and what is told of the books.
 #[derive(Clone, Copy)]
 pub struct Common<'s> {
     pub alloc: Global,
@@ -24,13 +25,15 @@ pub struct Common<'s> {
     pub said: Serving,
     /// What commands go through that change bookings, where a journal is kept.
     pub gate: Option<&'s Gate>,
+    /// What is told of the books, where somebody asks.
+    pub findings: Option<&'s Findings>,
 }
 
 /// A member's post: it serves, it sweeps, or it watches.
 #[derive(Drop)]
 pub enum Post<'s, S, T, C, W> {
     Serving(Server<'s, S, C>),
-    Sweeping(Sweeper<T, C>),
+    Sweeping(Sweeper<'s, T, C>),
     Watching(Lookout<W>),
 }
 

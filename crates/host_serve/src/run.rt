@@ -149,6 +149,7 @@ where
         listener,
         ticker,
         clocks,
+        findings: None,
     };
     let none: Option<Keeping<'_, MemoryJournal, NoBell>> = None;
     serve_kept(rt, alloc, words, shelf, devices, none, notes)

@@ -12,17 +12,20 @@ ghost use Rattle.host_serve.specs.Turns.{SweepsTurn};
 use booking_rows::Swept;
 use claim_rule::{Books, Desk};
 use expiry_sweeper::sweep;
+use host_window::Findings;
 use rail_io::{Clock, Reach, Ticker};
 use rail_time::Moment;
 use worker_pool::TurnEnd;
 
 /// Sweeps all rows at each tick, at its clock's moment, until the ticker ends.
 #[derive(Drop)]
-pub struct Sweeper<T, C> {
+pub struct Sweeper<'f, T, C> {
     pub ticker: T,
     /// The seconds from one tick to the next.
     pub seconds: u32,
     pub clock: C,
+    /// Is told what each sweep found, where there is one.
+    pub findings: Option<&'f Findings>,
     /// Whether the ticker has ended.
     pub ended: bool,
 }
@@ -42,7 +45,14 @@ fn sweep_begun<C: Clock>(clock: &C, books: &Books, desk: &mut Desk, now: Moment)
     sweep(books, desk, now)
 }
 
-impl<T: Ticker, C: Clock> Sweeper<T, C> {
+// Tells what a sweep found.
+fn tell(findings: Option<&Findings>, swept: Swept) {
+    if let Some(findings) = findings {
+        findings.note_swept(swept.expired, swept.lost, swept.waiting);
+    }
+}
+
+impl<T: Ticker, C: Clock> Sweeper<'_, T, C> {
     /// Waits for the next tick, for which the ticker is asked once, and sweeps once where it ticks; else it ends.
     pub fn take_turn(&mut self, books: &Books, desk: &mut Desk) -> TurnEnd
         requires own { IsOf books.now desk.old }
@@ -62,7 +72,8 @@ impl<T: Ticker, C: Clock> Sweeper<T, C> {
         }
         let now = self.clock.now();
         self.clock.begin(Reach::Changes);
-        let _swept = sweep_begun(&self.clock, books, desk, now);
+        let swept = sweep_begun(&self.clock, books, desk, now);
+        tell(self.findings, swept);
         let _cut = self.clock.end();
         self.ended = false;
         TurnEnd::Again

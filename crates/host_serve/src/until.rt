@@ -1,7 +1,10 @@
 // A ticker that ends with the streams.
+use crate::looker::end;
+use crate::member::Common;
 use crate::shared_listener::Named;
 use crate::streams::{Door, part};
 use answer_gate::Gate;
+use host_window::Findings;
 use rail_io::Ticker;
 use rail_service::Listener;
 use std::sync::Wait;
@@ -13,20 +16,23 @@ pub struct Until<'d, 's, R, T, L: Listener + Drop, N: Named> {
     pub door: &'d Door<L, N>,
     /// Is told once it has ended, where there is one.
     pub gate: Option<&'s Gate>,
+    /// Is ended then, where there is one.
+    pub findings: Option<&'s Findings>,
     pub rt: &'s R,
 }
 
 impl<'d, 's, R, T, L: Listener + Drop, N: Named> Until<'d, 's, R, T, L, N> {
     ghost use Rattle.std.specs.Prelude.{◌≡◌};
 
-    /// One that ends with this ticker or with these streams, and then tells the gate.
-    pub fn of(ticker: T, door: &'d Door<L, N>, gate: Option<&'s Gate>, rt: &'s R) -> Self
+    /// One that ends with this ticker or with these streams, and then tells the gate, and whoever looks.
+    pub fn of(ticker: T, door: &'d Door<L, N>, common: Common<'s>, rt: &'s R) -> Self
         ensures { result.ticker ≡ ticker }
     {
         Until {
             ticker,
             door,
-            gate,
+            gate: common.gate,
+            findings: common.findings,
             rt,
         }
     }
@@ -41,6 +47,7 @@ impl<R: Wait, T: Ticker, L: Listener + Drop, N: Named> Ticker for Until<'_, '_, 
         let ticks = self.ticker.next_tick(seconds) && self.door.mark.get().is_none();
         if !ticks {
             part(self.gate, self.rt);
+            end(self.findings, self.rt);
         }
         ticks
     }

@@ -206,9 +206,9 @@ fn members_end_at_different_turns(rt: HostRuntime) -> Result<(), Fail> {
     let mut crew = [first, second, third];
     run_workers(&rt, &books, crew.as_mut_slice(), &rounds);
     for (member, turns) in [1, 5, 1000].iter().enumerate() {
-        assert_eq!(rt; crew[member].worker.taken, *turns);
-        assert_eq!(rt; count(&rounds.before, member as u32), *turns);
-        assert_eq!(rt; count(&rounds.after, member as u32), *turns);
+        assert!(rt; crew[member].worker.taken == *turns);
+        assert!(rt; count(&rounds.before, member as u32) == *turns);
+        assert!(rt; count(&rounds.after, member as u32) == *turns);
     }
     assert!(rt; !rounds.wrong.load(Ordering::SeqCst));
     Ok(())
@@ -221,7 +221,7 @@ fn one_member_and_none(rt: HostRuntime) -> Result<(), Fail> {
     let rounds = Rounds::new();
     let mut crew = [member_of(&books, &mut desk, 0, 3, &rounds)];
     run_workers(&rt, &books, crew.as_mut_slice(), &Open);
-    assert_eq!(rt; crew[0].worker.taken, 3);
+    assert!(rt; crew[0].worker.taken == 3);
     let mut nobody: [Member<Counted<'_>>; 0] = [];
     run_workers(&rt, &books, nobody.as_mut_slice(), &Open);
     Ok(())

@@ -210,9 +210,9 @@ fn outcome(alloc: Global, run: &Run) -> Result<(u8, VecSink, VecSink), AllocErro
 
 fn check<R: AllocGlobal + Abort>(rt: &R, number: usize, run: &Run) -> Result<(), AllocError> {
     let (status, output, notes) = outcome(rt.alloc(), run)?;
-    assert_eq!(rt; status, run.status, "run {number}");
-    assert_eq!(rt; output.taken(), run.output.as_bytes(), "run {number}");
-    assert_eq!(rt; notes.taken(), run.note.as_bytes(), "run {number}");
+    assert!(rt; status == run.status, "run {number}");
+    assert!(rt; output.taken() == run.output.as_bytes(), "run {number}");
+    assert!(rt; notes.taken() == run.note.as_bytes(), "run {number}");
     Ok(())
 }
 

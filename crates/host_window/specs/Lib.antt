@@ -5,3 +5,4 @@ pub mod Showing
 pub mod Texts
 pub mod Routes
 pub mod Metrics
+pub mod Finds

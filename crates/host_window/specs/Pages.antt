@@ -3,8 +3,9 @@ use Rattle.std.specs.Prelude.{◌≡◌, ◌⊎◌, ℕ, Bool, true, List, ◌++
 use Rattle.http_wire.specs.Answers.{close_of}
 use Rattle.http_wire.specs.Requests.{RequestText}
 use Rattle.http_wire.specs.declared.request.WireFault.{WireFault}
-use Rattle.host_window.specs.Metrics.{metrics_text}
+use Rattle.host_window.specs.Finds.{window_text}
 use Rattle.host_window.specs.declared.counts.Counts.{Counts}
+use Rattle.host_window.specs.declared.found.Finds.{Finds}
 use Rattle.host_window.specs.declared.counters.Health.{Health}
 use Rattle.host_window.specs.declared.counters.Health.TheVariants as health
 use Rattle.host_window.specs.declared.pages.Page.{Page}
@@ -64,11 +65,11 @@ IsAsked method path page.NotGet =
     ((path ≡ codes "/healthz") ⊎ (path ≡ codes "/metrics")) × (method ≡ codes "GET" → ⊥)
 IsAsked method path page.Unknown = (path ≡ codes "/healthz" → ⊥) × (path ≡ codes "/metrics" → ⊥)
 
--- what is answered: how some host does, or what is counted of it, or that there was no memory for that
+-- what is answered: how some host does, or what is counted of it and found in its books, or that there was no memory for that
 abbrev pub Shows : Page → Bool → List ℕ → Type 0
 Shows page.Healthz last text = (how : Health) × (text ≡ reply_text (line_of (word_of how)) (text_of (word_of how)) last)
 Shows page.Metrics last text =
-    ((counts : Counts) × (text ≡ page_text (metrics_text counts) last))
+    ((counts : Counts) × (finds : Finds) × (text ≡ page_text (window_text counts finds) last))
     ⊎ (text ≡ reply_text (line_of NoMemory) (text_of NoMemory) last)
 Shows page.NotGet last text = text ≡ reply_text (line_of NotGet) (text_of NotGet) last
 Shows page.Unknown last text = text ≡ reply_text (line_of Unknown) (text_of Unknown) last

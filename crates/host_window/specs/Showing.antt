@@ -10,11 +10,11 @@ use Rattle.host_window.specs.Pages.{Answers, Declines}
 use Rattle.host_window.specs.declared.pages.Pages.{Pages}
 
 -- The pages answer a request so, and stay as they are.
-abbrev pub Responds : Pages → RequestText → List ℕ → Pages → Type 0
-Responds before request text after = (after ≡ before) × Answers request text
+abbrev pub Responds : {R : Type 0} → Pages R → RequestText → List ℕ → Pages R → Type 0
+Responds {R} before request text after = (after ≡ before) × Answers request text
 
-abbrev pub Refuses : Pages → WireFault → List ℕ → Type 0
-Refuses pages fault text = Declines fault text
+abbrev pub Refuses : {R : Type 0} → Pages R → WireFault → List ℕ → Type 0
+Refuses {R} pages fault text = Declines fault text
 
 -- what a source and a sink told, before and after
 pub record Talk : Type 0 where
@@ -25,8 +25,8 @@ pub record Talk : Type 0 where
 
 -- Of the bytes taken, each request is answered once, in order, by its page, and last what stands in a request's place.
 -- Or there was no memory, and nothing was taken and written.
-abbrev pub IsShown : Pages → Pages → Talk → ConnEnd → Type 0
-IsShown old new t NoMemory = (t.left ≡ t.came) × (t.after ≡ t.before)
-IsShown old new t end =
+abbrev pub IsShown : {R : Type 0} → Pages R → Pages R → Talk → ConnEnd → Type 0
+IsShown {R} old new t NoMemory = (t.left ≡ t.came) × (t.after ≡ t.before)
+IsShown {R} old new t end =
     (taken : List ℕ) × (written : List ℕ) × (t.came ≡ with_front taken t.left) × (t.after ≡ with_end t.before written)
     × IsEnd Responds Refuses old new taken t.left written end

@@ -5,11 +5,13 @@ ghost use Rattle.session_loop.specs.declared.end.ConnEnd.TheVariants.{ReadFault,
 ghost use Rattle.host_window.specs.Showing.{IsShown};
 
 use crate::counters::Counters;
+use crate::findings::Findings;
 use crate::pages::Pages;
 use http_wire::Intake;
 use rail_io::{Sink, Source};
 use session_loop::{ConnEnd, run_session};
 use std::alloc::Global;
+use std::sync::Wait;
 
 /// Hands out the streams of those who look.
 pub trait Callers {
@@ -25,10 +27,10 @@ pub trait Callers {
 
 /// Answers the requests of one connection, each once and in order, by the pages. Where there is no memory to begin
 /// with, nothing is read or written.
-pub fn show_pages<S: Source, K: Sink>(
+pub fn show_pages<R: Wait, S: Source, K: Sink>(
     source: &mut S,
     sink: &mut K,
-    pages: &mut Pages<'_>,
+    pages: &mut Pages<'_, R>,
 ) -> ConnEnd
     ensures shown { IsShown pages.old pages.new
         (record {
@@ -48,7 +50,13 @@ pub fn show_pages<S: Source, K: Sink>(
 }
 
 /// Shows the pages to all who look, one after the other, until there will be none any more or the host is over.
-pub fn show_all<W: Callers>(alloc: Global, callers: &mut W, counters: &Counters) {
+pub fn show_all<R: Wait, W: Callers>(
+    rt: &R,
+    alloc: Global,
+    callers: &mut W,
+    counters: &Counters,
+    findings: &Findings,
+) {
     for _ in 0..u64::MAX {
         let Some((mut input, mut output)) = callers.next_caller() else {
             return;
@@ -56,7 +64,12 @@ pub fn show_all<W: Callers>(alloc: Global, callers: &mut W, counters: &Counters)
         if counters.is_over() {
             return;
         }
-        let mut pages = Pages { alloc, counters };
+        let mut pages = Pages {
+            rt,
+            alloc,
+            counters,
+            findings,
+        };
         let _end = show_pages(&mut input, &mut output, &mut pages);
     }
 }

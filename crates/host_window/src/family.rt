@@ -43,8 +43,13 @@ impl Kind {
     }
 }
 
-// One line with a number.
-fn push_number(text: &mut Vec<u8>, name: &[u8], labels: &[u8], value: u64) -> Result<(), AllocError>
+/// Adds one line with a number.
+pub(crate) fn push_number(
+    text: &mut Vec<u8>,
+    name: &[u8],
+    labels: &[u8],
+    value: u64,
+) -> Result<(), AllocError>
     ensures { OnOk result (text.new.items ≡ text.old.items ++ number_text name.now labels.now value) }
 {
     text.extend_from_slice(name)?;

@@ -6,9 +6,12 @@
 //! and which are added up where they are asked for.
 //!
 //! `show_all` serves those who look, one after the other, by `Pages`: each request is answered once, in order, by its
-//! method and its path (`show_pages`). `metrics_page` writes the counts for Prometheus, in its text format of version
+//! method and its path (`show_pages`). `window_page` writes the counts for Prometheus, in its text format of version
 //! 0.0.4. Its contract says every byte: `specs/Texts` has the form of a family of numbers, `specs/Metrics` the
 //! families, and `specs/Routes` those of routes.
+//!
+//! What is in the books a member of the host looks up, where the window asks for it by `Findings`, by which sweeps also
+//! tell what they found. `specs/Finds` has their families.
 //!
 //! The crate knows no booking and no host: it takes nothing but numbers.
 #![tactic(auto)]
@@ -19,6 +22,9 @@ mod counters;
 mod counts;
 mod crossing;
 mod family;
+mod findings;
+mod finds_texts;
+mod found;
 mod heads;
 mod journal;
 mod labels;
@@ -38,6 +44,8 @@ pub use callers::{Callers, show_all, show_pages};
 pub use clock::CountingClock;
 pub use counters::{Counters, Health, StreamCounts};
 pub use crossing::crosses;
+pub use findings::Findings;
+pub use found::{Finds, Found};
 pub use journal::CountingJournal;
 pub use pages::Pages;
 pub use routes::RouteCounts;

@@ -5,12 +5,14 @@ ghost use Rattle.host_window.specs.Pages.{IsAsked, Shows};
 ghost use Rattle.host_window.specs.declared.pages.Page.TheVariants.{Metrics};
 
 use crate::counters::Counters;
-use crate::metrics::metrics_page;
+use crate::findings::Findings;
+use crate::finds_texts::window_page;
 use crate::reply::{answer_of, page_answer};
 use crate::words::Word;
 use http_wire::{Answer, Intake, Request, WireFault};
 use session_loop::Responder;
 use std::alloc::Global;
+use std::sync::Wait;
 
 /// What a request asks for.
 #[derive(Clone, Copy, PartialEq, Eq)]
@@ -27,9 +29,11 @@ pub(crate) enum Page {
 
 /// The pages about a host.
 #[derive(Drop)]
-pub struct Pages<'c> {
+pub struct Pages<'c, R> {
+    pub rt: &'c R,
     pub alloc: Global,
     pub counters: &'c Counters,
+    pub findings: &'c Findings,
 }
 
 // The page of a path, as if by GET.
@@ -50,13 +54,14 @@ fn page_of(method: &[u8], path: &[u8]) -> Page
     }
 }
 
-impl Pages<'_> {
+impl<R: Wait> Pages<'_, R> {
     // The page with what is counted.
     fn metrics(&self, last: bool) -> Answer
         ensures { Shows Metrics last (answer_bytes result) }
     {
+        let finds = self.findings.read(self.rt);
         match self.counters.read(self.alloc) {
-            Ok(counts) => match metrics_page(self.alloc, &counts) {
+            Ok(counts) => match window_page(self.alloc, &counts, &finds) {
                 Ok(page) => page_answer(page, last),
                 Err(_) => answer_of(Word::NoMemory, last),
             },
@@ -77,7 +82,7 @@ impl Pages<'_> {
     }
 }
 
-impl Responder for Pages<'_> {
+impl<R: Wait> Responder for Pages<'_, R> {
     ghost use Rattle.std.specs.Prelude.{⊤};
     ghost use Rattle.host_window.specs.Showing.{Refuses, Responds};
 

@@ -6,10 +6,10 @@
 //! the journal is written. The gate's calls are those of `State` (answer_gate), by the definitions of its clauses: under
 //! a lock they come one after another, however many threads make them.
 //!
-//! Two things are premises here. A desk makes an entry that isn't a look only while somebody is inside of the gate: so
+//! Three things are premises here. A desk makes an entry that isn't a look only while somebody is inside of the gate: so
 //! say `begun` of `say_begun` (rail_service) and of `sweep_begun` (host_serve), with an `Inside` that the clock holds.
-//! And those who wait for a cut hear that it is kept once the journal has it: so says the receipt that `keep` of `Cuts`
-//! takes.
+//! Whoever leaves was inside: the call takes that `Inside`. And those who wait for a cut hear that it is kept once the
+//! journal has it: `keep` of `Cuts` takes a receipt, which only a log makes.
 //!
 //! The crate has definitions and laws alone: it does nothing when it runs.
 //!

@@ -16,8 +16,6 @@ pub mod laws;
 mod lines;
 mod reader;
 mod sum;
-#[cfg(test)]
-mod tests;
 mod writer;
 
 pub use fault::JournalFault;

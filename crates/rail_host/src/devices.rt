@@ -1,6 +1,6 @@
 // What commands touch.
 use host_journal::Keeping;
-use host_window::Counters;
+use host_window::{Counters, Findings};
 
 /// The devices of a command.
 #[derive(Drop)]
@@ -26,4 +26,6 @@ pub struct ForServe<'g, L, T, J, B> {
     pub keeping: Keeping<'g, J, B>,
     /// What counts its requests, where there is a window.
     pub counters: Option<&'g Counters>,
+    /// What is told of its books, where there is a window.
+    pub findings: Option<&'g Findings>,
 }

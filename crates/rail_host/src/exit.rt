@@ -8,7 +8,7 @@ ghost use Rattle.host_catalogue.specs.Ends.{note_of, status_of};
 ghost use Rattle.host_catalogue.specs.Noted.{TakesNote};
 ghost use Rattle.host_catalogue.specs.declared.ending.CommandEnd.TheVariants.{NoMemory};
 ghost use Rattle.host_serve.specs.Turns.{Asks};
-ghost use Rattle.host_serve.specs.Serve.{left_by};
+ghost use Rattle.host_serve.specs.Serve.{left_by, some_count};
 ghost use Rattle.rail_host.specs.Commands.{Ran};
 
 use crate::devices::{Devices, ForServe};
@@ -50,8 +50,10 @@ where
     // The command of the words ran so on these devices, and the program's status is that of its end. What is left of
     // the listener and the wall goes with the program.
     ensures ran { IfOk words (λ said. (last : L) × (wall : Option WallView) × Ran (words_texts said.items)
+        (record
         (left_by L.told L.faults L.becomes L.hands (replicate clock_count None) (Asks T.ticked given.entry.ticker)
         given.entry.listener last wall)
+        { watchers = some_count given.entry.findings })
         (J.told given.entry.keeping.journal)
         (exit_status result)
         (record {

@@ -29,7 +29,7 @@ use std::io::ErrorKind;
 use std::process::ExitCode;
 use std::rt::Env;
 use std::{env, thread};
-use window::{counters_of, window_port};
+use window::{counters_of, findings_of, window_port};
 
 /// The words after the first, which is the program's name. None of them is left out.
 fn words_after_name(alloc: Global, mut given: env::Args) -> Result<Vec<String>, AllocError>
@@ -65,7 +65,10 @@ fn main(rt: HostRuntime) -> ExitCode {
             let Some(mut port) = window_port(&rt, alloc, window) else {
                 return ExitCode::from(end_command(&mut notes, &CommandEnd::ReadFault));
             };
-            let shown = scope.spawn(move || show_all(alloc, &mut port, &window.counters));
+            let waits = &rt;
+            let shown = scope.spawn(move || {
+                show_all(waits, alloc, &mut port, &window.counters, &window.findings)
+            });
             if shown.is_err() {
                 return ExitCode::from(end_command(&mut notes, &CommandEnd::NoMemory));
             }
@@ -94,6 +97,7 @@ fn main(rt: HostRuntime) -> ExitCode {
                 bell: TcpBell::new(&rt).at(address),
             },
             counters,
+            findings: findings_of(&window),
         };
         let exit = run_host(&rt, alloc, words, &mut devices, given);
         if let Some(window) = &window {

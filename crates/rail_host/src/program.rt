@@ -2,7 +2,7 @@
 ghost use Rattle.std.specs.Prelude.{◌≡◌, ◌⊎◌, None, replicate};
 ghost use Rattle.host_words.specs.Limits.{clock_count};
 ghost use Rattle.host_words.specs.Options.{words_texts};
-ghost use Rattle.host_serve.specs.Serve.{IsForServe, left_by};
+ghost use Rattle.host_serve.specs.Serve.{IsForServe, left_by, some_count};
 ghost use Rattle.host_serve.specs.Turns.{Asks};
 ghost use Rattle.rail_host.specs.Commands.{IsNoCommand, Ran};
 ghost use Rattle.plain_commands.specs.Plain.{RanPlainly};
@@ -85,8 +85,10 @@ where
     // The command of the words ran so on these devices. One record for each says its status and note, what it read and
     // wrote, which device failed, and what it left as it was.
     ensures ran { Ran (words_texts words.now)
+        (record
         (left_by L.told L.faults L.becomes L.hands (replicate clock_count None) (Asks T.ticked given.entry.ticker)
         given.entry.listener result.listener result.wall)
+        { watchers = some_count given.entry.findings })
         (J.told given.entry.keeping.journal)
         result.status
         (record {

@@ -2,7 +2,7 @@
 ghost use Rattle.std.specs.Prelude.{◌≡◌, None, IfOk, length, replicate};
 ghost use Rattle.host_words.specs.Limits.{clock_count};
 ghost use Rattle.host_words.specs.Options.{words_texts};
-ghost use Rattle.host_serve.specs.Serve.{left_by};
+ghost use Rattle.host_serve.specs.Serve.{left_by, some_count};
 ghost use Rattle.host_serve.specs.Turns.{Asks};
 ghost use Rattle.host_serve.specs.Kept.{IsNotSaid};
 ghost use Rattle.rail_host.specs.Commands.{EndsServing};
@@ -72,8 +72,10 @@ where
     // The command ran so over this listener, by this ticker and clocks that tell nothing, and with this journal where
     // its words name one. Where they are refused, the listener isn't called.
     ensures ended { EndsServing (words_texts words.now)
+        (record
         (left_by L.told L.faults L.becomes L.hands (replicate clock_count None) (Asks T.ticked given.entry.ticker)
         given.entry.listener result.listener result.wall)
+        { watchers = some_count given.entry.findings })
         (J.told given.entry.keeping.journal)
         result.status
         (record {
@@ -102,6 +104,7 @@ where
         listener: given.listener,
         ticker: given.ticker,
         clocks,
+        findings: given.findings,
     };
     serve_kept(
         rt,

@@ -1,6 +1,6 @@
 // The operator's window, where the words ask for it.
 use host_io::TcpPort;
-use host_window::Counters;
+use host_window::{Counters, Findings};
 use host_words::{CommandName, is_for, read_window};
 use rail_io::Keeper;
 use rail_service::{Bound, Listener};
@@ -13,6 +13,7 @@ use std::time;
 pub struct Window {
     pub port: u16,
     pub counters: Counters,
+    pub findings: Findings,
 }
 
 /// The window that the words ask for. None where they ask for none, or are refused.
@@ -26,6 +27,7 @@ pub fn asked_window(alloc: Global, words: &[String]) -> Result<Option<Window>, A
     Ok(Some(Window {
         port: said.port,
         counters: Counters::new(alloc, said.workers)?,
+        findings: Findings::new(),
     }))
 }
 
@@ -33,6 +35,14 @@ pub fn asked_window(alloc: Global, words: &[String]) -> Result<Option<Window>, A
 pub fn counters_of(window: &Option<Window>) -> Option<&Counters> {
     match window {
         Some(window) => Some(&window.counters),
+        None => None,
+    }
+}
+
+/// What is told of the books, where there is a window.
+pub fn findings_of(window: &Option<Window>) -> Option<&Findings> {
+    match window {
+        Some(window) => Some(&window.findings),
         None => None,
     }
 }

@@ -1,5 +1,7 @@
 pub mod Looking
 pub mod Writing
+pub mod Counting
+pub mod Selling
 pub mod Folding
 pub mod Printing
 pub mod ReadBack

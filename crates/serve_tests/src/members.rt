@@ -8,7 +8,7 @@ ghost use Rattle.host_serve.specs.Turns.{FitsBooks, HasCatalogue};
 use crate::connections::RESERVES;
 use claim_rule::{Books, Desk};
 use history_model::phase::{EndKind, Phase, phase_word};
-use host_journal::NoWatcher;
+use host_journal::Watcher;
 use host_serve::{Post, Streams, Sweeper};
 use rail_catalogue::Catalogue;
 use rail_io::{BytesSource, CountTicker, ScriptClock, VecSink};
@@ -163,6 +163,18 @@ impl Streams for NoStreams {
     }
 }
 
+/// Nobody watches.
+#[derive(Drop)]
+struct NoWatcher;
+
+impl Watcher for NoWatcher {
+    fn watch(&mut self, books: &Books, desk: &mut Desk) -> TurnEnd {
+        let _ = books;
+        let _ = desk;
+        TurnEnd::End
+    }
+}
+
 type Sweeping<'s> = Post<'s, NoStreams, CountTicker, ScriptClock, NoWatcher>;
 
 // A sweeping member of two ticks, whose clock goes on by a second a reading.
@@ -181,6 +193,7 @@ fn sweeper_of<'s>(books: &Books, first: &mut Desk) -> Member<Sweeping<'s>>
             next: after_six(901),
             tick: 1,
         },
+        findings: None,
         ended: false,
     };
     Member {

@@ -92,12 +92,11 @@ fn another_desk_starts_the_row_again(rt: HostRuntime) -> Result<(), Fail> {
     let limit = moment(&rt, 900);
     let row = book(&rt, &books, &mut first, PlaceNo(0), span(&rt, 0, 1), limit);
     let other = book(&rt, &books, &mut first, PlaceNo(0), span(&rt, 1, 2), limit);
-    assert_eq!(rt; (row.row, other.row), (0, 1));
+    assert!(rt; (row.row, other.row) == (0, 1));
     let (shown, next) = confirm_late(&rt, &books, &mut first, &mut second, row);
-    assert_eq!(rt; shown, Some(Phase::Free));
-    assert_eq!(rt;
-        next,
-        RowNo {
+    assert!(rt; shown == Some(Phase::Free));
+    assert!(rt;
+        next == RowNo {
             row: 0,
             generation: 1,
         }
@@ -106,10 +105,10 @@ fn another_desk_starts_the_row_again(rt: HostRuntime) -> Result<(), Fail> {
     let Some(view) = look_row(&books, &mut first, next) else {
         panic!(rt; "the next booking is sealed");
     };
-    assert_eq!(rt; view.phase, Phase::Prebooked);
+    assert!(rt; view.phase == Phase::Prebooked);
     books.meet(&mut first, second);
     let wall = books.finish(first);
-    assert_eq!(rt; wall.row_word(0, 0), Some(18));
-    assert_eq!(rt; wall.row_word(1, 0), Some(2));
+    assert!(rt; wall.row_word(0, 0) == Some(18));
+    assert!(rt; wall.row_word(1, 0) == Some(2));
     Ok(())
 }

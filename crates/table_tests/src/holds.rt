@@ -15,24 +15,21 @@ fn takes_all_or_none(rt: HostRuntime) -> Result<(), Fail> {
     let mut taken = start_hold(&books, &mut other).expect(&rt, "a row");
     let leg = Span::new(0, 1).expect(&rt, "a span");
     let one = [PlaceNo(1)];
-    assert_eq!(rt;
-        add_places(&books, &mut other, &mut taken, one.as_slice(), leg, 1),
-        Added::All
-    );
+    assert!(rt; add_places(&books, &mut other, &mut taken, one.as_slice(), leg, 1) == Added::All);
     let mut hold = start_hold(&books, &mut desk).expect(&rt, "a row");
     let row = hold.row();
     let legs = Span::new(0, 2).expect(&rt, "a span");
     let all = [PlaceNo(0), PlaceNo(1), PlaceNo(2)];
-    assert_eq!(rt;
-        add_places(&books, &mut desk, &mut hold, all.as_slice(), legs, 3),
-        Added::NoPlace { won: 2 }
+    assert!(rt;
+        add_places(&books, &mut desk, &mut hold, all.as_slice(), legs, 3)
+            == Added::NoPlace { won: 2 }
     );
     abandon(&books, &mut desk, hold);
-    assert_eq!(rt; glance(&books, &mut desk, PlaceNo(0), 0), 0);
-    assert_eq!(rt; glance(&books, &mut desk, PlaceNo(1), 0), 1);
-    assert_eq!(rt; glance(&books, &mut desk, PlaceNo(2), 0), 0);
+    assert!(rt; glance(&books, &mut desk, PlaceNo(0), 0) == 0);
+    assert!(rt; glance(&books, &mut desk, PlaceNo(1), 0) == 1);
+    assert!(rt; glance(&books, &mut desk, PlaceNo(2), 0) == 0);
     let again = start_hold(&books, &mut desk).expect(&rt, "the row");
-    assert_eq!(rt; again.row(), row);
+    assert!(rt; again.row() == row);
     abandon(&books, &mut desk, again);
     abandon(&books, &mut other, taken);
     Ok(())
@@ -48,28 +45,22 @@ fn takes_both_halves(rt: HostRuntime) -> Result<(), Fail> {
     let mut taken = start_hold(&books, &mut other).expect(&rt, "a row");
     let leg = Span::new(63, 64).expect(&rt, "a span");
     let one = [PlaceNo(0)];
-    assert_eq!(rt;
-        add_places(&books, &mut other, &mut taken, one.as_slice(), leg, 1),
-        Added::All
-    );
+    assert!(rt; add_places(&books, &mut other, &mut taken, one.as_slice(), leg, 1) == Added::All);
     let mut hold = start_hold(&books, &mut desk).expect(&rt, "a row");
     let legs = Span::new(62, 64).expect(&rt, "a span");
     let both = [PlaceNo(0), PlaceNo(1)];
-    assert_eq!(rt;
-        add_places(&books, &mut desk, &mut hold, both.as_slice(), legs, 1),
-        Added::All
-    );
+    assert!(rt; add_places(&books, &mut desk, &mut hold, both.as_slice(), legs, 1) == Added::All);
     let items = hold.items();
     assert!(rt; items.len() == 2);
     let ends = [(1, 62, 63), (1, 63, 64)];
     for (item, end) in items.iter().zip(ends) {
         let span = item.span();
-        assert_eq!(rt; (item.place(), span.from(), span.to()), end);
+        assert!(rt; (item.place(), span.from(), span.to()) == end);
     }
-    assert_eq!(rt; glance(&books, &mut desk, PlaceNo(0), 0), 0);
-    assert_eq!(rt; glance(&books, &mut desk, PlaceNo(0), 1), 1);
-    assert_eq!(rt; glance(&books, &mut desk, PlaceNo(1), 0), 1 << 62);
-    assert_eq!(rt; glance(&books, &mut desk, PlaceNo(1), 1), 1);
+    assert!(rt; glance(&books, &mut desk, PlaceNo(0), 0) == 0);
+    assert!(rt; glance(&books, &mut desk, PlaceNo(0), 1) == 1);
+    assert!(rt; glance(&books, &mut desk, PlaceNo(1), 0) == 1 << 62);
+    assert!(rt; glance(&books, &mut desk, PlaceNo(1), 1) == 1);
     abandon(&books, &mut desk, hold);
     abandon(&books, &mut other, taken);
     Ok(())

@@ -1,6 +1,6 @@
 //! Tests of the table of words and of bookings by public calls: the booking machine, a desk's calls, exports of desks
-//! that were given up, and a booking's life. They stand in a crate of their own, so that the crates that they test are
-//! proved once, without tests.
+//! that were given up, a booking's life, and the texts of journals. They stand in a crate of their own, so that the
+//! crates that they test are proved once, without tests.
 //!
 //! - `entries`: the machine's steps on a plain list of bookings (`ListHost`). Each kind of step once allowed and, but
 //!   for a meeting, once refused, in five tables of entries, and the words of places after each. The words of phases,
@@ -15,6 +15,7 @@
 //!   expired, refunded by its quotes. And what takes two desks: a thousand bookings that are confirmed and swept at the
 //!   same time, a search for a row, and an exchange that is lost. What a connection is answered is shown in
 //!   `service_tests` and by cases.
+//! - `journals`, `row_lines`: worked journals and their folds, and the lines of small books.
 #![tactic(auto)]
 
 #[cfg(test)]
@@ -24,11 +25,15 @@ mod given_away;
 #[cfg(test)]
 mod holds;
 #[cfg(test)]
+mod journals;
+#[cfg(test)]
 mod left;
 #[cfg(test)]
 mod lines;
 #[cfg(test)]
 mod lives;
+#[cfg(test)]
+mod row_lines;
 #[cfg(test)]
 mod rows;
 #[cfg(test)]

@@ -1,5 +1,5 @@
 // Worked journals. Their sums were computed from the rules by another program.
-use crate::{JournalFault, Sum, fold, push_cut, push_head};
+use journal_text::{JournalFault, Sum, fold, push_cut, push_head};
 use std::alloc::{AllocError, Global};
 use std::process::Abort;
 use std::test::Fail;

@@ -4,11 +4,11 @@ ghost use Rattle.history_model.specs.Booking.{most_rows};
 ghost use Rattle.claim_rule.specs.Desks.{IsOf};
 ghost use Rattle.claim_rule.specs.Out.{IsIdle};
 
-use crate::{print_of, push_all_lines, push_marked_lines};
 use booking_rows::{keep_row, start_hold};
 use claim_rule::{Books, Desk, start_books};
 use cold_store::{ImportFault, import_books};
 use rail_catalogue::read_catalogue;
+use row_cuts::{print_of, push_all_lines, push_marked_lines};
 use std::alloc::{AllocError, Global};
 use std::process::Abort;
 use std::test::Fail;
@@ -93,9 +93,9 @@ fn all_rows_have_their_lines(rt: HostRuntime) -> Result<(), Fail> {
         panic!(rt; "refused");
     };
     let mut lines = Vec::new(rt.alloc());
-    assert_eq!(rt; push_marked_lines(&mut lines, &books, &mut desk)?, 0);
-    assert_eq!(rt; push_all_lines(&mut lines, &books, &mut desk)?, 8);
-    assert_eq!(rt; lines.as_slice(), LINES);
+    assert!(rt; push_marked_lines(&mut lines, &books, &mut desk)? == 0);
+    assert!(rt; push_all_lines(&mut lines, &books, &mut desk)? == 8);
+    assert!(rt; lines.as_slice() == LINES);
     Ok(())
 }
 
@@ -108,12 +108,9 @@ fn a_row_in_the_making_has_a_stub(rt: HostRuntime) -> Result<(), Fail> {
     };
     start_row(&rt, &books, &mut desk);
     let mut lines = Vec::new(rt.alloc());
-    assert_eq!(rt; push_marked_lines(&mut lines, &books, &mut desk)?, 1);
-    assert_eq!(rt;
-        lines.as_slice(),
-        b"row 0 5 r 0 0 0 1 0.0.1 p0 0 -\n".as_slice()
-    );
-    assert_eq!(rt; push_marked_lines(&mut lines, &books, &mut desk)?, 0);
+    assert!(rt; push_marked_lines(&mut lines, &books, &mut desk)? == 1);
+    assert!(rt; lines.as_slice() == b"row 0 5 r 0 0 0 1 0.0.1 p0 0 -\n".as_slice());
+    assert!(rt; push_marked_lines(&mut lines, &books, &mut desk)? == 0);
     Ok(())
 }
 
@@ -123,9 +120,9 @@ fn new_rows_have_no_lines(rt: HostRuntime) -> Result<(), Fail> {
     let (books, mut desk) = start_books(rt.alloc(), LEGS.as_slice(), 70)?;
     start_row(&rt, &books, &mut desk);
     let mut lines = Vec::new(rt.alloc());
-    assert_eq!(rt; push_marked_lines(&mut lines, &books, &mut desk)?, 0);
-    assert_eq!(rt; push_all_lines(&mut lines, &books, &mut desk)?, 0);
-    assert_eq!(rt; lines.len(), 0);
+    assert!(rt; push_marked_lines(&mut lines, &books, &mut desk)? == 0);
+    assert!(rt; push_all_lines(&mut lines, &books, &mut desk)? == 0);
+    assert!(rt; lines.len() == 0);
     Ok(())
 }
 
@@ -135,6 +132,6 @@ fn the_print_is_that_of_its_text(rt: HostRuntime) -> Result<(), Fail> {
     let Ok(catalogue) = read_catalogue(rt.alloc(), CATALOGUE.as_bytes()) else {
         panic!(rt; "no catalogue");
     };
-    assert_eq!(rt; print_of(rt.alloc(), &catalogue)?.digits.as_slice(), PRINT);
+    assert!(rt; print_of(rt.alloc(), &catalogue)?.digits.as_slice() == PRINT);
     Ok(())
 }

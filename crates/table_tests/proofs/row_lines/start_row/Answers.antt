@@ -1,4 +1,4 @@
-use Rattle.row_cuts.proofs.tests.start_row.Goals as goal
+use Rattle.table_tests.proofs.row_lines.start_row.Goals as goal
 
 pub returns-clause-own : goal.returns-clause-own
 returns-clause-own g c = c.keep_row.ensures.own c.args.books.now c.start_hold.ensures.own
