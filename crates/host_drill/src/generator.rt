@@ -1,6 +1,7 @@
 // The catalogue and the requests of a drill.
 ghost use Rattle.std.specs.Prelude.{◌≡◌, ◌≤◌, ◌<◌, ◌+◌, ◌++◌, IfOk};
-ghost use Rattle.host_drill.specs.Generator.{catalogue_text, drill_leg, drill_legs, request_bytes, requests_from, requests_of};
+ghost use Rattle.host_drill.specs.Generator.{catalogue_text, drill_leg, drill_legs, request_bytes, requests_from};
+ghost use Rattle.host_drill.specs.Generator.{requests_of};
 
 use std::alloc::{AllocError, Global};
 

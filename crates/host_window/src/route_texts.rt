@@ -1,6 +1,7 @@
 //! Requests and times to answer, by route, as Prometheus reads them.
 ghost use Rattle.std.specs.Prelude.{◌≡◌, ◌++◌, OnOk};
-ghost use Rattle.host_window.specs.Routes.{bucket_text, buckets_text, family_text, label_text, routes_text, spent_text, times_text, value_text};
+ghost use Rattle.host_window.specs.Routes.{bucket_text, buckets_text, family_text, label_text, routes_text, spent_text};
+ghost use Rattle.host_window.specs.Routes.{times_text, value_text};
 
 use crate::counts::Counts;
 use crate::family::{Head, Kind, push_head, push_table};
