@@ -30,6 +30,7 @@ mod journal;
 mod labels;
 mod metrics;
 mod pages;
+mod readings;
 mod reply;
 mod route_texts;
 mod routes;
