@@ -6,6 +6,8 @@ use Rattle.std.specs.declared.net.ip_addr.IpAddr.{IpAddr}
 use Rattle.host_io.specs.declared.refusals.AfterRefusal.{AfterRefusal}
 use Rattle.host_io.specs.declared.refusals.AfterRefusal.TheVariants.{Fail, Again, Pause}
 use Rattle.host_io.specs.Refusals.{after_refusal, code_by}
+use Rattle.rail_service.specs.declared.listener.Accepted.{Accepted}
+use Rattle.rail_service.specs.declared.listener.Accepted.TheVariants.{Stream, Failed, Closed}
 
 -- one call, and what it came to
 pub data DoorCall : Type 0 where
@@ -61,3 +63,9 @@ AsksLast before after false = (after ≡ before) ⊎ ((after ≡ with_call befor
 -- asked until a stream came, or until there will be none
 abbrev pub AsksFor : Option (List DoorCall) → Option (List DoorCall) → Bool → Type 0
 AsksFor before after came = (n : ℕ) × (mid : Option (List DoorCall)) × AsksOn n before mid × AsksLast mid after came
+
+-- How a listener asked it that answered so: until a stream came, which is handed out; in vain; or not at all.
+abbrev pub AsksAs : {I O : Type 0} → Option (List DoorCall) → Option (List DoorCall) → Accepted I O → Type 0
+AsksAs before after (Stream waiting) = AsksFor before after true
+AsksAs before after Failed = AsksFor before after false
+AsksAs before after Closed = after ≡ before

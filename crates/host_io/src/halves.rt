@@ -9,9 +9,9 @@ use std::marker::PhantomData;
 
 /// The reading half of a connection. What was answered is sent before it waits for more.
 ///
-/// A read fails that waits for more than 5 seconds where nothing has come since the last answer. Inside a request it
-/// waits for 30 at most, and not past the 60th second after the request's first byte. A read fails too before which the
-/// answers can't be sent.
+/// A read is set to fail that waits for more than 5 seconds where nothing has come since the last answer. Inside a
+/// request it may wait for 30, and not past the 60th second after the request's first byte. A read fails too before
+/// which the answers can't be sent.
 ///
 /// Where the other side hasn't ended the connection when it is let go, it is told that no more answers come. What it
 /// still sends is read away for a moment, so that it gets to read the last answer.

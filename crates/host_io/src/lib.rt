@@ -10,6 +10,7 @@ mod address;
 mod bell;
 mod callers;
 mod door;
+mod file_answers;
 mod halves;
 mod journal;
 mod journal_files;

@@ -14,8 +14,8 @@ use std::io::{ErrorKind, Read};
 use std::marker::PhantomData;
 
 /// The writing half of a connection. Answers are held back until the reading half is asked for more or is let go, or
-/// until they are many: so one call of the system sends the answers to all requests that one read gave. None of them
-/// leaves before the cut is kept that the sink was held for.
+/// until they are many: so one call of the system sends the answers to all requests that one read gave. The connection
+/// takes each with the cut that the sink was held for. That none goes out but by its `KeptLine` is seen in the code.
 #[derive(Drop)]
 pub struct SocketSink<W: Wire + Drop, K: Keeper + Drop, S: Slot<Talk<W, K>> + Drop> {
     slot: S,

@@ -1,12 +1,11 @@
 // The files of the system as those of a journal. They tell no content.
-ghost use Rattle.std.specs.Prelude.{◌≡◌, ◌+◌, None, IfOk, IfSome, take};
-ghost use Rattle.host_io.specs.Opened.{locked_by, present_by};
-ghost use Rattle.std.specs.Path.{HasNoSlash, path_add_extension, path_buf_bytes};
+ghost use Rattle.std.specs.Prelude.{◌≡◌, None};
 
+use crate::file_answers::{beside, is_locked, read_text, unless_missing};
 use crate::journal_files::JournalFiles;
 use std::alloc::Global;
-use std::fs::{File, Files, OpenOptions, TryLockError};
-use std::io::{ErrorKind, Read, Write};
+use std::fs::{File, Files, OpenOptions};
+use std::io::{ErrorKind, Write};
 use std::os::fd::AsRawFd;
 use std::path::PathBuf;
 use std::{fs, io};
@@ -57,19 +56,6 @@ fn new_path<F: Files>(files: &F, alloc: Global, name: &str) -> io::Result<PathBu
     }
 }
 
-// The path with this ending after a dot.
-fn beside(alloc: Global, path: &str, ending: &str) -> io::Result<PathBuf>
-    requires { HasNoSlash ending.now }
-    ensures { IfOk result (λ other. path_buf_bytes other ≡ path_add_extension path.now ending.now) }
-{
-    let mut other = PathBuf::from_str(alloc, path)?;
-    if other.add_extension(ending)? {
-        Ok(other)
-    } else {
-        Err(io::Error::from(ErrorKind::InvalidInput))
-    }
-}
-
 // The file that is locked while the journal of this path is held, and whether it is locked now.
 fn lock_of<F: Files<File = File>>(
     files: &F,
@@ -86,37 +72,6 @@ fn lock_of<F: Files<File = File>>(
     }
     let locked = is_locked(lock.try_lock())?;
     Ok((lock, locked))
-}
-
-// Whether a file is locked that was to be: another process may have locked it.
-fn is_locked(answer: Result<(), TryLockError>) -> io::Result<bool>
-    ensures { result ≡ locked_by answer }
-{
-    match answer {
-        Ok(()) => Ok(true),
-        Err(TryLockError::WouldBlock) => Ok(false),
-        Err(TryLockError::Error(error)) => Err(error),
-    }
-}
-
-// A file that may be missing: None where it is.
-fn unless_missing(answer: io::Result<File>) -> io::Result<Option<File>>
-    ensures { result ≡ present_by answer }
-{
-    match answer {
-        Ok(file) => Ok(Some(file)),
-        Err(error) if error.kind() == ErrorKind::NotFound => Ok(None),
-        Err(error) => Err(error),
-    }
-}
-
-// All that the reader gives, or its first bytes, one more than there is room for.
-fn read_text<R: Read + Drop>(text: R, alloc: Global, room: u32) -> io::Result<Vec<u8>>
-    ensures { IfSome (R.remaining text) (λ bytes. IfOk result (λ read. read.items ≡ take (room + 1) bytes)) }
-{
-    let mut content = Vec::new(alloc);
-    text.take(u64::from(room) + 1).read_to_end(&mut content)?;
-    Ok(content)
 }
 
 // Keeps the names of the folder that the path lies in.

@@ -91,7 +91,7 @@ impl<W: Wire + Drop, K: Keeper + Drop> Talk<W, K> {
         Ok(answered)
     }
 
-    /// Takes some of an answer, to be sent with others. It leaves only once the cut of this number is kept.
+    /// Takes some of an answer, to be sent with others. The connection is held for the cut of this number from then on.
     pub(crate) fn take(&mut self, cut: u64, piece: &[u8]) -> Pushed
         requires { 0 < length piece.now }
         ensures pushes { Pushes (answered_by W.outgoing self.old) (answered_by W.outgoing self.new) piece.now result }
@@ -111,7 +111,7 @@ impl<W: Wire + Drop, K: Keeper + Drop> Talk<W, K> {
     }
 
     /// Takes some of both pieces of an answer, to be sent with others, or at once where they are too long to be held.
-    /// They leave only once the cut of this number is kept.
+    /// The connection is held for the cut of this number from then on.
     pub(crate) fn take_both(&mut self, cut: u64, first: &[u8], second: &[u8]) -> PushedBoth
         requires { 0 < length first.now }
         ensures pushes { PushesBoth (answered_by W.outgoing self.old) (answered_by W.outgoing self.new)

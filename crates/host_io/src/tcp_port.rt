@@ -1,10 +1,11 @@
 // A port of this machine as a listener. Its streams tell no content.
 ghost use Rattle.std.specs.Prelude.{◌≡◌, ◌≤◌, [], is_some, IfSome, IfOk, IfErr, OnOk, None};
 ghost use Rattle.rail_io.specs.Faults.{Rose};
-ghost use Rattle.rail_service.specs.Listeners.{Binds};
+ghost use Rattle.rail_service.specs.Listeners.{Accepts, Binds, HasFailed, OfStream};
+ghost use Rattle.std.specs.Arc.{arc_value};
 ghost use Rattle.rail_service.specs.declared.listener.Bound.TheVariants.{Ready, Failed};
 ghost use Rattle.host_io.specs.Tcp.{tcp_view, tcp_faults, IsLaterOf, HandsUntold, IsLocal};
-ghost use Rattle.host_io.specs.Doors.{AsksAgain, AsksFor, AsksLast, Refuses, with_call, Gave, Listened};
+ghost use Rattle.host_io.specs.Doors.{AsksAgain, AsksAs, AsksFor, AsksLast, Refuses, with_call, Gave, Listened};
 ghost use Rattle.host_io.specs.Paces.{first_pace};
 
 use crate::address::local_address;
@@ -46,11 +47,12 @@ fn talk_of<W: Wire + Drop, K: Keeper + Drop>(
     Ok(Talk::new(KeptLine::of(Line::of(wire), keeper), outbox))
 }
 
-/// Listens at 127.0.0.1, or at another address that it is given. Its streams send without delay. A read fails that
-/// waits for more than 5 seconds between two requests, or for more than 30 inside one, or until 60 have gone by since
-/// its first byte, and a write that waits for more than 30.
+/// Listens at 127.0.0.1, or at another address that it is given. Its streams are set to send without delay, and a write
+/// to fail that waits for more than 30 seconds. A read is set to fail that waits for more than 5 seconds between two
+/// requests, or for more than 30 inside one, or until 60 have gone by since its first byte. That the system keeps these
+/// limits is trusted.
 ///
-/// No answer leaves before the cut is kept that it is held for, and where the journal is lost, an accept fails.
+/// No answer is to leave before the cut is kept that it is held for, and where the journal is lost, an accept fails.
 ///
 /// What it hands out is counted, where there are counters.
 #[derive(Drop)]
@@ -125,6 +127,8 @@ impl<'c, D: Door + Drop, T: Watch + Copy + Drop, K: Keeper + Copy + Drop> Port<'
     fn accept_one(&mut self) -> Result<Option<Halves<D::Wire, K, T>>, AfterRefusal>
         ensures gave { OnOk result (D.calls self.new.door ≡ with_call (D.calls self.old.door) Gave) }
         ensures refused { IfErr result (Refuses (D.calls self.old.door) (D.calls self.new.door)) }
+        ensures one_place { IfOk result (λ found. IfSome found (λ halves.
+            arc_value halves.0.slot.cell ≡ arc_value halves.1.slot.cell)) }
         ensures same { self.new ≡ record self.old { door = self.new.door } }
     {
         let wire = match self.door.accept() {
@@ -149,6 +153,8 @@ impl<'c, D: Door + Drop, T: Watch + Copy + Drop, K: Keeper + Copy + Drop> Port<'
         ensures last { IfSome result (λ halves.
             AsksLast (D.calls self.old.door) (D.calls self.new.door) (is_some halves)) }
         ensures again { result ≡ None → AsksAgain (D.calls self.old.door) (D.calls self.new.door) }
+        ensures one_place { IfSome result (λ found. IfSome found (λ halves.
+            arc_value halves.0.slot.cell ≡ arc_value halves.1.slot.cell)) }
         ensures same { self.new ≡ record self.old { door = self.new.door } }
     {
         if self.keeper.is_lost() {
@@ -169,6 +175,7 @@ impl<'c, D: Door + Drop, T: Watch + Copy + Drop, K: Keeper + Copy + Drop> Port<'
     /// listener is gone or its keeper has lost: that is asked before each wait and after it, since a bell may end one.
     pub(crate) fn next_stream(&mut self) -> Option<Halves<D::Wire, K, T>>
         ensures asks { AsksFor (D.calls self.old.door) (D.calls self.new.door) (is_some result) }
+        ensures one_place { IfSome result (λ halves. arc_value halves.0.slot.cell ≡ arc_value halves.1.slot.cell) }
         ensures same { self.new ≡ record self.old { door = self.new.door } }
     {
         if !self.listens {
@@ -221,7 +228,17 @@ impl<'c, D: Door + Drop, T: Watch + Copy + Drop, K: Keeper + Copy + Drop> Listen
         }
     }
 
-    fn accept(&mut self) -> Accepted<Self::Input, Self::Output> {
+    fn accept(&mut self) -> Accepted<Self::Input, Self::Output>
+        ensures accepts { Accepts (tcp_view self.old) (tcp_view self.new) result }
+        ensures becomes { IsLaterOf self.old self.new }
+        ensures gives { OfStream result (λ waiting. HandsUntold self.old None None self.new) }
+        ensures never_falls { tcp_faults self.old ≤ tcp_faults self.new }
+        ensures cause { HasFailed result → Rose (tcp_faults self.old) (tcp_faults self.new) }
+        ensures steady { (HasFailed result → ⊥) → tcp_faults self.new ≡ tcp_faults self.old }
+        ensures asks { AsksAs (D.calls self.old.door) (D.calls self.new.door) result }
+        ensures one_place { OfStream result (λ waiting.
+            arc_value waiting.input.source.reader.slot.cell ≡ arc_value waiting.output.sink.slot.cell) }
+    {
         if self.handed >= self.limit {
             note_door(self.counters, &self.keeper, Health::Draining);
             return Accepted::Closed;

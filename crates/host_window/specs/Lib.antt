@@ -8,3 +8,4 @@ pub mod Texts
 pub mod Routes
 pub mod Metrics
 pub mod Finds
+pub mod Clocks

@@ -1,11 +1,13 @@
 //! The system's clock, whose commands are counted and timed.
-ghost use Rattle.std.specs.Prelude.{◌≡◌, None};
+ghost use Rattle.std.specs.Prelude.{◌≡◌, IfOk, IfSome, None, OnErr, Some};
+ghost use Rattle.host_window.specs.Clocks.{moment_by};
 
+use crate::readings::{moment_of, nanoseconds_since};
 use crate::routes::RouteCounts;
 use rail_io::{Clock, Reach, RouteName};
 use rail_time::Moment;
-use std::time;
 use std::time::Duration;
+use std::{io, time};
 
 /// The system's clock, in whole seconds and brought into the range of moments. It tells no reading. Where there are
 /// counts, it counts requests by their route, and how long it takes from a request's moment to its answer.
@@ -25,7 +27,12 @@ pub struct CountingClock<'c, N> {
 
 impl<'c, N: time::Clock> CountingClock<'c, N> {
     /// A clock by this one, which hasn't been read.
-    pub fn of(time: N, counts: Option<&'c RouteCounts>) -> CountingClock<'c, N> {
+    pub fn of(time: N, counts: Option<&'c RouteCounts>) -> CountingClock<'c, N>
+        ensures time { result.time ≡ time }
+        ensures first { result.last ≡ 0 }
+        ensures counts { result.counts ≡ counts.entry }
+        ensures came { result.came ≡ None }
+    {
         CountingClock {
             time,
             last: moment_of(Duration::from_secs(0)),
@@ -33,6 +40,24 @@ impl<'c, N: time::Clock> CountingClock<'c, N> {
             since: Duration::from_secs(0),
             came: None,
         }
+    }
+
+    // The moment of a reading. Where the system's clock can't be read, the last one stands in.
+    #[inline(always)]
+    fn take(&mut self, read: io::Result<Duration>) -> Moment
+        ensures read { IfOk read (λ since. result ≡ moment_by since) }
+        ensures unread { OnErr read (result ≡ self.old.last) }
+        ensures last { self.new.last ≡ result }
+        ensures begins { IfOk read (λ since. IfSome self.old.counts (λ _. self.new.since ≡ since)) }
+        ensures same { (self.new.came ≡ self.old.came) × (self.new.counts ≡ self.old.counts) }
+    {
+        if let Ok(since) = read {
+            self.last = moment_of(since);
+            if self.counts.is_some() {
+                self.since = since;
+            }
+        }
+        self.last
     }
 
     // The last request has its answer.
@@ -47,43 +72,19 @@ impl<'c, N: time::Clock> CountingClock<'c, N> {
     }
 }
 
-// The nanoseconds from a reading to a later one, or 0. They begin anew at 0 after 584 years.
-#[inline(always)]
-fn nanoseconds_since(before: Duration, now: Duration) -> u64 {
-    let seconds = now.as_secs().wrapping_sub(before.as_secs());
-    let further = u64::from(now.subsec_nanos()).wrapping_sub(u64::from(before.subsec_nanos()));
-    let nanoseconds = seconds.wrapping_mul(1_000_000_000).wrapping_add(further);
-    if nanoseconds > u64::MAX / 2 {
-        0
-    } else {
-        nanoseconds
-    }
-}
-
-// The moment of a reading since 1970, or the first or the last one.
-#[inline(always)]
-fn moment_of(since: Duration) -> Moment {
-    let seconds = u32::try_from(since.as_secs()).unwrap_or(u32::MAX);
-    Moment::of(0).unwrap().later(seconds)
-}
-
 impl<N: time::Clock + Drop> Clock for CountingClock<'_, N> {
     ghost told = { λ _. None };
 
-    // Where the system's clock can't be read, the last reading stands in.
     #[inline(always)]
     fn now(&mut self) -> Moment {
-        if let Ok(since) = self.time.since_1970() {
-            self.last = moment_of(since);
-            if self.counts.is_some() {
-                self.since = since;
-            }
-        }
-        self.last
+        let read = self.time.since_1970();
+        self.take(read)
     }
 
     #[inline(always)]
-    fn arrive(&mut self, route: RouteName) {
+    fn arrive(&mut self, route: RouteName)
+        ensures came { IfSome self.old.counts (λ _. self.new.came ≡ Some route) }
+    {
         if let Some(counts) = self.counts {
             counts.note_arrival(route);
             self.came = Some(route);
@@ -91,12 +92,16 @@ impl<N: time::Clock + Drop> Clock for CountingClock<'_, N> {
     }
 
     #[inline(always)]
-    fn begin(&mut self, reach: Reach) {
+    fn begin(&mut self, reach: Reach)
+        ensures same { self.new ≡ self.old }
+    {
         let _ = reach;
     }
 
     #[inline(always)]
-    fn end(&mut self) -> u64 {
+    fn end(&mut self) -> u64
+        ensures at_once { result ≡ 0 }
+    {
         if let Some(counts) = self.counts {
             self.note_end(counts);
         }

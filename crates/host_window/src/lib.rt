@@ -34,6 +34,7 @@ mod labels;
 mod metrics;
 mod noted;
 mod pages;
+mod readings;
 mod reply;
 mod route_texts;
 mod routes;

@@ -1,4 +1,8 @@
 // The operator's window, where the words ask for it.
+ghost use Rattle.std.specs.Prelude.{◌≡◌, IfOk, option_map};
+ghost use Rattle.host_words.specs.Options.{words_texts};
+ghost use Rattle.rail_host.specs.Asked.{IsAskedWindow};
+
 use host_io::TcpPort;
 use host_window::Counters;
 use host_words::{CommandName, is_for, read_window};
@@ -16,7 +20,9 @@ pub struct Window {
 }
 
 /// The window that the words ask for. None where they ask for none, or are refused.
-pub fn asked_window(alloc: Global, words: &[String]) -> Result<Option<Window>, AllocError> {
+pub fn asked_window(alloc: Global, words: &[String]) -> Result<Option<Window>, AllocError>
+    ensures window { IfOk result (IsAskedWindow (words_texts words.now)) }
+{
     if !is_for(words, CommandName::Serve) {
         return Ok(None);
     }
