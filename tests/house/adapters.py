@@ -7,7 +7,7 @@ It reads host_io, the devices of rail_io, the clock by which `serve` goes, and `
 `ensures` of its own, and nor has the trait whose method it is, or if its device tells nothing (`λ _. None`). Of each file with such a
 function two numbers are given: its lines but for empty ones, comments and imports, and those of the untold functions without their
 contracts. They have to be the table in docs/proved.md, which --write makes anew, and the sums may only fall: a sum above the one that
-stands there is refused, also by --write.
+stands there is refused, also by --write. The last row leaves out the files of what the program couldn't do when a review counted 704 lines.
 """
 import argparse
 import pathlib
@@ -20,6 +20,8 @@ PAGE = ROOT / "docs" / "proved.md"
 HEAD = "| file | lines | untold functions | their lines |"
 FILES = ["host_io/src/*.rt", "host_window/src/clock.rt", "rail_io/src/file_shelf.rt", "rail_io/src/system_*.rt",
          "rail_io/src/standard.rt", "rail_host/src/asked.rt", "rail_host/src/main.rt", "rail_host/src/window.rt"]
+# Those of a journal, of the operator's window and of an address came after the review's count.
+LATER = ["host_io `system_files.rt`", "host_io `noting.rt`", "rail_host `asked.rt`", "rail_host `window.rt`"]
 # A clause of this method speaks of the sink as a whole, also where it tells no bytes.
 OF_ITSELF = {("Sink", "hold_until")}
 IMPORT = re.compile(r"\s*(?:pub(?:\(crate\))? |ghost )?use ")
@@ -144,16 +146,23 @@ def rows():
 
 def table():
     made = list(rows())
-    sums = sum(row[1] for row in made), sum(row[3] for row in made)
+    sums = sums_of(made)
     lines = [HEAD, "|---|---|---|---|"] + ["| %s | %d | %s | %d |" % row for row in made]
-    return lines + ["| together | %d | | %d |" % sums], sums
+    early = sums_of([row for row in made if row[0] not in LATER])
+    return lines + ["| together | %d | | %d |" % sums, "| without a journal, the window and an address | %d | | %d |" % early], sums
+
+
+def sums_of(made):
+    """The lines of files, and those of untold functions, of all these rows."""
+    return sum(row[1] for row in made), sum(row[3] for row in made)
 
 
 def table_there(page):
     """Where the page has the table, and its sums."""
     start = page.index(HEAD)
-    end = next(n for n in range(start, len(page)) if page[n].startswith("| together "))
-    return start, end + 1, tuple(map(int, re.findall(r"\d+", page[end])))
+    together = next(n for n in range(start, len(page)) if page[n].startswith("| together "))
+    end = next(n for n in range(together, len(page)) if not page[n].startswith("|"))
+    return start, end, tuple(map(int, re.findall(r"\d+", page[together])))
 
 
 def main():
