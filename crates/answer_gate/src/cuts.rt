@@ -47,8 +47,8 @@ impl<K: Receipt + Drop> Cuts<K> {
     }
 
     /// Waits until somebody waits for a cut, closes the gate, and waits until nobody is inside. The gate stays closed
-    /// until `taken` or `lose`. None where there will be no more cuts: all servers have parted and nothing is left to be
-    /// kept, or the journal is lost.
+    /// until `taken` or `lose`. None where there will be no more cuts: all servers have parted and nothing is left to
+    /// be kept, or the journal is lost.
     pub fn next_cut<R: Wait>(&self, rt: &R) -> Option<Closed> {
         let closed = self.gate.close(rt);
         if closed.is_none() {

@@ -46,8 +46,8 @@ impl Gate {
         cut
     }
 
-    /// The cut of an answer that only tells of bookings: the last one, where nothing can have changed since. That may be
-    /// kept already; then whoever waits for it is told so at once.
+    /// The cut of an answer that only tells of bookings: the last one, where nothing can have changed since. That may
+    /// be kept already; then whoever waits for it is told so at once.
     pub fn tell<R: Wait>(&self, rt: &R) -> Cut {
         self.state.lock(rt).tell()
     }

@@ -13,8 +13,8 @@
 //! looked at, and no cut is kept that wasn't taken. What a call does to that value is said by the clauses of `State`.
 //! A cut that `wait_kept` finds kept has what its receipt means.
 //!
-//! No clause of a `Gate` can say what a call did to the value under its lock. That its calls make just those of `State`,
-//! and that whoever sleeps here is woken, is read and tested. What follows of such calls, in whatever order they come,
+//! No clause of a `Gate` can say what a call did to the value under its lock. That its calls make just those of
+//! `State`, and that whoever sleeps here is woken, is read and tested. What follows of such calls, in whatever order,
 //! `journal_laws` says: nothing changes while a cut is taken, and the cut that an answer waits for shows all that the
 //! answer tells.
 #![tactic(auto)]

@@ -1,5 +1,6 @@
 -- What is counted of the answers that a sink writes.
-use Rattle.std.specs.Prelude.{◌≡◌, ◌+◌, ◌-◌, ◌*◌, ◌^◌, ℕ, Bool, true, false, List, length, min, slice_index, slice_set, ◌&&◌, if◌then◌else◌}
+use Rattle.std.specs.Prelude.{◌≡◌, ◌+◌, ◌-◌, ◌*◌, ◌^◌, ◌&&◌, if◌then◌else◌, ℕ, Bool, true, false, List}
+use Rattle.std.specs.Prelude.{length, min, slice_index, slice_set}
 use Rattle.std.specs.Char.{is_ascii_digit}
 use Rattle.rail_io.specs.declared.sink.Pushed.{Pushed}
 use Rattle.rail_io.specs.declared.sink.Pushed.TheVariants.{Took, Failed}

@@ -11,7 +11,8 @@ use Rattle.host_window.specs.declared.counters.Health.TheVariants as health
 use Rattle.host_window.specs.declared.pages.Page.{Page}
 use Rattle.host_window.specs.declared.pages.Page.TheVariants as page
 use Rattle.host_window.specs.declared.words.Word.{Word}
-use Rattle.host_window.specs.declared.words.Word.TheVariants.{Well, Starting, Draining, Deaf, Lost, NotGet, Unknown, Refused, NoMemory}
+use Rattle.host_window.specs.declared.words.Word.TheVariants.{Well, Starting, Draining, Deaf, Lost, NotGet, Unknown}
+use Rattle.host_window.specs.declared.words.Word.TheVariants.{Refused, NoMemory}
 
 abbrev pub word_of : Health → Word
 word_of health.Starting = Starting
@@ -65,7 +66,8 @@ IsAsked method path page.NotGet =
     ((path ≡ codes "/healthz") ⊎ (path ≡ codes "/metrics")) × (method ≡ codes "GET" → ⊥)
 IsAsked method path page.Unknown = (path ≡ codes "/healthz" → ⊥) × (path ≡ codes "/metrics" → ⊥)
 
--- what is answered: how some host does, or what is counted of it and found in its books, or that there was no memory for that
+-- what is answered: how some host does, or what is counted of it and found in its books, or that there was no memory
+-- for that
 abbrev pub Shows : Page → Bool → List ℕ → Type 0
 Shows page.Healthz last text = (how : Health) × (text ≡ reply_text (line_of (word_of how)) (text_of (word_of how)) last)
 Shows page.Metrics last text =

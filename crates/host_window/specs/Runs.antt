@@ -9,7 +9,8 @@ abbrev pub first_of : (ℕ → List ℕ) → ℕ → List ℕ
 first_of text zero = []
 first_of text (suc n) = first_of text n ++ text n
 
--- Some first answers stand in the bytes that a sink tells, and then a part of one more, of which this piece is the rest.
+-- Some first answers stand in the bytes that a sink tells, and then a part of one more, of which this piece is the
+-- rest.
 abbrev pub IsRest : (ℕ → List ℕ) → Option (List ℕ) → List ℕ → Type 0
 IsRest text told piece = (n : ℕ) × (part : List ℕ) × (told ≡ Some (first_of text n ++ part)) × (text n ≡ part ++ piece)
 

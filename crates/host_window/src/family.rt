@@ -1,6 +1,7 @@
 //! A family of numbers, as Prometheus reads it.
 ghost use Rattle.std.specs.Prelude.{◌≡◌, ◌++◌, OnOk};
-ghost use Rattle.host_window.specs.Texts.{head_text, kind_text, line_text, number_text, one_text, said_head, samples_text, table_text};
+ghost use Rattle.host_window.specs.Texts.{head_text, kind_text, line_text, number_text, one_text, said_head};
+ghost use Rattle.host_window.specs.Texts.{samples_text, table_text};
 
 use itoa::Buffer;
 use std::alloc::AllocError;

@@ -1,7 +1,8 @@
 //! What the window shows of a host's books.
 ghost use Rattle.std.specs.Prelude.{◌≡◌, ◌++◌, IfOk, OnOk};
 ghost use Rattle.host_window.specs.Texts.{one_text, said_head};
-ghost use Rattle.host_window.specs.Finds.{begun_text, found_text, labelled_text, looked_text, places_text, rows_text, swept_text, window_text};
+ghost use Rattle.host_window.specs.Finds.{begun_text, found_text, labelled_text, looked_text, places_text};
+ghost use Rattle.host_window.specs.Finds.{rows_text, swept_text, window_text};
 
 use crate::counts::Counts;
 use crate::family::{Head, Kind, push_head, push_number, push_one};

@@ -62,8 +62,8 @@ NothingChangesMeanwhile =
     (first now : Moment) (before : List Moment) → Begins first → LeadsTo first before now → now.gate.phase ≡ Looking
     → HasCut now.cuts (λ c. (c.number ≡ now.gate.taken) × OnlyLooked c.began now.history)
 
--- A gate's calls but those that enter, leave or take a cut. Somebody waits for a cut, the gate closes or opens, it hears
--- that a cut is kept. No more cuts are taken, or it is said how many members serve
+-- A gate's calls but those that enter, leave or take a cut. Somebody waits for a cut, the gate closes or opens, it
+-- hears that a cut is kept. No more cuts are taken, or it is said how many members serve
 pub record OthersPass (s : Standing) : Type 0 where
   pub wanted : (cut : ℕ) → Passes s (wanted_by cut s)
   pub closed : Passes s (closed s)
