@@ -1,5 +1,5 @@
 // The operator's window, where the words ask for it.
-ghost use Rattle.std.specs.Prelude.{◌≡◌, IfOk, option_map};
+ghost use Rattle.std.specs.Prelude.{IfOk};
 ghost use Rattle.host_words.specs.Options.{words_texts};
 ghost use Rattle.rail_host.specs.Asked.{IsAskedWindow};
 
