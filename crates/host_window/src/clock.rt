@@ -19,9 +19,9 @@ pub struct CountingClock<'c, N> {
     time: N,
     last: Moment,
     counts: Option<&'c RouteCounts>,
-    /// The last reading, since 1970, where there are counts.
+    /// The last reading that gave a moment, since 1970.
     since: Duration,
-    /// The last request that had a route and has no answer.
+    /// The last request that had a route, where there are counts.
     came: Option<RouteName>,
 }
 
@@ -48,22 +48,20 @@ impl<'c, N: time::Clock> CountingClock<'c, N> {
         ensures read { IfOk read (λ since. result ≡ moment_by since) }
         ensures unread { OnErr read (result ≡ self.old.last) }
         ensures last { self.new.last ≡ result }
-        ensures begins { IfOk read (λ since. IfSome self.old.counts (λ _. self.new.since ≡ since)) }
+        ensures begins { IfOk read (λ since. self.new.since ≡ since) }
         ensures same { (self.new.came ≡ self.old.came) × (self.new.counts ≡ self.old.counts) }
     {
         if let Ok(since) = read {
             self.last = moment_of(since);
-            if self.counts.is_some() {
-                self.since = since;
-            }
+            self.since = since;
         }
         self.last
     }
 
-    // The last request has its answer.
+    // The last request has its answer. Each answer follows the arrival of its own request.
     #[inline(always)]
-    fn note_end(&mut self, counts: &RouteCounts) {
-        let Some(route) = self.came.take() else {
+    fn note_end(&self, counts: &RouteCounts) {
+        let Some(route) = self.came else {
             return;
         };
         if let Ok(now) = self.time.since_1970() {

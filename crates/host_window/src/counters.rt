@@ -6,6 +6,7 @@ use crate::labels::{CAUSES, CODES, Cause, FIRST_PROBLEM, STATUSES, number_of_cod
 use crate::routes::{RouteCounts, buckets_of, requests_of, times_of};
 use crate::tallies::{Tallies, Tally};
 use std::alloc::{AllocError, Global};
+use std::array;
 use std::sync::atomic::{AtomicU64, Ordering};
 
 /// How many sets of counts connections have, which take them in turn: as many as there may be workers, so that two of
@@ -19,7 +20,7 @@ pub struct StreamCounts {
     sent: Tally,
     unwritten: Tally,
     ended: Tallies,
-    answers: Tallies,
+    answers: [Tally; STATUSES.len()],
     problems: Tallies,
 }
 
@@ -68,7 +69,7 @@ impl StreamCounts {
             sent: Tally::new(),
             unwritten: Tally::new(),
             ended: Tallies::new(alloc, CAUSES.len())?,
-            answers: Tallies::new(alloc, STATUSES.len())?,
+            answers: array::from_fn(|_| Tally::new()),
             problems: Tallies::new(alloc, CODES.len())?,
         })
     }
@@ -98,7 +99,9 @@ impl StreamCounts {
     /// An answer whose status has this label has begun to be written, with this body.
     #[inline(always)]
     pub(crate) fn note_answer(&self, label: usize, body: &[u8]) {
-        self.answers.add(label, 1);
+        if let Some(count) = self.answers.get(label) {
+            count.add(1);
+        }
         if label >= FIRST_PROBLEM {
             self.note_problem(body);
         }
@@ -147,7 +150,10 @@ impl StreamCounts {
             Picks::Sent => self.sent.read(),
             Picks::Unwritten => self.unwritten.read(),
             Picks::Ended => self.ended.read(number),
-            Picks::Answers => self.answers.read(number),
+            Picks::Answers => match self.answers.get(number) {
+                Some(count) => count.read(),
+                None => 0,
+            },
             Picks::Problems => self.problems.read(number),
         }
     }
@@ -175,7 +181,7 @@ fn stream_sets(alloc: Global) -> Result<Vec<StreamCounts>, AllocError> {
 fn clock_sets(alloc: Global) -> Result<Vec<RouteCounts>, AllocError> {
     let mut sets = Vec::new(alloc);
     for _set in 0..SETS {
-        sets.push(RouteCounts::new(alloc)?)?;
+        sets.push(RouteCounts::new())?;
     }
     Ok(sets)
 }

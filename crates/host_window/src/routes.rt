@@ -126,34 +126,29 @@ impl RouteRow {
 /// What is counted of the requests that a clock hears of.
 #[derive(Drop)]
 pub struct RouteCounts {
-    rows: Vec<RouteRow>,
+    rows: [RouteRow; 13],
 }
 
 impl RouteCounts {
     /// Nothing counted yet.
-    pub(crate) fn new(alloc: Global) -> Result<RouteCounts, AllocError> {
-        let mut rows = Vec::new(alloc);
-        for _route in 0..ROUTES.len() {
-            rows.push(RouteRow::new())?;
+    pub(crate) fn new() -> RouteCounts {
+        RouteCounts {
+            rows: array::from_fn(|_| RouteRow::new()),
         }
-        Ok(RouteCounts { rows })
     }
 
     /// A request came.
     #[inline(always)]
     pub(crate) fn note_arrival(&self, route: RouteName) {
-        if let Some(row) = self.rows.get(number_of(route)) {
-            row.arrived.add(1);
-        }
+        self.rows[number_of(route)].arrived.add(1);
     }
 
     /// A request was carried out in this time.
     #[inline(always)]
     pub(crate) fn note_done(&self, route: RouteName, nanoseconds: u64) {
-        if let Some(row) = self.rows.get(number_of(route)) {
-            row.spent.add(nanoseconds);
-            row.within[bucket_of(nanoseconds)].add(1);
-        }
+        let row = &self.rows[number_of(route)];
+        row.spent.add(nanoseconds);
+        row.within[bucket_of(nanoseconds)].add(1);
     }
 
     // The count that is meant, of the route of this number.
