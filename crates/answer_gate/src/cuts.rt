@@ -94,7 +94,7 @@ impl<K: Receipt + Drop> Cuts<K> {
     }
 
     /// Waits until the cut of this number is kept, for which it wakes the committer. Where it is, that is shown of it
-    /// or of a later one. False, where it never will be: the journal is lost, or over.
+    /// or of a later one. Of false no clause says a cause: it comes where the journal is lost, or over.
     pub fn wait_kept<R: Wait>(&self, rt: &R, cut: u64) -> bool
         ensures { result ≡ true → MayLeave K.kept cut }
     {

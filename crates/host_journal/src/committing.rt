@@ -17,7 +17,7 @@ use worker_pool::TurnEnd;
 
 /// Takes cuts. It waits until somebody waits for a cut and no command that may change bookings is under way, looks at
 /// the rows that are marked, lets commands go on, and has the journal keep the lines of those rows. Whoever waits for
-/// the cut hears that it is kept.
+/// the cut hears that it is kept. Of all this a contract says what the desk does, and which lines are kept.
 #[derive(Drop)]
 pub struct Committer<'g, R, J, B> {
     pub rt: &'g R,

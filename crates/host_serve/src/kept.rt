@@ -136,8 +136,7 @@ fn end_unread<E: Sink, L>(outcome: ServeOutcome, listener: L, notes: &mut E) -> 
 
 /// Serves a catalogue to connections as `run_serve` does, with a journal where the words name one by `--journal`. Then
 /// the books begin with the bookings that the journal leaves, and one further member has what it looked at kept there.
-/// Where there is no such journal they begin with those of the export that `--from` names, or with none. The sink of an
-/// answer that tells of a booking is told to hold it until its cut is kept.
+/// Where there is no such journal they begin with those of the export that `--from` names, or with none.
 ///
 /// | status | where |
 /// |---|---|
@@ -148,6 +147,9 @@ fn end_unread<E: Sink, L>(outcome: ServeOutcome, listener: L, notes: &mut E) -> 
 /// It is too large from 4,294,967,296 bytes on. All else is as without a journal. Where the devices have somebody who asks
 /// what is in the books, one member more looks. In the wall's history the desks of these further members, which are the
 /// last, only look. Words that name a journal are refused where none is given.
+///
+/// No clause says that what that member saw is kept, nor that the journal has the causes above for another host, for
+/// what couldn't be read or written, and for what failed: that is read and tested.
 pub fn serve_kept<
     'g,
     R: Threads + Wait + Sync,

@@ -11,7 +11,7 @@ pub trait Closing<I: Source, O: Sink> {
     /// this trait can show that only by a call with the stream as it then was.
     ghost closes: { Handing };
 
-    /// Lets go of a stream, which closes it.
+    /// Lets go of a stream.
     fn close(finished: Finished<I, O>)
         ensures { closes (I.told finished.input) (O.told finished.output) };
 }

@@ -55,7 +55,7 @@ pub trait Streams {
         ensures none { IfNone result (handed self.new ≡ handed self.old) }
         ensures tells { IfNone result (tells self.new) };
 
-    /// Lets go of a stream whose connection has ended, which closes it.
+    /// Lets go of a stream whose connection has ended.
     fn let_go(&mut self, finished: Finished<Self::Input, Self::Output>)
         ensures lets_go { lets_go self.old
             (Self.Input.told finished.input) (Self.Output.told finished.output) self.new }
@@ -79,8 +79,8 @@ impl<L: Listener + Drop, N: Named> Door<L, N> {
     }
 }
 
-/// The streams of a listener behind a lock, which is held only while a stream is taken. Those that were taken here are
-/// counted in the share. Where there are no more, the mark was seen set.
+/// The streams of a listener behind a lock. Those that were taken here are counted in the share. Where there are no
+/// more, the mark was seen set.
 #[derive(Drop)]
 pub struct LockedStreams<'s, R, L: Listener + Drop, N: Named> {
     pub rt: &'s R,

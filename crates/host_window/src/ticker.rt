@@ -1,8 +1,8 @@
-//! A ticker whose ticks are counted.
+//! A ticker that counts how often it was asked.
 use crate::counters::Counters;
 use rail_io::Ticker;
 
-/// Ticks as its ticker does, and counts the ticks, where there are counts.
+/// Ticks as its ticker does, and counts how often it was asked, where there are counts.
 #[derive(Drop)]
 pub struct CountingTicker<'c, T> {
     pub ticker: T,
