@@ -1,5 +1,5 @@
 -- What contracts see of a connection.
-use Rattle.std.specs.Prelude.{◌≡◌, ◌⊎◌, ℕ, true, List, Option, None, Some, option_map}
+use Rattle.std.specs.Prelude.{◌≡◌, ◌⊎◌, ℕ, true, List, Option, None, Some, option_map, max}
 use Rattle.rail_io.specs.Told.{with_end}
 use Rattle.rail_io.specs.declared.keeper.Keeper as keeper
 use Rattle.host_io.specs.declared.wire.Wire as wire
@@ -44,3 +44,23 @@ at_its_end l = record { limit = 250; ended = true }
 
 abbrev pub drained : Option Limits → Option Limits
 drained told = option_map at_its_end told
+
+-- This holds of what lies in a place before and after, and it lies there again. A place that is empty, or that doesn't
+-- tell, stays so.
+abbrev pub LiesAgain : {T : Type 0} → (T → T → Type 0) → Option (Option T) → Option (Option T) → Type 0
+LiesAgain {T} Holds (Some (Some old)) after = (new : T) × (after ≡ Some (Some new)) × Holds old new
+LiesAgain Holds (Some None) after = after ≡ Some None
+LiesAgain Holds None after = after ≡ None
+
+-- all that was answered went out, or a write has failed
+abbrev pub WentOut : {W K : Type 0} → {w : wire.Ghosts W} → {k : keeper.Ghosts K} → (W → Option (List ℕ))
+    → Talk W K w k → Talk W K w k → Type 0
+WentOut outgoing old new = (new.failed ≡ true) ⊎ (outgoing new.sink.line.wire ≡ answered_by outgoing old)
+
+-- These bytes are answered too, and the connection is held for the cut of this number from then on, or a write has
+-- failed.
+abbrev pub TakesFor : {W K : Type 0} → {w : wire.Ghosts W} → {k : keeper.Ghosts K} → (W → Option (List ℕ)) → ℕ
+    → List ℕ → Talk W K w k → Talk W K w k → Type 0
+TakesFor outgoing cut bytes old new =
+    (answered_by outgoing new ≡ with_end (answered_by outgoing old) bytes)
+    × ((new.failed ≡ true) ⊎ (new.sink.cut ≡ max old.sink.cut cut))

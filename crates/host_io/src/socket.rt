@@ -1,6 +1,6 @@
 // What a reader and a sink make of the connection that they share.
 ghost use Rattle.std.specs.Prelude.{◌≡◌, ◌≤◌, ◌<◌, ◌++◌, ℕ, IfOk, length};
-ghost use Rattle.host_io.specs.Talks.{told_by, came_by};
+ghost use Rattle.host_io.specs.Talks.{told_by, came_by, LiesAgain, TakesFor, WentOut};
 ghost use Rattle.host_io.specs.Wires.{Receives};
 
 use crate::halves::SocketReader;
@@ -77,11 +77,15 @@ impl<W: Wire + Drop, K: Keeper + Drop, S: Slot<Talk<W, K>> + Drop, T: Watch + Dr
 }
 
 impl<W: Wire + Drop, K: Keeper + Drop, S: Slot<Talk<W, K>> + Drop> Sink for SocketSink<W, K, S> {
-    ghost use Rattle.std.specs.Prelude.{max};
+    ghost use Rattle.std.specs.Prelude.{[], Some, None, max};
 
     ghost told = { λ s. told_by W.outgoing (S.held s.slot) };
 
     ghost faults = { λ s. s.faults };
+
+    ghost takes = { λ before bytes after. (after.cut ≡ before.cut)
+        × LiesAgain (TakesFor W.outgoing before.cut bytes) (S.held before.slot) (S.held after.slot)
+        × (S.held before.slot ≡ Some None → bytes ≡ []) };
 
     ghost held = { λ before cut after. (after.cut ≡ max before.cut cut) × (after.slot ≡ before.slot) };
 
@@ -126,6 +130,7 @@ pub(crate) fn end_talk<W: Wire + Drop, K: Keeper + Drop, S: Slot<Talk<W, K>>, T:
     slot: &mut S,
 )
     ensures same { told_by W.outgoing (S.held slot.new) ≡ told_by W.outgoing (S.held slot.old) }
+    ensures sent { LiesAgain (WentOut W.outgoing) (S.held slot.old) (S.held slot.new) }
 {
     if let Some(mut talk) = slot.take() {
         talk.end(watch);
