@@ -1,6 +1,5 @@
 // A port whose callers look through the operator's window.
-ghost use Rattle.std.specs.Prelude.{◌≡◌, IfSome, is_some};
-ghost use Rattle.std.specs.Arc.{arc_value};
+ghost use Rattle.std.specs.Prelude.{is_some};
 ghost use Rattle.host_io.specs.Doors.{AsksFor};
 
 use crate::door::Door;
@@ -18,8 +17,6 @@ impl<D: Door + Drop, T: Watch + Copy + Drop, K: Keeper + Copy + Drop> Callers
 
     fn next_caller(&mut self) -> Option<(Self::Input, Self::Output)>
         ensures asks { AsksFor (D.calls self.old.door) (D.calls self.new.door) (is_some result) }
-        ensures one_place { IfSome result (λ halves.
-            arc_value halves.0.reader.slot.cell ≡ arc_value halves.1.slot.cell) }
     {
         let (input, output) = self.next_stream()?;
         Some((ReaderSource::new(input), output))

@@ -1,6 +1,5 @@
 // A place that two share, under a lock. Each has the lock for one call, and one thread has both. It tells nothing.
 ghost use Rattle.std.specs.Prelude.{◌≡◌, None, IfOk};
-ghost use Rattle.std.specs.Arc.{arc_value};
 
 use crate::halves::SocketReader;
 use crate::slot::Slot;
@@ -29,13 +28,13 @@ pub type PortSink<W, K> = SocketSink<W, K, Shared<Talk<W, K>>>;
 /// Both halves.
 pub type Halves<W, K, T> = (PortReader<W, K, T>, PortSink<W, K>);
 
-/// The halves of a connection that lies in a place which they share. That the connection lies there, no clause says.
+/// The halves of a connection that lies in a place which they share. That they share it, and that the connection lies
+/// there, no clause says: none sees which lock a half has, nor what lies under it.
 pub(crate) fn halves_of<W: Wire + Drop, K: Keeper + Drop, T: Watch + Drop>(
     alloc: Global,
     talk: Talk<W, K>,
     watch: T,
 ) -> io::Result<Halves<W, K, T>>
-    ensures one_place { IfOk result (λ halves. arc_value halves.0.slot.cell ≡ arc_value halves.1.slot.cell) }
     ensures free { IfOk result (λ halves. halves.1.cut ≡ 0) }
 {
     let cell = Arc::new(alloc, Mutex::new(Some(talk)))?;

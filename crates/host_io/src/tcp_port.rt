@@ -2,7 +2,6 @@
 ghost use Rattle.std.specs.Prelude.{◌≡◌, ◌≤◌, [], is_some, IfSome, IfOk, IfErr, OnOk, None};
 ghost use Rattle.rail_io.specs.Faults.{Rose};
 ghost use Rattle.rail_service.specs.Listeners.{Accepts, Binds, HasFailed, OfStream};
-ghost use Rattle.std.specs.Arc.{arc_value};
 ghost use Rattle.rail_service.specs.declared.listener.Bound.TheVariants.{Ready, Failed};
 ghost use Rattle.host_io.specs.Tcp.{tcp_view, tcp_faults, IsLaterOf, HandsUntold, IsLocal};
 ghost use Rattle.host_io.specs.Doors.{AsksAgain, AsksAs, AsksFor, AsksLast, Refuses, with_call, Gave, Listened};
@@ -127,8 +126,6 @@ impl<'c, D: Door + Drop, T: Watch + Copy + Drop, K: Keeper + Copy + Drop> Port<'
     fn accept_one(&mut self) -> Result<Option<Halves<D::Wire, K, T>>, AfterRefusal>
         ensures gave { OnOk result (D.calls self.new.door ≡ with_call (D.calls self.old.door) Gave) }
         ensures refused { IfErr result (Refuses (D.calls self.old.door) (D.calls self.new.door)) }
-        ensures one_place { IfOk result (λ found. IfSome found (λ halves.
-            arc_value halves.0.slot.cell ≡ arc_value halves.1.slot.cell)) }
         ensures same { self.new ≡ record self.old { door = self.new.door } }
     {
         let wire = match self.door.accept() {
@@ -153,8 +150,6 @@ impl<'c, D: Door + Drop, T: Watch + Copy + Drop, K: Keeper + Copy + Drop> Port<'
         ensures last { IfSome result (λ halves.
             AsksLast (D.calls self.old.door) (D.calls self.new.door) (is_some halves)) }
         ensures again { result ≡ None → AsksAgain (D.calls self.old.door) (D.calls self.new.door) }
-        ensures one_place { IfSome result (λ found. IfSome found (λ halves.
-            arc_value halves.0.slot.cell ≡ arc_value halves.1.slot.cell)) }
         ensures same { self.new ≡ record self.old { door = self.new.door } }
     {
         if self.keeper.is_lost() {
@@ -175,7 +170,6 @@ impl<'c, D: Door + Drop, T: Watch + Copy + Drop, K: Keeper + Copy + Drop> Port<'
     /// listener is gone or its keeper has lost: that is asked before each wait and after it, since a bell may end one.
     pub(crate) fn next_stream(&mut self) -> Option<Halves<D::Wire, K, T>>
         ensures asks { AsksFor (D.calls self.old.door) (D.calls self.new.door) (is_some result) }
-        ensures one_place { IfSome result (λ halves. arc_value halves.0.slot.cell ≡ arc_value halves.1.slot.cell) }
         ensures same { self.new ≡ record self.old { door = self.new.door } }
     {
         if !self.listens {
@@ -236,8 +230,6 @@ impl<'c, D: Door + Drop, T: Watch + Copy + Drop, K: Keeper + Copy + Drop> Listen
         ensures cause { HasFailed result → Rose (tcp_faults self.old) (tcp_faults self.new) }
         ensures steady { (HasFailed result → ⊥) → tcp_faults self.new ≡ tcp_faults self.old }
         ensures asks { AsksAs (D.calls self.old.door) (D.calls self.new.door) result }
-        ensures one_place { OfStream result (λ waiting.
-            arc_value waiting.input.source.reader.slot.cell ≡ arc_value waiting.output.sink.slot.cell) }
     {
         if self.handed >= self.limit {
             note_door(self.counters, &self.keeper, Health::Draining);
