@@ -17,8 +17,10 @@ use rail_service::{Finished, Waiting, spend_permitted};
 use session_loop::Outlet;
 
 /// Serves a stream that was handed out to its connection's end, and hands it back as it is then: what is served is that
-/// stream, from the bytes that its source told to those that its outlet took. Whatever the outlet permits, at no moment
-/// is it handed other bytes than the next of the defined replies.
+/// stream, from the bytes that its source told to those that its outlet took.
+///
+/// An outlet that permits nothing but the next bytes of defined replies, by entries that the desk may have, is at no
+/// moment handed others. That it is so of other outlets too follows from the body's being generic, and is no clause.
 pub fn serve_stream<I: Source, O: Outlet, C: Clock>(
     common: Common<'_>,
     books: &Books,

@@ -54,8 +54,10 @@ fn serve<S: Source, K: Outlet, C: Clock>(
 }
 
 /// Serves one connection, as `serve_connection` does, into an outlet of which it is known that it permits the next
-/// bytes of the defined replies, by entries that the desk may have. Whatever the outlet permits, no other bytes are
-/// handed to it at any moment, whether or not the connection ever ends.
+/// bytes of the defined replies, by entries that the desk may have.
+///
+/// Where it permits no others, no others are handed to it at any moment, whether or not the connection ever ends. That
+/// it is so of other outlets too follows from the body's being generic, and is no clause.
 pub fn serve_permitted<S: Source, K: Outlet, C: Clock>(
     alloc: Global,
     cat: &Catalogue,
