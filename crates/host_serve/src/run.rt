@@ -136,8 +136,8 @@ where
     ensures missed { result.status ≡ 1 → Rose (F.misses shelf.old) (F.misses shelf.new)
         ⊎ IsOfRefusedText (words_texts words.now) (F.told shelf.old) }
 
-    // A failure is answered where a count of faults rose in this call, and both counts are as they were at every other
-    // status: after a failed accept none other comes. The listener's never falls.
+    // A failure is answered where a count of faults rose in this call, or stands at its last value. Both counts are as
+    // they were at every other status: after a failed accept none other comes. The listener's never falls.
     ensures read_cause { result.status ≡ 3 → Rose (L.faults listener) (L.faults result.listener)
         ⊎ Rose (F.faults shelf.old) (F.faults shelf.new) }
     ensures shelf_steady { (result.status ≡ 3 → ⊥) → F.faults shelf.new ≡ F.faults shelf.old }
