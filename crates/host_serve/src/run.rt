@@ -61,8 +61,8 @@ use std::thread::Threads;
 /// the export. The members served as many connections together as the listener has handed out streams: at status 0 as
 /// many as the words say. Each of these came by a stream that this very listener has handed out, after some calls of
 /// it. Which one, and how many of them had a request, is said by no clause. A connection for which there was no memory
-/// has taken, written and done nothing. That a stream is served by nothing but serving, and not dropped, is said by its
-/// type, and by no clause; that it isn't leaked is tested.
+/// has taken, written and done nothing: so that each stream was served is said by its type, which lets it be spent by
+/// serving alone, and by no clause.
 pub fn run_serve<
     R: Threads + Wait + Sync,
     F: Shelf,

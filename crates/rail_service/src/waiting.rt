@@ -18,9 +18,9 @@ use rail_io::{Clock, Sink, Source};
 use session_loop::{ConnEnd, Outlet};
 use std::alloc::Global;
 
-/// A stream that a listener handed out and that isn't served yet. It can't be dropped, and is served by none but
-/// `serve_waiting` or `spend_permitted`, which may do nothing with it without memory. That it isn't leaked is tested.
-/// Contracts see its source and its sink.
+/// A stream that a listener handed out and that isn't served yet. It can't be dropped: whoever has it has to spend it,
+/// which only `serve_waiting` and `spend_permitted` can; without memory they do nothing with it. Contracts see its
+/// source and its sink.
 pub struct Waiting<I, O> {
     input: I,
     output: O,
@@ -57,10 +57,8 @@ pub struct Finished<I, O> {
 }
 
 /// Serves a stream that was handed out, as `serve_waiting` does, into an outlet of which it is known that it permits
-/// the next bytes of the defined replies, by entries that the desk may have.
-///
-/// Where it permits no others, no others are handed to it at any moment, whether or not the connection ever ends. That
-/// it is so of other outlets too follows from the body's being generic, and is no clause.
+/// the next bytes of the defined replies, by entries that the desk may have. Where it permits no others, no others are
+/// handed to it at any moment, whether or not the connection ever ends.
 pub fn spend_permitted<I: Source, O: Outlet, C: Clock>(
     alloc: Global,
     cat: &Catalogue,
