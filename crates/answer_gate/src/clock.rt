@@ -8,8 +8,10 @@ use rail_io::{Clock, Reach, RouteName};
 use rail_time::Moment;
 use std::sync::Wait;
 
-/// A clock that enters the gate where a command begins that may change bookings, and leaves it where that command has
-/// its answer. Where there is no gate it does as its clock does.
+/// A clock that enters the gate where a command begins that may change bookings: then it holds an `Inside`. It is to
+/// leave the gate where that command has its answer. Where there is no gate it does as its clock does.
+///
+/// What its calls do to the value under the gate's lock, and that its `Inside` is one of that gate, is read (`State`).
 #[derive(Drop)]
 pub struct GatedClock<'g, R, C> {
     clock: C,
@@ -52,11 +54,11 @@ impl<R: Wait, C: Clock> Clock for GatedClock<'_, R, C> {
 
     ghost told = { λ c. C.told c.clock };
 
-    // The command that began is the one under way. Where there is a gate, it was entered and not left by one that may
-    // change bookings.
+    // The command that began is the one under way. Where there is a gate, and that command may change bookings, an
+    // `Inside` is held, which some `State` gave.
     ghost begun = { λ c reach. (c.reach ≡ reach) × (reach ≡ Changes → IfSome c.gate (λ _. IsSome c.inside)) };
 
-    // Whoever leaves the gate waits for a cut.
+    // Whoever holds an `Inside` then waits for a cut.
     ghost ends = { λ c cut _. IfSome c.gate (λ _. IsSome c.inside → 0 < cut) };
 
     fn now(&mut self) -> Moment {

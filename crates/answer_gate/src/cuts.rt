@@ -10,7 +10,8 @@ use std::marker::Brand;
 use std::sync::atomic::{AtomicBool, Ordering};
 use std::sync::{Condvar, Mutex, Wait};
 
-/// A gate, and the cuts that are taken at it: who has them kept, and who waits for that.
+/// A gate, and the cuts that are taken at it: who has them kept, and who waits for that. What its calls do to the
+/// values under its locks, and whom they wake, is read (`State`, `Tally`).
 #[derive(Drop)]
 pub struct Cuts<K: Receipt + Drop = Brand> {
     gate: Gate,
@@ -46,9 +47,9 @@ impl<K: Receipt + Drop> Cuts<K> {
         if cut % 2 == 0 { &self.even } else { &self.odd }
     }
 
-    /// Waits until somebody waits for a cut, closes the gate, and waits until nobody is inside. The gate stays closed
-    /// until `taken` or `lose`. None where there will be no more cuts: all servers have parted and nothing is left to
-    /// be kept, or the journal is lost.
+    /// Is to wait until somebody waits for a cut, to close the gate, and to wait until nobody is inside. The gate is to
+    /// stay closed until `taken` or `lose`. None where there will be no more cuts: all servers have parted and nothing
+    /// is left to be kept, or the journal is lost.
     pub fn next_cut<R: Wait>(&self, rt: &R) -> Option<Closed> {
         let closed = self.gate.close(rt);
         if closed.is_none() {
@@ -58,14 +59,14 @@ impl<K: Receipt + Drop> Cuts<K> {
         closed
     }
 
-    /// The rows were looked at: opens the gate.
+    /// The rows were looked at, so the gate is to open.
     pub fn taken<R: Wait>(&self, rt: &R, closed: Closed) -> Taken
         ensures { result.number ≡ closed.number }
     {
         self.gate.open(rt, closed)
     }
 
-    /// The cut is kept, for which this is the receipt, and all before it: wakes those that wait for it.
+    /// The cut is kept, for which this is the receipt, and all before it. Those that wait for it are to be woken.
     pub fn keep<R: Wait>(&self, rt: &R, taken: Taken, receipt: K)
         requires kept { K.kept taken.number }
         requires of { K.of receipt ≡ taken.number }
@@ -78,7 +79,7 @@ impl<K: Receipt + Drop> Cuts<K> {
         self.gate.keep(rt, number);
     }
 
-    /// The journal is lost, and the cut with it: wakes all. No further cut is ever kept.
+    /// The journal is lost, and the cut with it. All are to be woken, and no further cut is ever to be kept.
     pub fn lose<R: Wait>(&self, rt: &R, taken: Taken) {
         taken.settle();
         self.lost.store(true, Ordering::SeqCst);
@@ -86,15 +87,15 @@ impl<K: Receipt + Drop> Cuts<K> {
         self.end(rt);
     }
 
-    // No more cuts will be kept: wakes those that wait for one.
+    // No more cuts will be kept, and those that wait for one are to be woken.
     fn end<R: Wait>(&self, rt: &R) {
         self.tally.lock(rt).end();
         self.even.notify_all();
         self.odd.notify_all();
     }
 
-    /// Waits until the cut of this number is kept, for which it wakes the committer. Where it is, that is shown of it
-    /// or of a later one. Of false no clause says a cause: it comes where the journal is lost, or over.
+    /// Waits until the cut of this number is kept, for which it is to wake the committer. Where it is, that is shown of
+    /// it or of a later one. Of false no clause says a cause: it is to come where the journal is lost, or over.
     pub fn wait_kept<R: Wait>(&self, rt: &R, cut: u64) -> bool
         ensures { result ≡ true → MayLeave K.kept cut }
     {

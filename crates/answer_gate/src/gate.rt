@@ -4,7 +4,8 @@ ghost use Rattle.std.specs.Prelude.{◌≡◌, ◌<◌};
 use crate::state::{Closed, Cut, Inside, State, Taken};
 use std::sync::{Condvar, Mutex, Wait};
 
-/// The gate that commands go through which change bookings.
+/// The gate that commands go through which change bookings. What its calls do to the value under its lock, and whom
+/// they wake, is read: they are to make the calls of `State`.
 #[derive(Drop)]
 pub struct Gate {
     state: Mutex<State>,
@@ -24,7 +25,7 @@ impl Gate {
         }
     }
 
-    /// Enters. It waits while the gate is closed.
+    /// Enters. It is to wait while the gate is closed.
     pub fn enter<R: Wait>(&self, rt: &R) -> Inside {
         let mut state = self
             .entering
@@ -32,7 +33,8 @@ impl Gate {
         state.enter()
     }
 
-    /// Leaves, and is told the cut of its answer: the next to be taken. Something may have changed.
+    /// Leaves, and is told the cut of its answer, which isn't 0. It is to be the next to be taken, since something may
+    /// have changed.
     pub fn leave<R: Wait>(&self, rt: &R, inside: Inside) -> Cut
         ensures { 0 < result.number }
     {
@@ -46,8 +48,8 @@ impl Gate {
         cut
     }
 
-    /// The cut of an answer that only tells of bookings: the last one, where nothing can have changed since. That may
-    /// be kept already; then whoever waits for it is told so at once.
+    /// The cut of an answer that only tells of bookings. It is to be the last one, where nothing can have changed
+    /// since. That may be kept already; then whoever waits for it is to be told so at once.
     pub fn tell<R: Wait>(&self, rt: &R) -> Cut {
         self.state.lock(rt).tell()
     }
@@ -68,15 +70,15 @@ impl Gate {
         }
     }
 
-    /// Somebody waits for the cut of this number: wakes the committer for it.
+    /// Somebody waits for the cut of this number: the committer is to be woken for it.
     pub(crate) fn want<R: Wait>(&self, rt: &R, cut: u64) {
         if self.state.lock(rt).want(cut) {
             self.committer.notify_one();
         }
     }
 
-    /// Waits until somebody waits for a cut, closes the gate, and waits until nobody is inside. None where there will
-    /// be no more cuts.
+    /// Is to wait until somebody waits for a cut, to close the gate, and to wait until nobody is inside. None where
+    /// there will be no more cuts.
     pub(crate) fn close<R: Wait>(&self, rt: &R) -> Option<Closed> {
         let mut state = self
             .committer

@@ -46,7 +46,7 @@ pub struct Standing {
     pub servers: u32,
 }
 
-/// One who is inside. Whoever has one that a gate gave has entered it and not left.
+/// One who is inside. That whoever has one that a gate gave has entered it and not left is read.
 #[derive(Drop)]
 pub struct Inside {
     _entered: (),

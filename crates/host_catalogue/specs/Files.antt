@@ -41,9 +41,9 @@ IsFileFault file told name NoMemory = ⊤
 IsFileFault file told name (Refused fault) = ⊥
 IsFileFault file told name (RefusedExport fault) = ⊥
 
--- What a load that gave nothing did to the shelf's counts of faults and of misses, each before and after: a failure of
--- the shelf is answered where its faults rose, and else they are as they were. A missing or too large file is answered
--- where its misses rose.
+-- What a load that gave nothing did to the shelf's counts of faults and of misses, each before and after. A failure of
+-- the shelf is answered where its faults rose, or stand at their last value, and else they are as they were. A missing
+-- or too large file is answered where its misses did.
 abbrev pub HasCause : LoadFault → ℕ → ℕ → ℕ → ℕ → Type 0
 HasCause (Missing f) failed fails missed misses = (fails ≡ failed) × Rose missed misses
 HasCause (TooLarge f) failed fails missed misses = (fails ≡ failed) × Rose missed misses

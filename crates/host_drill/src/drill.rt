@@ -174,8 +174,8 @@ pub fn run_drill<R: Threads + Sync, K: Sink, E: Sink>(
     ensures words { result.status ≡ 2 → IsNoDrill (words_texts words.now) }
     ensures nothing_written { result.status ≡ 2 → output.new ≡ output.old }
 
-    // A failure of the output is answered where its count of faults rose in this call, and at every other status that
-    // count is as it was.
+    // A failure of the output is answered where its count of faults rose in this call, or stands at its last value. At
+    // every other status that count is as it was.
     ensures write_cause { result.status ≡ 4 → Rose (K.faults output.old) (K.faults output.new) }
     ensures write_steady { (result.status ≡ 4 → ⊥) → K.faults output.new ≡ K.faults output.old }
 {

@@ -54,17 +54,17 @@ AsksOn zero before after = after ≡ before
 AsksOn (suc n) before after = (mid : Option (List DoorCall)) × AsksOn n before mid × AsksAgain mid after
 
 -- The last time: it gave the stream that is handed out. Or none is handed out: it wasn't asked, it gave a stream that
--- comes too late, or it is gone.
+-- is dropped, or an error that ends it.
 abbrev pub AsksLast : Option (List DoorCall) → Option (List DoorCall) → Bool → Type 0
 AsksLast before after true = after ≡ with_call before Gave
 AsksLast before after false = (after ≡ before) ⊎ ((after ≡ with_call before Gave)
     ⊎ ((code : ℕ) × (Fail ≡ after_refusal code) × (after ≡ with_call before (Refused code))))
 
--- asked until a stream came, or until there will be none
+-- asked again as long as that is allowed, and then the last time
 abbrev pub AsksFor : Option (List DoorCall) → Option (List DoorCall) → Bool → Type 0
 AsksFor before after came = (n : ℕ) × (mid : Option (List DoorCall)) × AsksOn n before mid × AsksLast mid after came
 
--- How a listener asked it that answered so: until a stream came, which is handed out; in vain; or not at all.
+-- How a listener asked it that answered so: a stream came, which is handed out; none is handed out; or it wasn't asked.
 abbrev pub AsksAs : {I O : Type 0} → Option (List DoorCall) → Option (List DoorCall) → Accepted I O → Type 0
 AsksAs before after (Stream waiting) = AsksFor before after true
 AsksAs before after Failed = AsksFor before after false

@@ -7,14 +7,19 @@ use crate::wire::Wire;
 use rail_io::Keeper;
 use std::marker::PhantomData;
 
-/// The reading half of a connection. What was answered is sent before it waits for more.
+/// The reading half of a connection. What was answered is to be sent before it waits for more: of a read that gives
+/// bytes `read` of `Talk` says so.
 ///
-/// A read is set to fail that waits for more than 5 seconds where nothing has come since the last answer. Inside a
-/// request it may wait for 30, and not past the 60th second after the request's first byte. A read fails too before
-/// which the answers can't be sent.
+/// A read is to fail that waits for more than 5 seconds where nothing has come since the last answer. Inside a request
+/// it may wait for 30, and not past the 60th second after the request's first byte. A read is to fail too before which
+/// the answers can't be sent.
 ///
-/// Where the other side hasn't ended the connection when it is let go, it is told that no more answers come. What it
-/// still sends is read away for a moment, so that it gets to read the last answer.
+/// Where a read gives bytes, its stream is set to the limit that its pace then has, or neither has changed. That a read
+/// asks its pace for that limit first, and tells it what came, is read. What the pace makes of these is said by its
+/// clauses.
+///
+/// Where the other side hasn't ended the connection when it is let go, it is to be told that no more answers come. What
+/// it still sends is to be read away for a moment, so that it gets to read the last answer: see `Talk`.
 pub struct SocketReader<
     W: Wire + Drop,
     K: Keeper + Drop,

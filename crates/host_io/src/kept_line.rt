@@ -9,7 +9,7 @@ use crate::wire::Wire;
 use rail_io::{Keeper, Pushed, PushedBoth, Sink, pushed_of};
 
 /// A line as a sink. One piece goes out by a call for one, and two go out by a call for both, which costs the system
-/// more. Nothing goes out before the cut is kept that it is held for.
+/// more. Nothing goes out before its keeper finds the cut kept that it is held for. What that means the keeper shows.
 #[derive(Drop)]
 pub(crate) struct KeptLine<W: Wire + Drop, K: Keeper + Drop> {
     pub(crate) line: Line<W>,
@@ -38,7 +38,7 @@ impl<W: Wire + Drop, K: Keeper + Drop> KeptLine<W, K> {
         }
     }
 
-    // Waits until bytes may go out: false, where they never may. Then they may not at a later call either.
+    // Waits until bytes may go out. It is to be false where they never may: of false no clause says a cause.
     fn may_leave(&mut self) -> bool
         ensures line { self.new.line ≡ self.old.line }
         ensures faults { self.new.faults ≡ self.old.faults }
@@ -55,7 +55,7 @@ impl<W: Wire + Drop, K: Keeper + Drop> KeptLine<W, K> {
         false
     }
 
-    // Lets a piece go out, whose cut is kept.
+    // Lets a piece go out, whose cut was found kept.
     fn let_out(&mut self, piece: &[u8]) -> Pushed
         requires kept { self.old.cut ≤ self.old.kept }
         ensures pushes { Pushes (W.outgoing self.old.line.wire) (W.outgoing self.new.line.wire) piece.now result }
@@ -82,7 +82,7 @@ impl<W: Wire + Drop, K: Keeper + Drop> KeptLine<W, K> {
         pushed_of(self.line.send_both(first, second))
     }
 
-    // Lets a piece go out once its cut is kept. It fails where that never will be.
+    // Lets a piece go out once its cut is found kept. It is to fail where that never will be.
     fn push(&mut self, piece: &[u8]) -> Pushed
         ensures pushes { Pushes (W.outgoing self.old.line.wire) (W.outgoing self.new.line.wire) piece.now result }
         ensures faults { self.new.faults ≡ self.old.faults }

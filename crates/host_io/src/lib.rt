@@ -3,7 +3,8 @@
 //! `TcpPort` stands before a port, whose answers an `Outbox` holds back, and `SleepTicker` before the machine's clock.
 //!
 //! It is a crate of its own since `TcpPort`, its streams and `SleepTicker` are the edge of the proof: what the system
-//! does is trusted there. What is made of its answers is proved, but for the lines that docs/proved.md lists.
+//! does is trusted there. What single answers mean is proved. What is done then is proved as far as the clauses of
+//! `Talk`, `Port` and `FileJournal` go, and but for the lines that docs/proved.md lists.
 #![tactic(auto)]
 
 mod address;

@@ -175,7 +175,9 @@ impl<W: Wire + Drop, K: Keeper + Drop> Talk<W, K> {
         self.limit_read(watch)
     }
 
-    /// Reads some of what has come, or waits for it, once all that was answered is sent.
+    /// Reads some of what has come, or waits for it. Where it gives bytes, all that was answered is sent, and its
+    /// stream is set to the limit that its pace then has, or neither has changed. That it asks its pace for that limit
+    /// first, and tells it what came, is read.
     pub(crate) fn read<T: Watch>(&mut self, watch: &mut T, room: &mut [u8]) -> io::Result<usize>
         ensures same { answered_by W.outgoing self.new ≡ answered_by W.outgoing self.old }
         ensures all { IsOk result → self.new.outbox.held ≡ [] }
@@ -193,8 +195,8 @@ impl<W: Wire + Drop, K: Keeper + Drop> Talk<W, K> {
         answer
     }
 
-    /// Sends what was answered, and reads away for a moment what still comes where the other side hasn't ended the
-    /// connection, so that it gets to read the last answer.
+    /// Sends what was answered. Where the other side hasn't ended the connection, it is to drain the stream then, so
+    /// that the other side gets to read the last answer. Of that a clause speaks at `drain` alone.
     pub(crate) fn end<T: Watch>(&mut self, watch: &mut T)
         ensures same { answered_by W.outgoing self.new ≡ answered_by W.outgoing self.old }
         ensures sent { (self.new.failed ≡ true)
@@ -207,7 +209,8 @@ impl<W: Wire + Drop, K: Keeper + Drop> Talk<W, K> {
     }
 }
 
-/// Tells the other side that no more comes, and reads away what it still sends, for about two seconds at most.
+/// Is to tell the other side that no more comes, and to read away what it still sends, for about two seconds at most.
+/// Only the stream's end and limit have a clause, and that where it went well.
 fn drain<W: Wire + Drop, T: Watch>(watch: &mut T, line: &mut Line<W>) -> io::Result<()>
     ensures sent { W.outgoing line.new.wire ≡ W.outgoing line.old.wire }
     ensures told { OnOk result (limits_of (W.settings line.new.wire) ≡ drained (limits_of (W.settings line.old.wire))) }

@@ -11,8 +11,8 @@ use std::net::{IpAddr, Net, SocketAddr, TcpListener, TcpStream};
 use std::time::Duration;
 use std::{io, thread, time};
 
-/// Makes an accepted stream ready to be served: it sends without delay, a write of more than 30 seconds fails, and so
-/// does a first read of more than 5.
+/// Makes an accepted stream ready to be served: it is to send without delay, and a write of more than 30 seconds is to
+/// fail, and a first read of more than 5. No clause says so.
 pub fn make_ready(stream: &TcpStream) -> io::Result<()> {
     stream.set_nodelay(true)?;
     stream.set_read_timeout(Some(Duration::from_secs(IDLE_SECONDS)))?;

@@ -46,14 +46,17 @@ fn talk_of<W: Wire + Drop, K: Keeper + Drop>(
     Ok(Talk::new(KeptLine::of(Line::of(wire), keeper), outbox))
 }
 
-/// Listens at 127.0.0.1, or at another address that it is given. Its streams are set to send without delay, and a write
-/// to fail that waits for more than 30 seconds. A read is set to fail that waits for more than 5 seconds between two
-/// requests, or for more than 30 inside one, or until 60 have gone by since its first byte. That the system keeps these
-/// limits is trusted.
+/// Listens at 127.0.0.1, or at another address that it is given.
 ///
-/// No answer is to leave before the cut is kept that it is held for, and where the journal is lost, an accept fails.
+/// Its streams are to send without delay. A write is to fail that waits for more than 30 seconds. So is a read that
+/// waits for more than 5 seconds between two requests, or for more than 30 inside one, or until 60 have gone by since
+/// its first byte.
 ///
-/// What it hands out is counted, where there are counters.
+/// That its streams send without delay, which limits their writes and first reads have, and that an accept fails where
+/// the journal is lost, no clause says. Of a later read see `Talk`. That the system keeps these limits is trusted.
+///
+/// No answer is to leave before the cut is kept that it is held for. What it hands out is to be counted, where there
+/// are counters.
 #[derive(Drop)]
 pub struct Port<'c, D: Door + Drop, T: Watch + Copy + Drop, K: Keeper + Copy + Drop> {
     door: D,
@@ -121,8 +124,8 @@ impl<'c, D: Door + Drop, T: Watch + Copy + Drop, K: Keeper + Copy + Drop> Port<'
         self.faults = self.faults.saturating_add(1);
     }
 
-    // Asks the door once, unless the journal is lost then: None for a connection that comes too late. An error says
-    // what to do where there is none, also where there is no memory for it.
+    // Asks the door once. None where it gave a connection that is dropped: it is to be so only where the journal is
+    // lost. An error says what to do where there is none, also where there is no memory for it.
     fn accept_one(&mut self) -> Result<Option<Halves<D::Wire, K, T>>, AfterRefusal>
         ensures gave { OnOk result (D.calls self.new.door ≡ with_call (D.calls self.old.door) Gave) }
         ensures refused { IfErr result (Refuses (D.calls self.old.door) (D.calls self.new.door)) }
@@ -144,8 +147,8 @@ impl<'c, D: Door + Drop, T: Watch + Copy + Drop, K: Keeper + Copy + Drop> Port<'
         }
     }
 
-    // Asks once, and waits where something is wanting that comes back: None where it is to be asked again, else what
-    // comes of it.
+    // Asks at most once, and waits where something is wanting that comes back: None where it is to be asked again, else
+    // what comes of it.
     fn ask(&mut self) -> Option<Option<Halves<D::Wire, K, T>>>
         ensures last { IfSome result (λ halves.
             AsksLast (D.calls self.old.door) (D.calls self.new.door) (is_some halves)) }
@@ -166,8 +169,11 @@ impl<'c, D: Door + Drop, T: Watch + Copy + Drop, K: Keeper + Copy + Drop> Port<'
         }
     }
 
-    /// The next connection, for which it may wait, also until handles and memory are there again. None where the
-    /// listener is gone or its keeper has lost: that is asked before each wait and after it, since a bell may end one.
+    /// The next connection, for which it may wait, also until handles and memory are there again. None only where the
+    /// door wasn't asked the last time, gave a stream that is dropped, or gave an error that ends it.
+    ///
+    /// That it goes on asking no clause says. Whether its keeper has lost is asked before each wait and after it, since
+    /// a bell may end one: that is read.
     pub(crate) fn next_stream(&mut self) -> Option<Halves<D::Wire, K, T>>
         ensures asks { AsksFor (D.calls self.old.door) (D.calls self.new.door) (is_some result) }
         ensures same { self.new ≡ record self.old { door = self.new.door } }

@@ -10,7 +10,8 @@ use std::time;
 /// How long it sleeps before it asks its keeper again.
 const STEP_MILLISECONDS: u64 = 1_000;
 
-/// Ticks after having slept for the seconds, for ever, or until its keeper has lost: then it ends within a second.
+/// Where it ticks, it has slept for the seconds. When it doesn't, no clause says: it is to tick for ever, or to end
+/// within a second where its keeper has lost.
 #[derive(Drop)]
 pub struct SleepTicker<N: Naps + Drop, K: Keeper + Drop> {
     naps: N,
@@ -18,7 +19,7 @@ pub struct SleepTicker<N: Naps + Drop, K: Keeper + Drop> {
 }
 
 impl<C: time::Clock + Copy + Drop> SleepTicker<SystemWatch<C>, NoKeeper> {
-    /// A ticker that sleeps by this clock, and ticks for ever.
+    /// A ticker that sleeps by this clock, and is to tick for ever.
     pub fn new(clock: C) -> Self
         ensures clock { result.naps.clock ≡ clock }
     {
@@ -27,7 +28,7 @@ impl<C: time::Clock + Copy + Drop> SleepTicker<SystemWatch<C>, NoKeeper> {
 }
 
 impl<C: time::Clock + Copy + Drop, K: Keeper + Drop> SleepTicker<SystemWatch<C>, K> {
-    /// A ticker that sleeps by this clock, and ends once the keeper has lost.
+    /// A ticker that sleeps by this clock, and is to end once the keeper has lost.
     pub fn until_lost(clock: C, keeper: K) -> Self
         ensures clock { result.naps.clock ≡ clock }
         ensures keeper { result.keeper ≡ keeper }

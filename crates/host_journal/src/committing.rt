@@ -15,9 +15,11 @@ use std::alloc::Global;
 use std::sync::Wait;
 use worker_pool::TurnEnd;
 
-/// Takes cuts. It waits until somebody waits for a cut and no command that may change bookings is under way, looks at
-/// the rows that are marked, lets commands go on, and has the journal keep the lines of those rows. Whoever waits for
-/// the cut hears that it is kept. Of all this a contract says what the desk does, and which lines are kept.
+/// Takes cuts. It is to wait until somebody waits for a cut and no command that may change bookings is under way. Then
+/// it is to look at the rows that are marked, let commands go on, and have the journal keep the lines of those rows.
+/// Whoever waits for the cut is to hear that it is kept.
+///
+/// Of all this a contract says that the desk looks, and that the lines kept are those of some rows.
 #[derive(Drop)]
 pub struct Committer<'g, R, J, B> {
     pub rt: &'g R,
@@ -30,8 +32,9 @@ pub struct Committer<'g, R, J, B> {
 }
 
 impl<R: Wait, J: Journal, B: Bell> Committer<'_, R, J, B> {
-    /// Looks at the rows that were marked since the cut before, or at all; opens the gate; and has their lines kept.
-    /// Gives the cut that was taken, and a receipt where it is kept.
+    /// Looks at the rows that are set in some marks, or at all; opens the gate; and has their lines kept. Gives the cut
+    /// that was taken, and a receipt where it is kept. That the marks are those since the cut before, and what becomes
+    /// of the gate, no clause says.
     fn take_cut(&mut self, closed: Closed, books: &Books, desk: &mut Desk) -> (Taken, Option<Kept>)
         requires own { IsOf books.now desk.old }
         requires tidy { IsTidy desk.old }

@@ -75,7 +75,8 @@ impl ServeOutcome {
     }
 }
 
-/// Why serving ended, with a journal or without one.
+/// Why serving ended, with a journal or without one. That `Locked`, `Failed` and `Lost` have these causes no clause
+/// says.
 #[derive(Drop)]
 pub enum KeptOutcome {
     /// As it ends without one.

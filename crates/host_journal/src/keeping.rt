@@ -37,7 +37,7 @@ pub struct Keeping<'g, J, B> {
     pub bell: B,
 }
 
-/// Why serving with a journal didn't begin.
+/// Why serving with a journal didn't begin. That `Locked` and `Failed` have these causes no clause says.
 #[derive(Drop)]
 pub enum KeepFault {
     /// Another host has the journal.

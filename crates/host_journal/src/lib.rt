@@ -1,9 +1,10 @@
 //! The journal of `serve`: the books that it leaves at a start, and the member that has bookings kept in it.
 //!
-//! `open_journal` opens the books of a catalogue with the bookings that the journal leaves, and writes the journal anew.
-//! `Log` knows the journal's text, and grows by cuts. `Committer` takes the cuts: it looks at the rows that were marked,
-//! and has their lines kept. It is one of the members that watch, whose desks only look, and whose trait is `Watcher`.
-//! How serving ends, with a journal or without one, is a `KeptOutcome`.
+//! `open_journal` opens the books of a catalogue with the bookings that the journal leaves, and writes the journal
+//! anew. `Log` knows the journal's text, and grows by cuts. `Committer` takes the cuts: it is to look at the rows that
+//! were marked, and to have their lines kept. Of that a contract says that its desk looks, and that the lines kept are
+//! those of some rows. It is one of the members that watch, whose desks only look, and whose trait is `Watcher`. How
+//! serving ends, with a journal or without one, is a `KeptOutcome`.
 //!
 //! It is a crate of its own since nothing of it serves a connection.
 #![tactic(auto)]

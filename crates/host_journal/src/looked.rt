@@ -31,8 +31,9 @@ impl Looked {
     }
 }
 
-/// The lines of all rows, or of those that are marked, as looks show them while the gate is closed. The marks are taken
-/// meanwhile; or left, where all rows are looked at, so that the next cut has these rows once more.
+/// The lines of all rows, or of those that are set in some marks, as looks show them while the gate is closed. It is to
+/// take the marks of all rows meanwhile; or to leave them, where all rows are looked at, so that the next cut has these
+/// rows once more.
 pub fn look(
     closed: &Closed,
     alloc: Global,

@@ -134,8 +134,8 @@ pub fn run_replay<F: Shelf, S: Source, K: Sink, E: Sink>(
     ensures write_fault { WritesWhere (result ≡ 4) (S.told input.old) (K.told output.old) (K.told output.new)
         (λ stream written. RepliesPart (words_texts words.now) (F.told shelf.old) stream (S.told input.new) written) }
 
-    // A device's failure is answered where its count of faults rose in this call, and at every other status that count
-    // is as it was.
+    // A device's failure is answered where its count of faults rose in this call, or stands at its last value. At every
+    // other status that count is as it was.
     ensures read_cause { result ≡ 3 → Rose (S.faults input.old) (S.faults input.new)
         ⊎ Rose (F.faults shelf.old) (F.faults shelf.new) }
     ensures write_cause { result ≡ 4 → Rose (K.faults output.old) (K.faults output.new) }

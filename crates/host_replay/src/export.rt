@@ -198,8 +198,9 @@ pub fn run_export<F: Shelf, S: Source, K: Sink, E: Sink>(
         → (answers : List ℕ) × EndsCut (words_texts words.now) (F.told shelf.old) stream answers }
     ensures nothing_written { (result ≡ 0 → ⊥) → (result ≡ 4 → ⊥) → output.new ≡ output.old }
 
-    // A device's failure is answered where its count of faults rose in this call, and at every other status that count
-    // is as it was. But at status 5 the input may have failed after an answer that there is no memory.
+    // A device's failure is answered where its count of faults rose in this call, or stands at its last value. At every
+    // other status that count is as it was. But at status 5 the input may have failed after an answer that there is no
+    // memory.
     ensures read_cause { result ≡ 3 → Rose (S.faults input.old) (S.faults input.new)
         ⊎ Rose (F.faults shelf.old) (F.faults shelf.new) }
     ensures write_cause { result ≡ 4 → Rose (K.faults output.old) (K.faults output.new) }

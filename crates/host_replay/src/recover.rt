@@ -88,8 +88,8 @@ pub fn run_recover<F: Shelf, K: Sink, E: Sink>(
         × IsExportFrom (words_texts words.now) (F.told shelf.old) (front ++ back) }
     ensures nothing_written { (result ≡ 0 → ⊥) → (result ≡ 4 → ⊥) → output.new ≡ output.old }
 
-    // A device's failure is answered where its count of faults rose in this call, and at every other status that count
-    // is as it was.
+    // A device's failure is answered where its count of faults rose in this call, or stands at its last value. At every
+    // other status that count is as it was.
     ensures read_cause { result ≡ 3 → Rose (F.faults shelf.old) (F.faults shelf.new) }
     ensures write_cause { result ≡ 4 → Rose (K.faults output.old) (K.faults output.new) }
     ensures write_steady { (result ≡ 4 → ⊥) → K.faults output.new ≡ K.faults output.old }

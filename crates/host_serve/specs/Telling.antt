@@ -62,8 +62,8 @@ WritesExport (Some w) n old new =
     ⊎ (IsPart (text_on w) n × (new ≡ cut_short old))
 
 -- What was written of the export by the end: all of it, where as many connections as were asked for have ended. Where
--- an accept failed, as much of it as the notes took, or nothing, out of memory. Nothing at other ends, and where the
--- words don't ask for it.
+-- an accept failed, as much of it as the notes took, or nothing, of which no cause is said. Nothing at other ends, and
+-- where the words don't ask for it.
 abbrev pub Tells : List (List ℕ) → Option WallView → Noting → ServeOutcome → Type 0
 Tells words wall n end.Served =
     (IsPlain words × IsSilent n) ⊎ (IsExporting words × IsSomeAnd wall (λ w. IsWhole (text_on w) n))

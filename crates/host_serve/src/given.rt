@@ -176,7 +176,7 @@ where
     }
 
     /// Serves the catalogue's books with the bookings that the journal of the words leaves, or that their export begins
-    /// with, and has them kept there.
+    /// with. It is to have them kept there.
     fn serve_left<F: Shelf, J: Journal + Drop + Send, B: Bell + Drop + Send>(
         self,
         cat: &Catalogue,

@@ -42,7 +42,8 @@ fn said_of<'a>(alloc: Global, words: &'a [String]) -> Result<ServeWords<'a>, Wor
 }
 
 /// Writes the export of the wall, where there is one and it is asked for: how serving ends then, which had ended so. An
-/// end that isn't one of serving alone stays, whatever becomes of the text.
+/// end that isn't one of serving alone stays, whatever becomes of the text. Where nothing of it is written at such an
+/// end, no clause says a cause.
 fn write_kept<E: Sink>(
     alloc: Global,
     wall: &Option<Wall>,

@@ -13,7 +13,8 @@ use row_cuts::{SoldCount, count_rows, count_sold};
 use std::sync::Wait;
 use worker_pool::TurnEnd;
 
-/// Waits until somebody asks what is in the books, looks at all rows and all places of the catalogue, and answers.
+/// Waits until somebody asks what is in the books, looks at all rows and all places of the catalogue, and answers. Of
+/// that a clause says only that its desk looks.
 #[derive(Drop)]
 pub struct Looker<'f, R> {
     rt: &'f R,
@@ -31,7 +32,8 @@ impl<'f, R> Looker<'f, R> {
     }
 }
 
-/// How many places of each class are sold. Books without these places have none.
+/// How many places of each class are sold, none where the books lack these places. A clause says only that the desk
+/// looks.
 fn sold_in(cat: &Catalogue, books: &Books, desk: &mut Desk) -> SoldCount
     requires own { IsOf books.now desk.old }
     requires tidy { IsTidy desk.old }

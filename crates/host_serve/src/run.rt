@@ -35,11 +35,11 @@ use std::sync::Wait;
 use std::thread::Threads;
 
 /// Serves a catalogue to connections. As many members as the words say take streams in turn from the listener behind a
-/// lock, each at a desk and a clock of its own, and one further member sweeps at each tick. The words
-/// are those after the program's name: `serve`, the name of the catalogue's file, `--port`, and with `--workers`,
+/// lock, each at a desk and a clock of its own, and one further member sweeps at each tick but maybe the last. The
+/// words are those after the program's name: `serve`, the name of the catalogue's file, `--port`, and with `--workers`,
 /// `--connections` and `--sweep` how many members serve, how many connections are taken, and the seconds from one sweep
-/// to the next. With `--from` the books open with the bookings of the export of this name, and with `--export` the
-/// export of the books is written to the notes at the end, also after a failed accept.
+/// to the next. With `--from` the books open with the bookings of the export of this name. With `--export` the export
+/// of the books is written to the notes at the end. After a failed accept it is to be too.
 ///
 /// | status | where |
 /// |---|---|
@@ -51,18 +51,18 @@ use std::thread::Threads;
 /// | 5 | there was no memory to begin with, or, where all connections have ended, for the export |
 ///
 /// Each has the note of its end, after the export. After a failed accept the status is 3, whatever becomes of the
-/// export: the notes take all of it, a front of it where they fail, or nothing of it where there is no memory for it.
+/// export. The notes take all of it, a front of it where they fail, or nothing of it, of which no clause says a cause.
 ///
 /// The end of one connection changes no status, and neither does a note that fails. It may wait, so all this is said
-/// where it returns. Wherever members ran, the books are finished and handed back. In the wall's history the first desk
-/// only met others, each serving member's entries are those of the connections that it served, and the last member's
-/// those of its sweeps; no other desk has any. Each desk is between two calls of the service, so that the wall has an
-/// export. All these desks are of one set of books, which the first finished: the wall is theirs, and so is the export.
-/// The members served as many connections together as the listener has handed out streams: at status 0 as many as the
-/// words say. Each of these came by a stream that this very listener has handed out, after some calls of it. Which one,
-/// and how many of them had a request, is said by no clause. A connection for which there was no memory has taken,
-/// written and done nothing: so that each stream was served is said by its type, which lets it be spent by serving
-/// alone, and by no clause.
+/// where it returns. Wherever a stream was handed out, the books are finished and handed back. In the wall's history
+/// the first desk only met others, each serving member's entries are those of the connections that it served, and the
+/// last member's those of its sweeps; no other desk has any. Each desk is between two calls of the service, so that the
+/// wall has an export. All these desks are of one set of books, which the first finished: the wall is theirs, and so is
+/// the export. The members served as many connections together as the listener has handed out streams: at status 0 as
+/// many as the words say. Each of these came by a stream that this very listener has handed out, after some calls of
+/// it. Which one, and how many of them had a request, is said by no clause. A connection for which there was no memory
+/// has taken, written and done nothing: so that each stream was served is said by its type, which lets it be spent by
+/// serving alone, and by no clause.
 pub fn run_serve<
     R: Threads + Wait + Sync,
     F: Shelf,
@@ -136,8 +136,8 @@ where
     ensures missed { result.status ≡ 1 → Rose (F.misses shelf.old) (F.misses shelf.new)
         ⊎ IsOfRefusedText (words_texts words.now) (F.told shelf.old) }
 
-    // A failure is answered where a count of faults rose in this call, and both counts are as they were at every other
-    // status: after a failed accept none other comes. The listener's never falls.
+    // A failure is answered where a count of faults rose in this call, or stands at its last value. Both counts are as
+    // they were at every other status: after a failed accept none other comes. The listener's never falls.
     ensures read_cause { result.status ≡ 3 → Rose (L.faults listener) (L.faults result.listener)
         ⊎ Rose (F.faults shelf.old) (F.faults shelf.new) }
     ensures shelf_steady { (result.status ≡ 3 → ⊥) → F.faults shelf.new ≡ F.faults shelf.old }

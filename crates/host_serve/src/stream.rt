@@ -17,8 +17,10 @@ use rail_service::{Finished, Waiting, spend_permitted};
 use session_loop::Outlet;
 
 /// Serves a stream that was handed out to its connection's end, and hands it back as it is then: what is served is that
-/// stream, from the bytes that its source told to those that its outlet took. Whatever the outlet permits, at no moment
-/// is it handed other bytes than the next of the defined replies.
+/// stream, from the bytes that its source told to those that its outlet took.
+///
+/// An outlet that permits nothing but the next bytes of defined replies, by entries that the desk may have, is at no
+/// moment handed others. That it is so of other outlets too follows from the body's being generic, and is no clause.
 pub fn serve_stream<I: Source, O: Outlet, C: Clock>(
     common: Common<'_>,
     books: &Books,
@@ -48,8 +50,8 @@ pub fn serve_stream<I: Source, O: Outlet, C: Clock>(
         (connection_at desk.new (C.told clock.new) (I.told result.input) (O.told result.output))
         waiting.output result.output result.end }
 
-    // A device's failure is the end where its count of faults rose in this call, and at every other end that count is
-    // as it was.
+    // A device's failure is the end where its count of faults rose in this call, or stands at its last value. At every
+    // other end that count is as it was.
     ensures read_cause { result.end ≡ ReadFault → Rose (I.faults waiting.input) (I.faults result.input) }
     ensures write_cause { result.end ≡ WriteFault → Rose (O.faults waiting.output) (O.faults result.output) }
     ensures read_steady { (result.end ≡ ReadFault → ⊥) → I.faults result.input ≡ I.faults waiting.input }

@@ -90,8 +90,8 @@ pub fn run_tiny<S: Source, K: Sink, E: Sink>(
     ensures write_fault { WritesWhere (result ≡ 4) (S.told input.old) (K.told output.old) (K.told output.new)
         (λ stream written. IsWriteFault (words_texts words.now) stream (S.told input.new) written) }
 
-    // A device's failure is answered where its count of faults rose in this call, and at every other status
-    // that count is as it was.
+    // A device's failure is answered where its count of faults rose in this call, or stands at its last value. At every
+    // other status that count is as it was.
     ensures read_cause { result ≡ 3 → Rose (S.faults input.old) (S.faults input.new) }
     ensures write_cause { result ≡ 4 → Rose (K.faults output.old) (K.faults output.new) }
     ensures read_steady { (result ≡ 3 → ⊥) → S.faults input.new ≡ S.faults input.old }

@@ -23,8 +23,8 @@ pub record Talk : Type 0 where
   pub before : Option (List ℕ)
   pub after : Option (List ℕ)
 
--- Of the bytes taken, each request is answered once, in order, by its page, and last what stands in a request's place.
--- Or there was no memory, and nothing was taken and written.
+-- Of the bytes taken, each request is answered once, in order, up to a write fault, by its page, and last what stands
+-- in a request's place. Or there was no memory, and nothing was taken and written.
 abbrev pub IsShown : {R : Type 0} → Pages R → Pages R → Talk → ConnEnd → Type 0
 IsShown {R} old new t NoMemory = (t.left ≡ t.came) × (t.after ≡ t.before)
 IsShown {R} old new t end =

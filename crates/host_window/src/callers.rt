@@ -24,8 +24,9 @@ pub trait Callers {
     fn next_caller(&mut self) -> Option<(Self::Input, Self::Output)>;
 }
 
-/// Answers the requests of one connection, each once and in order, by the pages. Where there is no memory to begin
-/// with, nothing is read or written.
+/// Each request that is taken is answered once, in order, up to a write fault, by its method and path: with how some
+/// host does, with some numbers, or with 500. Or there is no memory, and nothing is taken or written: of that no clause
+/// says a cause.
 pub fn show_pages<R: Wait, S: Source, K: Sink>(
     source: &mut S,
     sink: &mut K,
@@ -48,7 +49,8 @@ pub fn show_pages<R: Wait, S: Source, K: Sink>(
     run_session(&mut intake, source, sink, pages)
 }
 
-/// Shows the pages to all who look, one after the other, until there will be none any more or the host is over.
+/// Is to show the pages to all who look, one after the other, by `show_pages`, until there will be none any more or the
+/// host is over. No clause speaks of it.
 pub fn show_all<R: Wait, W: Callers>(rt: &R, alloc: Global, callers: &mut W, counters: &Counters) {
     for _ in 0..u64::MAX {
         let Some((mut input, mut output)) = callers.next_caller() else {

@@ -1,20 +1,24 @@
 //! The operator's window: a port that says whether the host is well, and what it has done.
 //!
-//! The devices here stand before those of the host, and hand on just what these answer: `CountingSource` and
-//! `CountingSink` count bytes and answers, `CountingTicker` sweeps, and `CountingJournal` what is kept. `CountingClock`
-//! is the system's clock, and counts requests and times. They raise the numbers of `Counters`, which all threads share
-//! and which are added up where they are asked for.
+//! The devices here stand before those of the host, and tell what these tell: `CountingSource` and `CountingSink` count
+//! bytes and answers, `CountingTicker` sweeps, and `CountingJournal` what is kept. `CountingClock` is the system's
+//! clock, and counts requests and times. They are to raise the numbers of `Counters`, which all threads share and which
+//! are added up where they are asked for. What these shared numbers are, no clause says.
 //!
-//! `show_all` serves those who look, one after the other, by `Pages`: each request is answered once, in order, by its
-//! method and its path (`show_pages`). `window_page` writes the counts for Prometheus, in its text format of version
-//! 0.0.4. Its contract says every byte: `specs/Texts` has the form of a family of numbers, `specs/Metrics` the
-//! families, and `specs/Routes` those of routes.
+//! `show_all` is to serve those who look, one after the other, by `show_pages`; of it no clause speaks. Of a connection
+//! that `show_pages` serves, each request that is taken is answered once, in order, up to a write fault, by its method
+//! and path. The answer says how some host does, has some numbers, or is 500. Or there is no memory, and nothing is
+//! taken or written. `window_page` writes the counts for Prometheus, in its text format of version 0.0.4. Its contract
+//! says every byte: `specs/Texts` has the form of a family of numbers, `specs/Metrics` the families, and `specs/Routes`
+//! those of routes.
 //!
 //! What is in the books a member of the host looks up, where the window asks for it by `Findings`, by which sweeps also
 //! tell what they found. `specs/Finds` has their families.
 //!
-//! `count_session` is a session in memory whose counts stand in memory too: each answer of which a byte was taken is
-//! counted once, by its status, and the counts add up to these answers (`counts_add_up`).
+//! `count_session` is a session into an empty sink in memory, whose answers follow from their number alone and whose
+//! counts stand in memory too. Each answer of which a byte was taken is counted once, by its status, of which 15 have a
+//! count of their own. The counts add up to the answers of which a byte was taken, while that is a number of 64 bits
+//! (`counts_add_up`).
 //!
 //! The crate knows no booking and no host: it takes nothing but numbers.
 #![tactic(auto)]

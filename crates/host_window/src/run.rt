@@ -74,8 +74,9 @@ impl<K: Sink, R, P: Script<R>> Outlet for ScriptOutlet<'_, K, R, P> {
     }
 }
 
-/// Runs a session whose answers are known before into a sink in memory with counts in memory. Each answer of which the
-/// sink has taken a byte is counted once, by its status, whatever parts of it the sink takes at a time.
+/// Runs a session whose answers follow from their number alone into an empty sink in memory with counts in memory. Each
+/// answer of which the sink has taken a byte is counted once, whatever parts of it the sink takes at a time. It is
+/// counted by its status, of which 15 have a count of their own.
 pub fn count_session<S: Source, K: Sink, R: Responder, P: Script<R>>(
     intake: &mut Intake,
     source: &mut S,

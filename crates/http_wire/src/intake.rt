@@ -277,9 +277,9 @@ impl Intake {
         self.next_request_counted(source, &mut steps)
     }
 
-    /// `next_request`, whose steps are counted: a step is one byte looked at in the search for a head's end. No byte is
-    /// looked at twice, in all the calls for one request, and none that stands after it: so all calls together take at
-    /// most as many steps as bytes came.
+    /// `next_request`, whose steps are counted: a step is to be one byte looked at in the search for a head's end. All
+    /// calls for one request together take at most one for each of its bytes, and none for bytes after it: so at most
+    /// as many as bytes came. That each byte looked at is a step is read.
     pub fn next_request_counted<S: Source, L: Ledger>(
         &mut self,
         source: &mut S,

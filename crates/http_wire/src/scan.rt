@@ -5,8 +5,8 @@ ghost use Rattle.http_wire.specs.Scan.{StandsFor, IsFoundFrom, looked_until, is_
 use std::sync::ledger::Ledger;
 use step_count::Steps;
 
-/// Where the search for the end of a head (RFC 9112, section 2.1) stands: each byte is looked at once, whatever
-/// pieces the bytes come in. Empty lines before the request line are skipped.
+/// Where the search for the end of a head (RFC 9112, section 2.1) stands: each byte takes one step, whatever pieces the
+/// bytes come in. Empty lines before the request line are skipped.
 #[derive(Clone, Copy, PartialEq, Eq)]
 pub struct HeadScan {
     /// The place after the head's end, which is that of the first empty line after a line that isn't empty.
@@ -168,8 +168,8 @@ impl HeadScan {
         }
     }
 
-    /// The search with the piece after what was searched, for every list of bytes that was searched. A step is one
-    /// byte looked at: no byte is looked at twice, and none past the head's end.
+    /// The search with the piece after what was searched, for every list of bytes that was searched. It takes one step
+    /// for each byte up to the head's end, and none for those past it. That each byte looked at is a step is read.
     pub fn feed<L: Ledger>(self, piece: &[u8], steps: &mut Steps<L>) -> HeadScan
         requires small { self.at + length piece.now ≤ 278528 }
         ensures stands { (bytes : List ℕ) → StandsFor self bytes → StandsFor result (bytes ++ piece.now) }

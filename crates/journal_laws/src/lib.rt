@@ -6,10 +6,16 @@
 //! the journal is written. The gate's calls are those of `State` (answer_gate), by the definitions of its clauses: under
 //! a lock they come one after another, however many threads make them.
 //!
-//! Three things are premises here. A desk makes an entry that isn't a look only while somebody is inside of the gate: so
-//! say `begun` of `say_begun` (rail_service) and of `sweep_begun` (host_serve), with an `Inside` that the clock holds.
-//! Whoever leaves was inside: the call takes that `Inside`. And those who wait for a cut hear that it is kept once the
-//! journal has it: `keep` of `Cuts` takes a receipt, which only a log makes.
+//! These are premises here:
+//!
+//! - A desk makes an entry that isn't a look only while somebody is inside of the gate. So say `begun` of `say_begun`
+//!   (rail_service) and of `sweep_begun` (host_serve), as far as the `Inside` that the clock holds is this gate's,
+//!   which is read.
+//! - Whoever leaves was inside: the call takes that `Inside`.
+//! - An answer's cut is given after all that the answer tells was seen.
+//! - The journal has each cut before the one that it has. A cut's looks begin once it is taken.
+//! - Those who wait for a cut hear that it is kept once the journal has it: `keep` of `Cuts` takes a receipt, which
+//!   only a log makes.
 //!
 //! The crate has definitions and laws alone: it does nothing when it runs.
 //!

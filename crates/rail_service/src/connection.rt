@@ -54,8 +54,8 @@ fn serve<S: Source, K: Outlet, C: Clock>(
 }
 
 /// Serves one connection, as `serve_connection` does, into an outlet of which it is known that it permits the next
-/// bytes of the defined replies, by entries that the desk may have. Whatever the outlet permits, no other bytes are
-/// handed to it at any moment, whether or not the connection ever ends.
+/// bytes of the defined replies, by entries that the desk may have. Where it permits no others, no others are handed to
+/// it at any moment, whether or not the connection ever ends.
 pub fn serve_permitted<S: Source, K: Outlet, C: Clock>(
     alloc: Global,
     cat: &Catalogue,
@@ -91,8 +91,8 @@ pub fn serve_permitted<S: Source, K: Outlet, C: Clock>(
         (connection_at desk.old (C.told clock.old) (S.told source.old) (K.told sink.old))
         (connection_at desk.new (C.told clock.new) (S.told source.new) (K.told sink.new)) result }
 
-    // A device's failure is the end where its count of faults rose in this call, and at every other end that count is
-    // as it was.
+    // A device's failure is the end where its count of faults rose in this call, or stands at its last value. At every
+    // other end that count is as it was.
     ensures read_cause { result ≡ ReadFault → Rose (S.faults source.old) (S.faults source.new) }
     ensures write_cause { result ≡ WriteFault → Rose (K.faults sink.old) (K.faults sink.new) }
     ensures read_steady { (result ≡ ReadFault → ⊥) → S.faults source.new ≡ S.faults source.old }
@@ -162,8 +162,8 @@ pub fn serve_connection<S: Source, K: Sink, C: Clock>(
         (connection_at desk.old (C.told clock.old) (S.told source.old) (K.told sink.old))
         (connection_at desk.new (C.told clock.new) (S.told source.new) (K.told sink.new)) result }
 
-    // A device's failure is the end where its count of faults rose in this call, and at every other end that count is
-    // as it was.
+    // A device's failure is the end where its count of faults rose in this call, or stands at its last value. At every
+    // other end that count is as it was.
     ensures read_cause { result ≡ ReadFault → Rose (S.faults source.old) (S.faults source.new) }
     ensures write_cause { result ≡ WriteFault → Rose (K.faults sink.old) (K.faults sink.new) }
     ensures read_steady { (result ≡ ReadFault → ⊥) → S.faults source.new ≡ S.faults source.old }

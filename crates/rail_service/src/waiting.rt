@@ -57,8 +57,8 @@ pub struct Finished<I, O> {
 }
 
 /// Serves a stream that was handed out, as `serve_waiting` does, into an outlet of which it is known that it permits
-/// the next bytes of the defined replies, by entries that the desk may have. Whatever the outlet permits, no other
-/// bytes are handed to it at any moment, whether or not the connection ever ends.
+/// the next bytes of the defined replies, by entries that the desk may have. Where it permits no others, no others are
+/// handed to it at any moment, whether or not the connection ever ends.
 pub fn spend_permitted<I: Source, O: Outlet, C: Clock>(
     alloc: Global,
     cat: &Catalogue,
@@ -95,8 +95,8 @@ pub fn spend_permitted<I: Source, O: Outlet, C: Clock>(
         (connection_at desk.old (C.told clock.old) (I.told waiting.input) (O.told waiting.output))
         (connection_at desk.new (C.told clock.new) (I.told result.input) (O.told result.output)) result.end }
 
-    // A device's failure is the end where its count of faults rose in this call, and at every other end that count is
-    // as it was.
+    // A device's failure is the end where its count of faults rose in this call, or stands at its last value. At every
+    // other end that count is as it was.
     ensures read_cause { result.end ≡ ReadFault → Rose (I.faults waiting.input) (I.faults result.input) }
     ensures write_cause { result.end ≡ WriteFault → Rose (O.faults waiting.output) (O.faults result.output) }
     ensures read_steady { (result.end ≡ ReadFault → ⊥) → I.faults result.input ≡ I.faults waiting.input }
@@ -142,8 +142,8 @@ pub fn serve_waiting<I: Source, O: Sink, C: Clock>(
         (connection_at desk.old (C.told clock.old) (I.told waiting.input) (O.told waiting.output))
         (connection_at desk.new (C.told clock.new) (I.told result.input) (O.told result.output)) result.end }
 
-    // A device's failure is the end where its count of faults rose in this call, and at every other end that count is
-    // as it was.
+    // A device's failure is the end where its count of faults rose in this call, or stands at its last value. At every
+    // other end that count is as it was.
     ensures read_cause { result.end ≡ ReadFault → Rose (I.faults waiting.input) (I.faults result.input) }
     ensures write_cause { result.end ≡ WriteFault → Rose (O.faults waiting.output) (O.faults result.output) }
     ensures read_steady { (result.end ≡ ReadFault → ⊥) → I.faults result.input ≡ I.faults waiting.input }

@@ -1,10 +1,10 @@
 //! The rows of books as lines of a journal, by looks of a desk while the books sell.
 //!
-//! `push_marked_lines` takes the marks of rows, and writes the lines of the rows that are set in them, and of no
-//! others; `push_all_lines` writes those of all rows, and leaves the marks. That all marks are taken, and that each row
-//! is marked whose standing changed, no contract says: it is read and tested. A line is the one that an export has for
-//! the row, byte for byte, by `cold_store`'s own writer. A desk that writes them only looks: nothing of the books
-//! changes but the marks, and what the desk has out stays as it is.
+//! `push_marked_lines` writes the lines of the rows that are set in some marks, and of no others; `push_all_lines`
+//! writes those of all rows. The first is to take the marks of all rows, and the other to leave them. That it takes
+//! these, or any, and that each row is marked whose standing changed, no contract says: it is read and tested. A line
+//! is the one that an export has for the row, byte for byte, by `cold_store`'s own writer. A desk that writes them only
+//! looks: nothing of the books changes but the marks, and what the desk has out stays as it is.
 //!
 //! A line says what its looks showed. While other desks step, looks at two rows may be of two moments; lines of one
 //! moment need that nobody changes a booking between the first look and the last.

@@ -34,9 +34,9 @@ fn group_count(books: &Books) -> u32
     block_count(books) / GROUP_BLOCKS + 1
 }
 
-/// Takes marks of rows, which clears them; writes the lines of the rows that were marked after the text, in rising row;
-/// and gives their count. They are the marks of all rows, which no clause says. A row that is marked while this runs
-/// has its mark taken now, or the next time.
+/// Writes the lines of the rows that are set in some marks after the text, in rising row, and gives their count. It is
+/// to take the marks of all rows, which clears them: that it takes these, or any, no clause says. A row that is marked
+/// while this runs is to have its mark taken now, or the next time.
 pub fn push_marked_lines(
     text: &mut Vec<u8>,
     books: &Books,
@@ -77,8 +77,8 @@ pub fn push_all_lines(text: &mut Vec<u8>, books: &Books, desk: &mut Desk) -> Res
     Ok(count)
 }
 
-// The lines of the marked rows of a group of blocks, which begins with this block. The marks of a block that isn't
-// marked aren't taken.
+// The lines of the rows of a group of blocks that are set in some marks of them. The group begins with this block. The
+// marks of a block that isn't marked aren't to be taken.
 fn push_group(
     text: &mut Vec<u8>,
     books: &Books,
@@ -107,7 +107,8 @@ fn push_group(
     Ok(count)
 }
 
-// The lines of the marked rows of a block, if it is marked.
+// The lines of the rows of a block that are set in some marks of it. They are to be those that are taken, if it is
+// marked.
 fn push_block_if_marked(
     text: &mut Vec<u8>,
     books: &Books,
