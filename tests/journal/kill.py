@@ -8,7 +8,8 @@ host is killed while it begins, which counts as no round. After each kill the fi
 same text, and held against all that was answered in all rounds: each booking is there as it was told, or has gone forward by a command without
 an answer or by its limit. Nothing was sold twice, no id was given twice, and what nobody was told comes of commands without an answer. The next
 host begins with the file, and its answers are the model's for the bookings of that text. Further rounds (at most 60) follow until bookings of
-each kind of end were met and an answer was compared. Ends with status 0 where all was so.
+each kind of end were met, in whatever round, and an answer was compared; a sweep's count of expired ones counts, since their rows may be given away
+soon. Ends with status 0 where all was so.
 """
 import argparse
 import os
@@ -30,6 +31,7 @@ WANTED, MORE = "CFrefx", 60
 class Kills(Story):
     """A story of hosts that are killed."""
     kills, starts, recovered = 0, 0, 0
+    met = frozenset()
 
     def play(self, rounds: int, longest: float):
         """So many rounds, and more, each of the whole length, as long as something wasn't met."""
@@ -40,8 +42,8 @@ class Kills(Story):
 
     def missing(self) -> str:
         """What wasn't met so far, empty where all was."""
-        told = {told.letter for told in self.ledger.told.values()}
-        letters = [letter for letter in WANTED if letter not in told]
+        self.met |= {told.letter for told in self.ledger.told.values()} | ({"e"} if self.ledger.expired else set())
+        letters = [letter for letter in WANTED if letter not in self.met]
         return "no booking that is one of %s" % letters if letters else "" if self.compared else "no answer to compare"
 
     def round(self, seconds: float):
