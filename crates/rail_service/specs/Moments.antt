@@ -29,7 +29,7 @@ pub record IsGivenCut {C : Type 0} (begun : C → Reach → Type 0) (ends : C �
   pub looks : (reach ≡ Changes → ⊥) → AddsStepsBy AllLooks old new
   pub given : ends clock cut after
 
--- The cut that a reply waits for: the clock gave it at the command's end. Or none, and then the desk has done nothing.
+-- The cut that a reply waits for: an `end` of the clock gave it, and 0 is none. Or 0, where the desk has done nothing.
 abbrev pub CutGiven : {C : Type 0} → (C → Option (ℕ → ℕ)) → (C → Reach → Type 0) → (C → ℕ → C → Type 0)
     → Awaiting ServiceView
 CutGiven {C} told begun ends before cut after =

@@ -25,8 +25,8 @@ pub record Responds {C : Type 0} (told : C → Option (ℕ → ℕ)) (before : S
   pub desk : after.desk.ghost_name ≡ before.desk.ghost_name
   pub clock : after.clock.ghost_name ≡ before.clock.ghost_name
 
--- An answer waits for the cut that the clock gave at the command's end; or for none, and then the desk has done
--- nothing.
+-- An answer waits for a cut that an `end` of the clock gave, where a command of some reach had begun, and 0 is none. Or
+-- it waits for none, where the desk has done nothing.
 abbrev pub Awaits : {C : Type 0} → (C → Reach → Type 0) → (C → ℕ → C → Type 0) → Service C → ℕ → Service C → Type 0
 Awaits begun ends before cut after =
     ((cut ≡ 0) × (after.desk.now ≡ before.desk.now))
