@@ -1,1 +1,4 @@
 pub mod Left
+pub mod Running
+pub mod Again
+pub mod OneAnswer

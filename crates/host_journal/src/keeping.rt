@@ -182,7 +182,8 @@ fn found_in(
     from: Option<&str>,
     text: &[u8],
 ) -> Result<Found, KeepFault>
-    ensures ok { IfOk result (λ found. (export_name from.entry ≡ None) × LeavesIn cat.now text.now found.opened found.lines) }
+    ensures ok { IfOk result (λ found. (export_name from.entry ≡ None)
+        × LeavesIn cat.now text.now found.opened found.lines) }
     ensures err { IfErr result (IsShutOut cat.now (export_name from.entry) text.now) }
 {
     if let Some(_) = from {

@@ -15,10 +15,10 @@ use Rattle.claim_rule.proofs.Meeting.{prefix_line}
 use Rattle.claim_rule.proofs.Views.{prefix-more}
 use Rattle.row_cuts.specs.Told.{HasAllOf}
 use Rattle.row_cuts.proofs.Told.{goes_on}
-use Rattle.journal_laws.specs.Moments.{Moment, TakenCut}
-use Rattle.journal_laws.specs.Ahead.{HasWritten, IsKeptAnswer, Shows}
-use Rattle.journal_laws.specs.There.{IsThereAgain}
-use Rattle.journal_laws.proofs.Running.{follows_cut, has_map}
+use Rattle.host_journal.specs.Moments.{Moment, TakenCut}
+use Rattle.host_journal.specs.Ahead.{HasWritten, IsKeptAnswer, Shows}
+use Rattle.host_journal.specs.There.{IsThereAgain}
+use Rattle.host_journal.proofs.Running.{follows_cut, has_map}
 
 -- looks change nothing
 

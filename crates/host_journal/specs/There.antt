@@ -7,8 +7,8 @@ use Rattle.claim_rule.specs.Walls.{WallView}
 use Rattle.cold_store.specs.Imports.{OpensAs}
 use Rattle.row_cuts.specs.Cuts.{Cut, folded_text}
 use Rattle.row_cuts.specs.Told.{EndsAt, HasAllOf}
-use Rattle.journal_laws.specs.Moments.{Moment, TakenCut}
-use Rattle.journal_laws.specs.Ahead.{HasWritten, IsKeptAnswer, OnlyLooked}
+use Rattle.host_journal.specs.Moments.{Moment, TakenCut}
+use Rattle.host_journal.specs.Ahead.{HasWritten, IsKeptAnswer, OnlyLooked}
 
 -- Books that open with the fold of the cuts up to this one have all bookings of what was told. The wall is the one that
 -- the books would have been closed to while the rows were looked at for this cut

@@ -7,7 +7,7 @@ use Rattle.claim_rule.specs.Out.{is_look}
 use Rattle.answer_gate.specs.declared.state.Phase.TheVariants.{Looking}
 use Rattle.answer_gate.specs.declared.state.Standing.{Standing}
 use Rattle.answer_gate.specs.Standings.{closed, kept_by, lost, opened, over, shown_by, wanted_by}
-use Rattle.journal_laws.specs.Moments.{Begins, LeadsTo, Moment, Passes, TakenCut}
+use Rattle.host_journal.specs.Moments.{Begins, LeadsTo, Moment, Passes, TakenCut}
 
 -- there is such a cut among these
 abbrev pub HasCut : List TakenCut → (TakenCut → Type 0) → Type 0

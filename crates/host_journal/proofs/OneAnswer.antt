@@ -3,8 +3,8 @@ use Rattle.std.proofs.Common.{inl, inr, List, [], ◌∷◌, ◌++◌, append-ni
 use Rattle.history_model.specs.declared.entry.Entry.{Entry}
 use Rattle.answer_gate.specs.declared.state.Standing.{Standing}
 use Rattle.answer_gate.specs.Standings.{closed, entered, fresh, left, looked_at}
-use Rattle.journal_laws.specs.Moments.{Moment, Passes}
-use Rattle.journal_laws.specs.Ahead.{IsKeptAnswer}
+use Rattle.host_journal.specs.Moments.{Moment, Passes}
+use Rattle.host_journal.specs.Ahead.{IsKeptAnswer}
 
 abbrev at_first : List Entry → Moment
 at_first history =

@@ -10,8 +10,8 @@ use Rattle.answer_gate.specs.declared.state.Phase.{Phase}
 use Rattle.answer_gate.specs.declared.state.Phase.TheVariants.{Open, Looking}
 use Rattle.answer_gate.specs.declared.state.Standing.{Standing}
 use Rattle.answer_gate.specs.Standings.{HasRoom, Looked, entered, left, looked_at}
-use Rattle.journal_laws.specs.Moments.{Begins, Follows, LeadsTo, Moment, Passes, TakenCut}
-use Rattle.journal_laws.specs.Ahead.{GivesCut, HasCut, HasWritten, IsKeptAnswer, OnlyLooked, OthersPass, Shows}
+use Rattle.host_journal.specs.Moments.{Begins, Follows, LeadsTo, Moment, Passes, TakenCut}
+use Rattle.host_journal.specs.Ahead.{GivesCut, HasCut, HasWritten, IsKeptAnswer, OnlyLooked, OthersPass, Shows}
 
 pub has_map : (P Q : TakenCut → Type 0) → ((c : TakenCut) → P c → Q c) → (cuts : List TakenCut) → HasCut cuts P → HasCut cuts Q
 has_map P Q f [] none = absurd none

@@ -1,5 +1,0 @@
-use Rattle.journal_laws.proofs.OneAnswer.{one_answer}
-use Rattle.journal_laws.proofs.laws.answers_may_be_kept.Goals as goal
-
-pub returns : goal.returns
-returns c = record { some = one_answer }
