@@ -36,7 +36,7 @@ SUBJECTS = [
     ("What is sold", "json_text train_runs place_map tariff rail_catalogue offer_codes"),
     ("The booking machine", "history_model"),
     ("Desks and their calls", "claim_rule seat_words booking_rows"),
-    ("Searches", "trip_builder availability offer_engine"),
+    ("Searches", "trip_builder availability offer_prices offer_engine"),
     ("A booking's life", "hold_core party_places confirm_core refund_core exchange_core expiry_sweeper"),
     ("The wire", "rail_io http_wire session_loop"),
     ("Messages", "osdm_texts osdm_json"),

@@ -8,7 +8,7 @@ use Rattle.rail_ids.specs.declared.RowNo.{RowNo}
 use Rattle.offer_codes.specs.declared.code.ExchangeCode.{ExchangeCode}
 use Rattle.offer_codes.specs.Offers.{OfferView}
 use Rattle.offer_codes.specs.Exchanges.{ExchangeView, exchange_view}
-use Rattle.offer_engine.specs.Offers.{offer_price}
+use Rattle.offer_prices.specs.Prices.{offer_price}
 use Rattle.refund_core.specs.Quotes.{SeesOwn, SeesNone, phase_named, is_stale, refund_at}
 use Rattle.exchange_core.specs.Ready.{ReadyView}
 use Rattle.exchange_core.specs.declared.quoting.QuotedExchange.{QuotedExchange}

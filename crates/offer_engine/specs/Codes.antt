@@ -5,12 +5,9 @@ use Rattle.offer_codes.specs.declared.code.Segment.{Segment}
 use Rattle.offer_codes.specs.Offers.{OfferView}
 use Rattle.train_runs.specs.Runs.{RunsView}
 use Rattle.rail_catalogue.specs.Contents.{CatalogueView}
-use Rattle.trip_builder.specs.Segments.{stops_of, first_stop, last_stop, first_of, last_of}
+use Rattle.offer_prices.specs.Runs.{is_of_runs}
+use Rattle.trip_builder.specs.Segments.{first_stop, last_stop, first_of, last_of}
 use Rattle.trip_builder.specs.Trips.{are_connected}
-
--- the run exists and holds the span: it stops where the segment ends
-abbrev pub is_of_runs : RunsView → Segment → Bool
-is_of_runs r s = nat_lt s.span.to (length (stops_of r s.run.0))
 
 -- the segments are a trip whose first and last stations differ, and the first departs no earlier than this
 abbrev pub goes : RunsView → ℕ → List Segment → Bool

@@ -1,15 +1,13 @@
 -- The offers of a wish, and the looks that they are made of.
-use Rattle.std.specs.Prelude.{◌≡◌, ℕ, ◌-◌, max, List, [], ◌∷◌, ◌++◌, slice_get, sum_by}
+use Rattle.std.specs.Prelude.{◌≡◌, ℕ, max, List, [], ◌∷◌, ◌++◌}
 use Rattle.std.specs.List.{flat_map}
-use Rattle.std.specs.Option.{option_map_or}
 use Rattle.rail_ids.specs.declared.PlaceNo.{PlaceNo}
-use Rattle.place_map.specs.declared.coach.Class.{Class}
 use Rattle.place_map.specs.Candidates.{candidates_of}
-use Rattle.tariff.specs.Prices.{FareAmounts, price_of}
 use Rattle.offer_codes.specs.declared.code.Segment.{Segment}
 use Rattle.offer_codes.specs.declared.code.Offer.{Offer}
 use Rattle.offer_codes.specs.Offers.{OfferView, offer_view}
-use Rattle.rail_catalogue.specs.Contents.{CatalogueView, fare_in}
+use Rattle.rail_catalogue.specs.Contents.{CatalogueView}
+use Rattle.offer_prices.specs.Prices.{offer_price}
 use Rattle.trip_builder.specs.declared.trip.TripWish.{TripWish}
 use Rattle.history_model.specs.declared.entry.Step.{Step}
 use Rattle.availability.specs.Looks.{CountsFree}
@@ -19,21 +17,6 @@ use Rattle.trip_builder.specs.Trips.{trips_of}
 -- the wish from this moment on
 abbrev pub raised : TripWish → ℕ → TripWish
 raised w now = record w { earliest = max w.earliest now }
-
-abbrev pub no_fare : FareAmounts
-no_fare = record { base = 0; per_leg = 0 }
-
-abbrev pub fare_on : CatalogueView → Class → ℕ → FareAmounts
-fare_on cat class run = option_map_or (fare_in class) (slice_get cat.fares run) no_fare
-
--- what the passengers pay for a segment
-abbrev pub segment_price : CatalogueView → Class → ℕ → ℕ → Segment → ℕ
-segment_price cat class adults children s =
-    price_of (fare_on cat class s.run.0) (s.span.to - s.span.from) adults children
-
--- and for the whole offer
-abbrev pub offer_price : CatalogueView → OfferView → ℕ
-offer_price cat o = sum_by (segment_price cat o.class o.adults o.children) o.segments
 
 abbrev pub code_for : OfferWish → ℕ → List Segment → OfferView
 code_for w now segments =

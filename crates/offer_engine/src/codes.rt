@@ -1,7 +1,8 @@
 ghost use Rattle.std.specs.Prelude.{◌≡◌};
 ghost use Rattle.std.specs.List.{list_all};
 ghost use Rattle.offer_codes.specs.Offers.{offer_view};
-ghost use Rattle.offer_engine.specs.Codes.{is_offered as is_offered_of, is_of_runs as is_of_runs_of};
+ghost use Rattle.offer_prices.specs.Runs.{is_of_runs as is_of_runs_of};
+ghost use Rattle.offer_engine.specs.Codes.{is_offered as is_offered_of};
 
 use offer_codes::{OfferCode, Segment};
 use rail_catalogue::Catalogue;

@@ -7,10 +7,8 @@
 mod codes;
 mod counts;
 mod making;
-mod prices;
 mod wish;
 
 pub use codes::is_offered;
 pub use making::offers;
-pub use prices::price_of_offer;
 pub use wish::OfferWish;

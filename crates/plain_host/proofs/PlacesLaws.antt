@@ -18,7 +18,8 @@ use Rattle.claim_rule.specs.Rule.{DeskView, state_seen}
 use Rattle.claim_rule.specs.Calls.{AddsStepsBy}
 use Rattle.claim_rule.proofs.Moves.{is_sound}
 use Rattle.booking_rows.specs.Starts.{StartsHold}
-use Rattle.offer_engine.specs.Codes.{is_of_runs, goes, is_offered}
+use Rattle.offer_prices.specs.Runs.{is_of_runs}
+use Rattle.offer_engine.specs.Codes.{goes, is_offered}
 use Rattle.offer_engine.specs.declared.wish.OfferWish.{OfferWish}
 use Rattle.offer_engine.specs.Offers.{raised}
 use Rattle.osdm_texts.specs.declared.problem.Problem.TheVariants.{NoMemory}

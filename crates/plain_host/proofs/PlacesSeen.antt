@@ -18,7 +18,8 @@ use Rattle.claim_rule.specs.Calls.{AddsStepsBy}
 use Rattle.claim_rule.proofs.Moves.{is_sound}
 use Rattle.availability.specs.Looks.{LooksAt, CountsFree}
 use Rattle.offer_engine.specs.declared.wish.OfferWish.{OfferWish}
-use Rattle.offer_engine.specs.Offers.{raised, offer_price, code_for, wanted_places, CountsSegments, OffersFor, MakesOffers, BeginsOffers}
+use Rattle.offer_prices.specs.Prices.{offer_price}
+use Rattle.offer_engine.specs.Offers.{raised, code_for, wanted_places, CountsSegments, OffersFor, MakesOffers, BeginsOffers}
 use Rattle.lone_desk.specs.Lone.{entries_of, after_steps}
 use Rattle.lone_desk.specs.Decided.{IsFreeAt, HasClearWords}
 use Rattle.lone_desk.proofs.Clear.{open_is_clear}

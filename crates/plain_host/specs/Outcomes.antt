@@ -20,7 +20,8 @@ use Rattle.offer_codes.specs.Exchanges.{ExchangeView, exchange_view}
 use Rattle.rail_catalogue.specs.Contents.{CatalogueView}
 use Rattle.trip_builder.specs.Trips.{trips_of}
 use Rattle.offer_engine.specs.declared.wish.OfferWish.{OfferWish}
-use Rattle.offer_engine.specs.Offers.{raised, offer_price, code_for, wanted_places}
+use Rattle.offer_prices.specs.Prices.{offer_price}
+use Rattle.offer_engine.specs.Offers.{raised, code_for, wanted_places}
 use Rattle.osdm_texts.specs.declared.problem.Problem.{Problem}
 use Rattle.refund_core.specs.Quotes.{phase_named, refund_at}
 use Rattle.exchange_core.specs.Exchanges.{difference_at}

@@ -7,7 +7,7 @@ use Rattle.place_map.specs.declared.coach.Class.{Class}
 use Rattle.offer_codes.specs.declared.code.Segment.{Segment}
 use Rattle.offer_codes.specs.Offers.{OfferView}
 use Rattle.rail_catalogue.specs.Contents.{CatalogueView}
-use Rattle.offer_engine.specs.Offers.{offer_price}
+use Rattle.offer_prices.specs.Prices.{offer_price}
 use Rattle.history_model.specs.declared.entry.Step.TheVariants.{Seal}
 use Rattle.history_model.specs.declared.phase.Phase.TheVariants as phase
 use Rattle.claim_rule.specs.Rule.{DeskView}

@@ -8,7 +8,7 @@ use Rattle.offer_codes.specs.declared.code.Segment.{Segment}
 use Rattle.offer_codes.specs.declared.code.OfferCode.{OfferCode}
 use Rattle.offer_codes.specs.Offers.{OfferView, offer_view, is_party}
 use Rattle.rail_catalogue.specs.Contents.{CatalogueView}
-use Rattle.offer_engine.specs.Codes.{is_of_runs}
+use Rattle.offer_prices.specs.Runs.{is_of_runs}
 use Rattle.shop.specs.declared.Shop.{Shop}
 use Rattle.reservation_service.specs.declared.holding.Placing.{Placing}
 use Rattle.reservation_service.specs.Outs.{IsOutAt, StaysOut}

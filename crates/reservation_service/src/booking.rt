@@ -2,7 +2,7 @@
 ghost use Rattle.std.specs.Prelude.{◌≡◌, ◌≤◌, [], true, length, Ok, IfSome, IfOk, IfErr};
 ghost use Rattle.std.specs.List.{list_all};
 ghost use Rattle.offer_codes.specs.Offers.{is_party, offer_view};
-ghost use Rattle.offer_engine.specs.Codes.{is_of_runs};
+ghost use Rattle.offer_prices.specs.Runs.{is_of_runs};
 ghost use Rattle.history_model.specs.Booking.{most_items};
 ghost use Rattle.history_model.specs.declared.phase.Phase.TheVariants as phase;
 ghost use Rattle.leg_masks.specs.Interval.{PlacedSpan};

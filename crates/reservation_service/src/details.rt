@@ -6,7 +6,7 @@ ghost use Rattle.reservation_service.specs.Reserving.{detail_of};
 
 use booking_rows::Detail;
 use offer_codes::OfferCode;
-use offer_engine::price_of_offer;
+use offer_prices::price_of_offer;
 use rail_catalogue::Catalogue;
 use shop::Asker;
 

@@ -3,7 +3,7 @@ ghost use Rattle.std.specs.Prelude.{◌≡◌, [], true, false, IfSome, IfNone};
 ghost use Rattle.std.specs.List.{list_all, AllByRecursion};
 ghost use Rattle.place_map.specs.Candidates.{candidates_of, IsOfRun, AreRising};
 ghost use Rattle.offer_codes.specs.Offers.{is_party, offer_view};
-ghost use Rattle.offer_engine.specs.Codes.{is_of_runs};
+ghost use Rattle.offer_prices.specs.Runs.{is_of_runs};
 ghost use Rattle.claim_rule.specs.Out.{HasNotedItems};
 ghost use Rattle.shop.specs.Homes.{IsAtHome};
 ghost use Rattle.reservation_service.specs.Outs.{IsOutAt, StaysOut};

@@ -28,7 +28,7 @@ use Rattle.refund_core.specs.Quotes.{SeesOwn, SeesNone, is_stale, phase_named, r
 use Rattle.refund_core.specs.Refunding.{AcceptsRefund}
 use Rattle.refund_core.specs.declared.refunding.Refunded.{Refunded}
 use Rattle.refund_core.specs.declared.refunding.Refunded.TheVariants as refunded
-use Rattle.offer_engine.specs.Offers.{offer_price}
+use Rattle.offer_prices.specs.Prices.{offer_price}
 use Rattle.exchange_core.specs.Ready.{ReadyView}
 use Rattle.exchange_core.specs.Exchanges.{Readies, difference_at}
 use Rattle.exchange_core.specs.declared.readying.Readied.{Readied}

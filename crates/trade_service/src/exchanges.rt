@@ -7,7 +7,7 @@ ghost use Rattle.history_model.specs.Booking.{greatest_amount};
 ghost use Rattle.history_model.specs.History.{own};
 ghost use Rattle.offer_codes.specs.Offers.{is_offer, offer_view};
 ghost use Rattle.offer_codes.specs.Exchanges.{is_exchange, exchange_view};
-ghost use Rattle.offer_engine.specs.Codes.{is_of_runs};
+ghost use Rattle.offer_prices.specs.Runs.{is_of_runs};
 ghost use Rattle.exchange_core.specs.Ready.{IsReadyFor};
 ghost use Rattle.exchange_core.specs.Exchanges.{Readies};
 ghost use Rattle.exchange_core.specs.declared.readying.Readied.{Readied as ReadiedBy};

@@ -1,6 +1,6 @@
 use Rattle.std.proofs.Common.{◌≡◌, drop}
 use Rattle.std.specs.List.{list_all}
-use Rattle.offer_engine.specs.Codes.{is_of_runs}
+use Rattle.offer_prices.specs.Runs.{is_of_runs}
 use Rattle.offer_engine.proofs.codes.are_of_runs.Given as goal
 
 abbrev pub invariant-loop-segment : goal.invariant-loop-segment

@@ -2,7 +2,7 @@ use Rattle.std.proofs.Common.{◌∙◌, ◌≡◌, ◌≤◌, ◌<◌, true, Li
 use Rattle.std.proofs.lemmas.Grind.{common_steps}
 use Rattle.offer_codes.specs.declared.code.Segment.{Segment}
 use Rattle.offer_codes.specs.Offers.{offer_view}
-use Rattle.offer_engine.specs.Codes.{is_of_runs}
+use Rattle.offer_prices.specs.Runs.{is_of_runs}
 use Rattle.reservation_service.proofs.Outs.{out_then}
 use Rattle.reservation_service.proofs.Placed.{next_by, stop_by, room_left, few_of, some_of}
 use Rattle.reservation_service.proofs.holding.place_segments.Goals as goal

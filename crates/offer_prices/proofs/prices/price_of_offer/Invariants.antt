@@ -1,8 +1,8 @@
 use Rattle.std.proofs.Common.{◌≡◌, ◌≤◌, ◌*◌, take}
 use Rattle.std.specs.Prelude.{sum_by}
 use Rattle.tariff.specs.Prices.{greatest_price}
-use Rattle.offer_engine.specs.Offers.{segment_price}
-use Rattle.offer_engine.proofs.prices.price_of_offer.Given as goal
+use Rattle.offer_prices.specs.Prices.{segment_price}
+use Rattle.offer_prices.proofs.prices.price_of_offer.Given as goal
 
 abbrev pub invariant-loop-segment : goal.invariant-loop-segment
 invariant-loop-segment l = record {

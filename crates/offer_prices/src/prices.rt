@@ -2,7 +2,7 @@
 ghost use Rattle.std.specs.Prelude.{◌≡◌, ◌≤◌, ◌*◌, true};
 ghost use Rattle.offer_codes.specs.Offers.{is_party, offer_view};
 ghost use Rattle.tariff.specs.Prices.{greatest_price};
-ghost use Rattle.offer_engine.specs.Offers.{offer_price, segment_price};
+ghost use Rattle.offer_prices.specs.Prices.{offer_price, segment_price};
 
 use offer_codes::{OfferCode, Segment};
 use rail_catalogue::Catalogue;
