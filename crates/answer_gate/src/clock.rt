@@ -9,7 +9,7 @@ use rail_time::Moment;
 use std::sync::Wait;
 
 /// A clock that enters the gate where a command begins that may change bookings: then it holds an `Inside`. It is to
-/// leave the gate where that command has its answer. Where there is no gate it does as its clock does.
+/// leave the gate where that command has its answer. Where there is no gate it is to do as its clock does.
 ///
 /// What its calls do to the value under the gate's lock, and that its `Inside` is one of that gate, is read (`State`).
 #[derive(Drop)]

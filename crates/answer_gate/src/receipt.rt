@@ -4,7 +4,7 @@ ghost use Rattle.std.specs.Prelude.{ℕ};
 use std::marker::Brand;
 
 /// A receipt for a kept cut. Whoever has a cut kept hands one in, and shows what it means; whoever finds a cut kept has
-/// that shown.
+/// that shown, of it or of a later one.
 pub trait Receipt {
     /// What it means that the cut of this number is kept.
     ghost kept: { ℕ → Type 0 };

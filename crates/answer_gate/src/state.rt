@@ -53,7 +53,7 @@ pub struct Inside {
 }
 
 /// A closed gate with nobody inside, for the cut of this number. Until one is handed back that a gate gave, or the
-/// journal is lost, nobody enters that gate: the rows may be looked at.
+/// journal is lost, or there are no more cuts, nobody is to enter that gate: the rows may be looked at.
 pub struct Closed {
     number: u64,
 }
@@ -261,8 +261,8 @@ impl State {
         self.standing.phase == Phase::Closing && self.standing.inside > 0
     }
 
-    /// Takes a cut, whose number it says. Nobody is inside until the gate opens. None where the gate isn't closed; and
-    /// where the numbers are spent, with which the journal is lost.
+    /// Takes a cut, whose number it says. Nobody is inside until the gate opens. None only where the gate isn't closed,
+    /// or with the journal lost, as where the numbers are spent.
     pub fn look(&mut self) -> Option<Closed>
         requires empty { self.old.standing.phase ≡ Closing → self.old.standing.inside ≡ 0 }
         ensures some { IfSome result (λ c. Looked self.old.standing self.new.standing c.number) }

@@ -151,7 +151,7 @@ fn drill<R: Threads + Sync, K: Sink>(
 /// |---|---|
 /// | 0 | all requests were answered, and the line is printed |
 /// | 2 | the words are refused |
-/// | 4 | the output failed in this call |
+/// | 4 | the output failed in this call, or before it as often as is counted |
 /// | 5 | there was no memory for some part of it |
 ///
 /// Each has the note of its end, and a failing note changes no status. Threads are started for the connections, and all

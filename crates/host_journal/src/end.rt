@@ -76,7 +76,7 @@ impl ServeOutcome {
 }
 
 /// Why serving ended, with a journal or without one. That `Locked`, `Failed` and `Lost` have these causes no clause
-/// says.
+/// says, nor that the journal is there at `Exists`.
 #[derive(Drop)]
 pub enum KeptOutcome {
     /// As it ends without one.

@@ -37,7 +37,8 @@ pub struct Keeping<'g, J, B> {
     pub bell: B,
 }
 
-/// Why serving with a journal didn't begin. That `Locked` and `Failed` have these causes no clause says.
+/// Why serving with a journal didn't begin. That `Locked` and `Failed` have these causes no clause says, nor that the
+/// journal is there at `Exists`.
 #[derive(Drop)]
 pub enum KeepFault {
     /// Another host has the journal.

@@ -88,8 +88,8 @@ impl<J: Journal> Log<J> {
         }
     }
 
-    /// Whether the journal is to be written anew. It is long and has eight times what its bookings take; or twice that,
-    /// from half of what a start reads on; or it comes near to that, and has grown by much.
+    /// Whether the journal is to be written anew. It is to be long and have eight times what its bookings take; or
+    /// twice that, from half of what a start reads on; or it comes near to that, and has grown by much.
     pub fn is_grown(&self) -> bool {
         let more = self.size.saturating_sub(self.least);
         self.size >= LONG && self.size / 8 >= self.least
@@ -97,8 +97,8 @@ impl<J: Journal> Log<J> {
             || self.size >= MOST && more >= LONG
     }
 
-    /// Has a cut of these lines kept: as the one of a new journal, or as the one that follows. One without lines is
-    /// kept at once. The receipt is of the cut that was taken.
+    /// Has a cut of these lines kept: as the one of a new journal, or as the one that follows. One without lines
+    /// is to be kept at once, where the journal isn't written anew. The receipt is of the cut that was taken.
     pub fn keep(
         &mut self,
         alloc: Global,
@@ -137,8 +137,8 @@ impl<J: Journal> Log<J> {
         lines.count == 0 || self.append(alloc, lines)
     }
 
-    /// Puts a journal in the place of all that is kept, whose one cut has these lines, and answers whether it is kept
-    /// now.
+    /// Puts a journal in the place of all that is kept, whose one cut has these lines, and answers true only where it
+    /// is kept now.
     pub fn begin(&mut self, alloc: Global, lines: &Lines) -> bool
         ensures head { self.new.head ≡ self.old.head }
         ensures begins { BeginsAnew (J.told self.old.journal) (J.told self.new.journal) self.old.head lines.now
@@ -155,7 +155,7 @@ impl<J: Journal> Log<J> {
         self.journal.replace(text.as_slice())
     }
 
-    /// Appends the cut of these lines that follows, and answers whether it is kept now.
+    /// Appends the cut of these lines that follows, and answers true only where it is kept now.
     pub fn append(&mut self, alloc: Global, lines: &Lines) -> bool
         ensures head { self.new.head ≡ self.old.head }
         ensures grows { GrowsBy (J.told self.old.journal) (J.told self.new.journal)

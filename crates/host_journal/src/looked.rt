@@ -14,7 +14,7 @@ use std::alloc::{AllocError, Global};
 /// How many bytes of lines there is room for at first.
 const LINES_ROOM: usize = 16_384;
 
-/// The lines of a cut, as they were seen while the gate was closed for it. Only a look gives them.
+/// The lines of a cut, as they were seen by who had the gate's `Closed` for it. Only a look gives them.
 #[derive(Drop)]
 pub struct Looked {
     cut: u64,
@@ -31,9 +31,9 @@ impl Looked {
     }
 }
 
-/// The lines of all rows, or of those that are set in some marks, as looks show them while the gate is closed. It is to
-/// take the marks of all rows meanwhile; or to leave them, where all rows are looked at, so that the next cut has these
-/// rows once more.
+/// The lines of all rows, or of those that are set in some marks, as looks show them while the gate is to be closed. It
+/// is to take the marks of all rows meanwhile; or to leave them, where all rows are looked at, so that the next cut has
+/// these rows once more.
 pub fn look(
     closed: &Closed,
     alloc: Global,

@@ -150,7 +150,8 @@ fn end_unread<E: Sink, L>(outcome: ServeOutcome, listener: L, notes: &mut E) -> 
 /// the last, only look. Words that name a journal are refused where none is given.
 ///
 /// No clause says that what that member saw is kept, nor that the journal has the causes above for another host, for
-/// what couldn't be read or written, and for what failed: that is read and tested.
+/// what couldn't be read or written, and for what failed. Nor that it is there, where `--from` is refused beside it.
+/// That is read and tested.
 pub fn serve_kept<
     'g,
     R: Threads + Wait + Sync,

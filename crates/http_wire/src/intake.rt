@@ -243,8 +243,8 @@ impl Intake {
         })
     }
 
-    /// The next request of the bytes held unread and of those that the source has left. It reads no
-    /// more than it needs to tell, and nothing where the bytes held tell (`at_once`). Once 65,536
+    /// The next request of the bytes held unread and of those that the source has left. It reads
+    /// nothing where the bytes held tell (`at_once`), and is to read no more than it needs. Once 65,536
     /// requests were given there is no next one: the last was that of its connection.
     pub fn next_request<S: Source>(&mut self, source: &mut S) -> Next
         requires few { self.old.given < 65536 }

@@ -10,8 +10,8 @@
 //! says `Connection: close`, or where it is number 65,536.
 //!
 //! `Intake::start` takes 278,528 bytes, which no clause says. The search for a head's end takes, over all calls, at most
-//! a step for each byte (`each_once`); that each byte looked at is a step is seen in the code. Where the bytes held tell
-//! what comes next, nothing is read (`at_once`).
+//! a step for each byte (`each_once`); that each byte looked at is a step is seen in the code. Where the bytes held
+//! tell what comes next, nothing is read (`at_once`).
 #![tactic(auto)]
 
 mod answer;

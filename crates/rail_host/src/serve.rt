@@ -49,8 +49,9 @@ fn findings_of(counters: Option<&Counters>) -> Option<&Findings>
     Some(&counters.findings)
 }
 
-/// Serves the connections that a listener hands out, by the system's clock, and hands back the status of `serve`, the
-/// listener and the wall, with the export and the note in the notes. It leaves the input and the output as they were.
+/// Serves the connections that a listener hands out, by clocks that tell nothing, which are to be the system's. It
+/// hands back the status of `serve`, the listener and the wall, with the export and the note in the notes. It leaves
+/// the input and the output as they were.
 ///
 /// The program's listener stands before a port of this machine, and its streams tell no content: that a connection's
 /// bytes came from a client, and reached one, is said by no clause.
