@@ -7,10 +7,10 @@ ghost use Rattle.rail_catalogue.specs.Contents.{legs_in};
 ghost use Rattle.offer_engine.specs.Offers.{raised as raised_of, MakesOffers, BeginsMaking, IsOfferFor};
 
 use crate::counts::count_segments;
-use crate::prices::price_of_offer;
 use crate::wish::OfferWish;
 use claim_rule::{Books, Desk};
 use offer_codes::{Offer, OfferCode};
+use offer_prices::price_of_offer;
 use rail_catalogue::Catalogue;
 use rail_time::Moment;
 use std::alloc::{AllocError, Global};
