@@ -139,10 +139,11 @@ def failing_writes(standard: Standard, asked: bytes, answered: bytes):
 
 
 def tiny(standard: Standard):
-    """The same of `tiny`, and notes that can't be written."""
+    """The same of `tiny`, whose answers go out by a call each, head and body together; and notes that can't be written."""
     standard.check("tiny: read 1 fails", standard.run("tiny 3 2", TINY, read=1)[:3], (3, b"", READ_FAULT))
     standard.check("tiny: read 2 fails", standard.run("tiny 3 2", TINY, read=2)[:3], (3, SOLD, READ_FAULT))
     standard.check("tiny: write 1 fails", standard.run("tiny 3 2", TINY, write=1)[:3], (4, b"", WRITE_FAULT))
+    standard.check("tiny: two answers by two writes", standard.run("tiny 3 2", TINY * 2, write=2)[:3], (4, SOLD, WRITE_FAULT))
     head = standard.run("tiny 3 2", TINY, write=2, size=len(TINY_HEAD))[:3]
     standard.check("tiny: write 2 fails", head, (4, TINY_HEAD, WRITE_FAULT))
     for length in range(len(TINY)):
