@@ -52,7 +52,7 @@ ROUTES = [
     ("PATCH /bookings/B000000/fulfillments", '{"status":"FULFILLED"}', "200 OK", BOOKING % "FULFILLED"),
 ]
 LETTERS = [None, "P", "C", "F"]
-MOST_FAILING = 60
+FAILING = 30  # more calls than a connection makes, unless its host looks in vain for what comes
 SEEDS = 10
 
 
@@ -197,13 +197,12 @@ def ended(host) -> tuple:
 
 
 def failing_calls(calls: Calls):
-    """Each call of a connection fails in its turn, and then it and all later ones."""
+    """Each call of a connection fails in its turn."""
     with calls.host(1) as host:
         expect(is_beginning(live(host), b"".join(ANSWERED)), "without failures: other answers than the defined ones")
         expect(ended(host) == (0, "F"), "without failures: the booking isn't collected")
-    last = min(calls.calls(), MOST_FAILING)
     met = set()
-    for number in range(1, last + 1):
+    for number in range(1, FAILING + 1):
         told = {"fail": number, "error": ERRORS[number % len(ERRORS)]}
         with calls.host(1, **told) as host:
             got = live(host)
@@ -211,11 +210,11 @@ def failing_calls(calls: Calls):
             whole = sum(len(b"".join(ANSWERED[:count])) <= len(got) for count in (1, 2, 3))
             status, letter = ended(host)
             done = LETTERS.index(letter)
-            met.add(done - whole)
+            if whole < len(ASKED):
+                met.add(done - whole)
             expect(status == 0 and done in (whole, whole + 1), "call %d fails: status %d, %d answers, the booking is %s" %
                    (number, status, whole, letter))
-    expect(met == {0, 1}, "of %d failing calls none was met before its command, or none after" % last)
-    return last
+    expect(met == {0, 1}, "of %d failing calls none was met before its command, or none after" % FAILING)
 
 
 def main() -> int:
@@ -231,9 +230,9 @@ def main() -> int:
         for seed in range(1, SEEDS + 1):
             try_seed(calls, seed)
         calls.catalogue, calls.words = folder / "k1.json", ["--export"]
-        last = failing_calls(calls)
+        failing_calls(calls)
     return standard.end("%d runs at standard input and output, %d failing calls at sockets, %d seeds" %
-                        (standard.runs, last, SEEDS))
+                        (standard.runs, FAILING, SEEDS))
 
 
 if __name__ == "__main__":
