@@ -47,7 +47,7 @@ class Calls:
 
     def __init__(self, program: str, folder: pathlib.Path, keeps: bool):
         self.program, self.count = os.path.abspath(program), folder / "count"
-        self.journal = folder / "journal" if keeps else None
+        self.words = ["--journal", folder / "journal"] if keeps else []
         self.library, self.catalogue = folder / "calls.so", folder / "largest.json"
         words = ["cc", "-O2", "-shared", "-fPIC", "-o", self.library, HERE / "calls.c"]
         subprocess.run(words, check=True)
@@ -62,8 +62,7 @@ class Calls:
         before = dict(os.environ)
         os.environ.update(more)
         try:
-            words = ["--journal", self.journal] if self.journal else []
-            host = Host(self.program, connections, 1, catalogue=str(self.catalogue), more=words)
+            host = Host(self.program, connections, 1, catalogue=str(self.catalogue), more=self.words)
         finally:
             os.environ.clear()
             os.environ.update(before)

@@ -291,7 +291,11 @@ def exports(runs: Runs):
     for size, note in [(LARGEST_EXPORT, "export fault 1"), (LARGEST_EXPORT + 1, "export too large")]:
         os.truncate(os.path.join(runs.folder, "wrong.txt"), size)
         runs.check("an export of %d bytes" % size, runs.run(line), (1, b"", "rail_host: %s\n" % note))
-    runs.check("a folder as an export", runs.run("serve k1.json --port 8080 --from folder"), (3, b"", READ_FAULT))
+    runs.write("refused.json", b"no JSON")
+    for line in ("serve k1.json --port 8080 --from folder", "replay k1.json --from folder"):
+        runs.check(line + ", which is no file", runs.run(line), (3, b"", READ_FAULT))
+    runs.check("a refused catalogue goes before it", runs.run("replay refused.json --from folder"),
+               (1, b"", "rail_host: catalogue fault 1\n"))
     text = FIRST_LINE + SOLD_LINE + "end 1\n"
     runs.write("x.txt", text.encode("ascii"))
     for words, wanted in [("--from x.txt --export", text), ("--from x.txt", ""), ("--export", FIRST_LINE + "end 0\n")]:

@@ -32,6 +32,8 @@ LONG = b"POST /offers HTTP/1.1\r\nContent-Length: 5000000\r\n\r\n"
 LONG_ENOUGH = b"POST /offers HTTP/1.1\r\nRetailer-Key: north\r\nContent-Length: 500\r\n\r\n"
 TOO_LARGE = b'{"code":"BodyTooLarge","status":413,"title":"Body too large"}'
 PLACES = b"GET /runs/0/places/A/B HTTP/1.1\r\nRetailer-Key: north\r\n\r\n"
+RESERVES = (b"POST /reservations HTTP/1.1\r\nRetailer-Key: north\r\nConnection: close\r\nContent-Length: 53\r\n\r\n"
+            b'{"class":"SECOND","from":"BASEL","run":0,"to":"BERN"}')
 MOST_PLACES = 1_200
 MOST_HELD = 65_536  # bytes of answers that the host holds back to send them together
 SECONDS = 90
@@ -366,21 +368,78 @@ def asked(client: socket.socket, head: bytes, body: bytes = b"") -> dict:
     return json.loads(got)
 
 
+def until_expired(client: socket.socket, booking: dict) -> dict:
+    """The booking after the host's own member has ended it: nobody confirms it, and nobody asks for a sweep."""
+    until = time.monotonic() + 30
+    while booking["status"] == "PREBOOKED" and time.monotonic() < until:
+        time.sleep(0.2)
+        booking = asked(client, b"GET /bookings/" + booking["id"].encode())
+    expect(booking["status"] == "EXPIRED", "half a minute after its limit it is %r" % booking)
+    expect(booking["endedAt"] > booking["confirmableUntil"], "it has expired before its limit was over: %r" % booking)
+    return booking
+
+
 def expiry(program: str):
-    """A booking that nobody confirms comes to its limit, and the host's own member ends it: nobody asks for a sweep."""
-    wish = b'{"from":"BERN","run":1,"to":"THUN"}'
+    """Two bookings come to their limits, one after the other, and two sweeps of the host's member end them, each at a
+    reading of its own. The host ends with its last connection."""
+    wish, ended = b'{"from":"BERN","run":1,"to":"THUN"}', []
     with catalogue_with(confirmSeconds=1) as name, Host(program, 1, 1, catalogue=name) as host:
         client = host.connect()
-        booking = asked(client, b"POST /reservations", wish)
-        expect(booking.get("status") == "PREBOOKED", "a reservation was answered %r" % booking)
-        until = time.monotonic() + 30
-        while booking["status"] == "PREBOOKED" and time.monotonic() < until:
-            time.sleep(0.2)
-            booking = asked(client, b"GET /bookings/" + booking["id"].encode())
-        expect(booking["status"] == "EXPIRED", "half a minute after its limit of a second it is %r" % booking)
-        expect(booking["endedAt"] > booking["confirmableUntil"], "it has expired before its limit was over: %r" % booking)
+        for _ in range(2):
+            booking = asked(client, b"POST /reservations", wish)
+            expect(booking.get("status") == "PREBOOKED", "a reservation was answered %r" % booking)
+            ended.append(until_expired(client, booking)["endedAt"])
+        expect(ended[0] < ended[1], "two sweeps have the moments %r" % ended)
         client.close()
         host.end()
+
+
+def late_at_the_start(program: str):
+    """The host begins with a booking whose time is over. It expires beside a connection that is open, and the host ends
+    with that connection."""
+    late = "rail-export 1 18 65536\nrow 0 0 P 1 %d 1100 1 4.0.2\nend 1\n" % (time.time() - 1)
+    with tempfile.NamedTemporaryFile("w", suffix=".txt") as export:
+        export.write(late)
+        export.flush()
+        with Host(program, 1, 1, more=["--from", export.name]) as host:
+            client = host.connect()
+            until_expired(client, asked(client, b"GET /bookings/B000000"))
+            client.close()
+            host.end()
+
+
+def read_booking(client: socket.socket) -> dict:
+    """The booking that a last request was answered, after which the connection ends in order."""
+    got = b""
+    while piece := client.recv(65_536):
+        got += piece
+    client.close()
+    expect(got.startswith(b"HTTP/1.1 201 Created\r\n"), "a reservation was answered %r" % got)
+    return json.loads(got.split(b"\r\n\r\n", 1)[1])
+
+
+def two_at_once(program: str):
+    """Two connections with a reservation each, of which the first sends its end only once the second was answered. Both
+    are let go while the host serves a third, and at its end the books have both, at different places. A host of one
+    thread, or one that serves under its listener's lock, answers one alone."""
+    with Host(program, 3, 2, more=["--export"]) as host:
+        first, second = host.connect(), host.connect()
+        first.sendall(RESERVES[:40])
+        time.sleep(0.3)
+        second.sendall(RESERVES)
+        bookings = [read_booking(second)]
+        first.sendall(RESERVES[40:])
+        bookings.append(read_booking(first))
+        third = host.connect()
+        bookings.append(asked(third, b"GET /bookings/B000001"))
+        third.close()
+        output, notes = host.process.communicate(timeout=SECONDS)
+    ids = [booking["id"] for booking in bookings]
+    expect(ids == ["B000000", "B000001", "B000001"] and bookings[1] == bookings[2], "the bookings are %r" % bookings)
+    rows = [row.split(" ")[2:5] + row.split(" ")[6:] for row in notes.decode().split("\n")[1:3]]
+    wanted = [["0", "P", "1", "1100", "1", "4.0.2"], ["0", "P", "1", "1100", "1", "5.0.2"]]
+    expect((host.process.returncode, output, rows) == (0, b"", wanted), "it ended with %d, %r, %r" %
+           (host.process.returncode, output, notes))
 
 
 def side_by_side(program: str):
@@ -451,8 +510,8 @@ def listener_that_goes(program: str):
 
 def main() -> int:
     program = os.path.abspath(sys.argv[1])
-    parts = [ticks, refusals, ahead, long_answers, late_reader, handles, expiry, side_by_side, listener_that_goes]
-    parts += [time_limits, dripped]
+    parts = [ticks, refusals, ahead, long_answers, late_reader, handles, expiry, late_at_the_start]
+    parts += [two_at_once, side_by_side, listener_that_goes, time_limits, dripped]
     for part in parts:
         try:
             part(program)

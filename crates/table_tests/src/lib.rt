@@ -13,8 +13,8 @@
 //!   one that is read, is shown by the program (`tests/cases`, `tests/model/exports.py`).
 //! - `lives`, `trades`: a booking's life, over the crates that decide it: held, sealed, confirmed, collected, released,
 //!   expired, refunded by its quotes. And what takes two desks: a thousand bookings that are confirmed and swept at the
-//!   same time, a search for a row, and an exchange that is lost. What a connection is answered is shown in
-//!   `service_tests` and by cases.
+//!   same time, a search for a row, and an exchange that is lost. What a connection is answered is shown by
+//!   cases.
 //! - `journals`, `row_lines`: worked journals and their folds, and the lines of small books.
 #![tactic(auto)]
 

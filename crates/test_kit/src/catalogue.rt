@@ -1,11 +1,7 @@
-//! The sample catalogue, its retailers, its moments and its books.
-ghost use Rattle.std.specs.Prelude.{◌≡◌, ◌+◌, IfSome, [], length, min};
+//! The sample catalogue, its retailers and its moments.
+ghost use Rattle.std.specs.Prelude.{◌≡◌, ◌+◌, min};
 ghost use Rattle.rail_time.specs.Moments.{last_second};
-ghost use Rattle.rail_catalogue.specs.Contents.{legs_in};
-ghost use Rattle.claim_rule.specs.Desks.{IsOf, IsNew};
-ghost use Rattle.claim_rule.specs.Out.{IsIdle, IsTidy};
 
-use claim_rule::{Books, Desk, start_books};
 use rail_catalogue::{Catalogue, read_catalogue};
 use rail_ids::RetailerNo;
 use rail_time::Moment;
@@ -13,7 +9,7 @@ use std::alloc::Global;
 
 /// The text of `examples/k1.json`. Run 0 has the places 0 to 11 (coach 1 of first class, coach 2 of second), run 1 the
 /// places 12 to 17.
-pub const CATALOGUE: &str = r#"{"currency":"EUR",
+const CATALOGUE: &str = r#"{"currency":"EUR",
  "retailers":[{"number":1,"key":"north"},{"number":2,"key":"south"}],
  "stations":[{"code":"BASEL"},{"code":"OLTEN"},{"code":"BERN"},{"code":"THUN"}],
  "refundSteps":[{"before":86400,"fee":0},{"before":3600,"fee":2500},{"before":0,"fee":10000}],
@@ -57,26 +53,4 @@ pub fn after_six(seconds: u32) -> Moment
 /// The sample's catalogue, with as many booking rows as a catalogue without that member has. `None` for lack of memory.
 pub fn sample(alloc: Global) -> Option<Catalogue> {
     read_catalogue(alloc, CATALOGUE.as_bytes()).ok()
-}
-
-/// The sample's catalogue with that many booking rows. `None` where it may not have as many, or for lack of memory.
-pub fn sample_with_rows(alloc: Global, rows: u32) -> Option<Catalogue> {
-    let members = CATALOGUE.strip_prefix("{")?;
-    let text = format!(in alloc; "{{\"rows\":{rows},{members}").ok()?;
-    read_catalogue(alloc, text.as_str().as_bytes()).ok()
-}
-
-/// New books of the catalogue's places and rows, and their first desk. `None` for lack of memory.
-pub fn open_books(alloc: Global, cat: &Catalogue) -> Option<(Books, Desk)>
-    ensures own { IfSome result (λ t. IsOf t.0 t.1) }
-    ensures legs { IfSome result (λ t. t.0.layout.legs ≡ legs_in cat.now) }
-    ensures rows { IfSome result (λ t. t.0.layout.rows ≡ cat.now.rows) }
-    ensures new { IfSome result (λ t. IsNew t.1 0 []) }
-    ensures idle { IfSome result (λ t. IsIdle t.1) }
-    ensures tidy { IfSome result (λ t. IsTidy t.1) }
-{
-    let legs = cat.legs(alloc).ok()?;
-    let some = 0 < legs.len() && legs.len() <= 4_194_304;
-    prove!(some);
-    start_books(alloc, legs.as_slice(), cat.rows()).ok()
 }

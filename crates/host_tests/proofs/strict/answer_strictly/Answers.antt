@@ -1,6 +1,6 @@
 use Rattle.std.proofs.Common.{Some, refl, ap}
-use Rattle.service_tests.proofs.StrictLemmas.{next_of, held_at}
-use Rattle.service_tests.proofs.strict.answer_strictly.Goals as goal
+use Rattle.host_tests.proofs.StrictLemmas.{next_of, held_at}
+use Rattle.host_tests.proofs.strict.answer_strictly.Goals as goal
 
 pub run_permitted-end-requires-clause-permits : goal.run_permitted-end-requires-clause-permits
 run_permitted-end-requires-clause-permits g c = λ now piece m. c.requires.wanted (record {}) now.bytes.items now.cut piece

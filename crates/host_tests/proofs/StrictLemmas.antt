@@ -5,7 +5,7 @@ use Rattle.session_loop.specs.Session.{Answering, Refusing}
 use Rattle.session_loop.specs.Writes.{Showing}
 use Rattle.session_loop.specs.Moments.{Awaiting, MayWrite}
 use Rattle.session_loop.proofs.Records.{handed_recorded, part_recorded, part_held}
-use Rattle.service_tests.specs.Strict.{IsNextOf}
+use Rattle.host_tests.specs.Strict.{IsNextOf}
 
 some_same : (a b : List ℕ) → Some a ≡ Some b → a ≡ b
 some_same a b e = cc

@@ -3,7 +3,7 @@ ghost use Rattle.std.specs.Prelude.{◌≡◌, ◌≤◌, ◌++◌, ℕ, List, t
 ghost use Rattle.http_wire.specs.Answers.{head_text};
 ghost use Rattle.http_wire.specs.declared.request.WireFault.{WireFault};
 ghost use Rattle.http_wire.specs.Requests.{RequestText};
-ghost use Rattle.service_tests.specs.Strict.{IsNextOf};
+ghost use Rattle.host_tests.specs.Strict.{IsNextOf};
 
 use arrayvec::ArrayVec;
 use http_wire::{Answer, Body, Intake, Request, WireFault, write_head};

@@ -1,8 +1,8 @@
 use Rattle.std.proofs.Common.{◌≡◌, ◌≤◌, true, false}
 use Rattle.http_wire.specs.Answers.{head_text}
-use Rattle.service_tests.specs.Strict.{IsNextOf}
-use Rattle.service_tests.specs.declared.strict.Heads.{Heads}
-use Rattle.service_tests.proofs.strict.a_strict_outlet_gets_all_answers.Given as goal
+use Rattle.host_tests.specs.Strict.{IsNextOf}
+use Rattle.host_tests.specs.declared.strict.Heads.{Heads}
+use Rattle.host_tests.proofs.strict.a_strict_outlet_gets_all_answers.Given as goal
 
 abbrev pub ghosts-answer_strictly : goal.ghosts-answer_strictly
 ghosts-answer_strictly g a = record {
