@@ -1,4 +1,4 @@
-//! The sample catalogue, its retailers, its moments and its books.
+//! The sample catalogue, its moments and its books.
 ghost use Rattle.std.specs.Prelude.{◌≡◌, ◌+◌, IfSome, [], length, min};
 ghost use Rattle.rail_time.specs.Moments.{last_second};
 ghost use Rattle.rail_catalogue.specs.Contents.{legs_in};
@@ -7,7 +7,6 @@ ghost use Rattle.claim_rule.specs.Out.{IsIdle, IsTidy};
 
 use claim_rule::{Books, Desk, start_books};
 use rail_catalogue::{Catalogue, read_catalogue};
-use rail_ids::RetailerNo;
 use rail_time::Moment;
 use std::alloc::Global;
 
@@ -33,15 +32,6 @@ pub const CATALOGUE: &str = r#"{"currency":"EUR",
    "fares":{"first":{"base":800,"perLeg":400},"second":{"base":400,"perLeg":200}},
    "coaches":[{"coach":1,"class":"SECOND","places":[{"first":11,"last":14,"traits":["WINDOW"]},
                                                     {"first":15,"last":16,"traits":["AISLE"]}]}]}]}"#;
-
-/// The legs of the sample's places, in rising number.
-pub const LEGS: [u8; 18] = [2, 2, 2, 2, 2, 2, 2, 2, 2, 2, 2, 2, 1, 1, 1, 1, 1, 1];
-
-/// The retailer of the key `north`.
-pub const NORTH: RetailerNo = RetailerNo(1);
-
-/// The retailer of the key `south`.
-pub const SOUTH: RetailerNo = RetailerNo(2);
 
 // 2026-06-01T06:00:00Z, in seconds: two hours before the first train departs.
 const SIX: u64 = 1_780_293_600;

@@ -1,5 +1,5 @@
 // Threads at a gate.
-use crate::{Cuts, GateKeeper, GatedClock, Receipt, Taken};
+use answer_gate::{Cuts, GateKeeper, GatedClock, Receipt, Taken};
 use rail_io::{Clock, Keeper, Reach, ScriptClock};
 use rail_time::Moment;
 use std::process::Abort;
@@ -308,20 +308,8 @@ fn cuts_by_reach(rt: HostRuntime) -> Result<(), Fail> {
     Ok(())
 }
 
-/// Someone who is inside may be changing what is told.
-#[test]
-fn told_beside_a_change(rt: HostRuntime) -> Result<(), Fail> {
-    let cuts = Cuts::<Written>::new();
-    let gate = cuts.gate();
-    gate.expect(&rt, 1);
-    let inside = gate.enter(&rt);
-    assert!(rt; gate.tell(&rt).number() == 1);
-    assert!(rt; gate.leave(&rt, inside).number() == 1);
-    Ok(())
-}
-
-/// The committer sleeps through changes until somebody waits for their cut, and is woken for it once. Once all servers
-/// have parted it takes what is left.
+/// Someone who is inside may be changing what is told. The committer sleeps through changes until somebody waits for
+/// their cut, and is woken for it once. Once all servers have parted it takes what is left.
 #[test]
 fn woken_by_who_waits(rt: HostRuntime) -> Result<(), Fail> {
     let cuts = Cuts::<Written>::new();
@@ -329,6 +317,7 @@ fn woken_by_who_waits(rt: HostRuntime) -> Result<(), Fail> {
     gate.expect(&rt, 1);
     for _command in 0..3 {
         let inside = gate.enter(&rt);
+        assert!(rt; gate.tell(&rt).number() == 1);
         assert!(rt; gate.leave(&rt, inside).number() == 1);
     }
     let (cut, kept) = thread::join(&rt, || take_and_keep(&rt, &cuts), || cuts.wait_kept(&rt, 1));
@@ -338,17 +327,5 @@ fn woken_by_who_waits(rt: HostRuntime) -> Result<(), Fail> {
     assert!(rt; gate.leave(&rt, inside).number() == 2);
     assert!(rt; take_and_keep(&rt, &cuts) == Some(2));
     assert!(rt; take_and_keep(&rt, &cuts).is_none());
-    Ok(())
-}
-
-/// Where there is no gate, no answer waits.
-#[test]
-fn no_gate(rt: HostRuntime) -> Result<(), Fail> {
-    let mut clock = GatedClock::new(standing_clock(&rt), None, &rt);
-    for reach in [Reach::Apart, Reach::Tells, Reach::Changes] {
-        assert!(rt; told_of(&mut clock, reach) == 0);
-    }
-    assert!(rt; clock.now().seconds() == 1_800_000_000);
-    assert!(rt; clock.into_inner().next.seconds() == 1_800_000_000);
     Ok(())
 }
